@@ -1,0 +1,4 @@
+pub mod Content
+pub mod Files
+pub mod Memory
+pub mod Put
