@@ -1,0 +1,165 @@
+-- A problem that grows keeps its rules.
+use Rattle.std.proofs.Common.{◌≡◌, ◌≢◌, ◌<◌, ◌^◌, ℕ, suc, List, [], ◌∷◌, ◌++◌, length, map, slice_get, Some, All, zero, refl, sym, ap, arith, length-append}
+use Rattle.std.specs.List.{AllByRecursion}
+use Rattle.std.proofs.lemmas.List.Quantifiers.{all_pairs_push}
+use Rattle.std.proofs.lemmas.List.Elements.{All-push, All-from_recursion, recursion_from_All}
+use Rattle.std.proofs.lemmas.List.{map-append}
+use Rattle.problem_model.specs.declared.items.Clock.{Clock}
+use Rattle.problem_model.specs.declared.items.Event.{Event}
+use Rattle.problem_model.specs.declared.items.Message.{Message}
+use Rattle.problem_model.specs.Name.{IsClockName, IsEventName}
+use Rattle.problem_model.specs.Problem.{ProblemLists, IsProblem, ClockFits, MessageFits}
+use Rattle.problem.specs.Growing.{IsNewClock, IsNewEvent, IsNewPair, IsNewMessage, HasRoomForClock, HasRoomForEvent, HasRoomForMessage, with_clock, with_event, with_message}
+use Rattle.problem.specs.Inside.{AreItems}
+
+-- ---- a key that stands at no place differs from each
+module _ {A K : Type 0} (key : A → K) where
+  pub absent : (xs : List A) (k : K) → ((n : ℕ) → slice_get (map key xs) n ≡ Some k → ⊥) → All (λ x. key x ≢ k) xs
+  absent xs k none = All-from_recursion (λ x. key x ≢ k) xs (each xs none)
+    where
+      each : (xs : List A) → ((n : ℕ) → slice_get (map key xs) n ≡ Some k → ⊥) → AllByRecursion (λ x. key x ≢ k) xs
+      each [] none = tt
+      each (x ∷ xs) none = ((λ e. none 0 (ap Some e)), each xs (λ n at. none (suc n) at))
+
+  pub at_none : (xs : List A) (k : K) → All (λ x. key x ≢ k) xs → (n : ℕ) → slice_get (map key xs) n ≡ Some k → ⊥
+  at_none xs k all = each xs (recursion_from_All (λ x. key x ≢ k) xs all)
+    where
+      each : (xs : List A) → AllByRecursion (λ x. key x ≢ k) xs → (n : ℕ) → slice_get (map key xs) n ≡ Some k → ⊥
+      each [] all n at = absurd cc
+      each (x ∷ xs) all zero at = all.0 cc
+      each (x ∷ xs) all (suc n) at = each xs all.1 n at
+
+abbrev pub pair_of : Message → ℕ × ℕ
+pair_of m = (m.send, m.receive)
+
+first_of_pair : ℕ × ℕ → ℕ
+first_of_pair p = p.0
+
+second_of_pair : ℕ × ℕ → ℕ
+second_of_pair p = p.1
+
+-- no message has this pair of events
+pub pair_absent : (ms : List Message) (s r : ℕ) → ((n : ℕ) → slice_get {X = ℕ × ℕ} (map pair_of ms) n ≡ Some (s, r) → ⊥) → All (λ a. (a.send ≡ s) → (a.receive ≡ r) → ⊥) ms
+pair_absent ms s r none k d inside = λ e f. absent pair_of ms (s, r) none k d inside (rw (e, f) refl)
+
+pub pair_at_none : (ms : List Message) (s r : ℕ) → All (λ a. (a.send ≡ s) → (a.receive ≡ r) → ⊥) ms → (n : ℕ) → slice_get {X = ℕ × ℕ} (map pair_of ms) n ≡ Some (s, r) → ⊥
+unfolding first_of_pair second_of_pair
+pair_at_none ms s r all = at_none pair_of ms (s, r) (λ k d inside e. all k d inside (ap first_of_pair e) (ap second_of_pair e))
+
+-- ---- the rules
+pub more_clock : (p : ProblemLists) (c : Clock) → IsProblem p → ClockFits c → IsNewClock p c → HasRoomForClock p → IsProblem (with_clock p c)
+more_clock p c lawful fits new room = record {
+  clock_names = All-push (λ x. IsClockName x.name) p.clocks c lawful.clock_names new.named;
+  clocks_differ = all_pairs_push (λ a b. a.name ≢ b.name) p.clocks c lawful.clocks_differ new.new;
+  clocks_fit = All-push ClockFits p.clocks c lawful.clocks_fit fits;
+  clock_limit = grind (arith, length-append, room);
+  event_names = lawful.event_names;
+  events_differ = lawful.events_differ;
+  event_clocks = λ k d inside. rw length-append (omega (arith, lawful.event_clocks k d inside));
+  stamps_fit = lawful.stamps_fit;
+  event_limit = lawful.event_limit;
+  sends = lawful.sends;
+  receives = lawful.receives;
+  two_ends = lawful.two_ends;
+  messages_differ = lawful.messages_differ;
+  messages_fit = lawful.messages_fit;
+  message_limit = lawful.message_limit;
+}
+
+pub more_event : (p : ProblemLists) (e : Event) → IsProblem p → IsEventName e.name → e.stamp < 2 ^ 62 → IsNewEvent p e → HasRoomForEvent p → IsProblem (with_event p e)
+more_event p e lawful named fits new room = record {
+  clock_names = lawful.clock_names;
+  clocks_differ = lawful.clocks_differ;
+  clocks_fit = lawful.clocks_fit;
+  clock_limit = lawful.clock_limit;
+  event_names = All-push (λ x. IsEventName x.name) p.events e lawful.event_names named;
+  events_differ = all_pairs_push (λ a b. a.name ≢ b.name) p.events e lawful.events_differ new.new;
+  event_clocks = All-push (λ x. x.clock < length p.clocks) p.events e lawful.event_clocks new.clock;
+  stamps_fit = All-push (λ x. x.stamp < 2 ^ 62) p.events e lawful.stamps_fit fits;
+  event_limit = grind (arith, length-append, room);
+  sends = λ k d inside. rw length-append (omega (arith, lawful.sends k d inside));
+  receives = λ k d inside. rw length-append (omega (arith, lawful.receives k d inside));
+  two_ends = lawful.two_ends;
+  messages_differ = lawful.messages_differ;
+  messages_fit = lawful.messages_fit;
+  message_limit = lawful.message_limit;
+}
+
+pub more_message : (p : ProblemLists) (m : Message) → IsProblem p → MessageFits m → IsNewMessage p m → HasRoomForMessage p → IsProblem (with_message p m)
+more_message p m lawful fits new room = record {
+  clock_names = lawful.clock_names;
+  clocks_differ = lawful.clocks_differ;
+  clocks_fit = lawful.clocks_fit;
+  clock_limit = lawful.clock_limit;
+  event_names = lawful.event_names;
+  events_differ = lawful.events_differ;
+  event_clocks = lawful.event_clocks;
+  stamps_fit = lawful.stamps_fit;
+  event_limit = lawful.event_limit;
+  sends = All-push (λ x. x.send < length p.events) p.messages m lawful.sends new.sends;
+  receives = All-push (λ x. x.receive < length p.events) p.messages m lawful.receives new.receives;
+  two_ends = All-push (λ x. x.send ≢ x.receive) p.messages m lawful.two_ends new.two_ends;
+  messages_differ = all_pairs_push (λ a b. (a.send ≡ b.send) → (a.receive ≡ b.receive) → ⊥) p.messages m lawful.messages_differ new.new;
+  messages_fit = All-push MessageFits p.messages m lawful.messages_fit fits;
+  message_limit = grind (arith, length-append, room);
+}
+
+-- ---- with the look-ups
+pub items_clock : (p : ProblemLists) (ns ns' es : List (List ℕ)) (ps : List (ℕ × ℕ)) (cs : List Clock) (c : Clock) → AreItems p ns es ps → ClockFits c → IsNewClock p c → HasRoomForClock p →
+    cs ≡ p.clocks ++ c ∷ [] → ns' ≡ ns ++ c.name ∷ [] → AreItems (record p { clocks = cs }) ns' es ps
+items_clock p ns ns' es ps cs c items fits new room grown names =
+    rw (grown, names) (record {
+      lawful = more_clock p c items.lawful fits new room;
+      clock_names_are = rw items.clock_names_are (sym (map-append (λ c. c.name) p.clocks (c ∷ [])));
+      event_names_are = items.event_names_are;
+      pairs_are = items.pairs_are;
+    })
+
+pub items_event : (p : ProblemLists) (ns es es' : List (List ℕ)) (ps : List (ℕ × ℕ)) (vs : List Event) (e : Event) → AreItems p ns es ps → IsEventName e.name → e.stamp < 2 ^ 62 → IsNewEvent p e → HasRoomForEvent p →
+    vs ≡ p.events ++ e ∷ [] → es' ≡ es ++ e.name ∷ [] → AreItems (record p { events = vs }) ns es' ps
+items_event p ns es es' ps vs e items named fits new room grown names =
+    rw (grown, names) (record {
+      lawful = more_event p e items.lawful named fits new room;
+      clock_names_are = items.clock_names_are;
+      event_names_are = rw items.event_names_are (sym (map-append (λ c. c.name) p.events (e ∷ [])));
+      pairs_are = items.pairs_are;
+    })
+
+pub items_message : (p : ProblemLists) (ns es : List (List ℕ)) (ps ps' : List (ℕ × ℕ)) (ms : List Message) (m : Message) → AreItems p ns es ps → MessageFits m → IsNewMessage p m → HasRoomForMessage p →
+    ms ≡ p.messages ++ m ∷ [] → ps' ≡ ps ++ (m.send, m.receive) ∷ [] → AreItems (record p { messages = ms }) ns es ps'
+items_message p ns es ps ps' ms m items fits new room grown pairs =
+    rw (grown, pairs) (record {
+      lawful = more_message p m items.lawful fits new room;
+      clock_names_are = items.clock_names_are;
+      event_names_are = items.event_names_are;
+      pairs_are = rw items.pairs_are (sym (map-append {A = Message} {B = ℕ × ℕ} (λ m. (m.send, m.receive)) p.messages (m ∷ [])));
+    })
+
+-- ---- the look-ups answer what may be added
+module _ (p : ProblemLists) (ns es : List (List ℕ)) (ps : List (ℕ × ℕ)) where
+  pub known_clock : (c : Clock) (k : ℕ) → AreItems p ns es ps → slice_get ns k ≡ Some c.name → IsNewClock p c → ⊥
+  known_clock c k items at new = at_none (λ x. x.name) p.clocks c.name new.new k (rw items.clock_names_are at at)
+
+  pub unknown_clock : (c : Clock) → AreItems p ns es ps → ((k : ℕ) → slice_get ns k ≡ Some c.name → ⊥) → IsClockName c.name → IsNewClock p c
+  unknown_clock c items none named = record { named = named; new = absent (λ x. x.name) p.clocks c.name (rw items.clock_names_are at none) }
+
+  pub still_new_clock : (c : Clock) → AreItems p ns es ps → IsNewClock p c → (k : ℕ) → slice_get ns k ≡ Some c.name → ⊥
+  still_new_clock c items new k at = known_clock c k items at new
+
+  pub known_event : (e : Event) (k : ℕ) → AreItems p ns es ps → slice_get es k ≡ Some e.name → IsNewEvent p e → ⊥
+  known_event e k items at new = at_none (λ x. x.name) p.events e.name new.new k (rw items.event_names_are at at)
+
+  pub unknown_event : (e : Event) → AreItems p ns es ps → ((k : ℕ) → slice_get es k ≡ Some e.name → ⊥) → e.clock < length p.clocks → IsNewEvent p e
+  unknown_event e items none known = record { new = absent (λ x. x.name) p.events e.name (rw items.event_names_are at none); clock = known }
+
+  pub still_new_event : (e : Event) → AreItems p ns es ps → IsNewEvent p e → (k : ℕ) → slice_get es k ≡ Some e.name → ⊥
+  still_new_event e items new k at = known_event e k items at new
+
+  pub known_pair : (send receive : ℕ) (k : ℕ) → AreItems p ns es ps → slice_get {X = ℕ × ℕ} ps k ≡ Some (send, receive) → IsNewPair p send receive → ⊥
+  known_pair send receive k items at new = pair_at_none p.messages send receive new.new k (rw items.pairs_are at at)
+
+  pub unknown_pair : (send receive : ℕ) → AreItems p ns es ps → ((k : ℕ) → slice_get {X = ℕ × ℕ} ps k ≡ Some (send, receive) → ⊥) → (send < length p.events) × (receive < length p.events) × (send ≢ receive) → IsNewPair p send receive
+  unknown_pair send receive items none ends = record { sends = ends.0; receives = ends.1; two_ends = ends.2; new = pair_absent p.messages send receive (rw items.pairs_are at none) }
+
+  pub still_new_pair : (send receive : ℕ) → AreItems p ns es ps → IsNewPair p send receive → (k : ℕ) → slice_get {X = ℕ × ℕ} ps k ≡ Some (send, receive) → ⊥
+  still_new_pair send receive items new k at = known_pair send receive k items at new

@@ -1,0 +1,8 @@
+use Rattle.std.proofs.Common.{◌<◌, length, arith}
+use Rattle.problem.proofs.AllReadings.{event_places-at, length-event_places}
+use Rattle.problem.proofs.listing.ProblemListing.event_at.Goals as goal
+
+pub returns : goal.returns
+returns c =
+    let inside : c.args.place < length c.args.self.now.events = omega (arith, c.requires, length-event_places 0 c.args.self.now.events) in
+    event_places-at 0 c.args.place c.args.place c.args.self.now.events inside (omega arith)

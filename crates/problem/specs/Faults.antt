@@ -1,0 +1,28 @@
+-- The faults of lines and of texts by the causes below them.
+use Rattle.std.specs.Prelude.{ℕ}
+use Rattle.line_format.specs.declared.fault.FaultKind.{FaultKind}
+use Rattle.line_format.specs.declared.fault.FaultKind.TheVariants as kinds
+use Rattle.line_format.specs.declared.fault.LineError.{LineError}
+use Rattle.line_format.specs.declared.fault.LineError.TheVariants.{Memory, Fault}
+use Rattle.problem.specs.declared.errors.PushError.{PushError}
+use Rattle.problem.specs.declared.errors.PushError.TheVariants as pushes
+use Rattle.problem.specs.declared.errors.ProblemError.{ProblemError}
+use Rattle.problem.specs.declared.errors.ProblemError.TheVariants as problems
+
+-- why a line is refused whose item was not added
+abbrev pub line_error : PushError → LineError
+line_error pushes.Name = Fault kinds.Name
+line_error pushes.Limit = Fault kinds.Limit
+line_error pushes.Memory = Memory
+
+-- a fault of this kind at a line
+abbrev pub kind_at : FaultKind → ℕ → ProblemError
+kind_at kinds.Syntax n = problems.Syntax n
+kind_at kinds.Name n = problems.Name n
+kind_at kinds.Range n = problems.Range n
+kind_at kinds.Limit n = problems.Limit n
+
+-- why a text is refused whose line n is
+abbrev pub fault_at : LineError → ℕ → ProblemError
+fault_at Memory n = problems.Memory
+fault_at (Fault kind) n = kind_at kind n

@@ -1,0 +1,68 @@
+-- What may be added to a problem, and what it then is.
+use Rattle.std.specs.Prelude.{ℕ, ◌≡◌, ◌≢◌, ◌<◌, ◌^◌, ◌⊎◌, Contains, List, [], ◌∷◌, ◌++◌, All, length, Result, Ok, Err}
+use Rattle.problem_model.specs.declared.items.Clock.{Clock}
+use Rattle.problem_model.specs.declared.items.Event.{Event}
+use Rattle.problem_model.specs.declared.items.Message.{Message}
+use Rattle.problem_model.specs.Name.{IsClockName}
+use Rattle.problem_model.specs.Problem.{ProblemLists}
+use Rattle.problem_model.specs.Nodes.{Reading}
+use Rattle.problem.specs.declared.errors.PushError.{PushError}
+use Rattle.problem.specs.declared.errors.PushError.TheVariants as errors
+
+-- the name is a clock name, and that of no clock
+pub record IsNewClock (p : ProblemLists) (c : Clock) : Type 0 where
+  pub named : IsClockName c.name
+  pub new : All (λ k. k.name ≢ c.name) p.clocks
+
+-- the name is that of no event, and the clock is known
+pub record IsNewEvent (p : ProblemLists) (e : Event) : Type 0 where
+  pub new : All (λ x. x.name ≢ e.name) p.events
+  pub clock : e.clock < length p.clocks
+
+-- both places are those of events, of two, and no message goes from the one to the other
+pub record IsNewPair (p : ProblemLists) (send receive : ℕ) : Type 0 where
+  pub sends : send < length p.events
+  pub receives : receive < length p.events
+  pub two_ends : send ≢ receive
+  pub new : All (λ m. (m.send ≡ send) → (m.receive ≡ receive) → ⊥) p.messages
+
+-- a message of a new pair
+abbrev pub IsNewMessage : ProblemLists → Message → Type 0
+IsNewMessage p m = IsNewPair p m.send m.receive
+
+-- there is room for one more
+abbrev pub HasRoomForClock : ProblemLists → Type 0
+HasRoomForClock p = length p.clocks < 65536
+
+abbrev pub HasRoomForEvent : ProblemLists → Type 0
+HasRoomForEvent p = length p.events < 2 ^ 20
+
+abbrev pub HasRoomForMessage : ProblemLists → Type 0
+HasRoomForMessage p = length p.messages < 2 ^ 20
+
+-- the problem with one clock, event or message more
+abbrev pub with_clock : ProblemLists → Clock → ProblemLists
+with_clock p c = record p { clocks = p.clocks ++ c ∷ [] }
+
+abbrev pub with_event : ProblemLists → Event → ProblemLists
+with_event p e = record p { events = p.events ++ e ∷ [] }
+
+abbrev pub with_message : ProblemLists → Message → ProblemLists
+with_message p m = record p { messages = p.messages ++ m ∷ [] }
+
+-- whether one more may be added: first by its names, then by the room
+abbrev pub Allows : Type 0 → Type 0 → Result (Unit {0}) PushError → Type 0
+Allows IsNew HasRoom (Ok _) = IsNew × HasRoom
+Allows IsNew HasRoom (Err errors.Name) = IsNew → ⊥
+Allows IsNew HasRoom (Err errors.Limit) = IsNew × (HasRoom → ⊥)
+Allows IsNew HasRoom (Err errors.Memory) = ⊥
+
+-- the reading of an event
+abbrev pub reading_of : Event → Reading
+reading_of e = (e.clock, e.stamp)
+
+-- the readings with one more, where it is new
+pub record AddsReading (old new : List Reading) (reading : Reading) : Type 0 where
+  pub kept : (r : Reading) → Contains old r → Contains new r
+  pub added : Contains new reading
+  pub only : (r : Reading) → Contains new r → Contains old r ⊎ (r ≡ reading)

@@ -1,0 +1,226 @@
+// The lists of a problem with the look-ups of their names.
+ghost use Rattle.std.specs.Prelude.{◌≡◌, ◌≢◌, ◌↔◌, ◌<◌, ℕ, IsTrue, OnOk, OnErr, IfSome, IfNone, length};
+ghost use Rattle.problem_model.specs.Problem.{IsProblem, MessageFits, empty_problem};
+ghost use Rattle.problem.specs.Line.{HasClock, HasEvent};
+ghost use Rattle.problem.specs.Growing.{IsNewClock, IsNewEvent, IsNewPair, IsNewMessage, HasRoomForClock, HasRoomForEvent, HasRoomForMessage, Allows, with_clock, with_event, with_message};
+
+use crate::errors::PushError;
+use crate::names::{Names, Pairs};
+use atto::Nano;
+use problem_model::{Clock, Event, Message, Name};
+use std::alloc::{AllocError, Global};
+use std::marker::Model;
+
+/// The lists of a problem, each with a look-up of its names or pairs.
+#[derive(Drop)]
+pub struct Items {
+    clocks: Vec<Clock>,
+    events: Vec<Event>,
+    messages: Vec<Message>,
+    clock_names: Names,
+    event_names: Names,
+    pairs: Pairs,
+}
+
+impl Model for Items {
+    ghost use Rattle.problem_model.specs.Problem.{ProblemLists};
+    ghost use Rattle.problem.specs.Inside.{AreItems};
+
+    ghost Value = { ProblemLists };
+
+    ghost view = { λ i. record { clocks = i.clocks.items; events = i.events.items; messages = i.messages.items } };
+
+    ghost invariant = { λ i. AreItems (record { clocks = i.clocks.items; events = i.events.items; messages = i.messages.items }) i.clock_names i.event_names i.pairs };
+}
+
+impl Items {
+    /// No items. It takes no memory.
+    pub fn new(alloc: Global) -> Items
+        ensures { result ≡ empty_problem }
+    {
+        Items {
+            clocks: Vec::new(alloc),
+            events: Vec::new(alloc),
+            messages: Vec::new(alloc),
+            clock_names: Names::new(alloc),
+            event_names: Names::new(alloc),
+            pairs: Pairs::new(alloc),
+        }
+    }
+
+    /// The clocks by their places.
+    pub fn clocks(&self) -> &[Clock]
+        ensures value { result.now ≡ self.now.clocks }
+        ensures lawful { IsProblem self.now }
+    {
+        &self.clocks
+    }
+
+    /// The events by their places.
+    pub fn events(&self) -> &[Event]
+        ensures value { result.now ≡ self.now.events }
+        ensures lawful { IsProblem self.now }
+    {
+        &self.events
+    }
+
+    /// The messages in their order.
+    pub fn messages(&self) -> &[Message]
+        ensures value { result.now ≡ self.now.messages }
+        ensures lawful { IsProblem self.now }
+    {
+        &self.messages
+    }
+
+    /// The place of the clock of this name.
+    pub fn clock_place(&self, name: &Name) -> Option<u32>
+        ensures some { IfSome result (λ k. HasClock self.now k name.now) }
+        ensures none { IfNone result ((k : ℕ) → HasClock self.now k name.now → ⊥) }
+        ensures within { IfSome result (λ k. k < length self.now.clocks) }
+    {
+        let place = self.clock_names.place(name)?;
+        Some(place as u32)
+    }
+
+    /// The place of the event of this name.
+    pub fn event_place(&self, name: &Name) -> Option<u32>
+        ensures some { IfSome result (λ k. HasEvent self.now k name.now) }
+        ensures none { IfNone result ((k : ℕ) → HasEvent self.now k name.now → ⊥) }
+        ensures within { IfSome result (λ k. k < length self.now.events) }
+        ensures lawful { IsProblem self.now }
+    {
+        let place = self.event_names.place(name)?;
+        Some(place as u32)
+    }
+
+    fn is_new_clock(&self, c: &Clock) -> bool
+        ensures { IsTrue result ↔ IsNewClock self.now c.now }
+    {
+        match self.clock_names.place(&c.name) {
+            Some(_place) => false,
+            None => c.name.is_short(),
+        }
+    }
+
+    /// Whether this clock may be added.
+    pub fn allows_clock(&self, c: &Clock) -> Result<(), PushError>
+        ensures { Allows (IsNewClock self.now c.now) (HasRoomForClock self.now) result }
+    {
+        if !self.is_new_clock(c) {
+            return Err(PushError::Name);
+        }
+        if self.clocks.len() >= 65536 {
+            return Err(PushError::Limit);
+        }
+        Ok(())
+    }
+
+    /// Adds a clock, and leaves all as it was where memory runs out.
+    pub fn add_clock(&mut self, c: Clock) -> Result<(), AllocError>
+        requires new { IsNewClock self.old c }
+        requires room { HasRoomForClock self.old }
+        ensures ok { OnOk result (self.new ≡ with_clock self.old c) }
+        ensures err { OnErr result (self.new ≡ self.old) }
+    {
+        self.clocks.reserve(1)?;
+        self.clock_names.push(&c.name)?;
+        self.clocks.push_reserved(c);
+        Ok(())
+    }
+
+    fn is_new_event(&self, e: &Event) -> bool
+        ensures { IsTrue result ↔ IsNewEvent self.now e.now }
+    {
+        match self.event_names.place(&e.name) {
+            Some(_place) => false,
+            None => (e.clock as usize) < self.clocks.len(),
+        }
+    }
+
+    /// Whether this event may be added.
+    pub fn allows_event(&self, e: &Event) -> Result<(), PushError>
+        ensures { Allows (IsNewEvent self.now e.now) (HasRoomForEvent self.now) result }
+    {
+        if !self.is_new_event(e) {
+            return Err(PushError::Name);
+        }
+        if self.events.len() >= 1 << 20 {
+            return Err(PushError::Limit);
+        }
+        Ok(())
+    }
+
+    /// Adds an event, and leaves all as it was where memory runs out.
+    pub fn add_event(&mut self, e: Event) -> Result<(), AllocError>
+        requires new { IsNewEvent self.old e }
+        requires room { HasRoomForEvent self.old }
+        ensures ok { OnOk result (self.new ≡ with_event self.old e) }
+        ensures err { OnErr result (self.new ≡ self.old) }
+    {
+        self.events.reserve(1)?;
+        self.event_names.push(&e.name)?;
+        self.events.push_reserved(e);
+        Ok(())
+    }
+
+    fn are_two_events(&self, send: u32, receive: u32) -> bool
+        ensures { IsTrue result ↔ ((send < length self.now.events) × (receive < length self.now.events) × (send ≢ receive)) }
+    {
+        let count = self.events.len();
+        (send as usize) < count && (receive as usize) < count && send != receive
+    }
+
+    /// Whether a message may go from the one event to the other.
+    pub fn is_new_pair(&self, send: u32, receive: u32) -> bool
+        ensures test { IsTrue result ↔ IsNewPair self.now send receive }
+        ensures lawful { IsProblem self.now }
+    {
+        match self.pairs.place(send, receive) {
+            Some(_place) => false,
+            None => self.are_two_events(send, receive),
+        }
+    }
+
+    /// Whether this message may be added.
+    pub fn allows_message(&self, m: &Message) -> Result<(), PushError>
+        ensures { Allows (IsNewMessage self.now m.now) (HasRoomForMessage self.now) result }
+    {
+        if !self.is_new_pair(m.send, m.receive) {
+            return Err(PushError::Name);
+        }
+        if self.messages.len() >= 1 << 20 {
+            return Err(PushError::Limit);
+        }
+        Ok(())
+    }
+
+    /// Adds a message, and leaves all as it was where memory runs out.
+    pub fn add_message(&mut self, m: &Message) -> Result<(), AllocError>
+        requires new { IsNewMessage self.old m.now }
+        requires room { HasRoomForMessage self.old }
+        ensures ok { OnOk result (self.new ≡ with_message self.old m.now) }
+        ensures err { OnErr result (self.new ≡ self.old) }
+    {
+        let most: Option<Nano> = m.most;
+        delays_fit(m);
+        self.messages.reserve(1)?;
+        self.pairs.push(m.send, m.receive)?;
+        self.messages.push_reserved(Message {
+            send: m.send,
+            receive: m.receive,
+            least: m.least,
+            most,
+        });
+        Ok(())
+    }
+}
+
+// The delays of a message are below 2 ^ 62 ns.
+fn delays_fit(m: &Message)
+    ensures { MessageFits m.now }
+{
+    let _ = m.least.get();
+    if let Some(most) = &m.most {
+        let _ = most.get();
+    }
+}

@@ -1,0 +1,44 @@
+// The readings of a problem: the clocks and stamps of its events, without repeats.
+ghost use Rattle.std.specs.Prelude.{◌≡◌, ◌<◌, ◌++◌, ◌∷◌, [], ℕ, map, AllPairs, IfOk};
+ghost use Rattle.std.specs.Vec.{vec_len, vec_capacity};
+ghost use Rattle.problem_model.specs.Nodes.{AreReadings, ComesBefore};
+ghost use Rattle.problem.specs.Growing.{AddsReading, reading_of};
+
+use crate::items::Items;
+use atto::Nano;
+use problem_model::Event;
+use std::alloc::{AllocError, Global};
+
+/// Puts a reading into its place, unless it stands there. There is room for it.
+pub fn insert_reading(readings: &mut Vec<(u32, Nano)>, reading: (u32, Nano))
+    requires room { vec_len readings.old < vec_capacity readings.old }
+    requires rising { AllPairs ComesBefore readings.old.items }
+    ensures rising { AllPairs ComesBefore readings.new.items }
+    ensures adds { AddsReading readings.old.items readings.new.items reading }
+{
+    if let Err(place) = readings.as_slice().binary_search(&reading) {
+        let _ = readings.insert(place, reading);
+    }
+}
+
+// The readings of the events in their order.
+fn stamps_of(alloc: Global, events: &[Event]) -> Result<Vec<(u32, Nano)>, AllocError>
+    ensures { IfOk result (λ r. r.items ≡ map reading_of events.now) }
+{
+    let mut stamps = Vec::new(alloc);
+    stamps.reserve(events.len())?;
+    for event in events {
+        stamps.push((event.clock, event.stamp))?;
+    }
+    Ok(stamps)
+}
+
+/// The readings of these lists, in their order.
+pub fn readings_of(alloc: Global, items: &Items) -> Result<Vec<(u32, Nano)>, AllocError>
+    ensures { IfOk result (λ r. AreReadings items.now r.items) }
+{
+    let mut readings = stamps_of(alloc, items.events())?;
+    readings.sort_unstable();
+    readings.dedup();
+    Ok(readings)
+}

@@ -1,0 +1,5 @@
+mod Names
+mod Worked
+pub mod Chains
+pub mod Sufficing
+pub mod OneList

@@ -1,0 +1,56 @@
+-- The bounds that a problem declares, over every two readings of a clock.
+use Rattle.std.specs.Prelude.{◌≡◌, ℕ, ◌-◌, ◌*◌, ◌<◌, slice_get, Some, ℤ, pos, neg_ℤ, ◌-ℤ◌, ◌≤ℤ◌, Contains}
+use Rattle.atto.specs.Span.{least_of, most_of}
+use Rattle.problem_model.specs.declared.items.Clock.{Clock}
+use Rattle.problem_model.specs.declared.items.Event.{Event}
+use Rattle.problem_model.specs.declared.items.Message.{Message}
+use Rattle.problem_model.specs.declared.items.Node.{Node}
+use Rattle.problem_model.specs.declared.items.Node.TheVariants as nodes
+use Rattle.problem_model.specs.declared.items.Bound.{Bound}
+use Rattle.problem_model.specs.declared.items.Bound.TheVariants.{SpanMost, SpanLeast, Late, Early, DelayMost, DelayLeast}
+use Rattle.problem_model.specs.Problem.{ProblemLists}
+
+-- a difference constraint: x_to - x_from ≤ weight, in units
+pub record Constraint : Type 0 where
+  pub from : Node
+  pub to : Node
+  pub weight : ℤ
+
+-- some event reads this stamp on this clock
+abbrev pub IsReading : ProblemLists → ℕ → ℕ → Type 0
+IsReading p clock stamp = (e : Event) × Contains p.events e × (e.clock ≡ clock) × (e.stamp ≡ stamp)
+
+-- the clock at place k
+abbrev pub ClockAt : ProblemLists → ℕ → Clock → Type 0
+ClockAt p k c = slice_get p.clocks k ≡ Some c
+
+-- the event at place k
+abbrev pub EventAt : ProblemLists → ℕ → Event → Type 0
+EventAt p k e = slice_get p.events k ≡ Some e
+
+-- the problem declares the constraint a under the name b
+abbrev pub Declares : ProblemLists → Bound → Constraint → Type 0
+Declares p (SpanMost clock s t) a = (c : Clock) × ClockAt p clock c × IsReading p clock s × IsReading p clock t × (s < t)
+    × (a ≡ record { from = nodes.Reading clock s; to = nodes.Reading clock t; weight = pos (most_of c.rate (t - s)) })
+Declares p (SpanLeast clock s t) a = (c : Clock) × ClockAt p clock c × IsReading p clock s × IsReading p clock t × (s < t)
+    × (a ≡ record { from = nodes.Reading clock t; to = nodes.Reading clock s; weight = neg_ℤ (pos (least_of c.rate (t - s))) })
+Declares p (Late e) a = (v : Event) × (c : Clock) × EventAt p e v × ClockAt p v.clock c
+    × (a ≡ record { from = nodes.Reading v.clock v.stamp; to = nodes.Event e; weight = pos (c.late * 1000000000) })
+Declares p (Early e) a = (v : Event) × (c : Clock) × EventAt p e v × ClockAt p v.clock c
+    × (a ≡ record { from = nodes.Event e; to = nodes.Reading v.clock v.stamp; weight = pos (c.early * 1000000000) })
+Declares p (DelayMost send receive) a = (m : Message) × (most : ℕ) × Contains p.messages m × (m.send ≡ send) × (m.receive ≡ receive) × (m.most ≡ Some most)
+    × (a ≡ record { from = nodes.Event send; to = nodes.Event receive; weight = pos (most * 1000000000) })
+Declares p (DelayLeast send receive) a = (m : Message) × Contains p.messages m × (m.send ≡ send) × (m.receive ≡ receive)
+    × (a ≡ record { from = nodes.Event receive; to = nodes.Event send; weight = neg_ℤ (pos (m.least * 1000000000)) })
+
+-- the real time of each node, in units
+abbrev pub Times : Type 0
+Times = Node → ℤ
+
+-- the real times obey the constraint
+abbrev pub Obeys : Times → Constraint → Type 0
+Obeys x a = (x a.to -ℤ x a.from) ≤ℤ a.weight
+
+-- every declared bound is obeyed
+abbrev pub IsExecution : ProblemLists → Times → Type 0
+IsExecution p x = (b : Bound) (a : Constraint) → Declares p b a → Obeys x a

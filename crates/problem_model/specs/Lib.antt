@@ -1,0 +1,9 @@
+pub mod Name
+pub mod NameInside
+pub mod Problem
+pub mod Bounds
+pub mod Nodes
+pub mod ShortList
+pub mod ProblemText
+pub mod ExecutionText
+pub mod BoundText

@@ -1,0 +1,51 @@
+-- The text of a problem.
+use Rattle.std.specs.Prelude.{ℕ, List, [], ◌∷◌, ◌++◌, slice_get, Option, Some, None, codes}
+use Rattle.std.specs.List.{flat_map}
+use Rattle.atto.specs.Decimal.{decimal_of}
+use Rattle.line_format.specs.Words.{line_of}
+use Rattle.problem_model.specs.declared.items.Clock.{Clock}
+use Rattle.problem_model.specs.declared.items.Event.{Event}
+use Rattle.problem_model.specs.declared.items.Message.{Message}
+use Rattle.problem_model.specs.Problem.{ProblemLists}
+
+-- the words of the first line
+abbrev pub problem_head : List (List ℕ)
+problem_head = codes "problem" ∷ codes "1" ∷ []
+
+-- the line of a clock
+abbrev pub clock_line : Clock → List ℕ
+clock_line c = line_of (codes "clock" ∷ c.name ∷ decimal_of c.rate.short ∷ decimal_of c.rate.long ∷ decimal_of c.early ∷ decimal_of c.late ∷ [])
+
+-- the name of the clock at a place
+abbrev pub clock_name : List Clock → ℕ → List ℕ
+clock_name clocks k = option_name (slice_get clocks k)
+  where
+    option_name : Option Clock → List ℕ
+    option_name None = []
+    option_name (Some c) = c.name
+
+-- the name of the event at a place
+abbrev pub event_name : List Event → ℕ → List ℕ
+event_name events k = option_name (slice_get events k)
+  where
+    option_name : Option Event → List ℕ
+    option_name None = []
+    option_name (Some e) = e.name
+
+-- the line of an event, with the name of its clock
+abbrev pub event_line : List Clock → Event → List ℕ
+event_line clocks e = line_of (codes "event" ∷ e.name ∷ clock_name clocks e.clock ∷ decimal_of e.stamp ∷ [])
+
+-- the greatest delay, or that there is none
+abbrev pub most_word : Option ℕ → List ℕ
+most_word None = codes "none"
+most_word (Some n) = decimal_of n
+
+-- the line of a message, with the names of its events
+abbrev pub message_line : List Event → Message → List ℕ
+message_line events m = line_of (codes "message" ∷ event_name events m.send ∷ event_name events m.receive ∷ decimal_of m.least ∷ most_word m.most ∷ [])
+
+-- the only text of a problem
+abbrev pub problem_text : ProblemLists → List ℕ
+problem_text p = line_of problem_head ++ flat_map clock_line p.clocks ++ flat_map (event_line p.clocks) p.events
+    ++ flat_map (message_line p.events) p.messages ++ line_of (codes "end" ∷ [])

@@ -1,0 +1,66 @@
+// The parts of a problem.
+use crate::Name;
+use atto::{Nano, Rate};
+
+/// A clock: over a span it shows at most `rate.short()` parts per billion too much and `rate.long()` too little, and an
+/// event comes at most `early` ns of real time before the reading of its stamp and at most `late` ns behind it.
+#[derive(Clone, Copy, Debug, PartialEq, Eq)]
+pub struct Clock {
+    /// A clock name: at most 32 bytes, without `#`.
+    pub name: Name,
+    /// In parts per billion.
+    pub rate: Rate,
+    /// In ns, below 2^62.
+    pub early: Nano,
+    /// In ns, below 2^62.
+    pub late: Nano,
+}
+
+/// An event with the stamp that a clock gave it.
+#[derive(Clone, Copy, Debug, PartialEq, Eq)]
+pub struct Event {
+    pub name: Name,
+    /// The place of its clock, from 0 on.
+    pub clock: u32,
+    /// In ns of the clock, below 2^62.
+    pub stamp: Nano,
+}
+
+/// A message from one event to another, with the bounds on its delay in ns of real time.
+#[derive(Clone, Copy, Debug, PartialEq, Eq)]
+pub struct Message {
+    /// The place of the event that sends it, from 0 on.
+    pub send: u32,
+    /// The place of the event that receives it, from 0 on.
+    pub receive: u32,
+    /// The least delay.
+    pub least: Nano,
+    /// The greatest delay; None where there is no such bound.
+    pub most: Option<Nano>,
+}
+
+/// What has a real time.
+#[derive(Clone, Copy, Debug, PartialEq, Eq)]
+pub enum Node {
+    /// The event at this place.
+    Event(u32),
+    /// The moment at which the clock at this place shows this stamp.
+    Reading(u32, Nano),
+}
+
+/// The name of a declared bound on the real time from one node to another. Clocks and events go by their places.
+#[derive(Clone, Copy, Debug, PartialEq, Eq)]
+pub enum Bound {
+    /// The greatest real time from the reading `s` of a clock to its reading `t`.
+    SpanMost { clock: u32, s: Nano, t: Nano },
+    /// The least real time from the reading `s` of a clock to its reading `t`.
+    SpanLeast { clock: u32, s: Nano, t: Nano },
+    /// How long an event may come behind the reading of its stamp.
+    Late(u32),
+    /// How long an event may come before the reading of its stamp.
+    Early(u32),
+    /// The greatest delay of a message.
+    DelayMost { send: u32, receive: u32 },
+    /// The least delay of a message.
+    DelayLeast { send: u32, receive: u32 },
+}
