@@ -1,0 +1,4 @@
+pub mod ExecutionFormat
+pub mod NodeLists
+pub mod ReadsExecution
+pub mod Said

@@ -1,0 +1,102 @@
+// Worked executions and their faults.
+use super::*;
+use problem::read_problem;
+use std::alloc::Global;
+use std::test::*;
+
+// Two clocks without error, and a message each way with 10 to 20 ns of delay.
+const PROBLEM: &str =
+    "problem 1\nclock a 0 0 0 0\nclock b 0 0 0 0\nevent a#1 a 100\nevent a#2 a 180\nevent b#1 b 250\nevent b#2 b 300\nmessage a#1 b#1 10 20\nmessage b#2 a#2 10 20\nend\n";
+
+const LINES: [&str; 10] = [
+    "execution 1\n",
+    "event a#1 0.000000000\n",
+    "event a#2 80.000000000\n",
+    "event b#1 10.000000000\n",
+    "event b#2 60.000000000\n",
+    "reading a 100 0.000000000\n",
+    "reading a 180 80.000000000\n",
+    "reading b 250 10.000000000\n",
+    "reading b 300 60.000000000\n",
+    "end\n",
+];
+
+// What the lines read as, with another text in the place of one.
+fn read_with(alloc: Global, place: usize, text: &str) -> Result<Execution, CertError> {
+    let mut bytes = Vec::new(alloc);
+    for (k, line) in LINES.iter().enumerate() {
+        let line = if k + 1 == place { text } else { *line };
+        if bytes.extend_from_slice(line.as_bytes()).is_err() {
+            return Err(CertError::Memory);
+        }
+    }
+    match read_problem(alloc, PROBLEM.as_bytes()) {
+        Ok(p) => read_execution(alloc, &p, &bytes),
+        Err(_) => Err(CertError::Memory),
+    }
+}
+
+#[test]
+fn an_execution_is_read(rt: HostRuntime) {
+    let execution = read_with(rt.alloc(), 3, "event a#2 -80.000000001\n").expect(
+        &rt,
+        "an execution",
+    );
+    assert_eq!(rt; execution.len(), 8);
+    let times = [0, -80_000_000_001, 10_000_000_000, 60_000_000_000];
+    for (k, want) in times.iter().enumerate() {
+        assert_eq!(rt; execution.value(k as u32).get(), *want, "at {k}");
+    }
+    assert_eq!(rt; execution.value(7).get(), 60_000_000_000);
+}
+
+#[test]
+fn first_faults(rt: HostRuntime) {
+    let cases = [
+        (1, "", CertError::Syntax(1)),
+        (1, "execution 2\n", CertError::Syntax(1)),
+        (1, "execution 1\n\n", CertError::Syntax(2)),
+        (2, "event  a#1 0.000000000\n", CertError::Syntax(2)),
+        (2, "event a#1 0.000000000 \n", CertError::Syntax(2)),
+        (2, "event a#1 -0.000000000\n", CertError::Syntax(2)),
+        (2, "event a/1 0.000000000\n", CertError::Syntax(2)),
+        (2, "event a#2 0.0\n", CertError::Syntax(2)),
+        (
+            2,
+            "event a#2 1329227995784915872903807060.280344577\n",
+            CertError::Name(2),
+        ),
+        (2, "event a#2 0.000000000\n", CertError::Name(2)),
+        (
+            2,
+            "event a#1 1329227995784915872903807060.280344577\n",
+            CertError::Range(2),
+        ),
+        (2, "reading a 100 0.000000000\n", CertError::Syntax(2)),
+        (2, "end\n", CertError::Syntax(2)),
+        (6, "event a#1 0.000000000\n", CertError::Syntax(6)),
+        (6, "reading b 100 0.000000000\n", CertError::Name(6)),
+        (6, "reading a 101 0.000000000\n", CertError::Name(6)),
+        (
+            6,
+            "reading a 99999999999999999999 1.000000000\n",
+            CertError::Name(6),
+        ),
+        (6, "reading a 0100 0.000000000\n", CertError::Syntax(6)),
+        (9, "", CertError::Syntax(9)),
+        (
+            9,
+            "reading b 300 -9999999999999999999999999999.000000000\n",
+            CertError::Range(9),
+        ),
+        (10, "", CertError::Syntax(10)),
+        (10, "end", CertError::Syntax(10)),
+        (10, "end\n\n", CertError::Syntax(11)),
+    ];
+    for (place, text, want) in cases {
+        assert!(rt;
+            read_with(rt.alloc(), place, text).err() == Some(want),
+            "at {place}: {text}"
+        );
+    }
+}
