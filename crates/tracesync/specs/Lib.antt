@@ -1,0 +1,5 @@
+pub mod Endings
+pub mod Refusal
+pub mod Run
+pub mod Unread
+pub mod Verdict

@@ -1,0 +1,43 @@
+//! Judges executions by the declared bounds of a problem.
+#![tactic(auto)]
+
+mod print;
+mod refusal;
+mod run;
+mod status;
+#[cfg(test)]
+mod tests;
+mod texts;
+mod verdict;
+
+use crate::run::run;
+use crate::status::Status;
+use ports::{DiskFiles, StdSink, StdSource, Words};
+use std::io::ErrorKind;
+use std::process::ExitCode;
+use std::{env, io};
+
+// The words after the program's name.
+fn words_of(rt: &HostRuntime) -> io::Result<Words> {
+    let mut words = Words::new(rt.alloc());
+    for word in env::args(rt)?.skip(1) {
+        words.push(word.as_str())?;
+    }
+    Ok(words)
+}
+
+fn main(rt: HostRuntime) -> ExitCode {
+    // A word that is no text is of no form.
+    let words = match words_of(&rt) {
+        Ok(words) => words,
+        Err(error) if error.kind() == ErrorKind::OutOfMemory => {
+            return ExitCode::from(Status::Memory.code());
+        }
+        Err(_) => Words::new(rt.alloc()),
+    };
+    let mut files = DiskFiles::new(&rt);
+    let mut input = StdSource::new(rt.reader());
+    let mut out = StdSink::new(io::writer(&rt));
+    let status = run(rt.alloc(), &words, &mut files, &mut input, &mut out);
+    ExitCode::from(status.code())
+}

@@ -1,0 +1,144 @@
+// The lines that the program prints.
+ghost use Rattle.std.specs.Prelude.{◌≡◌, ◌∷◌, [], ◌++◌, ℕ, List, ℤ, OnOk, IfOk, codes};
+ghost use Rattle.std.specs.Option.{option_copied};
+ghost use Rattle.atto.specs.Decimal.{decimal_of};
+ghost use Rattle.atto.specs.NsText.{ns_text};
+ghost use Rattle.line_format.specs.Words.{words, line_of};
+ghost use Rattle.problem_model.specs.ProblemText.{clock_name, event_name};
+ghost use Rattle.problem_model.specs.BoundText.{bound_words, broken_line, span_words, delay_words};
+ghost use Rattle.tracesync.specs.Refusal.{refusal_line, number_of, place_of};
+
+use crate::refusal::Refusal;
+use atto::{Nano, NsText, write_decimal, write_ns};
+use problem::{Bound, Problem};
+use std::alloc::{AllocError, Global};
+
+// Appends a word behind a space.
+fn push_word(line: &mut Vec<u8>, word: &[u8]) -> Result<(), AllocError>
+    ensures { (first : List ℕ) (ws : List (List ℕ)) → line.old.items ≡ words (first ∷ ws) → OnOk result (line.new.items ≡ words (first ∷ ws ++ word.now ∷ [])) }
+{
+    line.push(b' ')?;
+    line.extend_from_slice(word)?;
+    Ok(())
+}
+
+fn push_decimal(line: &mut Vec<u8>, number: u64) -> Result<(), AllocError>
+    ensures { (first : List ℕ) (ws : List (List ℕ)) → line.old.items ≡ words (first ∷ ws) → OnOk result (line.new.items ≡ words (first ∷ ws ++ decimal_of number ∷ [])) }
+{
+    let mut text = NsText::new();
+    write_decimal(number, &mut text);
+    push_word(line, text.as_slice())
+}
+
+fn push_ns(line: &mut Vec<u8>, units: i128) -> Result<(), AllocError>
+    ensures { (first : List ℕ) (ws : List (List ℕ)) → line.old.items ≡ words (first ∷ ws) → OnOk result (line.new.items ≡ words (first ∷ ws ++ ns_text units ∷ [])) }
+{
+    let mut text = NsText::new();
+    write_ns(units, &mut text);
+    push_word(line, text.as_slice())
+}
+
+fn push_event_name(line: &mut Vec<u8>, p: &Problem, event: u32) -> Result<(), AllocError>
+    ensures { (first : List ℕ) (ws : List (List ℕ)) → line.old.items ≡ words (first ∷ ws) → OnOk result (line.new.items ≡ words (first ∷ ws ++ event_name p.now.events event ∷ [])) }
+{
+    match p.events().get(event as usize) {
+        Some(event) => push_word(line, event.name.bytes()),
+        None => push_word(line, b""),
+    }
+}
+
+fn push_clock_name(line: &mut Vec<u8>, p: &Problem, clock: u32) -> Result<(), AllocError>
+    ensures { (first : List ℕ) (ws : List (List ℕ)) → line.old.items ≡ words (first ∷ ws) → OnOk result (line.new.items ≡ words (first ∷ ws ++ clock_name p.now.clocks clock ∷ [])) }
+{
+    match p.clocks().get(clock as usize) {
+        Some(clock) => push_word(line, clock.name.bytes()),
+        None => push_word(line, b""),
+    }
+}
+
+// Appends the words of a bound over a span.
+fn push_span(
+    line: &mut Vec<u8>,
+    p: &Problem,
+    kind: &[u8],
+    clock: u32,
+    s: Nano,
+    t: Nano,
+) -> Result<(), AllocError>
+    ensures { (first : List ℕ) (ws : List (List ℕ)) → line.old.items ≡ words (first ∷ ws) → OnOk result (line.new.items ≡ words (first ∷ ws ++ span_words kind.now p.now clock s t)) }
+{
+    push_word(line, kind)?;
+    push_clock_name(line, p, clock)?;
+    push_decimal(line, s.get())?;
+    push_decimal(line, t.get())?;
+    Ok(())
+}
+
+// Appends the words of a bound on the stamp of an event.
+fn push_stamp(line: &mut Vec<u8>, p: &Problem, kind: &[u8], event: u32) -> Result<(), AllocError>
+    ensures { (first : List ℕ) (ws : List (List ℕ)) → line.old.items ≡ words (first ∷ ws) → OnOk result (line.new.items ≡ words (first ∷ ws ++ kind.now ∷ event_name p.now.events event ∷ [])) }
+{
+    push_word(line, kind)?;
+    push_event_name(line, p, event)?;
+    Ok(())
+}
+
+// Appends the words of a bound on the delay of a message.
+fn push_delay(
+    line: &mut Vec<u8>,
+    p: &Problem,
+    kind: &[u8],
+    send: u32,
+    receive: u32,
+) -> Result<(), AllocError>
+    ensures { (first : List ℕ) (ws : List (List ℕ)) → line.old.items ≡ words (first ∷ ws) → OnOk result (line.new.items ≡ words (first ∷ ws ++ delay_words kind.now p.now send receive)) }
+{
+    push_word(line, kind)?;
+    push_event_name(line, p, send)?;
+    push_event_name(line, p, receive)?;
+    Ok(())
+}
+
+// Appends the words of a bound.
+fn push_bound(line: &mut Vec<u8>, p: &Problem, bound: &Bound) -> Result<(), AllocError>
+    ensures { (first : List ℕ) (ws : List (List ℕ)) → line.old.items ≡ words (first ∷ ws) → OnOk result (line.new.items ≡ words (first ∷ ws ++ bound_words p.now bound.now)) }
+{
+    match *bound {
+        Bound::SpanMost { clock, s, t } => push_span(line, p, b"span-most", clock, s, t),
+        Bound::SpanLeast { clock, s, t } => push_span(line, p, b"span-least", clock, s, t),
+        Bound::Late(event) => push_stamp(line, p, b"late", event),
+        Bound::Early(event) => push_stamp(line, p, b"early", event),
+        Bound::DelayMost { send, receive } => push_delay(line, p, b"delay-most", send, receive),
+        Bound::DelayLeast { send, receive } => push_delay(line, p, b"delay-least", send, receive),
+    }
+}
+
+/// The line that names a broken bound, its weight and the difference found, which are given in units of 1e-9 ns and
+/// printed as ns texts.
+pub fn broken_line(
+    alloc: Global,
+    p: &Problem,
+    bound: &Bound,
+    weight: i128,
+    difference: i128,
+) -> Result<Vec<u8>, AllocError>
+    ensures { IfOk result (λ line. line.items ≡ broken_line p.now bound.now weight difference) }
+{
+    let mut line = Vec::from_slice(alloc, b"broken")?;
+    push_bound(&mut line, p, bound)?;
+    push_ns(&mut line, weight)?;
+    push_ns(&mut line, difference)?;
+    line.push(b'\n')?;
+    Ok(line)
+}
+
+/// The line that says why a text is refused: the kind of text, the number of the cause, and the line.
+pub fn refusal_line(alloc: Global, kind: &[u8], refusal: Refusal) -> Result<Vec<u8>, AllocError>
+    ensures { IfOk result (λ line. line.items ≡ refusal_line kind.now refusal) }
+{
+    let mut line = Vec::from_slice(alloc, kind)?;
+    push_decimal(&mut line, u64::from(refusal.number()))?;
+    push_decimal(&mut line, u64::from(refusal.place()))?;
+    line.push(b'\n')?;
+    Ok(line)
+}

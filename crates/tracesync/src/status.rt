@@ -1,0 +1,42 @@
+// How a run of the program ended.
+ghost use Rattle.std.specs.Prelude.{◌≡◌};
+ghost use Rattle.tracesync.specs.Run.{code_of};
+
+/// How a run ended.
+#[derive(Clone, Copy, Debug, PartialEq, Eq)]
+pub enum Status {
+    /// The command was answered.
+    Done,
+    /// The answer is no: a bound is broken.
+    No,
+    /// The words are no command.
+    Usage,
+    /// The problem text is refused.
+    BadProblem,
+    /// The execution text is refused.
+    BadExec,
+    /// A named file is not there, or a read failed.
+    ReadFault,
+    /// A write failed.
+    WriteFault,
+    /// Memory ran out, also for the words.
+    Memory,
+}
+
+impl Status {
+    /// The exit status of the program.
+    pub fn code(&self) -> u8
+        ensures { result ≡ code_of self.now }
+    {
+        match self {
+            Status::Done => 0,
+            Status::No => 1,
+            Status::Usage => 2,
+            Status::BadProblem => 4,
+            Status::BadExec => 5,
+            Status::ReadFault => 7,
+            Status::WriteFault => 8,
+            Status::Memory => 9,
+        }
+    }
+}

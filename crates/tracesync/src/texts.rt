@@ -1,0 +1,132 @@
+// The texts in the files that the words name.
+ghost use Rattle.std.specs.Prelude.{◌≡◌, ◌≤◌, ◌^◌, ℕ, List, length, IfOk, IfErr};
+ghost use Rattle.ports.specs.Files.{HasBytes};
+ghost use Rattle.problem_model.specs.Bounds.{Times};
+ghost use Rattle.problem_model.specs.Nodes.{Lists};
+ghost use Rattle.tracesync.specs.Verdict.{HasOneEach};
+ghost use Rattle.tracesync.specs.Run.{SpellsProblem, SpellsExecution, RefusesProblem, RefusesExecution};
+ghost use Rattle.tracesync.specs.Unread.{IsUnread, IsRefusedFor, IsLong, unread_problem, unread_execution};
+
+use crate::refusal::Refusal;
+use cert::{CertError, Execution, read_execution};
+use line_format::FaultKind;
+use ports::{FileFault, Files, read_file};
+use problem::{Problem, ProblemError, read_problem};
+use std::alloc::Global;
+
+/// The greatest number of bytes of a text.
+const MOST: u64 = 1 << 30;
+
+/// Why a file gave no value.
+#[derive(Clone, Copy, Debug, PartialEq, Eq)]
+pub enum Unread {
+    /// Its text is refused.
+    Refused(Refusal),
+    /// It is not there, or a read failed.
+    Fault,
+    /// Memory ran out.
+    Memory,
+}
+
+fn unread_problem(error: ProblemError) -> Unread
+    ensures { result ≡ unread_problem error }
+{
+    match error {
+        ProblemError::Syntax(line) => Unread::Refused(Refusal::Faulty(FaultKind::Syntax, line)),
+        ProblemError::Name(line) => Unread::Refused(Refusal::Faulty(FaultKind::Name, line)),
+        ProblemError::Range(line) => Unread::Refused(Refusal::Faulty(FaultKind::Range, line)),
+        ProblemError::Limit(line) => Unread::Refused(Refusal::Faulty(FaultKind::Limit, line)),
+        ProblemError::Long => Unread::Refused(Refusal::Long),
+        ProblemError::Memory => Unread::Memory,
+    }
+}
+
+fn unread_execution(error: CertError) -> Unread
+    ensures { result ≡ unread_execution error }
+{
+    match error {
+        CertError::Syntax(line) => Unread::Refused(Refusal::Faulty(FaultKind::Syntax, line)),
+        CertError::Name(line) => Unread::Refused(Refusal::Faulty(FaultKind::Name, line)),
+        CertError::Range(line) => Unread::Refused(Refusal::Faulty(FaultKind::Range, line)),
+        CertError::Limit(line) => Unread::Refused(Refusal::Faulty(FaultKind::Limit, line)),
+        CertError::Long => Unread::Refused(Refusal::Long),
+        CertError::Memory => Unread::Memory,
+    }
+}
+
+// The whole text of a file, unless it is too long.
+fn text_in<F: Files>(alloc: Global, files: &mut F, path: &str) -> Result<Vec<u8>, Unread>
+    ensures ok { IfOk result (λ text. HasBytes (F.content files.old) path.now (λ all. (length all ≤ 2 ^ 30) × (text.items ≡ all))) }
+    ensures err { IfErr result (IsUnread IsLong (F.content files.old) path.now (F.faults files.old) (F.faults files.new) (F.absences files.old) (F.absences files.new)) }
+    ensures same { F.content files.new ≡ F.content files.old }
+    ensures no_fall { (F.faults files.old ≤ F.faults files.new) × (F.absences files.old ≤ F.absences files.new) }
+{
+    match read_file(alloc, files, path, MOST) {
+        Ok(file) => {
+            if file.more {
+                Err(Unread::Refused(Refusal::Long))
+            } else {
+                Ok(file.bytes)
+            }
+        }
+        Err(FileFault::Memory) => Err(Unread::Memory),
+        Err(_) => Err(Unread::Fault),
+    }
+}
+
+// The problem of a text.
+fn problem_of(alloc: Global, text: &[u8]) -> Result<Problem, Unread>
+    ensures ok { IfOk result (λ p. SpellsProblem p text.now) }
+    ensures err { IfErr result (IsRefusedFor RefusesProblem text.now) }
+{
+    match read_problem(alloc, text) {
+        Ok(p) => Ok(p),
+        Err(error) => Err(unread_problem(error)),
+    }
+}
+
+// The execution of a problem that a text spells.
+fn execution_of(alloc: Global, p: &Problem, text: &[u8]) -> Result<Execution, Unread>
+    ensures one_each { IfOk result (λ e. HasOneEach p.now e) }
+    ensures ok { IfOk result (λ e. (x : Times) → Lists p.now x e → SpellsExecution p.now x text.now) }
+    ensures err { IfErr result (IsRefusedFor (RefusesExecution p.now) text.now) }
+{
+    let _readings = p.readings();
+    match read_execution(alloc, p, text) {
+        Ok(e) => Ok(e),
+        Err(error) => Err(unread_execution(error)),
+    }
+}
+
+/// The problem in a file, or why there is none.
+pub fn problem_in<F: Files>(alloc: Global, files: &mut F, path: &str) -> Result<Problem, Unread>
+    ensures ok { IfOk result (λ p. HasBytes (F.content files.old) path.now (SpellsProblem p)) }
+    ensures err { IfErr result (IsUnread RefusesProblem (F.content files.old) path.now (F.faults files.old) (F.faults files.new) (F.absences files.old) (F.absences files.new)) }
+    ensures same { F.content files.new ≡ F.content files.old }
+    ensures no_fall { (F.faults files.old ≤ F.faults files.new) × (F.absences files.old ≤ F.absences files.new) }
+{
+    match text_in(alloc, files, path) {
+        Ok(text) => problem_of(alloc, &text),
+        Err(unread) => Err(unread),
+    }
+}
+
+/// The execution of a problem in a file, or why there is none.
+pub fn execution_in<F: Files>(
+    alloc: Global,
+    files: &mut F,
+    path: &str,
+    p: &Problem,
+) -> Result<Execution, Unread>
+    ensures one_each { IfOk result (λ e. HasOneEach p.now e) }
+    ensures ok { IfOk result (λ e. (x : Times) → Lists p.now x e → HasBytes (F.content files.old) path.now (SpellsExecution p.now x)) }
+    ensures err { IfErr result (IsUnread (RefusesExecution p.now) (F.content files.old) path.now (F.faults files.old) (F.faults files.new) (F.absences files.old) (F.absences files.new)) }
+    ensures same { F.content files.new ≡ F.content files.old }
+    ensures no_fall { (F.faults files.old ≤ F.faults files.new) × (F.absences files.old ≤ F.absences files.new) }
+{
+    let _readings = p.readings();
+    match text_in(alloc, files, path) {
+        Ok(text) => execution_of(alloc, p, &text),
+        Err(unread) => Err(unread),
+    }
+}
