@@ -1,0 +1,32 @@
+-- The greatest and least difference of two nodes over all executions, and their order.
+use Rattle.std.specs.Prelude.{◌≡◌, ℕ, ℤ, neg_ℤ, ◌≤ℤ◌, ◌<ℤ◌, List}
+use Rattle.difference_bounds.specs.Executions.{Arc, at, difference, IsExecution}
+
+-- some execution has x_q - x_p = h, and none has more
+pub record IsGreatest (nodes : ℕ) (arcs : List Arc) (p q : ℕ) (h : ℤ) : Type 0 where
+  pub attained : (xs : List ℤ) × IsExecution nodes arcs xs × (difference (at xs) p q ≡ h)
+  pub most : (xs : List ℤ) → IsExecution nodes arcs xs → difference (at xs) p q ≤ℤ h
+
+-- for every number some execution has more as x_q - x_p
+abbrev pub IsUnbounded : ℕ → List Arc → ℕ → ℕ → Type 0
+IsUnbounded nodes arcs p q = (h : ℤ) → (xs : List ℤ) × IsExecution nodes arcs xs × (h <ℤ difference (at xs) p q)
+
+-- the least x_q - x_p is the negative of the greatest x_p - x_q
+abbrev pub IsLeast : ℕ → List Arc → ℕ → ℕ → ℤ → Type 0
+IsLeast nodes arcs p q h = IsGreatest nodes arcs q p (neg_ℤ h)
+
+-- p comes before q in every execution
+abbrev pub IsBefore : ℕ → List Arc → ℕ → ℕ → Type 0
+IsBefore nodes arcs p q = (xs : List ℤ) → IsExecution nodes arcs xs → at xs p <ℤ at xs q
+
+-- p comes after q in every execution
+abbrev pub IsAfter : ℕ → List Arc → ℕ → ℕ → Type 0
+IsAfter nodes arcs p q = IsBefore nodes arcs q p
+
+-- p and q come at the same time in every execution
+abbrev pub IsSame : ℕ → List Arc → ℕ → ℕ → Type 0
+IsSame nodes arcs p q = (xs : List ℤ) → IsExecution nodes arcs xs → at xs p ≡ at xs q
+
+-- none of these three is so
+abbrev pub IsOpen : ℕ → List Arc → ℕ → ℕ → Type 0
+IsOpen nodes arcs p q = (IsBefore nodes arcs p q → ⊥) × (IsAfter nodes arcs p q → ⊥) × (IsSame nodes arcs p q → ⊥)

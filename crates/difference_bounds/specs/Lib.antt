@@ -1,0 +1,14 @@
+pub mod Executions
+pub mod Paths
+pub mod Differences
+pub mod Earliest
+pub mod Cuts
+pub mod Rows
+pub mod Reversal
+pub mod Tables
+pub mod Parents
+pub mod Sums
+pub mod Insertions
+pub mod RowPops
+pub mod Numbers
+pub mod Problems

@@ -1,0 +1,43 @@
+//! The sums and differences by which arcs are judged and nodes are ordered, in units or any other whole number.
+
+ghost use Rattle.std.specs.Prelude.{◌≡◌, ◌↔◌, IsTrue, ◌+ℤ◌, ◌-ℤ◌, ◌≤ℤ◌};
+ghost use Rattle.difference_bounds.specs.Numbers.{IsUpTo};
+
+/// Whether values `from` and `to`, each at most 2^120 in absolute value, obey an arc: `to - from` is at most `weight`.
+pub fn is_obeyed(from: i128, to: i128, weight: i128) -> bool
+    requires from { IsUpTo 120 from }
+    requires to { IsUpTo 120 to }
+    ensures { IsTrue result ↔ (to -ℤ from) ≤ℤ weight }
+{
+    to - from <= weight
+}
+
+/// How far the value at an arc's tail must rise for the arc to be obeyed: `to - weight - from`, at most 0 where it is.
+/// All three are at most 2^120 in absolute value.
+pub fn shortfall(from: i128, to: i128, weight: i128) -> i128
+    requires from { IsUpTo 120 from }
+    requires to { IsUpTo 120 to }
+    requires weight { IsUpTo 120 weight }
+    ensures { result ≡ to -ℤ weight -ℤ from }
+{
+    to - weight - from
+}
+
+/// The distance less the potential of the node: the reduced cost of its path, if the path began at potential 0. Both
+/// are at most 2^120 in absolute value.
+pub fn reduced_distance(distance: i128, potential: i128) -> i128
+    requires distance { IsUpTo 120 distance }
+    requires potential { IsUpTo 120 potential }
+    ensures { result ≡ distance -ℤ potential }
+{
+    distance - potential
+}
+
+/// The distance at the end of one more arc. Both are at most 2^120 in absolute value.
+pub fn longer(distance: i128, weight: i128) -> i128
+    requires distance { IsUpTo 120 distance }
+    requires weight { IsUpTo 120 weight }
+    ensures { result ≡ distance +ℤ weight }
+{
+    distance + weight
+}
