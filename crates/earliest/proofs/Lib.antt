@@ -1,0 +1,6 @@
+pub mod Waiting
+pub mod Bounds
+pub mod Settling
+pub mod Starting
+pub mod Walking
+pub mod Pushing

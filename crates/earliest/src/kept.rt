@@ -1,0 +1,109 @@
+// The earliest execution, as it is kept.
+ghost use Rattle.std.specs.Prelude.{◌≡◌, ◌<◌, ◌≤◌, ◌++◌, ◌∷◌, [], false, true, IfOk, OnOk, OnErr, length, pos, slice_index_or};
+ghost use Rattle.difference_bounds.specs.Executions.{at};
+ghost use Rattle.frontier.specs.Keys.{IsEmpty};
+ghost use Rattle.earliest.specs.Values.{IsEarliestBut};
+ghost use Rattle.earliest.specs.Inserted.{IsInserted};
+
+use crate::cycle::cycle_of;
+use crate::inserted::Inserted;
+use crate::settle::add_arc;
+use frontier::Frontier;
+use std::alloc::{AllocError, Global};
+use std::marker::Model;
+use sync_graph::Graph;
+
+/// One value for each node, in units of 1e-9 ns, and whether they are the earliest execution of a graph.
+#[derive(Drop)]
+pub struct Earliest {
+    alloc: Global,
+    values: Vec<i128>,
+    // The arc that asked for each raise, during a call.
+    parents: Vec<u32>,
+    solved: bool,
+}
+
+impl Model for Earliest {
+    ghost use Rattle.std.specs.Prelude.{◌≡◌, length};
+    ghost use Rattle.earliest.specs.Values.{Values};
+
+    ghost Value = { Values };
+
+    ghost view = { λ e. record { values = e.values.items; is_solved = e.solved } };
+
+    ghost invariant = { λ e. length e.parents.items ≡ length e.values.items };
+}
+
+impl Earliest {
+    /// No values, solved. It takes no memory.
+    pub fn new(alloc: Global) -> Earliest
+        ensures { result ≡ record { values = []; is_solved = true } }
+    {
+        Earliest {
+            alloc,
+            values: Vec::new(alloc),
+            parents: Vec::new(alloc),
+            solved: true,
+        }
+    }
+
+    /// Whether the values are an earliest execution.
+    pub fn solved(&self) -> bool
+        ensures { result ≡ self.now.is_solved }
+    {
+        self.solved
+    }
+
+    /// The value of a node, in units of 1e-9 ns.
+    pub fn value(&self, node: u32) -> i128
+        requires solved { self.now.is_solved ≡ true }
+        requires node { node < length self.now.values }
+        ensures { result ≡ at self.now.values node }
+    {
+        self.values[node as usize]
+    }
+
+    /// Appends a node of value 0. All stays as it was where memory runs out.
+    pub fn push_node(&mut self) -> Result<(), AllocError>
+        ensures ok { OnOk result (self.new ≡ record { values = self.old.values ++ pos 0 ∷ []; is_solved = self.old.is_solved }) }
+        ensures err { OnErr result (self.new ≡ self.old) }
+    {
+        if let Err(_) = self.values.reserve(1) {
+            return Err(AllocError);
+        }
+        if let Err(_) = self.parents.reserve(1) {
+            return Err(AllocError);
+        }
+        self.values.push_reserved(0);
+        self.parents.push_reserved(0);
+        Ok(())
+    }
+
+    /// Brings in one arc in force, where the values are the earliest execution of the others. `front` has room for all
+    /// nodes, and is empty before and after. Where memory runs out it is not solved.
+    pub fn insert(
+        &mut self,
+        g: &Graph,
+        arc: u32,
+        front: &mut Frontier,
+    ) -> Result<Inserted, AllocError>
+        requires in_force { slice_index_or g.now.in_force arc false ≡ true }
+        requires solved { self.old.is_solved ≡ true }
+        requires before { IsEarliestBut g.now arc self.old.values }
+        requires empty { IsEmpty front.old }
+        requires room { length g.now.nodes ≤ length front.old }
+        ensures found { IfOk result (λ found. IsInserted g.now self.new found) }
+        ensures unsolved { OnErr result (self.new.is_solved ≡ false) }
+        ensures values { length self.new.values ≡ length self.old.values }
+        ensures empty { IsEmpty front.new }
+        ensures room { length front.new ≡ length front.old }
+    {
+        self.solved = add_arc(&mut self.values, &mut self.parents, g, arc, front);
+        if self.solved {
+            return Ok(Inserted::Kept);
+        }
+        front.clear();
+        let steps = cycle_of(self.alloc, &self.parents, g, arc)?;
+        Ok(Inserted::Negative(steps))
+    }
+}

@@ -1,0 +1,72 @@
+ghost use Rattle.std.specs.Prelude.{◌≡◌, ℕ, ◌+◌, ◌^◌, ◌<◌, ◌≤◌, true, IfOk, OnOk, length, ℤ, pos, neg_ℤ, ◌<ℤ◌};
+ghost use Rattle.frontier.specs.Keys.{IsEmpty};
+ghost use Rattle.earliest.specs.Values.{IsEarliestOf};
+ghost use Rattle.earliest.specs.Inserted.{IsInserted};
+
+use super::*;
+use frontier::Frontier;
+use problem_model::{Bound, Node};
+use std::alloc::AllocError;
+use std::test::Fail;
+use sync_graph::{Arc, Graph};
+
+// Pushes an arc and brings it in.
+fn add(
+    g: &mut Graph,
+    e: &mut Earliest,
+    front: &mut Frontier,
+    from: u32,
+    to: u32,
+    weight: i128,
+) -> Result<Inserted, AllocError>
+    requires from { from < length g.old.nodes }
+    requires to { to < length g.old.nodes }
+    requires low { neg_ℤ (pos (2 ^ 93)) <ℤ weight }
+    requires high { weight <ℤ pos (2 ^ 93) }
+    requires few { length g.old.arcs < 2 ^ 24 }
+    requires solved { e.old.is_solved ≡ true }
+    requires earliest { IsEarliestOf g.old e.old.values }
+    requires empty { IsEmpty front.old }
+    requires room { length g.old.nodes ≤ length front.old }
+    ensures found { IfOk result (λ found. IsInserted g.new e.new found) }
+    ensures nodes { OnOk result (length g.new.nodes ≡ length g.old.nodes) }
+    ensures arcs { OnOk result (length g.new.arcs ≡ length g.old.arcs + 1) }
+    ensures empty { IsEmpty front.new }
+    ensures room { length front.new ≡ length front.old }
+{
+    g.exact();
+    let arc = g.push_arc(Arc {
+        from,
+        to,
+        weight,
+        name: Bound::Late(0),
+    })?;
+    e.insert(g, arc, front)
+}
+
+// Node 0 comes at least 3 after node 1; that it comes at most 2 after it leaves no values.
+#[test]
+fn arcs_are_brought_in(rt: HostRuntime) -> Result<(), Fail> {
+    let alloc = rt.alloc();
+    let mut g = Graph::new(alloc);
+    let mut e = Earliest::new(alloc);
+    let mut front = Frontier::new(alloc);
+    front.reserve(2)?;
+    g.exact();
+    g.push_node(Node::Event(0))?;
+    e.push_node()?;
+    g.exact();
+    g.push_node(Node::Event(1))?;
+    e.push_node()?;
+    match add(&mut g, &mut e, &mut front, 0, 1, -3)? {
+        Inserted::Kept => {
+            assert!(rt; e.value(0) == 3 && e.value(1) == 0);
+            match add(&mut g, &mut e, &mut front, 1, 0, 2)? {
+                Inserted::Kept => assert!(rt; false),
+                Inserted::Negative(steps) => assert!(rt; steps.len() == 2 && !e.solved()),
+            }
+        }
+        Inserted::Negative(_) => assert!(rt; false),
+    }
+    Ok(())
+}

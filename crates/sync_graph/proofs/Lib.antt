@@ -1,0 +1,11 @@
+pub mod Changes
+pub mod Listed
+pub mod Grown
+pub mod Keyed
+pub mod OneMore
+pub mod OneName
+pub mod Walking
+pub mod Rooms
+pub mod Numbering
+pub mod Ends
+pub mod Nearest

@@ -1,0 +1,230 @@
+// A graph of numbered arcs.
+ghost use Rattle.std.specs.Prelude.{◌≡◌, ◌≢◌, ℕ, ◌<◌, ◌^◌, ◌++◌, ◌∷◌, [], length, true, slice_get, slice_set, Some, All, IfSome, IfNone, OnOk, OnErr, IfOk};
+ghost use Rattle.sync_graph.specs.Lists.{list_at};
+ghost use Rattle.sync_graph.specs.Neighbours.{IsNearestBelow, IsNearestAbove};
+ghost use Rattle.sync_graph.specs.Graph.{GraphLists, IsGraph, IsSound, arc_at, no_graph, with_node, with_arc};
+
+use crate::arc::Arc;
+use crate::lists::Lists;
+use crate::numbers::Numbers;
+use atto::Nano;
+use problem_model::{Bound, Node};
+use std::alloc::{AllocError, Global};
+use std::marker::Model;
+
+/// Nodes and arcs by their numbers, with the arcs in force that leave and reach each node.
+#[derive(Drop)]
+pub struct Graph {
+    numbers: Numbers,
+    arcs: Vec<Arc>,
+    in_force: Vec<bool>,
+    leaving: Lists,
+    arriving: Lists,
+}
+
+impl Model for Graph {
+    ghost use Rattle.sync_graph.specs.Graph.{GraphLists, IsGraph};
+
+    ghost Value = { GraphLists };
+
+    ghost view = { λ s. record { nodes = s.numbers; arcs = s.arcs.items; in_force = s.in_force.items; leaving = s.leaving; arriving = s.arriving } };
+
+    ghost invariant = { λ s. IsGraph (record { nodes = s.numbers; arcs = s.arcs.items; in_force = s.in_force.items; leaving = s.leaving; arriving = s.arriving }) };
+}
+
+// Appends the number of an arc to the lists of both its ends, or leaves both as they were.
+fn push_both(
+    leaving: &mut Lists,
+    arriving: &mut Lists,
+    from: u32,
+    to: u32,
+    k: u32,
+) -> Result<(), AllocError>
+    requires from { from < length leaving.old }
+    requires to { to < length arriving.old }
+    ensures leaving { OnOk result (leaving.new ≡ slice_set leaving.old from (list_at leaving.old from ++ k ∷ [])) }
+    ensures arriving { OnOk result (arriving.new ≡ slice_set arriving.old to (list_at arriving.old to ++ k ∷ [])) }
+    ensures err { OnErr result ((leaving.new ≡ leaving.old) × (arriving.new ≡ arriving.old)) }
+{
+    if let Err(_) = leaving.push_to(from, k) {
+        return Err(AllocError);
+    }
+    if let Err(_) = arriving.push_to(to, k) {
+        leaving.pop_from(from);
+        return Err(AllocError);
+    }
+    Ok(())
+}
+
+// Appends an empty list to both, or leaves both as they were.
+fn grow_both(leaving: &mut Lists, arriving: &mut Lists) -> Result<(), AllocError>
+    ensures leaving { OnOk result (leaving.new ≡ leaving.old ++ [] ∷ []) }
+    ensures arriving { OnOk result (arriving.new ≡ arriving.old ++ [] ∷ []) }
+    ensures err { OnErr result ((leaving.new ≡ leaving.old) × (arriving.new ≡ arriving.old)) }
+{
+    if let Err(_) = leaving.grow() {
+        return Err(AllocError);
+    }
+    if let Err(_) = arriving.grow() {
+        leaving.shrink();
+        return Err(AllocError);
+    }
+    Ok(())
+}
+
+// Appends a node without arcs to all three, or leaves all as they were.
+fn grow_all(
+    numbers: &mut Numbers,
+    leaving: &mut Lists,
+    arriving: &mut Lists,
+    n: Node,
+) -> Result<(), AllocError>
+    requires { (k : ℕ) → slice_get numbers.old k ≡ Some n → ⊥ }
+    ensures numbers { OnOk result (numbers.new ≡ numbers.old ++ n ∷ []) }
+    ensures leaving { OnOk result (leaving.new ≡ leaving.old ++ [] ∷ []) }
+    ensures arriving { OnOk result (arriving.new ≡ arriving.old ++ [] ∷ []) }
+    ensures err { OnErr result ((numbers.new ≡ numbers.old) × (leaving.new ≡ leaving.old) × (arriving.new ≡ arriving.old)) }
+{
+    grow_both(leaving, arriving)?;
+    if let Err(_) = numbers.push(n) {
+        leaving.shrink();
+        arriving.shrink();
+        return Err(AllocError);
+    }
+    Ok(())
+}
+
+impl Graph {
+    /// The graph without nodes and arcs. It takes no memory.
+    pub fn new(alloc: Global) -> Graph
+        ensures { result ≡ no_graph }
+    {
+        Graph {
+            numbers: Numbers::new(alloc),
+            arcs: Vec::new(alloc),
+            in_force: Vec::new(alloc),
+            leaving: Lists::new(alloc),
+            arriving: Lists::new(alloc),
+        }
+    }
+
+    /// How many nodes there are, at most 2^21.
+    pub fn nodes(&self) -> u32
+        ensures { result ≡ length self.now.nodes }
+    {
+        self.leaving.len() as u32
+    }
+
+    /// How many arcs there are, in force or not, at most 2^24.
+    pub fn arcs(&self) -> u32
+        ensures { result ≡ length self.now.arcs }
+    {
+        self.arcs.len() as u32
+    }
+
+    /// A law, which does nothing when it runs. Each node's list of leaving arcs holds every arc in force with this
+    /// tail, once, and no other; each node's list of arriving arcs does so for the arcs with this head.
+    pub fn exact(&self)
+        ensures { IsGraph self.now }
+    {
+        let _ = &self.arcs;
+    }
+
+    /// Appends a node without arcs, and answers its number. All stays as it was where memory runs out.
+    pub fn push_node(&mut self, n: Node) -> Result<u32, AllocError>
+        requires new { (k : ℕ) → slice_get self.old.nodes k ≡ Some n → ⊥ }
+        requires room { length self.old.nodes < 2 ^ 21 }
+        ensures number { IfOk result (λ node. node ≡ length self.old.nodes) }
+        ensures ok { OnOk result (self.new ≡ with_node self.old n) }
+        ensures err { OnErr result (self.new ≡ self.old) }
+    {
+        let node = self.leaving.len() as u32;
+        if let Err(_) = grow_all(&mut self.numbers, &mut self.leaving, &mut self.arriving, n) {
+            return Err(AllocError);
+        }
+        Ok(node)
+    }
+
+    /// Appends an arc, in force, and answers its number. All stays as it was where memory runs out.
+    pub fn push_arc(&mut self, a: Arc) -> Result<u32, AllocError>
+        requires sound { IsSound (length self.old.nodes) a }
+        requires room { length self.old.arcs < 2 ^ 24 }
+        ensures number { IfOk result (λ k. k ≡ length self.old.arcs) }
+        ensures ok { OnOk result (self.new ≡ with_arc self.old a) }
+        ensures err { OnErr result (self.new ≡ self.old) }
+    {
+        // A local of the name's type: without it the check of this function fails.
+        let _name: Bound = a.name;
+        let k = self.arcs.len() as u32;
+        if let Err(_) = self.arcs.reserve(1) {
+            return Err(AllocError);
+        }
+        if let Err(_) = self.in_force.reserve(1) {
+            return Err(AllocError);
+        }
+        if let Err(_) = push_both(&mut self.leaving, &mut self.arriving, a.from, a.to, k) {
+            return Err(AllocError);
+        }
+        self.arcs.push_reserved(a);
+        self.in_force.push_reserved(true);
+        Ok(k)
+    }
+
+    /// The arc of a number, in force or not.
+    pub fn arc(&self, k: u32) -> Arc
+        requires { k < length self.now.arcs }
+        ensures { result ≡ arc_at self.now.arcs k }
+    {
+        self.arcs[k as usize]
+    }
+
+    /// The number of a node, and None exactly where it is not there.
+    pub fn node_of(&self, n: Node) -> Option<u32>
+        ensures some { IfSome result (λ k. slice_get self.now.nodes k ≡ Some n) }
+        ensures none { IfNone result ((k : ℕ) → slice_get self.now.nodes k ≡ Some n → ⊥) }
+    {
+        let number = self.numbers.number(n)?;
+        Some(number as u32)
+    }
+
+    /// The nodes of the nearest readings of a clock strictly below and strictly above a stamp; None exactly where there
+    /// is none. It looks at each node once.
+    pub fn neighbours(&self, clock: u32, stamp: Nano) -> (Option<u32>, Option<u32>)
+        ensures below { IsNearestBelow self.now.nodes clock stamp result.0 }
+        ensures above { IsNearestAbove self.now.nodes clock stamp result.1 }
+    {
+        (self.below(clock, stamp), self.above(clock, stamp))
+    }
+
+    fn below(&self, clock: u32, stamp: Nano) -> Option<u32>
+        ensures { IsNearestBelow self.now.nodes clock stamp result }
+    {
+        let number = self.numbers.below(clock, stamp)?;
+        Some(number as u32)
+    }
+
+    fn above(&self, clock: u32, stamp: Nano) -> Option<u32>
+        ensures { IsNearestAbove self.now.nodes clock stamp result }
+    {
+        let number = self.numbers.above(clock, stamp)?;
+        Some(number as u32)
+    }
+
+    /// The number of the arc in force at place `k`, from 0 on, of those that leave a node; None exactly where there are
+    /// at most `k`. The order is that of the node's list, which changes only where arcs are pushed.
+    pub fn leaving(&self, node: u32, k: u32) -> Option<u32>
+        requires { node < length self.now.nodes }
+        ensures { result ≡ slice_get (list_at self.now.leaving node) k }
+    {
+        self.leaving.entry(node, k)
+    }
+
+    /// The number of the arc in force at place `k`, from 0 on, of those that reach a node; None exactly where there are
+    /// at most `k`. The order is that of the node's list, which changes only where arcs are pushed.
+    pub fn arriving(&self, node: u32, k: u32) -> Option<u32>
+        requires { node < length self.now.nodes }
+        ensures { result ≡ slice_get (list_at self.now.arriving node) k }
+    {
+        self.arriving.entry(node, k)
+    }
+}
