@@ -1,0 +1,119 @@
+#!/usr/bin/env python3
+"""Writes a problem and an execution of it, for a number of events.
+
+Eight hosts exchange messages. Host h0 keeps perfect time, the others declare a drift of up to 20,000
+parts per billion either way, and every stamp is read at most 50 ns before its event. Each message
+takes 1,000 to 100,000 ns, and says so. Real time is an execution of this: the clocks that are
+generated have an offset and no drift, and each event happens just as its stamp is read.
+
+The same number of events gives the same texts. With --broken the last message declares 1 ns less
+than it took, which breaks one bound, the last delay-most of all.
+"""
+
+import argparse
+import os
+
+CLOCKS = 8
+DRIFT = 20_000
+LATE = 50
+LEAST = 1_000
+MOST = 100_000
+
+
+class Draws:
+    """The multiplicative generator of Park, Miller and Stockmeyer, CACM 36 (7), 1993."""
+
+    MULTIPLIER = 48_271
+    MODULUS = 2**31 - 1
+
+    def __init__(self, seed):
+        self.state = seed
+
+    def below(self, limit):
+        self.state = self.state * self.MULTIPLIER % self.MODULUS
+        return self.state % limit
+
+
+class Trace:
+    """Events in their order, each with a clock, a real time and a stamp, all in ns."""
+
+    def __init__(self, offsets):
+        self.offsets = offsets
+        self.events = []
+        self.names = []
+        self.counts = [0] * CLOCKS
+        self.stamps = [set() for _ in range(CLOCKS)]
+
+    def is_read(self, clock, time):
+        return self.offsets[clock] + time in self.stamps[clock]
+
+    def add(self, clock, time):
+        stamp = self.offsets[clock] + time
+        self.stamps[clock].add(stamp)
+        self.counts[clock] += 1
+        self.names.append(f"h{clock}#{self.counts[clock]}")
+        self.events.append((clock, time, stamp))
+
+
+def generate(count):
+    """A trace of messages, and the delays of these: events 2 * k and 2 * k + 1 are those of message k."""
+    draws = Draws(count + 1)
+    trace = Trace([draws.below(10**9) for _ in range(CLOCKS)])
+    delays = []
+    time = 10**9
+    while len(trace.events) < count:
+        time += 1 + draws.below(100_000)
+        sender = draws.below(CLOCKS)
+        receiver = (sender + 1 + draws.below(CLOCKS - 1)) % CLOCKS
+        delay = LEAST + draws.below(MOST - LEAST + 1)
+        # A clock reads each stamp once: one event a reading.
+        if trace.is_read(sender, time) or trace.is_read(receiver, time + delay):
+            continue
+        trace.add(sender, time)
+        trace.add(receiver, time + delay)
+        delays.append(delay)
+    return trace, delays
+
+
+def write_problem(out, trace, delays, broken):
+    out.write("problem 1\n")
+    for clock in range(CLOCKS):
+        drift = DRIFT if clock > 0 else 0
+        out.write(f"clock h{clock} {drift} {drift} 0 {LATE}\n")
+    for name, (clock, _, stamp) in zip(trace.names, trace.events):
+        out.write(f"event {name} h{clock} {stamp}\n")
+    for k, delay in enumerate(delays):
+        most = delay - 1 if broken and k + 1 == len(delays) else MOST
+        out.write(f"message {trace.names[2 * k]} {trace.names[2 * k + 1]} {LEAST} {most}\n")
+    out.write("end\n")
+
+
+def write_execution(out, trace):
+    out.write("execution 1\n")
+    for name, (_, time, _) in zip(trace.names, trace.events):
+        out.write(f"event {name} {time}.000000000\n")
+    for clock in range(CLOCKS):
+        for stamp in sorted(trace.stamps[clock]):
+            time = stamp - trace.offsets[clock]
+            out.write(f"reading h{clock} {stamp} {time}.000000000\n")
+    out.write("end\n")
+
+
+def main():
+    parser = argparse.ArgumentParser(description=__doc__.splitlines()[0])
+    parser.add_argument("events", type=int, help="the number of events, even, from 2 to 2^20")
+    parser.add_argument("folder", help="where N.problem and N.execution are written")
+    parser.add_argument("--broken", action="store_true", help="break one bound: N-broken.problem")
+    args = parser.parse_args()
+    if args.events % 2 != 0 or not 2 <= args.events <= 2**20:
+        parser.error("an even number of events from 2 to 2^20")
+    trace, delays = generate(args.events)
+    stem = os.path.join(args.folder, f"{args.events}-broken" if args.broken else f"{args.events}")
+    with open(stem + ".problem", "w", encoding="ascii", newline="\n") as out:
+        write_problem(out, trace, delays, args.broken)
+    with open(stem + ".execution", "w", encoding="ascii", newline="\n") as out:
+        write_execution(out, trace)
+
+
+if __name__ == "__main__":
+    main()

@@ -1,0 +1,123 @@
+#!/usr/bin/env bash
+# Runs the program and obey.cpp over generated traces, compares their answers, and prints a table of their times and
+# memory. It is no part of the gate.
+#
+#     bench/run.sh [EVENTS..]
+#
+# EVENTS are even numbers from 2 to 2^20; with none, 1,000, 2^13, 2^16 and 2^20. TRACESYNC names another program to
+# measure than crates/tracesync/out/tracesync, and RUNS another number of runs than 3, of which the least time counts.
+set -euo pipefail
+export LC_ALL=C
+
+bench=$(cd "$(dirname "$0")" && pwd)
+crate=$bench/../crates/tracesync
+out=$bench/out
+program=${TRACESYNC:-$crate/out/tracesync}
+runs=${RUNS:-3}
+sizes=("$@")
+[ ${#sizes[@]} -gt 0 ] || sizes=(1000 8192 65536 1048576)
+
+fail() {
+    echo "bench: $*" >&2
+    exit 1
+}
+
+# Wall time of a command in microseconds; its output and its status go to $out/NAME.
+time_once() {
+    local name=$1 start end status=0
+    shift
+    start=${EPOCHREALTIME/./}
+    "$@" >"$out/$name.stdout" || status=$?
+    end=${EPOCHREALTIME/./}
+    echo "$status" >"$out/$name.status"
+    echo $((end - start))
+}
+
+# The lesser of two times, of which the first may be missing.
+lesser() {
+    if [ -z "$1" ] || [ "$2" -lt "$1" ]; then
+        echo "$2"
+    else
+        echo "$1"
+    fi
+}
+
+# Peak memory of a command in KiB, from a run of its own. Without /usr/bin/time the peak of python, which starts the
+# command, is counted too: then no peak is below some 14,000 KiB.
+peak_memory() {
+    if [ -x /usr/bin/time ]; then
+        /usr/bin/time -q -o "$out/peak" -f %M "$@" >/dev/null || true
+        cat "$out/peak"
+    else
+        python3 - "$@" <<'PYTHON'
+import resource
+import subprocess
+import sys
+
+subprocess.call(sys.argv[1:], stdout=subprocess.DEVNULL)
+print(resource.getrusage(resource.RUSAGE_CHILDREN).ru_maxrss)
+PYTHON
+    fi
+}
+
+same_answer() {
+    cmp -s "$out/tracesync.stdout" "$out/obey.stdout" || fail "the answers differ on $1"
+    cmp -s "$out/tracesync.status" "$out/obey.status" || fail "the statuses differ on $1"
+}
+
+# Runs both over the texts of one bound that is broken, and wants that answer.
+compare_broken() {
+    local stem=$out/$1-broken
+    python3 "$bench/generate.py" --broken "$1" "$out"
+    time_once tracesync "$program" obey "$stem.problem" "$stem.execution" >/dev/null
+    time_once obey "$out/obey" obey "$stem.problem" "$stem.execution" >/dev/null
+    same_answer "$stem"
+    grep -q '^broken delay-most ' "$out/obey.stdout" || fail "no bound is broken in $stem"
+    rm -f "$stem".*
+}
+
+milliseconds() {
+    printf '%d.%d' $(($1 / 1000)) $(($1 % 1000 / 100))
+}
+
+table_row() {
+    local events=$1 stem=$out/$1
+    local problem=$stem.problem execution=$stem.execution
+    python3 "$bench/generate.py" "$events" "$out"
+    local ours='' theirs='' our_peak their_peak k
+    for ((k = 0; k < runs; k++)); do
+        ours=$(lesser "$ours" "$(time_once tracesync "$program" obey "$problem" "$execution")")
+        theirs=$(lesser "$theirs" "$(time_once obey "$out/obey" obey "$problem" "$execution")")
+    done
+    same_answer "$stem"
+    [ "$(cat "$out/obey.stdout")" = obeys ] || fail "the generated execution is refused in $stem"
+    local tenths=$(((ours * 10 + theirs / 2) / theirs))
+    our_peak=$(peak_memory "$program" obey "$problem" "$execution")
+    their_peak=$(peak_memory "$out/obey" obey "$problem" "$execution")
+    printf '| %d | %d | %d | %s | %s | %d.%d | %d | %d | %d |\n' \
+        "$events" "$(wc -c <"$problem")" "$(wc -c <"$execution")" \
+        "$(milliseconds "$ours")" "$(milliseconds "$theirs")" \
+        $((tenths / 10)) $((tenths % 10)) \
+        "$our_peak" "$their_peak" $((our_peak * 1024 / events))
+}
+
+for events in "${sizes[@]}"; do
+    if ! [[ $events =~ ^[1-9][0-9]{0,6}$ ]] || ((events % 2 != 0 || events > 1048576)); then
+        fail "$events is no even number from 2 to 2^20"
+    fi
+done
+mkdir -p "$out"
+"${CXX:-g++}" -std=c++17 -O2 -Wall -Wextra -o "$out/obey" "$bench/obey.cpp"
+if [ ! -x "$program" ]; then
+    [ -z "${TRACESYNC:-}" ] || fail "there is no $program"
+    python3 "$bench/generate.py" 2 "$out"
+    (cd "$crate" && rt run -- obey "$out/2.problem" "$out/2.execution") >&2
+fi
+compare_broken 1000
+printf '| %s ' events 'problem, bytes' 'execution, bytes' 'tracesync, ms' 'C++, ms' ratio \
+    'tracesync, KiB' 'C++, KiB' 'bytes an event'
+echo '|'
+echo '|---:|---:|---:|---:|---:|---:|---:|---:|---:|'
+for events in "${sizes[@]}"; do
+    table_row "$events"
+done
