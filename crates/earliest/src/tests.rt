@@ -1,5 +1,6 @@
-ghost use Rattle.std.specs.Prelude.{◌≡◌, ℕ, ◌+◌, ◌^◌, ◌<◌, ◌≤◌, true, IfOk, OnOk, length, ℤ, pos, neg_ℤ, ◌<ℤ◌};
+ghost use Rattle.std.specs.Prelude.{◌≡◌, ℕ, ◌+◌, ◌^◌, ◌<◌, ◌≤◌, [], true, IfOk, OnOk, length, ℤ, pos, neg_ℤ, ◌<ℤ◌};
 ghost use Rattle.frontier.specs.Keys.{IsEmpty};
+ghost use Rattle.sync_graph.specs.Graph.{no_graph};
 ghost use Rattle.earliest.specs.Values.{IsEarliestOf};
 ghost use Rattle.earliest.specs.Inserted.{IsInserted};
 
@@ -44,13 +45,18 @@ fn add(
     e.insert(g, arc, front)
 }
 
-// Node 0 comes at least 3 after node 1; that it comes at most 2 after it leaves no values.
-#[test]
-fn arcs_are_brought_in(rt: HostRuntime) -> Result<(), Fail> {
-    let alloc = rt.alloc();
-    let mut g = Graph::new(alloc);
-    let mut e = Earliest::new(alloc);
-    let mut front = Frontier::new(alloc);
+// Two nodes without arcs, both of value 0, and a frontier with room for them.
+fn begin(g: &mut Graph, e: &mut Earliest, front: &mut Frontier) -> Result<(), AllocError>
+    requires graph { g.old ≡ no_graph }
+    requires values { e.old ≡ record { values = []; is_solved = true } }
+    requires front { front.old ≡ [] }
+    ensures nodes { OnOk result (length g.new.nodes ≡ 2) }
+    ensures arcs { OnOk result (length g.new.arcs ≡ 0) }
+    ensures solved { OnOk result (e.new.is_solved ≡ true) }
+    ensures earliest { OnOk result (IsEarliestOf g.new e.new.values) }
+    ensures empty { OnOk result (IsEmpty front.new) }
+    ensures room { OnOk result (length front.new ≡ 2) }
+{
     front.reserve(2)?;
     g.exact();
     g.push_node(Node::Event(0))?;
@@ -58,6 +64,17 @@ fn arcs_are_brought_in(rt: HostRuntime) -> Result<(), Fail> {
     g.exact();
     g.push_node(Node::Event(1))?;
     e.push_node()?;
+    Ok(())
+}
+
+// Node 0 comes at least 3 after node 1; that it comes at most 2 after it leaves no values.
+#[test]
+fn arcs_are_brought_in(rt: HostRuntime) -> Result<(), Fail> {
+    let alloc = rt.alloc();
+    let mut g = Graph::new(alloc);
+    let mut e = Earliest::new(alloc);
+    let mut front = Frontier::new(alloc);
+    begin(&mut g, &mut e, &mut front)?;
     match add(&mut g, &mut e, &mut front, 0, 1, -3)? {
         Inserted::Kept => {
             assert!(rt; e.value(0) == 3 && e.value(1) == 0);
