@@ -1,5 +1,5 @@
 //! What is proved of graphs that grow. The function does nothing.
-ghost use Rattle.std.specs.Prelude.{ℕ, ℤ, List, [], ◌++◌, ◌∷◌, pos, length};
+ghost use Rattle.std.specs.Prelude.{ℤ, List, [], ◌++◌, ◌∷◌, pos, length};
 ghost use Rattle.problem_model.specs.declared.items.Node.{Node};
 ghost use Rattle.sync_graph.specs.declared.arc.Arc.{Arc};
 ghost use Rattle.sync_graph.specs.Graph.{GraphLists, IsGraph, no_graph, with_node, with_arc};

@@ -1,4 +1,4 @@
-ghost use Rattle.std.specs.Prelude.{◌≡◌, ℕ, ◌+◌, ◌^◌, ◌<◌, ◌≤◌, [], true, IfOk, OnOk, length, ℤ, pos, neg_ℤ, ◌<ℤ◌};
+ghost use Rattle.std.specs.Prelude.{◌≡◌, ◌+◌, ◌^◌, ◌<◌, ◌≤◌, [], true, IfOk, OnOk, length, ℤ, pos, neg_ℤ, ◌<ℤ◌};
 ghost use Rattle.frontier.specs.Keys.{IsEmpty};
 ghost use Rattle.sync_graph.specs.Graph.{no_graph};
 ghost use Rattle.earliest.specs.Values.{IsEarliestOf};

@@ -4,7 +4,7 @@
 #[cfg(test)]
 mod tests;
 
-ghost use Rattle.std.specs.Prelude.{◌≡◌, ℕ, ◌+◌, ◌-◌, ◌<◌, ◌≤◌, ◌^◌, [], ◌++◌, length, replicate, IsNone, IfNone, IfSome, OnOk, OnErr, List, ℤ, ◌≤ℤ◌, slice_get, slice_set, slice_index_or, Option, Some, None};
+ghost use Rattle.std.specs.Prelude.{◌≡◌, ◌+◌, ◌-◌, ◌<◌, ◌≤◌, ◌^◌, [], ◌++◌, length, replicate, IfNone, IfSome, OnOk, OnErr, List, ℤ, ◌≤ℤ◌, slice_set, slice_index_or, Option, Some, None};
 ghost use Rattle.frontier.specs.Keys.{Waits, IsFree, IsEmpty, IsLeastEntry, better_of};
 
 use std::alloc::{AllocError, Global};

@@ -1,5 +1,5 @@
 // A graph of numbered arcs.
-ghost use Rattle.std.specs.Prelude.{◌≡◌, ◌≢◌, ℕ, ◌<◌, ◌^◌, ◌++◌, ◌∷◌, [], length, true, slice_get, slice_set, Some, All, IfSome, IfNone, OnOk, OnErr, IfOk};
+ghost use Rattle.std.specs.Prelude.{◌≡◌, ℕ, ◌<◌, ◌^◌, ◌++◌, ◌∷◌, [], length, true, slice_get, slice_set, Some, IfSome, IfNone, OnOk, OnErr, IfOk};
 ghost use Rattle.sync_graph.specs.Lists.{list_at};
 ghost use Rattle.sync_graph.specs.Neighbours.{IsNearestBelow, IsNearestAbove};
 ghost use Rattle.sync_graph.specs.Graph.{GraphLists, IsGraph, IsSound, arc_at, no_graph, with_node, with_arc};
