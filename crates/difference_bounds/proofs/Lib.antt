@@ -20,5 +20,10 @@ pub mod RowStarts
 pub mod RowsUnderWay
 pub mod Instances
 pub mod Runs
+pub mod ArcInstances
+mod RaiseInstances
+mod RowInstances
 pub mod Problems
-mod ProblemInstances
+pub mod Solutions
+pub mod ProblemInstances
+mod SolutionInstances

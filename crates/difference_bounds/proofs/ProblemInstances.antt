@@ -1,11 +1,10 @@
 -- Small problems worked out: each definition on problems holds of one thing and fails of another.
-use Rattle.std.proofs.Common.{◌≡◌, ◌<◌, ◌*◌, ℕ, zero, suc, List, [], ◌∷◌, length, slice_get, Option, Some, None, refl, sym, ◌∙◌, ap, subst, arith}
-use Rattle.std.specs.Prelude.{ℤ, pos, ◌+ℤ◌, ◌-ℤ◌, ◌≤ℤ◌, ◌<ℤ◌, Contains, codes}
+use Rattle.std.proofs.Common.{◌≡◌, ◌*◌, ℕ, zero, suc, List, [], ◌∷◌, slice_get, Some, refl, sym, ◌∙◌, ap, subst, arith}
+use Rattle.std.specs.Prelude.{ℤ, pos, ◌+ℤ◌, Contains, codes}
 use Rattle.std.proofs.lemmas.Int.{ints}
 use Rattle.std.proofs.lemmas.List.Elements.{All-from_recursion}
 use Rattle.problem_model.specs.declared.items.Clock.{Clock}
 use Rattle.problem_model.specs.declared.items.Event.{Event}
-use Rattle.problem_model.specs.declared.items.Node.{Node}
 use Rattle.problem_model.specs.declared.items.Node.TheVariants as nodes
 use Rattle.problem_model.specs.declared.items.Bound.{Bound}
 use Rattle.problem_model.specs.declared.items.Bound.TheVariants.{SpanMost, SpanLeast, Late, Early, DelayMost, DelayLeast}
@@ -16,25 +15,25 @@ use Rattle.difference_bounds.specs.Executions.{Arc}
 use Rattle.difference_bounds.specs.Problems.{IsNodeAt, IsArcOf, StandsFor, IsGreatestOf, IsUnboundedOf}
 
 -- one event, at most 7 ns behind the reading of its stamp and not before it
-abbrev one_clock : Clock
+abbrev pub one_clock : Clock
 one_clock = record { name = codes "c"; rate = record { short = 0; long = 0 }; early = 0; late = 7 }
 
-abbrev one_event : Event
+abbrev pub one_event : Event
 one_event = record { name = codes "p"; clock = 0; stamp = 0 }
 
-abbrev one : ProblemLists
+abbrev pub one : ProblemLists
 one = record { clocks = one_clock ∷ []; events = one_event ∷ []; messages = [] }
 
-abbrev one_reading : List Reading
+abbrev pub one_reading : List Reading
 one_reading = (0, 0) ∷ []
 
-abbrev late_arc : Arc
+abbrev pub late_arc : Arc
 late_arc = record { from = 1; to = 0; weight = pos 7000000000 }
 
-abbrev early_arc : Arc
+abbrev pub early_arc : Arc
 early_arc = record { from = 0; to = 1; weight = pos 0 }
 
-abbrev late_bound : Constraint
+abbrev pub late_bound : Constraint
 late_bound = record { from = nodes.Reading 0 0; to = nodes.Event 0; weight = pos 7000000000 }
 
 abbrev early_bound : Constraint
@@ -49,7 +48,7 @@ event_is e v is at = some_same one_event v (subst (λ (k : ℕ). slice_get one.e
 clock_is : (v : Event) (c : Clock) → one_event ≡ v → slice_get one.clocks v.clock ≡ Some c → one_clock ≡ c
 clock_is v c is at = some_same one_clock c (subst (λ (w : Event). slice_get one.clocks w.clock ≡ Some c) (sym is) at)
 
-late_is : (a : Constraint) → Declares one (Late 0) a → late_bound ≡ a
+pub late_is : (a : Constraint) → Declares one (Late 0) a → late_bound ≡ a
 late_is a (v, c, at, on, is) =
     let event = event_is 0 v refl at in
     let clock = clock_is v c event on in
@@ -63,7 +62,7 @@ early_is a (v, c, at, on, is) =
     ap (λ (w : Event). record { from = nodes.Event 0; to = nodes.Reading w.clock w.stamp; weight = pos 0 }) event
     ∙ ap (λ (k : Clock). record { from = nodes.Event 0; to = nodes.Reading v.clock v.stamp; weight = pos (k.early * 1000000000) }) clock ∙ sym is
 
-late_arc_of : IsArcOf one one_reading late_bound late_arc
+pub late_arc_of : IsArcOf one one_reading late_bound late_arc
 late_arc_of = record { tail = refl; head = refl; weighs = refl }
 
 early_arc_of : IsArcOf one one_reading early_bound early_arc
@@ -92,7 +91,7 @@ not_stands none =
 not_at : IsNodeAt one one_reading 1 (nodes.Event 0) → ⊥
 not_at at = absurd cc
 
-not_arc : IsArcOf one one_reading late_bound early_arc → ⊥
+pub not_arc : IsArcOf one one_reading late_bound early_arc → ⊥
 not_arc arc = let is : pos 0 ≡ pos 7000000000 = arc.weighs in absurd (omega (arith, ints, is))
 
 -- ---- the problem that says nothing bounds nothing

@@ -25,7 +25,7 @@ map_at x (m ∷ nodes) zero n is = ap (λ (v : Node). Some (x v)) (some_same m n
 map_at x (m ∷ nodes) (suc k) n is = map_at x nodes k n is
 
 module _ (p : ProblemLists) (readings : List Reading) (x : Times) (xs : List ℤ) (is : xs ≡ map x (nodes_of p readings)) where
-  time_at : (k : ℕ) (n : Node) → IsNodeAt p readings k n → at xs k ≡ x n
+  pub time_at : (k : ℕ) (n : Node) → IsNodeAt p readings k n → at xs k ≡ x n
   time_at k n there = ap (λ (l : List ℤ). at l k) is ∙ get_or_from_slice_get (map x (nodes_of p readings)) k (x n) (pos 0) (map_at x (nodes_of p readings) k n there)
 
   pub differences : (j k : ℕ) (m n : Node) → IsNodeAt p readings j m → IsNodeAt p readings k n → difference (at xs) j k ≡ (x n -ℤ x m)
@@ -57,13 +57,13 @@ module _ (p : ProblemLists) (readings : List Reading) (arcs : List Arc) (are : A
       (slice_get_within (nodes_of p readings) _ _ arc.tail, slice_get_within (nodes_of p readings) _ _ arc.head)
 
   -- the real times of an execution of the arcs
-  times : (xs : List ℤ) → IsExecution (length (nodes_of p readings)) arcs xs → (x : Times) × (xs ≡ map x (nodes_of p readings)) × bounds.IsExecution p x
+  pub times : (xs : List ℤ) → IsExecution (length (nodes_of p readings)) arcs xs → (x : Times) × (xs ≡ map x (nodes_of p readings)) × bounds.IsExecution p x
   times xs execution =
       let some = listed p readings xs are execution.one_each in
       let is : xs ≡ map some.0 (nodes_of p readings) = some.1.2 ∙ ap (λ (rs : List Reading). map some.0 (nodes_of p rs)) (readings_one p some.1.0 readings some.1.1 are) in
       (some.0, is, (same_executions p readings some.0 xs is arcs are stands).0 execution)
 
-  values : (x : Times) → bounds.IsExecution p x → IsExecution (length (nodes_of p readings)) arcs (map x (nodes_of p readings))
+  pub values : (x : Times) → bounds.IsExecution p x → IsExecution (length (nodes_of p readings)) arcs (map x (nodes_of p readings))
   values x execution = (same_executions p readings x (map x (nodes_of p readings)) refl arcs are stands).1 execution
 
   module _ (j k : ℕ) (m n : Node) (there : IsNodeAt p readings j m) (there' : IsNodeAt p readings k n) where

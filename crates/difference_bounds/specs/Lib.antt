@@ -12,3 +12,4 @@ pub mod Insertions
 pub mod RowPops
 pub mod Numbers
 pub mod Problems
+pub mod Solutions

@@ -1,6 +1,6 @@
 //! What is proved of difference constraints, one function for each subject. None of them does anything.
 
-ghost use Rattle.std.specs.Prelude.{◌≡◌, ℕ, ◌+◌, ◌*◌, ◌<◌, ◌≤◌, ◌↔◌, List, [], ◌∷◌, ◌++◌, length, map, ℤ, pos, neg_ℤ, ◌-ℤ◌, ◌≤ℤ◌, ◌<ℤ◌, Bool, true, false};
+ghost use Rattle.std.specs.Prelude.{◌≡◌, ℕ, ◌+◌, ◌*◌, ◌<◌, ◌≤◌, ◌↔◌, List, [], ◌∷◌, ◌++◌, length, map, ℤ, pos, neg_ℤ, ◌-ℤ◌, ◌≤ℤ◌, ◌<ℤ◌, Bool, true, false, All};
 ghost use Rattle.difference_bounds.specs.Executions.{Arc, at, difference, IsExecution, AreWithin, values_by};
 ghost use Rattle.difference_bounds.specs.Paths.{sum_of, IsPath, IsContradiction, IsSimple};
 ghost use Rattle.difference_bounds.specs.Differences.{IsGreatest, IsLeast, IsUnbounded, IsBefore, IsSame};
@@ -11,6 +11,7 @@ ghost use Rattle.difference_bounds.specs.Parents.{Cells, IsRow};
 ghost use Rattle.difference_bounds.specs.Reversal.{all_reversed, negated, walked_back};
 ghost use Rattle.difference_bounds.specs.Cuts.{IsCut, raised_outside};
 ghost use Rattle.difference_bounds.specs.Problems.{StandsFor, IsNodeAt, IsGreatestOf, IsUnboundedOf};
+ghost use Rattle.difference_bounds.specs.Solutions.{IsEarliestExecution, WeighedBound, IsContradictionOf, NamedArc, IsBoundArc, weighed};
 ghost use Rattle.problem_model.specs.declared.items.Node.{Node};
 ghost use Rattle.problem_model.specs.Problem.{ProblemLists};
 ghost use Rattle.problem_model.specs.Bounds.{Times};
@@ -218,4 +219,16 @@ pub fn problems()
     ensures unbounded { (p : ProblemLists) (readings : List Reading) (arcs : List Arc) (j k : ℕ) (from to : Node)
         → AreReadings p readings → StandsFor p readings arcs → IsNodeAt p readings j from → IsNodeAt p readings k to
         → IsUnbounded (length (nodes_of p readings)) arcs j k ↔ IsUnboundedOf p from to }
+{}
+
+/// The earliest execution of a problem is that of the arcs that stand for it; a negative cycle of its bounds is a
+/// contradiction, and leaves no execution.
+pub fn solutions()
+    ensures earliest { (p : ProblemLists) (readings : List Reading) (arcs : List Arc) (x : Times) (xs : List ℤ)
+        → AreReadings p readings → StandsFor p readings arcs → xs ≡ map x (nodes_of p readings)
+        → IsEarliest (length (nodes_of p readings)) arcs xs ↔ IsEarliestExecution p x }
+    ensures contradiction { (p : ProblemLists) (readings : List Reading) (arcs : List Arc) (steps : List NamedArc)
+        → All (IsBoundArc p readings) steps → IsContradiction arcs (map (λ (s : NamedArc). s.1) steps)
+        → IsContradictionOf p (map weighed steps) }
+    ensures no_execution { (p : ProblemLists) (steps : List WeighedBound) (x : Times) → IsContradictionOf p steps → bounds.IsExecution p x → ⊥ }
 {}

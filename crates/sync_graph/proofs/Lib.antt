@@ -3,8 +3,6 @@ pub mod Listed
 pub mod Grown
 pub mod Keyed
 pub mod OneMore
-pub mod OneName
-pub mod Walking
 pub mod Rooms
 pub mod Numbering
 pub mod Ends

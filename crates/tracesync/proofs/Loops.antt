@@ -1,18 +1,11 @@
 -- A verdict over what is left of a list of bounds becomes the verdict over the whole.
-use Rattle.std.proofs.Common.{◌≡◌, ◌<◌, ◌≤◌, ◌+◌, ◌-◌, ℕ, zero, suc, List, [], ◌∷◌, ◌++◌, length, drop, slice_get, get_or, Some, refl, sym, ◌∙◌, ap, subst, arith, length-drop}
-use Rattle.std.specs.Prelude.{Contains}
-use Rattle.std.specs.List.{flat_map}
-use Rattle.std.proofs.lemmas.List.Elements.{All-nil, All-contains}
-use Rattle.std.proofs.lemmas.Option.{slice_get_read}
-use Rattle.problem_model.specs.declared.items.Clock.{Clock}
-use Rattle.problem_model.specs.declared.items.Event.{Event}
-use Rattle.problem_model.specs.declared.items.Message.{Message}
+use Rattle.std.proofs.Common.{◌≡◌, List, [], ◌++◌, sym, subst}
+use Rattle.std.proofs.lemmas.List.Elements.{All-nil}
 use Rattle.problem_model.specs.declared.items.Bound.{Bound}
-use Rattle.problem_model.specs.declared.items.Bound.TheVariants.{Late, Early}
-use Rattle.problem_model.specs.Problem.{ProblemLists, IsProblem}
-use Rattle.problem_model.specs.Bounds.{Times, IsReading}
+use Rattle.problem_model.specs.Problem.{ProblemLists}
+use Rattle.problem_model.specs.Bounds.{Times}
 use Rattle.problem_model.specs.Nodes.{Reading, AreReadings}
-use Rattle.problem_model.specs.ShortList.{ObeysNamed, neighbour_bounds, span_bounds, event_bounds, message_bounds, short_list}
+use Rattle.problem_model.specs.ShortList.{ObeysNamed, short_list}
 use Rattle.problem_model.proofs.Sufficing.{suffices}
 use Rattle.tracesync.specs.declared.verdict.Verdict.{Verdict}
 use Rattle.tracesync.specs.declared.verdict.Verdict.TheVariants as verdicts
@@ -28,61 +21,6 @@ module _ (p : ProblemLists) (x : Times) (whole here : List Bound) (lead : (v : V
 
   pub done : here ≡ [] → Judges p x whole verdicts.Obeys
   done is = lead verdicts.Obeys (subst (λ (bounds : List Bound). Judges p x bounds verdicts.Obeys) (sym is) (All-nil (ObeysNamed p x)))
-
--- ---- what is left of a list
-pub drop_more : {X : Type 0} (xs : List X) (k : ℕ) (x : X) → slice_get xs k ≡ Some x → drop k xs ≡ x ∷ drop (k + 1) xs
-drop_more [] k x at = absurd cc
-drop_more (y ∷ ys) zero x at = let same : y ≡ x = cc in rw same refl
-drop_more (y ∷ ys) (suc k) x at = drop_more ys k x at ∙ ap (λ (n : ℕ). x ∷ drop n (y ∷ ys)) (let same : suc (k + 1) ≡ suc k + 1 = omega arith in same)
-
-pub drop_all : {X : Type 0} (xs : List X) (k : ℕ) → length xs ≤ k → drop k xs ≡ []
-drop_all xs k past = none (drop k xs) (let len = length-drop k xs in omega (arith, len, past))
-  where
-    none : {X : Type 0} (ys : List X) → length ys ≤ 0 → ys ≡ []
-    none [] short = refl
-    none (y ∷ ys) short = absurd (omega (arith, short))
-
-no_spans : (readings : List Reading) → length readings ≤ 1 → span_bounds readings ≡ []
-no_spans [] short = refl
-no_spans (a ∷ []) short = refl
-no_spans (a ∷ b ∷ rest) short = absurd (omega (arith, short))
-
-pub spans_more : (readings : List Reading) (k : ℕ) (a b : Reading) → slice_get readings k ≡ Some a → slice_get readings (k + 1) ≡ Some b →
-    span_bounds (drop k readings) ≡ neighbour_bounds a b ++ span_bounds (drop (k + 1) readings)
-spans_more readings k a b at at' =
-    let next : drop (k + 1) readings ≡ b ∷ drop (k + 1 + 1) readings = drop_more readings (k + 1) b at' in
-    let here : drop k readings ≡ a ∷ b ∷ drop (k + 1 + 1) readings = drop_more readings k a at ∙ ap (λ (rest : List Reading). a ∷ rest) next in
-    ap span_bounds here ∙ ap (λ (rest : List Reading). neighbour_bounds a b ++ span_bounds rest) (sym next)
-
-pub spans_all : (readings : List Reading) (k : ℕ) → length readings - 1 ≤ k → span_bounds (drop k readings) ≡ []
-spans_all readings k past = no_spans (drop k readings) (let len = length-drop k readings in omega (arith, len, past))
-
-pub stamps_more : (events : List Event) (k : ℕ) (e : Event) → slice_get events k ≡ Some e → event_bounds k (drop k events) ≡ (Late k ∷ Early k ∷ []) ++ event_bounds (k + 1) (drop (k + 1) events)
-stamps_more events k e at = ap (event_bounds k) (drop_more events k e at)
-
-pub stamps_all : (events : List Event) (k : ℕ) → length events ≤ k → event_bounds k (drop k events) ≡ []
-stamps_all events k past = ap (event_bounds k) (drop_all events k past)
-
-pub delays_more : (messages : List Message) (k : ℕ) (m : Message) → slice_get messages k ≡ Some m → flat_map message_bounds (drop k messages) ≡ message_bounds m ++ flat_map message_bounds (drop (k + 1) messages)
-delays_more messages k m at = ap (flat_map message_bounds) (drop_more messages k m at)
-
-pub delays_all : (messages : List Message) (k : ℕ) → length messages ≤ k → flat_map message_bounds (drop k messages) ≡ []
-delays_all messages k past = ap (flat_map message_bounds) (drop_all messages k past)
-
--- ---- the clock of a reading is one of the problem's
-pub reading_there : (p : ProblemLists) (readings : List Reading) (k : ℕ) (r : Reading) → AreReadings p readings → k < length readings → r ≡ get_or readings k r → IsReading p r.0 r.1
-reading_there p readings k r are inside is = are.each r.0 r.1 (k, inside, sym is)
-
-pub clock_there : (p : ProblemLists) (clock stamp : ℕ) → IsProblem p → IsReading p clock stamp → clock < length p.clocks
-clock_there p clock stamp lawful (e, at, on, is) =
-    let inside : e.clock < length p.clocks = All-contains (λ (v : Event). v.clock < length p.clocks) p.events e lawful.event_clocks at in
-    omega (arith, inside, on)
-
--- the clock of an event stands at its place
-pub clock_at : (p : ProblemLists) (clocks : List Clock) (e : Event) (c : Clock) → IsProblem p → clocks ≡ p.clocks → Contains p.events e → c ≡ get_or clocks e.clock c → slice_get p.clocks e.clock ≡ Some c
-clock_at p clocks e c lawful same at is =
-    let inside : e.clock < length p.clocks = All-contains (λ (v : Event). v.clock < length p.clocks) p.events e lawful.event_clocks at in
-    slice_get_read p.clocks (length p.clocks) e.clock c refl inside (is ∙ ap (λ (cs : List Clock). get_or cs e.clock c) same)
 
 -- ---- the short list whole
 pub whole_verdict : (p : ProblemLists) (x : Times) (readings : List Reading) (v : Verdict) → AreReadings p readings → Judges p x (short_list p readings) v → IsVerdict p x v

@@ -4,7 +4,8 @@ use Rattle.std.specs.List.{flat_map}
 use Rattle.std.proofs.lemmas.Option.{slice_get_read}
 use Rattle.problem_model.specs.declared.items.Message.{Message}
 use Rattle.problem_model.specs.ShortList.{message_bounds}
-use Rattle.tracesync.proofs.Loops.{on, out, done, delays_more, delays_all}
+use Rattle.problem_model.proofs.Walking.{delays_more, delays_all}
+use Rattle.tracesync.proofs.Loops.{on, out, done}
 use Rattle.tracesync.proofs.verdict.judge_messages.Goals as goal
 
 pub returns-in_default : goal.returns-in_default

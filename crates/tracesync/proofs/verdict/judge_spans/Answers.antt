@@ -5,7 +5,8 @@ use Rattle.problem_model.specs.ShortList.{span_bounds, neighbour_bounds}
 use Rattle.problem_model.proofs.OneList.{readings_one}
 use Rattle.tracesync.specs.declared.verdict.Verdict.TheVariants as verdicts
 use Rattle.tracesync.specs.Verdict.{Judges, AreTimes}
-use Rattle.tracesync.proofs.Loops.{on, out, done, spans_more, spans_all, reading_there, clock_there}
+use Rattle.problem_model.proofs.Walking.{spans_more, spans_all, reading_there, clock_there}
+use Rattle.tracesync.proofs.Loops.{on, out, done}
 use Rattle.tracesync.proofs.verdict.judge_spans.Goals as goal
 
 pub reading_time-from-requires-clause-within : goal.reading_time-from-requires-clause-within

@@ -7,7 +7,8 @@ use Rattle.problem_model.specs.Nodes.{Reading}
 use Rattle.problem_model.specs.ShortList.{event_bounds}
 use Rattle.problem_model.proofs.OneList.{readings_one}
 use Rattle.tracesync.specs.Verdict.{AreTimes}
-use Rattle.tracesync.proofs.Loops.{on, out, done, stamps_more, stamps_all, clock_at}
+use Rattle.problem_model.proofs.Walking.{stamps_more, stamps_all, clock_at}
+use Rattle.tracesync.proofs.Loops.{on, out, done}
 use Rattle.tracesync.proofs.verdict.judge_stamps.Goals as goal
 
 pub reading_time-reading-requires-clause-within : goal.reading_time-reading-requires-clause-within
