@@ -5,3 +5,7 @@ pub mod Places
 pub mod Taking
 pub mod Executions
 pub mod Reading
+pub mod Pieces
+pub mod Lines
+pub mod OwnListing
+mod Certificates

@@ -1,6 +1,12 @@
-// Worked executions and their faults.
+// Worked executions and their faults, and worked lines of certificates.
+ghost use Rattle.std.specs.Prelude.{IsTrue};
+ghost use Rattle.cert.specs.Listed.{IsNamed};
+ghost use Rattle.cert.specs.CertificateText.{listing_of};
+
 use super::*;
-use problem::read_problem;
+use atto::Nano;
+use ports::MemSink;
+use problem::{Bound, Listing, Problem, read_problem};
 use std::alloc::Global;
 use std::test::*;
 
@@ -99,4 +105,95 @@ fn first_faults(rt: HostRuntime) {
             "at {place}: {text}"
         );
     }
+}
+
+// Whether the clock or the events of a bound are those of a problem.
+fn is_named(p: &Problem, bound: &Bound) -> bool
+    ensures { IsTrue result → IsNamed (listing_of p.now) bound.now }
+{
+    let clocks = p.clocks();
+    let events = p.events();
+    match *bound {
+        Bound::SpanMost { clock, .. } => (clock as usize) < clocks.len(),
+        Bound::SpanLeast { clock, .. } => (clock as usize) < clocks.len(),
+        Bound::Late(event) => (event as usize) < events.len(),
+        Bound::Early(event) => (event as usize) < events.len(),
+        Bound::DelayMost { send, receive } => (send.max(receive) as usize) < events.len(),
+        Bound::DelayLeast { send, receive } => (send.max(receive) as usize) < events.len(),
+    }
+}
+
+// Whether this is written of a step.
+fn step_is(alloc: Global, p: &Problem, bound: &Bound, weight: i128, want: &str) -> bool {
+    let Ok(mut out) = MemSink::new(alloc, 256, 7, &[]) else {
+        return false;
+    };
+    if !is_named(p, bound) {
+        return false;
+    }
+    write_step(p, bound, weight, &mut out).is_ok() && out.bytes() == want.as_bytes()
+}
+
+// Whether this is written of a node.
+fn value_is(alloc: Global, p: &Problem, place: u32, value: i128, want: &str) -> bool {
+    let Ok(mut out) = MemSink::new(alloc, 256, 7, &[]) else {
+        return false;
+    };
+    if u64::from(place) >= u64::from(p.event_count()) + u64::from(p.reading_count()) {
+        return false;
+    }
+    write_value(p, place, value, &mut out).is_ok() && out.bytes() == want.as_bytes()
+}
+
+#[test]
+fn lines_are_written(rt: HostRuntime) {
+    let p = read_problem(rt.alloc(), PROBLEM.as_bytes()).expect(&rt, "a problem");
+    let s = Nano::new(100).expect(&rt, "a stamp");
+    let t = Nano::new(180).expect(&rt, "a stamp");
+    let steps = [
+        (
+            Bound::SpanMost { clock: 0, s, t },
+            80_000_000_000,
+            "step span-most a 100 180 80.000000000\n",
+        ),
+        (
+            Bound::SpanLeast { clock: 1, s, t },
+            -79_999_999_999,
+            "step span-least b 100 180 -79.999999999\n",
+        ),
+        (Bound::Late(1), 0, "step late a#2 0.000000000\n"),
+        (Bound::Early(2), 7, "step early b#1 0.000000007\n"),
+        (
+            Bound::DelayMost {
+                send: 0,
+                receive: 2,
+            },
+            20_000_000_000,
+            "step delay-most a#1 b#1 20.000000000\n",
+        ),
+        (
+            Bound::DelayLeast {
+                send: 3,
+                receive: 1,
+            },
+            -10_000_000_000,
+            "step delay-least b#2 a#2 -10.000000000\n",
+        ),
+    ];
+    for (bound, weight, want) in &steps {
+        assert!(rt; step_is(rt.alloc(), &p, bound, *weight, want), "{want}");
+    }
+    assert!(rt; value_is(rt.alloc(), &p, 0, -1, "event a#1 -0.000000001\n"));
+    assert!(rt;
+        value_is(
+            rt.alloc(),
+            &p,
+            3,
+            60_000_000_000,
+            "event b#2 60.000000000\n"
+        )
+    );
+    assert!(rt; value_is(rt.alloc(), &p, 4, 0, "reading a 100 0.000000000\n"));
+    assert!(rt; value_is(rt.alloc(), &p, 7, 1, "reading b 300 0.000000001\n"));
+    assert!(rt; !value_is(rt.alloc(), &p, 8, 1, ""));
 }

@@ -1,9 +1,10 @@
 -- The readings of a problem are one list.
 use Rattle.std.proofs.Common.{◌≡◌, ◌<◌, ◌≤◌, ◌+◌, ◌⊎◌, ℕ, suc, zero, List, [], ◌∷◌, length, map, slice_get, get_or, Ordering, Less, Equal, Greater, Some, AllPairs, Contains, inl, inr, refl, sym, ◌∙◌, ap, subst, arith}
 use Rattle.std.specs.List.{AllByRecursion}
-use Rattle.std.proofs.lemmas.List.Elements.{recursion_from_All}
+use Rattle.std.proofs.lemmas.List.{length-map}
+use Rattle.std.proofs.lemmas.List.Elements.{recursion_from_All, Contains-get_or}
 use Rattle.problem_model.specs.declared.items.Event.{Event}
-use Rattle.problem_model.specs.Problem.{ProblemLists}
+use Rattle.problem_model.specs.Problem.{ProblemLists, IsProblem}
 use Rattle.problem_model.specs.Nodes.{Reading, ComesBefore, AreReadings}
 use Rattle.problem.specs.Growing.{reading_of}
 use Rattle.problem.specs.Listing.{reading_order, put_by, put, all_readings, event_places, reading_places}
@@ -195,3 +196,12 @@ module _ (p : ProblemLists) (rs : List Reading) (are : AreReadings p rs) where
 
   pub listed_as : (n m : ℕ) (d : Reading) → n < length rs → d ≡ get_or rs n d → m ≡ length p.events + n → slice_get {X = ℕ × ℕ × ℕ} (reading_places (length p.events) (all_readings p.events)) n ≡ Some (d.0, d.1, m)
   listed_as n m d inside at is = listed-at n d inside ∙ ap (λ (r : Reading). Some (r.0, r.1, length p.events + n)) (sym at) ∙ ap (λ (k : ℕ). Some (d.0, d.1, k)) (sym is)
+
+  pub clock_named : IsProblem p → (n : ℕ) (d : Reading) → n < length rs → d ≡ get_or rs n d → d.0 < length (map (λ c. c.name) p.clocks)
+  clock_named lawful n d inside at =
+      let r = get_or rs n d in
+      let reads = are.each r.0 r.1 (Contains-get_or rs n d inside) in
+      let known = lawful.event_clocks reads.1.0 reads.0 reads.1.1 in
+      let of_event : (get_or p.events reads.1.0 reads.0).clock ≡ r.0 = ap (λ (e : Event). e.clock) reads.1.2 ∙ reads.2 in
+      let same : d.0 ≡ r.0 = ap (λ (q : Reading). q.0) at in
+      omega (arith, known, of_event, same, length-map p.clocks (λ c. c.name))

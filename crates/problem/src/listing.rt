@@ -1,5 +1,5 @@
 // What is printed of a problem: its names, its events and its readings.
-ghost use Rattle.std.specs.Prelude.{◌≡◌, ◌<◌, ℕ, List, Some, length, slice_get};
+ghost use Rattle.std.specs.Prelude.{◌≡◌, ◌<◌, ◌≤◌, ◌+◌, ◌^◌, ℕ, List, Some, length, slice_get};
 
 use crate::problem::Problem;
 use atto::Nano;
@@ -24,9 +24,10 @@ pub trait Listing {
     fn event_count(&self) -> u32
         ensures { result ≡ length (listed_events self.now) };
 
-    /// How many readings are listed.
+    /// How many readings are listed. Events and readings together are at most 2^21.
     fn reading_count(&self) -> u32
-        ensures { result ≡ length (listed_readings self.now) };
+        ensures count { result ≡ length (listed_readings self.now) }
+        ensures few { length (listed_events self.now) + length (listed_readings self.now) ≤ 2 ^ 21 };
 
     /// The name of event `e`.
     fn event_name(&self, e: u32) -> Name
@@ -38,15 +39,17 @@ pub trait Listing {
         requires { c < length (clock_names self.now) }
         ensures { slice_get (clock_names self.now) c ≡ Some result };
 
-    /// The number and the node of the event at a place.
+    /// The number and the node of the event at a place. The number has a name.
     fn event_at(&self, place: u32) -> (u32, u32)
         requires { place < length (listed_events self.now) }
-        ensures { slice_get (listed_events self.now) place ≡ Some result };
+        ensures value { slice_get (listed_events self.now) place ≡ Some result }
+        ensures named { result.0 < length (event_names self.now) };
 
-    /// The clock, the stamp and the node of the reading at a place.
+    /// The clock, the stamp and the node of the reading at a place. The clock has a name.
     fn reading_at(&self, place: u32) -> (u32, Nano, u32)
         requires { place < length (listed_readings self.now) }
-        ensures { slice_get (listed_readings self.now) place ≡ Some result };
+        ensures value { slice_get (listed_readings self.now) place ≡ Some result }
+        ensures named { result.0 < length (clock_names self.now) };
 }
 
 impl Listing for Problem {

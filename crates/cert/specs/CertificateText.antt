@@ -1,0 +1,78 @@
+-- Certificates of a problem and their text.
+use Rattle.std.specs.Prelude.{◌≡◌, ℕ, ◌<◌, List, [], ◌∷◌, ◌++◌, map, length, codes, ℤ, All, AllPairs}
+use Rattle.std.specs.List.{flat_map}
+use Rattle.atto.specs.NsText.{ns_text}
+use Rattle.line_format.specs.Words.{line_of}
+use Rattle.problem_model.specs.declared.items.Node.{Node}
+use Rattle.problem_model.specs.Problem.{ProblemLists}
+use Rattle.problem_model.specs.ProblemText.{clock_name, event_name}
+use Rattle.problem_model.specs.BoundText.{bound_words}
+use Rattle.problem_model.specs.Bounds.{Constraint, Declares}
+use Rattle.problem_model.specs.Nodes.{Reading, AreReadings, nodes_of}
+use Rattle.problem_model.specs.ExecutionText.{value_lines}
+use Rattle.problem.specs.Listing.{event_places, reading_places, all_readings}
+use Rattle.cert.specs.declared.chain.Step.{Step}
+use Rattle.cert.specs.declared.certificate.EndProof.{EndProof}
+use Rattle.cert.specs.declared.certificate.EndProof.TheVariants.{At, Unbounded}
+use Rattle.cert.specs.declared.certificate.Cert.{Cert}
+use Rattle.cert.specs.declared.certificate.Cert.TheVariants.{Cycle, Run, Ends}
+use Rattle.cert.specs.Listed.{Listed, certified}
+
+-- ---- text
+-- the line of a step
+abbrev pub step_line : ProblemLists → Step → List ℕ
+step_line p s = line_of (codes "step" ∷ bound_words p s.bound ++ ns_text s.weight ∷ [])
+
+-- the line of a clock inside a cut
+abbrev pub inside_line : ProblemLists → ℕ → List ℕ
+inside_line p clock = line_of (codes "inside" ∷ clock_name p.clocks clock ∷ [])
+
+-- the part of one end: its word and its value, a path and an execution; or that it has no limit, a cut and an execution
+abbrev pub end_lines : ProblemLists → List Node → List ℕ → List ℕ → EndProof → List ℕ
+end_lines p nodes part unlimited (At value path execution) =
+    line_of (part ∷ ns_text value ∷ []) ++ flat_map (step_line p) path ++ value_lines p nodes execution
+end_lines p nodes part unlimited (Unbounded inside execution) =
+    line_of (part ∷ unlimited ∷ []) ++ flat_map (inside_line p) inside.items ++ value_lines p nodes execution
+
+-- what stands between the first line and the end
+abbrev pub certificate_lines : ProblemLists → List Node → Cert → List ℕ
+certificate_lines p nodes (Cycle steps) = line_of (codes "cycle" ∷ []) ++ flat_map (step_line p) steps
+certificate_lines p nodes (Run execution) = line_of (codes "run" ∷ []) ++ value_lines p nodes execution
+certificate_lines p nodes (Ends from to upper lower) =
+    line_of (codes "ends" ∷ event_name p.events from ∷ event_name p.events to ∷ [])
+    ++ end_lines p nodes (codes "upper") (codes "+inf") upper ++ end_lines p nodes (codes "lower") (codes "-inf") lower
+
+-- the only text of a certificate, over the nodes in their order
+abbrev pub certificate_text : ProblemLists → List Node → Cert → List ℕ
+certificate_text p nodes c = certified (certificate_lines p nodes c)
+
+-- ---- listings
+-- a problem listed in its own order
+abbrev pub listing_of : ProblemLists → Listed
+listing_of p = record {
+  clock_names = map (λ c. c.name) p.clocks;
+  event_names = map (λ e. e.name) p.events;
+  events = event_places 0 p.events;
+  readings = reading_places (length p.events) (all_readings p.events);
+}
+
+-- ---- certificates of a problem
+-- the problem declares the bound of the step, with whatever weight
+abbrev pub IsStepOf : ProblemLists → Step → Type 0
+IsStepOf p s = (c : Constraint) × Declares p s.bound c
+
+-- there is one value per node
+abbrev pub HasOneEach : ProblemLists → List ℤ → Type 0
+HasOneEach p values = (readings : List Reading) × AreReadings p readings × (length values ≡ length (nodes_of p readings))
+
+-- the path or the cut is over the bounds or clocks of the problem, and the execution over its nodes
+abbrev pub IsEndOf : ProblemLists → EndProof → Type 0
+IsEndOf p (At value path execution) = All (IsStepOf p) path × HasOneEach p execution
+IsEndOf p (Unbounded inside execution) =
+    All (λ k. k < length p.clocks) inside.items × AllPairs (λ j k. j < k) inside.items × HasOneEach p execution
+
+-- bounds, events, clocks and nodes are those of the problem
+abbrev pub IsCertOf : ProblemLists → Cert → Type 0
+IsCertOf p (Cycle steps) = All (IsStepOf p) steps
+IsCertOf p (Run execution) = HasOneEach p execution
+IsCertOf p (Ends from to upper lower) = (from < length p.events) × (to < length p.events) × IsEndOf p upper × IsEndOf p lower

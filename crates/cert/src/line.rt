@@ -1,0 +1,65 @@
+// A line that is composed in a fixed buffer.
+ghost use Rattle.std.specs.Prelude.{◌≡◌, ◌≤◌, ◌+◌, ◌++◌, ◌∷◌, [], ℕ, ℤ, List, length};
+ghost use Rattle.atto.specs.Decimal.{decimal_of};
+ghost use Rattle.atto.specs.NsText.{ns_text};
+ghost use Rattle.line_format.specs.Words.{words};
+
+use arrayvec::ArrayVec;
+use atto::{NsText, write_decimal, write_ns};
+
+/// A line being composed. It takes no memory. Behind a first word of at most 10 bytes there is room for five of at most
+/// 48 bytes, each with a space before it, and for the line feed.
+pub type Line = ArrayVec<u8, 256>;
+
+// Appends bytes.
+fn push_bytes(line: &mut Line, bytes: &[u8])
+    requires { length line.old.items + length bytes.now ≤ 256 }
+    ensures { line.new.items ≡ line.old.items ++ bytes.now }
+{
+    for byte in bytes {
+        line.push(*byte);
+    }
+}
+
+/// The line with this word alone.
+pub fn first_word(word: &[u8]) -> Line
+    requires { length word.now ≤ 48 }
+    ensures { result.items ≡ word.now }
+{
+    let mut line = Line::new();
+    push_bytes(&mut line, word);
+    line
+}
+
+/// Appends a word of at most 48 bytes behind a space.
+pub fn push_word(line: &mut Line, word: &[u8])
+    requires short { length word.now ≤ 48 }
+    requires room { length line.old.items + 49 ≤ 256 }
+    ensures appended { (first : List ℕ) (ws : List (List ℕ)) → line.old.items ≡ words (first ∷ ws) → line.new.items ≡ words (first ∷ ws ++ word.now ∷ []) }
+    ensures grown { length line.new.items ≤ length line.old.items + 49 }
+{
+    line.push(b' ');
+    push_bytes(line, word);
+}
+
+/// Appends a decimal behind a space.
+pub fn push_decimal(line: &mut Line, number: u64)
+    requires { length line.old.items + 49 ≤ 256 }
+    ensures appended { (first : List ℕ) (ws : List (List ℕ)) → line.old.items ≡ words (first ∷ ws) → line.new.items ≡ words (first ∷ ws ++ decimal_of number ∷ []) }
+    ensures grown { length line.new.items ≤ length line.old.items + 49 }
+{
+    let mut text = NsText::new();
+    write_decimal(number, &mut text);
+    push_word(line, text.as_slice());
+}
+
+/// Appends a number of units as ns text behind a space.
+pub fn push_ns(line: &mut Line, units: i128)
+    requires { length line.old.items + 49 ≤ 256 }
+    ensures appended { (first : List ℕ) (ws : List (List ℕ)) → line.old.items ≡ words (first ∷ ws) → line.new.items ≡ words (first ∷ ws ++ ns_text units ∷ []) }
+    ensures grown { length line.new.items ≤ length line.old.items + 49 }
+{
+    let mut text = NsText::new();
+    write_ns(units, &mut text);
+    push_word(line, text.as_slice());
+}
