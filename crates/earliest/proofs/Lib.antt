@@ -4,3 +4,5 @@ pub mod Settling
 pub mod Starting
 pub mod Walking
 pub mod Pushing
+pub mod Copying
+pub mod Marking

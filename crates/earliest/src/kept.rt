@@ -1,5 +1,5 @@
 // The earliest execution, as it is kept.
-ghost use Rattle.std.specs.Prelude.{◌≡◌, ◌<◌, ◌≤◌, ◌++◌, ◌∷◌, [], false, true, IfOk, OnOk, OnErr, length, pos, slice_index_or};
+ghost use Rattle.std.specs.Prelude.{◌≡◌, ◌<◌, ◌≤◌, ◌++◌, ◌∷◌, [], false, true, IfOk, OnOk, OnErr, length, pos, replicate, slice_index_or};
 ghost use Rattle.difference_bounds.specs.Executions.{at};
 ghost use Rattle.frontier.specs.Keys.{IsEmpty};
 ghost use Rattle.earliest.specs.Values.{IsEarliestBut};
@@ -77,6 +77,26 @@ impl Earliest {
         self.values.push_reserved(0);
         self.parents.push_reserved(0);
         Ok(())
+    }
+
+    /// All values 0, solved: the earliest execution where no arc is in force.
+    pub(crate) fn set_zero(&mut self)
+        ensures { self.new ≡ record { values = replicate (length self.old.values) (pos 0); is_solved = true } }
+    {
+        self.values.fill(0);
+        self.solved = true;
+    }
+
+    /// Leaves the values as they are, unsolved.
+    pub(crate) fn unsolve(&mut self)
+        ensures { self.new ≡ record { values = self.old.values; is_solved = false } }
+    {
+        self.solved = false;
+    }
+
+    /// Where its memory comes from.
+    pub(crate) fn alloc(&self) -> Global {
+        self.alloc
     }
 
     /// Brings in one arc in force, where the values are the earliest execution of the others. `front` has room for all

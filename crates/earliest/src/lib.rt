@@ -6,10 +6,12 @@
 #![tactic(auto)]
 
 mod cycle;
+mod in_force;
 mod inserted;
 mod kept;
 pub mod laws;
 mod raises;
+mod rebuild;
 mod settle;
 #[cfg(test)]
 mod tests;
