@@ -1,0 +1,100 @@
+ghost use Rattle.std.specs.Prelude.{◌≡◌, ◌≤◌, true, length};
+
+use super::*;
+use crate::order::insertion_order;
+use crate::ranks::node_ranks;
+use earliest::Earliest;
+use problem::read_problem;
+use std::alloc::Global;
+use std::test::*;
+use sync_graph::graph_of;
+
+// Events a#1, a#2, b#1 and b#2 are the nodes 0 to 3; their readings 100, 180, 250 and 300 are the nodes 4 to 7.
+const TWO_LOGS: &str =
+    "problem 1\nclock a 0 0 0 0\nclock b 0 0 3 7\nevent a#1 a 100\nevent a#2 a 180\nevent b#1 b 250\nevent b#2 b 300\nmessage a#1 b#1 10 20\nmessage b#2 a#2 10 20\nend\n";
+
+// The same, but each log begins with a receive of what the other one sends last.
+const CIRCLE: &str =
+    "problem 1\nclock a 0 0 0 0\nclock b 0 0 3 7\nevent a#1 a 100\nevent a#2 a 180\nevent b#1 b 250\nevent b#2 b 300\nmessage a#2 b#1 10 20\nmessage b#2 a#1 10 20\nend\n";
+
+// The same as TWO_LOGS, but the events of b stand first, and those of a in the other order.
+const TURNED: &str =
+    "problem 1\nclock b 0 0 3 7\nclock a 0 0 0 0\nevent b#1 b 250\nevent b#2 b 300\nevent a#2 a 180\nevent a#1 a 100\nmessage b#2 a#2 10 20\nmessage a#1 b#1 10 20\nend\n";
+
+// Whether the nodes of a problem have these ranks.
+fn has_ranks(alloc: Global, text: &str, want: &[u32]) -> Option<bool> {
+    let p = read_problem(alloc, text.as_bytes()).ok()?;
+    let g = graph_of(alloc, &p).ok()?;
+    let ranks = node_ranks(alloc, &p, &g).ok()?;
+    Some(ranks.as_slice() == want)
+}
+
+// Whether the arcs of a problem are brought in in this order.
+fn has_order(alloc: Global, text: &str, want: &[u32]) -> Option<bool> {
+    let p = read_problem(alloc, text.as_bytes()).ok()?;
+    let g = graph_of(alloc, &p).ok()?;
+    let order = insertion_order(alloc, &p, &g).ok()?;
+    Some(order.as_slice() == want)
+}
+
+// Whether the first values are these, in units.
+fn begins_with(e: &Earliest, nodes: u32, want: &[i128]) -> bool
+    requires solved { e.now.is_solved ≡ true }
+    requires nodes { nodes ≤ length e.now.values }
+{
+    for (k, value) in want.iter().enumerate() {
+        if nodes as usize <= k {
+            return false;
+        }
+        if e.value(k as u32) != *value {
+            return false;
+        }
+    }
+    true
+}
+
+// Whether a problem has an execution, and its earliest one begins with these values, in units.
+fn has_values(alloc: Global, text: &str, want: &[i128]) -> Option<bool> {
+    let p = read_problem(alloc, text.as_bytes()).ok()?;
+    match solve(alloc, &p) {
+        Ok(Solution::Execution(g, e)) => Some(begins_with(&e, g.nodes(), want)),
+        Ok(Solution::Contradiction(_)) => Some(false),
+        Err(_) => None,
+    }
+}
+
+// How many bounds the contradiction of a problem has, where it has one.
+fn contradiction_size(alloc: Global, text: &str) -> Option<usize> {
+    let p = read_problem(alloc, text.as_bytes()).ok()?;
+    match solve(alloc, &p).ok()? {
+        Solution::Execution(_, _) => None,
+        Solution::Contradiction(steps) => Some(steps.len()),
+    }
+}
+
+#[test]
+fn a_send_comes_before_its_receive(rt: HostRuntime) {
+    let alloc = rt.alloc();
+    for (text, want) in [
+        (TWO_LOGS, [0, 3, 1, 2, 0, 3, 1, 2]),
+        (TURNED, [1, 2, 3, 0, 1, 2, 0, 3]),
+        (CIRCLE, [0, 1, 2, 3, 0, 1, 2, 3]),
+    ] {
+        assert!(rt; has_ranks(alloc, text, &want) == Some(true));
+    }
+}
+
+#[test]
+fn arcs_come_with_the_later_end(rt: HostRuntime) {
+    let want = [4, 5, 8, 9, 12, 13, 2, 3, 10, 11, 0, 1, 6, 7, 14, 15];
+    assert!(rt; has_order(rt.alloc(), TWO_LOGS, &want) == Some(true));
+}
+
+#[test]
+fn problems_are_solved(rt: HostRuntime) {
+    let alloc = rt.alloc();
+    let want = [0, 80_000_000_000, 10_000_000_000, 60_000_000_000];
+    assert!(rt; has_values(alloc, TWO_LOGS, &want) == Some(true));
+    assert!(rt; has_values(alloc, "problem 1\nend\n", &[]) == Some(true));
+    assert!(rt; contradiction_size(alloc, CIRCLE) == Some(8));
+}
