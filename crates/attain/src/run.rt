@@ -1,0 +1,65 @@
+// The certificate of an execution.
+ghost use Rattle.std.specs.Prelude.{◌≡◌, ◌<◌, ◌≤◌, true, All, length, slice_get, Some, OnOk, OnErr};
+ghost use Rattle.ports.specs.Content.{Rose, Appends, AppendsPrefix};
+ghost use Rattle.difference_bounds.specs.Executions.{at};
+ghost use Rattle.cert.specs.Listed.{listed_nodes, listed_values, listed_run};
+
+use cert::write_value;
+use earliest::Earliest;
+use ports::{Failed, Sink, write_whole};
+use problem::Listing;
+
+// The number of the node at a place: the events in their order, then the readings.
+fn node_at<N: Listing>(names: &N, place: u32) -> u32
+    requires { place < length (listed_nodes (record { clock_names = N.clock_names names.now; event_names = N.event_names names.now; events = N.listed_events names.now; readings = N.listed_readings names.now })) }
+    ensures { slice_get (listed_nodes (record { clock_names = N.clock_names names.now; event_names = N.event_names names.now; events = N.listed_events names.now; readings = N.listed_readings names.now })) place ≡ Some result }
+{
+    let events = names.event_count();
+    if place < events {
+        return names.event_at(place).1;
+    }
+    names.reading_at(place - events).2
+}
+
+// How many nodes are listed.
+fn node_count<N: Listing>(names: &N) -> u32
+    ensures { result ≡ length (listed_nodes (record { clock_names = N.clock_names names.now; event_names = N.event_names names.now; events = N.listed_events names.now; readings = N.listed_readings names.now })) }
+{
+    names.event_count() + names.reading_count()
+}
+
+// Writes the lines of the nodes.
+fn write_values<N: Listing, O: Sink>(names: &N, e: &Earliest, out: &mut O) -> Result<(), Failed>
+    requires solved { e.now.is_solved ≡ true }
+    requires one_each { All (λ k. k < length e.now.values) (listed_nodes (record { clock_names = N.clock_names names.now; event_names = N.event_names names.now; events = N.listed_events names.now; readings = N.listed_readings names.now })) }
+    ensures ok { OnOk result (Appends (O.written out.old) (O.written out.new)
+        (listed_values (record { clock_names = N.clock_names names.now; event_names = N.event_names names.now; events = N.listed_events names.now; readings = N.listed_readings names.now }) (at e.now.values))) }
+    ensures err { OnErr result (AppendsPrefix (O.written out.old) (O.written out.new)
+        (listed_values (record { clock_names = N.clock_names names.now; event_names = N.event_names names.now; events = N.listed_events names.now; readings = N.listed_readings names.now }) (at e.now.values))) }
+    ensures cause { OnErr result (Rose (O.faults out.old) (O.faults out.new)) }
+    ensures no_fall { O.faults out.old ≤ O.faults out.new }
+{
+    for place in 0..node_count(names) {
+        let value = e.value(node_at(names, place));
+        write_value(names, place, value, out)?;
+    }
+    Ok(())
+}
+
+/// Writes the certificate of an execution: the value of each listed node, in units of 1e-9 ns, as ns text. It takes no
+/// memory. After `Failed`, which comes only where the sink's count of faults rose, some front of the certificate is
+/// written.
+pub fn write_run<N: Listing, O: Sink>(names: &N, e: &Earliest, out: &mut O) -> Result<(), Failed>
+    requires solved { e.now.is_solved ≡ true }
+    requires one_each { All (λ k. k < length e.now.values) (listed_nodes (record { clock_names = N.clock_names names.now; event_names = N.event_names names.now; events = N.listed_events names.now; readings = N.listed_readings names.now })) }
+    ensures ok { OnOk result (Appends (O.written out.old) (O.written out.new)
+        (listed_run (record { clock_names = N.clock_names names.now; event_names = N.event_names names.now; events = N.listed_events names.now; readings = N.listed_readings names.now }) (at e.now.values))) }
+    ensures err { OnErr result (AppendsPrefix (O.written out.old) (O.written out.new)
+        (listed_run (record { clock_names = N.clock_names names.now; event_names = N.event_names names.now; events = N.listed_events names.now; readings = N.listed_readings names.now }) (at e.now.values))) }
+    ensures cause { OnErr result (Rose (O.faults out.old) (O.faults out.new)) }
+    ensures no_fall { O.faults out.old ≤ O.faults out.new }
+{
+    write_whole(out, b"certificate 1\nrun\n")?;
+    write_values(names, e, out)?;
+    write_whole(out, b"end\n")
+}
