@@ -2,5 +2,7 @@ pub mod Judging
 pub mod Searching
 pub mod Times
 pub mod Loops
-pub mod Printing
 pub mod Reaching
+pub mod Solving
+pub mod Certifying
+pub mod Forms

@@ -1,5 +1,5 @@
 -- From the texts in the files to what a run says of them.
-use Rattle.std.proofs.Common.{◌≡◌, ◌⊎◌, inl, inr, ℕ, ◌≤◌, List, [], ◌∷◌, length, Option, Some, None, Bool, false, Result, Ok, Err, sym, subst, arith, slice_get, codes}
+use Rattle.std.proofs.Common.{◌≡◌, ◌⊎◌, inl, inr, ℕ, ◌≤◌, List, length, Option, Some, None, Bool, false, Result, Ok, Err, sym, subst, arith, codes}
 use Rattle.std.specs.Prelude.{ℤ, IfOk, IfErr}
 use Rattle.std.proofs.lemmas.Grind.{common_steps}
 use Rattle.ports.specs.Content.{Rose, Appends}
@@ -156,11 +156,3 @@ module _ (problem exec : List ℕ) (files : Content) (rf rf' ab ab' wf wf' : ℕ
       EndsJudged written written' wf wf' p v result → Obeyed problem exec before (after files') result
   judged files' p x verdicts.Obeys result has spelled is ends = printed files' (codes "obeys\n") statuses.Done result ends (λ prints. (p, x, judged_both p x _ is has spelled, prints))
   judged files' p x (verdicts.Broken b w d) result has spelled is ends = printed_if files' _ statuses.No result ends (λ prints. (p, x, b, w, d, judged_both p x _ is has spelled, prints))
-
--- ---- the words
-pub three : (ws : List (List ℕ)) (a b d : List ℕ) → length ws ≡ 3 → slice_get ws 0 ≡ Some a → slice_get ws 1 ≡ Some b → slice_get ws 2 ≡ Some d → ws ≡ a ∷ b ∷ d ∷ []
-three [] a b d long e f g = absurd (omega (arith, long))
-three (x ∷ []) a b d long e f g = absurd (omega (arith, long))
-three (x ∷ y ∷ []) a b d long e f g = absurd (omega (arith, long))
-three (x ∷ y ∷ z ∷ []) a b d long e f g = cc
-three (x ∷ y ∷ z ∷ w ∷ ws) a b d long e f g = absurd (omega (arith, long))

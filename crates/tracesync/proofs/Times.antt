@@ -8,7 +8,8 @@ use Rattle.problem_model.specs.Problem.{ProblemLists}
 use Rattle.problem_model.specs.Bounds.{Times}
 use Rattle.problem_model.specs.Nodes.{Reading, AreReadings, event_nodes, reading_nodes, nodes_of}
 use Rattle.problem_model.proofs.OneList.{readings_one}
-use Rattle.tracesync.specs.Verdict.{AreTimes, HasOneEach}
+use Rattle.cert.specs.CertificateText.{HasOneEach}
+use Rattle.tracesync.specs.Verdict.{AreTimes}
 
 some_same : {X : Type 0} (a b : X) → Some a ≡ Some b → a ≡ b
 some_same a b e = cc

@@ -3,3 +3,4 @@ pub mod Refusal
 pub mod Run
 pub mod Unread
 pub mod Verdict
+pub mod Solve

@@ -15,6 +15,8 @@ use Rattle.problem_model.specs.BoundText.{broken_line}
 use Rattle.problem.specs.Line.{problem_format}
 use Rattle.cert.specs.ExecutionFormat.{execution_format}
 use Rattle.tracesync.specs.Refusal.{answer_of, refusal_line}
+use Rattle.tracesync.specs.declared.form.Form.{Form}
+use Rattle.tracesync.specs.declared.form.Form.TheVariants.{Obey, Solve, Unknown}
 use Rattle.tracesync.specs.declared.refusal.Refusal.{Refusal}
 use Rattle.tracesync.specs.declared.status.Status.{Status}
 use Rattle.tracesync.specs.declared.status.Status.TheVariants.{Done, No, Usage, BadProblem, BadExec, ReadFault, WriteFault, Memory}
@@ -34,9 +36,19 @@ code_of Memory = 9
 abbrev pub obey_words : List ℕ → List ℕ → List (List ℕ)
 obey_words problem exec = codes "obey" ∷ problem ∷ exec ∷ []
 
+abbrev pub solve_words : List ℕ → List (List ℕ)
+solve_words problem = codes "solve" ∷ problem ∷ []
+
 -- the words are of none of the forms
-abbrev pub IsNoCommand : List (List ℕ) → Type 0
-IsNoCommand ws = (problem exec : List ℕ) → ws ≡ obey_words problem exec → ⊥
+pub record IsNoCommand (ws : List (List ℕ)) : Type 0 where
+  pub obey : (problem exec : List ℕ) → ws ≡ obey_words problem exec → ⊥
+  pub solve : (problem : List ℕ) → ws ≡ solve_words problem → ⊥
+
+-- the words are of this form
+abbrev pub IsForm : List (List ℕ) → Form → Type 0
+IsForm ws Obey = (problem : List ℕ) × (exec : List ℕ) × (ws ≡ obey_words problem exec)
+IsForm ws Solve = (problem : List ℕ) × (ws ≡ solve_words problem)
+IsForm ws Unknown = IsNoCommand ws
 
 -- what is printed where the words are of none of the forms
 abbrev pub usage_line : List ℕ

@@ -1,5 +1,5 @@
 -- What judging real times by a list of bounds answers.
-use Rattle.std.specs.Prelude.{◌≡◌, List, All, ℤ, length, map}
+use Rattle.std.specs.Prelude.{◌≡◌, List, All, ℤ, map}
 use Rattle.problem_model.specs.declared.items.Bound.{Bound}
 use Rattle.problem_model.specs.Problem.{ProblemLists}
 use Rattle.problem_model.specs.Bounds.{Times, IsExecution}
@@ -17,10 +17,6 @@ Judges p x bounds (Broken b weight difference) = IsFirstBrokenOf p x bounds b we
 abbrev pub IsVerdict : ProblemLists → Times → Verdict → Type 0
 IsVerdict p x Obeys = IsExecution p x
 IsVerdict p x (Broken b weight difference) = IsFirstBroken p x b weight difference
-
--- there is one value per node
-abbrev pub HasOneEach : ProblemLists → List ℤ → Type 0
-HasOneEach p values = (readings : List Reading) × AreReadings p readings × (length values ≡ length (nodes_of p readings))
 
 -- the values are the real times of the nodes, over these readings
 pub record AreTimes (p : ProblemLists) (x : Times) (readings : List Reading) (values : List ℤ) : Type 0 where

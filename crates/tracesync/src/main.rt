@@ -1,9 +1,13 @@
-//! Judges executions by the declared bounds of a problem.
+//! Finds the earliest execution that declared bounds allow, or a contradiction of them, and judges executions.
 #![tactic(auto)]
 
+mod ending;
+mod form;
+mod obey;
 mod print;
 mod refusal;
 mod run;
+mod solve;
 mod status;
 #[cfg(test)]
 mod tests;

@@ -18,7 +18,7 @@ fn ends_so(
         all.push(word)?;
     }
     let mut input = MemSource::new(alloc, b"", 1, &[])?;
-    let mut out = MemSink::new(alloc, 400, 7, fails)?;
+    let mut out = MemSink::new(alloc, 600, 7, fails)?;
     let result = run(alloc, &all, files, &mut input, &mut out);
     Ok(result == status && out.bytes() == printed.as_bytes())
 }
@@ -228,6 +228,56 @@ fn texts_are_refused(rt: HostRuntime) -> Result<(), Fail> {
     Ok(())
 }
 
+// Whether `solve` over this text prints this certificate.
+fn solves_so(alloc: Global, problem: &str, printed: &str) -> Result<bool, AllocError> {
+    let mut files = MemFiles::new(alloc, &[])?;
+    files.put("p", problem.as_bytes())?;
+    ends_so(
+        alloc,
+        &["solve", "p"],
+        &mut files,
+        &[],
+        Status::Done,
+        printed,
+    )
+}
+
+// The sums of the cycles: 20 + 50 + 20 - 95 = -5 ns; 0 + 0 - 2, where the least delay is above the greatest; 39 - 4 * 10
+// over four clocks; and 1000000000 - 1000000100, where one clock may run 100 ppb slow and the other must keep time.
+#[test]
+fn problems_are_solved(rt: HostRuntime) -> Result<(), Fail> {
+    for (problem, printed) in [
+        ("problem 1\nend\n", "certificate 1\nrun\nend\n"),
+        (
+            "problem 1\nclock a 0 0 0 0\nclock b 0 0 0 0\nevent a#1 a 100\nevent a#2 a 180\nevent b#1 b 250\nevent b#2 b 300\nmessage a#1 b#1 10 20\nmessage b#2 a#2 10 20\nend\n",
+            "certificate 1\nrun\nevent a#1 0.000000000\nevent a#2 80.000000000\nevent b#1 10.000000000\nevent b#2 60.000000000\nreading a 100 0.000000000\nreading a 180 80.000000000\nreading b 250 10.000000000\nreading b 300 60.000000000\nend\n",
+        ),
+        (
+            "problem 1\nclock a 0 0 0 0\nclock b 0 0 0 0\nevent a#1 a 100\nevent a#2 a 195\nevent b#1 b 250\nevent b#2 b 300\nmessage a#1 b#1 10 20\nmessage b#2 a#2 10 20\nend\n",
+            "certificate 1\ncycle\nstep early a#2 0.000000000\nstep span-least a 100 195 -95.000000000\nstep late a#1 0.000000000\nstep delay-most a#1 b#1 20.000000000\nstep early b#1 0.000000000\nstep span-most b 250 300 50.000000000\nstep late b#2 0.000000000\nstep delay-most b#2 a#2 20.000000000\nend\n",
+        ),
+        (
+            "problem 1\nclock c 0 0 0 0\nevent p c 0\nevent q c 0\nmessage p q 2 1\nend\n",
+            "certificate 1\ncycle\nstep early p 0.000000000\nstep late q 0.000000000\nstep delay-least p q -2.000000000\nend\n",
+        ),
+        (
+            "problem 1\nclock a 0 0 0 0\nclock b 0 0 0 0\nclock c 0 0 0 0\nclock d 0 0 0 0\nevent a1 a 0\nevent a2 a 39\nevent b1 b 5\nevent c1 c 7\nevent d1 d 9\nmessage a1 b1 10 none\nmessage b1 c1 10 none\nmessage c1 d1 10 none\nmessage d1 a2 10 none\nend\n",
+            "certificate 1\ncycle\nstep delay-least c1 d1 -10.000000000\nstep delay-least b1 c1 -10.000000000\nstep delay-least a1 b1 -10.000000000\nstep early a1 0.000000000\nstep span-most a 0 39 39.000000000\nstep late a2 0.000000000\nstep delay-least d1 a2 -10.000000000\nend\n",
+        ),
+        (
+            "problem 1\nclock c 0 0 0 0\nclock d 0 0 0 0\nevent p c 0\nevent q c 1000000000\nevent r d 0\nevent s d 1000000100\nmessage p r 0 0\nmessage q s 0 0\nend\n",
+            "certificate 1\ncycle\nstep early s 0.000000000\nstep span-least d 0 1000000100 -1000000100.000000000\nstep late r 0.000000000\nstep delay-least p r 0.000000000\nstep early p 0.000000000\nstep span-most c 0 1000000000 1000000000.000000000\nstep late q 0.000000000\nstep delay-most q s 0.000000000\nend\n",
+        ),
+        (
+            "problem 1\nclock c 0 0 0 0\nclock d 100 0 0 0\nevent p c 0\nevent q c 1000000000\nevent r d 0\nevent s d 1000000100\nmessage p r 0 0\nmessage q s 0 0\nend\n",
+            "certificate 1\nrun\nevent p 0.000000000\nevent q 1000000000.000000000\nevent r 0.000000000\nevent s 1000000000.000000000\nreading c 0 0.000000000\nreading c 1000000000 1000000000.000000000\nreading d 0 0.000000000\nreading d 1000000100 1000000000.000000000\nend\n",
+        ),
+    ] {
+        assert!(rt; solves_so(rt.alloc(), problem, printed)?, "at {problem}");
+    }
+    Ok(())
+}
+
 const USAGE: &str =
     "usage: tracesync obey PROBLEM EXEC | solve PROBLEM | ends PROBLEM P Q | verify PROBLEM CERT | session DECL | trial N\n";
 
@@ -264,6 +314,27 @@ fn devices_fail(rt: HostRuntime) -> Result<(), Fail> {
             &USAGE[..14]
         )?
     );
+    Ok(())
+}
+
+// `solve` over files that are there or not, and over a sink that fails in the certificate.
+#[test]
+fn solving_fails(rt: HostRuntime) -> Result<(), Fail> {
+    let alloc = rt.alloc();
+    let mut files = MemFiles::new(alloc, &[])?;
+    files.put("p", ONE_EVENT.as_bytes())?;
+    files.put("x", b"no problem")?;
+    for (words, fails, status, printed) in [
+        (["solve", "q"], [0], Status::ReadFault, "read fault\n"),
+        (["solve", "x"], [0], Status::BadProblem, "problem 1 1\n"),
+        (["solve", "p"], [3], Status::WriteFault, "certificate 1\n"),
+        (["obey", "p"], [0], Status::Usage, USAGE),
+    ] {
+        assert!(rt;
+            ends_so(alloc, &words, &mut files, &fails, status, printed)?,
+            "at {printed}"
+        );
+    }
     Ok(())
 }
 

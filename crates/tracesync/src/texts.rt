@@ -3,7 +3,7 @@ ghost use Rattle.std.specs.Prelude.{◌≡◌, ◌≤◌, ◌^◌, ℕ, List, le
 ghost use Rattle.ports.specs.Files.{HasBytes};
 ghost use Rattle.problem_model.specs.Bounds.{Times};
 ghost use Rattle.problem_model.specs.Nodes.{Lists};
-ghost use Rattle.tracesync.specs.Verdict.{HasOneEach};
+ghost use Rattle.cert.specs.CertificateText.{HasOneEach};
 ghost use Rattle.tracesync.specs.Run.{SpellsProblem, SpellsExecution, RefusesProblem, RefusesExecution};
 ghost use Rattle.tracesync.specs.Unread.{IsUnread, IsRefusedFor, IsLong, unread_problem, unread_execution};
 

@@ -7,7 +7,8 @@ ghost use Rattle.problem_model.specs.ShortList.{neighbour_bounds, span_bounds, e
 ghost use Rattle.std.specs.List.{flat_map};
 ghost use Rattle.problem_model.specs.declared.items.Node.TheVariants as nodes;
 ghost use Rattle.problem_model.specs.declared.items.Bound.TheVariants.{Late, Early};
-ghost use Rattle.tracesync.specs.Verdict.{Judges, IsVerdict, HasOneEach, AreTimes};
+ghost use Rattle.cert.specs.CertificateText.{HasOneEach};
+ghost use Rattle.tracesync.specs.Verdict.{Judges, IsVerdict, AreTimes};
 
 use atto::{Nano, Units, delay_units, span_least, span_most};
 use cert::Execution;

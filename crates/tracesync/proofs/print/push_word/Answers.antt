@@ -1,5 +1,5 @@
 use Rattle.std.proofs.Common.{◌++◌, ◌∙◌, ap, ℕ, List}
-use Rattle.tracesync.proofs.Printing.{words_more}
+use Rattle.cert.proofs.Lines.{words_more}
 use Rattle.tracesync.proofs.print.push_word.Goals as goal
 
 pub returns : goal.returns

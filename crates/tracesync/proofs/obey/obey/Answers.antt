@@ -1,7 +1,7 @@
 use Rattle.problem_model.proofs.OneList.{listed}
 use Rattle.tracesync.specs.Run.{RefusesExecution, SpellsExecution}
 use Rattle.tracesync.proofs.Reaching.{execution_stops, judged, unread_since, has_since}
-use Rattle.tracesync.proofs.run.obey.Goals as goal
+use Rattle.tracesync.proofs.obey.obey.Goals as goal
 
 pub returns-in-Err-execution_in-clause-obeyed : goal.returns-in-Err-execution_in-clause-obeyed
 returns-in-Err-execution_in-clause-obeyed g c =

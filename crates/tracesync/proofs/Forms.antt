@@ -1,0 +1,47 @@
+-- The words of each form.
+use Rattle.std.proofs.Common.{◌≡◌, ℕ, List, [], ◌∷◌, length, Some, slice_get, codes, sym, ◌∙◌, ap, subst, arith}
+use Rattle.tracesync.specs.Run.{obey_words, solve_words, Devices, Obeyed}
+use Rattle.tracesync.specs.Solve.{Solved}
+use Rattle.tracesync.specs.declared.status.Status.{Status}
+
+-- three words, the first of which is `obey`
+pub is_obey : (ws : List (List ℕ)) (a : List ℕ) → length ws ≡ 3 → slice_get ws 0 ≡ Some a → a ≡ codes "obey" → (problem : List ℕ) × (exec : List ℕ) × (ws ≡ obey_words problem exec)
+is_obey [] a long e is = absurd (omega (arith, long))
+is_obey (x ∷ []) a long e is = absurd (omega (arith, long))
+is_obey (x ∷ y ∷ []) a long e is = absurd (omega (arith, long))
+is_obey (x ∷ y ∷ z ∷ []) a long e is = (y, z, cc)
+is_obey (x ∷ y ∷ z ∷ w ∷ ws) a long e is = absurd (omega (arith, long))
+
+-- two words, the first of which is `solve`
+pub is_solve : (ws : List (List ℕ)) (a : List ℕ) → length ws ≡ 2 → slice_get ws 0 ≡ Some a → a ≡ codes "solve" → (problem : List ℕ) × (ws ≡ solve_words problem)
+is_solve [] a long e is = absurd (omega (arith, long))
+is_solve (x ∷ []) a long e is = absurd (omega (arith, long))
+is_solve (x ∷ y ∷ []) a long e is = (y, cc)
+is_solve (x ∷ y ∷ z ∷ ws) a long e is = absurd (omega (arith, long))
+
+pub obey_three : (ws : List (List ℕ)) (problem exec : List ℕ) → ws ≡ obey_words problem exec → length ws ≡ 3
+obey_three ws problem exec is = ap length is
+
+pub solve_two : (ws : List (List ℕ)) (problem : List ℕ) → ws ≡ solve_words problem → length ws ≡ 2
+solve_two ws problem is = ap length is
+
+pub not_both : (ws : List (List ℕ)) (problem exec other : List ℕ) → ws ≡ obey_words problem exec → ws ≡ solve_words other → ⊥
+not_both ws problem exec other is is' = omega (arith, obey_three ws problem exec is, solve_two ws other is')
+
+some_same : (a b : List ℕ) → Some a ≡ Some b → a ≡ b
+some_same a b e = cc
+
+-- what `obey` says of the second and the third word
+pub obey_by : (ws : List (List ℕ)) (a b problem exec : List ℕ) (old new : Devices) (result : Status) → slice_get ws 1 ≡ Some a → slice_get ws 2 ≡ Some b → ws ≡ obey_words problem exec
+    → Obeyed a b old new result → Obeyed problem exec old new result
+obey_by ws a b problem exec old new result e f is obeyed =
+    let first : a ≡ problem = some_same a problem (sym e ∙ ap (λ (v : List (List ℕ)). slice_get v 1) is) in
+    let second : b ≡ exec = some_same b exec (sym f ∙ ap (λ (v : List (List ℕ)). slice_get v 2) is) in
+    subst (λ (v : List ℕ). Obeyed v exec old new result) first (subst (λ (v : List ℕ). Obeyed a v old new result) second obeyed)
+
+-- what `solve` says of the second word
+pub solve_by : (ws : List (List ℕ)) (a problem : List ℕ) (old new : Devices) (result : Status) → slice_get ws 1 ≡ Some a → ws ≡ solve_words problem
+    → Solved a old new result → Solved problem old new result
+solve_by ws a problem old new result e is solved =
+    let first : a ≡ problem = some_same a problem (sym e ∙ ap (λ (v : List (List ℕ)). slice_get v 1) is) in
+    subst (λ (v : List ℕ). Solved v old new result) first solved

@@ -1,0 +1,15 @@
+use Rattle.std.proofs.Common.{◌≡◌, length, rules, sym, ◌∙◌, codes}
+use Rattle.tracesync.proofs.Forms.{is_obey, is_solve}
+use Rattle.tracesync.proofs.form.form_of.Goals as goal
+
+pub returns-then-eq : goal.returns-then-eq
+returns-then-eq c =
+    let same : c.word.result.now ≡ codes "obey" = search rules in
+    let long : length c.args.words.now ≡ 3 = sym c.len-count.ensures ∙ c.if-count-eq3.true in
+    is_obey c.args.words.now c.word.result.now long c.word.ensures same
+
+pub returns-then-eq-2 : goal.returns-then-eq-2
+returns-then-eq-2 c =
+    let same : c.word-then-count-eq2.result.now ≡ codes "solve" = search rules in
+    let long : length c.args.words.now ≡ 2 = sym c.len-count.ensures ∙ c.if-count-eq2.true in
+    is_solve c.args.words.now c.word-then-count-eq2.result.now long c.word-then-count-eq2.ensures same

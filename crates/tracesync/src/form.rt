@@ -1,0 +1,29 @@
+// Which command the words are.
+ghost use Rattle.tracesync.specs.Run.{IsForm};
+
+use ports::Words;
+
+/// The form of the words of a command line.
+#[derive(Clone, Copy, Debug, PartialEq, Eq)]
+pub enum Form {
+    /// `obey PROBLEM EXEC`.
+    Obey,
+    /// `solve PROBLEM`.
+    Solve,
+    /// None of the forms.
+    Unknown,
+}
+
+/// The form of these words.
+pub fn form_of(words: &Words) -> Form
+    ensures { IsForm words.now result }
+{
+    let count = words.len();
+    if count == 3 && words.word(0) == "obey" {
+        return Form::Obey;
+    }
+    if count == 2 && words.word(0) == "solve" {
+        return Form::Solve;
+    }
+    Form::Unknown
+}
