@@ -7,7 +7,9 @@ takes 1,000 to 100,000 ns, and says so. Real time is an execution of this: the c
 generated have an offset and no drift, and each event happens just as its stamp is read.
 
 The same number of events gives the same texts. With --broken the last message declares 1 ns less
-than it took, which breaks one bound, the last delay-most of all.
+than it took, which breaks one bound, the last delay-most of all. With --contradict it declares that
+it took at least ten times the greatest delay. From a hundred events on the others tell that it took
+less, so no real times obey the problem, and no execution is written.
 """
 
 import argparse
@@ -75,7 +77,7 @@ def generate(count):
     return trace, delays
 
 
-def write_problem(out, trace, delays, broken):
+def write_problem(out, trace, delays, fault):
     out.write("problem 1\n")
     for clock in range(CLOCKS):
         drift = DRIFT if clock > 0 else 0
@@ -83,8 +85,12 @@ def write_problem(out, trace, delays, broken):
     for name, (clock, _, stamp) in zip(trace.names, trace.events):
         out.write(f"event {name} h{clock} {stamp}\n")
     for k, delay in enumerate(delays):
-        most = delay - 1 if broken and k + 1 == len(delays) else MOST
-        out.write(f"message {trace.names[2 * k]} {trace.names[2 * k + 1]} {LEAST} {most}\n")
+        least, most = LEAST, MOST
+        if fault == "broken" and k + 1 == len(delays):
+            most = delay - 1
+        elif fault == "contradict" and k + 1 == len(delays):
+            least, most = 10 * MOST, "none"
+        out.write(f"message {trace.names[2 * k]} {trace.names[2 * k + 1]} {least} {most}\n")
     out.write("end\n")
 
 
@@ -103,16 +109,23 @@ def main():
     parser = argparse.ArgumentParser(description=__doc__.splitlines()[0])
     parser.add_argument("events", type=int, help="the number of events, even, from 2 to 2^20")
     parser.add_argument("folder", help="where N.problem and N.execution are written")
-    parser.add_argument("--broken", action="store_true", help="break one bound: N-broken.problem")
+    faults = parser.add_mutually_exclusive_group()
+    faults.add_argument(
+        "--broken", dest="fault", action="store_const", const="broken", help="break one bound: N-broken.problem"
+    )
+    faults.add_argument(
+        "--contradict", dest="fault", action="store_const", const="contradict", help="N-contradict.problem alone"
+    )
     args = parser.parse_args()
     if args.events % 2 != 0 or not 2 <= args.events <= 2**20:
         parser.error("an even number of events from 2 to 2^20")
     trace, delays = generate(args.events)
-    stem = os.path.join(args.folder, f"{args.events}-broken" if args.broken else f"{args.events}")
+    stem = os.path.join(args.folder, f"{args.events}-{args.fault}" if args.fault else f"{args.events}")
     with open(stem + ".problem", "w", encoding="ascii", newline="\n") as out:
-        write_problem(out, trace, delays, args.broken)
-    with open(stem + ".execution", "w", encoding="ascii", newline="\n") as out:
-        write_execution(out, trace)
+        write_problem(out, trace, delays, args.fault)
+    if args.fault != "contradict":
+        with open(stem + ".execution", "w", encoding="ascii", newline="\n") as out:
+            write_execution(out, trace)
 
 
 if __name__ == "__main__":

@@ -9,38 +9,10 @@
 set -euo pipefail
 export LC_ALL=C
 
-bench=$(cd "$(dirname "$0")" && pwd)
-crate=$bench/../crates/tracesync
-out=$bench/out
-program=${TRACESYNC:-$crate/out/tracesync}
-runs=${RUNS:-3}
+# shellcheck source-path=SCRIPTDIR
+. "$(dirname "$0")/measure.sh"
 sizes=("$@")
 [ ${#sizes[@]} -gt 0 ] || sizes=(1000 8192 65536 1048576)
-
-fail() {
-    echo "bench: $*" >&2
-    exit 1
-}
-
-# Wall time of a command in microseconds; its output and its status go to $out/NAME.
-time_once() {
-    local name=$1 start end status=0
-    shift
-    start=${EPOCHREALTIME/./}
-    "$@" >"$out/$name.stdout" || status=$?
-    end=${EPOCHREALTIME/./}
-    echo "$status" >"$out/$name.status"
-    echo $((end - start))
-}
-
-# The lesser of two times, of which the first may be missing.
-lesser() {
-    if [ -z "$1" ] || [ "$2" -lt "$1" ]; then
-        echo "$2"
-    else
-        echo "$1"
-    fi
-}
 
 # Peak memory of a command in KiB, from a run of its own. Without /usr/bin/time the peak of python, which starts the
 # command, is counted too: then no peak is below some 14,000 KiB.
@@ -76,10 +48,6 @@ compare_broken() {
     rm -f "$stem".*
 }
 
-milliseconds() {
-    printf '%d.%d' $(($1 / 1000)) $(($1 % 1000 / 100))
-}
-
 table_row() {
     local events=$1 stem=$out/$1
     local problem=$stem.problem execution=$stem.execution
@@ -91,28 +59,18 @@ table_row() {
     done
     same_answer "$stem"
     [ "$(cat "$out/obey.stdout")" = obeys ] || fail "the generated execution is refused in $stem"
-    local tenths=$(((ours * 10 + theirs / 2) / theirs))
     our_peak=$(peak_memory "$program" obey "$problem" "$execution")
     their_peak=$(peak_memory "$out/obey" obey "$problem" "$execution")
-    printf '| %d | %d | %d | %s | %s | %d.%d | %d | %d | %d |\n' \
+    printf '| %d | %d | %d | %s | %s | %s | %d | %d | %d |\n' \
         "$events" "$(wc -c <"$problem")" "$(wc -c <"$execution")" \
         "$(milliseconds "$ours")" "$(milliseconds "$theirs")" \
-        $((tenths / 10)) $((tenths % 10)) \
+        "$(quotient "$ours" "$theirs")" \
         "$our_peak" "$their_peak" $((our_peak * 1024 / events))
 }
 
-for events in "${sizes[@]}"; do
-    if ! [[ $events =~ ^[1-9][0-9]{0,6}$ ]] || ((events % 2 != 0 || events > 1048576)); then
-        fail "$events is no even number from 2 to 2^20"
-    fi
-done
-mkdir -p "$out"
-"${CXX:-g++}" -std=c++17 -O2 -Wall -Wextra -o "$out/obey" "$bench/obey.cpp"
-if [ ! -x "$program" ]; then
-    [ -z "${TRACESYNC:-}" ] || fail "there is no $program"
-    python3 "$bench/generate.py" 2 "$out"
-    (cd "$crate" && rt run -- obey "$out/2.problem" "$out/2.execution") >&2
-fi
+check_sizes "${sizes[@]}"
+compile obey
+need_program
 compare_broken 1000
 printf '| %s ' events 'problem, bytes' 'execution, bytes' 'tracesync, ms' 'C++, ms' ratio \
     'tracesync, KiB' 'C++, KiB' 'bytes an event'
