@@ -1,0 +1,5 @@
+pub mod Puts
+pub mod Directions
+pub mod Spreading
+pub mod Popping
+pub mod Beginning

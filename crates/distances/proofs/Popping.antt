@@ -1,0 +1,84 @@
+-- A node is taken, and the end.
+use Rattle.std.proofs.Common.{◌≡◌, ℕ, ◌+◌, ◌-◌, ◌*◌, ◌^◌, ◌<◌, ◌≤◌, Bool, true, false, List, length, set, ◌∙◌, arith, inl, inr}
+use Rattle.std.specs.Prelude.{ℤ, pos, ◌-ℤ◌, ◌≤ℤ◌, ◌≢◌, Option, None, All}
+use Rattle.std.proofs.lemmas.Int.{ints}
+use Rattle.std.proofs.lemmas.Bool.{cases_lt}
+use Rattle.row_pool.specs.declared.cell.Cell.{Cell}
+use Rattle.difference_bounds.specs.Numbers.{IsUpTo}
+use Rattle.difference_bounds.specs.Parents.{Cells, IsRow}
+use Rattle.difference_bounds.specs.RowPops.{IsRowStep, IsUnderWay}
+use Rattle.difference_bounds.specs.Sums.{done_sum}
+use Rattle.difference_bounds.specs.Tables.{ArcTable, ObeysAll}
+use Rattle.difference_bounds.proofs.RowsUnderWay.{under_way_step, under_way_fewer, under_way_row, under_way_bounds}
+use Rattle.frontier.specs.Keys.{IsEmpty, IsLeastEntry}
+use Rattle.sync_graph.specs.Graph.{GraphLists, IsGraph}
+use Rattle.distances.specs.Row.{cell_at, cells_of, nothing_known}
+use Rattle.distances.specs.Facing.{facing, potential}
+use Rattle.distances.specs.Relaxed.{waits_of, AreKeyed}
+use Rattle.distances.proofs.Directions.{facing_within, facing_light, potential_small}
+use Rattle.distances.proofs.Puts.{waits_true, none_waits, least_reduced, taken_others}
+
+-- a step over what waits without the node is one over what waited with it
+with_node : (table : ArcTable) (node : ℕ) (c c' : Cells) (waits waits1 waits' : ℕ → Bool)
+    → IsRowStep table node c c' waits1 waits' → ((k : ℕ) → k ≢ node → waits1 k ≡ waits k)
+    → IsRowStep table node c c' waits waits'
+with_node table node c c' waits waits1 waits' s w = record {
+  each = λ k. elim (s.each k) [
+    | inl q ↦ inl (record { known = q.known; value = q.value; parent = q.parent; waiting = elim q.waiting [ inl v ↦ inl v | inr v ↦ inr (v.0, v.1 ∙ w k v.0) ] })
+    | inr n ↦ inr n
+  ];
+  met = s.met;
+}
+
+height_low : (n : ℕ) → n ≤ 2 ^ 21 → n * 2 ^ 93 ≤ 2 ^ 114
+height_low n h = omega arith
+
+between_small : (v a b : ℤ) (n : ℕ) → IsUpTo 114 a → IsUpTo 114 b → (a -ℤ b) ≤ℤ v → v ≤ℤ pos (0 + n) → n ≤ 2 ^ 114 → IsUpTo 118 v
+between_small v a b n ua ub l h m = (omega (arith, ints, ua.0, ub.1), omega (arith, ints))
+
+module _ (outward : Bool) (g : GraphLists) (values : List ℤ) (p : ℕ) (row : List Cell) (front : List (Option ℤ)) (node : ℕ) (key : ℤ)
+    (is : IsGraph g)
+    (small : All (IsUpTo 114) values)
+    (x : ObeysAll (facing outward g) (potential outward values))
+    (u : IsUnderWay (length g.nodes) (facing outward g) p (potential outward values) 0 (2 ^ 93) nothing_known (cells_of row) (waits_of front))
+    (keyed : AreKeyed (potential outward values) front row)
+    (least : IsLeastEntry front node key)
+  where
+    popped_known : (cell_at row node).known ≡ true
+    popped_known = (keyed node key least.waits).0
+
+    pub popped_within : node < length g.nodes
+    popped_within = elim (cases_lt node (length g.nodes)) [
+      | inl l ↦ l
+      | inr l ↦ absurd (let t : (cell_at row node).known ≡ true = popped_known in let f : (cell_at row node).known ≡ false = u.past node l in let z : ⊥ = cc in z)
+    ]
+
+    pub popped_small : IsUpTo 118 (cell_at row node).value
+    popped_small =
+        let b : ((potential outward values node -ℤ potential outward values p) ≤ℤ (cell_at row node).value) × ((cell_at row node).value ≤ℤ pos (0 + length g.nodes * 2 ^ 93)) =
+        under_way_bounds (length g.nodes) (facing outward g) p (potential outward values) 0 (2 ^ 93) nothing_known (cells_of row) (waits_of front) u x node popped_known in
+        between_small (cell_at row node).value (potential outward values node) (potential outward values p) (length g.nodes * 2 ^ 93)
+        (potential_small outward values small node) (potential_small outward values small p) b.0 b.1 (height_low (length g.nodes) is.node_limit)
+
+    module _ (front1 : List (Option ℤ)) (row2 : List Cell) (front2 : List (Option ℤ))
+        (taken : front1 ≡ set front node None)
+        (step : IsRowStep (facing outward g) node (cells_of row) (cells_of row2) (waits_of front1) (waits_of front2))
+      where
+        stepped : IsRowStep (facing outward g) node (cells_of row) (cells_of row2) (waits_of front) (waits_of front2)
+        stepped = with_node (facing outward g) node (cells_of row) (cells_of row2) (waits_of front) (waits_of front1) (waits_of front2) step
+            (taken_others front front1 node key least.waits taken)
+
+        pub under_way_more : IsUnderWay (length g.nodes) (facing outward g) p (potential outward values) 0 (2 ^ 93) nothing_known (cells_of row2) (waits_of front2)
+        under_way_more = under_way_step (length g.nodes) (facing outward g) p (potential outward values) 0 (2 ^ 93) nothing_known (cells_of row) (cells_of row2) (waits_of front) (waits_of front2) node
+            u x (facing_light outward g is) (facing_within outward g is) (waits_true front node key least.waits) (least_reduced (potential outward values) row front node key keyed least) stepped popped_within
+
+        pub fewer_left : (length g.nodes - done_sum (length g.nodes) (λ _. 1) nothing_known (cells_of row2) (waits_of front2)) < (length g.nodes - done_sum (length g.nodes) (λ _. 1) nothing_known (cells_of row) (waits_of front))
+        fewer_left = under_way_fewer (length g.nodes) (facing outward g) p (potential outward values) 0 (2 ^ 93) nothing_known (cells_of row) (cells_of row2) (waits_of front) (waits_of front2) node
+            u x (facing_light outward g is) (facing_within outward g is) (waits_true front node key least.waits) (least_reduced (potential outward values) row front node key keyed least) stepped popped_within
+
+-- where none waits the cells are the row
+pub none_left : (nodes : ℕ) (table : ArcTable) (p : ℕ) (e : ℕ → ℤ) (row : List Cell) (front : List (Option ℤ))
+    → IsUnderWay nodes table p e 0 (2 ^ 93) nothing_known (cells_of row) (waits_of front) → IsEmpty front
+    → IsRow nodes table p (cells_of row)
+none_left nodes table p e row front u none = under_way_row nodes table p e 0 (2 ^ 93) nothing_known (cells_of row) (waits_of front) u (none_waits front none)
+    (λ k h. absurd (let f : false ≡ true = h in let z : ⊥ = cc in z))

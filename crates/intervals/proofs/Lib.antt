@@ -1,0 +1,4 @@
+pub mod Orders
+pub mod Times
+pub mod NodeOrders
+mod Instances
