@@ -20,7 +20,7 @@ use Rattle.cert.specs.Listed.{IsNamed, listed_nodes, listed_cycle, listed_run}
 use Rattle.cert.specs.CertificateText.{listing_of, certificate_text}
 use Rattle.cert.proofs.OwnListing.{is_named, numbers_below, cycle_is, run_is}
 use Rattle.solver.specs.Solution.{steps_of, IsSolved, HasContradiction}
-use Rattle.tracesync.specs.Solve.{IsEarliestText, IsContradictionText, IsSolutionText, AppendsSolution}
+use Rattle.tracesync.specs.Solve.{IsEarliestText, IsContradictionText, AppendsSome}
 
 abbrev as_step : Arc → Step
 as_step a = record { bound = a.name; weight = a.weight }
@@ -68,7 +68,12 @@ module _ (p : ProblemLists) (readings : List Reading) (are : AreReadings p readi
           run_is p readings e.values are one_each ∙ ap (λ (xs : List ℤ). certificate_text p (nodes_of p readings) (Run xs)) is,
         )
 
--- the text that was written shows the solution
-pub shown : (r : Result (Unit {0}) Failed) (old new : Option (List ℕ)) (p : ProblemLists) (text : List ℕ) → IsSolutionText p text → OnOk r (Appends old new text) → OnOk r (AppendsSolution old new p)
-shown (Ok v) old new p text shows appended = (text, shows, appended)
-shown (Err e) old new p text shows appended = tt
+-- the text that was written is of this kind
+pub shown : (r : Result (Unit {0}) Failed) (Shows : List ℕ → Type 0) (old new : Option (List ℕ)) (text : List ℕ) → Shows text → OnOk r (Appends old new text) → OnOk r (AppendsSome Shows old new)
+shown (Ok v) Shows old new text shows appended = (text, shows, appended)
+shown (Err e) Shows old new text shows appended = tt
+
+-- a text of one kind is of a wider one
+pub shown_as : (r : Result (Unit {0}) Failed) (Shows More : List ℕ → Type 0) (old new : Option (List ℕ)) → ((text : List ℕ) → Shows text → More text) → OnOk r (AppendsSome Shows old new) → OnOk r (AppendsSome More old new)
+shown_as (Ok v) Shows More old new on (text, shows, appended) = (text, on text shows, appended)
+shown_as (Err e) Shows More old new on appended = tt

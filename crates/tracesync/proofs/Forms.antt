@@ -1,7 +1,8 @@
 -- The words of each form.
 use Rattle.std.proofs.Common.{◌≡◌, ℕ, List, [], ◌∷◌, length, Some, slice_get, codes, sym, ◌∙◌, ap, subst, arith}
-use Rattle.tracesync.specs.Run.{obey_words, solve_words, Devices, Obeyed}
+use Rattle.tracesync.specs.Run.{obey_words, solve_words, ends_words, Devices, Obeyed}
 use Rattle.tracesync.specs.Solve.{Solved}
+use Rattle.tracesync.specs.Ends.{Ended}
 use Rattle.tracesync.specs.declared.status.Status.{Status}
 
 -- three words, the first of which is `obey`
@@ -19,14 +20,28 @@ is_solve (x ∷ []) a long e is = absurd (omega (arith, long))
 is_solve (x ∷ y ∷ []) a long e is = (y, cc)
 is_solve (x ∷ y ∷ z ∷ ws) a long e is = absurd (omega (arith, long))
 
+-- four words, the first of which is `ends`
+pub is_ends : (ws : List (List ℕ)) (a : List ℕ) → length ws ≡ 4 → slice_get ws 0 ≡ Some a → a ≡ codes "ends"
+    → (problem : List ℕ) × (first : List ℕ) × (second : List ℕ) × (ws ≡ ends_words problem first second)
+is_ends [] a long e is = absurd (omega (arith, long))
+is_ends (x ∷ []) a long e is = absurd (omega (arith, long))
+is_ends (x ∷ y ∷ []) a long e is = absurd (omega (arith, long))
+is_ends (x ∷ y ∷ z ∷ []) a long e is = absurd (omega (arith, long))
+is_ends (x ∷ y ∷ z ∷ w ∷ []) a long e is = (y, z, w, cc)
+is_ends (x ∷ y ∷ z ∷ w ∷ v ∷ ws) a long e is = absurd (omega (arith, long))
+
 pub obey_three : (ws : List (List ℕ)) (problem exec : List ℕ) → ws ≡ obey_words problem exec → length ws ≡ 3
 obey_three ws problem exec is = ap length is
 
 pub solve_two : (ws : List (List ℕ)) (problem : List ℕ) → ws ≡ solve_words problem → length ws ≡ 2
 solve_two ws problem is = ap length is
 
-pub not_both : (ws : List (List ℕ)) (problem exec other : List ℕ) → ws ≡ obey_words problem exec → ws ≡ solve_words other → ⊥
-not_both ws problem exec other is is' = omega (arith, obey_three ws problem exec is, solve_two ws other is')
+pub ends_four : (ws : List (List ℕ)) (problem first second : List ℕ) → ws ≡ ends_words problem first second → length ws ≡ 4
+ends_four ws problem first second is = ap length is
+
+-- words have one length
+pub other_length : (ws : List (List ℕ)) (m n : ℕ) → length ws ≡ m → length ws ≡ n → (m ≡ n → ⊥) → ⊥
+other_length ws m n a b differ = differ (sym a ∙ b)
 
 some_same : (a b : List ℕ) → Some a ≡ Some b → a ≡ b
 some_same a b e = cc
@@ -45,3 +60,13 @@ pub solve_by : (ws : List (List ℕ)) (a problem : List ℕ) (old new : Devices)
 solve_by ws a problem old new result e is solved =
     let first : a ≡ problem = some_same a problem (sym e ∙ ap (λ (v : List (List ℕ)). slice_get v 1) is) in
     subst (λ (v : List ℕ). Solved v old new result) first solved
+
+-- what `ends` says of the second, the third and the fourth word
+pub ends_by : (ws : List (List ℕ)) (a b d problem first second : List ℕ) (old new : Devices) (result : Status) → slice_get ws 1 ≡ Some a → slice_get ws 2 ≡ Some b → slice_get ws 3 ≡ Some d
+    → ws ≡ ends_words problem first second → Ended a b d old new result → Ended problem first second old new result
+ends_by ws a b d problem first second old new result e f g is ended =
+    let one : a ≡ problem = some_same a problem (sym e ∙ ap (λ (v : List (List ℕ)). slice_get v 1) is) in
+    let two : b ≡ first = some_same b first (sym f ∙ ap (λ (v : List (List ℕ)). slice_get v 2) is) in
+    let three : d ≡ second = some_same d second (sym g ∙ ap (λ (v : List (List ℕ)). slice_get v 3) is) in
+    subst (λ (v : List ℕ). Ended v first second old new result) one
+    (subst (λ (v : List ℕ). Ended a v second old new result) two (subst (λ (v : List ℕ). Ended a b v old new result) three ended))

@@ -3,6 +3,8 @@ pub mod Searching
 pub mod Times
 pub mod Loops
 pub mod Reaching
+pub mod Stopping
 pub mod Solving
 pub mod Certifying
 pub mod Forms
+pub mod Intervals

@@ -1,17 +1,16 @@
--- From the problem in a file to what `solve` says of it.
-use Rattle.std.proofs.Common.{◌≡◌, inl, inr, ℕ, List, Option, sym, subst, codes}
-use Rattle.ports.specs.Content.{Appends}
+-- From the problem in a file to what `solve` and `ends` say of it.
+use Rattle.std.proofs.Common.{◌≡◌, ◌⊎◌, inl, inr, ℕ, List, Option, subst, codes}
 use Rattle.ports.specs.Files.{Content, HasBytes}
 use Rattle.problem_model.specs.Problem.{ProblemLists}
-use Rattle.tracesync.specs.Refusal.{refusal_line}
 use Rattle.tracesync.specs.Run.{Devices, SpellsProblem, RefusesProblem}
 use Rattle.tracesync.specs.Solve.{Solved, EndsSolved}
+use Rattle.tracesync.specs.Ends.{IsNamedAt, IsUnknown, Ended, EndsAnswered}
 use Rattle.tracesync.specs.Unread.{IsUnread}
-use Rattle.tracesync.specs.Endings.{Ends, EndsOrNoMemory, EndsUnread}
+use Rattle.tracesync.specs.Endings.{Ends, EndsUnread}
 use Rattle.tracesync.specs.declared.status.Status.{Status}
 use Rattle.tracesync.specs.declared.status.Status.TheVariants as statuses
 use Rattle.tracesync.specs.declared.texts.Unread.{Unread}
-use Rattle.tracesync.specs.declared.texts.Unread.TheVariants as unread
+use Rattle.tracesync.proofs.Stopping as stopping
 
 module _ (problem : List ℕ) (files files' : Content) (rf rf' ab ab' wf wf' : ℕ) (written written' : Option (List ℕ)) where
   abbrev before : Devices
@@ -20,28 +19,41 @@ module _ (problem : List ℕ) (files files' : Content) (rf rf' ab ab' wf wf' : �
   abbrev after : Devices
   after = record { files = files'; read_faults = rf'; absences = ab'; written = written'; write_faults = wf' }
 
-  so : (status result : Status) → result ≡ status → Solved problem before after status → Solved problem before after result
-  so status result is = subst (λ (s : Status). Solved problem before after s) (sym is)
+  unread_as : (u v : Unread) → u ≡ v → IsUnread RefusesProblem files problem rf rf' ab ab' u → IsUnread RefusesProblem files problem rf rf' ab ab' v
+  unread_as u v is = subst (λ (w : Unread). IsUnread RefusesProblem files problem rf rf' ab ab' w) is
 
-  printed : (line : List ℕ) (status result : Status) → Ends written written' wf wf' line status result
-      → (Appends written written' line → Solved problem before after status) → Solved problem before after result
-  printed line status result (inl ended) on = so status result ended.0 (on ended.1)
-  printed line status result (inr ended) on = so statuses.WriteFault result ended.0 ended.1
-
-  printed_if : (line : List ℕ) (status result : Status) → EndsOrNoMemory written written' wf wf' line status result
-      → (Appends written written' line → Solved problem before after status) → Solved problem before after result
-  printed_if line status result (inl ended) on = printed line status result ended on
-  printed_if line status result (inr none) on = so statuses.Memory result none tt
-
+  -- ---- solve
   pub problem_stops : (u : Unread) (result : Status) → IsUnread RefusesProblem files problem rf rf' ab ab' u
       → EndsUnread written written' wf wf' u (codes "problem") statuses.BadProblem result → Solved problem before after result
-  problem_stops (unread.Refused refusal) result is ends = printed_if (refusal_line (codes "problem") refusal) statuses.BadProblem result ends (λ prints. (refusal, is, prints))
-  problem_stops unread.Fault result is ends = printed (codes "read fault\n") statuses.ReadFault result ends (λ prints. (is, prints))
-  problem_stops unread.Memory result is ends = so statuses.Memory result ends tt
+  problem_stops u result is ends =
+      stopping.unread_ends (Solved problem before after) written written' wf wf' (λ rose. rose) tt u (codes "problem") statuses.BadProblem result ends
+      (λ refusal same prints. (refusal, unread_as u _ same is, prints)) (λ same prints. (unread_as u _ same is, prints))
 
   pub certified : (p : ProblemLists) (result : Status) → HasBytes files problem (SpellsProblem p) → EndsSolved written written' wf wf' p result → Solved problem before after result
-  certified p result has (inl ended) = so statuses.Done result ended.0 (let found = ended.1 in (p, found.0, has, found.1, found.2))
-  certified p result has (inr ended) = so statuses.WriteFault result ended.0 ended.1
+  certified p result has (inl ended) = stopping.so (Solved problem before after) written written' wf wf' (λ rose. rose) tt statuses.Done result ended.0 (let found = ended.1 in (p, found.0, has, found.1, found.2))
+  certified p result has (inr ended) = stopping.so (Solved problem before after) written written' wf wf' (λ rose. rose) tt statuses.WriteFault result ended.0 ended.1
 
-  pub no_memory : (result : Status) → result ≡ statuses.Memory → Solved problem before after result
-  no_memory result is = so statuses.Memory result is tt
+  -- ---- ends
+  module _ (first second : List ℕ) where
+    abbrev says : Status → Type 0
+    says = Ended problem first second before after
+
+    pub ends_stops : (u : Unread) (result : Status) → IsUnread RefusesProblem files problem rf rf' ab ab' u
+        → EndsUnread written written' wf wf' u (codes "problem") statuses.BadProblem result → Ended problem first second before after result
+    ends_stops u result is ends =
+        stopping.unread_ends says written written' wf wf' (λ rose. rose) tt u (codes "problem") statuses.BadProblem result ends
+        (λ refusal same prints. (refusal, unread_as u _ same is, prints)) (λ same prints. (unread_as u _ same is, prints))
+
+    pub unknown_ends : (p : ProblemLists) (result : Status) → HasBytes files problem (SpellsProblem p) → IsUnknown p first ⊎ IsUnknown p second
+        → Ends written written' wf wf' (codes "unknown event\n") statuses.UnknownEvent result → Ended problem first second before after result
+    unknown_ends p result has unknown ends = stopping.printed says written written' wf wf' (λ rose. rose) tt (codes "unknown event\n") statuses.UnknownEvent result ends (λ prints. (p, has, unknown, prints))
+
+    pub answered_ends : (p : ProblemLists) (from to : ℕ) (result : Status) → HasBytes files problem (SpellsProblem p) → IsNamedAt p from first → IsNamedAt p to second
+        → EndsAnswered written written' wf wf' p from to result → Ended problem first second before after result
+    answered_ends p from to result has named named' (inl ended) =
+        stopping.so says written written' wf wf' (λ rose. rose) tt statuses.Done result ended.0 (let found = ended.1 in (p, from, to, found.0, has, named, named', found.1, found.2))
+    answered_ends p from to result has named named' (inr (inl ended)) = stopping.so says written written' wf wf' (λ rose. rose) tt statuses.WriteFault result ended.0 ended.1
+    answered_ends p from to result has named named' (inr (inr none)) = stopping.so says written written' wf wf' (λ rose. rose) tt statuses.Memory result none tt
+
+    pub memory_ends : (result : Status) → result ≡ statuses.Memory → Ended problem first second before after result
+    memory_ends result is = stopping.so says written written' wf wf' (λ rose. rose) tt statuses.Memory result is tt

@@ -4,3 +4,4 @@ pub mod Run
 pub mod Unread
 pub mod Verdict
 pub mod Solve
+pub mod Ends

@@ -16,10 +16,10 @@ use Rattle.problem.specs.Line.{problem_format}
 use Rattle.cert.specs.ExecutionFormat.{execution_format}
 use Rattle.tracesync.specs.Refusal.{answer_of, refusal_line}
 use Rattle.tracesync.specs.declared.form.Form.{Form}
-use Rattle.tracesync.specs.declared.form.Form.TheVariants.{Obey, Solve, Unknown}
+use Rattle.tracesync.specs.declared.form.Form.TheVariants.{Obey, Solve, Ends, Unknown}
 use Rattle.tracesync.specs.declared.refusal.Refusal.{Refusal}
 use Rattle.tracesync.specs.declared.status.Status.{Status}
-use Rattle.tracesync.specs.declared.status.Status.TheVariants.{Done, No, Usage, BadProblem, BadExec, ReadFault, WriteFault, Memory}
+use Rattle.tracesync.specs.declared.status.Status.TheVariants.{Done, No, Usage, BadProblem, BadExec, ReadFault, WriteFault, Memory, UnknownEvent}
 
 -- the exit status
 abbrev pub code_of : Status → ℕ
@@ -31,6 +31,7 @@ code_of BadExec = 5
 code_of ReadFault = 7
 code_of WriteFault = 8
 code_of Memory = 9
+code_of UnknownEvent = 11
 
 -- ---- the words
 abbrev pub obey_words : List ℕ → List ℕ → List (List ℕ)
@@ -39,15 +40,20 @@ obey_words problem exec = codes "obey" ∷ problem ∷ exec ∷ []
 abbrev pub solve_words : List ℕ → List (List ℕ)
 solve_words problem = codes "solve" ∷ problem ∷ []
 
+abbrev pub ends_words : List ℕ → List ℕ → List ℕ → List (List ℕ)
+ends_words problem first second = codes "ends" ∷ problem ∷ first ∷ second ∷ []
+
 -- the words are of none of the forms
 pub record IsNoCommand (ws : List (List ℕ)) : Type 0 where
   pub obey : (problem exec : List ℕ) → ws ≡ obey_words problem exec → ⊥
   pub solve : (problem : List ℕ) → ws ≡ solve_words problem → ⊥
+  pub ends : (problem first second : List ℕ) → ws ≡ ends_words problem first second → ⊥
 
 -- the words are of this form
 abbrev pub IsForm : List (List ℕ) → Form → Type 0
 IsForm ws Obey = (problem : List ℕ) × (exec : List ℕ) × (ws ≡ obey_words problem exec)
 IsForm ws Solve = (problem : List ℕ) × (ws ≡ solve_words problem)
+IsForm ws Ends = (problem : List ℕ) × (first : List ℕ) × (second : List ℕ) × (ws ≡ ends_words problem first second)
 IsForm ws Unknown = IsNoCommand ws
 
 -- what is printed where the words are of none of the forms
@@ -119,6 +125,7 @@ Obeyed problem exec old new BadExec = (p : ProblemLists) × (refusal : Refusal)
 Obeyed problem exec old new ReadFault = MissesFile old new problem exec × Prints old new (codes "read fault\n")
 Obeyed problem exec old new WriteFault = Rose old.write_faults new.write_faults
 Obeyed problem exec old new Memory = Unit {0}
+Obeyed problem exec old new UnknownEvent = ⊥
 
 -- ---- no command
 -- the usage line, or a failed write

@@ -13,7 +13,7 @@ use Rattle.tracesync.specs.Refusal.{refusal_line}
 use Rattle.tracesync.specs.Run.{Devices, Prints, SpellsProblem, RefusesProblem}
 use Rattle.tracesync.specs.declared.refusal.Refusal.{Refusal}
 use Rattle.tracesync.specs.declared.status.Status.{Status}
-use Rattle.tracesync.specs.declared.status.Status.TheVariants.{Done, No, Usage, BadProblem, BadExec, ReadFault, WriteFault, Memory}
+use Rattle.tracesync.specs.declared.status.Status.TheVariants.{Done, No, Usage, BadProblem, BadExec, ReadFault, WriteFault, Memory, UnknownEvent}
 
 -- the text is the certificate of the earliest execution
 abbrev pub IsEarliestText : ProblemLists → List ℕ → Type 0
@@ -31,14 +31,14 @@ IsContradictionText p text = (steps : List Step) × (readings : List Reading) ×
 abbrev pub IsSolutionText : ProblemLists → List ℕ → Type 0
 IsSolutionText p text = IsEarliestText p text ⊎ IsContradictionText p text
 
--- a certificate of the problem is appended
-abbrev pub AppendsSolution : Option (List ℕ) → Option (List ℕ) → ProblemLists → Type 0
-AppendsSolution old new p = (text : List ℕ) × IsSolutionText p text × Appends old new text
+-- a text of this kind is appended
+abbrev pub AppendsSome : (List ℕ → Type 0) → Option (List ℕ) → Option (List ℕ) → Type 0
+AppendsSome Shows old new = (text : List ℕ) × Shows text × Appends old new text
 
 -- a certificate of the problem is printed, or the sink failed
 abbrev pub EndsSolved : Option (List ℕ) → Option (List ℕ) → ℕ → ℕ → ProblemLists → Status → Type 0
 EndsSolved old new faults faults' p result =
-    ((result ≡ Done) × AppendsSolution old new p) ⊎ ((result ≡ WriteFault) × Rose faults faults')
+    ((result ≡ Done) × AppendsSome (IsSolutionText p) old new) ⊎ ((result ≡ WriteFault) × Rose faults faults')
 
 -- what `solve` prints, and when it ends with which status
 abbrev pub Solved : List ℕ → Devices → Devices → Status → Type 0
@@ -54,3 +54,4 @@ Solved problem old new ReadFault = (Rose old.read_faults new.read_faults ⊎ (Ro
     × Prints old new (codes "read fault\n")
 Solved problem old new WriteFault = Rose old.write_faults new.write_faults
 Solved problem old new Memory = Unit {0}
+Solved problem old new UnknownEvent = ⊥

@@ -10,6 +10,8 @@ pub enum Form {
     Obey,
     /// `solve PROBLEM`.
     Solve,
+    /// `ends PROBLEM P Q`.
+    Ends,
     /// None of the forms.
     Unknown,
 }
@@ -24,6 +26,9 @@ pub fn form_of(words: &Words) -> Form
     }
     if count == 2 && words.word(0) == "solve" {
         return Form::Solve;
+    }
+    if count == 4 && words.word(0) == "ends" {
+        return Form::Ends;
     }
     Form::Unknown
 }

@@ -2,6 +2,7 @@
 #![tactic(auto)]
 
 mod ending;
+mod ends;
 mod form;
 mod obey;
 mod print;

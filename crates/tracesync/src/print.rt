@@ -7,9 +7,11 @@ ghost use Rattle.line_format.specs.Words.{words, line_of};
 ghost use Rattle.problem_model.specs.ProblemText.{clock_name, event_name};
 ghost use Rattle.problem_model.specs.BoundText.{bound_words, broken_line, span_words, delay_words};
 ghost use Rattle.tracesync.specs.Refusal.{refusal_line, number_of, place_of};
+ghost use Rattle.tracesync.specs.Ends.{end_word, order_word, interval_line};
 
 use crate::refusal::Refusal;
 use atto::{Nano, NsText, write_decimal, write_ns};
+use intervals::{End, Ends, Order};
 use problem::{Bound, Problem};
 use std::alloc::{AllocError, Global};
 
@@ -139,6 +141,53 @@ pub fn refusal_line(alloc: Global, kind: &[u8], refusal: Refusal) -> Result<Vec<
     let mut line = Vec::from_slice(alloc, kind)?;
     push_decimal(&mut line, u64::from(refusal.number()))?;
     push_decimal(&mut line, u64::from(refusal.place()))?;
+    line.push(b'\n')?;
+    Ok(line)
+}
+
+// The word of the end below.
+fn least_word(alloc: Global, end: End) -> Result<Vec<u8>, AllocError>
+    ensures { IfOk result (λ line. line.items ≡ end_word (codes "-inf") end) }
+{
+    match end {
+        End::At(units) => {
+            let mut text = NsText::new();
+            write_ns(units, &mut text);
+            Vec::from_slice(alloc, text.as_slice())
+        }
+        End::Unbounded => Vec::from_slice(alloc, b"-inf"),
+    }
+}
+
+// Appends the word of the end above.
+fn push_greatest(line: &mut Vec<u8>, end: End) -> Result<(), AllocError>
+    ensures { (first : List ℕ) (ws : List (List ℕ)) → line.old.items ≡ words (first ∷ ws) → OnOk result (line.new.items ≡ words (first ∷ ws ++ end_word (codes "+inf") end ∷ [])) }
+{
+    match end {
+        End::At(units) => push_ns(line, units),
+        End::Unbounded => push_word(line, b"+inf"),
+    }
+}
+
+// Appends the word of an order.
+fn push_order(line: &mut Vec<u8>, order: Order) -> Result<(), AllocError>
+    ensures { (first : List ℕ) (ws : List (List ℕ)) → line.old.items ≡ words (first ∷ ws) → OnOk result (line.new.items ≡ words (first ∷ ws ++ order_word order ∷ [])) }
+{
+    match order {
+        Order::Before => push_word(line, b"before"),
+        Order::After => push_word(line, b"after"),
+        Order::Same => push_word(line, b"same"),
+        Order::Undecided => push_word(line, b"open"),
+    }
+}
+
+/// The line of an interval, whose ends are given in units of 1e-9 ns and printed as ns texts, and of an order.
+pub fn interval_line(alloc: Global, ends: &Ends, order: Order) -> Result<Vec<u8>, AllocError>
+    ensures { IfOk result (λ line. line.items ≡ interval_line ends.now order) }
+{
+    let mut line = least_word(alloc, ends.least)?;
+    push_greatest(&mut line, ends.greatest)?;
+    push_order(&mut line, order)?;
     line.push(b'\n')?;
     Ok(line)
 }

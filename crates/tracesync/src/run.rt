@@ -1,9 +1,11 @@
 // The program's one call.
 ghost use Rattle.std.specs.Prelude.{◌≡◌, ℕ, List};
-ghost use Rattle.tracesync.specs.Run.{Obeyed, ShowsUsage, IsNoCommand, obey_words, solve_words};
+ghost use Rattle.tracesync.specs.Run.{Obeyed, ShowsUsage, IsNoCommand, obey_words, solve_words, ends_words};
 ghost use Rattle.tracesync.specs.Solve.{Solved};
+ghost use Rattle.tracesync.specs.Ends.{Ended};
 
 use crate::ending::finish;
+use crate::ends::ends;
 use crate::form::{Form, form_of};
 use crate::obey::obey;
 use crate::solve::solve;
@@ -17,10 +19,12 @@ const USAGE: &[u8] =
 /// Does what the words say: reads the files that they name, prints the answer, and says how it ended.
 ///
 /// `obey PROBLEM EXEC` reads and judges the problem before it reads the execution, and says whether that is one;
-/// `solve PROBLEM` prints the certificate of the earliest execution, or of a contradiction where there is none. `Usage`
-/// comes where the words are of no form, `BadProblem` and `BadExec` where a text is refused, `ReadFault` where a named
-/// file is not there or a read failed, `WriteFault` where a write failed, `Memory` where memory ran out, and else `Done` or
-/// `No` with the answer. The input is not read.
+/// `solve PROBLEM` prints the certificate of the earliest execution, or of a contradiction where there is none; `ends
+/// PROBLEM P Q` prints the least and the greatest difference of the real times of two events over all executions, and
+/// their order, or a contradiction. `Usage` comes where the words are of no form, `BadProblem` and `BadExec` where a text is
+/// refused, `UnknownEvent` where the problem has no event of a name, `ReadFault` where a named file is not there or a read
+/// failed, `WriteFault` where a write failed, `Memory` where memory ran out, and else `Done` or `No` with the answer. The
+/// input is not read.
 pub fn run<F: Files, I: Source, O: Sink>(
     alloc: Global,
     words: &Words,
@@ -36,6 +40,10 @@ pub fn run<F: Files, I: Source, O: Sink>(
         (record { files = F.content files.old; read_faults = F.faults files.old; absences = F.absences files.old; written = O.written out.old; write_faults = O.faults out.old })
         (record { files = F.content files.new; read_faults = F.faults files.new; absences = F.absences files.new; written = O.written out.new; write_faults = O.faults out.new })
         result }
+    ensures ends { (problem first second : List ℕ) → words.now ≡ ends_words problem first second → Ended problem first second
+        (record { files = F.content files.old; read_faults = F.faults files.old; absences = F.absences files.old; written = O.written out.old; write_faults = O.faults out.old })
+        (record { files = F.content files.new; read_faults = F.faults files.new; absences = F.absences files.new; written = O.written out.new; write_faults = O.faults out.new })
+        result }
     ensures usage { IsNoCommand words.now → ShowsUsage
         (record { files = F.content files.old; read_faults = F.faults files.old; absences = F.absences files.old; written = O.written out.old; write_faults = O.faults out.old })
         (record { files = F.content files.new; read_faults = F.faults files.new; absences = F.absences files.new; written = O.written out.new; write_faults = O.faults out.new })
@@ -46,6 +54,14 @@ pub fn run<F: Files, I: Source, O: Sink>(
     match form_of(words) {
         Form::Obey => obey(alloc, files, words.word(1), words.word(2), out),
         Form::Solve => solve(alloc, files, words.word(1), out),
+        Form::Ends => ends(
+            alloc,
+            files,
+            words.word(1),
+            words.word(2),
+            words.word(3),
+            out,
+        ),
         Form::Unknown => finish(out, USAGE, Status::Usage),
     }
 }

@@ -2,7 +2,7 @@
 ghost use Rattle.std.specs.Prelude.{◌≡◌, OnOk, OnErr};
 ghost use Rattle.ports.specs.Content.{Rose};
 ghost use Rattle.solver.specs.Solution.{IsSolved, HasContradiction, IsSolution};
-ghost use Rattle.tracesync.specs.Solve.{AppendsSolution, EndsSolved, Solved};
+ghost use Rattle.tracesync.specs.Solve.{IsEarliestText, IsContradictionText, IsSolutionText, AppendsSome, EndsSolved, Solved};
 
 use crate::ending::stop;
 use crate::status::Status;
@@ -18,17 +18,17 @@ use sync_graph::{Arc, Graph};
 // Writes the certificate of the earliest execution.
 fn write_earliest<O: Sink>(p: &Problem, g: &Graph, e: &Earliest, out: &mut O) -> Result<(), Failed>
     requires { IsSolved p.now g.now e.now }
-    ensures ok { OnOk result (AppendsSolution (O.written out.old) (O.written out.new) p.now) }
+    ensures ok { OnOk result (AppendsSome (IsEarliestText p.now) (O.written out.old) (O.written out.new)) }
     ensures cause { OnErr result (Rose (O.faults out.old) (O.faults out.new)) }
 {
     let _ = p.readings();
     write_run(p, e, out)
 }
 
-// Writes the certificate of a contradiction.
-fn write_contradiction<O: Sink>(p: &Problem, steps: &[Arc], out: &mut O) -> Result<(), Failed>
+/// Writes the certificate of a contradiction.
+pub fn write_contradiction<O: Sink>(p: &Problem, steps: &[Arc], out: &mut O) -> Result<(), Failed>
     requires { HasContradiction p.now steps.now }
-    ensures ok { OnOk result (AppendsSolution (O.written out.old) (O.written out.new) p.now) }
+    ensures ok { OnOk result (AppendsSome (IsContradictionText p.now) (O.written out.old) (O.written out.new)) }
     ensures cause { OnErr result (Rose (O.faults out.old) (O.faults out.new)) }
 {
     let _ = p.readings();
@@ -39,7 +39,7 @@ fn write_contradiction<O: Sink>(p: &Problem, steps: &[Arc], out: &mut O) -> Resu
 // Writes the certificate of a solution.
 fn write_solution<O: Sink>(p: &Problem, solution: &Solution, out: &mut O) -> Result<(), Failed>
     requires { IsSolution p.now solution.now }
-    ensures ok { OnOk result (AppendsSolution (O.written out.old) (O.written out.new) p.now) }
+    ensures ok { OnOk result (AppendsSome (IsSolutionText p.now) (O.written out.old) (O.written out.new)) }
     ensures cause { OnErr result (Rose (O.faults out.old) (O.faults out.new)) }
 {
     match solution {

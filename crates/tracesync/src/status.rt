@@ -21,6 +21,8 @@ pub enum Status {
     WriteFault,
     /// Memory ran out, also for the words.
     Memory,
+    /// The problem has no event of a name in the words.
+    UnknownEvent,
 }
 
 impl Status {
@@ -37,6 +39,7 @@ impl Status {
             Status::ReadFault => 7,
             Status::WriteFault => 8,
             Status::Memory => 9,
+            Status::UnknownEvent => 11,
         }
     }
 }

@@ -278,6 +278,131 @@ fn problems_are_solved(rt: HostRuntime) -> Result<(), Fail> {
     Ok(())
 }
 
+// Whether `ends` over this text and these events ends so.
+fn ends_of_so(
+    alloc: Global,
+    problem: &str,
+    first: &str,
+    second: &str,
+    status: Status,
+    printed: &str,
+) -> Result<bool, AllocError> {
+    let mut files = MemFiles::new(alloc, &[])?;
+    files.put("p", problem.as_bytes())?;
+    let words = ["ends", "p", first, second];
+    ends_so(alloc, &words, &mut files, &[], status, printed)
+}
+
+const RATE: &str = "problem 1\nclock c 100 100 0 0\nevent p c 0\nevent q c 1000000000\nend\n";
+
+const TWO_CLOCKS: &str =
+    "problem 1\nclock c 0 0 0 0\nclock d 0 0 0 0\nevent p c 5\nevent q d 3\nmessage p q 0 none\nend\n";
+
+const CROSSED: &str =
+    "problem 1\nclock c 0 0 0 0\nevent p c 0\nevent q c 0\nmessage p q 2 1\nend\n";
+
+// Drift of 100 ppb over a second; a message of 0 ns and of 1 ns at least; stamps off by 5 and 7 ns; the greatest span at
+// both extremes of drift; clocks that no message ties; two paths of which the longer is the tighter; a contradiction;
+// names that are not there, also beside one.
+#[test]
+fn intervals_are_printed(rt: HostRuntime) -> Result<(), Fail> {
+    for (problem, first, second, status, printed) in [
+        (
+            RATE,
+            "p",
+            "q",
+            Status::Done,
+            "999999900.000000000 1000000100.000000000 before\n",
+        ),
+        (
+            RATE,
+            "q",
+            "p",
+            Status::Done,
+            "-1000000100.000000000 -999999900.000000000 after\n",
+        ),
+        (
+            RATE,
+            "p",
+            "p",
+            Status::Done,
+            "0.000000000 0.000000000 same\n",
+        ),
+        (RATE, "p", "z", Status::UnknownEvent, "unknown event\n"),
+        (
+            TWO_CLOCKS,
+            "p",
+            "q",
+            Status::Done,
+            "0.000000000 +inf open\n",
+        ),
+        (
+            TWO_CLOCKS,
+            "q",
+            "p",
+            Status::Done,
+            "-inf 0.000000000 open\n",
+        ),
+        (
+            "problem 1\nclock c 0 0 0 0\nclock d 0 0 0 0\nevent p c 5\nevent q d 3\nmessage p q 1 none\nend\n",
+            "p",
+            "q",
+            Status::Done,
+            "1.000000000 +inf before\n",
+        ),
+        (
+            "problem 1\nclock c 0 0 5 7\nevent p c 0\nevent q c 100\nend\n",
+            "p",
+            "q",
+            Status::Done,
+            "88.000000000 112.000000000 before\n",
+        ),
+        (
+            "problem 1\nclock c 0 0 5 7\nevent p c 0\nevent q c 0\nend\n",
+            "p",
+            "q",
+            Status::Done,
+            "-12.000000000 12.000000000 open\n",
+        ),
+        (
+            DRIFT,
+            "p",
+            "q",
+            Status::Done,
+            "4611686018.427387903 9223372036854775806.000000000 before\n",
+        ),
+        (
+            "problem 1\nclock c 0 0 0 0\nclock d 0 0 0 0\nevent p c 5\nevent q d 3\nend\n",
+            "p",
+            "q",
+            Status::Done,
+            "-inf +inf open\n",
+        ),
+        (
+            "problem 1\nclock a 0 0 0 0\nclock b 0 0 0 0\nevent a#1 a 100\nevent a#2 a 190\nevent b#1 b 250\nevent b#2 b 300\nmessage a#1 b#1 10 20\nmessage b#2 a#2 10 20\nend\n",
+            "a#1",
+            "b#1",
+            Status::Done,
+            "20.000000000 20.000000000 before\n",
+        ),
+        (
+            CROSSED,
+            "p",
+            "q",
+            Status::Done,
+            "certificate 1\ncycle\nstep early p 0.000000000\nstep late q 0.000000000\nstep delay-least p q -2.000000000\nend\n",
+        ),
+        (CROSSED, "z", "q", Status::UnknownEvent, "unknown event\n"),
+        ("problem 2\n", "p", "q", Status::BadProblem, "problem 1 1\n"),
+    ] {
+        assert!(rt;
+            ends_of_so(rt.alloc(), problem, first, second, status, printed)?,
+            "at {problem}{first} {second}"
+        );
+    }
+    Ok(())
+}
+
 const USAGE: &str =
     "usage: tracesync obey PROBLEM EXEC | solve PROBLEM | ends PROBLEM P Q | verify PROBLEM CERT | session DECL | trial N\n";
 

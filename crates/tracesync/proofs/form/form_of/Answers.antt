@@ -1,5 +1,5 @@
 use Rattle.std.proofs.Common.{◌≡◌, length, rules, sym, ◌∙◌, codes}
-use Rattle.tracesync.proofs.Forms.{is_obey, is_solve}
+use Rattle.tracesync.proofs.Forms.{is_obey, is_solve, is_ends}
 use Rattle.tracesync.proofs.form.form_of.Goals as goal
 
 pub returns-then-eq : goal.returns-then-eq
@@ -13,3 +13,9 @@ returns-then-eq-2 c =
     let same : c.word-then-count-eq2.result.now ≡ codes "solve" = search rules in
     let long : length c.args.words.now ≡ 2 = sym c.len-count.ensures ∙ c.if-count-eq2.true in
     is_solve c.args.words.now c.word-then-count-eq2.result.now long c.word-then-count-eq2.ensures same
+
+pub returns-then-eq-3 : goal.returns-then-eq-3
+returns-then-eq-3 c =
+    let same : c.word-then-count-eq4.result.now ≡ codes "ends" = search rules in
+    let long : length c.args.words.now ≡ 4 = sym c.len-count.ensures ∙ c.if-count-eq4.true in
+    is_ends c.args.words.now c.word-then-count-eq4.result.now long c.word-then-count-eq4.ensures same

@@ -1,4 +1,5 @@
-use Rattle.tracesync.proofs.Forms.{obey_by, solve_by, not_both}
+use Rattle.std.proofs.Common.{arith}
+use Rattle.tracesync.proofs.Forms.{obey_by, solve_by, ends_by, other_length, obey_three, solve_two, ends_four}
 use Rattle.tracesync.proofs.run.run.Goals as goal
 
 pub returns-in-Obey-clause-obey : goal.returns-in-Obey-clause-obey
@@ -8,13 +9,16 @@ returns-in-Obey-clause-obey g c = λ problem exec is. obey_by c.args.words.now _
     _ c.word.ensures c.word-in-Obey.ensures is c.obey.ensures.obeyed
 
 pub returns-in-Obey-clause-solve : goal.returns-in-Obey-clause-solve
-returns-in-Obey-clause-solve g c = λ problem is. absurd (not_both c.args.words.now _ _ problem c.in-Obey.ensures.2 is)
+returns-in-Obey-clause-solve g c = λ problem is. absurd (other_length c.args.words.now 3 2 (obey_three c.args.words.now _ _ c.in-Obey.ensures.2) (solve_two c.args.words.now problem is) (λ e. omega (arith, e)))
+
+pub returns-in-Obey-clause-ends : goal.returns-in-Obey-clause-ends
+returns-in-Obey-clause-ends g c = λ problem first second is. absurd (other_length c.args.words.now 3 4 (obey_three c.args.words.now _ _ c.in-Obey.ensures.2) (ends_four c.args.words.now problem first second is) (λ e. omega (arith, e)))
 
 pub returns-in-Obey-clause-usage : goal.returns-in-Obey-clause-usage
 returns-in-Obey-clause-usage g c = λ none. absurd (none.obey _ _ c.in-Obey.ensures.2)
 
 pub returns-in-Solve-clause-obey : goal.returns-in-Solve-clause-obey
-returns-in-Solve-clause-obey g c = λ problem exec is. absurd (not_both c.args.words.now problem exec _ is c.in-Solve.ensures.1)
+returns-in-Solve-clause-obey g c = λ problem exec is. absurd (other_length c.args.words.now 2 3 (solve_two c.args.words.now _ c.in-Solve.ensures.1) (obey_three c.args.words.now problem exec is) (λ e. omega (arith, e)))
 
 pub returns-in-Solve-clause-solve : goal.returns-in-Solve-clause-solve
 returns-in-Solve-clause-solve g c = λ problem is. solve_by c.args.words.now _ problem
@@ -22,11 +26,32 @@ returns-in-Solve-clause-solve g c = λ problem is. solve_by c.args.words.now _ p
     (record { files = g.F.Files.content c.solve.new.files; read_faults = g.F.Files.faults c.solve.new.files; absences = g.F.Files.absences c.solve.new.files; written = g.O.Sink.written c.solve.new.out; write_faults = g.O.Sink.faults c.solve.new.out })
     _ c.word-in-Solve.ensures is c.solve.ensures.solved
 
+pub returns-in-Solve-clause-ends : goal.returns-in-Solve-clause-ends
+returns-in-Solve-clause-ends g c = λ problem first second is. absurd (other_length c.args.words.now 2 4 (solve_two c.args.words.now _ c.in-Solve.ensures.1) (ends_four c.args.words.now problem first second is) (λ e. omega (arith, e)))
+
 pub returns-in-Solve-clause-usage : goal.returns-in-Solve-clause-usage
 returns-in-Solve-clause-usage g c = λ none. absurd (none.solve _ c.in-Solve.ensures.1)
+
+pub returns-in-Ends-clause-obey : goal.returns-in-Ends-clause-obey
+returns-in-Ends-clause-obey g c = λ problem exec is. absurd (other_length c.args.words.now 4 3 (ends_four c.args.words.now _ _ _ c.in-Ends.ensures.3) (obey_three c.args.words.now problem exec is) (λ e. omega (arith, e)))
+
+pub returns-in-Ends-clause-solve : goal.returns-in-Ends-clause-solve
+returns-in-Ends-clause-solve g c = λ problem is. absurd (other_length c.args.words.now 4 2 (ends_four c.args.words.now _ _ _ c.in-Ends.ensures.3) (solve_two c.args.words.now problem is) (λ e. omega (arith, e)))
+
+pub returns-in-Ends-clause-ends : goal.returns-in-Ends-clause-ends
+returns-in-Ends-clause-ends g c = λ problem first second is. ends_by c.args.words.now _ _ _ problem first second
+    (record { files = g.F.Files.content c.args.files.now; read_faults = g.F.Files.faults c.args.files.now; absences = g.F.Files.absences c.args.files.now; written = g.O.Sink.written c.args.out.now; write_faults = g.O.Sink.faults c.args.out.now })
+    (record { files = g.F.Files.content c.ends.new.files; read_faults = g.F.Files.faults c.ends.new.files; absences = g.F.Files.absences c.ends.new.files; written = g.O.Sink.written c.ends.new.out; write_faults = g.O.Sink.faults c.ends.new.out })
+    _ c.word-in-Ends.ensures c.word-in-Ends-2.ensures c.word-in-Ends-3.ensures is c.ends.ensures.ended
+
+pub returns-in-Ends-clause-usage : goal.returns-in-Ends-clause-usage
+returns-in-Ends-clause-usage g c = λ none. absurd (none.ends _ _ _ c.in-Ends.ensures.3)
 
 pub returns-in-Unknown-clause-obey : goal.returns-in-Unknown-clause-obey
 returns-in-Unknown-clause-obey g c = λ problem exec is. absurd (c.in-Unknown.ensures.obey problem exec is)
 
 pub returns-in-Unknown-clause-solve : goal.returns-in-Unknown-clause-solve
 returns-in-Unknown-clause-solve g c = λ problem is. absurd (c.in-Unknown.ensures.solve problem is)
+
+pub returns-in-Unknown-clause-ends : goal.returns-in-Unknown-clause-ends
+returns-in-Unknown-clause-ends g c = λ problem first second is. absurd (c.in-Unknown.ensures.ends problem first second is)

@@ -1,6 +1,7 @@
-use Rattle.std.proofs.Common.{inr, map}
+use Rattle.std.proofs.Common.{map}
 use Rattle.cert.specs.Listed.{listed_cycle}
 use Rattle.cert.specs.CertificateText.{listing_of}
+use Rattle.tracesync.specs.Solve.{IsContradictionText}
 use Rattle.tracesync.proofs.Certifying.{cycle_named, cycle_shows, shown}
 use Rattle.tracesync.proofs.solve.write_contradiction.Goals as goal
 
@@ -9,5 +10,5 @@ write_cycle-requires g c = record { named = cycle_named c.args.p.now c.events.en
 
 pub returns-clause-ok : goal.returns-clause-ok
 returns-clause-ok g c =
-    shown c.write_cycle.result _ _ c.args.p.now (listed_cycle (listing_of c.args.p.now) (map (λ a. (a.name, a.weight)) c.args.steps.now))
-    (inr (cycle_shows c.args.p.now c.readings.result.now c.readings.ensures c.args.steps.now c.requires)) c.write_cycle.ensures.ok
+    shown c.write_cycle.result (IsContradictionText c.args.p.now) _ _ (listed_cycle (listing_of c.args.p.now) (map (λ a. (a.name, a.weight)) c.args.steps.now))
+    (cycle_shows c.args.p.now c.readings.result.now c.readings.ensures c.args.steps.now c.requires) c.write_cycle.ensures.ok

@@ -1,7 +1,7 @@
-use Rattle.std.proofs.Common.{inl}
 use Rattle.difference_bounds.specs.Executions.{at}
 use Rattle.cert.specs.Listed.{listed_run}
 use Rattle.cert.specs.CertificateText.{listing_of}
+use Rattle.tracesync.specs.Solve.{IsEarliestText}
 use Rattle.tracesync.proofs.Certifying.{nodes_valued, run_shows, shown}
 use Rattle.tracesync.proofs.solve.write_earliest.Goals as goal
 
@@ -10,5 +10,5 @@ write_run-requires-clause-one_each g c = nodes_valued c.args.p.now c.readings.re
 
 pub returns-clause-ok : goal.returns-clause-ok
 returns-clause-ok g c =
-    shown c.write_run.result _ _ c.args.p.now (listed_run (listing_of c.args.p.now) (at c.args.e.now.values))
-    (inl (run_shows c.args.p.now c.readings.result.now c.readings.ensures c.args.g.now c.args.e.now c.requires)) c.write_run.ensures.ok
+    shown c.write_run.result (IsEarliestText c.args.p.now) _ _ (listed_run (listing_of c.args.p.now) (at c.args.e.now.values))
+    (run_shows c.args.p.now c.readings.result.now c.readings.ensures c.args.g.now c.args.e.now c.requires) c.write_run.ensures.ok

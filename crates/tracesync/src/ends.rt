@@ -1,0 +1,141 @@
+// The interval and the order of two events, or a contradiction.
+ghost use Rattle.std.specs.Prelude.{◌≡◌, ◌<◌, ◌⊎◌, ℕ, length, IfSome, IfNone};
+ghost use Rattle.problem_model.specs.declared.items.Node.TheVariants as nodes;
+ghost use Rattle.problem_model.specs.Problem.{ProblemLists};
+ghost use Rattle.intervals.specs.Ends.{FitsPair};
+ghost use Rattle.intervals.specs.Executions.{IsPairOf};
+ghost use Rattle.solver.specs.Solution.{IsSolved, HasContradiction, IsSolution};
+ghost use Rattle.tracesync.specs.Ends.{IsNamedAt, IsUnknown, EndsAnswered, Ended};
+
+use crate::ending::{finish, stop};
+use crate::print::interval_line;
+use crate::solve::write_contradiction;
+use crate::status::Status;
+use crate::texts::problem_in;
+use earliest::Earliest;
+use intervals::{ends_from, order_of};
+use ports::{Failed, Files, Sink};
+use problem::Problem;
+use reaches::pair_of;
+use row_pool::Pair;
+use solver::Solution;
+use std::alloc::Global;
+use sync_graph::{Arc, Graph};
+
+// The place of the event of a name.
+fn event_of(p: &Problem, name: &[u8]) -> Option<u32>
+    ensures some { IfSome result (λ place. IsNamedAt p.now place name.now) }
+    ensures none { IfNone result (IsUnknown p.now name.now) }
+{
+    for (place, event) in p.events().iter().enumerate() {
+        if event.name.bytes() == name {
+            return Some(place as u32);
+        }
+    }
+    None
+}
+
+// Prints the interval and the order of two events, by their greatest differences in both directions.
+fn answer<O: Sink>(alloc: Global, out: &mut O, pair: Pair) -> Status
+    requires { FitsPair pair }
+    ensures { (p : ProblemLists) (from to : ℕ) → IsPairOf p (nodes.Event from) (nodes.Event to) pair
+        → EndsAnswered (O.written out.old) (O.written out.new) (O.faults out.old) (O.faults out.new) p from to result }
+{
+    let ends = ends_from(pair);
+    let order = order_of(&ends);
+    match interval_line(alloc, &ends, order) {
+        Ok(line) => finish(out, &line, Status::Done),
+        Err(_) => Status::Memory,
+    }
+}
+
+// The places of the events of two names.
+fn events_of(p: &Problem, first: &str, second: &str) -> Option<(u32, u32)>
+    ensures some { IfSome result (λ places. IsNamedAt p.now places.0 first.now × IsNamedAt p.now places.1 second.now) }
+    ensures none { IfNone result (IsUnknown p.now first.now ⊎ IsUnknown p.now second.now) }
+{
+    let from = event_of(p, first.as_bytes())?;
+    let to = event_of(p, second.as_bytes())?;
+    Some((from, to))
+}
+
+// Prints the interval and the order of two events of a problem that has an execution.
+fn interval<O: Sink>(
+    alloc: Global,
+    p: &Problem,
+    g: &Graph,
+    e: &Earliest,
+    from: u32,
+    to: u32,
+    out: &mut O,
+) -> Status
+    requires solved { IsSolved p.now g.now e.now }
+    requires from { from < length p.now.events }
+    requires to { to < length p.now.events }
+    ensures { EndsAnswered (O.written out.old) (O.written out.new) (O.faults out.old) (O.faults out.new) p.now from to result }
+{
+    match pair_of(alloc, p, g, e, from, to) {
+        Ok(pair) => answer(alloc, out, pair),
+        Err(_) => Status::Memory,
+    }
+}
+
+// Prints the certificate of a contradiction, whichever events were asked for.
+fn contradict<O: Sink>(p: &Problem, steps: &[Arc], out: &mut O) -> Status
+    requires { HasContradiction p.now steps.now }
+    ensures { (from to : ℕ) → EndsAnswered (O.written out.old) (O.written out.new) (O.faults out.old) (O.faults out.new) p.now from to result }
+{
+    match write_contradiction(p, steps, out) {
+        Ok(()) => Status::Done,
+        Err(Failed) => Status::WriteFault,
+    }
+}
+
+// Prints what a solution says of two events.
+fn conclude<O: Sink>(
+    alloc: Global,
+    p: &Problem,
+    solution: &Solution,
+    from: u32,
+    to: u32,
+    out: &mut O,
+) -> Status
+    requires solution { IsSolution p.now solution.now }
+    requires from { from < length p.now.events }
+    requires to { to < length p.now.events }
+    ensures { EndsAnswered (O.written out.old) (O.written out.new) (O.faults out.old) (O.faults out.new) p.now from to result }
+{
+    match solution {
+        Solution::Execution(g, e) => interval(alloc, p, g, e, from, to, out),
+        Solution::Contradiction(steps) => contradict(p, steps, out),
+    }
+}
+
+/// The least and the greatest difference of the real times of two events of the problem in a file, over all
+/// executions, and their order; or a contradiction where there is no execution.
+pub fn ends<F: Files, O: Sink>(
+    alloc: Global,
+    files: &mut F,
+    problem: &str,
+    first: &str,
+    second: &str,
+    out: &mut O,
+) -> Status
+    ensures ended { Ended problem.now first.now second.now
+        (record { files = F.content files.old; read_faults = F.faults files.old; absences = F.absences files.old; written = O.written out.old; write_faults = O.faults out.old })
+        (record { files = F.content files.new; read_faults = F.faults files.new; absences = F.absences files.new; written = O.written out.new; write_faults = O.faults out.new })
+        result }
+    ensures same { F.content files.new ≡ F.content files.old }
+{
+    let p = match problem_in(alloc, files, problem) {
+        Ok(p) => p,
+        Err(unread) => return stop(alloc, out, unread, b"problem", Status::BadProblem),
+    };
+    let Some((from, to)) = events_of(&p, first, second) else {
+        return finish(out, b"unknown event\n", Status::UnknownEvent);
+    };
+    match solver::solve(alloc, &p) {
+        Ok(solution) => conclude(alloc, &p, &solution, from, to, out),
+        Err(_) => Status::Memory,
+    }
+}
