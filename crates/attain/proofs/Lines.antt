@@ -28,7 +28,7 @@ zip_at (a ∷ xs) [] k x y at at' = absurd cc
 zip_at (a ∷ xs) (b ∷ ys) zero x y at at' = let first : a ≡ x = cc in let second : b ≡ y = cc in rw (first, second) refl
 zip_at (a ∷ xs) (b ∷ ys) (suc k) x y at at' = zip_at xs ys k x y at at'
 
-map_at : {X Y : Type 0} (f : X → Y) (xs : List X) (k : ℕ) (x : X) → slice_get xs k ≡ Some x → slice_get (map f xs) k ≡ Some (f x)
+pub map_at : {X Y : Type 0} (f : X → Y) (xs : List X) (k : ℕ) (x : X) → slice_get xs k ≡ Some x → slice_get (map f xs) k ≡ Some (f x)
 map_at f [] k x at = absurd cc
 map_at f (a ∷ xs) zero x at = let same : a ≡ x = cc in rw same refl
 map_at f (a ∷ xs) (suc k) x at = map_at f xs k x at

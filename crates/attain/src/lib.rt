@@ -3,6 +3,7 @@
 #![tactic(auto)]
 
 mod cycle;
+pub mod laws;
 mod run;
 #[cfg(test)]
 mod tests;
