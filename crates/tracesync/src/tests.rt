@@ -1,5 +1,6 @@
 use crate::run::run;
 use crate::status::Status;
+use atto::{NsText, write_decimal};
 use ports::{MemFiles, MemSink, MemSource, Words};
 use std::alloc::{AllocError, Global};
 use std::test::Fail;
@@ -392,6 +393,13 @@ fn intervals_are_printed(rt: HostRuntime) -> Result<(), Fail> {
             Status::Done,
             "certificate 1\ncycle\nstep early p 0.000000000\nstep late q 0.000000000\nstep delay-least p q -2.000000000\nend\n",
         ),
+        (
+            "problem 1\nclock a 0 0 0 0\nclock b 0 0 0 0\nevent a#1 a 100\nevent a#2 a 195\nevent b#1 b 250\nevent b#2 b 300\nmessage a#1 b#1 10 20\nmessage b#2 a#2 10 20\nend\n",
+            "a#1",
+            "b#1",
+            Status::Done,
+            "certificate 1\ncycle\nstep early a#2 0.000000000\nstep span-least a 100 195 -95.000000000\nstep late a#1 0.000000000\nstep delay-most a#1 b#1 20.000000000\nstep early b#1 0.000000000\nstep span-most b 250 300 50.000000000\nstep late b#2 0.000000000\nstep delay-most b#2 a#2 20.000000000\nend\n",
+        ),
         (CROSSED, "z", "q", Status::UnknownEvent, "unknown event\n"),
         ("problem 2\n", "p", "q", Status::BadProblem, "problem 1 1\n"),
     ] {
@@ -399,6 +407,78 @@ fn intervals_are_printed(rt: HostRuntime) -> Result<(), Fail> {
             ends_of_so(rt.alloc(), problem, first, second, status, printed)?,
             "at {problem}{first} {second}"
         );
+    }
+    Ok(())
+}
+
+// A text of as many clocks as a problem may have, and then these lines.
+fn many_clocks(alloc: Global, lines: &str) -> Result<Vec<u8>, AllocError> {
+    let mut text = Vec::from_slice(alloc, b"problem 1\n")?;
+    let mut number = NsText::new();
+    for k in 0..65_536 {
+        write_decimal(k, &mut number);
+        text.extend_from_slice(b"clock c")?;
+        text.extend_from_slice(number.as_slice())?;
+        text.extend_from_slice(b" 0 0 0 0\n")?;
+    }
+    text.extend_from_slice(lines.as_bytes())?;
+    Ok(text)
+}
+
+// Whether this text is refused so.
+fn refused_so(alloc: Global, text: &[u8], printed: &str) -> Result<bool, AllocError> {
+    let mut files = MemFiles::new(alloc, &[])?;
+    files.put("p", text)?;
+    ends_so(
+        alloc,
+        &["solve", "p"],
+        &mut files,
+        &[],
+        Status::BadProblem,
+        printed,
+    )
+}
+
+// Each line has two faults. Syntax counts before Name, Name before Range, Range before Limit.
+#[test]
+fn the_first_of_two_faults(rt: HostRuntime) -> Result<(), Fail> {
+    let alloc = rt.alloc();
+    for (text, printed) in [
+        (
+            "problem 1\nclock c 0 0 0 0\nevent p d 01\nend\n",
+            "problem 1 3\n",
+        ),
+        (
+            "problem 1\nclock c 0 0 0 0\nevent p c 4611686018427387904 \nend\n",
+            "problem 1 3\n",
+        ),
+        (
+            "problem 1\nclock c 0 0 0 0\nevent p d 4611686018427387904\nend\n",
+            "problem 2 3\n",
+        ),
+        (
+            "problem 1\nclock c 0 0 0 0\nclock c 1000000000 0 0 0\nend\n",
+            "problem 2 3\n",
+        ),
+        (
+            "problem 1\nclock c 0 0 0 0\nevent p c 0\nmessage p q 4611686018427387904 none\nend\n",
+            "problem 2 4\n",
+        ),
+        (
+            "problem 1\nclock c 0 0 0 0\nevent p c 0\nevent q c 0\nmessage p q 4611686018427387904 00\nend\n",
+            "problem 1 5\n",
+        ),
+    ] {
+        assert!(rt; refused_so(alloc, text.as_bytes(), printed)?, "at {text}");
+    }
+    for (line, printed) in [
+        ("clock d 0 0 0 0\n", "problem 4 65538\n"),
+        ("clock d 0 0 0\n", "problem 1 65538\n"),
+        ("clock c7 0 0 0 0\n", "problem 2 65538\n"),
+        ("clock d 1000000000 0 0 0\n", "problem 3 65538\n"),
+    ] {
+        let text = many_clocks(alloc, line)?;
+        assert!(rt; refused_so(alloc, &text, printed)?, "at {line}");
     }
     Ok(())
 }
