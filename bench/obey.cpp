@@ -118,14 +118,7 @@ std::optional<std::string> first_broken(const Problem &problem, const std::vecto
 
 // The program. -------------------------------------------------------------------------------------------------------
 
-int obey(const char *problem_path, const char *execution_path) {
-    const auto problem_text = text_in(problem_path);
-    Problem problem;
-    try {
-        problem = ProblemReader{problem_text}.read();
-    } catch (const Refusal &refusal) {
-        return refused("problem", refusal, 4);
-    }
+int judge(const Problem &problem, const char *execution_path) {
     const auto execution_text = text_in(execution_path);
     std::vector<Units> values;
     try {
@@ -149,7 +142,7 @@ int main(int count, char **words) {
         return 2;
     }
     try {
-        return obey(words[2], words[3]);
+        return with_problem(words[2], [&](const Problem &problem) { return judge(problem, words[3]); });
     } catch (const ReadFault &) {
         std::cout << "read fault\n";
         return 7;

@@ -404,6 +404,18 @@ inline int refused(const char *kind, const Refusal &refusal, int status) {
     return status;
 }
 
+// A run with the status 4 of a refused problem text, or with what is done with the problem in the file.
+template <typename Use> int with_problem(const char *path, Use use) {
+    const auto text = text_in(path);
+    Problem problem;
+    try {
+        problem = ProblemReader{text}.read();
+    } catch (const Refusal &refusal) {
+        return refused("problem", refusal, 4);
+    }
+    return use(problem);
+}
+
 } // namespace bench
 
 #endif

@@ -132,14 +132,7 @@ class Solver {
     std::optional<std::uint32_t> on_cycle_;
 };
 
-int solve(const char *path) {
-    const auto text = text_in(path);
-    Problem problem;
-    try {
-        problem = ProblemReader{text}.read();
-    } catch (const Refusal &refusal) {
-        return refused("problem", refusal, 4);
-    }
+int solve(const Problem &problem) {
     const auto arcs = short_list(problem);
     Solver solver{problem.events.size() + problem.readings.size(), arcs};
     if (solver.solve()) {
@@ -158,7 +151,7 @@ int main(int count, char **words) {
         return 2;
     }
     try {
-        return solve(words[2]);
+        return with_problem(words[2], solve);
     } catch (const ReadFault &) {
         std::cout << "read fault\n";
         return 7;

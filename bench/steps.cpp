@@ -283,14 +283,7 @@ int solve(const Problem &problem) {
     return 0;
 }
 
-int run(std::string_view command, const char *path) {
-    const auto text = text_in(path);
-    Problem problem;
-    try {
-        problem = ProblemReader{text}.read();
-    } catch (const Refusal &refusal) {
-        return refused("problem", refusal, 4);
-    }
+int run(std::string_view command, const Problem &problem) {
     return command == "count" ? count(problem) : solve(problem);
 }
 
@@ -303,7 +296,7 @@ int main(int count, char **words) {
         return 2;
     }
     try {
-        return run(command, words[2]);
+        return with_problem(words[2], [&](const Problem &problem) { return run(command, problem); });
     } catch (const ReadFault &) {
         std::cout << "read fault\n";
         return 7;
