@@ -8,3 +8,4 @@ pub mod OneLine
 pub mod Steps
 pub mod Answering
 pub mod AllReadings
+pub mod Searching

@@ -45,6 +45,10 @@ HasClock p k name = slice_get (map (λ c. c.name) p.clocks) k ≡ Some name
 abbrev pub HasEvent : ProblemLists → ℕ → List ℕ → Type 0
 HasEvent p k name = slice_get (map (λ e. e.name) p.events) k ≡ Some name
 
+-- the message at this place goes from the one event to the other
+abbrev pub HasMessage : ProblemLists → ℕ → ℕ → ℕ → Type 0
+HasMessage p k send receive = slice_get {X = ℕ × ℕ} (map (λ m. (m.send, m.receive)) p.messages) k ≡ Some (send, receive)
+
 -- a name of its own; a clock that is known; two known events that no message joins in this order
 abbrev pub NamesFit : ProblemLists → Line → Type 0
 NamesFit p (ClockLine name short long early late) = All (λ c. c.name ≢ name) p.clocks

@@ -1,7 +1,7 @@
 // The lists of a problem with the look-ups of their names.
 ghost use Rattle.std.specs.Prelude.{◌≡◌, ◌≢◌, ◌↔◌, ◌<◌, ℕ, IsTrue, OnOk, OnErr, IfSome, IfNone, length};
 ghost use Rattle.problem_model.specs.Problem.{IsProblem, MessageFits, empty_problem};
-ghost use Rattle.problem.specs.Line.{HasClock, HasEvent};
+ghost use Rattle.problem.specs.Line.{HasClock, HasEvent, HasMessage};
 ghost use Rattle.problem.specs.Growing.{IsNewClock, IsNewEvent, IsNewPair, IsNewMessage, HasRoomForClock, HasRoomForEvent, HasRoomForMessage, Allows, with_clock, with_event, with_message};
 
 use crate::errors::PushError;
@@ -90,6 +90,15 @@ impl Items {
         ensures lawful { IsProblem self.now }
     {
         let place = self.event_names.place(name)?;
+        Some(place as u32)
+    }
+
+    /// The place of the message from one event to another.
+    pub fn message_place(&self, send: u32, receive: u32) -> Option<u32>
+        ensures some { IfSome result (λ k. HasMessage self.now k send receive) }
+        ensures none { IfNone result ((k : ℕ) → HasMessage self.now k send receive → ⊥) }
+    {
+        let place = self.pairs.place(send, receive)?;
         Some(place as u32)
     }
 

@@ -78,6 +78,7 @@ impl Pairs {
     pub fn place(&self, send: u32, receive: u32) -> Option<usize>
         ensures some { IfSome result (λ k. slice_get self.now k ≡ Some (send, receive)) }
         ensures none { IfNone result ((k : ℕ) → slice_get self.now k ≡ Some (send, receive) → ⊥) }
+        ensures within { IfSome result (λ k. k < length self.now) }
     {
         self.set.get_index_of(&(send, receive))
     }

@@ -1,14 +1,16 @@
 // A problem: its lists and its readings.
-ghost use Rattle.std.specs.Prelude.{◌≡◌, ◌↔◌, OnOk, OnErr, IfOk, IsErrOf};
-ghost use Rattle.problem_model.specs.Nodes.{AreReadings};
+ghost use Rattle.std.specs.Prelude.{◌≡◌, ◌↔◌, ℕ, List, slice_get, Some, IfSome, IfNone, OnOk, OnErr, IfOk, IsErrOf};
+ghost use Rattle.problem_model.specs.Bounds.{IsReading};
+ghost use Rattle.problem_model.specs.Nodes.{Reading, AreReadings};
 ghost use Rattle.problem_model.specs.Problem.{IsProblem, empty_problem};
+ghost use Rattle.problem.specs.Line.{HasClock, HasEvent, HasMessage};
 ghost use Rattle.problem.specs.Growing.{IsNewClock, IsNewEvent, IsNewMessage, HasRoomForClock, HasRoomForEvent, HasRoomForMessage, with_clock, with_event, with_message};
 
 use crate::errors::PushError;
 use crate::items::Items;
-use crate::readings::{insert_reading, readings_of};
+use crate::readings::{insert_reading, place_of, readings_of};
 use atto::Nano;
-use problem_model::{Clock, Event, Message};
+use problem_model::{Clock, Event, Message, Name};
 use std::alloc::{AllocError, Global};
 use std::marker::Model;
 
@@ -78,6 +80,42 @@ impl Problem {
         ensures { AreReadings self.now result.now }
     {
         &self.readings
+    }
+
+    /// The place of the clock of this name, where there is one. Look-ups take no memory.
+    pub fn clock_place(&self, name: &Name) -> Option<u32>
+        ensures some { IfSome result (λ k. HasClock self.now k name.now) }
+        ensures none { IfNone result ((k : ℕ) → HasClock self.now k name.now → ⊥) }
+    {
+        self.items.clock_place(name)
+    }
+
+    /// The place of the event of this name, where there is one.
+    pub fn event_place(&self, name: &Name) -> Option<u32>
+        ensures some { IfSome result (λ k. HasEvent self.now k name.now) }
+        ensures none { IfNone result ((k : ℕ) → HasEvent self.now k name.now → ⊥) }
+    {
+        self.items.event_place(name)
+    }
+
+    /// The place of the message from one event to another, where there is one.
+    pub fn message_place(&self, send: u32, receive: u32) -> Option<u32>
+        ensures some { IfSome result (λ k. HasMessage self.now k send receive) }
+        ensures none { IfNone result ((k : ℕ) → HasMessage self.now k send receive → ⊥) }
+    {
+        self.items.message_place(send, receive)
+    }
+
+    /// The place of a reading among the readings, where the clock has the stamp.
+    pub fn reading_place(&self, clock: u32, stamp: Nano) -> Option<u32>
+        ensures some { IfSome result (λ k. (readings : List Reading) → AreReadings self.now readings → slice_get readings k ≡ Some (clock, stamp)) }
+        ensures none { IfNone result (IsReading self.now clock stamp → ⊥) }
+    {
+        let _ = self.items.events();
+        match place_of(&self.readings, clock, stamp) {
+            Some(place) => Some(place as u32),
+            None => None,
+        }
     }
 
     /// Adds a clock. Answers `Name` where its name is no clock name or is that of another clock, else `Limit`

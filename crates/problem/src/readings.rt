@@ -1,7 +1,7 @@
 // The readings of a problem: the clocks and stamps of its events, without repeats.
-ghost use Rattle.std.specs.Prelude.{◌≡◌, ◌<◌, ◌++◌, ◌∷◌, [], ℕ, map, AllPairs, IfOk};
+ghost use Rattle.std.specs.Prelude.{◌≡◌, ◌<◌, ◌++◌, ◌∷◌, [], ℕ, map, AllPairs, Contains, slice_get, Some, IfSome, IfNone, IfOk};
 ghost use Rattle.std.specs.Vec.{vec_len, vec_capacity};
-ghost use Rattle.problem_model.specs.Nodes.{AreReadings, ComesBefore};
+ghost use Rattle.problem_model.specs.Nodes.{Reading, AreReadings, ComesBefore};
 ghost use Rattle.problem.specs.Growing.{AddsReading, reading_of};
 
 use crate::items::Items;
@@ -41,4 +41,16 @@ pub fn readings_of(alloc: Global, items: &Items) -> Result<Vec<(u32, Nano)>, All
     readings.sort_unstable();
     readings.dedup();
     Ok(readings)
+}
+
+/// The place of a reading among readings in their order, where it is there.
+pub fn place_of(readings: &[(u32, Nano)], clock: u32, stamp: Nano) -> Option<usize>
+    requires rising { AllPairs ComesBefore readings.now }
+    ensures some { IfSome result (λ k. slice_get {X = Reading} readings.now k ≡ Some (clock, stamp)) }
+    ensures none { IfNone result (Contains {X = Reading} readings.now (clock, stamp) → ⊥) }
+{
+    match readings.binary_search(&(clock, stamp)) {
+        Ok(place) => Some(place),
+        Err(_) => None,
+    }
 }
