@@ -11,7 +11,7 @@ use Rattle.difference_bounds.specs.Tables.{ArcTable, ObeysAll}
 use Rattle.difference_bounds.proofs.RowStarts.{own_candidate}
 use Rattle.difference_bounds.proofs.RowsUnderWay.{start_put}
 use Rattle.frontier.specs.Keys.{IsEmpty}
-use Rattle.distances.specs.Row.{unknown, cell_at, cells_of, nothing_known}
+use Rattle.row_pool.specs.Row.{unknown, cell_at, cells_of, nothing_known}
 use Rattle.distances.specs.Relaxed.{waits_of, AreKeyed}
 use Rattle.distances.proofs.Puts.{put_is, none_waits, keyed_none, keyed_put}
 

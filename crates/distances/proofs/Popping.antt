@@ -12,7 +12,7 @@ use Rattle.difference_bounds.specs.Tables.{ArcTable, ObeysAll}
 use Rattle.difference_bounds.proofs.RowsUnderWay.{under_way_step, under_way_fewer, under_way_row, under_way_bounds}
 use Rattle.frontier.specs.Keys.{IsEmpty, IsLeastEntry}
 use Rattle.sync_graph.specs.Graph.{GraphLists, IsGraph}
-use Rattle.distances.specs.Row.{cell_at, cells_of, nothing_known}
+use Rattle.row_pool.specs.Row.{cell_at, cells_of, nothing_known}
 use Rattle.distances.specs.Facing.{facing, potential}
 use Rattle.distances.specs.Relaxed.{waits_of, AreKeyed}
 use Rattle.distances.proofs.Directions.{facing_within, facing_light, potential_small}

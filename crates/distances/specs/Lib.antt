@@ -1,3 +1,2 @@
-pub mod Row
 pub mod Facing
 pub mod Relaxed

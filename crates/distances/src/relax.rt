@@ -5,7 +5,7 @@ ghost use Rattle.difference_bounds.specs.Numbers.{IsUpTo};
 ghost use Rattle.difference_bounds.specs.RowPops.{IsRowStep};
 ghost use Rattle.frontier.specs.Keys.{Waits};
 ghost use Rattle.sync_graph.specs.Lists.{list_at};
-ghost use Rattle.distances.specs.Row.{cell_at, cells_of};
+ghost use Rattle.row_pool.specs.Row.{cell_at, cells_of};
 ghost use Rattle.distances.specs.Facing.{facing, followed, end_of, potential};
 ghost use Rattle.distances.specs.Relaxed.{waits_of, AreKeyed, IsShorter, IsRelaxedBy};
 

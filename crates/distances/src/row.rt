@@ -5,7 +5,7 @@ ghost use Rattle.difference_bounds.specs.Tables.{reversed_table};
 ghost use Rattle.frontier.specs.Keys.{IsEmpty};
 ghost use Rattle.sync_graph.specs.Graph.{table_of};
 ghost use Rattle.earliest.specs.Values.{IsEarliestOf};
-ghost use Rattle.distances.specs.Row.{unknown, cells_of};
+ghost use Rattle.row_pool.specs.Row.{unknown, cells_of};
 ghost use Rattle.distances.specs.Facing.{facing};
 
 use crate::relax::{key_of, put_cell};
@@ -14,13 +14,6 @@ use earliest::Earliest;
 use frontier::Frontier;
 use row_pool::Cell;
 use sync_graph::Graph;
-
-// The cell of a node that has no distance.
-const UNKNOWN: Cell = Cell {
-    value: 0,
-    parent: u32::MAX,
-    known: false,
-};
 
 /// Fills a row with the shortest distances from node `p`, in units of 1e-9 ns: each cell has the greatest difference
 /// from `p` to its node, and the last arc of a path that has it. Cells of nodes that no path reaches, and those past
@@ -62,7 +55,7 @@ pub fn row_to(g: &Graph, e: &Earliest, p: u32, row: &mut [Cell], front: &mut Fro
 fn clear(row: &mut [Cell])
     ensures { row.new ≡ replicate (length row.old) unknown }
 {
-    row.fill(UNKNOWN);
+    row.fill(Cell::unknown());
 }
 
 // The row of `p` over arcs that are followed outward, or else back.

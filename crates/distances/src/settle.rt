@@ -5,7 +5,7 @@ ghost use Rattle.difference_bounds.specs.Parents.{IsRow};
 ghost use Rattle.difference_bounds.specs.RowPops.{IsUnderWay};
 ghost use Rattle.difference_bounds.specs.Tables.{ObeysAll};
 ghost use Rattle.frontier.specs.Keys.{IsEmpty};
-ghost use Rattle.distances.specs.Row.{cells_of, nothing_known};
+ghost use Rattle.row_pool.specs.Row.{cells_of, nothing_known};
 ghost use Rattle.distances.specs.Facing.{facing, potential};
 ghost use Rattle.distances.specs.Relaxed.{waits_of, AreKeyed};
 

@@ -26,7 +26,7 @@ use Rattle.earliest.specs.Values.{Values}
 use Rattle.intervals.specs.Ends.{IsSmall, FitsReach}
 use Rattle.intervals.specs.Executions.{IsReachOf}
 use Rattle.solver.specs.Solution.{IsSolved}
-use Rattle.reaches.specs.Reach.{known_reach, reach_of}
+use Rattle.row_pool.specs.Reach.{known_reach, reach_of}
 
 -- ---- sizes
 times_low : (n h : ℕ) → n ≤ 2097152 → n * h ≤ 2097152 * h

@@ -2,11 +2,11 @@
 ghost use Rattle.std.specs.Prelude.{◌≡◌, ◌<◌, ◌≤◌, length, IfOk};
 ghost use Rattle.problem_model.specs.declared.items.Node.TheVariants as nodes;
 ghost use Rattle.frontier.specs.Keys.{IsEmpty};
-ghost use Rattle.distances.specs.Row.{cells_of};
+ghost use Rattle.row_pool.specs.Row.{cells_of};
 ghost use Rattle.intervals.specs.Ends.{FitsPair};
 ghost use Rattle.intervals.specs.Executions.{IsPairOf};
 ghost use Rattle.solver.specs.Solution.{IsSolved};
-ghost use Rattle.reaches.specs.Reach.{reach_of};
+ghost use Rattle.row_pool.specs.Reach.{reach_of};
 
 use distances::{row_from, row_to};
 use earliest::Earliest;
@@ -16,18 +16,11 @@ use row_pool::{Cell, Pair, Reach};
 use std::alloc::{AllocError, Global};
 use sync_graph::Graph;
 
-// The cell of a node that has no distance.
-const UNKNOWN: Cell = Cell {
-    value: 0,
-    parent: u32::MAX,
-    known: false,
-};
-
 // A row with a cell for each node.
 fn new_row(alloc: Global, nodes: u32) -> Result<Vec<Cell>, AllocError>
     ensures { IfOk result (λ row. length row.items ≡ nodes) }
 {
-    vec![in alloc; UNKNOWN; nodes as usize]
+    vec![in alloc; Cell::unknown(); nodes as usize]
 }
 
 // An empty frontier with room for so many nodes.
@@ -45,12 +38,7 @@ fn reach_in(row: &[Cell], node: u32) -> Reach
     requires { node < length row.now }
     ensures { result ≡ reach_of (cells_of row.now) node }
 {
-    let cell = &row[node as usize];
-    if cell.known {
-        Reach::At(cell.value)
-    } else {
-        Reach::Never
-    }
+    row[node as usize].reach()
 }
 
 // The greatest differences of two events, by rows that are made in this one.

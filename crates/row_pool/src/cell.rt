@@ -1,4 +1,7 @@
 // What a row says of one node.
+ghost use Rattle.std.specs.Prelude.{◌≡◌};
+ghost use Rattle.row_pool.specs.Row.{unknown};
+ghost use Rattle.row_pool.specs.Reach.{known_reach};
 
 /// The distance of one node in a row.
 #[derive(Clone, Copy, Debug, PartialEq, Eq)]
@@ -10,6 +13,30 @@ pub struct Cell {
     pub parent: u32,
     /// Whether there is a path.
     pub known: bool,
+}
+
+impl Cell {
+    /// The cell of a node that no path reaches: its value is 0, and it has no parent.
+    pub fn unknown() -> Cell
+        ensures { result ≡ unknown }
+    {
+        Cell {
+            value: 0,
+            parent: u32::MAX,
+            known: false,
+        }
+    }
+
+    /// The greatest difference that the row tells of the node: its distance, or none where no path reaches it.
+    pub fn reach(&self) -> Reach
+        ensures { result ≡ known_reach self.now.known self.now.value }
+    {
+        if self.known {
+            Reach::At(self.value)
+        } else {
+            Reach::Never
+        }
+    }
 }
 
 /// The greatest difference of two real times, over all executions.

@@ -2,5 +2,7 @@
 #![tactic(auto)]
 
 mod cell;
+#[cfg(test)]
+mod tests;
 
 pub use cell::{Cell, Pair, Reach};

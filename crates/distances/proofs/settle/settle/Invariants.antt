@@ -1,7 +1,7 @@
 use Rattle.std.proofs.Common.{◌≡◌, ◌-◌, ◌^◌, length}
 use Rattle.difference_bounds.specs.RowPops.{IsUnderWay}
 use Rattle.difference_bounds.specs.Sums.{done_sum}
-use Rattle.distances.specs.Row.{cells_of, nothing_known}
+use Rattle.row_pool.specs.Row.{cells_of, nothing_known}
 use Rattle.distances.specs.Facing.{facing, potential}
 use Rattle.distances.specs.Relaxed.{waits_of, AreKeyed}
 use Rattle.distances.proofs.settle.settle.Given as goal

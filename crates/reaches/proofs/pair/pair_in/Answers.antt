@@ -1,7 +1,7 @@
 use Rattle.std.proofs.Common.{sym, subst, arith}
 use Rattle.problem_model.specs.declared.items.Node.TheVariants as nodes
 use Rattle.problem_model.proofs.Places.{event_stands}
-use Rattle.distances.specs.Row.{cells_of}
+use Rattle.row_pool.specs.Row.{cells_of}
 use Rattle.intervals.specs.Ends.{FitsReach}
 use Rattle.intervals.specs.Executions.{IsReachOf}
 use Rattle.reaches.proofs.Reaching.{event_count, reach_there, reach_back, there_fits, back_fits}
