@@ -1,1 +1,7 @@
-pub mod Scanning
+pub mod Ends
+pub mod Filling
+pub mod Lowering
+pub mod Moving
+pub mod Root
+pub mod Waiting
+pub mod Widening

@@ -1,5 +1,5 @@
--- Nodes that wait, each with a key: a list of optional keys, one for each node below the room.
-use Rattle.std.specs.Prelude.{◌≡◌, ℕ, ◌≤◌, ◌⊎◌, List, ℤ, ◌<ℤ◌, slice_get, Option, Some, None, int_lt, if◌then◌else◌}
+-- Nodes that wait, each with a key: a list of optional keys, of which the one at a place is the key of the node with that number.
+use Rattle.std.specs.Prelude.{◌≡◌, ℕ, ◌≤◌, ◌⊎◌, List, ℤ, ◌<ℤ◌, slice_get, Option, Some, None}
 
 -- the node waits with this key
 abbrev pub Waits : List (Option ℤ) → ℕ → ℤ → Type 0
@@ -17,13 +17,7 @@ IsEmpty front = (node : ℕ) (key : ℤ) → Waits front node key → ⊥
 abbrev pub ComesFirst : ℤ → ℕ → ℤ → ℕ → Type 0
 ComesFirst key node other_key other = (key <ℤ other_key) ⊎ ((key ≡ other_key) × (node ≤ other))
 
--- the entry of least key and, among these, least node
+-- the node waits with this key, and whatever waits does not come before it
 pub record IsLeastEntry (front : List (Option ℤ)) (node : ℕ) (key : ℤ) : Type 0 where
   pub waits : Waits front node key
   pub least : (other : ℕ) (other_key : ℤ) → Waits front other other_key → ComesFirst key node other_key other
-
--- the entry of lesser key, the earlier one at equal keys
-abbrev pub better_of : Option (ℕ × ℤ) → ℕ → Option ℤ → Option (ℕ × ℤ)
-better_of best node None = best
-better_of None node (Some key) = Some (node, key)
-better_of (Some entry) node (Some key) = if int_lt key entry.1 then Some (node, key) else Some entry

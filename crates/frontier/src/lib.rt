@@ -1,81 +1,101 @@
 //! Nodes that wait for a solver, each with a key, of which the least is taken first.
 #![tactic(auto)]
 
+mod heap;
+mod order;
 #[cfg(test)]
 mod tests;
 
 ghost use Rattle.std.specs.Prelude.{◌≡◌, ◌+◌, ◌-◌, ◌<◌, ◌≤◌, ◌^◌, [], ◌++◌, length, replicate, IfNone, IfSome, OnOk, OnErr, List, ℤ, ◌≤ℤ◌, slice_set, slice_index_or, Option, Some, None};
-ghost use Rattle.frontier.specs.Keys.{Waits, IsFree, IsEmpty, IsLeastEntry, better_of};
+ghost use Rattle.frontier.specs.Keys.{Waits, IsFree, IsEmpty, IsLeastEntry};
 
+use heap::{remove_root, sift_up};
+use order::key_of_node;
 use std::alloc::{AllocError, Global};
 use std::marker::Model;
 
-/// A map from node to key. It is seen as a list of optional keys, one for each node below its room.
+/// The nodes that wait, each with its key. It is seen as a list as long as its room: at the place of each node its key,
+/// or none.
+///
+/// Beside the keys it has a heap of the nodes that wait, and the place of each of them there. So `put` and `lower` look
+/// at one node for each level of the heap, and `pop` at two. The heap's capacity is never less than the room.
 #[derive(Drop)]
 pub struct Frontier {
     keys: Vec<Option<i128>>,
+    heap: Vec<u32>,
+    places: Vec<u32>,
 }
 
 impl Model for Frontier {
-    ghost use Rattle.std.specs.Prelude.{List, Option, ℤ, length, ◌<◌, ◌^◌};
+    ghost use Rattle.std.specs.Prelude.{List, Option, ℤ, length, ◌<◌, ◌≤◌, ◌^◌, vec_capacity};
+    ghost use Rattle.frontier.specs.Heap.{IsHeap};
 
     ghost Value = { List (Option ℤ) };
 
     ghost view = { λ f. f.keys.items };
 
-    ghost invariant = { λ f. length f.keys.items < 2 ^ 32 };
+    ghost invariant = { λ f. (length f.keys.items < 2 ^ 32) × (length f.keys.items ≤ vec_capacity f.heap) × IsHeap f.keys.items f.heap.items f.places.items };
 }
 
 impl Frontier {
-    /// An empty map with room 0. It takes no memory.
+    /// Nothing waits, and there is room for no node. No memory is taken.
     pub fn new(alloc: Global) -> Frontier
         ensures { result ≡ [] }
     {
         Frontier {
             keys: Vec::new(alloc),
+            heap: Vec::new(alloc),
+            places: Vec::new(alloc),
         }
     }
 
-    /// Makes the room at least `nodes`; no key changes. Where memory is wanting all is as before.
+    /// Grows the room to `nodes`, if it is less. What waits goes on waiting. An `Err` comes only if memory does not
+    /// suffice, and then neither keys nor room are different.
     pub fn reserve(&mut self, nodes: u32) -> Result<(), AllocError>
         ensures ok { OnOk result (self.new ≡ self.old ++ replicate (nodes - length self.old) None) }
         ensures err { OnErr result (self.new ≡ self.old) }
     {
         let room = nodes as usize;
-        if self.keys.len() < room {
-            self.keys.resize(room, None)?;
+        if room <= self.keys.len() {
+            return Ok(());
         }
-        Ok(())
+        self.heap.reserve(room - self.heap.len())?;
+        self.places.resize(room, 0)?;
+        self.keys.resize(room, None)
     }
 
-    /// Takes all entries out. The room stays.
+    /// No node waits any more, and the room is the same.
     pub fn clear(&mut self)
         ensures { self.new ≡ replicate (length self.old) None }
     {
-        let room = self.keys.len();
-        self.keys.clear();
-        // The capacity stays, so this does not fail.
-        let _ = self.keys.resize(room, None);
+        while let Some(last) = self.heap.pop() {
+            self.keys[last as usize] = None;
+        }
     }
 
-    /// Puts a node in that is not there, and is below the room.
+    /// A free node waits from now on, with this key.
     pub fn put(&mut self, node: u32, key: i128)
         requires { IsFree self.old node }
         ensures { self.new ≡ slice_set self.old node (Some key) }
     {
+        let last = self.heap.len();
         self.keys[node as usize] = Some(key);
+        self.heap.push_reserved(node);
+        sift_up(&self.keys, &mut self.heap, &mut self.places, last, node);
     }
 
-    /// Lowers the key of a node, or leaves it.
+    /// Gives a node that waits a key that is no greater than the one it has.
     pub fn lower(&mut self, node: u32, key: i128)
         requires { (before : ℤ) × Waits self.old node before × (key ≤ℤ before) }
         ensures { self.new ≡ slice_set self.old node (Some key) }
     {
+        let hole = self.places[node as usize] as usize;
         let lowered = Some(key);
         self.keys[node as usize] = lowered;
+        sift_up(&self.keys, &mut self.heap, &mut self.places, hole, node);
     }
 
-    /// The key of a node that is there.
+    /// The key with which a node waits. It is `None` of any other node, also of one past the room.
     pub fn key(&self, node: u32) -> Option<i128>
         ensures { result ≡ slice_index_or self.now node None }
     {
@@ -85,46 +105,18 @@ impl Frontier {
         }
     }
 
-    /// Takes out the entry of least key and, among these, least node: the node and its key. `None`
-    /// exactly where no node waits.
+    /// Takes out the node that no other comes before, and gives it with its key: of the least keys it is the one whose
+    /// node has the least number. It is `None` if nothing waits, and only then.
     pub fn pop(&mut self) -> Option<(u32, i128)>
         ensures none { IfNone result (IsEmpty self.old) }
         ensures same { IfNone result (self.new ≡ self.old) }
         ensures least { IfSome result (λ entry. IsLeastEntry self.old entry.0 entry.1) }
         ensures taken { IfSome result (λ entry. self.new ≡ slice_set self.old entry.0 None) }
     {
-        let entry = least(&self.keys);
-        if let Some((node, _)) = entry {
-            self.keys[node as usize] = None;
-        }
-        entry
-    }
-}
-
-// The entry of least key and, among these, least node.
-fn least(keys: &[Option<i128>]) -> Option<(u32, i128)>
-    requires { length keys.now < 2 ^ 32 }
-    ensures none { IfNone result (IsEmpty keys.now) }
-    ensures some { IfSome result (λ entry. IsLeastEntry keys.now entry.0 entry.1) }
-{
-    let mut best = None;
-    for (i, key) in keys.iter().enumerate() {
-        best = better(best, i as u32, *key);
-    }
-    best
-}
-
-// The entry of lesser key: that so far, or that of the node, if it has a key.
-fn better(best: Option<(u32, i128)>, node: u32, key: Option<i128>) -> Option<(u32, i128)>
-    ensures { result ≡ better_of best node key }
-{
-    match (best, key) {
-        (None, Some(key)) => Some((node, key)),
-        (Some(entry), Some(key)) => if key < entry.1 {
-            Some((node, key))
-        } else {
-            Some(entry)
-        },
-        (best, None) => best,
+        let node = *self.heap.first()?;
+        let key = key_of_node(&self.keys, node);
+        self.keys[node as usize] = None;
+        remove_root(&self.keys, &mut self.heap, &mut self.places);
+        Some((node, key))
     }
 }

@@ -1,0 +1,105 @@
+// A heap of the nodes that wait, and the place of each. One place, the hole, is moved up or down to where a node belongs.
+ghost use Rattle.std.specs.Prelude.{◌≡◌, ◌≢◌, ℕ, ◌<◌, ◌^◌, length, slice_set, vec_capacity, IfNone, IfSome};
+ghost use Rattle.frontier.specs.Keys.{IsFree};
+ghost use Rattle.frontier.specs.Heap.{node_at, IsHeap, HasHole, IsWaiting, IsAhead, IsAheadBelow, IsBehindAbove, IsBelow};
+
+use crate::order::comes_first;
+
+/// Moves the hole up to where the node belongs, and puts the node there.
+pub fn sift_up(
+    keys: &[Option<i128>],
+    heap: &mut [u32],
+    places: &mut [u32],
+    mut hole: usize,
+    node: u32,
+)
+    requires few { length heap.old < 2 ^ 32 }
+    requires waits { IsWaiting keys.now node }
+    requires hole { HasHole keys.now heap.old places.old hole node }
+    requires ahead { IsAheadBelow keys.now heap.old hole node }
+    ensures { IsHeap keys.now heap.new places.new }
+{
+    while hole > 0 {
+        let above = (hole - 1) / 2;
+        let parent = heap[above];
+        if comes_first(keys, parent, node) {
+            break;
+        }
+        seat(heap, places, hole, parent);
+        hole = above;
+    }
+    seat(heap, places, hole, node);
+}
+
+/// Moves the hole down to where the node belongs, and puts the node there.
+pub fn sift_down(
+    keys: &[Option<i128>],
+    heap: &mut [u32],
+    places: &mut [u32],
+    mut hole: usize,
+    node: u32,
+)
+    requires few { length heap.old < 2 ^ 32 }
+    requires waits { IsWaiting keys.now node }
+    requires hole { HasHole keys.now heap.old places.old hole node }
+    requires behind { IsBehindAbove keys.now heap.old hole node }
+    ensures { IsHeap keys.now heap.new places.new }
+{
+    while let Some(below) = first_below(keys, heap, hole) {
+        let child = heap[below];
+        if comes_first(keys, node, child) {
+            break;
+        }
+        seat(heap, places, hole, child);
+        hole = below;
+    }
+    seat(heap, places, hole, node);
+}
+
+// Of the two places below another the one whose node comes out first.
+fn first_below(keys: &[Option<i128>], heap: &[u32], place: usize) -> Option<usize>
+    requires few { length heap.now < 2 ^ 32 }
+    requires place { place < length heap.now }
+    requires nodes { (k : ℕ) → k < length heap.now → k ≢ place → node_at heap.now k < length keys.now }
+    ensures none { IfNone result ((k : ℕ) → k < length heap.now → IsBelow k place → ⊥) }
+    ensures below { IfSome result (λ first. IsBelow first place) }
+    ensures within { IfSome result (λ first. first < length heap.now) }
+    ensures first { IfSome result (λ first. (k : ℕ) → k < length heap.now → IsBelow k place → k ≢ first → IsAhead keys.now (node_at heap.now first) (node_at heap.now k)) }
+{
+    let left = 2 * place + 1;
+    let right = left + 1;
+    if right < heap.len() && comes_first(keys, heap[right], heap[left]) {
+        return Some(right);
+    }
+    if left < heap.len() {
+        return Some(left);
+    }
+    None
+}
+
+// Puts a node at a place.
+fn seat(heap: &mut [u32], places: &mut [u32], place: usize, node: u32)
+    requires few { length heap.old < 2 ^ 32 }
+    requires place { place < length heap.old }
+    requires node { node < length places.old }
+    ensures heap { heap.new ≡ slice_set heap.old place node }
+    ensures places { places.new ≡ slice_set places.old node place }
+{
+    heap[place] = node;
+    places[node as usize] = place as u32;
+}
+
+/// Takes the root out, whose node waits no more.
+pub fn remove_root(keys: &[Option<i128>], heap: &mut Vec<u32>, places: &mut [u32])
+    requires few { length heap.old.items < 2 ^ 32 }
+    requires gone { IsFree keys.now (node_at heap.old.items 0) }
+    requires hole { HasHole keys.now heap.old.items places.old 0 (node_at heap.old.items 0) }
+    ensures heap { IsHeap keys.now heap.new.items places.new }
+    ensures capacity { vec_capacity heap.new ≡ vec_capacity heap.old }
+{
+    if let Some(last) = heap.pop() {
+        if !heap.is_empty() {
+            sift_down(keys, heap, places, 0, last);
+        }
+    }
+}
