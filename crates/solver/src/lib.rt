@@ -1,9 +1,11 @@
 //! The earliest execution of a problem, or a contradiction where it has none.
 //!
-//! The bounds are brought in one by one, in the order in which their events may have come: clock by clock upward, and
-//! each send before its receive. So most of them raise few values.
+//! The bounds are brought in one by one, in the order in which their events may have come: each clock upward, each send
+//! before its receive, and otherwise by the stamps, with the offsets of the clocks taken off. So most of them raise few
+//! values.
 #![tactic(auto)]
 
+mod offsets;
 mod order;
 mod queue;
 mod ranks;

@@ -1,5 +1,7 @@
 // Events that are brought in one after another.
 use std::alloc::{AllocError, Global};
+use std::cmp::Reverse;
+use std::collections::BinaryHeap;
 
 /// An event that comes next behind another: on its clock, or as the receive of a message behind its send.
 #[derive(Clone, Copy, PartialEq, Eq, PartialOrd, Ord)]
@@ -10,47 +12,63 @@ pub struct Succession {
     pub after: u32,
 }
 
-/// The order of the events that have been brought in, and how many each of the others waits for.
+/// An event behind its time.
+#[derive(Clone, Copy, PartialEq, Eq, PartialOrd, Ord)]
+pub struct Timed {
+    /// In ns, by whatever clock all events are compared by.
+    pub time: i128,
+    /// Its place.
+    pub event: u32,
+}
+
+/// The events that wait for no other, by time, and how many each of the others waits for.
 #[derive(Drop)]
 pub struct Queue {
-    order: Vec<u32>,
+    ready: BinaryHeap<Reverse<Timed>>,
+    times: Vec<i128>,
     queued: Vec<bool>,
     waiting: Vec<u32>,
-    // Of a list of events that stand in for missing ones, those before this place are in the order.
+    // Of the events by time, those before this place have been queued.
     passed: usize,
 }
 
 impl Queue {
-    /// No event is in the order, and none waits.
-    pub fn new(alloc: Global, events: usize) -> Result<Queue, AllocError> {
+    /// No event is ready, and none waits.
+    pub fn new(alloc: Global, timed: &[Timed]) -> Result<Queue, AllocError> {
+        let mut times = vec![in alloc; 0; timed.len()]?;
+        for entry in timed {
+            if let Some(time) = times.get_mut(entry.event as usize) {
+                *time = entry.time;
+            }
+        }
         Ok(Queue {
-            order: Vec::new(alloc),
-            queued: vec![in alloc; false; events]?,
-            waiting: vec![in alloc; 0; events]?,
+            ready: BinaryHeap::new(alloc),
+            times,
+            queued: vec![in alloc; false; timed.len()]?,
+            waiting: vec![in alloc; 0; timed.len()]?,
             passed: 0,
         })
     }
 
-    /// Each event waits for those that it comes next behind, and the events that wait for none are appended.
-    pub fn begin(&mut self, events: &[u32], successions: &[Succession]) -> Result<(), AllocError> {
+    /// Each of these events waits for those that it comes next behind, and those that wait for none are ready.
+    pub fn begin(&mut self, timed: &[Timed], successions: &[Succession]) -> Result<(), AllocError> {
         for pair in successions {
             if let Some(count) = self.waiting.get_mut(pair.after as usize) {
                 *count = count.saturating_add(1);
             }
         }
-        for event in events {
-            self.push_ready(*event)?;
+        for entry in timed {
+            self.push_ready(entry.event)?;
         }
         Ok(())
     }
 
-    /// The event at a place of the order. Where the order is shorter, it is the first of these events that is not yet in
-    /// the order, and is appended.
-    pub fn event(&mut self, place: usize, events: &[u32]) -> Result<Option<u32>, AllocError> {
-        if self.order.len() <= place {
-            self.push_first(events)?;
+    /// Takes out the earliest event that is ready. Where none is, it is the earliest of these that has not been queued.
+    pub fn event(&mut self, timed: &[Timed]) -> Result<Option<u32>, AllocError> {
+        if self.ready.is_empty() {
+            self.push_first(timed)?;
         }
-        Ok(self.order.get(place).copied())
+        Ok(self.ready.pop().map(|entry| entry.0.event))
     }
 
     /// Those that come next behind an event wait for it no longer.
@@ -68,7 +86,7 @@ impl Queue {
         Ok(())
     }
 
-    // Appends an event that waits for none.
+    // Queues an event that waits for none.
     fn push_ready(&mut self, event: u32) -> Result<(), AllocError> {
         if self.waiting.get(event as usize).copied() == Some(0) {
             self.push(event)?;
@@ -76,11 +94,11 @@ impl Queue {
         Ok(())
     }
 
-    // Appends the first of these events that is not in the order.
-    fn push_first(&mut self, events: &[u32]) -> Result<(), AllocError> {
-        for place in self.passed..events.len() {
+    // Queues the first of these events that has not been.
+    fn push_first(&mut self, timed: &[Timed]) -> Result<(), AllocError> {
+        for place in self.passed..timed.len() {
             self.passed = place;
-            let event = events[place];
+            let event = timed[place].event;
             if self.queued.get(event as usize).copied() == Some(false) {
                 return self.push(event);
             }
@@ -88,12 +106,15 @@ impl Queue {
         Ok(())
     }
 
-    // Appends an event that is not in the order.
+    // Queues an event that has not been.
     fn push(&mut self, event: u32) -> Result<(), AllocError> {
+        let Some(time) = self.times.get(event as usize).copied() else {
+            return Ok(());
+        };
         if let Some(queued) = self.queued.get_mut(event as usize) {
             if !*queued {
                 *queued = true;
-                self.order.push(event)?;
+                self.ready.push(Reverse(Timed { time, event }))?;
             }
         }
         Ok(())

@@ -1,7 +1,8 @@
 // When events and nodes are brought in.
 ghost use Rattle.std.specs.Prelude.{◌≡◌, length, IfOk};
 
-use crate::queue::{Queue, Succession};
+use crate::offsets::clock_offsets;
+use crate::queue::{Queue, Succession, Timed};
 use atto::Nano;
 use problem::Problem;
 use problem_model::{Bound, Message};
@@ -56,17 +57,35 @@ fn successions(
     Ok(pairs)
 }
 
-// The rank of each event: its place in an order that goes up on each clock and has each send before its receive. Where
-// clocks and messages allow no such order, the next event of the first clock that has one comes first.
+// The events by the time of their stamps, each with the offset of its clock taken off.
+fn by_time(alloc: Global, p: &Problem) -> Result<Vec<Timed>, AllocError> {
+    let offsets = clock_offsets(alloc, p)?;
+    let mut timed = Vec::new(alloc);
+    for (place, event) in p.events().iter().enumerate() {
+        let stamp = i128::from(event.stamp.get());
+        let time = match offsets.get(event.clock as usize) {
+            Some(Some(ahead)) => stamp.saturating_sub(*ahead),
+            _ => stamp,
+        };
+        timed.push(Timed {
+            time,
+            event: place as u32,
+        })?;
+    }
+    timed.sort_unstable();
+    Ok(timed)
+}
+
+// The rank of each event: its place in an order that goes up on each clock and has each send before its receive, and
+// otherwise goes by time. Where clocks and messages allow no such order, the earliest event comes first.
 fn event_ranks(alloc: Global, p: &Problem) -> Result<Vec<u32>, AllocError> {
-    let all = by_clock(alloc, p)?;
-    let pairs = successions(alloc, &all, p.messages())?;
-    let events: Vec<u32> = all.iter().map(|s| s.event).collect(alloc)?;
-    let mut queue = Queue::new(alloc, events.len())?;
-    queue.begin(&events, &pairs)?;
-    let mut ranks = vec![in alloc; 0; events.len()]?;
+    let pairs = successions(alloc, &by_clock(alloc, p)?, p.messages())?;
+    let timed = by_time(alloc, p)?;
+    let mut queue = Queue::new(alloc, &timed)?;
+    queue.begin(&timed, &pairs)?;
+    let mut ranks = vec![in alloc; 0; timed.len()]?;
     for turn in 0..p.events().len() {
-        let Some(event) = queue.event(turn, &events)? else {
+        let Some(event) = queue.event(&timed)? else {
             break;
         };
         if let Some(rank) = ranks.get_mut(event as usize) {

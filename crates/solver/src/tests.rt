@@ -21,6 +21,10 @@ const CIRCLE: &str =
 const TURNED: &str =
     "problem 1\nclock b 0 0 3 7\nclock a 0 0 0 0\nevent b#1 b 250\nevent b#2 b 300\nevent a#2 a 180\nevent a#1 a 100\nmessage b#2 a#2 10 20\nmessage a#1 b#1 10 20\nend\n";
 
+// Host a sends alone, and host b reads its clock twice between two receives.
+const ONE_WAY: &str =
+    "problem 1\nclock a 0 0 0 0\nclock b 0 0 0 0\nevent a#1 a 0\nevent a#2 a 1000\nevent b#1 b 10\nevent b#2 b 20\nevent b#3 b 30\nevent b#4 b 1010\nmessage a#1 b#1 10 20\nmessage a#2 b#4 10 20\nend\n";
+
 // Whether the nodes of a problem have these ranks.
 fn has_ranks(alloc: Global, text: &str, want: &[u32]) -> Option<bool> {
     let p = read_problem(alloc, text.as_bytes()).ok()?;
@@ -82,6 +86,8 @@ fn a_send_comes_before_its_receive(rt: HostRuntime) {
     ] {
         assert!(rt; has_ranks(alloc, text, &want) == Some(true));
     }
+    let want = [0, 4, 1, 2, 3, 5, 0, 4, 1, 2, 3, 5];
+    assert!(rt; has_ranks(alloc, ONE_WAY, &want) == Some(true));
 }
 
 #[test]
