@@ -24,13 +24,13 @@ use Rattle.cert.proofs.Places.{are_named, length-nodes_of, event_stands, reading
 use Rattle.cert.proofs.Taking.{value_grows, value_lines-nil}
 
 -- ---- a list that is not empty has a last item
-record Snoc (xs : List ℤ) (n : ℕ) : Type 0 where
-  front : List ℤ
-  last : ℤ
-  is : xs ≡ front ++ last ∷ []
-  len : length front ≡ n
+pub record Snoc (xs : List ℤ) (n : ℕ) : Type 0 where
+  pub front : List ℤ
+  pub last : ℤ
+  pub is : xs ≡ front ++ last ∷ []
+  pub len : length front ≡ n
 
-snoc : (xs : List ℤ) (n : ℕ) → length xs ≡ suc n → Snoc xs n
+pub snoc : (xs : List ℤ) (n : ℕ) → length xs ≡ suc n → Snoc xs n
 snoc [] n len = absurd (omega (arith, len))
 snoc (x ∷ []) n len = record { front = []; last = x; is = refl; len = omega (arith, len) }
 snoc (x ∷ y ∷ xs) zero len = absurd (omega (arith, len))
@@ -43,18 +43,18 @@ last_fits : (xs : List ℤ) (y : ℤ) → All FitsUnits (xs ++ y ∷ []) → Fit
 last_fits xs y all = subst FitsUnits (get_or-append_seam xs y [] (pos 0)) (all (length xs) (pos 0) (omega (arith, length-append xs (y ∷ []))))
 
 -- the values with one more
-abbrev Adds : List ℤ → ExecutionLine → List ℤ → Type 0
+abbrev pub Adds : List ℤ → ExecutionLine → List ℤ → Type 0
 Adds values (EventLine name value) more = more ≡ values ++ value ∷ []
 Adds values (ReadingLine clock stamp value) more = more ≡ values ++ value ∷ []
 Adds values EndLine more = ⊥
 
-adds_one : (values : List ℤ) (line : ExecutionLine) (a b : List ℤ) → Adds values line a → Adds values line b → a ≡ b
+pub adds_one : (values : List ℤ) (line : ExecutionLine) (a b : List ℤ) → Adds values line a → Adds values line b → a ≡ b
 adds_one values (EventLine name value) a b x y = x ∙ sym y
 adds_one values (ReadingLine clock stamp value) a b x y = x ∙ sym y
 adds_one values EndLine a b x y = absurd x
 
 module _ (p : ProblemLists) (readings : List Reading) (named : AreNamed (record { problem = p; readings = readings })) where
-  abbrev Step : List ℤ → ExecutionLine → List ℤ → Type 0
+  abbrev pub Step : List ℤ → ExecutionLine → List ℤ → Type 0
   Step = IsStep (execution_format p readings) Adds
 
   less : (front : List ℤ) (v : ℤ) → AreValues (length (nodes_of p readings)) (front ++ v ∷ []) → AreValues (length (nodes_of p readings)) front
@@ -88,10 +88,10 @@ module _ (p : ProblemLists) (readings : List Reading) (named : AreNamed (record 
         grows = value_grows p readings front (nodes.Reading r.0 r.1) v at;
       }
 
-  abbrev Last : List ℤ → ℕ → Type 0
+  abbrev pub Last : List ℤ → ℕ → Type 0
   Last values n = (r : List ℤ) × (line : ExecutionLine) × (length r ≡ n) × Step r line values
 
-  last_value : (front : List ℤ) (v : ℤ) → AreValues (length (nodes_of p readings)) (front ++ v ∷ []) → Last (front ++ v ∷ []) (length front)
+  pub last_value : (front : List ℤ) (v : ℤ) → AreValues (length (nodes_of p readings)) (front ++ v ∷ []) → Last (front ++ v ∷ []) (length front)
   last_value front v are =
       elim (cases_lt (length front) (length p.events)) [
         | inl inside ↦ (front, EventLine (event_name p.events (length front)) v, refl, event_step front v are inside)
@@ -104,7 +104,7 @@ module _ (p : ProblemLists) (readings : List Reading) (named : AreNamed (record 
             (front, ReadingLine (clock_name p.clocks r.0) r.1 v, refl, reading_step front v m r are place inside (same_default readings m (0, 0) r inside) (named.known m (0, 0) inside))
       ]
 
-  last_line : (values : List ℤ) (n : ℕ) → AreValues (length (nodes_of p readings)) values → length values ≡ suc n → Last values n
+  pub last_line : (values : List ℤ) (n : ℕ) → AreValues (length (nodes_of p readings)) values → length values ≡ suc n → Last values n
   last_line values n are len =
       let s = snoc values n len in
       let whole = last_value s.front s.last (subst (AreValues (length (nodes_of p readings))) s.is are) in

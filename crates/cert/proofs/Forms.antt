@@ -25,6 +25,11 @@ pub none_through : {A : Type 0} (o : Option A) {P Q : Type 0} → (P → Q) → 
 none_through None f h = f h
 none_through (Some x) f h = tt
 
+-- what holds anyway is said of none
+pub none_anyway : {A : Type 0} (o : Option A) {P : Type 0} → P → IfNone o P
+none_anyway None h = h
+none_anyway (Some x) h = tt
+
 -- ---- events
 pub event_fields : (body name : List ℕ) (z : ℤ) → IsEventName name → body ≡ event_body name z → fields 2 body ≡ Some (codes "event" ∷ name ∷ ns_text z ∷ [])
 event_fields body name z named is =

@@ -8,4 +8,14 @@ pub mod Reading
 pub mod Pieces
 pub mod Lines
 pub mod OwnListing
+pub mod CertLines
+pub mod CertGrowing
+pub mod StepForms
+pub mod CertReadable
+pub mod ReadAgain
+pub mod TextLengths
 mod Certificates
+pub mod Declaring
+pub mod PartTaking
+pub mod CertTaking
+pub mod CertReading

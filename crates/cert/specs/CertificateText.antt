@@ -13,9 +13,9 @@ use Rattle.problem_model.specs.ExecutionText.{value_lines}
 use Rattle.problem.specs.Listing.{event_places, reading_places, all_readings}
 use Rattle.cert.specs.declared.chain.Step.{Step}
 use Rattle.cert.specs.declared.certificate.EndProof.{EndProof}
-use Rattle.cert.specs.declared.certificate.EndProof.TheVariants.{At, Unbounded}
 use Rattle.cert.specs.declared.certificate.Cert.{Cert}
 use Rattle.cert.specs.declared.certificate.Cert.TheVariants.{Cycle, Run, Ends}
+use Rattle.cert.specs.EndLists.{EndLists, Limited, Unlimited, lists_of}
 use Rattle.cert.specs.Listed.{Listed, certified}
 
 -- ---- text
@@ -28,19 +28,26 @@ abbrev pub inside_line : ProblemLists → ℕ → List ℕ
 inside_line p clock = line_of (codes "inside" ∷ clock_name p.clocks clock ∷ [])
 
 -- the part of one end: its word and its value, a path and an execution; or that it has no limit, a cut and an execution
-abbrev pub end_lines : ProblemLists → List Node → List ℕ → List ℕ → EndProof → List ℕ
-end_lines p nodes part unlimited (At value path execution) =
+abbrev pub end_text : ProblemLists → List Node → List ℕ → List ℕ → EndLists → List ℕ
+end_text p nodes part unlimited (Limited value path execution) =
     line_of (part ∷ ns_text value ∷ []) ++ flat_map (step_line p) path ++ value_lines p nodes execution
-end_lines p nodes part unlimited (Unbounded inside execution) =
-    line_of (part ∷ unlimited ∷ []) ++ flat_map (inside_line p) inside.items ++ value_lines p nodes execution
+end_text p nodes part unlimited (Unlimited inside execution) =
+    line_of (part ∷ unlimited ∷ []) ++ flat_map (inside_line p) inside ++ value_lines p nodes execution
+
+abbrev pub end_lines : ProblemLists → List Node → List ℕ → List ℕ → EndProof → List ℕ
+end_lines p nodes part unlimited end = end_text p nodes part unlimited (lists_of end)
+
+-- two events and both ends
+abbrev pub ends_lines : ProblemLists → List Node → ℕ → ℕ → EndLists → EndLists → List ℕ
+ends_lines problem nodes p q upper lower =
+    line_of (codes "ends" ∷ event_name problem.events p ∷ event_name problem.events q ∷ [])
+    ++ end_text problem nodes (codes "upper") (codes "+inf") upper ++ end_text problem nodes (codes "lower") (codes "-inf") lower
 
 -- what stands between the first line and the end
 abbrev pub certificate_lines : ProblemLists → List Node → Cert → List ℕ
 certificate_lines p nodes (Cycle steps) = line_of (codes "cycle" ∷ []) ++ flat_map (step_line p) steps
 certificate_lines p nodes (Run execution) = line_of (codes "run" ∷ []) ++ value_lines p nodes execution
-certificate_lines p nodes (Ends from to upper lower) =
-    line_of (codes "ends" ∷ event_name p.events from ∷ event_name p.events to ∷ [])
-    ++ end_lines p nodes (codes "upper") (codes "+inf") upper ++ end_lines p nodes (codes "lower") (codes "-inf") lower
+certificate_lines problem nodes (Ends p q upper lower) = ends_lines problem nodes p q (lists_of upper) (lists_of lower)
 
 -- the only text of a certificate, over the nodes in their order
 abbrev pub certificate_text : ProblemLists → List Node → Cert → List ℕ
@@ -66,13 +73,16 @@ abbrev pub HasOneEach : ProblemLists → List ℤ → Type 0
 HasOneEach p values = (readings : List Reading) × AreReadings p readings × (length values ≡ length (nodes_of p readings))
 
 -- the path or the cut is over the bounds or clocks of the problem, and the execution over its nodes
+abbrev pub AreListsOf : ProblemLists → EndLists → Type 0
+AreListsOf p (Limited value path execution) = All (IsStepOf p) path × HasOneEach p execution
+AreListsOf p (Unlimited inside execution) =
+    All (λ k. k < length p.clocks) inside × AllPairs (λ j k. j < k) inside × HasOneEach p execution
+
 abbrev pub IsEndOf : ProblemLists → EndProof → Type 0
-IsEndOf p (At value path execution) = All (IsStepOf p) path × HasOneEach p execution
-IsEndOf p (Unbounded inside execution) =
-    All (λ k. k < length p.clocks) inside.items × AllPairs (λ j k. j < k) inside.items × HasOneEach p execution
+IsEndOf p end = AreListsOf p (lists_of end)
 
 -- bounds, events, clocks and nodes are those of the problem
 abbrev pub IsCertOf : ProblemLists → Cert → Type 0
 IsCertOf p (Cycle steps) = All (IsStepOf p) steps
 IsCertOf p (Run execution) = HasOneEach p execution
-IsCertOf p (Ends from to upper lower) = (from < length p.events) × (to < length p.events) × IsEndOf p upper × IsEndOf p lower
+IsCertOf problem (Ends p q upper lower) = (p < length problem.events) × (q < length problem.events) × IsEndOf problem upper × IsEndOf problem lower

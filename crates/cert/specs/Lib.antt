@@ -1,6 +1,13 @@
+pub mod CertificateFormat
 pub mod CertificateText
+pub mod EndLists
 pub mod ExecutionFormat
 pub mod Listed
 pub mod NodeLists
+pub mod ReadAgain
+pub mod ReadsCert
 pub mod ReadsExecution
 pub mod Said
+pub mod SaidStep
+pub mod Shows
+pub mod TakesPart

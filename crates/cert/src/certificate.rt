@@ -28,10 +28,10 @@ pub enum Cert {
     Cycle(Chain),
     /// An execution exists: this one.
     Run(Execution),
-    /// The ends of the interval of x(to) - x(from), for two events by their places.
+    /// The ends of the interval of x(q) - x(p), for two events by their places.
     Ends {
-        from: u32,
-        to: u32,
+        p: u32,
+        q: u32,
         upper: EndProof,
         lower: EndProof,
     },

@@ -13,7 +13,7 @@ ghost use Rattle.cert.specs.CertificateText.{step_line, inside_line, end_lines, 
 use crate::certificate::{Cert, EndProof};
 use crate::chain::Step;
 use crate::execution::Execution;
-use crate::line::{Line, first_word, push_ns, push_word};
+use crate::line::{Line, first_word, limit_line, unlimited_line};
 use crate::write::{push_clock, push_event, write_step, write_value};
 use ports::{Failed, Sink, write_whole};
 use problem::Problem;
@@ -71,29 +71,6 @@ fn write_values<O: Sink>(p: &Problem, execution: &Execution, out: &mut O) -> Res
         write_value(p, place, execution.value(place).get(), out)?;
     }
     Ok(())
-}
-
-// The line of a limit: which end it is, and where.
-fn limit_line(part: &[u8], value: i128) -> Line
-    requires { length part.now ≤ 48 }
-    ensures { result.items ≡ line_of (part.now ∷ ns_text value ∷ []) }
-{
-    let mut line = first_word(part);
-    push_ns(&mut line, value);
-    line.push(b'\n');
-    line
-}
-
-// The line of an end without a limit: which end it is, and the word for that.
-fn unlimited_line(part: &[u8], unlimited: &[u8]) -> Line
-    requires part { length part.now ≤ 48 }
-    requires unlimited { length unlimited.now ≤ 48 }
-    ensures { result.items ≡ line_of (part.now ∷ unlimited.now ∷ []) }
-{
-    let mut line = first_word(part);
-    push_word(&mut line, unlimited);
-    line.push(b'\n');
-    line
 }
 
 // Writes the part of an end: the line of its value or of its cut, then what shows it.
@@ -163,8 +140,8 @@ fn write_lines<O: Sink>(p: &Problem, c: &Cert, out: &mut O) -> Result<(), Failed
             write_values(p, execution, out)
         }
         Cert::Ends {
-            from,
-            to,
+            p: from,
+            q: to,
             upper,
             lower,
         } => {

@@ -119,8 +119,8 @@ fn ends_are(
         return false;
     }
     let ends = Cert::Ends {
-        from: 1,
-        to: 0,
+        p: 1,
+        q: 0,
         upper,
         lower,
     };

@@ -1,5 +1,5 @@
 // Steps of a certificate: bounds with their weights.
-ghost use Rattle.std.specs.Prelude.{◌≡◌, ◌<◌, ◌^◌, ◌++◌, ◌∷◌, [], length, OnOk, OnErr};
+ghost use Rattle.std.specs.Prelude.{◌≡◌, ◌<◌, ◌≤◌, ◌^◌, ◌↔◌, ◌++◌, ◌∷◌, [], length, IsTrue, OnOk, OnErr};
 
 use atto::Units;
 use problem::Bound;
@@ -62,5 +62,20 @@ impl Chain {
         ensures { result.now ≡ self.now }
     {
         &self.held
+    }
+
+    /// The number of steps.
+    pub fn len(&self) -> u32
+        ensures count { result ≡ length self.now }
+        ensures limit { result ≤ 2 ^ 22 }
+    {
+        self.held.len() as u32
+    }
+
+    /// Whether there are no steps.
+    pub fn is_empty(&self) -> bool
+        ensures { IsTrue result ↔ (self.now ≡ []) }
+    {
+        self.held.is_empty()
     }
 }

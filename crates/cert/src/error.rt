@@ -1,4 +1,4 @@
-// Why a text is no execution of a problem.
+// Why a text is no execution or certificate of a problem.
 ghost use Rattle.std.specs.Prelude.{◌≡◌};
 ghost use Rattle.cert.specs.ReadsExecution.{error_at};
 
@@ -10,13 +10,13 @@ pub enum CertError {
     /// It has another form than its place asks for, or a name or number in it is misspelled.
     #[error("line {0} is none of the forms that may stand there")]
     Syntax(u32),
-    /// A name, or a clock and stamp, is not the one that stands there.
+    /// A name, or a clock and stamp, is not the one that stands there, or not the problem's.
     #[error("line {0} names what does not stand there")]
     Name(u32),
     /// A number is out of its range.
     #[error("line {0} has a number out of its range")]
     Range(u32),
-    /// There is one too many of its kind. An execution is never refused so.
+    /// There is one step too many in a list. An execution is never refused so.
     #[error("line {0} is one too many of its kind")]
     Limit(u32),
     /// The text has more than 2^30 bytes.

@@ -1,16 +1,22 @@
-//! Executions and certificates of a problem: their values, the texts that executions are read from, and the texts that
-//! certificates are written as.
+//! Executions and certificates of a problem: their values, and the texts that they are read from and written as.
 #![tactic(auto)]
 
+mod bounds;
 mod certificate;
 mod certify;
 mod chain;
 mod error;
 mod execution;
+mod heads;
+mod kinds;
 mod laws;
-mod line;
+pub mod line;
 mod nodes;
+mod parts;
 mod read;
+mod read_certificate;
+mod steps;
+mod take_part;
 mod words;
 mod write;
 
@@ -19,11 +25,14 @@ pub use certify::write_cert;
 pub use chain::{Chain, Step};
 pub use error::CertError;
 pub use execution::Execution;
-pub use laws::listings;
+pub use laws::{listings, read_again};
 pub use read::{execution_answers_are_one, read_execution};
-pub use write::{write_step, write_value};
+pub use read_certificate::{certificate_answers_are_one, read_cert};
+pub use write::{push_clock, push_event, write_step, write_value};
 
 #[cfg(test)]
 mod certify_tests;
+#[cfg(test)]
+mod read_tests;
 #[cfg(test)]
 mod tests;

@@ -1,8 +1,8 @@
-// A line that is composed in a fixed buffer.
+//! Lines that are composed in a fixed buffer.
 ghost use Rattle.std.specs.Prelude.{◌≡◌, ◌≤◌, ◌+◌, ◌++◌, ◌∷◌, [], ℕ, ℤ, List, length};
 ghost use Rattle.atto.specs.Decimal.{decimal_of};
 ghost use Rattle.atto.specs.NsText.{ns_text};
-ghost use Rattle.line_format.specs.Words.{words};
+ghost use Rattle.line_format.specs.Words.{words, line_of};
 
 use arrayvec::ArrayVec;
 use atto::{NsText, write_decimal, write_ns};
@@ -62,4 +62,27 @@ pub fn push_ns(line: &mut Line, units: i128)
     let mut text = NsText::new();
     write_ns(units, &mut text);
     push_word(line, text.as_slice());
+}
+
+/// The line of a limit: which end it is, and where, given in units of 1e-9 ns, as ns text.
+pub fn limit_line(part: &[u8], value: i128) -> Line
+    requires { length part.now ≤ 48 }
+    ensures { result.items ≡ line_of (part.now ∷ ns_text value ∷ []) }
+{
+    let mut line = first_word(part);
+    push_ns(&mut line, value);
+    line.push(b'\n');
+    line
+}
+
+/// The line of an end without a limit: which end it is, and the word for that.
+pub fn unlimited_line(part: &[u8], unlimited: &[u8]) -> Line
+    requires part { length part.now ≤ 48 }
+    requires unlimited { length unlimited.now ≤ 48 }
+    ensures { result.items ≡ line_of (part.now ∷ unlimited.now ∷ []) }
+{
+    let mut line = first_word(part);
+    push_word(&mut line, unlimited);
+    line.push(b'\n');
+    line
 }

@@ -77,8 +77,8 @@ fn take_end(body: &[u8]) -> Result<Taken, LineError>
     }
 }
 
-// The line at the place of the next value.
-fn take_line(nodes: &Nodes<'_>, values: &mut Execution, body: &[u8]) -> Result<Taken, LineError>
+/// The line at the place of the next value.
+pub fn take_line(nodes: &Nodes<'_>, values: &mut Execution, body: &[u8]) -> Result<Taken, LineError>
     requires { AreValues (length (nodes_of nodes.now.problem nodes.now.readings)) values.old }
     ensures takes { Takes (execution_format nodes.now.problem nodes.now.readings) values.old body.now result values.new }
     ensures sound { AreValues (length (nodes_of nodes.now.problem nodes.now.readings)) values.new }

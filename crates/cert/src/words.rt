@@ -24,8 +24,8 @@ pub struct ReadingWords {
     pub value: Option<Units>,
 }
 
-// The value that a word spells.
-fn value_of(text: &[u8]) -> Option<Option<Units>>
+/// The value that a word spells; None inside where it is out of range.
+pub fn value_of(text: &[u8]) -> Option<Option<Units>>
     ensures some { IfSome result (λ v. SpellsValue text.now v) }
     ensures none { IfNone result ((z : ℤ) → text.now ≡ ns_text z → ⊥) }
 {
@@ -36,8 +36,8 @@ fn value_of(text: &[u8]) -> Option<Option<Units>>
     }
 }
 
-// The number that a word spells.
-fn number_of(text: &[u8]) -> Option<Option<u64>>
+/// The number that a word spells; None inside from 2^64 on.
+pub fn number_of(text: &[u8]) -> Option<Option<u64>>
     ensures some { IfSome result (λ n. SpellsNumber text.now n) }
     ensures none { IfNone result ((m : ℕ) → text.now ≡ decimal_of m → ⊥) }
 {
@@ -48,7 +48,8 @@ fn number_of(text: &[u8]) -> Option<Option<u64>>
     }
 }
 
-fn clock_name(text: &[u8]) -> Option<Name>
+/// The clock name that a word is.
+pub fn clock_name(text: &[u8]) -> Option<Name>
     ensures { SomeIff result (IsClockName text.now) text.now }
 {
     let name = Name::new(text)?;

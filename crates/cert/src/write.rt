@@ -10,8 +10,8 @@ use atto::Nano;
 use ports::{Failed, Sink, write_whole};
 use problem::{Bound, Listing};
 
-// Appends the name of an event.
-pub(crate) fn push_event<N: Listing>(line: &mut Line, names: &N, event: u32)
+/// Appends the name of an event behind a space.
+pub fn push_event<N: Listing>(line: &mut Line, names: &N, event: u32)
     requires named { event < length (N.event_names names.now) }
     requires room { length line.old.items + 49 ≤ 256 }
     ensures appended { (first : List ℕ) (ws : List (List ℕ)) → line.old.items ≡ words (first ∷ ws) → line.new.items ≡ words (first ∷ ws ++ name_at (N.event_names names.now) event ∷ []) }
@@ -21,8 +21,8 @@ pub(crate) fn push_event<N: Listing>(line: &mut Line, names: &N, event: u32)
     push_word(line, name.bytes());
 }
 
-// Appends the name of a clock.
-pub(crate) fn push_clock<N: Listing>(line: &mut Line, names: &N, clock: u32)
+/// Appends the name of a clock behind a space.
+pub fn push_clock<N: Listing>(line: &mut Line, names: &N, clock: u32)
     requires named { clock < length (N.clock_names names.now) }
     requires room { length line.old.items + 49 ≤ 256 }
     ensures appended { (first : List ℕ) (ws : List (List ℕ)) → line.old.items ≡ words (first ∷ ws) → line.new.items ≡ words (first ∷ ws ++ name_at (N.clock_names names.now) clock ∷ []) }

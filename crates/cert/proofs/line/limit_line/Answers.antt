@@ -2,7 +2,7 @@ use Rattle.std.proofs.Common.{◌∷◌, [], ◌++◌, ◌∙◌, ap, ℕ, List}
 use Rattle.std.proofs.lemmas.Int.{to_z-of_z}
 use mir.Syntax.{w128}
 use mir.Val.{SFits}
-use Rattle.cert.proofs.certify.limit_line.Goals as goal
+use Rattle.cert.proofs.line.limit_line.Goals as goal
 
 pub returns : goal.returns
 returns c =
