@@ -1,8 +1,9 @@
 -- The words of each form.
 use Rattle.std.proofs.Common.{◌≡◌, ℕ, List, [], ◌∷◌, length, Some, slice_get, codes, sym, ◌∙◌, ap, subst, arith}
-use Rattle.tracesync.specs.Run.{obey_words, solve_words, ends_words, Devices, Obeyed}
+use Rattle.tracesync.specs.Run.{obey_words, solve_words, ends_words, verify_words, Devices, Obeyed}
 use Rattle.tracesync.specs.Solve.{Solved}
 use Rattle.tracesync.specs.Ends.{Ended}
+use Rattle.tracesync.specs.Verify.{Verified}
 use Rattle.tracesync.specs.declared.status.Status.{Status}
 
 -- three words, the first of which is `obey`
@@ -12,6 +13,14 @@ is_obey (x ∷ []) a long e is = absurd (omega (arith, long))
 is_obey (x ∷ y ∷ []) a long e is = absurd (omega (arith, long))
 is_obey (x ∷ y ∷ z ∷ []) a long e is = (y, z, cc)
 is_obey (x ∷ y ∷ z ∷ w ∷ ws) a long e is = absurd (omega (arith, long))
+
+-- three words, the first of which is `verify`
+pub is_verify : (ws : List (List ℕ)) (a : List ℕ) → length ws ≡ 3 → slice_get ws 0 ≡ Some a → a ≡ codes "verify" → (problem : List ℕ) × (cert : List ℕ) × (ws ≡ verify_words problem cert)
+is_verify [] a long e is = absurd (omega (arith, long))
+is_verify (x ∷ []) a long e is = absurd (omega (arith, long))
+is_verify (x ∷ y ∷ []) a long e is = absurd (omega (arith, long))
+is_verify (x ∷ y ∷ z ∷ []) a long e is = (y, z, cc)
+is_verify (x ∷ y ∷ z ∷ w ∷ ws) a long e is = absurd (omega (arith, long))
 
 -- two words, the first of which is `solve`
 pub is_solve : (ws : List (List ℕ)) (a : List ℕ) → length ws ≡ 2 → slice_get ws 0 ≡ Some a → a ≡ codes "solve" → (problem : List ℕ) × (ws ≡ solve_words problem)
@@ -39,12 +48,22 @@ solve_two ws problem is = ap length is
 pub ends_four : (ws : List (List ℕ)) (problem first second : List ℕ) → ws ≡ ends_words problem first second → length ws ≡ 4
 ends_four ws problem first second is = ap length is
 
+pub verify_three : (ws : List (List ℕ)) (problem cert : List ℕ) → ws ≡ verify_words problem cert → length ws ≡ 3
+verify_three ws problem cert is = ap length is
+
 -- words have one length
 pub other_length : (ws : List (List ℕ)) (m n : ℕ) → length ws ≡ m → length ws ≡ n → (m ≡ n → ⊥) → ⊥
 other_length ws m n a b differ = differ (sym a ∙ b)
 
 some_same : (a b : List ℕ) → Some a ≡ Some b → a ≡ b
 some_same a b e = cc
+
+-- and one first word
+pub obey_or_verify : (ws : List (List ℕ)) (problem exec problem' cert : List ℕ) → ws ≡ obey_words problem exec → ws ≡ verify_words problem' cert → ⊥
+obey_or_verify ws problem exec problem' cert a b =
+    let first : codes "obey" ≡ codes "verify" = some_same (codes "obey") (codes "verify") (sym (ap (λ (v : List (List ℕ)). slice_get v 0) a) ∙ ap (λ (v : List (List ℕ)). slice_get v 0) b) in
+    let size : 4 ≡ 6 = ap length first in
+    omega (arith, size)
 
 -- what `obey` says of the second and the third word
 pub obey_by : (ws : List (List ℕ)) (a b problem exec : List ℕ) (old new : Devices) (result : Status) → slice_get ws 1 ≡ Some a → slice_get ws 2 ≡ Some b → ws ≡ obey_words problem exec
@@ -70,3 +89,11 @@ ends_by ws a b d problem first second old new result e f g is ended =
     let three : d ≡ second = some_same d second (sym g ∙ ap (λ (v : List (List ℕ)). slice_get v 3) is) in
     subst (λ (v : List ℕ). Ended v first second old new result) one
     (subst (λ (v : List ℕ). Ended a v second old new result) two (subst (λ (v : List ℕ). Ended a b v old new result) three ended))
+
+-- what `verify` says of the second and the third word
+pub verify_by : (ws : List (List ℕ)) (a b problem cert : List ℕ) (old new : Devices) (result : Status) → slice_get ws 1 ≡ Some a → slice_get ws 2 ≡ Some b → ws ≡ verify_words problem cert
+    → Verified a b old new result → Verified problem cert old new result
+verify_by ws a b problem cert old new result e f is verified =
+    let first : a ≡ problem = some_same a problem (sym e ∙ ap (λ (v : List (List ℕ)). slice_get v 1) is) in
+    let second : b ≡ cert = some_same b cert (sym f ∙ ap (λ (v : List (List ℕ)). slice_get v 2) is) in
+    subst (λ (v : List ℕ). Verified v cert old new result) first (subst (λ (v : List ℕ). Verified a v old new result) second verified)

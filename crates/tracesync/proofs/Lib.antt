@@ -1,10 +1,8 @@
-pub mod Judging
-pub mod Searching
-pub mod Times
-pub mod Loops
 pub mod Reaching
 pub mod Stopping
 pub mod Solving
 pub mod Certifying
 pub mod Forms
 pub mod Intervals
+pub mod Verifying
+pub mod Words

@@ -14,16 +14,16 @@ use Rattle.cert.specs.declared.error.CertError.TheVariants as certs
 use Rattle.cert.specs.ExecutionFormat.{execution_format}
 use Rattle.tracesync.specs.Refusal.{refusal_line, answer_of}
 use Rattle.tracesync.specs.Run.{Obeyed, Devices, SpellsProblem, SpellsExecution, RefusesExecution, RefusesProblem, BothHave, MissesFile}
-use Rattle.tracesync.specs.Unread.{IsUnread, IsRefusedFor, IsLong, unread_execution}
-use Rattle.tracesync.specs.Verdict.{IsVerdict}
+use Rattle.tracesync.specs.Unread.{IsUnread, IsRefusedFor, IsLong, unread_cert}
+use Rattle.cert_check.specs.Verdict.{IsVerdict}
 use Rattle.tracesync.specs.Endings.{Ends, EndsOrNoMemory, EndsUnread, EndsJudged}
 use Rattle.tracesync.specs.declared.refusal.Refusal.{Refusal}
 use Rattle.tracesync.specs.declared.status.Status.{Status}
 use Rattle.tracesync.specs.declared.status.Status.TheVariants as statuses
 use Rattle.tracesync.specs.declared.texts.Unread.{Unread}
 use Rattle.tracesync.specs.declared.texts.Unread.TheVariants as unread
-use Rattle.tracesync.specs.declared.verdict.Verdict.{Verdict}
-use Rattle.tracesync.specs.declared.verdict.Verdict.TheVariants as verdicts
+use Rattle.cert_check.specs.declared.verdict.Verdict.{Verdict}
+use Rattle.cert_check.specs.declared.verdict.Verdict.TheVariants as verdicts
 
 -- ---- the whole of a file
 whole : (most : ℕ) (front bytes : List ℕ) (more : Bool) → more ≡ false → IsFront most front more bytes → (length bytes ≤ most) × (front ≡ bytes)
@@ -59,7 +59,7 @@ times_in files path text p (Ok e) has is = λ x lists. spelled_in files path tex
 times_in files path text p (Err u) has is = tt
 
 -- ---- executions that are refused
-pub execution_refused : (p : ProblemLists) (text : List ℕ) (e : CertError) → Reads p text (Err e) → (readings : List Reading) → AreReadings p readings → IsRefusedFor (RefusesExecution p) text (unread_execution e)
+pub execution_refused : (p : ProblemLists) (text : List ℕ) (e : CertError) → Reads p text (Err e) → (readings : List Reading) → AreReadings p readings → IsRefusedFor (RefusesExecution p) text (unread_cert e)
 execution_refused p text (certs.Syntax line) reads readings are = (readings, are, reads readings are)
 execution_refused p text (certs.Name line) reads readings are = (readings, are, reads readings are)
 execution_refused p text (certs.Range line) reads readings are = (readings, are, reads readings are)
@@ -70,7 +70,7 @@ execution_refused p text certs.Memory reads readings are = tt
 long_refused : (p : ProblemLists) (readings : List Reading) → AreReadings p readings → (text : List ℕ) (refusal : Refusal) → IsLong text refusal → RefusesExecution p text refusal
 long_refused p readings are text refusal long = (readings, are, subst (λ (r : Refusal). Answers (execution_format p readings) text (answer_of r)) (sym long.0) long.1)
 
-has_mapped : (files : Content) (path : List ℕ) (P Q : List ℕ → Type 0) → ((text : List ℕ) → P text → Q text) → HasBytes files path P → HasBytes files path Q
+pub has_mapped : (files : Content) (path : List ℕ) (P Q : List ℕ → Type 0) → ((text : List ℕ) → P text → Q text) → HasBytes files path P → HasBytes files path Q
 has_mapped None path P Q on has = tt
 has_mapped (Some files) path P Q on has = (has.0, has.1, on has.0 has.2)
 
@@ -100,13 +100,13 @@ has_since P files files' path same has = subst (λ (c : Content). HasBytes c pat
 
 -- ---- how a run ends
 module _ (problem exec : List ℕ) (files : Content) (rf rf' ab ab' wf wf' : ℕ) (written written' : Option (List ℕ)) where
-  abbrev before : Devices
+  abbrev pub before : Devices
   before = record { files = files; read_faults = rf; absences = ab; written = written; write_faults = wf }
 
-  abbrev after : Content → Devices
+  abbrev pub after : Content → Devices
   after files' = record { files = files'; read_faults = rf'; absences = ab'; written = written'; write_faults = wf' }
 
-  both : (p : ProblemLists) (Q : List ℕ → Type 0) → HasBytes files problem (SpellsProblem p) → HasBytes files exec Q → BothHave files problem exec (λ text more. SpellsProblem p text × Q more)
+  pub both : (p : ProblemLists) (Q : List ℕ → Type 0) → HasBytes files problem (SpellsProblem p) → HasBytes files exec Q → BothHave files problem exec (λ text more. SpellsProblem p text × Q more)
   both p Q = both_in files
     where
       both_in : (c : Content) → HasBytes c problem (SpellsProblem p) → HasBytes c exec Q → BothHave c problem exec (λ text more. SpellsProblem p text × Q more)
@@ -123,11 +123,11 @@ module _ (problem exec : List ℕ) (files : Content) (rf rf' ab ab' wf wf' : ℕ
   printed_if files' line status result (inl ended) on = printed files' line status result ended on
   printed_if files' line status result (inr none) on = subst (λ (s : Status). Obeyed problem exec before (after files') s) (sym none) tt
 
-  missed_first : Rose rf rf' ⊎ (Rose ab ab' × IsAbsent files problem) → (files' : Content) → MissesFile before (after files') problem exec
+  pub missed_first : Rose rf rf' ⊎ (Rose ab ab' × IsAbsent files problem) → (files' : Content) → MissesFile before (after files') problem exec
   missed_first (inl rose) files' = inl rose
   missed_first (inr absent) files' = inr (absent.0, inl absent.1)
 
-  missed_second : (p : ProblemLists) → HasBytes files problem (SpellsProblem p) → Rose rf rf' ⊎ (Rose ab ab' × IsAbsent files exec) → (files' : Content) → MissesFile before (after files') problem exec
+  pub missed_second : (p : ProblemLists) → HasBytes files problem (SpellsProblem p) → Rose rf rf' ⊎ (Rose ab ab' × IsAbsent files exec) → (files' : Content) → MissesFile before (after files') problem exec
   missed_second p has (inl rose) files' = inl rose
   missed_second p has (inr absent) files' = inr (absent.0, inr (p, has, absent.1))
 

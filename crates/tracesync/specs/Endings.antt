@@ -8,8 +8,8 @@ use Rattle.tracesync.specs.declared.status.Status.{Status}
 use Rattle.tracesync.specs.declared.status.Status.TheVariants.{Done, No, ReadFault, WriteFault, Memory}
 use Rattle.tracesync.specs.declared.texts.Unread.{Unread}
 use Rattle.tracesync.specs.declared.texts.Unread.TheVariants as unread
-use Rattle.tracesync.specs.declared.verdict.Verdict.{Verdict}
-use Rattle.tracesync.specs.declared.verdict.Verdict.TheVariants.{Obeys, Broken}
+use Rattle.cert_check.specs.declared.verdict.Verdict.{Verdict}
+use Rattle.cert_check.specs.declared.verdict.Verdict.TheVariants.{Obeys, Broken}
 
 -- the line is printed, or the sink failed
 abbrev pub Ends : Option (List ℕ) → Option (List ℕ) → ℕ → ℕ → List ℕ → Status → Status → Type 0

@@ -19,7 +19,7 @@ use Rattle.tracesync.specs.Run.{Devices, Prints, SpellsProblem, RefusesProblem}
 use Rattle.tracesync.specs.Solve.{IsContradictionText, AppendsSome}
 use Rattle.tracesync.specs.declared.refusal.Refusal.{Refusal}
 use Rattle.tracesync.specs.declared.status.Status.{Status}
-use Rattle.tracesync.specs.declared.status.Status.TheVariants.{Done, No, Usage, BadProblem, BadExec, ReadFault, WriteFault, Memory, UnknownEvent}
+use Rattle.tracesync.specs.declared.status.Status.TheVariants.{Done, No, Usage, BadProblem, BadExec, BadCert, ReadFault, WriteFault, Memory, UnknownEvent}
 
 -- ---- the events
 -- the event at this place has this name
@@ -75,6 +75,7 @@ Ended problem first second old new BadProblem = (refusal : Refusal)
     × HasBytes old.files problem (λ text. RefusesProblem text refusal)
     × Prints old new (refusal_line (codes "problem") refusal)
 Ended problem first second old new BadExec = ⊥
+Ended problem first second old new BadCert = ⊥
 Ended problem first second old new ReadFault = (Rose old.read_faults new.read_faults ⊎ (Rose old.absences new.absences × IsAbsent old.files problem))
     × Prints old new (codes "read fault\n")
 Ended problem first second old new WriteFault = Rose old.write_faults new.write_faults

@@ -16,10 +16,10 @@ use Rattle.problem.specs.Line.{problem_format}
 use Rattle.cert.specs.ExecutionFormat.{execution_format}
 use Rattle.tracesync.specs.Refusal.{answer_of, refusal_line}
 use Rattle.tracesync.specs.declared.form.Form.{Form}
-use Rattle.tracesync.specs.declared.form.Form.TheVariants.{Obey, Solve, Ends, Unknown}
+use Rattle.tracesync.specs.declared.form.Form.TheVariants.{Obey, Solve, Ends, Verify, Unknown}
 use Rattle.tracesync.specs.declared.refusal.Refusal.{Refusal}
 use Rattle.tracesync.specs.declared.status.Status.{Status}
-use Rattle.tracesync.specs.declared.status.Status.TheVariants.{Done, No, Usage, BadProblem, BadExec, ReadFault, WriteFault, Memory, UnknownEvent}
+use Rattle.tracesync.specs.declared.status.Status.TheVariants.{Done, No, Usage, BadProblem, BadExec, BadCert, ReadFault, WriteFault, Memory, UnknownEvent}
 
 -- the exit status
 abbrev pub code_of : Status → ℕ
@@ -28,6 +28,7 @@ code_of No = 1
 code_of Usage = 2
 code_of BadProblem = 4
 code_of BadExec = 5
+code_of BadCert = 6
 code_of ReadFault = 7
 code_of WriteFault = 8
 code_of Memory = 9
@@ -43,17 +44,22 @@ solve_words problem = codes "solve" ∷ problem ∷ []
 abbrev pub ends_words : List ℕ → List ℕ → List ℕ → List (List ℕ)
 ends_words problem first second = codes "ends" ∷ problem ∷ first ∷ second ∷ []
 
+abbrev pub verify_words : List ℕ → List ℕ → List (List ℕ)
+verify_words problem cert = codes "verify" ∷ problem ∷ cert ∷ []
+
 -- the words are of none of the forms
 pub record IsNoCommand (ws : List (List ℕ)) : Type 0 where
   pub obey : (problem exec : List ℕ) → ws ≡ obey_words problem exec → ⊥
   pub solve : (problem : List ℕ) → ws ≡ solve_words problem → ⊥
   pub ends : (problem first second : List ℕ) → ws ≡ ends_words problem first second → ⊥
+  pub verify : (problem cert : List ℕ) → ws ≡ verify_words problem cert → ⊥
 
 -- the words are of this form
 abbrev pub IsForm : List (List ℕ) → Form → Type 0
 IsForm ws Obey = (problem : List ℕ) × (exec : List ℕ) × (ws ≡ obey_words problem exec)
 IsForm ws Solve = (problem : List ℕ) × (ws ≡ solve_words problem)
 IsForm ws Ends = (problem : List ℕ) × (first : List ℕ) × (second : List ℕ) × (ws ≡ ends_words problem first second)
+IsForm ws Verify = (problem : List ℕ) × (cert : List ℕ) × (ws ≡ verify_words problem cert)
 IsForm ws Unknown = IsNoCommand ws
 
 -- what is printed where the words are of none of the forms
@@ -122,6 +128,7 @@ Obeyed problem exec old new BadProblem = (refusal : Refusal)
 Obeyed problem exec old new BadExec = (p : ProblemLists) × (refusal : Refusal)
     × BothHave old.files problem exec (λ text more. SpellsProblem p text × RefusesExecution p more refusal)
     × Prints old new (refusal_line (codes "execution") refusal)
+Obeyed problem exec old new BadCert = ⊥
 Obeyed problem exec old new ReadFault = MissesFile old new problem exec × Prints old new (codes "read fault\n")
 Obeyed problem exec old new WriteFault = Rose old.write_faults new.write_faults
 Obeyed problem exec old new Memory = Unit {0}

@@ -13,7 +13,7 @@ use Rattle.tracesync.specs.Refusal.{refusal_line}
 use Rattle.tracesync.specs.Run.{Devices, Prints, SpellsProblem, RefusesProblem}
 use Rattle.tracesync.specs.declared.refusal.Refusal.{Refusal}
 use Rattle.tracesync.specs.declared.status.Status.{Status}
-use Rattle.tracesync.specs.declared.status.Status.TheVariants.{Done, No, Usage, BadProblem, BadExec, ReadFault, WriteFault, Memory, UnknownEvent}
+use Rattle.tracesync.specs.declared.status.Status.TheVariants.{Done, No, Usage, BadProblem, BadExec, BadCert, ReadFault, WriteFault, Memory, UnknownEvent}
 
 -- the text is the certificate of the earliest execution
 abbrev pub IsEarliestText : ProblemLists → List ℕ → Type 0
@@ -50,6 +50,7 @@ Solved problem old new BadProblem = (refusal : Refusal)
     × HasBytes old.files problem (λ text. RefusesProblem text refusal)
     × Prints old new (refusal_line (codes "problem") refusal)
 Solved problem old new BadExec = ⊥
+Solved problem old new BadCert = ⊥
 Solved problem old new ReadFault = (Rose old.read_faults new.read_faults ⊎ (Rose old.absences new.absences × IsAbsent old.files problem))
     × Prints old new (codes "read fault\n")
 Solved problem old new WriteFault = Rose old.write_faults new.write_faults

@@ -37,11 +37,11 @@ unread_problem (problems.Limit line) = Refused (refusals.Faulty kinds.Limit line
 unread_problem problems.Long = Refused refusals.Long
 unread_problem problems.Memory = Memory
 
--- an error of reading an execution, as the program tells it
-abbrev pub unread_execution : CertError → Unread
-unread_execution (certs.Syntax line) = Refused (refusals.Faulty kinds.Syntax line)
-unread_execution (certs.Name line) = Refused (refusals.Faulty kinds.Name line)
-unread_execution (certs.Range line) = Refused (refusals.Faulty kinds.Range line)
-unread_execution (certs.Limit line) = Refused (refusals.Faulty kinds.Limit line)
-unread_execution certs.Long = Refused refusals.Long
-unread_execution certs.Memory = Memory
+-- an error of reading an execution or a certificate, as the program tells it
+abbrev pub unread_cert : CertError → Unread
+unread_cert (certs.Syntax line) = Refused (refusals.Faulty kinds.Syntax line)
+unread_cert (certs.Name line) = Refused (refusals.Faulty kinds.Name line)
+unread_cert (certs.Range line) = Refused (refusals.Faulty kinds.Range line)
+unread_cert (certs.Limit line) = Refused (refusals.Faulty kinds.Limit line)
+unread_cert certs.Long = Refused refusals.Long
+unread_cert certs.Memory = Memory

@@ -12,6 +12,8 @@ pub enum Form {
     Solve,
     /// `ends PROBLEM P Q`.
     Ends,
+    /// `verify PROBLEM CERT`.
+    Verify,
     /// None of the forms.
     Unknown,
 }
@@ -29,6 +31,9 @@ pub fn form_of(words: &Words) -> Form
     }
     if count == 4 && words.word(0) == "ends" {
         return Form::Ends;
+    }
+    if count == 3 && words.word(0) == "verify" {
+        return Form::Verify;
     }
     Form::Unknown
 }

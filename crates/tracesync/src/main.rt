@@ -1,4 +1,5 @@
-//! Finds the earliest execution that declared bounds allow, or a contradiction of them, and judges executions.
+//! Finds the earliest execution that declared bounds allow, or a contradiction of them, and judges executions and
+//! certificates.
 #![tactic(auto)]
 
 mod ending;
@@ -13,7 +14,9 @@ mod status;
 #[cfg(test)]
 mod tests;
 mod texts;
-mod verdict;
+mod verify;
+#[cfg(test)]
+mod verify_tests;
 
 use crate::run::run;
 use crate::status::Status;

@@ -7,7 +7,7 @@ use crate::ending::{finish, stop};
 use crate::print::broken_line;
 use crate::status::Status;
 use crate::texts::{execution_in, problem_in};
-use crate::verdict::{Verdict, obeys};
+use cert_check::{Verdict, obeys};
 use ports::{Files, Sink};
 use problem::Problem;
 use std::alloc::Global;

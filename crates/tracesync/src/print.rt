@@ -8,9 +8,11 @@ ghost use Rattle.problem_model.specs.ProblemText.{clock_name, event_name};
 ghost use Rattle.problem_model.specs.BoundText.{bound_words, broken_line, span_words, delay_words};
 ghost use Rattle.tracesync.specs.Refusal.{refusal_line, number_of, place_of};
 ghost use Rattle.tracesync.specs.Ends.{end_word, order_word, interval_line};
+ghost use Rattle.tracesync.specs.Verify.{part_word, broken_words, reason_words, no_line};
 
 use crate::refusal::Refusal;
 use atto::{Nano, NsText, write_decimal, write_ns};
+use cert_check::{Part, Reason};
 use intervals::{End, Ends, Order};
 use problem::{Bound, Problem};
 use std::alloc::{AllocError, Global};
@@ -188,6 +190,100 @@ pub fn interval_line(alloc: Global, ends: &Ends, order: Order) -> Result<Vec<u8>
     let mut line = least_word(alloc, ends.least)?;
     push_greatest(&mut line, ends.greatest)?;
     push_order(&mut line, order)?;
+    line.push(b'\n')?;
+    Ok(line)
+}
+
+// The word of a part.
+fn part_word(part: Part) -> &'static [u8]
+    ensures { result.now ≡ part_word part }
+{
+    match part {
+        Part::Cycle => b"cycle",
+        Part::Run => b"run",
+        Part::Upper => b"upper",
+        Part::Lower => b"lower",
+    }
+}
+
+// Appends a word and the number of a step.
+fn push_step(line: &mut Vec<u8>, word: &[u8], step: u32) -> Result<(), AllocError>
+    ensures { (first : List ℕ) (ws : List (List ℕ)) → line.old.items ≡ words (first ∷ ws) → OnOk result (line.new.items ≡ words (first ∷ ws ++ word.now ∷ decimal_of step ∷ [])) }
+{
+    push_word(line, word)?;
+    push_decimal(line, u64::from(step))?;
+    Ok(())
+}
+
+// Appends a word and a number of units.
+fn push_units(line: &mut Vec<u8>, word: &[u8], units: i128) -> Result<(), AllocError>
+    ensures { (first : List ℕ) (ws : List (List ℕ)) → line.old.items ≡ words (first ∷ ws) → OnOk result (line.new.items ≡ words (first ∷ ws ++ word.now ∷ ns_text units ∷ [])) }
+{
+    push_word(line, word)?;
+    push_ns(line, units)?;
+    Ok(())
+}
+
+// Appends what is said of a broken bound.
+fn push_broken(
+    line: &mut Vec<u8>,
+    p: &Problem,
+    bound: &Bound,
+    weight: i128,
+    difference: i128,
+) -> Result<(), AllocError>
+    ensures { (first : List ℕ) (ws : List (List ℕ)) → line.old.items ≡ words (first ∷ ws) → OnOk result (line.new.items ≡ words (first ∷ ws ++ broken_words p.now bound.now weight difference)) }
+{
+    push_word(line, b"broken")?;
+    push_bound(line, p, bound)?;
+    push_ns(line, weight)?;
+    push_ns(line, difference)?;
+    Ok(())
+}
+
+// Appends the word and the words of a bound that leaves a cut.
+fn push_leaving(line: &mut Vec<u8>, p: &Problem, bound: &Bound) -> Result<(), AllocError>
+    ensures { (first : List ℕ) (ws : List (List ℕ)) → line.old.items ≡ words (first ∷ ws) → OnOk result (line.new.items ≡ words (first ∷ ws ++ codes "leaves" ∷ bound_words p.now bound.now)) }
+{
+    push_word(line, b"leaves")?;
+    push_bound(line, p, bound)?;
+    Ok(())
+}
+
+// Appends the words of a reason.
+fn push_reason(line: &mut Vec<u8>, p: &Problem, reason: &Reason) -> Result<(), AllocError>
+    ensures { (first : List ℕ) (ws : List (List ℕ)) → line.old.items ≡ words (first ∷ ws) → OnOk result (line.new.items ≡ words (first ∷ ws ++ reason_words p.now reason.now)) }
+{
+    match *reason {
+        Reason::Empty => push_word(line, b"empty"),
+        Reason::Weight(step) => push_step(line, b"weight", step),
+        Reason::Join(step) => push_step(line, b"join", step),
+        Reason::Sum(sum) => push_units(line, b"sum", sum),
+        Reason::Broken {
+            bound,
+            weight,
+            difference,
+        } => push_broken(line, p, &bound, weight, difference),
+        Reason::Difference(difference) => push_units(line, b"difference", difference),
+        Reason::Home => push_word(line, b"home"),
+        Reason::Away => push_word(line, b"away"),
+        Reason::Leaves(bound) => push_leaving(line, p, &bound),
+    }
+}
+
+/// The line that says what is wrong with which part of a certificate. Sums and differences are given in units of 1e-9 ns
+/// and printed as ns texts.
+pub fn no_line(
+    alloc: Global,
+    p: &Problem,
+    part: Part,
+    reason: &Reason,
+) -> Result<Vec<u8>, AllocError>
+    ensures { IfOk result (λ line. line.items ≡ no_line p.now part reason.now) }
+{
+    let mut line = Vec::from_slice(alloc, b"no")?;
+    push_word(&mut line, part_word(part))?;
+    push_reason(&mut line, p, reason)?;
     line.push(b'\n')?;
     Ok(line)
 }

@@ -1,8 +1,9 @@
 // The program's one call.
 ghost use Rattle.std.specs.Prelude.{◌≡◌, ℕ, List};
-ghost use Rattle.tracesync.specs.Run.{Obeyed, ShowsUsage, IsNoCommand, obey_words, solve_words, ends_words};
+ghost use Rattle.tracesync.specs.Run.{Obeyed, ShowsUsage, IsNoCommand, obey_words, solve_words, ends_words, verify_words};
 ghost use Rattle.tracesync.specs.Solve.{Solved};
 ghost use Rattle.tracesync.specs.Ends.{Ended};
+ghost use Rattle.tracesync.specs.Verify.{Verified};
 
 use crate::ending::finish;
 use crate::ends::ends;
@@ -10,6 +11,7 @@ use crate::form::{Form, form_of};
 use crate::obey::obey;
 use crate::solve::solve;
 use crate::status::Status;
+use crate::verify::verify;
 use ports::{Files, Sink, Source, Words};
 use std::alloc::Global;
 
@@ -21,8 +23,9 @@ const USAGE: &[u8] =
 /// `obey PROBLEM EXEC` reads and judges the problem before it reads the execution, and says whether that is one;
 /// `solve PROBLEM` prints the certificate of the earliest execution, or of a contradiction where there is none; `ends
 /// PROBLEM P Q` prints the least and the greatest difference of the real times of two events over all executions, and
-/// their order, or a contradiction. `Usage` comes where the words are of no form, `BadProblem` and `BadExec` where a text is
-/// refused, `UnknownEvent` where the problem has no event of a name, `ReadFault` where a named file is not there or a read
+/// their order, or a contradiction; `verify PROBLEM CERT` says whether a certificate of the problem shows what it should, or
+/// the first reason why not. `Usage` comes where the words are of no form, `BadProblem`, `BadExec` and `BadCert` where a text
+/// is refused, `UnknownEvent` where the problem has no event of a name, `ReadFault` where a named file is not there or a read
 /// failed, `WriteFault` where a write failed, `Memory` where memory ran out, and else `Done` or `No` with the answer. The
 /// input is not read.
 pub fn run<F: Files, I: Source, O: Sink>(
@@ -44,6 +47,10 @@ pub fn run<F: Files, I: Source, O: Sink>(
         (record { files = F.content files.old; read_faults = F.faults files.old; absences = F.absences files.old; written = O.written out.old; write_faults = O.faults out.old })
         (record { files = F.content files.new; read_faults = F.faults files.new; absences = F.absences files.new; written = O.written out.new; write_faults = O.faults out.new })
         result }
+    ensures verify { (problem cert : List ℕ) → words.now ≡ verify_words problem cert → Verified problem cert
+        (record { files = F.content files.old; read_faults = F.faults files.old; absences = F.absences files.old; written = O.written out.old; write_faults = O.faults out.old })
+        (record { files = F.content files.new; read_faults = F.faults files.new; absences = F.absences files.new; written = O.written out.new; write_faults = O.faults out.new })
+        result }
     ensures usage { IsNoCommand words.now → ShowsUsage
         (record { files = F.content files.old; read_faults = F.faults files.old; absences = F.absences files.old; written = O.written out.old; write_faults = O.faults out.old })
         (record { files = F.content files.new; read_faults = F.faults files.new; absences = F.absences files.new; written = O.written out.new; write_faults = O.faults out.new })
@@ -62,6 +69,7 @@ pub fn run<F: Files, I: Source, O: Sink>(
             words.word(3),
             out,
         ),
+        Form::Verify => verify(alloc, files, words.word(1), words.word(2), out),
         Form::Unknown => finish(out, USAGE, Status::Usage),
     }
 }

@@ -7,7 +7,7 @@ ghost use Rattle.tracesync.specs.Run.{code_of};
 pub enum Status {
     /// The command was answered.
     Done,
-    /// The answer is no: a bound is broken.
+    /// The answer is no: a bound is broken, or a certificate does not hold.
     No,
     /// The words are no command.
     Usage,
@@ -15,6 +15,8 @@ pub enum Status {
     BadProblem,
     /// The execution text is refused.
     BadExec,
+    /// The certificate text is refused.
+    BadCert,
     /// A named file is not there, or a read failed.
     ReadFault,
     /// A write failed.
@@ -36,6 +38,7 @@ impl Status {
             Status::Usage => 2,
             Status::BadProblem => 4,
             Status::BadExec => 5,
+            Status::BadCert => 6,
             Status::ReadFault => 7,
             Status::WriteFault => 8,
             Status::Memory => 9,

@@ -3,12 +3,13 @@ ghost use Rattle.std.specs.Prelude.{◌≡◌, ◌≤◌, ◌^◌, ℕ, List, le
 ghost use Rattle.ports.specs.Files.{HasBytes};
 ghost use Rattle.problem_model.specs.Bounds.{Times};
 ghost use Rattle.problem_model.specs.Nodes.{Lists};
-ghost use Rattle.cert.specs.CertificateText.{HasOneEach};
+ghost use Rattle.cert.specs.CertificateText.{HasOneEach, IsCertOf};
 ghost use Rattle.tracesync.specs.Run.{SpellsProblem, SpellsExecution, RefusesProblem, RefusesExecution};
-ghost use Rattle.tracesync.specs.Unread.{IsUnread, IsRefusedFor, IsLong, unread_problem, unread_execution};
+ghost use Rattle.tracesync.specs.Verify.{SpellsCert, RefusesCert};
+ghost use Rattle.tracesync.specs.Unread.{IsUnread, IsRefusedFor, IsLong, unread_problem, unread_cert};
 
 use crate::refusal::Refusal;
-use cert::{CertError, Execution, read_execution};
+use cert::{Cert, CertError, Execution, read_cert, read_execution};
 use line_format::FaultKind;
 use ports::{FileFault, Files, read_file};
 use problem::{Problem, ProblemError, read_problem};
@@ -41,8 +42,8 @@ fn unread_problem(error: ProblemError) -> Unread
     }
 }
 
-fn unread_execution(error: CertError) -> Unread
-    ensures { result ≡ unread_execution error }
+fn unread_cert(error: CertError) -> Unread
+    ensures { result ≡ unread_cert error }
 {
     match error {
         CertError::Syntax(line) => Unread::Refused(Refusal::Faulty(FaultKind::Syntax, line)),
@@ -94,7 +95,20 @@ fn execution_of(alloc: Global, p: &Problem, text: &[u8]) -> Result<Execution, Un
     let _readings = p.readings();
     match read_execution(alloc, p, text) {
         Ok(e) => Ok(e),
-        Err(error) => Err(unread_execution(error)),
+        Err(error) => Err(unread_cert(error)),
+    }
+}
+
+// The certificate of a problem that a text spells.
+fn certificate_of(alloc: Global, p: &Problem, text: &[u8]) -> Result<Cert, Unread>
+    ensures of { IfOk result (λ c. IsCertOf p.now c) }
+    ensures ok { IfOk result (λ c. SpellsCert p.now c text.now) }
+    ensures err { IfErr result (IsRefusedFor (RefusesCert p.now) text.now) }
+{
+    let _readings = p.readings();
+    match read_cert(alloc, p, text) {
+        Ok(c) => Ok(c),
+        Err(error) => Err(unread_cert(error)),
     }
 }
 
@@ -127,6 +141,26 @@ pub fn execution_in<F: Files>(
     let _readings = p.readings();
     match text_in(alloc, files, path) {
         Ok(text) => execution_of(alloc, p, &text),
+        Err(unread) => Err(unread),
+    }
+}
+
+/// The certificate of a problem in a file, or why there is none.
+pub fn certificate_in<F: Files>(
+    alloc: Global,
+    files: &mut F,
+    path: &str,
+    p: &Problem,
+) -> Result<Cert, Unread>
+    ensures of { IfOk result (λ c. IsCertOf p.now c) }
+    ensures ok { IfOk result (λ c. HasBytes (F.content files.old) path.now (SpellsCert p.now c)) }
+    ensures err { IfErr result (IsUnread (RefusesCert p.now) (F.content files.old) path.now (F.faults files.old) (F.faults files.new) (F.absences files.old) (F.absences files.new)) }
+    ensures same { F.content files.new ≡ F.content files.old }
+    ensures no_fall { (F.faults files.old ≤ F.faults files.new) × (F.absences files.old ≤ F.absences files.new) }
+{
+    let _readings = p.readings();
+    match text_in(alloc, files, path) {
+        Ok(text) => certificate_of(alloc, p, &text),
         Err(unread) => Err(unread),
     }
 }

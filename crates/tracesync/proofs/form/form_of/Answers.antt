@@ -1,5 +1,5 @@
 use Rattle.std.proofs.Common.{◌≡◌, length, rules, sym, ◌∙◌, codes}
-use Rattle.tracesync.proofs.Forms.{is_obey, is_solve, is_ends}
+use Rattle.tracesync.proofs.Forms.{is_obey, is_solve, is_ends, is_verify}
 use Rattle.tracesync.proofs.form.form_of.Goals as goal
 
 pub returns-then-eq : goal.returns-then-eq
@@ -19,3 +19,9 @@ returns-then-eq-3 c =
     let same : c.word-then-count-eq4.result.now ≡ codes "ends" = search rules in
     let long : length c.args.words.now ≡ 4 = sym c.len-count.ensures ∙ c.if-count-eq4.true in
     is_ends c.args.words.now c.word-then-count-eq4.result.now long c.word-then-count-eq4.ensures same
+
+pub returns-then-eq-4 : goal.returns-then-eq-4
+returns-then-eq-4 c =
+    let same : c.word-then-count-eq3-2.result.now ≡ codes "verify" = search rules in
+    let long : length c.args.words.now ≡ 3 = sym c.len-count.ensures ∙ c.if-count-eq3-2.true in
+    is_verify c.args.words.now c.word-then-count-eq3-2.result.now long c.word-then-count-eq3-2.ensures same

@@ -1,5 +1,5 @@
 use Rattle.std.proofs.Common.{arith}
-use Rattle.tracesync.proofs.Forms.{obey_by, solve_by, ends_by, other_length, obey_three, solve_two, ends_four}
+use Rattle.tracesync.proofs.Forms.{obey_by, solve_by, ends_by, verify_by, other_length, obey_or_verify, obey_three, solve_two, ends_four, verify_three}
 use Rattle.tracesync.proofs.run.run.Goals as goal
 
 pub returns-in-Obey-clause-obey : goal.returns-in-Obey-clause-obey
@@ -55,3 +55,33 @@ returns-in-Unknown-clause-solve g c = λ problem is. absurd (c.in-Unknown.ensure
 
 pub returns-in-Unknown-clause-ends : goal.returns-in-Unknown-clause-ends
 returns-in-Unknown-clause-ends g c = λ problem first second is. absurd (c.in-Unknown.ensures.ends problem first second is)
+
+pub returns-in-Obey-clause-verify : goal.returns-in-Obey-clause-verify
+returns-in-Obey-clause-verify g c = λ problem cert is. absurd (obey_or_verify c.args.words.now _ _ problem cert c.in-Obey.ensures.2 is)
+
+pub returns-in-Solve-clause-verify : goal.returns-in-Solve-clause-verify
+returns-in-Solve-clause-verify g c = λ problem cert is. absurd (other_length c.args.words.now 2 3 (solve_two c.args.words.now _ c.in-Solve.ensures.1) (verify_three c.args.words.now problem cert is) (λ e. omega (arith, e)))
+
+pub returns-in-Ends-clause-verify : goal.returns-in-Ends-clause-verify
+returns-in-Ends-clause-verify g c = λ problem cert is. absurd (other_length c.args.words.now 4 3 (ends_four c.args.words.now _ _ _ c.in-Ends.ensures.3) (verify_three c.args.words.now problem cert is) (λ e. omega (arith, e)))
+
+pub returns-in-Verify-clause-obey : goal.returns-in-Verify-clause-obey
+returns-in-Verify-clause-obey g c = λ problem exec is. absurd (obey_or_verify c.args.words.now problem exec _ _ is c.in-Verify.ensures.2)
+
+pub returns-in-Verify-clause-solve : goal.returns-in-Verify-clause-solve
+returns-in-Verify-clause-solve g c = λ problem is. absurd (other_length c.args.words.now 3 2 (verify_three c.args.words.now _ _ c.in-Verify.ensures.2) (solve_two c.args.words.now problem is) (λ e. omega (arith, e)))
+
+pub returns-in-Verify-clause-ends : goal.returns-in-Verify-clause-ends
+returns-in-Verify-clause-ends g c = λ problem first second is. absurd (other_length c.args.words.now 3 4 (verify_three c.args.words.now _ _ c.in-Verify.ensures.2) (ends_four c.args.words.now problem first second is) (λ e. omega (arith, e)))
+
+pub returns-in-Verify-clause-verify : goal.returns-in-Verify-clause-verify
+returns-in-Verify-clause-verify g c = λ problem cert is. verify_by c.args.words.now _ _ problem cert
+    (record { files = g.F.Files.content c.args.files.now; read_faults = g.F.Files.faults c.args.files.now; absences = g.F.Files.absences c.args.files.now; written = g.O.Sink.written c.args.out.now; write_faults = g.O.Sink.faults c.args.out.now })
+    (record { files = g.F.Files.content c.verify.new.files; read_faults = g.F.Files.faults c.verify.new.files; absences = g.F.Files.absences c.verify.new.files; written = g.O.Sink.written c.verify.new.out; write_faults = g.O.Sink.faults c.verify.new.out })
+    _ c.word-in-Verify.ensures c.word-in-Verify-2.ensures is c.verify.ensures.verified
+
+pub returns-in-Verify-clause-usage : goal.returns-in-Verify-clause-usage
+returns-in-Verify-clause-usage g c = λ none. absurd (none.verify _ _ c.in-Verify.ensures.2)
+
+pub returns-in-Unknown-clause-verify : goal.returns-in-Unknown-clause-verify
+returns-in-Unknown-clause-verify g c = λ problem cert is. absurd (c.in-Unknown.ensures.verify problem cert is)

@@ -1,0 +1,17 @@
+pub mod Judging
+pub mod Times
+pub mod Loops
+pub mod Messages
+pub mod Walking
+pub mod Joining
+pub mod Turns
+pub mod Paths
+pub mod Cycles
+pub mod Agreeing
+pub mod Cutting
+pub mod Rising
+pub mod Attaining
+pub mod Answering
+pub mod Showing
+pub mod OneAnswer
+pub mod Named

@@ -1,0 +1,21 @@
+use Rattle.std.proofs.Common.{◌*◌, ◌∷◌, [], refl, arith}
+use Rattle.std.specs.Prelude.{pos, neg_ℤ}
+use Rattle.std.proofs.lemmas.Int.{ints}
+use Rattle.problem_model.specs.declared.items.Bound.TheVariants.{DelayLeast}
+use Rattle.problem_model.specs.declared.items.Node.TheVariants as nodes
+use Rattle.problem_model.specs.Bounds.{Constraint}
+use Rattle.problem_model.specs.ShortList.{most_bound}
+use Rattle.cert_check.proofs.Judging.{judges_on, judges_first}
+use Rattle.cert_check.proofs.verdict.judge_message.Goals as goal
+
+pub returns-in-Obeys : goal.returns-in-Obeys
+returns-in-Obeys c = λ p x lawful at send receive.
+    let m = c.args.message.now in
+    let a : Constraint = record { from = nodes.Event m.receive; to = nodes.Event m.send; weight = neg_ℤ (pos (m.least * 1000000000)) } in
+    judges_on p x (most_bound m m.most) (DelayLeast m.send m.receive ∷ []) c.judge.result (rw c.in-Obeys.is at (c.judge_most.ensures p x lawful at send receive))
+    (c.judge.ensures p x a lawful (m, at, refl, refl, refl) (omega (arith, ints, c.delay_units.ensures.exact)) receive send)
+
+pub returns-in_default : goal.returns-in_default
+returns-in_default c = λ p x lawful at send receive.
+    let m = c.args.message.now in
+    judges_first p x (most_bound m m.most) (DelayLeast m.send m.receive ∷ []) c.judge_most.result c.in_default.not-Obeys (c.judge_most.ensures p x lawful at send receive)

@@ -1,0 +1,5 @@
+pub mod Ends
+pub mod Faults
+pub mod Reasons
+pub mod Verdict
+pub mod Walks

@@ -1,0 +1,128 @@
+// What is wrong with the cut that shows that an interval has no end.
+ghost use Rattle.std.specs.Prelude.{◌≡◌, ◌↔◌, ◌<◌, ℕ, List, [], ◌∷◌, Contains, AllPairs, IsTrue, length};
+ghost use Rattle.std.specs.List.{flat_map};
+ghost use Rattle.problem_model.specs.declared.items.Node.TheVariants as nodes;
+ghost use Rattle.problem_model.specs.Problem.{ProblemLists, IsProblem};
+ghost use Rattle.problem_model.specs.Bounds.{Constraint, Declares};
+ghost use Rattle.problem_model.specs.ShortList.{most_bound, message_bounds};
+ghost use Rattle.cert.specs.Shows.{IsInside, Parts};
+ghost use Rattle.cert_check.specs.Reasons.{home_of, away_of, CutIs};
+ghost use Rattle.cert_check.specs.Faults.{FindsFault, FindsLeaving};
+
+use crate::answer::{Part, Reason};
+use problem::{Bound, Message, Problem};
+
+// Whether a clock is among those inside, which rise.
+fn has_clock(inside: &[u32], clock: u32) -> bool
+    requires { AllPairs (λ j k. j < k) inside.now }
+    ensures { IsTrue result ↔ Contains inside.now clock }
+{
+    inside.binary_search(&clock).is_ok()
+}
+
+// Whether the clock of an event is inside.
+fn is_inside(p: &Problem, inside: &[u32], event: u32) -> bool
+    requires rising { AllPairs (λ j k. j < k) inside.now }
+    requires event { event < length p.now.events }
+    ensures { IsTrue result ↔ IsInside p.now inside.now (nodes.Event event) }
+{
+    has_clock(inside, p.events()[event as usize].clock)
+}
+
+// The bound, where it leads from a node inside to one outside.
+fn crossing(bound: Bound, from: bool, to: bool) -> Option<Bound>
+    ensures { (p : ProblemLists) (inside : List ℕ) (c : Constraint) → IsProblem p → Declares p bound c → (IsTrue from ↔ IsInside p inside c.from) → (IsTrue to ↔ IsInside p inside c.to)
+        → FindsLeaving p inside (bound ∷ []) result }
+{
+    if from && !to { Some(bound) } else { None }
+}
+
+// The bound on the greatest delay of a message, where there is one and it leads out.
+fn leaving_most(message: &Message, send: bool, receive: bool) -> Option<Bound>
+    ensures { (p : ProblemLists) (inside : List ℕ) → IsProblem p → Contains p.messages message.now → (IsTrue send ↔ IsInside p inside (nodes.Event message.now.send)) → (IsTrue receive ↔ IsInside p inside (nodes.Event message.now.receive))
+        → FindsLeaving p inside (most_bound message.now message.now.most) result }
+{
+    match message.most {
+        Some(_) => {
+            let bound = Bound::DelayMost {
+                send: message.send,
+                receive: message.receive,
+            };
+            crossing(bound, send, receive)
+        }
+        None => None,
+    }
+}
+
+// The first bound of a message that leads out.
+fn leaving_bound(message: &Message, send: bool, receive: bool) -> Option<Bound>
+    ensures { (p : ProblemLists) (inside : List ℕ) → IsProblem p → Contains p.messages message.now → (IsTrue send ↔ IsInside p inside (nodes.Event message.now.send)) → (IsTrue receive ↔ IsInside p inside (nodes.Event message.now.receive))
+        → FindsLeaving p inside (message_bounds message.now) result }
+{
+    match leaving_most(message, send, receive) {
+        None => {
+            let bound = Bound::DelayLeast {
+                send: message.send,
+                receive: message.receive,
+            };
+            crossing(bound, receive, send)
+        }
+        leaving => leaving,
+    }
+}
+
+// The first bound of the messages that leads from a clock inside to one outside.
+fn first_leaving(p: &Problem, inside: &[u32]) -> Option<Bound>
+    requires { AllPairs (λ j k. j < k) inside.now }
+    ensures { FindsLeaving p.now inside.now (flat_map message_bounds p.now.messages) result }
+{
+    for message in p.messages() {
+        let send = is_inside(p, inside, message.send);
+        let receive = is_inside(p, inside, message.receive);
+        match leaving_bound(message, send, receive) {
+            None => {}
+            leaving => return leaving,
+        }
+    }
+    None
+}
+
+// The event whose clock should be inside.
+fn home_of(part: Part, first: u32, second: u32) -> u32
+    ensures { result ≡ home_of part first second }
+{
+    match part {
+        Part::Lower => second,
+        _ => first,
+    }
+}
+
+// The event whose clock should not.
+fn away_of(part: Part, first: u32, second: u32) -> u32
+    ensures { result ≡ away_of part first second }
+{
+    match part {
+        Part::Lower => first,
+        _ => second,
+    }
+}
+
+/// What is wrong with a cut between two events, the clocks of which rise.
+pub fn cut_fault(p: &Problem, part: Part, first: u32, second: u32, inside: &[u32]) -> Option<Reason>
+    requires rising { AllPairs (λ j k. j < k) inside.now }
+    requires first { first < length p.now.events }
+    requires second { second < length p.now.events }
+    ensures { FindsFault part (CutIs p.now part first second inside.now) (Parts p.now inside.now (home_of part first second) (away_of part first second)) result }
+{
+    let _ = p.events();
+    if !is_inside(p, inside, home_of(part, first, second)) {
+        return Some(Reason::Home);
+    }
+    if is_inside(p, inside, away_of(part, first, second)) {
+        return Some(Reason::Away);
+    }
+    match first_leaving(p, inside) {
+        Some(bound) => Some(Reason::Leaves(bound)),
+        None => None,
+    }
+}

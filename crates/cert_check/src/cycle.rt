@@ -1,0 +1,61 @@
+// What is wrong with a cycle.
+ghost use Rattle.std.specs.Prelude.{◌≡◌, ◌<◌, List, All, length, slice_get, Some};
+ghost use Rattle.problem_model.specs.Problem.{ProblemLists, IsProblem};
+ghost use Rattle.problem_model.specs.Bounds.{Constraint, Declares};
+ghost use Rattle.difference_bounds.specs.Solutions.{IsContradictionOf};
+ghost use Rattle.cert.specs.declared.chain.Step.{Step};
+ghost use Rattle.cert.specs.CertificateText.{IsStepOf};
+ghost use Rattle.cert.specs.Shows.{weighed_bounds};
+ghost use Rattle.cert_check.specs.declared.answer.Part.TheVariants as parts;
+ghost use Rattle.cert_check.specs.declared.walk.Walk.TheVariants as walks;
+ghost use Rattle.cert_check.specs.Walks.{IsWalk};
+ghost use Rattle.cert_check.specs.Reasons.{CycleIs};
+ghost use Rattle.cert_check.specs.Faults.{FindsFault};
+
+use crate::answer::{Part, Reason};
+use crate::declared::declared;
+use crate::walk::{Held, Walk, walk_over};
+use cert::Chain;
+use problem::{Node, Problem};
+
+// What is wrong with a cycle whose walk from where the first step comes from went over all so many steps.
+fn closing_fault(start: &Node, held: Held, count: u32) -> Option<Reason>
+    ensures { (p : ProblemLists) (steps : List Step) (f : Step) (a : Constraint) → IsProblem p → All (IsStepOf p) steps → count ≡ length steps → slice_get steps 0 ≡ Some f → Declares p f.bound a → a.from ≡ start.now
+        → IsWalk p parts.Cycle start.now steps (walks.Arrived held) → FindsFault parts.Cycle (CycleIs p steps) (IsContradictionOf p (weighed_bounds steps)) result }
+{
+    if held.node != *start {
+        return Some(Reason::Join(count));
+    }
+    if held.sum >= 0 {
+        return Some(Reason::Sum(held.sum));
+    }
+    None
+}
+
+// Where the first step comes from.
+fn start_of(p: &Problem, chain: &Chain) -> Node
+    requires steps { All (IsStepOf p.now) chain.now }
+    requires some { 0 < length chain.now }
+    ensures { (f : Step) × (a : Constraint) × (slice_get chain.now 0 ≡ Some f) × Declares p.now f.bound a × (a.from ≡ result) }
+{
+    let first = &chain.steps()[0];
+    let bound = declared(p, &first.bound);
+    bound.from
+}
+
+/// What is wrong with a cycle.
+pub fn cycle_fault(p: &Problem, chain: &Chain) -> Option<Reason>
+    requires { All (IsStepOf p.now) chain.now }
+    ensures { FindsFault parts.Cycle (CycleIs p.now chain.now) (IsContradictionOf p.now (weighed_bounds chain.now)) result }
+{
+    let _ = p.events();
+    if chain.is_empty() {
+        return Some(Reason::Empty);
+    }
+    let start = start_of(p, chain);
+    match walk_over(p, Part::Cycle, &start, chain) {
+        Walk::Astray(step) => Some(Reason::Join(step - 1)),
+        Walk::Misweighed(step) => Some(Reason::Weight(step)),
+        Walk::Arrived(held) => closing_fault(&start, held, chain.len()),
+    }
+}

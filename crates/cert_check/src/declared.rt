@@ -1,0 +1,167 @@
+// What a problem declares under the name of a bound.
+ghost use Rattle.std.specs.Prelude.{◌≡◌, ◌<◌, ◌^◌, ℕ, Some, length, Contains, unsigned_abs};
+ghost use Rattle.problem_model.specs.declared.items.Bound.TheVariants as bounds;
+ghost use Rattle.problem_model.specs.Problem.{ProblemLists, IsProblem};
+ghost use Rattle.problem_model.specs.Bounds.{Constraint, Declares, ClockAt, EventAt, IsReading};
+ghost use Rattle.problem.specs.Line.{HasMessage};
+ghost use Rattle.cert_check.specs.Walks.{constraint, HasMessageBetween};
+
+use atto::{Nano, delay_units, span_least, span_most};
+use problem::{Bound, Clock, Event, Message, Node, Problem};
+
+/// The difference constraint `x_to - x_from <= weight` that a problem declares. The weight is in units of 1e-9 ns.
+#[derive(Clone, Copy, Debug, PartialEq, Eq)]
+pub struct Declaration {
+    pub from: Node,
+    pub to: Node,
+    pub weight: i128,
+}
+
+// The greatest real time of a span.
+fn longest(place: u32, clock: &Clock, s: Nano, t: Nano) -> Declaration
+    requires { s < t }
+    ensures declares { (p : ProblemLists) → ClockAt p place clock.now → IsReading p place s → IsReading p place t → Declares p (bounds.SpanMost place s t) (constraint result) }
+    ensures below { unsigned_abs result.weight < 2 ^ 93 }
+{
+    Declaration {
+        from: Node::Reading(place, s),
+        to: Node::Reading(place, t),
+        weight: span_most(clock.rate, s, t),
+    }
+}
+
+// The least real time of a span.
+fn shortest(place: u32, clock: &Clock, s: Nano, t: Nano) -> Declaration
+    requires { s < t }
+    ensures declares { (p : ProblemLists) → ClockAt p place clock.now → IsReading p place s → IsReading p place t → Declares p (bounds.SpanLeast place s t) (constraint result) }
+    ensures below { unsigned_abs result.weight < 2 ^ 93 }
+{
+    Declaration {
+        from: Node::Reading(place, t),
+        to: Node::Reading(place, s),
+        weight: -span_least(clock.rate, s, t),
+    }
+}
+
+// How long an event may come behind the reading of its stamp.
+fn latest(place: u32, event: &Event, clock: &Clock) -> Declaration
+    ensures declares { (p : ProblemLists) → EventAt p place event.now → ClockAt p event.now.clock clock.now → Declares p (bounds.Late place) (constraint result) }
+    ensures below { unsigned_abs result.weight < 2 ^ 93 }
+{
+    Declaration {
+        from: Node::Reading(event.clock, event.stamp),
+        to: Node::Event(place),
+        weight: delay_units(clock.late),
+    }
+}
+
+// How long it may come before it.
+fn earliest(place: u32, event: &Event, clock: &Clock) -> Declaration
+    ensures declares { (p : ProblemLists) → EventAt p place event.now → ClockAt p event.now.clock clock.now → Declares p (bounds.Early place) (constraint result) }
+    ensures below { unsigned_abs result.weight < 2 ^ 93 }
+{
+    Declaration {
+        from: Node::Event(place),
+        to: Node::Reading(event.clock, event.stamp),
+        weight: delay_units(clock.early),
+    }
+}
+
+// The greatest delay of a message.
+fn slowest(message: &Message, most: Nano) -> Declaration
+    requires { message.now.most ≡ Some most }
+    ensures declares { (p : ProblemLists) → Contains p.messages message.now → Declares p (bounds.DelayMost message.now.send message.now.receive) (constraint result) }
+    ensures below { unsigned_abs result.weight < 2 ^ 93 }
+{
+    Declaration {
+        from: Node::Event(message.send),
+        to: Node::Event(message.receive),
+        weight: delay_units(most),
+    }
+}
+
+// The least delay of a message.
+fn quickest(message: &Message) -> Declaration
+    ensures declares { (p : ProblemLists) → Contains p.messages message.now → Declares p (bounds.DelayLeast message.now.send message.now.receive) (constraint result) }
+    ensures below { unsigned_abs result.weight < 2 ^ 93 }
+{
+    Declaration {
+        from: Node::Event(message.receive),
+        to: Node::Event(message.send),
+        weight: -delay_units(message.least),
+    }
+}
+
+// The clock at a place.
+fn clock_at(p: &Problem, place: u32) -> &Clock
+    requires { place < length p.now.clocks }
+    ensures { ClockAt p.now place result.now }
+{
+    &p.clocks()[place as usize]
+}
+
+// The event at a place, whose clock is one of the problem's.
+fn event_at(p: &Problem, place: u32) -> &Event
+    requires { place < length p.now.events }
+    ensures event { EventAt p.now place result.now }
+    ensures clock { result.now.clock < length p.now.clocks }
+{
+    &p.events()[place as usize]
+}
+
+// The place of the message from one event to another.
+fn message_place(p: &Problem, send: u32, receive: u32) -> u32
+    requires { HasMessageBetween p.now send receive }
+    ensures { HasMessage p.now result send receive }
+{
+    match p.message_place(send, receive) {
+        Some(place) => place,
+        None => 0,
+    }
+}
+
+// The message from one event to another.
+fn message_between(p: &Problem, send: u32, receive: u32) -> &Message
+    requires { HasMessageBetween p.now send receive }
+    ensures message { Contains p.now.messages result.now }
+    ensures send { result.now.send ≡ send }
+    ensures receive { result.now.receive ≡ receive }
+    ensures lawful { IsProblem p.now }
+{
+    &p.messages()[message_place(p, send, receive) as usize]
+}
+
+// The greatest delay of the message from one event to another, which has one.
+fn slowest_between(p: &Problem, send: u32, receive: u32) -> Declaration
+    requires { (c : Constraint) × Declares p.now (bounds.DelayMost send receive) c }
+    ensures declares { Declares p.now (bounds.DelayMost send receive) (constraint result) }
+    ensures below { unsigned_abs result.weight < 2 ^ 93 }
+{
+    let message = message_between(p, send, receive);
+    match message.most {
+        Some(most) => slowest(message, most),
+        None => quickest(message),
+    }
+}
+
+/// What `p` declares under the name of a bound: its ends, and its weight, which is below 2^93 in absolute value.
+pub fn declared(p: &Problem, bound: &Bound) -> Declaration
+    requires { (c : Constraint) × Declares p.now bound.now c }
+    ensures declares { Declares p.now bound.now (constraint result) }
+    ensures below { unsigned_abs result.weight < 2 ^ 93 }
+{
+    match *bound {
+        Bound::SpanMost { clock, s, t } => longest(clock, clock_at(p, clock), s, t),
+        Bound::SpanLeast { clock, s, t } => shortest(clock, clock_at(p, clock), s, t),
+        Bound::Late(place) => {
+            let event = event_at(p, place);
+            latest(place, event, clock_at(p, event.clock))
+        }
+        Bound::Early(place) => {
+            let event = event_at(p, place);
+            earliest(place, event, clock_at(p, event.clock))
+        }
+        Bound::DelayMost { send, receive } => slowest_between(p, send, receive),
+        Bound::DelayLeast { send, receive } => quickest(message_between(p, send, receive)),
+    }
+}

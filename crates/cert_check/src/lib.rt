@@ -1,0 +1,21 @@
+//! Judges executions and certificates by the bounds of a problem.
+#![tactic(auto)]
+
+mod answer;
+mod attained;
+mod checking;
+mod cut;
+mod cycle;
+mod declared;
+mod laws;
+mod path;
+mod verdict;
+mod walk;
+
+pub use answer::{Answer, Part, Reason};
+pub use checking::check;
+pub use laws::{reasons, soundness};
+pub use verdict::{Verdict, obeys};
+
+#[cfg(test)]
+mod tests;

@@ -1,0 +1,468 @@
+// Worked certificates and what is wrong with each first.
+ghost use Rattle.std.specs.Prelude.{◌≤◌, ◌<◌, IsTrue, IfSome, All, length};
+ghost use Rattle.problem_model.specs.declared.items.Bound.TheVariants as bounds;
+ghost use Rattle.problem_model.specs.Bounds.{Constraint, Declares, IsReading};
+ghost use Rattle.cert.specs.CertificateText.{IsStepOf, HasOneEach, IsEndOf, IsCertOf};
+
+use super::*;
+use atto::{Nano, Units};
+use cert::{Cert, Chain, EndProof, Execution, Step};
+use problem::{Bound, Problem, read_problem};
+use std::alloc::Global;
+use std::test::*;
+
+// A message between two clocks. At the second an event comes up to 3 ns before the reading of its stamp and 5 ns behind.
+const MESSAGE: &str =
+    "problem 1\nclock a 0 0 0 0\nclock b 0 0 3 5\nevent a#1 a 100\nevent b#1 b 250\nmessage a#1 b#1 10 20\nend\n";
+
+// The same, and it may take any longer.
+const NO_MOST: &str =
+    "problem 1\nclock a 0 0 0 0\nclock b 0 0 3 5\nevent a#1 a 100\nevent b#1 b 250\nmessage a#1 b#1 10 none\nend\n";
+
+// The message takes at least 20 ns and at most 10.
+const CONTRADICTED: &str =
+    "problem 1\nclock a 0 0 0 0\nclock b 0 0 3 5\nevent a#1 a 100\nevent b#1 b 250\nmessage a#1 b#1 20 10\nend\n";
+
+// A message between two events of one clock.
+const SAME_CLOCK: &str =
+    "problem 1\nclock a 0 0 0 0\nevent a#1 a 100\nevent a#2 a 110\nmessage a#1 a#2 10 20\nend\n";
+
+// Two events of one clock, 10 ns apart.
+const SPAN: &str = "problem 1\nclock c 0 0 0 0\nevent p c 0\nevent q c 10\nend\n";
+
+const NS: i128 = 1_000_000_000;
+
+const MOST: Bound = Bound::DelayMost {
+    send: 0,
+    receive: 1,
+};
+
+const LEAST: Bound = Bound::DelayLeast {
+    send: 0,
+    receive: 1,
+};
+
+fn has_reading(p: &Problem, clock: u32, stamp: Nano) -> bool
+    ensures { IsTrue result → IsReading p.now clock stamp }
+{
+    for event in p.events() {
+        if event.clock == clock && event.stamp == stamp {
+            return true;
+        }
+    }
+    false
+}
+
+fn has_span(p: &Problem, clock: u32, s: Nano, t: Nano) -> bool
+    ensures most { IsTrue result → (c : Constraint) × Declares p.now (bounds.SpanMost clock s t) c }
+    ensures least { IsTrue result → (c : Constraint) × Declares p.now (bounds.SpanLeast clock s t) c }
+{
+    let _ = p.clocks();
+    if s < t && has_reading(p, clock, s) {
+        return has_reading(p, clock, t);
+    }
+    false
+}
+
+fn has_event(p: &Problem, event: u32) -> bool
+    ensures late { IsTrue result → (c : Constraint) × Declares p.now (bounds.Late event) c }
+    ensures early { IsTrue result → (c : Constraint) × Declares p.now (bounds.Early event) c }
+{
+    if event as usize >= p.events().len() {
+        return false;
+    }
+    true
+}
+
+fn has_message(p: &Problem, send: u32, receive: u32) -> bool
+    ensures { IsTrue result → (c : Constraint) × Declares p.now (bounds.DelayLeast send receive) c }
+{
+    for message in p.messages() {
+        if message.send == send && message.receive == receive {
+            return true;
+        }
+    }
+    false
+}
+
+fn has_most(p: &Problem, send: u32, receive: u32) -> bool
+    ensures { IsTrue result → (c : Constraint) × Declares p.now (bounds.DelayMost send receive) c }
+{
+    for message in p.messages() {
+        if let Some(_) = message.most {
+            if message.send == send && message.receive == receive {
+                return true;
+            }
+        }
+    }
+    false
+}
+
+// Whether the problem declares a bound of this name.
+fn is_declared(p: &Problem, bound: &Bound) -> bool
+    ensures { IsTrue result → (c : Constraint) × Declares p.now bound.now c }
+{
+    match *bound {
+        Bound::SpanMost { clock, s, t } => has_span(p, clock, s, t),
+        Bound::SpanLeast { clock, s, t } => has_span(p, clock, s, t),
+        Bound::Late(event) => has_event(p, event),
+        Bound::Early(event) => has_event(p, event),
+        Bound::DelayMost { send, receive } => has_most(p, send, receive),
+        Bound::DelayLeast { send, receive } => has_message(p, send, receive),
+    }
+}
+
+// These steps, where the problem declares their bounds.
+fn chain(alloc: Global, p: &Problem, steps: &[(Bound, i128)]) -> Option<Chain>
+    requires { length steps.now ≤ 9 }
+    ensures { IfSome result (All (IsStepOf p.now)) }
+{
+    let mut chain = Chain::new(alloc);
+    for (bound, weight) in steps {
+        if !is_declared(p, bound) {
+            return None;
+        }
+        let step = Step {
+            bound: *bound,
+            weight: Units::new(*weight)?,
+        };
+        chain.push(step).ok()?;
+    }
+    Some(chain)
+}
+
+// These real times in ns, where they are as many as the nodes.
+fn execution(alloc: Global, p: &Problem, times: &[i128]) -> Option<Execution>
+    requires { length times.now ≤ 9 }
+    ensures { IfSome result (λ e. HasOneEach p.now e) }
+{
+    let mut execution = Execution::new(alloc);
+    for time in times {
+        execution.push(Units::new(*time)?).ok()?;
+    }
+    let nodes = p.events().len() as u64 + p.readings().len() as u64;
+    if u64::from(execution.len()) == nodes {
+        Some(execution)
+    } else {
+        None
+    }
+}
+
+// An end with a value, where its parts are of the problem.
+fn limit(
+    alloc: Global,
+    p: &Problem,
+    value: i128,
+    steps: &[(Bound, i128)],
+    times: &[i128],
+) -> Option<EndProof>
+    requires steps { length steps.now ≤ 9 }
+    requires times { length times.now ≤ 9 }
+    ensures { IfSome result (λ e. IsEndOf p.now e) }
+{
+    Some(EndProof::At {
+        value: Units::new(value)?,
+        path: chain(alloc, p, steps)?,
+        execution: execution(alloc, p, times)?,
+    })
+}
+
+// No end, with the clock at this place inside.
+fn cut(alloc: Global, p: &Problem, clock: u32, times: &[i128]) -> Option<EndProof>
+    requires { length times.now ≤ 9 }
+    ensures { IfSome result (λ e. IsEndOf p.now e) }
+{
+    if (clock as usize) >= p.clocks().len() {
+        return None;
+    }
+    Some(EndProof::Unbounded {
+        inside: Vec::from_slice(alloc, &[clock]).ok()?,
+        execution: execution(alloc, p, times)?,
+    })
+}
+
+// Whether this is the answer for a cycle of these steps.
+fn cycle_answers(alloc: Global, p: &Problem, steps: &[(Bound, i128)], want: Answer) -> bool
+    requires { length steps.now ≤ 9 }
+{
+    match chain(alloc, p, steps) {
+        Some(steps) => check(p, &Cert::Cycle(steps)) == want,
+        None => false,
+    }
+}
+
+// Whether this is the answer for a run in which the second clock and event come so much later than the first.
+fn run_answers(alloc: Global, p: &Problem, last: i128, want: Answer) -> bool {
+    match execution(alloc, p, &[0, last, 0, last]) {
+        Some(times) => check(p, &Cert::Run(times)) == want,
+        None => false,
+    }
+}
+
+// Whether this is the answer for these ends of the interval of the first two events.
+fn ends_answer(p: &Problem, upper: Option<EndProof>, lower: Option<EndProof>, want: Answer) -> bool
+    requires upper { IfSome upper (λ e. IsEndOf p.now e) }
+    requires lower { IfSome lower (λ e. IsEndOf p.now e) }
+{
+    let Some(upper) = upper else {
+        return false;
+    };
+    let Some(lower) = lower else {
+        return false;
+    };
+    if p.events().len() < 2 {
+        return false;
+    }
+    let ends = Cert::Ends {
+        p: 0,
+        q: 1,
+        upper,
+        lower,
+    };
+    check(p, &ends) == want
+}
+
+// A lower end that shows what it should.
+fn least(alloc: Global, p: &Problem) -> Option<EndProof>
+    ensures { IfSome result (λ e. IsEndOf p.now e) }
+{
+    limit(
+        alloc,
+        p,
+        10 * NS,
+        &[(LEAST, -10 * NS)],
+        &[0, 10 * NS, 0, 10 * NS],
+    )
+}
+
+// Whether this is the answer where the upper end is made so, and the lower end shows what it should.
+fn upper_answers(
+    alloc: Global,
+    p: &Problem,
+    value: i128,
+    step: (Bound, i128),
+    last: i128,
+    want: Answer,
+) -> bool {
+    let upper = limit(alloc, p, value, &[step], &[0, last, 0, last]);
+    ends_answer(p, upper, least(alloc, p), want)
+}
+
+// Whether this is the answer where the lower end is made so, and the upper end shows what it should.
+fn lower_answers(
+    alloc: Global,
+    p: &Problem,
+    value: i128,
+    step: (Bound, i128),
+    last: i128,
+    want: Answer,
+) -> bool {
+    let upper = limit(
+        alloc,
+        p,
+        20 * NS,
+        &[(MOST, 20 * NS)],
+        &[0, 20 * NS, 0, 20 * NS],
+    );
+    let lower = limit(alloc, p, value, &[step], &[0, last, 0, last]);
+    ends_answer(p, upper, lower, want)
+}
+
+// Whether this is the answer for ends of these values, with paths back over the span of a clock and along it.
+fn span_answers(alloc: Global, p: &Problem, above: i128, below: i128, want: Answer) -> bool {
+    let [first, second, ..] = p.events() else {
+        return false;
+    };
+    let most = Bound::SpanMost {
+        clock: 0,
+        s: first.stamp,
+        t: second.stamp,
+    };
+    let least = Bound::SpanLeast {
+        clock: 0,
+        s: first.stamp,
+        t: second.stamp,
+    };
+    let times = [0, 10 * NS, 0, 10 * NS];
+    let back = [(Bound::Late(1), 0), (most, 10 * NS), (Bound::Early(0), 0)];
+    let along = [(Bound::Early(1), 0), (least, -10 * NS), (Bound::Late(0), 0)];
+    let upper = limit(alloc, p, above, &back, &times);
+    let lower = limit(alloc, p, below, &along, &times);
+    ends_answer(p, upper, lower, want)
+}
+
+// Whether this is the answer where this clock is inside the cut of one end, and the other end shows what it should.
+fn cut_answers(
+    alloc: Global,
+    text: &str,
+    part: Part,
+    clock: u32,
+    last: i128,
+    want: Answer,
+) -> bool {
+    let Ok(p) = read_problem(alloc, text.as_bytes()) else {
+        return false;
+    };
+    let times = [0, last, 0, last];
+    match part {
+        Part::Upper => ends_answer(&p, cut(alloc, &p, clock, &times), least(alloc, &p), want),
+        _ => {
+            let upper = limit(
+                alloc,
+                &p,
+                20 * NS,
+                &[(MOST, 20 * NS)],
+                &[0, 20 * NS, 0, 20 * NS],
+            );
+            ends_answer(&p, upper, cut(alloc, &p, clock, &times), want)
+        }
+    }
+}
+
+// That the message takes longer than it may, or not as long as it must.
+fn too_late(difference: i128) -> Reason {
+    Reason::Broken {
+        bound: MOST,
+        weight: 20 * NS,
+        difference,
+    }
+}
+
+fn too_early(difference: i128) -> Reason {
+    Reason::Broken {
+        bound: LEAST,
+        weight: -10 * NS,
+        difference,
+    }
+}
+
+fn no(part: Part, reason: Reason) -> Answer {
+    Answer::No { part, reason }
+}
+
+#[test]
+fn cycles_are_checked(rt: HostRuntime) {
+    let p = read_problem(rt.alloc(), MESSAGE.as_bytes()).expect(&rt, "a problem");
+    for (first, second, reason) in [
+        ((MOST, 20 * NS), (LEAST, -10 * NS), Reason::Sum(10 * NS)),
+        ((Bound::Late(0), 0), (Bound::Early(0), 0), Reason::Sum(0)),
+        (
+            (Bound::Late(1), 5 * NS),
+            (Bound::Early(1), 3 * NS),
+            Reason::Sum(8 * NS),
+        ),
+        (
+            (Bound::Late(1), 3 * NS),
+            (Bound::Early(1), 5 * NS),
+            Reason::Weight(1),
+        ),
+        ((MOST, 20 * NS), (LEAST, -30 * NS), Reason::Weight(2)),
+        ((MOST, 19 * NS), (Bound::Late(0), 0), Reason::Weight(1)),
+        ((MOST, 20 * NS), (Bound::Late(0), 1), Reason::Join(1)),
+        ((Bound::Late(0), 0), (MOST, 20 * NS), Reason::Join(2)),
+    ] {
+        assert!(rt; cycle_answers(rt.alloc(), &p, &[first, second], no(Part::Cycle, reason)));
+    }
+    assert!(rt; cycle_answers(rt.alloc(), &p, &[], no(Part::Cycle, Reason::Empty)));
+    let p = read_problem(rt.alloc(), CONTRADICTED.as_bytes()).expect(&rt, "a problem");
+    let steps = [(MOST, 10 * NS), (LEAST, -20 * NS)];
+    assert!(rt; cycle_answers(rt.alloc(), &p, &steps, Answer::Yes));
+}
+
+#[test]
+fn runs_and_upper_ends_are_checked(rt: HostRuntime) {
+    let p = read_problem(rt.alloc(), MESSAGE.as_bytes()).expect(&rt, "a problem");
+    assert!(rt; run_answers(rt.alloc(), &p, 15 * NS, Answer::Yes));
+    assert!(rt; run_answers(rt.alloc(), &p, 21 * NS, no(Part::Run, too_late(21 * NS))));
+    let upper = Part::Upper;
+    for (value, step, last, want) in [
+        (20 * NS, (MOST, 20 * NS), 20 * NS, Answer::Yes),
+        (
+            19 * NS,
+            (MOST, 19 * NS),
+            20 * NS,
+            no(upper, Reason::Weight(1)),
+        ),
+        (20 * NS, (LEAST, 7), 20 * NS, no(upper, Reason::Join(1))),
+        (
+            20 * NS,
+            (Bound::Late(1), 5 * NS),
+            20 * NS,
+            no(upper, Reason::Join(2)),
+        ),
+        (
+            21 * NS,
+            (MOST, 20 * NS),
+            20 * NS,
+            no(upper, Reason::Sum(20 * NS)),
+        ),
+        (
+            20 * NS,
+            (MOST, 20 * NS),
+            21 * NS,
+            no(upper, too_late(21 * NS)),
+        ),
+        (
+            20 * NS,
+            (MOST, 20 * NS),
+            15 * NS,
+            no(upper, Reason::Difference(15 * NS)),
+        ),
+    ] {
+        assert!(rt; upper_answers(rt.alloc(), &p, value, step, last, want));
+    }
+}
+
+#[test]
+fn lower_ends_are_checked(rt: HostRuntime) {
+    let p = read_problem(rt.alloc(), MESSAGE.as_bytes()).expect(&rt, "a problem");
+    let lower = Part::Lower;
+    for (value, step, last, want) in [
+        (10 * NS, (LEAST, -10 * NS), 10 * NS, Answer::Yes),
+        (
+            -10 * NS,
+            (LEAST, -10 * NS),
+            10 * NS,
+            no(lower, Reason::Sum(-10 * NS)),
+        ),
+        (
+            10 * NS,
+            (MOST, 20 * NS),
+            10 * NS,
+            no(lower, Reason::Join(1)),
+        ),
+        (
+            10 * NS,
+            (LEAST, -10 * NS),
+            12 * NS,
+            no(lower, Reason::Difference(12 * NS)),
+        ),
+    ] {
+        assert!(rt; lower_answers(rt.alloc(), &p, value, step, last, want));
+    }
+    let p = read_problem(rt.alloc(), SPAN.as_bytes()).expect(&rt, "a problem");
+    for (above, below, want) in [
+        (10 * NS, 10 * NS, Answer::Yes),
+        (11 * NS, 9 * NS, no(Part::Upper, Reason::Sum(10 * NS))),
+        (10 * NS, 9 * NS, no(lower, Reason::Sum(-10 * NS))),
+    ] {
+        assert!(rt; span_answers(rt.alloc(), &p, above, below, want));
+    }
+}
+
+#[test]
+fn cuts_are_checked(rt: HostRuntime) {
+    let upper = Part::Upper;
+    let lower = Part::Lower;
+    for (text, part, clock, last, want) in [
+        (NO_MOST, upper, 0, 10 * NS, Answer::Yes),
+        (NO_MOST, upper, 1, 10 * NS, no(upper, Reason::Home)),
+        (NO_MOST, upper, 0, 9 * NS, no(upper, too_early(-9 * NS))),
+        (MESSAGE, upper, 0, 10 * NS, no(upper, Reason::Leaves(MOST))),
+        (MESSAGE, lower, 1, 10 * NS, no(lower, Reason::Leaves(LEAST))),
+        (MESSAGE, lower, 0, 10 * NS, no(lower, Reason::Home)),
+        (SAME_CLOCK, upper, 0, 10 * NS, no(upper, Reason::Away)),
+    ] {
+        assert!(rt; cut_answers(rt.alloc(), text, part, clock, last, want));
+    }
+}

@@ -1,0 +1,229 @@
+// Judges an execution by the bounds of a problem.
+ghost use Rattle.std.specs.Prelude.{◌≡◌, ◌<◌, ◌+◌, ℕ, List, [], ◌∷◌, length, slice_get, Some, Contains, ◌-ℤ◌, ◌≤◌, ◌^◌, unsigned_abs};
+ghost use Rattle.problem_model.specs.Problem.{IsProblem, ProblemLists};
+ghost use Rattle.problem_model.specs.Bounds.{Constraint, Declares, Times, ClockAt, EventAt, IsReading};
+ghost use Rattle.problem_model.specs.Nodes.{Reading, AreReadings, Lists};
+ghost use Rattle.problem_model.specs.ShortList.{neighbour_bounds, span_bounds, event_bounds, message_bounds, most_bound};
+ghost use Rattle.std.specs.List.{flat_map};
+ghost use Rattle.problem_model.specs.declared.items.Node.TheVariants as nodes;
+ghost use Rattle.problem_model.specs.declared.items.Bound.TheVariants.{Late, Early};
+ghost use Rattle.cert.specs.CertificateText.{HasOneEach};
+ghost use Rattle.cert_check.specs.Verdict.{Judges, IsVerdict, AreTimes};
+
+use atto::{Nano, Units, delay_units, span_least, span_most};
+use cert::Execution;
+use problem::{Bound, Clock, Event, Message, Problem};
+
+/// Whether an execution obeys the bounds of a problem. Weight and difference are in units of 1e-9 ns.
+#[derive(Clone, Copy, Debug, PartialEq, Eq)]
+pub enum Verdict {
+    /// Every declared bound is obeyed, between every two readings of a clock.
+    Obeys,
+    /// The first bound of the short list that is not obeyed, its weight, and what `x_to - x_from` is.
+    Broken {
+        bound: Bound,
+        weight: i128,
+        difference: i128,
+    },
+}
+
+// The real time from one node to another, in units.
+pub(crate) fn difference(from: Units, to: Units) -> i128
+    ensures exact { result ≡ to -ℤ from }
+    ensures below { unsigned_abs result ≤ 2 ^ 121 }
+{
+    to.get() - from.get()
+}
+
+// Judges one bound by the real times of its ends.
+fn judge(bound: Bound, weight: i128, from: Units, to: Units) -> Verdict
+    ensures { (p : ProblemLists) (x : Times) (a : Constraint) → IsProblem p → Declares p bound a → a.weight ≡ weight → x a.from ≡ from → x a.to ≡ to → Judges p x (bound ∷ []) result }
+{
+    let difference = difference(from, to);
+    if difference <= weight {
+        Verdict::Obeys
+    } else {
+        Verdict::Broken {
+            bound,
+            weight,
+            difference,
+        }
+    }
+}
+
+// Judges the two bounds over the span of neighbouring readings of one clock.
+fn judge_span(place: u32, clock: &Clock, s: Nano, t: Nano, from: Units, to: Units) -> Verdict
+    requires { s < t }
+    ensures { (p : ProblemLists) (x : Times) → IsProblem p → ClockAt p place clock.now → IsReading p place s → IsReading p place t → x (nodes.Reading place s) ≡ from → x (nodes.Reading place t) ≡ to
+        → Judges p x (neighbour_bounds (place, s) (place, t)) result }
+{
+    let most = Bound::SpanMost { clock: place, s, t };
+    match judge(most, span_most(clock.rate, s, t), from, to) {
+        Verdict::Obeys => {
+            let least = Bound::SpanLeast { clock: place, s, t };
+            judge(least, -span_least(clock.rate, s, t), to, from)
+        }
+        broken => broken,
+    }
+}
+
+// Judges the two bounds on the stamp of an event.
+fn judge_stamp(place: u32, event: &Event, clock: &Clock, reading: Units, time: Units) -> Verdict
+    ensures { (p : ProblemLists) (x : Times) → IsProblem p → EventAt p place event.now → ClockAt p event.now.clock clock.now → x (nodes.Reading event.now.clock event.now.stamp) ≡ reading → x (nodes.Event place) ≡ time
+        → Judges p x (Late place ∷ Early place ∷ []) result }
+{
+    match judge(Bound::Late(place), delay_units(clock.late), reading, time) {
+        Verdict::Obeys => judge(Bound::Early(place), delay_units(clock.early), time, reading),
+        broken => broken,
+    }
+}
+
+// Judges the bound on the greatest delay of a message, where there is one.
+fn judge_most(message: &Message, send: Units, receive: Units) -> Verdict
+    ensures { (p : ProblemLists) (x : Times) → IsProblem p → Contains p.messages message.now → x (nodes.Event message.now.send) ≡ send → x (nodes.Event message.now.receive) ≡ receive
+        → Judges p x (most_bound message.now message.now.most) result }
+{
+    match message.most {
+        Some(most) => {
+            let bound = Bound::DelayMost {
+                send: message.send,
+                receive: message.receive,
+            };
+            judge(bound, delay_units(most), send, receive)
+        }
+        None => Verdict::Obeys,
+    }
+}
+
+// Judges the bounds on the delay of a message.
+fn judge_message(message: &Message, send: Units, receive: Units) -> Verdict
+    ensures { (p : ProblemLists) (x : Times) → IsProblem p → Contains p.messages message.now → x (nodes.Event message.now.send) ≡ send → x (nodes.Event message.now.receive) ≡ receive
+        → Judges p x (message_bounds message.now) result }
+{
+    match judge_most(message, send, receive) {
+        Verdict::Obeys => {
+            let bound = Bound::DelayLeast {
+                send: message.send,
+                receive: message.receive,
+            };
+            judge(bound, -delay_units(message.least), receive, send)
+        }
+        broken => broken,
+    }
+}
+
+// The place of a reading among those of a problem.
+fn place_of(p: &Problem, clock: u32, stamp: Nano) -> usize
+    requires { IsReading p.now clock stamp }
+    ensures { (readings : List Reading) → AreReadings p.now readings → slice_get readings result ≡ Some (clock, stamp) }
+{
+    match p.reading_place(clock, stamp) {
+        Some(place) => place as usize,
+        None => 0,
+    }
+}
+
+// Judges the bounds over the span of two neighbouring readings, if they are of one clock.
+fn judge_neighbours(
+    clocks: &[Clock],
+    a: (u32, Nano),
+    b: (u32, Nano),
+    from: Units,
+    to: Units,
+) -> Verdict
+    requires clock { a.0 < length clocks.now }
+    requires rising { a.0 ≡ b.0 → a.1 < b.1 }
+    ensures { (p : ProblemLists) (x : Times) → IsProblem p → clocks.now ≡ p.clocks → IsReading p a.0 a.1 → IsReading p b.0 b.1 → x (nodes.Reading a.0 a.1) ≡ from → x (nodes.Reading b.0 b.1) ≡ to
+        → Judges p x (neighbour_bounds a b) result }
+{
+    if a.0 != b.0 {
+        return Verdict::Obeys;
+    }
+    judge_span(a.0, &clocks[a.0 as usize], a.1, b.1, from, to)
+}
+
+// The real time of the reading at a place.
+fn reading_time(p: &Problem, e: &Execution, place: usize) -> Units
+    requires each { HasOneEach p.now e.now }
+    requires within { (readings : List Reading) → AreReadings p.now readings → place < length readings }
+    ensures { (x : Times) (readings : List Reading) (r : Reading) → AreTimes p.now x readings e.now → slice_get readings place ≡ Some r → x (nodes.Reading r.0 r.1) ≡ result }
+{
+    e.value(e.len() - (p.readings().len() - place) as u32)
+}
+
+// The real time of the event at a place.
+pub(crate) fn event_time(p: &Problem, e: &Execution, place: u32) -> Units
+    requires each { HasOneEach p.now e.now }
+    requires within { place < length p.now.events }
+    ensures { (x : Times) (readings : List Reading) → AreTimes p.now x readings e.now → x (nodes.Event place) ≡ result }
+{
+    e.value(place)
+}
+
+// Judges the bounds over the spans of neighbouring readings.
+fn judge_spans(p: &Problem, e: &Execution) -> Verdict
+    requires { HasOneEach p.now e.now }
+    ensures { (x : Times) (readings : List Reading) → AreTimes p.now x readings e.now → Judges p.now x (span_bounds readings) result }
+{
+    let clocks = p.clocks();
+    let readings = p.readings();
+    let last = readings.len().saturating_sub(1);
+    for place in 0..last {
+        let from = reading_time(p, e, place);
+        let to = reading_time(p, e, place + 1);
+        match judge_neighbours(clocks, readings[place], readings[place + 1], from, to) {
+            Verdict::Obeys => {}
+            broken => return broken,
+        }
+    }
+    Verdict::Obeys
+}
+
+// Judges the bounds on the stamps of events.
+fn judge_stamps(p: &Problem, e: &Execution) -> Verdict
+    requires { HasOneEach p.now e.now }
+    ensures { (x : Times) (readings : List Reading) → AreTimes p.now x readings e.now → Judges p.now x (event_bounds 0 p.now.events) result }
+{
+    let clocks = p.clocks();
+    for (place, event) in p.events().iter().enumerate() {
+        let clock = &clocks[event.clock as usize];
+        let reading = reading_time(p, e, place_of(p, event.clock, event.stamp));
+        let time = event_time(p, e, place as u32);
+        match judge_stamp(place as u32, event, clock, reading, time) {
+            Verdict::Obeys => {}
+            broken => return broken,
+        }
+    }
+    Verdict::Obeys
+}
+
+// Judges the bounds on the delays of messages.
+fn judge_messages(p: &Problem, e: &Execution) -> Verdict
+    requires { HasOneEach p.now e.now }
+    ensures { (x : Times) (readings : List Reading) → AreTimes p.now x readings e.now → Judges p.now x (flat_map message_bounds p.now.messages) result }
+{
+    for message in p.messages() {
+        let send = event_time(p, e, message.send);
+        let receive = event_time(p, e, message.receive);
+        match judge_message(message, send, receive) {
+            Verdict::Obeys => {}
+            broken => return broken,
+        }
+    }
+    Verdict::Obeys
+}
+
+/// Whether an execution of `p` obeys every bound that `p` declares, between every two readings of a clock; else the
+/// first bound of the short list that it breaks. It takes no memory.
+pub fn obeys(p: &Problem, e: &Execution) -> Verdict
+    requires { HasOneEach p.now e.now }
+    ensures { (x : Times) → Lists p.now x e.now → IsVerdict p.now x result }
+{
+    match judge_spans(p, e) {
+        Verdict::Obeys => match judge_stamps(p, e) {
+            Verdict::Obeys => judge_messages(p, e),
+            broken => broken,
+        },
+        broken => broken,
+    }
+}
