@@ -5,7 +5,7 @@ use Rattle.ports.specs.Content.{Appends, AppendsPrefix}
 use Rattle.ports.specs.declared.failed.Failed.{Failed}
 use Rattle.cert.proofs.Pieces.{Leaves, leaves_front, first_cut, second_cut, third_cut}
 
-on_err : (r : Result (Unit {0}) Failed) (P : Type 0) → P → OnErr r P
+pub on_err : (r : Result (Unit {0}) Failed) (P : Type 0) → P → OnErr r P
 on_err (Ok v) P p = tt
 on_err (Err e) P p = p
 

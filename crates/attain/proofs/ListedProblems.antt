@@ -13,10 +13,10 @@ use Rattle.problem_model.specs.Problem.{ProblemLists}
 use Rattle.problem_model.specs.ProblemText.{clock_name, event_name}
 use Rattle.problem_model.specs.BoundText.{bound_words}
 use Rattle.problem_model.specs.Nodes.{Reading, event_nodes, reading_nodes, nodes_of}
-use Rattle.problem_model.specs.ExecutionText.{node_words}
+use Rattle.problem_model.specs.ExecutionText.{node_words, value_lines}
 use Rattle.cert.specs.declared.chain.Step.{Step}
 use Rattle.cert.specs.declared.certificate.Cert.TheVariants.{Cycle, Run}
-use Rattle.cert.specs.Listed.{Listed, name_at, certified, timed_line, listed_bound, listed_step, listed_event, listed_reading, listed_words, listed_nodes, listed_cycle, listed_run}
+use Rattle.cert.specs.Listed.{Listed, name_at, certified, timed_line, listed_bound, listed_step, listed_event, listed_reading, listed_words, listed_nodes, listed_values, listed_cycle, listed_run}
 use Rattle.cert.specs.CertificateText.{step_line, certificate_text}
 use Rattle.cert.proofs.OwnListing.{clock_name_is, lines_are}
 use Rattle.attain.specs.ListedProblem.{IsListedBy, StandsAt, IsCarried, AreCarried}
@@ -29,10 +29,10 @@ name_there (e ∷ es) zero name at = cc
 name_there (e ∷ es) (suc k) name at = name_there es k name at
 
 module _ (l : Listed) (p : ProblemLists) (readings : List Reading) (is : IsListedBy l p readings) where
-  clock_listed : (k : ℕ) → name_at l.clock_names k ≡ clock_name p.clocks k
+  pub clock_listed : (k : ℕ) → name_at l.clock_names k ≡ clock_name p.clocks k
   clock_listed k = ap (λ (names : List (List ℕ)). name_at names k) is.clocks ∙ clock_name_is p.clocks k
 
-  event_listed : (number place : ℕ) → StandsAt l number place → name_at l.event_names number ≡ event_name p.events place
+  pub event_listed : (number place : ℕ) → StandsAt l number place → name_at l.event_names number ≡ event_name p.events place
   event_listed number place (node, at) =
       let e : ℕ × ℕ = (number, node) in
       let here : slice_get (map (λ (v : ℕ × ℕ). name_at l.event_names v.0) l.events) place ≡ Some (name_at l.event_names number) = map_at (λ (v : ℕ × ℕ). name_at l.event_names v.0) l.events place e at in
@@ -64,7 +64,7 @@ module _ (l : Listed) (p : ProblemLists) (readings : List Reading) (is : IsListe
       ap (λ (ws : List (List ℕ)). line_of (codes "step" ∷ ws ++ ns_text s.1 ∷ [])) (bound_carried s.0 t.bound carried)
       ∙ ap (λ (w : ℤ). line_of (codes "step" ∷ bound_words p t.bound ++ ns_text w ∷ [])) weighs
 
-  steps_carried : (steps : List (Bound × ℤ)) (others : List Step) → AreCarried l steps others → flat_map (listed_step l) steps ≡ flat_map (step_line p) others
+  pub steps_carried : (steps : List (Bound × ℤ)) (others : List Step) → AreCarried l steps others → flat_map (listed_step l) steps ≡ flat_map (step_line p) others
   steps_carried [] [] carried = refl
   steps_carried [] (t ∷ others) carried = absurd carried
   steps_carried (s ∷ steps) [] carried = absurd carried
@@ -109,7 +109,8 @@ module _ (l : Listed) (p : ProblemLists) (readings : List Reading) (is : IsListe
       ∙ ap (λ (ws : List (List (List ℕ))). map (node_words p) (event_nodes 0 p.events) ++ ws) (reading_lines l p readings is l.readings ∙ ap (λ (rs : List Reading). map (node_words p) (reading_nodes rs)) is.stamps)
       ∙ sym (map-append (node_words p) (event_nodes 0 p.events) (reading_nodes readings))
 
+  pub values_listed : (x : ℕ → ℤ) → listed_values l x ≡ value_lines p (nodes_of p readings) (map x (listed_nodes l))
+  values_listed x = ap (λ (ws : List (List (List ℕ))). flat_map timed_line (zip ws (map x (listed_nodes l)))) words_listed ∙ lines_are p (nodes_of p readings) (map x (listed_nodes l))
+
   pub run_listed : (x : ℕ → ℤ) → listed_run l x ≡ certificate_text p (nodes_of p readings) (Run (map x (listed_nodes l)))
-  run_listed x =
-      ap (λ (text : List ℕ). certified (line_of (codes "run" ∷ []) ++ text))
-      (ap (λ (ws : List (List (List ℕ))). flat_map timed_line (zip ws (map x (listed_nodes l)))) words_listed ∙ lines_are p (nodes_of p readings) (map x (listed_nodes l)))
+  run_listed x = ap (λ (text : List ℕ). certified (line_of (codes "run" ∷ []) ++ text)) (values_listed x)

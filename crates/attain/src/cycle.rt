@@ -11,7 +11,11 @@ use problem_model::Bound;
 use sync_graph::Arc;
 
 // Writes the line of a step.
-fn write_arc<N: Listing, O: Sink>(names: &N, arc: &Arc, out: &mut O) -> Result<(), Failed>
+pub(crate) fn write_arc<N: Listing, O: Sink>(
+    names: &N,
+    arc: &Arc,
+    out: &mut O,
+) -> Result<(), Failed>
     requires named { IsNamed (record { clock_names = N.clock_names names.now; event_names = N.event_names names.now; events = N.listed_events names.now; readings = N.listed_readings names.now }) arc.now.name }
     ensures ok { OnOk result (Appends (O.written out.old) (O.written out.new)
         (listed_step (record { clock_names = N.clock_names names.now; event_names = N.event_names names.now; events = N.listed_events names.now; readings = N.listed_readings names.now }) (arc.now.name, arc.now.weight))) }

@@ -1,13 +1,25 @@
-//! What the written certificates are to the problem that a listing lists. The function does nothing.
-ghost use Rattle.std.specs.Prelude.{◌≡◌, ℕ, ℤ, List, map};
+//! What the written certificates are to the problem that a listing lists, that they are accepted, and which graphs stand for
+//! the problem. The functions do nothing.
+ghost use Rattle.std.specs.Prelude.{◌≡◌, ◌<◌, ◌≤◌, ◌^◌, ℕ, ℤ, List, length, map};
 ghost use Rattle.problem_model.specs.declared.items.Bound.{Bound};
-ghost use Rattle.problem_model.specs.Problem.{ProblemLists};
-ghost use Rattle.problem_model.specs.Nodes.{Reading, nodes_of};
+ghost use Rattle.problem_model.specs.Problem.{ProblemLists, IsProblem};
+ghost use Rattle.problem_model.specs.Bounds.{Times};
+ghost use Rattle.problem_model.specs.Nodes.{Reading, AreReadings, nodes_of};
+ghost use Rattle.problem_model.specs.ShortList.{short_list};
+ghost use Rattle.difference_bounds.specs.Solutions.{IsEarliestExecution, IsContradictionOf};
+ghost use Rattle.sync_graph.specs.Graph.{GraphLists, IsGraph};
+ghost use Rattle.sync_graph.specs.Standing.{HasBounds};
 ghost use Rattle.cert.specs.declared.chain.Step.{Step};
 ghost use Rattle.cert.specs.declared.certificate.Cert.TheVariants.{Cycle, Run};
+ghost use Rattle.cert.specs.EndLists.{EndLists};
 ghost use Rattle.cert.specs.Listed.{Listed, listed_nodes, listed_cycle, listed_run};
-ghost use Rattle.cert.specs.CertificateText.{certificate_text};
+ghost use Rattle.cert.specs.CertificateText.{certificate_text, listing_of};
+ghost use Rattle.cert.specs.ReadsCert.{FitsEndLists};
+ghost use Rattle.cert.specs.ReadAgain.{IsAccepted};
+ghost use Rattle.cert.specs.Shows.{weighed_bounds};
 ghost use Rattle.attain.specs.ListedProblem.{IsListedBy, AreCarried};
+ghost use Rattle.attain.specs.Standing.{StandsForListed};
+ghost use Rattle.attain.specs.Tight.{AreTight, IsTightText};
 
 /// Where a problem is listed, what is written by the listing is the text of a certificate of the problem: that of the
 /// same steps, with events by their places, or that of the values at the listed nodes.
@@ -18,4 +30,34 @@ pub fn listed_problems()
     ensures run { (l : Listed) (p : ProblemLists) (readings : List Reading) (x : ℕ → ℤ)
         → IsListedBy l p readings
         → listed_run l x ≡ certificate_text p (nodes_of p readings) (Run (map x (listed_nodes l))) }
+{}
+
+/// What is written is read again as a certificate that shows what it should, and is refused for want of memory alone: of
+/// the ends of an interval, of a contradiction with no more bounds than there are nodes, of the earliest execution. Its
+/// numbers are in range, and its text is not too long. So checking it answers yes.
+pub fn accepted()
+    ensures fits { (p : ProblemLists) (readings : List Reading) (first second : ℕ) (upper lower : EndLists) → AreTight p readings first second upper lower
+        → IsProblem p → AreReadings p readings → FitsEndLists upper × FitsEndLists lower }
+    ensures ends_short { (p : ProblemLists) (readings : List Reading) (first second : ℕ) (text : List ℕ) → IsTightText p readings first second text
+        → IsProblem p → AreReadings p readings → length text < 2 ^ 30 }
+    ensures ends { (p : ProblemLists) (readings : List Reading) (first second : ℕ) (text : List ℕ) → IsTightText p readings first second text
+        → IsProblem p → AreReadings p readings → first < length p.events → second < length p.events
+        → IsAccepted p readings text }
+    ensures cycle { (p : ProblemLists) (readings : List Reading) (steps : List Step) → IsContradictionOf p (weighed_bounds steps)
+        → length steps ≤ length (nodes_of p readings) → IsProblem p → AreReadings p readings
+        → IsAccepted p readings (certificate_text p (nodes_of p readings) (Cycle steps)) }
+    ensures cycle_short { (p : ProblemLists) (readings : List Reading) (steps : List Step) → IsContradictionOf p (weighed_bounds steps)
+        → length steps ≤ length (nodes_of p readings) → IsProblem p → AreReadings p readings
+        → length (certificate_text p (nodes_of p readings) (Cycle steps)) < 2 ^ 30 }
+    ensures run { (p : ProblemLists) (readings : List Reading) (x : Times) → IsEarliestExecution p x → IsProblem p → AreReadings p readings
+        → IsAccepted p readings (certificate_text p (nodes_of p readings) (Run (map x (nodes_of p readings)))) }
+    ensures run_short { (p : ProblemLists) (readings : List Reading) (x : Times) → IsEarliestExecution p x → IsProblem p → AreReadings p readings
+        → length (certificate_text p (nodes_of p readings) (Run (map x (nodes_of p readings)))) < 2 ^ 30 }
+{}
+
+/// A graph that has the nodes of a problem in their order, and its short list as its arcs, stands for the problem as it
+/// lists itself. The graph that is made of a problem is such a one.
+pub fn own_graphs()
+    ensures { (p : ProblemLists) (readings : List Reading) (g : GraphLists) → IsProblem p → AreReadings p readings → IsGraph g
+        → HasBounds p readings (short_list p readings) g → StandsForListed (listing_of p) p readings g }
 {}

@@ -2,11 +2,21 @@
 //! memory.
 #![tactic(auto)]
 
+mod cut;
 mod cycle;
+mod ends;
+#[cfg(test)]
+mod ends_tests;
+mod interval;
 pub mod laws;
+mod lead;
+mod part;
+mod path;
 mod run;
+mod side;
 #[cfg(test)]
 mod tests;
 
 pub use cycle::write_cycle;
+pub use ends::write_ends;
 pub use run::write_run;

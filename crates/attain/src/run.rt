@@ -10,7 +10,7 @@ use ports::{Failed, Sink, write_whole};
 use problem::Listing;
 
 // The number of the node at a place: the events in their order, then the readings.
-fn node_at<N: Listing>(names: &N, place: u32) -> u32
+pub(crate) fn node_at<N: Listing>(names: &N, place: u32) -> u32
     requires { place < length (listed_nodes (record { clock_names = N.clock_names names.now; event_names = N.event_names names.now; events = N.listed_events names.now; readings = N.listed_readings names.now })) }
     ensures { slice_get (listed_nodes (record { clock_names = N.clock_names names.now; event_names = N.event_names names.now; events = N.listed_events names.now; readings = N.listed_readings names.now })) place ≡ Some result }
 {
@@ -22,14 +22,18 @@ fn node_at<N: Listing>(names: &N, place: u32) -> u32
 }
 
 // How many nodes are listed.
-fn node_count<N: Listing>(names: &N) -> u32
+pub(crate) fn node_count<N: Listing>(names: &N) -> u32
     ensures { result ≡ length (listed_nodes (record { clock_names = N.clock_names names.now; event_names = N.event_names names.now; events = N.listed_events names.now; readings = N.listed_readings names.now })) }
 {
     names.event_count() + names.reading_count()
 }
 
 // Writes the lines of the nodes.
-fn write_values<N: Listing, O: Sink>(names: &N, e: &Earliest, out: &mut O) -> Result<(), Failed>
+pub(crate) fn write_values<N: Listing, O: Sink>(
+    names: &N,
+    e: &Earliest,
+    out: &mut O,
+) -> Result<(), Failed>
     requires solved { e.now.is_solved ≡ true }
     requires one_each { All (λ k. k < length e.now.values) (listed_nodes (record { clock_names = N.clock_names names.now; event_names = N.event_names names.now; events = N.listed_events names.now; readings = N.listed_readings names.now })) }
     ensures ok { OnOk result (Appends (O.written out.old) (O.written out.new)

@@ -1,0 +1,200 @@
+-- The written lower end of an interval shows it: a path and the soonest execution, or a cut and the earliest one.
+use Rattle.std.proofs.Common.{◌≡◌, ◌↔◌, ◌<◌, ℕ, Bool, true, false, not, List, length, map, refl, sym, ◌∙◌, ap, arith, inl, inr}
+use Rattle.std.specs.Prelude.{ℤ, pos, neg_ℤ, ◌-ℤ◌, ◌≤ℤ◌, ◌+ℤ◌, Contains}
+use Rattle.std.proofs.lemmas.Int.{ints}
+use Rattle.std.proofs.lemmas.Bool.{cases_Bool, not_from_false}
+use Rattle.problem_model.specs.declared.items.Node.{Node}
+use Rattle.problem_model.specs.declared.items.Node.TheVariants as nodes
+use Rattle.problem_model.specs.declared.items.Bound.{Bound}
+use Rattle.problem_model.specs.Problem.{ProblemLists}
+use Rattle.problem_model.specs.Bounds.{Times}
+use Rattle.problem_model.specs.Nodes.{Reading, nodes_of}
+use Rattle.difference_bounds.specs.Executions.{at}
+use Rattle.difference_bounds.specs.Parents.{Cells, IsRow}
+use Rattle.difference_bounds.specs.Problems.{IsGreatestOf, IsUnboundedOf}
+use Rattle.difference_bounds.specs.Rows.{IsLeastLead, attaining, least_differences}
+use Rattle.difference_bounds.specs.Solutions.{IsNodeOf}
+use Rattle.difference_bounds.proofs.Attaining.{attaining-known, attaining-other}
+use Rattle.difference_bounds.proofs.Parents.{towards_closed, towards_row_greatest, towards_row_unbounded}
+use Rattle.difference_bounds.proofs.Towards.{towards_execution}
+use Rattle.difference_bounds.specs.Tables.{reversed_table}
+use Rattle.sync_graph.specs.Graph.{GraphLists, IsGraph, table_of}
+use Rattle.earliest.specs.Values.{arcs_of, IsEarliestOf}
+use Rattle.cert.specs.EndLists.{EndLists, Limited, Unlimited}
+use Rattle.cert.specs.CertificateText.{AreListsOf}
+use Rattle.cert.specs.Listed.{Listed, listed_nodes}
+use Rattle.cert.specs.Shows.{IsLowerEnd}
+use Rattle.attain.specs.Standing.{IsNodeBy, StandsForListed}
+use Rattle.attain.specs.Tight.{HasPath, IsLeastLeadOf, IsSoonest, IsLowerCut, IsLowerAs}
+use Rattle.attain.specs.Written.{WrittenEnd, Limit, NoLimit, IsLowerWritten}
+use Rattle.attain.proofs.AttainedTimes.{one_greatest_of, no_greatest_of, one_each, times_like}
+use Rattle.attain.proofs.ClosedClocks.{Holds, holds_by, closed_path, has_clock, clock_there, clocks_below, parts}
+use Rattle.attain.proofs.EndTexts.{IsListedEnd}
+use Rattle.attain.proofs.ListedExecutions.{arcs_listed, arcs_within, greatest_of, unbounded_of, earliest_of}
+use Rattle.attain.proofs.NodeNumbers.{node_count, number_below, is_node, number_of, node_of, times_by, time_by}
+use Rattle.attain.proofs.ParentWays.{lower_way, path_of_known}
+
+least_is : (v h : ℤ) → v ≡ h → (pos 0 -ℤ v) ≡ neg_ℤ h
+least_is v h same = omega (arith, ints, same)
+
+negated_back : (value v : ℤ) → value ≡ neg_ℤ v → v ≡ neg_ℤ value
+negated_back value v is = omega (arith, ints, is)
+
+false_back : (b : Bool) → not b ≡ true → b ≡ false
+false_back true is = absurd cc
+false_back false is = refl
+
+module _ (l : Listed) (p : ProblemLists) (readings : List Reading) (g : GraphLists) (stands : StandsForListed l p readings g) (is : IsGraph g) (values : List ℤ)
+    (e : IsEarliestOf g values)
+    (from first : ℕ)
+    (own : IsNodeBy l p readings from (nodes.Event first))
+    (c : Cells)
+    (row : IsRow (length g.nodes) (reversed_table (table_of g)) from c)
+  where
+    not_known : (k : ℕ) → not (c.known k) ≡ true → c.known k ≡ true → ⊥
+    not_known k unknown known = let other : c.known k ≡ false = false_back (c.known k) unknown in let none : ⊥ = cc in none
+
+    -- ---- greatest differences towards the node
+    known_greatest : (k : ℕ) (n : Node) → IsNodeBy l p readings k n → c.known k ≡ true → IsGreatestOf p n (nodes.Event first) (c.value k)
+    known_greatest k n by known =
+        greatest_of l p readings g stands is k from n (nodes.Event first) by own (c.value k)
+        (towards_row_greatest (length g.nodes) (table_of g) (arcs_of g) from c (arcs_listed g is) row values (arcs_within g is) e.execution k known)
+
+    unknown_unbounded : (k : ℕ) (n : Node) → IsNodeBy l p readings k n → c.known k ≡ false → IsUnboundedOf p n (nodes.Event first)
+    unknown_unbounded k n by unknown =
+        unbounded_of l p readings g stands is k from n (nodes.Event first) by own
+        (towards_row_unbounded (length g.nodes) (table_of g) (arcs_of g) from c (arcs_listed g is) row values (arcs_within g is) e.execution k (number_below l p readings g stands k n by) unknown)
+
+    greatest_known : (k : ℕ) (n : Node) (h : ℤ) → IsNodeBy l p readings k n → IsGreatestOf p n (nodes.Event first) h → (c.known k ≡ true) × (c.value k ≡ h)
+    greatest_known k n h by greatest = elim (cases_Bool (c.known k)) [
+      | inl known ↦ (known, one_greatest_of p n (nodes.Event first) (c.value k) h (known_greatest k n by known) greatest)
+      | inr unknown ↦ absurd (no_greatest_of p n (nodes.Event first) h (unknown_unbounded k n by unknown) greatest)
+    ]
+
+    unbounded_unknown : (k : ℕ) (n : Node) → IsNodeBy l p readings k n → IsUnboundedOf p n (nodes.Event first) → c.known k ≡ false
+    unbounded_unknown k n by unbounded = elim (cases_Bool (c.known k)) [
+      | inl known ↦ absurd (no_greatest_of p n (nodes.Event first) (c.value k) unbounded (known_greatest k n by known))
+      | inr unknown ↦ unknown
+    ]
+
+    -- ---- the soonest execution
+    module _ (earliest : Times) (earliest_is : map (at values) (listed_nodes l) ≡ map earliest (nodes_of p readings)) (K : ℤ) (lead : IsLeastLead (length g.nodes) c.known (least_differences c.value) values K) where
+      least_lead : IsLeastLeadOf p (nodes.Event first) earliest K
+      least_lead = record {
+        attained = (
+            let some = node_of l p readings g stands lead.attained.0 lead.attained.1 in
+            let time : earliest some.0 ≡ at values lead.attained.0 = time_by l p readings g stands (at values) earliest earliest_is lead.attained.0 some.0 some.1 in
+            let same : ((pos 0 -ℤ c.value lead.attained.0) -ℤ at values lead.attained.0) ≡ K = lead.attained.3 in
+            (some.0, c.value lead.attained.0, is_node l p readings g stands lead.attained.0 some.0 some.1, known_greatest lead.attained.0 some.0 some.1 lead.attained.2, omega (arith, ints, time, same)));
+        least = λ n h there greatest.
+            let by = number_of l p readings g stands n there in
+            let known = greatest_known by.0 n h by.1 greatest in
+            let value : c.value by.0 ≡ h = known.1 in
+            let time : earliest n ≡ at values by.0 = time_by l p readings g stands (at values) earliest earliest_is by.0 n by.1 in
+            let least : K ≤ℤ ((pos 0 -ℤ c.value by.0) -ℤ at values by.0) = lead.least_lead by.0 (number_below l p readings g stands by.0 n by.1) known.0 in
+            omega (arith, ints, value, time, least);
+      }
+
+      soonest : (x : Times) → ((k : ℕ) (n : Node) → IsNodeBy l p readings k n → x n ≡ attaining c.known (least_differences c.value) values K k) → IsSoonest p (nodes.Event first) earliest K x
+      soonest x same = record {
+        limited = λ n h there greatest.
+            let by = number_of l p readings g stands n there in
+            let known = greatest_known by.0 n h by.1 greatest in
+            same by.0 n by.1 ∙ attaining-known c.known (least_differences c.value) values K by.0 known.0 ∙ least_is (c.value by.0) h known.1;
+        unlimited = λ n there unbounded.
+            let by = number_of l p readings g stands n there in
+            let unknown = unbounded_unknown by.0 n by.1 unbounded in
+            let time : earliest n ≡ at values by.0 = time_by l p readings g stands (at values) earliest earliest_is by.0 n by.1 in
+            same by.0 n by.1 ∙ attaining-other c.known (least_differences c.value) values K by.0 unknown ∙ ap (λ (v : ℤ). v +ℤ K) (sym time);
+      }
+
+    -- ---- the written end
+    module _ (to second : ℕ) (by : IsNodeBy l p readings to (nodes.Event second)) (there : first < length p.events) (there' : second < length p.events) where
+      -- lists of the problem that show the end
+      abbrev Shown : WrittenEnd → Type 0
+      Shown w = (end : EndLists) × IsListedEnd l w end × AreListsOf p end × IsLowerEnd p first second end × IsLowerAs p readings first end
+
+      at_limit : (value : ℤ) (steps : List (Bound × ℤ)) (x : ℕ → ℤ) → IsLowerWritten l g values c from to (Limit value steps x) → Shown (Limit value steps x)
+      at_limit value steps x (K, known, value_is, lead, follows, short, same) =
+          let earliest = times_by l p readings g stands (at values) in
+          let way = lower_way l p readings g stands is from (nodes.Event first) own c row steps to (nodes.Event second) by known follows in
+          let t = times_like l p readings g stands is (attaining c.known (least_differences c.value) values K) x
+          (towards_execution (length g.nodes) (arcs_of g) from c.known c.value values (arcs_within g is) (towards_closed (length g.nodes) (table_of g) (arcs_of g) from c (arcs_listed g is) row) e.execution K lead) same in
+          let time_to : t.0 (nodes.Event second) ≡ pos 0 -ℤ c.value to = t.3 to (nodes.Event second) by ∙ attaining-known c.known (least_differences c.value) values K to known in
+          let time_from : t.0 (nodes.Event first) ≡ pos 0 -ℤ c.value from = t.3 from (nodes.Event first) own ∙ attaining-known c.known (least_differences c.value) values K from row.own.0 in
+          let zero_from : c.value from ≡ pos 0 = row.own.1 in
+          let difference : (t.0 (nodes.Event second) -ℤ t.0 (nodes.Event first)) ≡ value = omega (arith, ints, time_to, time_from, zero_from, value_is) in (
+            Limited value way.0 (map x (listed_nodes l)),
+            (way.0, way.1.0, refl),
+            (way.1.1, one_each l p readings g stands x),
+            (way.1.2, way.1.3 ∙ negated_back value (c.value to) value_is, (t.0, (readings, stands.are_readings, t.1), t.2, difference)),
+            (
+              earliest.0,
+              K,
+              t.0,
+              earliest_of l p readings g stands is values earliest.0 e earliest.1,
+              least_lead earliest.0 earliest.1 K lead,
+              soonest earliest.0 earliest.1 K lead t.0 t.3,
+              t.1,
+              (let long : length way.0 ≡ length steps = way.1.4 in omega (arith, long, short, node_count l p readings g stands)),
+            ),
+          )
+
+      -- the nodes that are not known
+      abbrev unknown_at : ℕ → Bool
+      unknown_at k = not (c.known k)
+
+      closed : (j : ℕ) → (table_of g).in_force j ≡ true → unknown_at ((table_of g).arc j).from ≡ true → unknown_at ((table_of g).arc j).to ≡ true
+      closed j force unknown = elim (cases_Bool (c.known ((table_of g).arc j).to)) [
+        | inl known ↦ absurd (not_known ((table_of g).arc j).from unknown (row.along j force known).0)
+        | inr other ↦ not_from_false (c.known ((table_of g).arc j).to) other
+      ]
+
+      each_unknown : (inside : List ℕ) → ((clock : ℕ) → Contains inside clock ↔ ((r : ℕ × ℕ × ℕ) × Contains l.readings r × (r.0 ≡ clock) × (c.known r.2 ≡ false)))
+          → (clock : ℕ) → Contains inside clock ↔ ((r : ℕ × ℕ × ℕ) × Contains l.readings r × (r.0 ≡ clock) × (unknown_at r.2 ≡ true))
+      each_unknown inside each clock = (
+        λ has. (let some = (each clock).0 has in (some.0, some.1, some.2, not_from_false (c.known some.0.2) some.3)),
+        λ some. (each clock).1 (some.0, some.1, some.2, false_back (c.known some.0.2) some.3),
+      )
+
+      module _ (inside : List ℕ) (each : (clock : ℕ) → Contains inside clock ↔ ((r : ℕ × ℕ × ℕ) × Contains l.readings r × (r.0 ≡ clock) × (unknown_at r.2 ≡ true))) where
+        first_out : Holds l p readings g stands is values e.execution unknown_at closed (nodes.Event first) → ⊥
+        first_out holds = not_known from (holds_by l p readings g stands is values e.execution unknown_at closed from (nodes.Event first) own holds) row.own.0
+
+        cut_is : IsLowerCut p (nodes.Event first) inside
+        cut_is clock = (
+          λ has. (let some = clock_there l p readings g stands is values e.execution unknown_at closed inside each clock has in
+              (some.0, some.1, some.2, λ path. first_out (closed_path l p readings g stands is values e.execution unknown_at closed some.0 (nodes.Event first) path.0 path.1 some.3))),
+          λ (n, node, on, none). has_clock l p readings g stands is values e.execution unknown_at closed inside each n clock node on (outside n node none),
+        )
+          where
+            outside : (n : Node) → IsNodeOf p n → (HasPath p n (nodes.Event first) → ⊥) → Holds l p readings g stands is values e.execution unknown_at closed n
+            outside n node none =
+                let number = number_of l p readings g stands n node in (
+                  number.0,
+                  number.1,
+                  elim (cases_Bool (c.known number.0)) [
+                    | inl known ↦ absurd (none (path_of_known l p readings g stands is from (nodes.Event first) own c row number.0 n number.1 known))
+                    | inr unknown ↦ not_from_false (c.known number.0) unknown
+                  ],
+                )
+
+      without_limit : (inside : List ℕ) (x : ℕ → ℤ) → IsLowerWritten l g values c from to (NoLimit inside x) → Shown (NoLimit inside x)
+      without_limit inside x (unknown, clocks, same) =
+          let earliest = times_by l p readings g stands (at values) in
+          let execution = earliest_of l p readings g stands is values earliest.0 e earliest.1 in
+          let listed : map x (listed_nodes l) ≡ map earliest.0 (nodes_of p readings) = ap (λ (f : ℕ → ℤ). map f (listed_nodes l)) same ∙ earliest.1 in
+          let each = each_unknown inside clocks.each in (
+            Unlimited inside (map x (listed_nodes l)),
+            refl,
+            (clocks_below l p readings g stands is values e.execution unknown_at closed inside each, clocks.rising, one_each l p readings g stands x),
+            (
+              parts l p readings g stands is values e.execution unknown_at closed inside each second first there' there (to, by, not_from_false (c.known to) unknown) (first_out inside each),
+              (earliest.0, (readings, stands.are_readings, listed), execution.execution),
+            ),
+            (earliest.0, execution, listed, cut_is inside each),
+          )
+
+      pub lower_shown : (w : WrittenEnd) → IsLowerWritten l g values c from to w → (end : EndLists) × IsListedEnd l w end × AreListsOf p end × IsLowerEnd p first second end × IsLowerAs p readings first end
+      lower_shown (Limit value steps x) written = at_limit value steps x written
+      lower_shown (NoLimit inside x) written = without_limit inside x written

@@ -1,0 +1,38 @@
+use Rattle.std.proofs.Common.{length}
+use Rattle.cert.specs.CertificateText.{listing_of}
+use Rattle.attain.proofs.Events.{event_within}
+use Rattle.attain.proofs.OwnStanding.{own_event, own_standing}
+use Rattle.attain.proofs.ends_tests.certify.Goals as goal
+
+pub row_from-requires-clause-node : goal.row_from-requires-clause-node
+row_from-requires-clause-node c =
+    let p = c.args.p.now in
+    let readings = c.readings.result.now in
+    let g = c.args.g.now in
+    let stands = own_standing p readings c.events.ensures.lawful c.readings.ensures g c.exact.ensures (c.requires.solved.graph.bounds readings c.readings.ensures) in
+    event_within (listing_of p) c.args.first (length g.nodes) stands.nodes (c.args.first, (c.args.first, own_event p readings c.events.ensures.lawful c.readings.ensures c.args.first c.requires.first))
+
+pub row_to-requires-clause-node : goal.row_to-requires-clause-node
+row_to-requires-clause-node c =
+    let p = c.args.p.now in
+    let readings = c.readings.result.now in
+    let g = c.args.g.now in
+    let stands = own_standing p readings c.events.ensures.lawful c.readings.ensures g c.exact.ensures (c.requires.solved.graph.bounds readings c.readings.ensures) in
+    event_within (listing_of p) c.args.first (length g.nodes) stands.nodes (c.args.first, (c.args.first, own_event p readings c.events.ensures.lawful c.readings.ensures c.args.first c.requires.first))
+
+pub write_ends-failed-requires-clause-stands : goal.write_ends-failed-requires-clause-stands
+write_ends-failed-requires-clause-stands c =
+    let p = c.args.p.now in
+    let readings = c.readings.result.now in
+    let g = c.args.g.now in
+    (p, readings, own_standing p readings c.events.ensures.lawful c.readings.ensures g c.exact.ensures (c.requires.solved.graph.bounds readings c.readings.ensures))
+
+pub write_ends-failed-requires-clause-events : goal.write_ends-failed-requires-clause-events
+write_ends-failed-requires-clause-events c =
+    let p = c.args.p.now in
+    let readings = c.readings.result.now in (
+      c.args.first,
+      c.args.second,
+      (c.args.first, own_event p readings c.events.ensures.lawful c.readings.ensures c.args.first c.requires.first),
+      (c.args.second, own_event p readings c.events.ensures.lawful c.readings.ensures c.args.second c.requires.second),
+    )

@@ -1,0 +1,97 @@
+// The cut where there is no limit: the clocks inside it.
+ghost use Rattle.std.specs.Prelude.{◌≡◌, ◌<◌, ◌≤◌, ◌∷◌, [], ℕ, List, length, codes, All, AllPairs, OnOk, OnErr, IfOk};
+ghost use Rattle.std.specs.List.{flat_map};
+ghost use Rattle.line_format.specs.Words.{line_of};
+ghost use Rattle.ports.specs.Content.{Rose, Appends, AppendsPrefix};
+ghost use Rattle.cert.specs.Listed.{name_at};
+ghost use Rattle.row_pool.specs.Row.{cells_of};
+ghost use Rattle.attain.specs.Written.{written_inside, AreClocksOf};
+ghost use Rattle.attain.specs.Sides.{is_upper};
+ghost use Rattle.attain.specs.Cuts.{is_another, is_first, clock_if, last_behind};
+
+use crate::side::Side;
+use cert::line::{Line, first_word};
+use cert::push_clock;
+use ports::{Failed, Sink, write_whole};
+use problem::Listing;
+use row_pool::Cell;
+
+// Whether the clock is another one than the last.
+fn is_another(last: Option<u32>, clock: u32) -> bool
+    ensures { result ≡ is_another last clock }
+{
+    match last {
+        Some(last) => last != clock,
+        None => true,
+    }
+}
+
+// Whether the clock of a reading is inside and has not been written.
+fn is_first(side: Side, known: bool, last: Option<u32>, clock: u32) -> bool
+    ensures { result ≡ is_first (is_upper side) known last clock }
+{
+    if side.is_upper() != known {
+        return false;
+    }
+    is_another(last, clock)
+}
+
+// The line of a clock inside the cut.
+fn inside_line<N: Listing>(names: &N, clock: u32) -> Line
+    requires { clock < length (N.clock_names names.now) }
+    ensures { result.items ≡ written_inside (record { clock_names = N.clock_names names.now; event_names = N.event_names names.now; events = N.listed_events names.now; readings = N.listed_readings names.now }) clock }
+{
+    let mut line = first_word(b"inside");
+    push_clock(&mut line, names, clock);
+    line.push(b'\n');
+    line
+}
+
+// Writes the line of a clock if it is met first. Answers the clock that was written last.
+fn write_first<N: Listing, O: Sink>(
+    names: &N,
+    first: bool,
+    clock: u32,
+    last: Option<u32>,
+    out: &mut O,
+) -> Result<Option<u32>, Failed>
+    requires { clock < length (N.clock_names names.now) }
+    ensures ok { OnOk result (Appends (O.written out.old) (O.written out.new) (flat_map (written_inside (record { clock_names = N.clock_names names.now; event_names = N.event_names names.now; events = N.listed_events names.now; readings = N.listed_readings names.now })) (clock_if first clock))) }
+    ensures last { IfOk result (λ next. next ≡ last_behind first last clock) }
+    ensures err { OnErr result (AppendsPrefix (O.written out.old) (O.written out.new) (flat_map (written_inside (record { clock_names = N.clock_names names.now; event_names = N.event_names names.now; events = N.listed_events names.now; readings = N.listed_readings names.now })) (clock_if first clock))) }
+    ensures cause { OnErr result (Rose (O.faults out.old) (O.faults out.new)) }
+    ensures no_fall { O.faults out.old ≤ O.faults out.new }
+{
+    if !first {
+        return Ok(last);
+    }
+    let line = inside_line(names, clock);
+    write_whole(out, line.as_slice())?;
+    Ok(Some(clock))
+}
+
+// Writes the lines of the clocks inside the cut: those of readings that are known, or for the lower end of those that are
+// not.
+pub fn write_cut<N: Listing, O: Sink>(
+    names: &N,
+    side: Side,
+    cells: &[Cell],
+    out: &mut O,
+) -> Result<(), Failed>
+    requires nodes { All (λ r. r.2 < length cells.now) (N.listed_readings names.now) }
+    requires rising { AllPairs (λ r s. r.0 ≤ s.0) (N.listed_readings names.now) }
+    ensures ok { OnOk result ((inside : List ℕ) × AreClocksOf (record { clock_names = N.clock_names names.now; event_names = N.event_names names.now; events = N.listed_events names.now; readings = N.listed_readings names.now }) (cells_of cells.now) (is_upper side) inside
+        × Appends (O.written out.old) (O.written out.new) (flat_map (written_inside (record { clock_names = N.clock_names names.now; event_names = N.event_names names.now; events = N.listed_events names.now; readings = N.listed_readings names.now })) inside)) }
+    ensures err { OnErr result ((inside : List ℕ) × AreClocksOf (record { clock_names = N.clock_names names.now; event_names = N.event_names names.now; events = N.listed_events names.now; readings = N.listed_readings names.now }) (cells_of cells.now) (is_upper side) inside
+        × AppendsPrefix (O.written out.old) (O.written out.new) (flat_map (written_inside (record { clock_names = N.clock_names names.now; event_names = N.event_names names.now; events = N.listed_events names.now; readings = N.listed_readings names.now })) inside)) }
+    ensures cause { OnErr result (Rose (O.faults out.old) (O.faults out.new)) }
+    ensures no_fall { O.faults out.old ≤ O.faults out.new }
+{
+    let mut last = None;
+    for place in 0..names.reading_count() {
+        let (clock, _, node) = names.reading_at(place);
+        let first = is_first(side, cells[node as usize].known, last, clock);
+        last = write_first(names, first, clock, last, out)?;
+    }
+    Ok(())
+}

@@ -1,0 +1,181 @@
+// Certificates of intervals, each as a whole text.
+ghost use Rattle.std.specs.Prelude.{◌≡◌, ◌<◌, ◌≤◌, length, IfOk};
+ghost use Rattle.frontier.specs.Keys.{IsEmpty};
+ghost use Rattle.solver.specs.Solution.{IsSolved};
+
+use super::*;
+use distances::{row_from, row_to};
+use earliest::Earliest;
+use frontier::Frontier;
+use ports::MemSink;
+use problem::{Problem, ProblemError, read_problem};
+use row_pool::Cell;
+use solver::{Solution, solve};
+use std::alloc::{AllocError, Global};
+use std::test::Fail;
+use sync_graph::Graph;
+
+// One message, with a least delay alone.
+const LEAST_ONE: &str =
+    "problem 1\nclock c 0 0 0 0\nclock d 0 0 0 0\nevent p c 5\nevent q d 3\nmessage p q 1 none\nend\n";
+
+// A message in each direction.
+const TWO_LOGS: &str =
+    "problem 1\nclock a 0 0 0 0\nclock b 0 0 0 0\nevent a#1 a 100\nevent a#2 a 180\nevent b#1 b 250\nevent b#2 b 300\nmessage a#1 b#1 10 20\nmessage b#2 a#2 10 20\nend\n";
+
+// Two clocks without a message.
+const UNLINKED: &str =
+    "problem 1\nclock a 0 0 0 0\nclock b 0 0 0 0\nevent a#1 a 0\nevent b#1 b 0\nend\n";
+
+// One event, whose clock may be early or late.
+const ALONE: &str = "problem 1\nclock a 0 0 2 3\nevent p a 7\nend\n";
+
+// Clocks that drift. The event `c1` comes behind others without a limit, `d1` before others without one.
+const DRIFT: &str =
+    "problem 1\nclock a 100 200 0 0\nclock b 300 400 1 2\nclock c 0 0 0 0\nclock d 0 0 0 0\nevent a1 a 1000\nevent p a 3000000\nevent q b 5000\nevent c1 c 70\nevent d1 d 90\nmessage p q 10 25\nmessage a1 c1 5 none\nmessage d1 p 7 none\nend\n";
+
+// A problem, the places of two of its events, and the certificate of the interval between them.
+struct Case {
+    problem: &'static str,
+    first: u32,
+    second: u32,
+    printed: &'static str,
+}
+
+const CASES: [Case; 6] = [
+    Case {
+        problem: LEAST_ONE,
+        first: 0,
+        second: 1,
+        printed: "certificate 1\nends p q\nupper +inf\ninside c\nevent p 0.000000000\nevent q 1.000000000\nreading c 5 0.000000000\nreading d 3 1.000000000\nlower 1.000000000\nstep delay-least p q -1.000000000\nevent p 0.000000000\nevent q 1.000000000\nreading c 5 0.000000000\nreading d 3 1.000000000\nend\n",
+    },
+    Case {
+        problem: TWO_LOGS,
+        first: 0,
+        second: 2,
+        printed: "certificate 1\nends a#1 b#1\nupper 20.000000000\nstep delay-most a#1 b#1 20.000000000\nevent a#1 0.000000000\nevent a#2 80.000000000\nevent b#1 20.000000000\nevent b#2 70.000000000\nreading a 100 0.000000000\nreading a 180 80.000000000\nreading b 250 20.000000000\nreading b 300 70.000000000\nlower 10.000000000\nstep delay-least a#1 b#1 -10.000000000\nevent a#1 0.000000000\nevent a#2 80.000000000\nevent b#1 10.000000000\nevent b#2 60.000000000\nreading a 100 0.000000000\nreading a 180 80.000000000\nreading b 250 10.000000000\nreading b 300 60.000000000\nend\n",
+    },
+    Case {
+        problem: UNLINKED,
+        first: 0,
+        second: 1,
+        printed: "certificate 1\nends a#1 b#1\nupper +inf\ninside a\nevent a#1 0.000000000\nevent b#1 0.000000000\nreading a 0 0.000000000\nreading b 0 0.000000000\nlower -inf\ninside b\nevent a#1 0.000000000\nevent b#1 0.000000000\nreading a 0 0.000000000\nreading b 0 0.000000000\nend\n",
+    },
+    Case {
+        problem: ALONE,
+        first: 0,
+        second: 0,
+        printed: "certificate 1\nends p p\nupper 0.000000000\nevent p 0.000000000\nreading a 7 2.000000000\nlower 0.000000000\nevent p 0.000000000\nreading a 7 -3.000000000\nend\n",
+    },
+    Case {
+        problem: DRIFT,
+        first: 1,
+        second: 2,
+        printed: "certificate 1\nends p q\nupper 25.000000000\nstep delay-most p q 25.000000000\nevent a1 -2998999.700100000\nevent p 0.000000000\nevent q 25.000000000\nevent c1 -2.000000000\nevent d1 -7.000000000\nreading a 1000 -2998999.700100000\nreading a 3000000 0.000000000\nreading b 5000 26.000000000\nreading c 70 -2.000000000\nreading d 90 -7.000000000\nlower 10.000000000\nstep delay-least p q -10.000000000\nevent a1 -2999000.599800000\nevent p 0.000000000\nevent q 10.000000000\nevent c1 -2998995.599800000\nevent d1 -2999000.599800000\nreading a 1000 -2999000.599800000\nreading a 3000000 0.000000000\nreading b 5000 8.000000000\nreading c 70 -2998995.599800000\nreading d 90 -2999000.599800000\nend\n",
+    },
+    Case {
+        problem: DRIFT,
+        first: 0,
+        second: 2,
+        printed: "certificate 1\nends a1 q\nupper 2999025.599800000\nstep delay-most p q 25.000000000\nstep late p 0.000000000\nstep span-most a 1000 3000000 2999000.599800000\nstep early a1 0.000000000\nevent a1 0.000000000\nevent p 2999000.599800000\nevent q 2999025.599800000\nevent c1 2998998.599800000\nevent d1 2998993.599800000\nreading a 1000 0.000000000\nreading a 3000000 2999000.599800000\nreading b 5000 2999026.599800000\nreading c 70 2998998.599800000\nreading d 90 2998993.599800000\nlower 2999009.700100000\nstep delay-least p q -10.000000000\nstep early p 0.000000000\nstep span-least a 1000 3000000 -2998999.700100000\nstep late a1 0.000000000\nevent a1 0.000000000\nevent p 2998999.700100000\nevent q 2999009.700100000\nevent c1 5.000000000\nevent d1 0.000000000\nreading a 1000 0.000000000\nreading a 3000000 2998999.700100000\nreading b 5000 2999007.700100000\nreading c 70 5.000000000\nreading d 90 0.000000000\nend\n",
+    },
+];
+
+// A row with a cell for each node.
+fn new_row(alloc: Global, nodes: u32) -> Result<Vec<Cell>, AllocError>
+    ensures { IfOk result (λ row. length row.items ≡ nodes) }
+{
+    vec![in alloc; Cell::unknown(); nodes as usize]
+}
+
+// An empty frontier with room for so many nodes.
+fn room_for(alloc: Global, nodes: u32) -> Result<Frontier, AllocError>
+    ensures empty { IfOk result (λ front. IsEmpty front) }
+    ensures room { IfOk result (λ front. nodes ≤ length front) }
+{
+    let mut front = Frontier::new(alloc);
+    front.reserve(nodes)?;
+    Ok(front)
+}
+
+// Writes the certificate of two events, by rows that are made in these.
+fn certify(
+    p: &Problem,
+    g: &Graph,
+    e: &Earliest,
+    first: u32,
+    second: u32,
+    from: &mut [Cell],
+    to: &mut [Cell],
+    front: &mut Frontier,
+    out: &mut MemSink,
+)
+    requires solved { IsSolved p.now g.now e.now }
+    requires first { first < length p.now.events }
+    requires second { second < length p.now.events }
+    requires cells_from { length g.now.nodes ≤ length from.old }
+    requires cells_to { length g.now.nodes ≤ length to.old }
+    requires empty { IsEmpty front.old }
+    requires room { length g.now.nodes ≤ length front.old }
+{
+    let _ = p.events();
+    let _ = p.readings();
+    g.exact();
+    row_from(g, e, first, from, front);
+    row_to(g, e, first, to, front);
+    let _failed = write_ends(p, g, e, from, to, first, second, out);
+}
+
+// Writes the certificate of two events of a problem that has an execution.
+fn certify_solved(
+    alloc: Global,
+    p: &Problem,
+    g: &Graph,
+    e: &Earliest,
+    first: u32,
+    second: u32,
+    out: &mut MemSink,
+) -> Result<(), AllocError>
+    requires solved { IsSolved p.now g.now e.now }
+    requires first { first < length p.now.events }
+    requires second { second < length p.now.events }
+{
+    let mut front = room_for(alloc, g.nodes())?;
+    let mut from = new_row(alloc, g.nodes())?;
+    let mut to = new_row(alloc, g.nodes())?;
+    certify(p, g, e, first, second, &mut from, &mut to, &mut front, out);
+    Ok(())
+}
+
+// Whether the problem has an execution, and the certificate is written so.
+fn is_so(alloc: Global, case: &Case) -> Result<bool, ProblemError> {
+    let p = read_problem(alloc, case.problem.as_bytes())?;
+    let events = p.events().len() as u32;
+    if case.first >= events || case.second >= events {
+        return Ok(false);
+    }
+    let mut out = MemSink::new(alloc, 2000, 64, &[])?;
+    match solve(alloc, &p)? {
+        Solution::Execution(g, e) => {
+            certify_solved(alloc, &p, &g, &e, case.first, case.second, &mut out)?;
+            Ok(out.bytes() == case.printed.as_bytes())
+        }
+        Solution::Contradiction(_) => Ok(false),
+    }
+}
+
+// Whether all cases are so.
+fn all_so(alloc: Global) -> Result<bool, ProblemError> {
+    for case in &CASES {
+        if !is_so(alloc, case)? {
+            return Ok(false);
+        }
+    }
+    Ok(true)
+}
+
+#[test]
+fn certificates_of_intervals(rt: HostRuntime) -> Result<(), Fail> {
+    assert!(rt; matches!(all_so(rt.alloc()), Ok(true)));
+    Ok(())
+}

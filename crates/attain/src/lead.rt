@@ -1,0 +1,117 @@
+// The execution at a limit: known nodes at their differences, the others at their earliest values and one lead more.
+ghost use Rattle.std.specs.Prelude.{◌≡◌, ◌<◌, ◌≤◌, ℤ, true, length, All, OnOk, OnErr};
+ghost use Rattle.difference_bounds.specs.Numbers.{IsUpTo};
+ghost use Rattle.difference_bounds.specs.Rows.{attaining};
+ghost use Rattle.ports.specs.Content.{Rose, Appends, AppendsPrefix};
+ghost use Rattle.cert.specs.Listed.{listed_nodes, listed_values};
+ghost use Rattle.row_pool.specs.Row.{cells_of};
+ghost use Rattle.attain.specs.Written.{AreMiddling};
+ghost use Rattle.attain.specs.Sides.{differences, lead, IsAsFar, IsLeadOf};
+
+use crate::run::{node_at, node_count};
+use crate::side::Side;
+use cert::write_value;
+use earliest::Earliest;
+use ports::{Failed, Sink};
+use problem::Listing;
+use row_pool::Cell;
+
+// By how much the difference of a known node exceeds its earliest value.
+fn lead_at(side: Side, e: &Earliest, cells: &[Cell], node: u32) -> i128
+    requires solved { e.now.is_solved ≡ true }
+    requires node { node < length e.now.values }
+    requires cells { length e.now.values ≤ length cells.now }
+    requires sizes { AreMiddling (length e.now.values) e.now.values (cells_of cells.now) }
+    requires known { (cells_of cells.now).known node ≡ true }
+    ensures lead { result ≡ lead side (cells_of cells.now) e.now.values node }
+    ensures small { IsUpTo 116 result }
+{
+    side.difference(&cells[node as usize]) - e.value(node)
+}
+
+// Of a known node and another one, the one whose lead is as far out as that of the other, if the other is known.
+fn farther(side: Side, e: &Earliest, cells: &[Cell], first: u32, other: u32) -> u32
+    requires solved { e.now.is_solved ≡ true }
+    requires first { first < length e.now.values }
+    requires other { other < length e.now.values }
+    requires cells { length e.now.values ≤ length cells.now }
+    requires sizes { AreMiddling (length e.now.values) e.now.values (cells_of cells.now) }
+    requires known { (cells_of cells.now).known first ≡ true }
+    ensures node { result < length e.now.values }
+    ensures known { (cells_of cells.now).known result ≡ true }
+    ensures first { IsAsFar side (lead side (cells_of cells.now) e.now.values result) (lead side (cells_of cells.now) e.now.values first) }
+    ensures other { (cells_of cells.now).known other ≡ true → IsAsFar side (lead side (cells_of cells.now) e.now.values result) (lead side (cells_of cells.now) e.now.values other) }
+{
+    if !cells[other as usize].known {
+        return first;
+    }
+    if side.is_as_far(
+        lead_at(side, e, cells, first),
+        lead_at(side, e, cells, other),
+    ) {
+        return first;
+    }
+    other
+}
+
+// The greatest lead of the known nodes, or the least for the lower end. Node `p` is known.
+pub fn lead_of(side: Side, e: &Earliest, cells: &[Cell], nodes: u32, p: u32) -> i128
+    requires solved { e.now.is_solved ≡ true }
+    requires nodes { nodes ≡ length e.now.values }
+    requires cells { length e.now.values ≤ length cells.now }
+    requires sizes { AreMiddling (length e.now.values) e.now.values (cells_of cells.now) }
+    requires node { p < nodes }
+    requires known { (cells_of cells.now).known p ≡ true }
+    ensures lead { IsLeadOf side nodes (cells_of cells.now) e.now.values result }
+    ensures small { IsUpTo 116 result }
+{
+    let mut farthest = p;
+    for node in 0..nodes {
+        farthest = farther(side, e, cells, farthest, node);
+    }
+    lead_at(side, e, cells, farthest)
+}
+
+// The real time of a node in the execution at the limit.
+pub fn real_time(side: Side, e: &Earliest, cells: &[Cell], lead: i128, node: u32) -> i128
+    requires solved { e.now.is_solved ≡ true }
+    requires node { node < length e.now.values }
+    requires cells { length e.now.values ≤ length cells.now }
+    requires sizes { AreMiddling (length e.now.values) e.now.values (cells_of cells.now) }
+    requires small { IsUpTo 116 lead }
+    ensures { result ≡ attaining (cells_of cells.now).known (differences side (cells_of cells.now)) e.now.values lead node }
+{
+    let cell = &cells[node as usize];
+    if cell.known {
+        return side.difference(cell);
+    }
+    e.value(node) + lead
+}
+
+// Writes the lines of the nodes, with their real times in the execution at the limit.
+pub fn write_times<N: Listing, O: Sink>(
+    names: &N,
+    side: Side,
+    e: &Earliest,
+    cells: &[Cell],
+    lead: i128,
+    out: &mut O,
+) -> Result<(), Failed>
+    requires solved { e.now.is_solved ≡ true }
+    requires one_each { All (λ k. k < length e.now.values) (listed_nodes (record { clock_names = N.clock_names names.now; event_names = N.event_names names.now; events = N.listed_events names.now; readings = N.listed_readings names.now })) }
+    requires cells { length e.now.values ≤ length cells.now }
+    requires sizes { AreMiddling (length e.now.values) e.now.values (cells_of cells.now) }
+    requires small { IsUpTo 116 lead }
+    ensures ok { OnOk result (Appends (O.written out.old) (O.written out.new)
+        (listed_values (record { clock_names = N.clock_names names.now; event_names = N.event_names names.now; events = N.listed_events names.now; readings = N.listed_readings names.now }) (attaining (cells_of cells.now).known (differences side (cells_of cells.now)) e.now.values lead))) }
+    ensures err { OnErr result (AppendsPrefix (O.written out.old) (O.written out.new)
+        (listed_values (record { clock_names = N.clock_names names.now; event_names = N.event_names names.now; events = N.listed_events names.now; readings = N.listed_readings names.now }) (attaining (cells_of cells.now).known (differences side (cells_of cells.now)) e.now.values lead))) }
+    ensures cause { OnErr result (Rose (O.faults out.old) (O.faults out.new)) }
+    ensures no_fall { O.faults out.old ≤ O.faults out.new }
+{
+    for place in 0..node_count(names) {
+        let time = real_time(side, e, cells, lead, node_at(names, place));
+        write_value(names, place, time, out)?;
+    }
+    Ok(())
+}
