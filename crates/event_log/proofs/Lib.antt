@@ -1,0 +1,6 @@
+mod Texts
+mod Digits
+mod Records
+mod Given
+mod Rows
+mod OneAnswer

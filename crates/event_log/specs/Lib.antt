@@ -1,0 +1,5 @@
+pub mod Texts
+pub mod TextsInside
+pub mod Row
+pub mod Log
+pub mod Given

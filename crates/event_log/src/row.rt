@@ -1,0 +1,30 @@
+// A row of an event log.
+use crate::{LogText, WordKey};
+use atto::Nano;
+
+/// What happened at the host.
+#[derive(Clone, Copy, Debug, PartialEq, Eq)]
+pub enum Kind {
+    /// It sent a message.
+    Send,
+    /// It received a message.
+    Receive,
+    /// Something that no other host took part in.
+    Local,
+}
+
+/// A row of an event log.
+///
+/// It has 104 bytes, the key among them, and memory for a text that is not empty. The shortest row of a log has ten
+/// bytes with its line feed, so rows take at most about eleven times as much memory as their log.
+#[derive(Debug, Drop)]
+pub struct Row {
+    /// When it happened, in ns of the host's clock, below 2^62.
+    pub stamp: Nano,
+    /// What happened.
+    pub kind: Kind,
+    /// What the message is known by at both of its ends; None exactly for a local row.
+    pub key: Option<WordKey>,
+    /// What else the log says of it.
+    pub text: LogText,
+}
