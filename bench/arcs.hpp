@@ -1,4 +1,5 @@
-// The short list of a problem as arcs between numbered nodes, and the certificates that `tracesync solve` prints.
+// The short list of a problem as arcs between numbered nodes, the shortest distances over arcs, and the certificates
+// that `tracesync solve` prints.
 
 #ifndef BENCH_ARCS_HPP
 #define BENCH_ARCS_HPP
@@ -8,7 +9,11 @@
 #include <cstddef>
 #include <cstdint>
 #include <iostream>
+#include <limits>
+#include <optional>
+#include <queue>
 #include <string>
+#include <utility>
 #include <vector>
 
 namespace bench {
@@ -26,6 +31,8 @@ struct Arc {
 };
 
 // The short list. ----------------------------------------------------------------------------------------------------
+
+inline std::size_t nodes_of(const Problem &problem) { return problem.events.size() + problem.readings.size(); }
 
 inline std::uint32_t reading_node(const Problem &problem, std::size_t reading) {
     return static_cast<std::uint32_t>(problem.events.size() + reading);
@@ -81,6 +88,160 @@ inline std::vector<Arc> short_list(const Problem &problem) {
         push_delays(arcs, problem, k);
     }
     return arcs;
+}
+
+// Shortest distances. ------------------------------------------------------------------------------------------------
+
+// The numbers of the arcs that have their end `Near` at each node, node by node in one array.
+template <std::uint32_t Arc::*Near> class ArcsAt {
+  public:
+    ArcsAt(std::size_t nodes, const std::vector<Arc> &arcs) : starts_(nodes + 1), numbers_(arcs.size()) {
+        for (const auto &arc : arcs) {
+            ++starts_[arc.*Near + 1];
+        }
+        for (std::size_t node = 0; node < nodes; ++node) {
+            starts_[node + 1] += starts_[node];
+        }
+        auto next = starts_;
+        for (std::uint32_t k = 0; k < arcs.size(); ++k) {
+            numbers_[next[arcs[k].*Near]++] = k;
+        }
+    }
+
+    const std::uint32_t *begin(std::uint32_t node) const { return numbers_.data() + starts_[node]; }
+    const std::uint32_t *end(std::uint32_t node) const { return numbers_.data() + starts_[node + 1]; }
+
+  private:
+    std::vector<std::uint32_t> starts_;
+    std::vector<std::uint32_t> numbers_;
+};
+
+// Shortest distances by the algorithm of Bellman and Ford, with a queue of the nodes whose distance has changed. Arcs
+// are followed from their end `Near` to their end `Far`.
+template <std::uint32_t Arc::*Near, std::uint32_t Arc::*Far> class Distances {
+  public:
+    Distances(std::size_t nodes, const std::vector<Arc> &arcs)
+        : arcs_{arcs}, followed_{nodes, arcs}, distances_(nodes, NO_PATH), parents_(nodes, NO_ARC),
+          waits_(nodes, false) {}
+
+    // Gives a node the distance 0.
+    void start(std::uint32_t node) {
+        distances_[node] = 0;
+        push(node);
+    }
+
+    // Follows arcs until none leads to a lesser distance. If that never ends, it is a node on a cycle with a negative
+    // sum.
+    std::optional<std::uint32_t> settle() {
+        std::size_t changes = 0;
+        while (!queue_.empty()) {
+            const auto node = queue_.front();
+            queue_.pop();
+            waits_[node] = false;
+            changes += follow(node);
+            // A search takes as long as there are nodes, so there is one in as many changes.
+            if (changes >= distances_.size()) {
+                changes = 0;
+                if (const auto node_on_cycle = find_cycle()) {
+                    return node_on_cycle;
+                }
+            }
+        }
+        return std::nullopt;
+    }
+
+    // None where no path leads.
+    std::optional<Units> distance(std::uint32_t node) const {
+        return distances_[node] == NO_PATH ? std::nullopt : std::optional{distances_[node]};
+    }
+
+    std::vector<Units> take_distances() { return std::move(distances_); }
+
+    // The arc by which a node got its distance.
+    const Arc &parent(std::uint32_t node) const { return arcs_[parents_[node]]; }
+
+  private:
+    static constexpr Units NO_PATH = std::numeric_limits<Units>::max();
+    static constexpr std::uint32_t NO_ARC = std::numeric_limits<std::uint32_t>::max();
+
+    void push(std::uint32_t node) {
+        if (!waits_[node]) {
+            waits_[node] = true;
+            queue_.push(node);
+        }
+    }
+
+    // Follows all arcs at a node; how many distances changed.
+    std::size_t follow(std::uint32_t node) {
+        std::size_t changes = 0;
+        for (const auto *k = followed_.begin(node); k != followed_.end(node); ++k) {
+            const auto &arc = arcs_[*k];
+            const Units distance = distances_[node] + arc.weight;
+            if (distances_[arc.*Far] <= distance) {
+                continue;
+            }
+            distances_[arc.*Far] = distance;
+            parents_[arc.*Far] = *k;
+            ++changes;
+            push(arc.*Far);
+        }
+        return changes;
+    }
+
+    // A node on a cycle of parents, if there is one. The sum of its weights is negative.
+    std::optional<std::uint32_t> find_cycle() const {
+        std::vector<std::uint32_t> walks(distances_.size(), 0);
+        for (std::uint32_t start = 0; start < distances_.size(); ++start) {
+            auto node = start;
+            while (walks[node] == 0 && parents_[node] != NO_ARC) {
+                walks[node] = start + 1;
+                node = parent(node).*Near;
+            }
+            if (walks[node] == start + 1) {
+                return node;
+            }
+        }
+        return std::nullopt;
+    }
+
+    const std::vector<Arc> &arcs_;
+    ArcsAt<Near> followed_;
+    std::vector<Units> distances_;
+    // The number of the arc by which each node got its distance.
+    std::vector<std::uint32_t> parents_;
+    std::queue<std::uint32_t> queue_;
+    std::vector<bool> waits_;
+};
+
+using DistancesFrom = Distances<&Arc::from, &Arc::to>;
+using DistancesTo = Distances<&Arc::to, &Arc::from>;
+
+// The values of the earliest execution, or a cycle with a negative sum where there is no execution.
+struct Solution {
+    std::vector<Units> values;
+    std::vector<Arc> cycle;
+};
+
+// The value of a node in the earliest execution is the negative of its distance to the nearest node, itself included.
+inline Solution solution_of(const Problem &problem, const std::vector<Arc> &arcs) {
+    DistancesTo nearest{nodes_of(problem), arcs};
+    for (std::uint32_t node = 0; node < nodes_of(problem); ++node) {
+        nearest.start(node);
+    }
+    Solution solution;
+    if (const auto first = nearest.settle()) {
+        auto node = *first;
+        do {
+            solution.cycle.push_back(nearest.parent(node));
+            node = solution.cycle.back().to;
+        } while (node != *first);
+        return solution;
+    }
+    solution.values = nearest.take_distances();
+    for (auto &value : solution.values) {
+        value = -value;
+    }
+    return solution;
 }
 
 // Certificates. ------------------------------------------------------------------------------------------------------

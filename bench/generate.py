@@ -10,12 +10,17 @@ The same number of events gives the same texts. With --broken the last message d
 than it took, which breaks one bound, the last delay-most of all. With --contradict it declares that
 it took at least ten times the greatest delay. From a hundred events on the others tell that it took
 less, so no real times obey the problem, and no execution is written.
+
+With --one-way the number is that of messages, all from h1 to h0, and ten events of h0 alone come with
+each of them. No execution is written.
 """
 
 import argparse
 import os
 
 CLOCKS = 8
+ALONE = 10
+MOST_EVENTS = 2**20
 DRIFT = 20_000
 LATE = 50
 LEAST = 1_000
@@ -43,8 +48,8 @@ class Trace:
         self.offsets = offsets
         self.events = []
         self.names = []
-        self.counts = [0] * CLOCKS
-        self.stamps = [set() for _ in range(CLOCKS)]
+        self.counts = [0] * len(offsets)
+        self.stamps = [set() for _ in offsets]
 
     def is_read(self, clock, time):
         return self.offsets[clock] + time in self.stamps[clock]
@@ -77,18 +82,39 @@ def generate(count):
     return trace, delays
 
 
-def write_problem(out, trace, delays, fault):
+def generate_one_way(count):
+    """A trace of messages from h1 to h0, and the delays of these, as above; then the events of h0 alone."""
+    draws = Draws(count + 1)
+    trace = Trace([draws.below(10**9) for _ in range(2)])
+    delays = []
+    alone = []
+    time = 10**9
+    while len(delays) < count:
+        for _ in range(ALONE):
+            time += 1 + draws.below(10_000)
+            alone.append(time)
+        time += 1 + draws.below(10_000)
+        delay = LEAST + draws.below(MOST - LEAST + 1)
+        trace.add(1, time)
+        trace.add(0, time + delay)
+        delays.append(delay)
+    for time in alone:
+        trace.add(0, time)
+    return trace, delays
+
+
+def write_problem(out, trace, delays, form):
     out.write("problem 1\n")
-    for clock in range(CLOCKS):
+    for clock in range(len(trace.offsets)):
         drift = DRIFT if clock > 0 else 0
         out.write(f"clock h{clock} {drift} {drift} 0 {LATE}\n")
     for name, (clock, _, stamp) in zip(trace.names, trace.events):
         out.write(f"event {name} h{clock} {stamp}\n")
     for k, delay in enumerate(delays):
         least, most = LEAST, MOST
-        if fault == "broken" and k + 1 == len(delays):
+        if form == "broken" and k + 1 == len(delays):
             most = delay - 1
-        elif fault == "contradict" and k + 1 == len(delays):
+        elif form == "contradict" and k + 1 == len(delays):
             least, most = 10 * MOST, "none"
         out.write(f"message {trace.names[2 * k]} {trace.names[2 * k + 1]} {least} {most}\n")
     out.write("end\n")
@@ -98,7 +124,7 @@ def write_execution(out, trace):
     out.write("execution 1\n")
     for name, (_, time, _) in zip(trace.names, trace.events):
         out.write(f"event {name} {time}.000000000\n")
-    for clock in range(CLOCKS):
+    for clock in range(len(trace.offsets)):
         for stamp in sorted(trace.stamps[clock]):
             time = stamp - trace.offsets[clock]
             out.write(f"reading h{clock} {stamp} {time}.000000000\n")
@@ -107,23 +133,30 @@ def write_execution(out, trace):
 
 def main():
     parser = argparse.ArgumentParser(description=__doc__.splitlines()[0])
-    parser.add_argument("events", type=int, help="the number of events, even, from 2 to 2^20")
+    parser.add_argument("count", type=int, help="the number of events, even, from 2 to 2^20; of messages if --one-way")
     parser.add_argument("folder", help="where N.problem and N.execution are written")
-    faults = parser.add_mutually_exclusive_group()
-    faults.add_argument(
-        "--broken", dest="fault", action="store_const", const="broken", help="break one bound: N-broken.problem"
-    )
-    faults.add_argument(
-        "--contradict", dest="fault", action="store_const", const="contradict", help="N-contradict.problem alone"
-    )
+    forms = parser.add_mutually_exclusive_group()
+    for form, what in (
+        ("problem", "N.problem alone"),
+        ("broken", "break one bound: N-broken.problem and N-broken.execution"),
+        ("contradict", "N-contradict.problem alone"),
+        ("one-way", "N-one-way.problem alone"),
+    ):
+        forms.add_argument(f"--{form}", dest="form", action="store_const", const=form, help=what)
     args = parser.parse_args()
-    if args.events % 2 != 0 or not 2 <= args.events <= 2**20:
-        parser.error("an even number of events from 2 to 2^20")
-    trace, delays = generate(args.events)
-    stem = os.path.join(args.folder, f"{args.events}-{args.fault}" if args.fault else f"{args.events}")
+    if args.form == "one-way":
+        if not 1 <= args.count <= MOST_EVENTS // (ALONE + 2):
+            parser.error(f"a number of messages from 1 to {MOST_EVENTS // (ALONE + 2)}")
+        trace, delays = generate_one_way(args.count)
+    else:
+        if args.count % 2 != 0 or not 2 <= args.count <= MOST_EVENTS:
+            parser.error("an even number of events from 2 to 2^20")
+        trace, delays = generate(args.count)
+    suffix = "" if args.form in (None, "problem") else f"-{args.form}"
+    stem = os.path.join(args.folder, f"{args.count}{suffix}")
     with open(stem + ".problem", "w", encoding="ascii", newline="\n") as out:
-        write_problem(out, trace, delays, args.fault)
-    if args.fault != "contradict":
+        write_problem(out, trace, delays, args.form)
+    if args.form in (None, "broken"):
         with open(stem + ".execution", "w", encoding="ascii", newline="\n") as out:
             write_execution(out, trace)
 

@@ -1,4 +1,5 @@
-# What the scripts of this folder share; they read it with `.`. It sets $bench, $out, $program and $runs.
+# What the scripts of this folder share; they read it with `.`. It sets $bench, $out, $program, $runs and
+# $reference_up_to.
 # shellcheck shell=bash
 
 bench=$(cd "$(dirname "${BASH_SOURCE[0]}")" && pwd)
@@ -7,6 +8,9 @@ out=$bench/out
 program=${TRACESYNC:-$crate/out/tracesync}
 # shellcheck disable=SC2034
 runs=${RUNS:-3}
+# Above this number of events the C++ programs that would take minutes or hours are left out.
+# shellcheck disable=SC2034
+reference_up_to=${REFERENCE_UP_TO:-100000}
 
 fail() {
     echo "bench: $*" >&2
@@ -20,6 +24,7 @@ check_sizes() {
             fail "$events is no even number from 2 to 2^20"
         fi
     done
+    [[ $reference_up_to =~ ^(0|[1-9][0-9]{0,6})$ ]] || fail "REFERENCE_UP_TO is $reference_up_to"
 }
 
 # Makes $out/NAME of NAME.cpp.
@@ -48,6 +53,43 @@ time_once() {
     echo $((end - start))
 }
 
+# Peak memory of a command in KiB, from a run of its own. Without /usr/bin/time the peak of python, which starts the
+# command, is counted too: then no peak is below some 14,000 KiB.
+peak_memory() {
+    if [ -x /usr/bin/time ]; then
+        /usr/bin/time -q -o "$out/peak" -f %M "$@" >/dev/null || true
+        cat "$out/peak"
+    else
+        python3 - "$@" <<'PYTHON'
+import resource
+import subprocess
+import sys
+
+subprocess.call(sys.argv[1:], stdout=subprocess.DEVNULL)
+print(resource.getrusage(resource.RUSAGE_CHILDREN).ru_maxrss)
+PYTHON
+    fi
+}
+
+# The output $out/NAME is a certificate of this kind, and its run ended with status 0.
+prints_certificate() {
+    local name=$1 kind=$2 problem=$3
+    [ "$(cat "$out/$name.status")" = 0 ] || fail "$name ends with status $(cat "$out/$name.status") on $problem"
+    [ "$(head -n 2 "$out/$name.stdout")" = $'certificate 1\n'"$kind" ] || fail "$name prints no $kind for $problem"
+}
+
+# The output $out/NAME shows a contradiction of the problem.
+shows_contradiction() {
+    prints_certificate "$1" cycle "$2"
+    python3 "$bench/check_cycle.py" "$2" "$out/$1.stdout" >/dev/null || fail "$1 errs on $2"
+}
+
+# The two outputs and their statuses are the same.
+same_answer() {
+    cmp -s "$out/$1.stdout" "$out/$2.stdout" || fail "the answers differ on $3"
+    cmp -s "$out/$1.status" "$out/$2.status" || fail "the statuses differ on $3"
+}
+
 # The lesser of two times, of which the first may be missing.
 lesser() {
     if [ -z "$1" ] || [ "$2" -lt "$1" ]; then
@@ -57,12 +99,32 @@ lesser() {
     fi
 }
 
+# A time in ms; - where it is missing.
 milliseconds() {
-    printf '%d.%d' $(($1 / 1000)) $(($1 % 1000 / 100))
+    if [ -z "$1" ]; then
+        echo -
+    else
+        printf '%d.%d' $(($1 / 1000)) $(($1 % 1000 / 100))
+    fi
 }
 
-# How many times the second the first is, with one digit behind the point.
+# How many times the second the first is: with one digit behind the point, cut to three below 1; - where one of them is
+# missing.
 quotient() {
-    local tenths=$((($1 * 10 + $2 / 2) / $2))
-    printf '%d.%d' $((tenths / 10)) $((tenths % 10))
+    if [ -z "$1" ] || [ -z "$2" ]; then
+        echo -
+    elif (($1 < $2)); then
+        printf '0.%03d' $(($1 * 1000 / $2))
+    else
+        local tenths=$((($1 * 10 + $2 / 2) / $2))
+        printf '%d.%d' $((tenths / 10)) $((tenths % 10))
+    fi
+}
+
+# Prints the head of a table with these columns.
+table_head() {
+    printf '| %s ' "$@"
+    echo '|'
+    printf '|%s' "${@/*/---:}"
+    echo '|'
 }

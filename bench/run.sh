@@ -14,36 +14,13 @@ export LC_ALL=C
 sizes=("$@")
 [ ${#sizes[@]} -gt 0 ] || sizes=(1000 8192 65536 1048576)
 
-# Peak memory of a command in KiB, from a run of its own. Without /usr/bin/time the peak of python, which starts the
-# command, is counted too: then no peak is below some 14,000 KiB.
-peak_memory() {
-    if [ -x /usr/bin/time ]; then
-        /usr/bin/time -q -o "$out/peak" -f %M "$@" >/dev/null || true
-        cat "$out/peak"
-    else
-        python3 - "$@" <<'PYTHON'
-import resource
-import subprocess
-import sys
-
-subprocess.call(sys.argv[1:], stdout=subprocess.DEVNULL)
-print(resource.getrusage(resource.RUSAGE_CHILDREN).ru_maxrss)
-PYTHON
-    fi
-}
-
-same_answer() {
-    cmp -s "$out/tracesync.stdout" "$out/obey.stdout" || fail "the answers differ on $1"
-    cmp -s "$out/tracesync.status" "$out/obey.status" || fail "the statuses differ on $1"
-}
-
 # Runs both over the texts of one bound that is broken, and wants that answer.
 compare_broken() {
     local stem=$out/$1-broken
     python3 "$bench/generate.py" --broken "$1" "$out"
     time_once tracesync "$program" obey "$stem.problem" "$stem.execution" >/dev/null
     time_once obey "$out/obey" obey "$stem.problem" "$stem.execution" >/dev/null
-    same_answer "$stem"
+    same_answer tracesync obey "$stem"
     grep -q '^broken delay-most ' "$out/obey.stdout" || fail "no bound is broken in $stem"
     rm -f "$stem".*
 }
@@ -57,7 +34,7 @@ table_row() {
         ours=$(lesser "$ours" "$(time_once tracesync "$program" obey "$problem" "$execution")")
         theirs=$(lesser "$theirs" "$(time_once obey "$out/obey" obey "$problem" "$execution")")
     done
-    same_answer "$stem"
+    same_answer tracesync obey "$stem"
     [ "$(cat "$out/obey.stdout")" = obeys ] || fail "the generated execution is refused in $stem"
     our_peak=$(peak_memory "$program" obey "$problem" "$execution")
     their_peak=$(peak_memory "$out/obey" obey "$problem" "$execution")
@@ -72,10 +49,8 @@ check_sizes "${sizes[@]}"
 compile obey
 need_program
 compare_broken 1000
-printf '| %s ' events 'problem, bytes' 'execution, bytes' 'tracesync, ms' 'C++, ms' ratio \
+table_head events 'problem, bytes' 'execution, bytes' 'tracesync, ms' 'C++, ms' ratio \
     'tracesync, KiB' 'C++, KiB' 'bytes an event'
-echo '|'
-echo '|---:|---:|---:|---:|---:|---:|---:|---:|---:|'
 for events in "${sizes[@]}"; do
     table_row "$events"
 done

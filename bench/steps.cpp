@@ -1,7 +1,12 @@
-// Counts the steps of `tracesync solve` for two orders of insertion.
+// Counts the steps of `tracesync solve` in its own order of insertion, the merged one, and in that of the short list.
 //
-//     steps count PROBLEM    the steps with the short list as it stands, and with the events of all clocks merged
-//     steps solve PROBLEM    the certificate that the merged order ends with
+//     steps count PROBLEM     the steps in both orders
+//     steps merged PROBLEM    those in the merged order alone
+//     steps solve PROBLEM     the certificate that the merged order ends with
+//
+// In the merged order the events of all clocks come in one after another, by the time of their stamps. It is that of
+// the program, arc by arc; and as the raises are given out in the same order too, so are the certificates,
+// contradictions included.
 //
 // The arcs of the short list are brought one by one into the earliest execution so far. An arc that this does not obey
 // asks its tail to rise. The greatest raise that waits is given out first, and then asks at the tails of all arcs that
@@ -15,12 +20,15 @@
 #include <algorithm>
 #include <cstddef>
 #include <cstdint>
+#include <functional>
 #include <iostream>
+#include <limits>
 #include <new>
+#include <numeric>
 #include <optional>
 #include <queue>
 #include <string_view>
-#include <utility>
+#include <tuple>
 #include <vector>
 
 namespace {
@@ -149,131 +157,204 @@ class Earliest {
 
 // The merged order. --------------------------------------------------------------------------------------------------
 
-// All events: those of each clock upward by stamp, and a send before its receive wherever such an order exists.
+// A message as one of its clocks sees the other: how much more than at the one end is stamped at the other, in ns.
+struct Link {
+    std::uint32_t from;
+    std::uint32_t to;
+    Units ahead;
+
+    bool operator<(const Link &other) const {
+        return std::tie(from, to, ahead) < std::tie(other.from, other.to, other.ahead);
+    }
+};
+
+std::vector<Link> links_of(const Problem &problem) {
+    std::vector<Link> links;
+    links.reserve(2 * problem.messages.size());
+    for (const auto &message : problem.messages) {
+        const auto &send = problem.events[message.send];
+        const auto &receive = problem.events[message.receive];
+        const Units ahead = Units{receive.stamp} - send.stamp;
+        links.push_back({send.clock, receive.clock, ahead});
+        links.push_back({receive.clock, send.clock, -ahead});
+    }
+    std::sort(links.begin(), links.end());
+    return links;
+}
+
+// How far each clock is ahead of others, in ns. Clocks are reached breadth-first over messages, by the least link of
+// each pair, and time and again from the first one that has not been reached.
+std::vector<Units> clock_offsets(const Problem &problem) {
+    const auto links = links_of(problem);
+    std::vector<std::optional<Units>> ahead(problem.clocks.size());
+    std::queue<std::uint32_t> reached;
+    const auto reach = [&](std::uint32_t clock, Units by) {
+        if (!ahead[clock]) {
+            ahead[clock] = by;
+            reached.push(clock);
+        }
+    };
+    for (std::uint32_t first = 0; first < problem.clocks.size(); ++first) {
+        reach(first, 0);
+        for (; !reached.empty(); reached.pop()) {
+            const auto clock = reached.front();
+            auto link = std::partition_point(links.begin(), links.end(), [&](const Link &l) { return l.from < clock; });
+            for (; link != links.end() && link->from == clock; ++link) {
+                reach(link->to, *ahead[clock] + link->ahead);
+            }
+        }
+    }
+    std::vector<Units> offsets;
+    offsets.reserve(ahead.size());
+    for (const auto &offset : ahead) {
+        offsets.push_back(*offset);
+    }
+    return offsets;
+}
+
+// An event behind its time: its stamp less the offset of its clock, in ns.
+struct Timed {
+    Units time;
+    std::uint32_t event;
+
+    bool operator<(const Timed &other) const { return std::tie(time, event) < std::tie(other.time, other.event); }
+    bool operator>(const Timed &other) const { return other < *this; }
+};
+
+// The order in which events come in: upward on each clock, a send before its receive, and otherwise by time.
 class Merge {
   public:
     explicit Merge(const Problem &problem)
-        : problem_{problem}, clocks_(problem.clocks.size()), next_(problem.clocks.size(), 0),
-          messages_(problem.events.size()), waits_for_(problem.events.size(), 0) {
+        : problem_{problem}, timed_(problem.events.size()), after_(problem.events.size()),
+          waits_for_(problem.events.size(), 0), is_queued_(problem.events.size(), false) {
+        const auto offsets = clock_offsets(problem);
         for (std::uint32_t k = 0; k < problem.events.size(); ++k) {
-            clocks_[problem.events[k].clock].push_back(k);
+            const auto &event = problem.events[k];
+            timed_[k] = {event.stamp - offsets[event.clock], k};
         }
-        for (auto &events : clocks_) {
-            std::stable_sort(events.begin(), events.end(), [&](std::uint32_t a, std::uint32_t b) {
-                return problem.events[a].stamp < problem.events[b].stamp;
-            });
-        }
-        for (std::uint32_t k = 0; k < problem.messages.size(); ++k) {
-            messages_[problem.messages[k].send].push_back(k);
-            messages_[problem.messages[k].receive].push_back(k);
-            ++waits_for_[problem.messages[k].receive];
+        follow_clocks();
+        for (const auto &message : problem.messages) {
+            follow(message.send, message.receive);
         }
     }
 
-    // The short list, event by event: each with the spans to the reading below, its stamp, and those of its messages
-    // whose other end is in.
-    std::vector<Arc> arcs() {
-        std::vector<Arc> arcs;
-        arcs.reserve(most_arcs(problem_));
-        std::vector<bool> is_in(problem_.events.size(), false);
-        std::vector<bool> is_read(problem_.readings.size(), false);
-        for (const auto event : order()) {
-            const auto reading = problem_.events[event].reading;
-            if (!is_read[reading]) {
-                is_read[reading] = true;
-                push_spans(arcs, problem_, reading);
+    // The place of each event in the order.
+    std::vector<std::uint32_t> event_ranks() {
+        auto by_time = timed_;
+        std::sort(by_time.begin(), by_time.end());
+        for (const auto &timed : by_time) {
+            push_ready(timed.event);
+        }
+        std::vector<std::uint32_t> ranks(problem_.events.size());
+        auto first = by_time.begin();
+        for (std::uint32_t rank = 0; rank < ranks.size(); ++rank) {
+            // Where no event is ready, the earliest one that has not been queued is taken as it is.
+            if (ready_.empty()) {
+                first = std::find_if(first, by_time.end(), [&](const Timed &t) { return !is_queued_[t.event]; });
+                push(first->event);
             }
-            push_stamp(arcs, problem_, event);
-            is_in[event] = true;
-            for (const auto place : messages_[event]) {
-                const auto &message = problem_.messages[place];
-                if (is_in[message.send] && is_in[message.receive]) {
-                    push_delays(arcs, problem_, place);
-                }
+            const auto event = ready_.top().event;
+            ready_.pop();
+            ranks[event] = rank;
+            for (const auto after : after_[event]) {
+                --waits_for_[after];
+                push_ready(after);
             }
         }
-        return arcs;
+        return ranks;
     }
 
   private:
-    // Whether the next event of a clock waits for no send.
-    bool is_ready(std::uint32_t clock) const {
-        return next_[clock] < clocks_[clock].size() && waits_for_[clocks_[clock][next_[clock]]] == 0;
+    // Each event comes behind the one before it on its clock. Among equal stamps the events go by their places.
+    void follow_clocks() {
+        std::vector<std::uint32_t> events(problem_.events.size());
+        std::iota(events.begin(), events.end(), 0);
+        std::stable_sort(events.begin(), events.end(), [&](std::uint32_t a, std::uint32_t b) {
+            const auto &p = problem_.events[a];
+            const auto &q = problem_.events[b];
+            return std::tie(p.clock, p.stamp) < std::tie(q.clock, q.stamp);
+        });
+        for (std::size_t k = 1; k < events.size(); ++k) {
+            if (problem_.events[events[k - 1]].clock == problem_.events[events[k]].clock) {
+                follow(events[k - 1], events[k]);
+            }
+        }
     }
 
-    // A queue of clocks whose next event is ready. Where there is none, the next event of some clock is taken as it is.
-    std::vector<std::uint32_t> order() {
-        std::vector<std::uint32_t> order;
-        std::queue<std::uint32_t> ready;
-        for (std::uint32_t clock = 0; clock < clocks_.size(); ++clock) {
-            if (is_ready(clock)) {
-                ready.push(clock);
-            }
-        }
-        std::uint32_t unfinished = 0;
-        while (order.size() < problem_.events.size()) {
-            if (ready.empty()) {
-                while (next_[unfinished] == clocks_[unfinished].size()) {
-                    ++unfinished;
-                }
-                ready.push(unfinished);
-            }
-            const auto clock = ready.front();
-            ready.pop();
-            const auto event = clocks_[clock][next_[clock]++];
-            order.push_back(event);
-            if (is_ready(clock)) {
-                ready.push(clock);
-            }
-            for (const auto place : messages_[event]) {
-                const auto &message = problem_.messages[place];
-                if (message.send == event) {
-                    release(message.receive, ready);
-                }
-            }
-        }
-        return order;
+    void follow(std::uint32_t before, std::uint32_t after) {
+        after_[before].push_back(after);
+        ++waits_for_[after];
     }
 
-    // One send of an event is in. Its clock is ready where that was the last one that the clock waited for.
-    void release(std::uint32_t event, std::queue<std::uint32_t> &ready) {
-        const auto clock = problem_.events[event].clock;
-        const bool was_ready = is_ready(clock);
-        --waits_for_[event];
-        if (!was_ready && is_ready(clock)) {
-            ready.push(clock);
+    void push_ready(std::uint32_t event) {
+        if (waits_for_[event] == 0 && !is_queued_[event]) {
+            push(event);
         }
+    }
+
+    void push(std::uint32_t event) {
+        is_queued_[event] = true;
+        ready_.push(timed_[event]);
     }
 
     const Problem &problem_;
-    // The events of each clock upward, and how many of them are in.
-    std::vector<std::vector<std::uint32_t>> clocks_;
-    std::vector<std::size_t> next_;
-    // The messages of each event, and how many sends it waits for.
-    std::vector<std::vector<std::uint32_t>> messages_;
+    // The events by their places.
+    std::vector<Timed> timed_;
+    // Which events come next behind each, and how many each waits for.
+    std::vector<std::vector<std::uint32_t>> after_;
     std::vector<std::uint32_t> waits_for_;
+    std::vector<bool> is_queued_;
+    std::priority_queue<Timed, std::vector<Timed>, std::greater<Timed>> ready_;
 };
+
+// The short list, each arc by the greater rank of its ends, and then as it stands. The rank of a reading is the least
+// of those of its events.
+std::vector<Arc> merged_list(const Problem &problem) {
+    auto ranks = Merge{problem}.event_ranks();
+    ranks.resize(nodes_of(problem), std::numeric_limits<std::uint32_t>::max());
+    for (std::size_t k = 0; k < problem.events.size(); ++k) {
+        auto &rank = ranks[reading_node(problem, problem.events[k].reading)];
+        rank = std::min(rank, ranks[k]);
+    }
+    const auto rank_of = [&](const Arc &arc) { return std::max(ranks[arc.from], ranks[arc.to]); };
+    auto arcs = short_list(problem);
+    std::stable_sort(arcs.begin(), arcs.end(), [&](const Arc &a, const Arc &b) { return rank_of(a) < rank_of(b); });
+    return arcs;
+}
 
 // The program. -------------------------------------------------------------------------------------------------------
 
-std::size_t nodes_of(const Problem &problem) { return problem.events.size() + problem.readings.size(); }
+void print_size(const Problem &problem, const std::vector<Arc> &arcs) {
+    std::cout << "nodes " << nodes_of(problem) << " arcs " << arcs.size() << '\n';
+}
 
 int count(const Problem &problem) {
     const auto listed = short_list(problem);
-    const auto merged = Merge{problem}.arcs();
+    const auto merged = merged_list(problem);
     Earliest by_list{nodes_of(problem), listed};
     Earliest by_merge{nodes_of(problem), merged};
     const bool is_solved = by_list.insert_all();
-    const bool is_same =
-        by_merge.insert_all() == is_solved && (!is_solved || by_list.values() == by_merge.values());
-    std::cout << "nodes " << nodes_of(problem) << " arcs " << listed.size() << '\n'
-              << "steps short " << by_list.steps() << " merged " << by_merge.steps() << '\n'
-              << (!is_same ? "the orders differ" : is_solved ? "same values" : "contradictions") << '\n';
+    const bool is_same = by_merge.insert_all() == is_solved && (!is_solved || by_list.values() == by_merge.values());
+    print_size(problem, listed);
+    std::cout << "steps short " << by_list.steps() << " merged " << by_merge.steps() << '\n'
+              << (!is_same    ? "the orders differ"
+                  : is_solved ? "same values"
+                              : "contradictions")
+              << '\n';
     return is_same ? 0 : 1;
 }
 
+int count_merged(const Problem &problem) {
+    const auto arcs = merged_list(problem);
+    Earliest earliest{nodes_of(problem), arcs};
+    const bool is_solved = earliest.insert_all();
+    print_size(problem, arcs);
+    std::cout << "steps merged " << earliest.steps() << '\n' << (is_solved ? "solved" : "contradiction") << '\n';
+    return 0;
+}
+
 int solve(const Problem &problem) {
-    const auto arcs = Merge{problem}.arcs();
+    const auto arcs = merged_list(problem);
     Earliest earliest{nodes_of(problem), arcs};
     if (earliest.insert_all()) {
         print_run(problem, earliest.values());
@@ -284,15 +365,18 @@ int solve(const Problem &problem) {
 }
 
 int run(std::string_view command, const Problem &problem) {
-    return command == "count" ? count(problem) : solve(problem);
+    if (command == "count") {
+        return count(problem);
+    }
+    return command == "merged" ? count_merged(problem) : solve(problem);
 }
 
 } // namespace
 
 int main(int count, char **words) {
     const std::string_view command = count == 3 ? words[1] : "";
-    if (command != "count" && command != "solve") {
-        std::cout << "usage: steps count PROBLEM | solve PROBLEM\n";
+    if (command != "count" && command != "merged" && command != "solve") {
+        std::cout << "usage: steps count PROBLEM | merged PROBLEM | solve PROBLEM\n";
         return 2;
     }
     try {
