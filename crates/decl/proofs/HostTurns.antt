@@ -1,0 +1,136 @@
+-- Hosts one by one, as the code reads them.
+use Rattle.std.proofs.Common.{◌≡◌, ℕ, ◌+◌, ◌-◌, ◌≤◌, ◌^◌, Bool, true, false, not, ◌||◌, if◌then◌else◌, nat_lt, List, [], ◌∷◌, ◌++◌, Option, Some, None, String, Global, string_bytes, codes, refl, sym, ap, ◌∙◌, subst, arith, append_assoc}
+use Rattle.std.specs.Prelude.{All}
+use Rattle.std.specs.List.{AllByRecursion}
+use Rattle.std.specs.List.Sorted.{IsStrictlySortedBy}
+use Rattle.std.specs.Map.{keys_of}
+use Rattle.std.specs.String.{string_cmp}
+use Rattle.std.specs.declared.cmp.Ordering.TheVariants.{Less}
+use Rattle.std.proofs.lemmas.List.Elements.{All-cons, All-nil}
+use Rattle.std.proofs.lemmas.List.Kept.{AllPairs-cons}
+use Rattle.toml.proofs.Views.{Entry}
+use Rattle.toml.specs.Data.{as_table, Members}
+use Rattle.toml.specs.View.{view, members_view}
+use Rattle.toml.specs.declared.value.Value.{Value}
+use Rattle.atto.specs.Span.{RateParts}
+use Rattle.problem_model.specs.declared.items.Clock.{Clock}
+use Rattle.decl.specs.Addresses.{at_host, numbers_of}
+use Rattle.decl.specs.Causes.{at, when, first, error_at, IsFirstOf}
+use Rattle.decl.specs.Declaration.{Precedes}
+use Rattle.decl.specs.Hosts.{is_clock_name, has_wild_rate, has_wild_number, rate_of, clock_of, clock_causes, host_causes, hosts_faults, entry_of, addresses_in, clocks_of, addresses_from, is_one_too_many}
+use Rattle.decl.specs.Keys.{table_causes}
+use Rattle.decl.specs.Values.{whole_or_zero, number_at, is_up_to}
+use Rattle.decl.specs.declared.cause.Cause.{Cause}
+use Rattle.decl.specs.declared.cause.Cause.TheVariants.{Name, Number}
+use Rattle.decl.specs.declared.errors.DeclError.{DeclError}
+use Rattle.decl.specs.declared.errors.Section.TheVariants.{Hosts}
+use Rattle.decl.proofs.Faults.{few_index, neither_of, second_of, no_parts, not_so, neither, some_if, some_unless, none_unless, first_front, fault_front, fault_at, none_at}
+use Rattle.decl.specs.declared.items.Address.{Address}
+use Rattle.decl.proofs.Searching.{Rise}
+
+three : {V : Type 0} (w a b : Bool) (made right : V) → w ≡ false → a ≡ true → b ≡ true → made ≡ right → Some made ≡ (if (w || not a) || not b then None else Some right)
+three w a b made right p q r e = rw (p, q, r) (ap Some e)
+
+same_clock : (name : List ℕ) (rate rate' : RateParts) (early early' late late' : ℕ) → rate ≡ rate' → early ≡ early' → late ≡ late'
+    → (let a : Clock = record { name = name; rate = rate; early = early; late = late } in a) ≡ (let b : Clock = record { name = name; rate = rate'; early = early'; late = late' } in b)
+same_clock name rate rate' early early' late late' p q r = rw (p, q, r) refl
+
+-- the clock of numbers in their ranges
+pub clock_made : (name : List ℕ) (ms : Members) (rate : RateParts) (early late : ℕ) → Some rate ≡ (if has_wild_rate ms then None else Some (rate_of ms))
+    → Some early ≡ (if is_up_to (2 ^ 62 - 1) (whole_or_zero (codes "early") ms) then Some (number_at (codes "early") ms) else None)
+    → Some late ≡ (if is_up_to (2 ^ 62 - 1) (whole_or_zero (codes "late") ms) then Some (number_at (codes "late") ms) else None)
+    → Some (let c : Clock = record { name = name; rate = rate; early = early; late = late } in c) ≡ (if has_wild_number ms then None else Some (clock_of name ms))
+clock_made name ms rate early late p q r =
+    let (tame, rate_is) = some_unless (has_wild_rate ms) rate (rate_of ms) p in
+    let (first, early_is) = some_if _ early (number_at (codes "early") ms) q in
+    let (second, late_is) = some_if _ late (number_at (codes "late") ms) r in
+    three _ _ _ _ _ tame first second (same_clock name _ _ _ _ _ _ rate_is early_is late_is)
+
+-- causes of a name, an index and numbers
+none_wrong : (c : List Cause) (n w : Bool) → c ≡ [] → n ≡ true → w ≡ false → c ++ when (not n) Name ++ when w Number ≡ []
+none_wrong c n w p q r = rw (p, q, r) refl
+
+number_wrong : (c : List Cause) (n w : Bool) → c ≡ [] → n ≡ true → w ≡ true → first (c ++ when (not n) Name ++ when w Number) ≡ Some Number
+number_wrong c n w p q r = rw (p, q, r) refl
+
+pub clock_sound : (index : ℕ) (name given : List ℕ) (ms : Members) (clock : Clock) → table_causes Hosts ms ≡ [] → Some given ≡ (if is_clock_name name then Some name else None) → index ≤ 65536
+    → Some clock ≡ (if has_wild_number ms then None else Some (clock_of given ms)) → (clock_causes index name ms ≡ []) × (clock ≡ clock_of name ms)
+clock_sound index name given ms clock table named few numbers =
+    let (is_name, name_is) = some_if (is_clock_name name) given name named in
+    let (tame, clock_is) = some_unless (has_wild_number ms) clock (clock_of given ms) numbers in (
+      none_wrong _ _ _ table is_name (neither_of _ _ (few_index index few) tame),
+      clock_is ∙ ap (λ (n : List ℕ). clock_of n ms) name_is,
+    )
+
+pub clock_wild : (index : ℕ) (name given : List ℕ) (ms : Members) → table_causes Hosts ms ≡ [] → Some given ≡ (if is_clock_name name then Some name else None)
+    → None ≡ (if has_wild_number ms then None else Some (clock_of given ms)) → first (clock_causes index name ms) ≡ Some Number
+clock_wild index name given ms table named numbers =
+    let (is_name, name_is) = some_if (is_clock_name name) given name named in
+    number_wrong _ _ _ table is_name (second_of (is_one_too_many index) _ (none_unless (has_wild_number ms) (clock_of given ms) numbers))
+
+-- a cause of the clock is the host's
+pub clock_fault : (index : ℕ) (before : List ℕ) (name : List ℕ) (o : Option Members) (ms : Members) (cause : Cause) (e : DeclError) → Some ms ≡ o → first (clock_causes index name ms) ≡ Some cause
+    → e ≡ error_at Hosts index cause → IsFirstOf (at Hosts index (host_causes index before name o)) e
+clock_fault index before name o ms cause e is h placed =
+    subst (λ (t : Option Members). IsFirstOf (at Hosts index (host_causes index before name t)) e) is
+    (fault_at Hosts index (host_causes index before name (Some ms)) cause e (first_front (clock_causes index name ms) _ cause h) placed)
+
+-- a host without a fault has an index that may be
+pub host_few : (index : ℕ) (before : List ℕ) (name : List ℕ) (o : Option Members) → host_causes index before name o ≡ [] → index ≤ 65536
+host_few index before name None e = cc
+host_few index before name (Some ms) e =
+    let clock = (no_parts (clock_causes index name ms) _ e).0 in
+    let last = (no_parts (table_causes Hosts ms ++ when (not (is_clock_name name)) Name) _ clock).1 in
+    let many : nat_lt 65536 index ≡ false = (neither _ _ (not_so _ Number last)).0 in
+    grind (arith, many)
+
+-- the first fault of the next host
+pub host_first : (all : List DeclError) (index : ℕ) (before : List ℕ) (entries rest : List Entry) (name : String Global) (value : Value) (e : DeclError) → all ≡ hosts_faults index before (members_view entries)
+    → entries ≡ (name, value) ∷ rest → IsFirstOf (at Hosts index (host_causes index before (string_bytes name) (as_table (view value)))) e → IsFirstOf all e
+host_first all index before entries rest name value e is next h =
+    subst (λ (fs : List DeclError). IsFirstOf fs e) (sym (is ∙ ap (λ (es : List Entry). hosts_faults index before (members_view es)) next))
+    (fault_front (at Hosts index (host_causes index before (string_bytes name) (as_table (view value)))) _ e h)
+
+pub numbers_at_host : (place : ℕ) (addresses : List ℕ) → numbers_of (at_host place addresses) ≡ addresses
+numbers_at_host place [] = refl
+numbers_at_host place (a ∷ addresses) = ap (λ (more : List ℕ). a ∷ more) (numbers_at_host place addresses)
+
+pub numbers_more : (book more : List Address) → numbers_of (book ++ more) ≡ numbers_of book ++ numbers_of more
+numbers_more [] more = refl
+numbers_more (b ∷ book) more = ap (λ (ns : List ℕ). b.address ∷ ns) (numbers_more book more)
+
+-- behind a host without a fault
+pub hosts_on : (all : List DeclError) (index place : ℕ) (book new : List Address) (entries rest : List Entry) (name : String Global) (value : Value) → all ≡ hosts_faults index (numbers_of book) (members_view entries)
+    → entries ≡ (name, value) ∷ rest → host_causes index (numbers_of book) (string_bytes name) (as_table (view value)) ≡ [] → new ≡ book ++ at_host place (addresses_in (view value))
+    → all ≡ hosts_faults (index + 1) (numbers_of new) (members_view rest)
+hosts_on all index place book new entries rest name value is next none added =
+    is ∙ ap (λ (es : List Entry). hosts_faults index (numbers_of book) (members_view es)) next
+    ∙ none_at Hosts index _ (hosts_faults (index + 1) (numbers_of book ++ addresses_in (view value)) (members_view rest)) none
+    ∙ ap (λ (before : List ℕ). hosts_faults (index + 1) before (members_view rest)) (sym numbers)
+  where
+    numbers : numbers_of new ≡ numbers_of book ++ addresses_in (view value)
+    numbers = ap numbers_of added ∙ numbers_more book _ ∙ ap (λ (more : List ℕ). numbers_of book ++ more) (numbers_at_host place (addresses_in (view value)))
+
+pub clocks_on : (all : List Clock) (clocks : List Clock) (clock : Clock) (entries rest : List Entry) (name : String Global) (value : Value) → all ≡ clocks ++ clocks_of (members_view entries)
+    → entries ≡ (name, value) ∷ rest → clock ≡ clock_of (string_bytes name) (entry_of (view value)) → all ≡ (clocks ++ clock ∷ []) ++ clocks_of (members_view rest)
+clocks_on all clocks clock entries rest name value is next made =
+    is ∙ ap (λ (es : List Entry). clocks ++ clocks_of (members_view es)) next
+    ∙ ap (λ (c : Clock). clocks ++ c ∷ clocks_of (members_view rest)) (sym made)
+    ∙ sym (append_assoc clocks (clock ∷ []) (clocks_of (members_view rest)))
+
+pub addresses_on : (all : List Address) (place same : ℕ) (book new : List Address) (entries rest : List Entry) (name : String Global) (value : Value) → all ≡ book ++ addresses_from place (members_view entries)
+    → entries ≡ (name, value) ∷ rest → same ≡ place → new ≡ book ++ at_host same (addresses_in (view value)) → all ≡ new ++ addresses_from (place + 1) (members_view rest)
+addresses_on all place same book new entries rest name value is next e added =
+    is ∙ ap (λ (es : List Entry). book ++ addresses_from place (members_view es)) next
+    ∙ sym (append_assoc book (at_host place (addresses_in (view value))) (addresses_from (place + 1) (members_view rest)))
+    ∙ ap (λ (front : List Address). front ++ addresses_from (place + 1) (members_view rest)) (sym (added ∙ ap (λ (p : ℕ). book ++ at_host p (addresses_in (view value))) e))
+
+-- the clocks of a table stand in the byte order of their names
+clocks_behind : (key : String Global) (entries : List Entry) → AllByRecursion (λ k. string_cmp key k ≡ Less) (keys_of entries) → All (λ (c : Clock). Precedes (string_bytes key) c.name) (clocks_of (members_view entries))
+clocks_behind key [] h = All-nil (λ (c : Clock). Precedes (string_bytes key) c.name)
+clocks_behind key (e ∷ entries) h = All-cons (λ (c : Clock). Precedes (string_bytes key) c.name) _ _ h.0 (clocks_behind key entries h.1)
+
+pub clocks_rise : (entries : List Entry) → IsStrictlySortedBy string_cmp (keys_of entries) → Rise (clocks_of (members_view entries))
+unfolding IsStrictlySortedBy
+clocks_rise [] h = λ i j d below inside. absurd (omega (arith, inside))
+clocks_rise (e ∷ entries) h = AllPairs-cons (λ (a b : Clock). Precedes a.name b.name) _ _ (clocks_behind e.0 entries h.0) (clocks_rise entries h.1)

@@ -1,0 +1,360 @@
+-- What a document without a fault declares is lawful.
+use Rattle.std.proofs.Common.{◌≡◌, ◌≢◌, ℕ, suc, ◌+◌, ◌-◌, ◌^◌, ◌<◌, ◌≤◌, ◌==◌, ◌&&◌, Bool, true, false, not, ◌||◌, is_none, nat_abs, unwrap_or, option_to_list, option_map, List, [], ◌∷◌, ◌++◌, length, get_or, slice_get, Option, Some, None, ℤ, pos, codes, eq-eqb, eqb-true, refl, sym, ap, ◌∙◌, subst, arith}
+use Rattle.std.specs.Prelude.{All, AllPairs, IfSome, option_and_then}
+use Rattle.std.specs.List.{position_from}
+use Rattle.std.specs.Int.{from_be_bytes, w32}
+use Rattle.std.proofs.lemmas.List.Elements.{All-cons, All-nil, All-append}
+use Rattle.std.proofs.lemmas.List.{get_or-map}
+use Rattle.std.proofs.lemmas.Option.{none-some, same_Some}
+use Rattle.problem_model.specs.Name.{IsClockName}
+use Rattle.problem_model.specs.Problem.{ClockFits}
+use Rattle.problem_model.specs.declared.items.Clock.{Clock}
+use Rattle.toml.specs.Data.{Data, as_table, Items, no_items, item, Members, no_members, member}
+use Rattle.decl.specs.Addresses.{address_of, at_host, has_bad_address, is_bad_address, numbers_of, written}
+use Rattle.decl.specs.Causes.{at, when}
+use Rattle.decl.specs.Declaration.{IsDeclaration, IsSource, LinkFits}
+use Rattle.decl.specs.Hosts.{address_texts, addresses_from, addresses_in, clock_causes, clock_of, clocks_of, entry_of, has_wild_number, has_wild_rate, host_causes, hosts_faults, is_clock_name, is_one_too_many}
+use Rattle.decl.specs.Keys.{table_causes}
+use Rattle.decl.specs.Labels.{entry_causes, host_at_key, is_misnamed, label_causes, label_of, labels_faults, labels_of}
+use Rattle.decl.specs.Links.{has_link, is_astray, link_causes, link_of, links_faults, links_of}
+use Rattle.decl.specs.Places.{place_of}
+use Rattle.decl.specs.Values.{is_up_to, text_at, whole_at, whole_or_zero}
+use Rattle.decl.specs.Walk.{declared, faults, hosts_in, is_true_at, labels_in, links_in, shows_true, source_causes, top_causes}
+use Rattle.decl.specs.declared.cause.Cause.TheVariants as cause
+use Rattle.decl.specs.declared.errors.Section.TheVariants.{Top, Hosts, Labels, Links}
+use Rattle.decl.specs.declared.items.Address.{Address}
+use Rattle.decl.specs.declared.items.Label.{Label}
+use Rattle.decl.specs.declared.items.Link.{Link}
+use Rattle.decl.proofs.ClockNames.{clock_name_is}
+use Rattle.decl.proofs.Dotted.{address_found}
+use Rattle.decl.proofs.Faults.{neither, no_causes, no_parts, not_false, not_so}
+use Rattle.decl.proofs.Fresh.{IsFresh, all_apart, fresh_append}
+use Rattle.decl.proofs.HostTurns.{host_few, numbers_at_host, numbers_more}
+use Rattle.decl.proofs.LabelTurns.{RiseLabels, label_few}
+use Rattle.decl.proofs.LinkTurns.{link_few}
+use Rattle.decl.proofs.Searching.{Rise}
+
+-- ---- numbers
+
+up_to_le : (limit : ℕ) (z : ℤ) → is_up_to limit z ≡ true → nat_abs z ≤ limit
+up_to_le limit z e = grind (arith, e)
+
+below_62 : (z : ℤ) → is_up_to (2 ^ 62 - 1) z ≡ true → nat_abs z < 2 ^ 62
+below_62 z e = omega (arith, up_to_le (2 ^ 62 - 1) z e)
+
+wild : (a b : Bool) → (not a || not b) ≡ false → (a ≡ true) × (b ≡ true)
+wild true true e = (refl, refl)
+wild true false e = cc
+wild false b e = cc
+
+clock_fits : (name : List ℕ) (ms : Members) → has_wild_number ms ≡ false → ClockFits (clock_of name ms)
+clock_fits name ms tame =
+    let (front, late) = neither (has_wild_rate ms || not (is_up_to (2 ^ 62 - 1) (whole_or_zero (codes "early") ms))) _ tame in
+    let (rate, early) = neither (has_wild_rate ms) _ front in
+    let (short, long) = wild (is_up_to 999999999 (whole_or_zero (codes "short") ms)) (is_up_to 1000000000 (whole_or_zero (codes "long") ms)) rate in (
+      up_to_le 999999999 (whole_or_zero (codes "short") ms) short,
+      up_to_le 1000000000 (whole_or_zero (codes "long") ms) long,
+      below_62 (whole_or_zero (codes "early") ms) (not_false _ early),
+      below_62 (whole_or_zero (codes "late") ms) (not_false _ late),
+    )
+
+-- ---- hosts
+
+-- what is known of a host without a fault
+record GoodHost (before : List ℕ) (name : List ℕ) (ms : Members) : Type 0 where
+  named : IsClockName name
+  fits : ClockFits (clock_of name ms)
+  fresh : has_bad_address before (address_texts ms) ≡ false
+
+good_host : (index : ℕ) (before : List ℕ) (name : List ℕ) (o : Option Members) → host_causes index before name o ≡ [] → GoodHost before name (unwrap_or o no_members)
+good_host index before name None e = cc
+good_host index before name (Some ms) e =
+    let (clock, bad) = no_parts (clock_causes index name ms) _ e in
+    let (front, numbers) = no_parts (table_causes Hosts ms ++ when (not (is_clock_name name)) cause.Name) _ clock in
+    let (table, named) = no_parts (table_causes Hosts ms) _ front in
+    record {
+      named = clock_name_is name (not_false _ (not_so _ cause.Name named));
+      fits = clock_fits name ms (neither _ _ (not_so _ cause.Number numbers)).1;
+      fresh = not_so _ cause.Address bad;
+    }
+
+-- the first host and the others
+host_here : (index : ℕ) (before : List ℕ) (name : List ℕ) (d : Data) (ms : Members) → hosts_faults index before (member name d ms) ≡ [] → host_causes index before name (as_table d) ≡ []
+host_here index before name d ms e = no_causes Hosts index _ (no_parts (at Hosts index (host_causes index before name (as_table d))) _ e).0
+
+hosts_behind : (index : ℕ) (before : List ℕ) (name : List ℕ) (d : Data) (ms : Members) → hosts_faults index before (member name d ms) ≡ [] → hosts_faults (index + 1) (before ++ addresses_in d) ms ≡ []
+hosts_behind index before name d ms e = (no_parts (at Hosts index (host_causes index before name (as_table d))) _ e).1
+
+hosts_named : (index : ℕ) (before : List ℕ) (ms : Members) → hosts_faults index before ms ≡ [] → All (λ (c : Clock). IsClockName c.name) (clocks_of ms)
+hosts_named index before no_members e = All-nil (λ (c : Clock). IsClockName c.name)
+hosts_named index before (member name d ms) e =
+    All-cons (λ (c : Clock). IsClockName c.name) _ _ (good_host index before name (as_table d) (host_here index before name d ms e)).named
+    (hosts_named (index + 1) (before ++ addresses_in d) ms (hosts_behind index before name d ms e))
+
+hosts_fit : (index : ℕ) (before : List ℕ) (ms : Members) → hosts_faults index before ms ≡ [] → All ClockFits (clocks_of ms)
+hosts_fit index before no_members e = All-nil ClockFits
+hosts_fit index before (member name d ms) e =
+    All-cons ClockFits _ _ (good_host index before name (as_table d) (host_here index before name d ms e)).fits
+    (hosts_fit (index + 1) (before ++ addresses_in d) ms (hosts_behind index before name d ms e))
+
+hosts_few : (index : ℕ) (before : List ℕ) (ms : Members) → index ≤ 65537 → hosts_faults index before ms ≡ [] → index + length (clocks_of ms) ≤ 65537
+hosts_few index before no_members le e = omega (arith, le)
+hosts_few index before (member name d ms) le e =
+    let here = host_few index before name (as_table d) (host_here index before name d ms e) in
+    let more = hosts_few (index + 1) (before ++ addresses_in d) ms (omega (arith, here)) (hosts_behind index before name d ms e) in
+    omega (arith, more)
+
+-- ---- addresses
+
+addresses_of_host : (P : Address → Type 0) (place : ℕ) (numbers : List ℕ) → All (λ (n : ℕ). P (let a : Address = record { address = n; host = place } in a)) numbers → All P (at_host place numbers)
+addresses_of_host P place [] all = All-nil P
+addresses_of_host P place (n ∷ numbers) all = All-cons P _ _ (all 0 n (omega arith)) (addresses_of_host P place numbers (λ k d below. all (suc k) d (omega (arith, below))))
+
+addresses_placed : (place : ℕ) (ms : Members) (n : ℕ) → place + length (clocks_of ms) ≡ n → All (λ (a : Address). a.host < n) (addresses_from place ms)
+addresses_placed place no_members n e = All-nil (λ (a : Address). a.host < n)
+addresses_placed place (member name d ms) n e =
+    All-append (λ (a : Address). a.host < n) (at_host place (addresses_in d)) (addresses_from (place + 1) ms)
+    (addresses_of_host (λ (a : Address). a.host < n) place (addresses_in d) (λ k m below. omega (arith, e)))
+    (addresses_placed (place + 1) ms n (omega (arith, e)))
+
+octets_below : (octets : List ℕ) (a b c d : ℕ) → octets ≡ a ∷ b ∷ c ∷ d ∷ [] → a < 256 → b < 256 → c < 256 → d < 256 → from_be_bytes w32 octets < 2 ^ 32
+octets_below octets a b c d e p q r s = rw e (omega (arith, p, q, r, s))
+
+address_below : (text : List ℕ) (address : ℕ) → address_of text ≡ Some address → address < 2 ^ 32
+address_below text address e =
+    let found = address_found text address e in
+    let dotted = found.dotted in
+    let below = octets_below found.octets dotted.a dotted.b dotted.c dotted.d dotted.value dotted.fit.0 dotted.fit.1 dotted.fit.2 dotted.fit.3 in
+    subst (λ (n : ℕ). n < 2 ^ 32) (sym found.value) below
+
+written_below : (texts : List (List ℕ)) → All (λ (n : ℕ). n < 2 ^ 32) (written texts)
+written_below [] = All-nil (λ (n : ℕ). n < 2 ^ 32)
+written_below (text ∷ texts) = All-append (λ (n : ℕ). n < 2 ^ 32) (option_to_list (address_of text)) (written texts) (one (address_of text) refl) (written_below texts)
+  where
+    one : (o : Option ℕ) → address_of text ≡ o → All (λ (n : ℕ). n < 2 ^ 32) (option_to_list o)
+    one None e = All-nil (λ (n : ℕ). n < 2 ^ 32)
+    one (Some n) e = All-cons (λ (m : ℕ). m < 2 ^ 32) n [] (address_below text n e) (All-nil (λ (m : ℕ). m < 2 ^ 32))
+
+addresses_fit : (place : ℕ) (ms : Members) → All (λ (a : Address). a.address < 2 ^ 32) (addresses_from place ms)
+addresses_fit place no_members = All-nil (λ (a : Address). a.address < 2 ^ 32)
+addresses_fit place (member name d ms) =
+    All-append (λ (a : Address). a.address < 2 ^ 32) (at_host place (addresses_in d)) (addresses_from (place + 1) ms)
+    (addresses_of_host (λ (a : Address). a.address < 2 ^ 32) place (addresses_in d) (written_below (address_texts (entry_of d)))) (addresses_fit (place + 1) ms)
+
+abbrev same_number : ℕ → ℕ → Bool
+same_number b x = x == b
+
+texts_fresh : (before : List ℕ) (texts : List (List ℕ)) → has_bad_address before texts ≡ false → IsFresh same_number before (written texts)
+texts_fresh before [] e = tt
+texts_fresh before (text ∷ texts) e = go (address_of text) (neither (is_bad_address before (address_of text)) _ e) (texts_fresh (before ++ option_to_list (address_of text)) texts)
+  where
+    go : (o : Option ℕ) → (is_bad_address before o ≡ false) × (has_bad_address (before ++ option_to_list o) texts ≡ false)
+        → (has_bad_address (before ++ option_to_list o) texts ≡ false → IsFresh same_number (before ++ option_to_list o) (written texts)) → IsFresh same_number before (option_to_list o ++ written texts)
+    go None h more = let e' : true ≡ false = h.0 in cc
+    go (Some n) h more = (h.0, more h.1)
+
+addresses_fresh : (index place : ℕ) (before : List ℕ) (ms : Members) → hosts_faults index before ms ≡ [] → IsFresh same_number before (numbers_of (addresses_from place ms))
+addresses_fresh index place before no_members e = tt
+addresses_fresh index place before (member name d ms) e =
+    let here = good_host index before name (as_table d) (host_here index before name d ms e) in
+    let front = texts_fresh before (address_texts (entry_of d)) here.fresh in
+    let back = addresses_fresh (index + 1) (place + 1) (before ++ addresses_in d) ms (hosts_behind index before name d ms e) in
+    subst (λ (ns : List ℕ). IsFresh same_number before ns)
+    (sym (numbers_more (at_host place (addresses_in d)) (addresses_from (place + 1) ms) ∙ ap (λ (ns : List ℕ). ns ++ numbers_of (addresses_from (place + 1) ms)) (numbers_at_host place (addresses_in d))))
+    (fresh_append same_number before (addresses_in d) (numbers_of (addresses_from (place + 1) ms)) front back)
+
+addresses_differ : (addresses : List Address) → AllPairs (λ (x y : ℕ). same_number x y ≡ false) (numbers_of addresses) → AllPairs (λ (a b : Address). a.address ≢ b.address) addresses
+addresses_differ addresses apart i j d below inside same =
+    let first : get_or (numbers_of addresses) i 0 ≡ (get_or addresses i d).address = get_or-map (λ (a : Address). a.address) addresses i d 0 (omega (arith, below, inside)) in
+    let second : get_or (numbers_of addresses) j 0 ≡ (get_or addresses j d).address = get_or-map (λ (a : Address). a.address) addresses j d 0 inside in
+    let long : length (numbers_of addresses) ≡ length addresses = length_numbers addresses in
+    let other : same_number (get_or (numbers_of addresses) i 0) (get_or (numbers_of addresses) j 0) ≡ false = apart i j 0 below (omega (arith, inside, long)) in
+    let equal : same_number (get_or (numbers_of addresses) i 0) (get_or (numbers_of addresses) j 0) ≡ true = eq-eqb _ _ (second ∙ sym same ∙ sym first) in
+    cc
+  where
+    length_numbers : (as' : List Address) → length (numbers_of as') ≡ length as'
+    length_numbers [] = refl
+    length_numbers (a ∷ more) = ap suc (length_numbers more)
+
+-- ---- labels
+
+is_given : {A : Type 0} (o : Option A) → is_none o ≡ false → (a : A) × (o ≡ Some a)
+is_given None e = cc
+is_given (Some a) e = (a, refl)
+
+position_below : (t : Clock → Bool) (i : ℕ) (clocks : List Clock) (k : ℕ) → position_from t i clocks ≡ Some k → k < i + length clocks
+position_below t i [] k e = absurd (none-some k e)
+position_below t i (c ∷ clocks) k e = go (t c) refl (position_below t (i + 1) clocks k)
+  where
+    go : (b : Bool) → t c ≡ b → (position_from t (i + 1) clocks ≡ Some k → k < i + 1 + length clocks) → k < i + length (c ∷ clocks)
+    go true is more = let same : i ≡ k = same_Some i k (rw is at e) in omega (arith, same)
+    go false is more = omega (arith, more (rw is at e))
+
+place_below : (clocks : List Clock) (name : List ℕ) (k : ℕ) → place_of clocks name ≡ Some k → k < length clocks
+place_below clocks name k e = omega (arith, position_below _ 0 clocks k e)
+
+module _ (clocks : List Clock) where
+  -- a host that is known has a place among the clocks
+  known_below : (key : List ℕ) (ms : Members) → is_none (host_at_key clocks key ms) ≡ false → unwrap_or (host_at_key clocks key ms) 0 < length clocks
+  known_below key ms e =
+      let (k, is) = is_given (host_at_key clocks key ms) e in
+      rw is (place_below clocks _ k is)
+
+  record GoodLabel (name : List ℕ) (ms : Members) : Type 0 where
+    named : IsClockName name
+    placed : (label_of clocks name ms).host < length clocks
+
+  good_label : (index : ℕ) (name : List ℕ) (o : Option Members) → entry_causes (label_causes clocks index name) o ≡ [] → GoodLabel name (unwrap_or o no_members)
+  good_label index name None e = cc
+  good_label index name (Some ms) e =
+      let (front, _) = no_parts (table_causes Labels ms ++ when (is_misnamed clocks name ms) cause.Name) _ e in
+      let (_, names) = no_parts (table_causes Labels ms) _ front in
+      let (name_host, kind) = neither (not (is_clock_name name) || is_none (host_at_key clocks (codes "host") ms)) _ (not_so _ cause.Name names) in
+      let (named, host) = neither (not (is_clock_name name)) _ name_host in
+      record { named = clock_name_is name (not_false _ named); placed = known_below (codes "host") ms host }
+
+  label_here : (index : ℕ) (name : List ℕ) (d : Data) (ms : Members) → labels_faults clocks index (member name d ms) ≡ [] → entry_causes (label_causes clocks index name) (as_table d) ≡ []
+  label_here index name d ms e = no_causes Labels index _ (no_parts (at Labels index (entry_causes (label_causes clocks index name) (as_table d))) _ e).0
+
+  labels_behind : (index : ℕ) (name : List ℕ) (d : Data) (ms : Members) → labels_faults clocks index (member name d ms) ≡ [] → labels_faults clocks (index + 1) ms ≡ []
+  labels_behind index name d ms e = (no_parts (at Labels index (entry_causes (label_causes clocks index name) (as_table d))) _ e).1
+
+  labels_named : (index : ℕ) (ms : Members) → labels_faults clocks index ms ≡ [] → All (λ (l : Label). IsClockName l.name) (labels_of clocks ms)
+  labels_named index no_members e = All-nil (λ (l : Label). IsClockName l.name)
+  labels_named index (member name d ms) e =
+      All-cons (λ (l : Label). IsClockName l.name) _ _ (good_label index name (as_table d) (label_here index name d ms e)).named (labels_named (index + 1) ms (labels_behind index name d ms e))
+
+  labels_placed : (index : ℕ) (ms : Members) → labels_faults clocks index ms ≡ [] → All (λ (l : Label). l.host < length clocks) (labels_of clocks ms)
+  labels_placed index no_members e = All-nil (λ (l : Label). l.host < length clocks)
+  labels_placed index (member name d ms) e =
+      All-cons (λ (l : Label). l.host < length clocks) _ _ (good_label index name (as_table d) (label_here index name d ms e)).placed (labels_placed (index + 1) ms (labels_behind index name d ms e))
+
+  labels_few : (index : ℕ) (ms : Members) → index ≤ 65537 → labels_faults clocks index ms ≡ [] → index + length (labels_of clocks ms) ≤ 65537
+  labels_few index no_members le e = omega (arith, le)
+  labels_few index (member name d ms) le e =
+      let here = label_few clocks index name (as_table d) (label_here index name d ms e) in
+      let more = labels_few (index + 1) ms (omega (arith, here)) (labels_behind index name d ms e) in
+      omega (arith, more)
+
+  -- ---- links
+
+  record GoodLink (before : List Link) (ms : Members) : Type 0 where
+    start : (link_of clocks ms).from < length clocks
+    end : (link_of clocks ms).to < length clocks
+    fresh : has_link before (link_of clocks ms).from (link_of clocks ms).to ≡ false
+    fits : LinkFits (link_of clocks ms)
+
+  astray : (before : List Link) (from to : Option ℕ) → is_astray before from to ≡ false → (is_none from ≡ false) × (is_none to ≡ false) × (has_link before (unwrap_or from 0) (unwrap_or to 0) ≡ false)
+  astray before None to e = cc
+  astray before (Some from) None e = cc
+  astray before (Some from) (Some to) e = (refl, refl, e)
+
+  most_fits : (o : Option ℤ) → is_up_to (2 ^ 62 - 1) (unwrap_or o (pos 0)) ≡ true → IfSome (option_map nat_abs o) (λ most. most < 2 ^ 62)
+  most_fits None e = tt
+  most_fits (Some z) e = below_62 z e
+
+  good_link : (index : ℕ) (before : List Link) (o : Option Members) → entry_causes (link_causes clocks index before) o ≡ [] → GoodLink before (unwrap_or o no_members)
+  good_link index before None e = cc
+  good_link index before (Some ms) e =
+      let (front, numbers) = no_parts (table_causes Links ms ++ when (is_astray before (host_at_key clocks (codes "from") ms) (host_at_key clocks (codes "to") ms)) cause.Name) _ e in
+      let (_, names) = no_parts (table_causes Links ms) _ front in
+      let (from, to, fresh) = astray before (host_at_key clocks (codes "from") ms) (host_at_key clocks (codes "to") ms) (not_so _ cause.Name names) in
+      let (_, tame) = neither (is_one_too_many index) _ (not_so _ cause.Number numbers) in
+      let (least, most) = wild (is_up_to (2 ^ 62 - 1) (whole_or_zero (codes "least") ms)) (is_up_to (2 ^ 62 - 1) (whole_or_zero (codes "most") ms)) tame in
+      record {
+        start = known_below (codes "from") ms from;
+        end = known_below (codes "to") ms to;
+        fresh = fresh;
+        fits = (below_62 (whole_or_zero (codes "least") ms) least, most_fits (whole_at (codes "most") ms) most);
+      }
+
+  link_here : (index : ℕ) (before : List Link) (d : Data) (ds : Items) → links_faults clocks index before (item d ds) ≡ [] → entry_causes (link_causes clocks index before) (as_table d) ≡ []
+  link_here index before d ds e = no_causes Links index _ (no_parts (at Links index (entry_causes (link_causes clocks index before) (as_table d))) _ e).0
+
+  links_behind : (index : ℕ) (before : List Link) (d : Data) (ds : Items) → links_faults clocks index before (item d ds) ≡ []
+      → links_faults clocks (index + 1) (before ++ link_of clocks (entry_of d) ∷ []) ds ≡ []
+  links_behind index before d ds e = (no_parts (at Links index (entry_causes (link_causes clocks index before) (as_table d))) _ e).1
+
+  links_all : (P : Link → Type 0) → ((before : List Link) (ms : Members) → GoodLink before ms → P (link_of clocks ms)) → (index : ℕ) (before : List Link) (ds : Items) → links_faults clocks index before ds ≡ []
+      → All P (links_of clocks ds)
+  links_all P good index before no_items e = All-nil P
+  links_all P good index before (item d ds) e =
+      All-cons P _ _ (good before (entry_of d) (good_link index before (as_table d) (link_here index before d ds e)))
+      (links_all P good (index + 1) (before ++ link_of clocks (entry_of d) ∷ []) ds (links_behind index before d ds e))
+
+  links_few : (index : ℕ) (before : List Link) (ds : Items) → index ≤ 65537 → links_faults clocks index before ds ≡ [] → index + length (links_of clocks ds) ≤ 65537
+  links_few index before no_items le e = omega (arith, le)
+  links_few index before (item d ds) le e =
+      let here = link_few clocks index before (as_table d) (link_here index before d ds e) in
+      let more = links_few (index + 1) (before ++ link_of clocks (entry_of d) ∷ []) ds (omega (arith, here)) (links_behind index before d ds e) in
+      omega (arith, more)
+
+abbrev same_ends : Link → Link → Bool
+same_ends b l = b.from == l.from && b.to == l.to
+
+links_fresh : (clocks : List Clock) (index : ℕ) (before : List Link) (ds : Items) → links_faults clocks index before ds ≡ [] → IsFresh same_ends before (links_of clocks ds)
+links_fresh clocks index before no_items e = tt
+links_fresh clocks index before (item d ds) e =
+    ((good_link clocks index before (as_table d) (link_here clocks index before d ds e)).fresh, links_fresh clocks (index + 1) (before ++ link_of clocks (entry_of d) ∷ []) ds (links_behind clocks index before d ds e))
+
+ends_apart : (a b : Link) → same_ends a b ≡ false → a.from ≡ b.from → a.to ≡ b.to → ⊥
+ends_apart a b other from to = both_false (a.from == b.from) (a.to == b.to) (eq-eqb a.from b.from from) (eq-eqb a.to b.to to) other
+  where
+    both_false : (x y : Bool) → x ≡ true → y ≡ true → (x && y) ≡ false → ⊥
+    both_false true true p q e = cc
+    both_false true false p q e = cc
+    both_false false y p q e = cc
+
+links_differ : (links : List Link) → AllPairs (λ (a b : Link). same_ends a b ≡ false) links → AllPairs (λ (a b : Link). (a.from ≡ b.from) → (a.to ≡ b.to) → ⊥) links
+links_differ links apart i j d below inside = ends_apart (get_or links i d) (get_or links j d) (apart i j d below inside)
+
+-- ---- the source
+
+true_clock : (o : Option Clock) → shows_true o ≡ true → (c : Clock) × (o ≡ Some c) × (c.rate.short ≡ 0) × (c.rate.long ≡ 0)
+true_clock None e = cc
+true_clock (Some c) e =
+    let (short, long) = parts (c.rate.short == 0) (c.rate.long == 0) e in (c, refl, eqb-true c.rate.short 0 short, eqb-true c.rate.long 0 long)
+  where
+    parts : (a b : Bool) → (a && b) ≡ true → (a ≡ true) × (b ≡ true)
+    parts true true e' = (refl, refl)
+    parts true false e' = cc
+    parts false b e' = cc
+
+true_source : (clocks : List Clock) (o : Option ℕ) → is_true_at clocks o ≡ true → IfSome o (IsSource clocks)
+true_source clocks None e = tt
+true_source clocks (Some place) e = true_clock (slice_get clocks place) e
+
+source_true : (clocks : List Clock) (name : Option (List ℕ)) → source_causes clocks name ≡ [] → IfSome (option_and_then (place_of clocks) name) (IsSource clocks)
+source_true clocks None e = tt
+source_true clocks (Some name) e = true_source clocks (place_of clocks name) (not_false _ (not_so _ cause.Source e))
+
+-- ---- all together
+
+pub lawful : (ms : Members) → Rise (clocks_of (hosts_in ms)) → RiseLabels (labels_of (clocks_of (hosts_in ms)) (labels_in ms)) → faults ms ≡ [] → IsDeclaration (declared ms)
+lawful ms rise labels_rise e =
+    let clocks = clocks_of (hosts_in ms) in
+    let (top, behind_top) = no_parts (at Top 0 (top_causes ms)) _ e in
+    let (hosts, behind_hosts) = no_parts (hosts_faults 1 [] (hosts_in ms)) _ behind_top in
+    let (labels, behind_labels) = no_parts (labels_faults clocks 1 (labels_in ms)) _ behind_hosts in
+    let (links, source) = no_parts (links_faults clocks 1 [] (links_in ms)) _ behind_labels in
+    let payload = (no_parts (table_causes Top ms) _ (no_causes Top 0 (top_causes ms) top)).1 in
+    record {
+      host_names = hosts_named 1 [] (hosts_in ms) hosts;
+      hosts_rise = rise;
+      hosts_fit = hosts_fit 1 [] (hosts_in ms) hosts;
+      host_limit = omega (arith, hosts_few 1 [] (hosts_in ms) (omega arith) hosts);
+      address_hosts = addresses_placed 0 (hosts_in ms) (length clocks) (omega arith);
+      addresses_fit = addresses_fit 0 (hosts_in ms);
+      addresses_differ = addresses_differ (addresses_from 0 (hosts_in ms)) (all_apart same_number [] _ (addresses_fresh 1 0 [] (hosts_in ms) hosts));
+      label_names = labels_named clocks 1 (labels_in ms) labels;
+      labels_rise = labels_rise;
+      label_hosts = labels_placed clocks 1 (labels_in ms) labels;
+      label_limit = omega (arith, labels_few clocks 1 (labels_in ms) (omega arith) labels);
+      link_starts = links_all clocks (λ (l : Link). l.from < length clocks) (λ before m good. good.start) 1 [] (links_in ms) links;
+      link_ends = links_all clocks (λ (l : Link). l.to < length clocks) (λ before m good. good.end) 1 [] (links_in ms) links;
+      links_differ = links_differ (links_of clocks (links_in ms)) (all_apart same_ends [] _ (links_fresh clocks 1 [] (links_in ms) links));
+      links_fit = links_all clocks LinkFits (λ before m good. good.fits) 1 [] (links_in ms) links;
+      link_limit = omega (arith, links_few clocks 1 [] (links_in ms) (omega arith) links);
+      payload_limit = up_to_le 64 (whole_or_zero (codes "payload_bytes") ms) (not_false _ (not_so _ cause.Number payload));
+      source_true = source_true clocks (text_at (codes "source") ms) (no_causes Top 0 _ source);
+    }

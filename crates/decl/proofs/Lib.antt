@@ -1,0 +1,11 @@
+mod ClockNames
+mod Dotted
+mod Searching
+mod Faults
+mod HostTurns
+mod LabelTurns
+mod LinkTurns
+mod Walking
+mod Fresh
+mod Lawful
+mod Wholes

@@ -1,0 +1,11 @@
+use Rattle.std.proofs.Common.{◌≡◌, ◌≤◌, ◌+◌, ◌++◌}
+use Rattle.toml.specs.View.{members_view}
+use Rattle.decl.specs.Labels.{labels_faults, labels_of}
+use Rattle.decl.proofs.labels.read_labels.Given as goal
+
+abbrev pub invariant-loop-name : goal.invariant-loop-name
+invariant-loop-name l = record {
+  walked : labels_faults l.clocks 1 (members_view l.table.entries) ≡ labels_faults l.clocks (l.index + 1) (members_view l.name-iterator);
+  labelled : labels_of l.clocks (members_view l.table.entries) ≡ l.labels.items ++ labels_of l.clocks (members_view l.name-iterator);
+  few : l.index ≤ 65536;
+}

@@ -1,0 +1,45 @@
+-- What is wrong in a declaration, and where.
+use Rattle.std.specs.Prelude.{◌≡◌, ℕ, Bool, if◌then◌else◌, List, [], ◌∷◌, map, Option, Some, None, Result, Ok, Err, ⊤}
+use Rattle.decl.specs.declared.cause.Cause.{Cause}
+use Rattle.decl.specs.declared.cause.Cause.TheVariants.{Document, Key, Shape, Name, Number, Address, Source, Size}
+use Rattle.decl.specs.declared.errors.DeclError.{DeclError}
+use Rattle.decl.specs.declared.errors.DeclError.TheVariants.{Fault, Memory}
+use Rattle.decl.specs.declared.errors.Section.{Section}
+
+-- the number by which each cause is told
+abbrev pub number_of : Cause → ℕ
+number_of Document = 1
+number_of Key = 2
+number_of Shape = 3
+number_of Name = 4
+number_of Number = 5
+number_of Address = 6
+number_of Source = 7
+number_of Size = 8
+
+-- the fault of an entry of a section
+abbrev pub error_at : Section → ℕ → Cause → DeclError
+error_at section index cause = Fault (number_of cause) section index
+
+-- the faults of an entry, by what is wrong with it
+abbrev pub at : Section → ℕ → List Cause → List DeclError
+at section index causes = map (error_at section index) causes
+
+-- a cause, if something is so
+abbrev pub when : Bool → Cause → List Cause
+when so cause = if so then cause ∷ [] else []
+
+-- the first of a list
+abbrev pub first : {A : Type 0} → List A → Option A
+first [] = None
+first (a ∷ more) = Some a
+
+-- what is told of a value with these causes: the value where there is none, and else the first
+abbrev pub Tells : {V : Type 0} → List Cause → V → Result V Cause → Type 0
+Tells causes v (Ok w) = (causes ≡ []) × (w ≡ v)
+Tells causes v (Err cause) = first causes ≡ Some cause
+
+-- the first of these faults; of want of memory nothing is said
+abbrev pub IsFirstOf : List DeclError → DeclError → Type 0
+IsFirstOf faults (Fault number section index) = first faults ≡ Some (Fault number section index)
+IsFirstOf faults Memory = ⊤

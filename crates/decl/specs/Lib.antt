@@ -1,0 +1,10 @@
+pub mod Declaration
+pub mod Causes
+pub mod Keys
+pub mod Values
+pub mod Addresses
+pub mod Places
+pub mod Hosts
+pub mod Labels
+pub mod Links
+pub mod Walk

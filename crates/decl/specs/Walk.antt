@@ -1,0 +1,89 @@
+-- What a document declares, and its first fault.
+use Rattle.std.specs.Prelude.{◌≡◌, ℕ, ◌^◌, nat_lt, Bool, false, not, ◌&&◌, ◌==◌, if◌then◌else◌, List, [], ◌∷◌, ◌++◌, length, codes, slice_get, Option, Some, None, option_and_then, option_map}
+use Rattle.std.specs.Str.{is_utf8}
+use Rattle.problem_model.specs.declared.items.Clock.{Clock}
+use Rattle.toml.specs.Data.{Items, Members}
+use Rattle.toml.specs.Parse.{parse_document}
+use Rattle.decl.specs.Causes.{when, at, error_at, IsFirstOf}
+use Rattle.decl.specs.Declaration.{Declaration}
+use Rattle.decl.specs.Hosts.{clocks_of, addresses_from, hosts_faults}
+use Rattle.decl.specs.Keys.{table_causes}
+use Rattle.decl.specs.Labels.{labels_of, labels_faults}
+use Rattle.decl.specs.Links.{links_of, links_faults}
+use Rattle.decl.specs.Places.{place_of}
+use Rattle.decl.specs.Values.{whole_or_zero, number_at, is_up_to, text_at, table_or_empty, items_or_none}
+use Rattle.decl.specs.declared.cause.Cause.{Cause}
+use Rattle.decl.specs.declared.cause.Cause.TheVariants.{Document, Number, Source, Size}
+use Rattle.decl.specs.declared.errors.DeclError.{DeclError}
+use Rattle.decl.specs.declared.errors.Section.TheVariants.{Top}
+
+-- the table of a document's hosts
+abbrev pub hosts_in : Members → Members
+hosts_in ms = table_or_empty (codes "hosts") ms
+
+-- the table of its labels
+abbrev pub labels_in : Members → Members
+labels_in ms = table_or_empty (codes "labels") ms
+
+-- its array of links
+abbrev pub links_in : Members → Items
+links_in ms = items_or_none (codes "links") ms
+
+-- the clock is there, and never short or long
+abbrev pub shows_true : Option Clock → Bool
+shows_true None = false
+shows_true (Some c) = c.rate.short == 0 && c.rate.long == 0
+
+-- the place is that of a host whose clock shows true time
+abbrev pub is_true_at : List Clock → Option ℕ → Bool
+is_true_at clocks None = false
+is_true_at clocks (Some place) = shows_true (slice_get clocks place)
+
+-- what is wrong with the source, if one is named
+abbrev pub source_causes : List Clock → Option (List ℕ) → List Cause
+source_causes clocks None = []
+source_causes clocks (Some name) = when (not (is_true_at clocks (place_of clocks name))) Source
+
+-- what is wrong with the document's own keys
+abbrev pub top_causes : Members → List Cause
+top_causes ms = table_causes Top ms ++ when (not (is_up_to 64 (whole_or_zero (codes "payload_bytes") ms))) Number
+
+-- all that is wrong with a document, in the order in which it is looked through
+abbrev pub faults : Members → List DeclError
+faults ms = at Top 0 (top_causes ms)
+    ++ (hosts_faults 1 [] (hosts_in ms)
+    ++ (labels_faults (clocks_of (hosts_in ms)) 1 (labels_in ms)
+    ++ (links_faults (clocks_of (hosts_in ms)) 1 [] (links_in ms)
+    ++ at Top 0 (source_causes (clocks_of (hosts_in ms)) (text_at (codes "source") ms)))))
+
+-- what a document declares
+abbrev pub declared : Members → Declaration
+declared ms = record {
+  clocks = clocks_of (hosts_in ms);
+  addresses = addresses_from 0 (hosts_in ms);
+  labels = labels_of (clocks_of (hosts_in ms)) (labels_in ms);
+  links = links_of (clocks_of (hosts_in ms)) (links_in ms);
+  payload_bytes = number_at (codes "payload_bytes") ms;
+  source = option_and_then (place_of (clocks_of (hosts_in ms))) (text_at (codes "source") ms);
+}
+
+-- the document in these bytes, as `toml` reads it, if they are one
+abbrev pub document_of : List ℕ → Option Members
+document_of bytes = if is_utf8 bytes then parse_document bytes else None
+
+-- all that is wrong with what was read
+abbrev pub faults_read : Option Members → List DeclError
+faults_read None = error_at Top 0 Document ∷ []
+faults_read (Some document) = faults document
+
+-- all that is wrong with bytes: they are too many, or no document, or one with these faults
+abbrev pub faults_in : List ℕ → List DeclError
+faults_in bytes = if nat_lt (2 ^ 24) (length bytes) then error_at Top 0 Size ∷ [] else faults_read (document_of bytes)
+
+-- the bytes are a document without a fault, which declares this
+abbrev pub Declares : List ℕ → Declaration → Type 0
+Declares bytes d = (faults_in bytes ≡ []) × (option_map declared (document_of bytes) ≡ Some d)
+
+-- the first fault of bytes; of want of memory nothing is said
+abbrev pub IsFirstFault : List ℕ → DeclError → Type 0
+IsFirstFault bytes e = IsFirstOf (faults_in bytes) e

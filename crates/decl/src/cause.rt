@@ -1,0 +1,55 @@
+// What is wrong in a declaration.
+ghost use Rattle.std.specs.Prelude.{◌≡◌};
+ghost use Rattle.decl.specs.Causes.{number_of, error_at};
+
+use crate::{DeclError, Section};
+
+// What is wrong with a document or one of its entries.
+#[derive(Clone, Copy, Debug, PartialEq, Eq)]
+pub(crate) enum Cause {
+    // It is no TOML document.
+    Document,
+    // A key may not stand there, or one is missing.
+    Key,
+    // A value has another shape.
+    Shape,
+    // A name is misspelled, unknown, or stands there once more.
+    Name,
+    // A number is out of its range, or there are too many entries.
+    Number,
+    // An address is misspelled, or stands there once more.
+    Address,
+    // The source is no host whose clock shows true time.
+    Source,
+    // There are too many bytes.
+    Size,
+}
+
+impl Cause {
+    // The number by which it is told.
+    fn number(self) -> u32
+        ensures { result ≡ number_of self }
+    {
+        match self {
+            Cause::Document => 1,
+            Cause::Key => 2,
+            Cause::Shape => 3,
+            Cause::Name => 4,
+            Cause::Number => 5,
+            Cause::Address => 6,
+            Cause::Source => 7,
+            Cause::Size => 8,
+        }
+    }
+
+    // The fault of the entry of a section with this index.
+    pub(crate) fn at(self, section: Section, index: u32) -> DeclError
+        ensures { result ≡ error_at section index self }
+    {
+        DeclError::Fault {
+            number: self.number(),
+            section,
+            index,
+        }
+    }
+}

@@ -1,0 +1,141 @@
+// The hosts of a declaration.
+ghost use Rattle.std.specs.Prelude.{◌≡◌, ◌+◌, ◌-◌, ◌≤◌, ◌++◌, [], Some, None, if◌then◌else◌, length, AllPairs, IfOk, IfErr, OnOk};
+ghost use Rattle.toml.specs.Data.{as_table};
+ghost use Rattle.toml.specs.View.{view, table_view};
+ghost use Rattle.decl.specs.Addresses.{numbers_of, at_host};
+ghost use Rattle.decl.specs.Causes.{Tells, IsFirstOf, at};
+ghost use Rattle.decl.specs.Declaration.{Precedes};
+ghost use Rattle.decl.specs.Hosts.{is_clock_name, has_wild_rate, has_wild_number, rate_of, clock_of, clock_causes, host_causes, hosts_faults, entry_of, addresses_in, clocks_of, addresses_from};
+
+use crate::addresses::AddressBook;
+use crate::cause::Cause;
+use crate::keys::check_table;
+use crate::values::{items_or_none, nano_at, number_up_to};
+use crate::{Address, DeclError, Section};
+use atto::Rate;
+use problem_model::{Clock, Name};
+use std::alloc::Global;
+use toml::{Table, Value};
+
+// How many entries of a kind there may be.
+pub(crate) const LIMIT: u32 = 65_536;
+
+// The hosts of a declaration: their clocks, in the byte order of their names, and their addresses.
+#[derive(Debug, Drop)]
+pub(crate) struct Hosts {
+    pub(crate) clocks: Vec<Clock>,
+    pub(crate) addresses: Vec<Address>,
+}
+
+#[tactic(auto, using(crate::proofs::ClockNames::clock_name_is, crate::proofs::ClockNames::clock_name_tested, crate::proofs::ClockNames::clock_name_event))]
+// The clock name of this text, if it is one.
+pub(crate) fn read_clock_name(text: &[u8]) -> Option<Name>
+    ensures { result ≡ (if is_clock_name text.now then Some text.now else None) }
+{
+    match Name::new(text) {
+        Some(name) => { if name.is_short() { Some(name) } else { None } }
+        None => None,
+    }
+}
+
+// How far the clock of a host may be from real time, if both numbers are in their ranges.
+fn read_rate(table: &Table) -> Option<Rate>
+    ensures { result ≡ (if has_wild_rate (table_view table.now) then None else Some (rate_of (table_view table.now))) }
+{
+    let Some(short) = number_up_to(table, "short", 999_999_999) else {
+        return None;
+    };
+    let Some(long) = number_up_to(table, "long", 1_000_000_000) else {
+        return None;
+    };
+    Rate::new(short as u32, long as u32)
+}
+
+// The clock of a host, if its numbers are in their ranges.
+fn read_numbers(name: Name, table: &Table) -> Option<Clock>
+    ensures { result ≡ (if has_wild_number (table_view table.now) then None else Some (clock_of name (table_view table.now))) }
+{
+    let Some(rate) = read_rate(table) else {
+        return None;
+    };
+    let Some(early) = nano_at(table, "early") else {
+        return None;
+    };
+    let Some(late) = nano_at(table, "late") else {
+        return None;
+    };
+    Some(Clock {
+        name,
+        rate,
+        early,
+        late,
+    })
+}
+
+// The clock of the host with this index and name.
+fn read_clock(index: u32, name: &str, table: &Table) -> Result<Clock, Cause>
+    ensures { Tells (clock_causes index name.now (table_view table.now)) (clock_of name.now (table_view table.now)) result }
+{
+    check_table(Section::Hosts, table)?;
+    let Some(name) = read_clock_name(name.as_bytes()) else {
+        return Err(Cause::Name);
+    };
+    if index > LIMIT {
+        return Err(Cause::Number);
+    }
+    match read_numbers(name, table) {
+        Some(clock) => Ok(clock),
+        None => Err(Cause::Number),
+    }
+}
+
+// Reads the host with this index and name. Its addresses go into the book, behind those of hosts before.
+fn read_host(
+    index: u32,
+    name: &str,
+    value: &Value,
+    book: &mut AddressBook,
+) -> Result<Clock, DeclError>
+    requires { 1 ≤ index }
+    ensures read { IfOk result (λ clock. (host_causes index (numbers_of book.old) name.now (as_table (view value.now)) ≡ []) × (clock ≡ clock_of name.now (entry_of (view value.now)))) }
+    ensures booked { OnOk result (book.new ≡ book.old ++ at_host (index - 1) (addresses_in (view value.now))) }
+    ensures fault { IfErr result (λ e. IsFirstOf (at Section.Hosts index (host_causes index (numbers_of book.old) name.now (as_table (view value.now)))) e) }
+{
+    let Some(table) = value.as_table() else {
+        return Err(Cause::Shape.at(Section::Hosts, index));
+    };
+    let clock = match read_clock(index, name, table) {
+        Ok(clock) => clock,
+        Err(cause) => return Err(cause.at(Section::Hosts, index)),
+    };
+    if !book.add_all(index - 1, items_or_none(table, "addresses"))? {
+        return Err(Cause::Address.at(Section::Hosts, index));
+    }
+    Ok(clock)
+}
+
+// The hosts of this table.
+pub(crate) fn read_hosts(alloc: Global, table: &Table) -> Result<Hosts, DeclError>
+    ensures fault { IfErr result (λ e. IsFirstOf (hosts_faults 1 [] (table_view table.now)) e) }
+    ensures sound { OnOk result (hosts_faults 1 [] (table_view table.now) ≡ []) }
+    ensures clocks { IfOk result (λ hosts. hosts.clocks.items ≡ clocks_of (table_view table.now)) }
+    ensures addresses { IfOk result (λ hosts. hosts.addresses.items ≡ addresses_from 0 (table_view table.now)) }
+    ensures rising { IfOk result (λ hosts. AllPairs (λ a b. Precedes a.name b.name) hosts.clocks.items) }
+    ensures few { IfOk result (λ hosts. length hosts.clocks.items ≤ 65536) }
+{
+    let mut clocks = Vec::new(alloc);
+    let mut book = AddressBook::new(alloc);
+    let mut index: u32 = 0;
+    for (name, value) in table {
+        index += 1;
+        let clock = match read_host(index, name, value, &mut book) {
+            Ok(clock) => clock,
+            Err(e) => return Err(e),
+        };
+        clocks.push(clock)?;
+    }
+    Ok(Hosts {
+        clocks,
+        addresses: book.into_list(),
+    })
+}

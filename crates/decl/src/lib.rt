@@ -1,0 +1,47 @@
+//! Declarations: what is said in TOML 1.1 of hosts, their clocks and addresses, of the traces taken at them, and of the
+//! delay from one host to another.
+//!
+//! | Key of the document | What it is |
+//! |---|---|
+//! | `hosts` | a table with a table for each host, by its name |
+//! | `labels` | a table with a table for each trace, by its name |
+//! | `links` | an array with a table for each link |
+//! | `payload_bytes` | a whole number from 0 to 64; 0 where it is not there |
+//! | `source` | the name of a host whose clock shows true time |
+//!
+//! All may be left out, and there is no other key.
+//!
+//! | Entry | Its keys |
+//! |---|---|
+//! | host | `short` (at most 999,999,999) and `long` (at most 1,000,000,000), in parts per billion, and `early` and `late`, in ns below 2^62: 0 where they are not there. `addresses`: an array of IPv4 addresses, each four decimals with points between and no zeros in front |
+//! | trace | `host`: a host's name; `kind`: `capture` or `log`. It has both |
+//! | link | `from` and `to`: hosts' names, which may be the same. It has both. `least` and `most`, in ns below 2^62: 0 and no limit where they are not there |
+//!
+//! Names of hosts and traces are clock names, no address and no pair of hosts stands there twice, and of hosts, traces
+//! and links there are at most 65,536 each. Hosts and traces go by the byte order of their names.
+//!
+//! A declaration that is refused is looked through in this order: its size; whether it is a document; its own keys, their
+//! values' shapes, the payload; then host by host, trace by trace and link by link; at last the source. An entry that
+//! is a table is looked through by keys, shapes of values, names, numbers (with its own among the entries), addresses.
+#![tactic(auto)]
+
+mod addresses;
+mod cause;
+mod errors;
+mod hosts;
+mod items;
+mod keys;
+mod labels;
+mod links;
+mod lookups;
+mod places;
+mod read;
+mod values;
+
+pub use addresses::addresses_are_dotted;
+pub use errors::{DeclError, Section};
+pub use items::{Address, Decl, Label, Link, TraceKind};
+pub use read::read_decl;
+
+#[cfg(test)]
+mod tests;

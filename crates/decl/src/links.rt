@@ -1,0 +1,181 @@
+// The links of a declaration.
+ghost use Rattle.std.specs.Prelude.{◌≡◌, ◌-◌, ◌^◌, ◌≤◌, ◌++◌, ◌∷◌, [], Some, None, if◌then◌else◌, unwrap_or, codes, length, AllPairs, IfOk, IfErr, OnOk};
+ghost use Rattle.toml.specs.Data.{as_table};
+ghost use Rattle.toml.specs.View.{view, table_view, items_view};
+ghost use Rattle.decl.specs.Causes.{Tells, IsFirstOf};
+ghost use Rattle.decl.specs.Declaration.{Precedes};
+ghost use Rattle.decl.specs.Hosts.{entry_of};
+ghost use Rattle.decl.specs.Labels.{host_at_key, entry_causes};
+ghost use Rattle.decl.specs.Links.{has_link, is_astray, most_at, link_causes, link_of, links_faults, links_of};
+ghost use Rattle.decl.specs.Values.{is_up_to, whole_or_zero};
+
+use crate::cause::Cause;
+use crate::hosts::LIMIT;
+use crate::keys::check_table;
+use crate::labels::host_at_key;
+use crate::values::{nano_at, whole_at};
+use crate::{DeclError, Link, Section};
+use atto::Nano;
+use problem_model::Clock;
+use std::alloc::{AllocError, Global};
+use std::collections::BTreeSet;
+use std::marker::Model;
+use toml::{Table, Value};
+
+// The links so far, in the order in which they came.
+#[derive(Debug, Drop)]
+struct LinkBook {
+    list: Vec<Link>,
+    ends: BTreeSet<(u32, u32)>,
+}
+
+impl Model for LinkBook {
+    ghost use Rattle.std.specs.Prelude.{◌≡◌, ℕ, List};
+    ghost use Rattle.std.specs.BTreeSet.{contains};
+    ghost use Rattle.std.specs.Ordering.{nat_cmp, ordering_then};
+    ghost use Rattle.decl.specs.declared.items.Link.{Link};
+    ghost use Rattle.decl.specs.Links.{has_link};
+
+    ghost Value = { List Link };
+
+    ghost view = { λ b. b.list.items };
+
+    ghost invariant = { λ b. (q : ℕ × ℕ) → contains (λ x y. ordering_then (nat_cmp x.0 y.0) (nat_cmp x.1 y.1)) b.ends q ≡ has_link b.list.items q.0 q.1 };
+}
+
+impl LinkBook {
+    fn new(alloc: Global) -> LinkBook
+        ensures { result ≡ [] }
+    {
+        LinkBook {
+            list: Vec::new(alloc),
+            ends: BTreeSet::new(alloc),
+        }
+    }
+
+    // Whether there is a link from one host to another.
+    fn has(&self, from: u32, to: u32) -> bool
+        ensures { result ≡ has_link self.now from to }
+    {
+        self.ends.contains(&(from, to))
+    }
+
+    fn push(&mut self, link: &Link) -> Result<(), AllocError>
+        ensures { OnOk result (self.new ≡ self.old ++ link.now ∷ []) }
+    {
+        let most: Option<Nano> = link.most;
+        self.list.reserve(1)?;
+        self.ends.insert((link.from, link.to))?;
+        self.list.push_reserved(Link {
+            from: link.from,
+            to: link.to,
+            least: link.least,
+            most,
+        });
+        Ok(())
+    }
+
+    // The links.
+    fn into_list(self) -> Vec<Link>
+        ensures { result.items ≡ self }
+    {
+        self.list
+    }
+}
+
+// The places of the hosts of a link, if it names two and goes otherwise than the links in the book.
+fn read_ends(clocks: &[Clock], book: &LinkBook, table: &Table) -> Option<(u32, u32)>
+    requires rising { AllPairs (λ a b. Precedes a.name b.name) clocks.now }
+    requires few { length clocks.now ≤ 65536 }
+    ensures { let from = host_at_key clocks.now (codes "from") (table_view table.now) in
+        let to = host_at_key clocks.now (codes "to") (table_view table.now) in
+        result ≡ (if is_astray book.now from to then None else Some (unwrap_or from 0, unwrap_or to 0)) }
+{
+    let Some(from) = host_at_key(clocks, "from", table) else {
+        return None;
+    };
+    let Some(to) = host_at_key(clocks, "to", table) else {
+        return None;
+    };
+    if book.has(from, to) {
+        return None;
+    }
+    Some((from, to))
+}
+
+// The greatest delay of a link, if it has one, if that is in its range.
+fn read_most(table: &Table) -> Option<Option<Nano>>
+    ensures { result ≡ (if is_up_to (2 ^ 62 - 1) (whole_or_zero (codes "most") (table_view table.now)) then Some (most_at (table_view table.now)) else None) }
+{
+    let Some(most) = nano_at(table, "most") else {
+        return None;
+    };
+    match whole_at(table, "most") {
+        Some(_) => Some(Some(most)),
+        None => Some(None),
+    }
+}
+
+// The link with this index.
+fn read_link(clocks: &[Clock], book: &LinkBook, index: u32, table: &Table) -> Result<Link, Cause>
+    requires rising { AllPairs (λ a b. Precedes a.name b.name) clocks.now }
+    requires few { length clocks.now ≤ 65536 }
+    ensures { Tells (link_causes clocks.now index book.now (table_view table.now)) (link_of clocks.now (table_view table.now)) result }
+{
+    check_table(Section::Links, table)?;
+    let Some((from, to)) = read_ends(clocks, book, table) else {
+        return Err(Cause::Name);
+    };
+    if index > LIMIT {
+        return Err(Cause::Number);
+    }
+    let Some(least) = nano_at(table, "least") else {
+        return Err(Cause::Number);
+    };
+    let Some(most) = read_most(table) else {
+        return Err(Cause::Number);
+    };
+    Ok(Link {
+        from,
+        to,
+        least,
+        most,
+    })
+}
+
+// The link with this index, if it is a table.
+fn read_entry(clocks: &[Clock], book: &LinkBook, index: u32, value: &Value) -> Result<Link, Cause>
+    requires rising { AllPairs (λ a b. Precedes a.name b.name) clocks.now }
+    requires few { length clocks.now ≤ 65536 }
+    ensures { Tells (entry_causes (link_causes clocks.now index book.now) (as_table (view value.now))) (link_of clocks.now (entry_of (view value.now))) result }
+{
+    match value.as_table() {
+        Some(table) => read_link(clocks, book, index, table),
+        None => Err(Cause::Shape),
+    }
+}
+
+// The links of these items.
+pub(crate) fn read_links(
+    alloc: Global,
+    clocks: &[Clock],
+    items: &[Value],
+) -> Result<Vec<Link>, DeclError>
+    requires rising { AllPairs (λ a b. Precedes a.name b.name) clocks.now }
+    requires few { length clocks.now ≤ 65536 }
+    ensures fault { IfErr result (λ e. IsFirstOf (links_faults clocks.now 1 [] (items_view items.now)) e) }
+    ensures sound { OnOk result (links_faults clocks.now 1 [] (items_view items.now) ≡ []) }
+    ensures links { IfOk result (λ links. links.items ≡ links_of clocks.now (items_view items.now)) }
+{
+    let mut book = LinkBook::new(alloc);
+    let mut index: u32 = 0;
+    for item in items {
+        index += 1;
+        let link = match read_entry(clocks, &book, index, item) {
+            Ok(link) => link,
+            Err(cause) => return Err(cause.at(Section::Links, index)),
+        };
+        book.push(&link)?;
+    }
+    Ok(book.into_list())
+}

@@ -1,0 +1,134 @@
+// A declaration as a whole.
+ghost use Rattle.std.specs.Prelude.{◌≡◌, ◌≤◌, [], Some, None, option_and_then, length, codes, AllPairs, IfOk, IfErr, OnOk};
+ghost use Rattle.toml.specs.View.{table_view};
+ghost use Rattle.decl.specs.Causes.{Tells, IsFirstOf};
+ghost use Rattle.decl.specs.Declaration.{Precedes, declaration_of, IsDeclaration};
+ghost use Rattle.decl.specs.Places.{place_of};
+ghost use Rattle.decl.specs.Values.{number_at, text_at};
+ghost use Rattle.decl.specs.Walk.{Declares, IsFirstFault, declared, faults, is_true_at, shows_true, source_causes, top_causes};
+
+use crate::cause::Cause;
+use crate::hosts::read_hosts;
+use crate::keys::check_table;
+use crate::labels::read_labels;
+use crate::links::read_links;
+use crate::places::place_of;
+use crate::values::{items_or_none, number_up_to, table_or_empty, text_at};
+use crate::{Decl, DeclError, Section};
+use problem_model::Clock;
+use std::alloc::Global;
+use toml::Table;
+
+// How many bytes a declaration may have.
+const MOST_BYTES: usize = 1 << 24;
+
+// Looks through the document's own keys; how many bytes of a payload tell a packet.
+fn read_top(table: &Table) -> Result<u8, Cause>
+    ensures { Tells (top_causes (table_view table.now)) (number_at (codes "payload_bytes") (table_view table.now)) result }
+{
+    check_table(Section::Top, table)?;
+    match number_up_to(table, "payload_bytes", 64) {
+        Some(bytes) => Ok(bytes as u8),
+        None => Err(Cause::Number),
+    }
+}
+
+fn shows_true(clock: &Clock) -> bool
+    ensures { result ≡ shows_true (Some clock.now) }
+{
+    clock.rate.short() == 0 && clock.rate.long() == 0
+}
+
+// Whether this is the place of a host whose clock is never short or long.
+fn is_true_at(clocks: &[Clock], place: Option<u32>) -> bool
+    ensures { result ≡ is_true_at clocks.now place }
+{
+    let Some(place) = place else {
+        return false;
+    };
+    match clocks.get(place as usize) {
+        Some(clock) => shows_true(clock),
+        None => false,
+    }
+}
+
+// The place of the source, if one is named.
+fn read_source(clocks: &[Clock], table: &Table) -> Result<Option<u32>, Cause>
+    requires rising { AllPairs (λ a b. Precedes a.name b.name) clocks.now }
+    requires few { length clocks.now ≤ 65536 }
+    ensures { let name = text_at (codes "source") (table_view table.now) in
+        Tells (source_causes clocks.now name) (option_and_then (place_of clocks.now) name) result }
+{
+    let Some(name) = text_at(table, "source") else {
+        return Ok(None);
+    };
+    let place = place_of(clocks, name.as_bytes());
+    if !is_true_at(clocks, place) {
+        return Err(Cause::Source);
+    }
+    Ok(place)
+}
+
+// The declaration of a document.
+fn read_document(alloc: Global, table: &Table) -> Result<Decl, DeclError>
+    ensures fault { IfErr result (λ e. IsFirstOf (faults (table_view table.now)) e) }
+    ensures sound { OnOk result (faults (table_view table.now) ≡ []) }
+    ensures declared { IfOk result (λ d. declaration_of d ≡ declared (table_view table.now)) }
+    ensures lawful { IfOk result (λ d. IsDeclaration (declaration_of d)) }
+{
+    let payload_bytes = match read_top(table) {
+        Ok(bytes) => bytes,
+        Err(cause) => return Err(cause.at(Section::Top, 0)),
+    };
+    let empty = Table::new(alloc);
+    let hosts = match read_hosts(alloc, table_or_empty(table, "hosts", &empty)) {
+        Ok(hosts) => hosts,
+        Err(e) => return Err(e),
+    };
+    let labels = match read_labels(
+        alloc,
+        &hosts.clocks,
+        table_or_empty(table, "labels", &empty),
+    ) {
+        Ok(labels) => labels,
+        Err(e) => return Err(e),
+    };
+    let links = match read_links(alloc, &hosts.clocks, items_or_none(table, "links")) {
+        Ok(links) => links,
+        Err(e) => return Err(e),
+    };
+    let source = match read_source(&hosts.clocks, table) {
+        Ok(source) => source,
+        Err(cause) => return Err(cause.at(Section::Top, 0)),
+    };
+    Ok(Decl {
+        clocks: hosts.clocks,
+        addresses: hosts.addresses,
+        labels,
+        links,
+        payload_bytes,
+        source,
+    })
+}
+
+/// Reads a declaration, a TOML document of at most 2^24 bytes, or finds its first fault. Each answer comes exactly where
+/// it is defined, but for `Memory`, which comes where memory runs out.
+pub fn read_decl(alloc: Global, bytes: &[u8]) -> Result<Decl, DeclError>
+    ensures declares { IfOk result (λ d. Declares bytes.now (declaration_of d)) }
+    ensures fault { IfErr result (λ e. IsFirstFault bytes.now e) }
+    ensures lawful { IfOk result (λ d. IsDeclaration (declaration_of d)) }
+{
+    if bytes.len() > MOST_BYTES {
+        return Err(Cause::Size.at(Section::Top, 0));
+    }
+    match toml::table_from_slice(alloc, bytes) {
+        Ok(table) => read_document(alloc, &table),
+        Err(e) => {
+            if e.is_memory() {
+                Err(DeclError::Memory)
+            } else {
+                Err(Cause::Document.at(Section::Top, 0))
+            }
+        }
+    }
+}
