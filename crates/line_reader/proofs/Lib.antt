@@ -1,0 +1,6 @@
+pub mod Feeds
+pub mod Going
+pub mod Instances
+pub mod LinesOf
+pub mod Pieces
+pub mod Told

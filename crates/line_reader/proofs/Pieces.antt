@@ -1,0 +1,93 @@
+-- Pieces of a block.
+use Rattle.std.proofs.Common.{◌≡◌, ℕ, zero, suc, ◌+◌, ◌-◌, ◌<◌, ◌≤◌, List, [], ◌∷◌, ◌++◌, length, take, drop, position, slice_range, ◌==◌, Bool, true, false, Option, Some, None, refl, sym, ◌∙◌, ap, arith, append_assoc}
+use Rattle.std.proofs.lemmas.List.{take-take, drop-drop, length-take-le, length-drop, take_all}
+use Rattle.std.proofs.lemmas.Grind.{common_steps}
+use Rattle.ports.specs.Content.{Takes}
+use Rattle.line_reader.specs.declared.line.Line.{Line}
+use Rattle.line_reader.specs.Lines.{NoFeed}
+use Rattle.line_reader.specs.Reader.{Came, NoneLeft}
+use Rattle.line_reader.specs.Block.{IsKept, IsTold, found_as}
+use Rattle.line_reader.proofs.Feeds.{feed_found}
+
+pub told_as : (whole line : List ℕ) (long : Bool) → IsKept whole line long → IsTold whole line (found_as long)
+told_as whole line true kept = kept
+told_as whole line false kept = kept
+
+drop_take : (n m : ℕ) (xs : List ℕ) → n ≤ m → drop n (take m xs) ≡ take (m - n) (drop n xs)
+drop_take zero m xs le = let all : m - 0 ≡ m = omega arith in rw all refl
+drop_take (suc n) zero xs le = absurd (omega (arith, le))
+drop_take (suc n) (suc m) [] le = sym (take_all (suc m - suc n) [] (omega arith))
+drop_take (suc n) (suc m) (x ∷ xs) le =
+    let less : suc m - suc n ≡ m - n = omega arith in
+    rw less (drop_take n m xs (omega (arith, le)))
+
+front_range : (block : List ℕ) (start end k : ℕ) → start + k ≤ end → take k (slice_range block start end) ≡ slice_range block start (start + k)
+front_range block start end k le =
+    let most : k ≤ end - start = omega (arith, le) in
+    let e : start + k - start ≡ k = omega arith in
+    rw (e, take-take k (end - start) (drop start block) most) refl
+
+back_range : (block : List ℕ) (start end k : ℕ) → start + k + 1 ≤ end → drop (k + 1) (slice_range block start end) ≡ slice_range block (start + k + 1) end
+back_range block start end k le =
+    let most : k + 1 ≤ end - start = omega (arith, le) in
+    let e : end - start - (k + 1) ≡ end - (start + k + 1) = omega arith in
+    let f : start + (k + 1) ≡ start + k + 1 = omega arith in
+    drop_take (k + 1) (end - start) (drop start block) most ∙ rw (e, drop-drop (k + 1) start block, f) refl
+
+range_size : (block : List ℕ) (start end : ℕ) → start ≤ end → end ≤ length block → length (slice_range block start end) ≡ end - start
+range_size block start end le fits = length-take-le (end - start) (drop start block) (omega (arith, length-drop start block, fits, le))
+
+-- the bytes held up to a line feed
+pub piece_whole : (block front line : List ℕ) (start end k : ℕ) (long : Bool) (found : Line) → start ≤ end → end ≤ length block →
+    position (λ b. b == 10) (slice_range block start end) ≡ Some k → IsKept (front ++ slice_range block start (start + k)) line long → found ≡ found_as long →
+    (piece : List ℕ) × NoFeed piece × (slice_range block start end ≡ piece ++ 10 ∷ slice_range block (start + k + 1) end) × IsTold (front ++ piece) line found
+piece_whole block front line start end k long found le fits is kept told =
+    let feed = feed_found (slice_range block start end) k is in
+    let size = range_size block start end le fits in
+    let near : start + k + 1 ≤ end = omega (arith, feed.0, size, le) in
+    let head = front_range block start end k (omega (arith, near)) in
+    let tail = back_range block start end k near in
+    (slice_range block start (start + k), rw head at feed.1, rw (head, tail) at feed.2, rw told (told_as _ line long kept))
+
+-- no range is no bytes
+pub no_range : (block : List ℕ) (at : ℕ) → slice_range block at at ≡ []
+no_range block at = let e : at - at ≡ 0 = omega arith in rw e refl
+
+-- what came into the front of a block
+pub came_in : (left after : Option (List ℕ)) (block : List ℕ) (n : ℕ) → Takes left after block n → Came left after (take n block)
+came_in None after block n takes = tt
+came_in (Some left) after block n takes = (drop n left, cut, takes.2)
+  where
+    cut : left ≡ take n block ++ drop n left
+    cut = rw takes.1 (grind (arith, common_steps))
+
+-- no byte is the end
+pub none_in : (left after : Option (List ℕ)) (block : List ℕ) → 0 < length block → Takes left after block 0 → NoneLeft left after
+none_in None after block some takes = tt
+none_in (Some left) after block some takes = let e = takes.3 refl some in takes.2 ∙ ap Some e
+
+pub nothing_came : (left : Option (List ℕ)) → Came left left []
+nothing_came None = tt
+nothing_came (Some left) = (left, refl, refl)
+
+pub came_same : (left after : Option (List ℕ)) → after ≡ left → Came left after []
+came_same left after same = rw same (nothing_came left)
+
+pub came_more : (left mid after : Option (List ℕ)) (a b : List ℕ) → Came left mid a → Came mid after b → Came left after (a ++ b)
+came_more None mid after a b first next = tt
+came_more (Some left) mid after a b first next =
+    let rest : Came (Some first.0) after b = rw first.2 at next in
+    (rest.0, first.1 ∙ ap (λ (l : List ℕ). a ++ l) rest.1 ∙ sym (append_assoc a b rest.0), rest.2)
+
+pub none_later : (left mid after : Option (List ℕ)) (a : List ℕ) → Came left mid a → NoneLeft mid after → NoneLeft left after
+none_later None mid after a came none = tt
+none_later (Some left) mid after a came none = rw came.2 at none
+
+-- one byte came
+pub one_came : (left after : Option (List ℕ)) (block : List ℕ) (n : ℕ) → n ≡ 1 → 0 < length block → Takes left after block n → (another : ℕ) × Came left after (another ∷ [])
+one_came left after [] n one some takes = absurd (omega (arith, some))
+one_came left after (b ∷ bs) n one some takes = (b, let came : Takes left after (b ∷ bs) 1 = rw one at takes in came_in left after (b ∷ bs) 1 came)
+
+-- a range of a block that has no bytes
+pub empty_range : (block : List ℕ) (start end : ℕ) → start ≡ end → slice_range block start end ≡ []
+empty_range block start end same = rw same (no_range block end)

@@ -1,0 +1,12 @@
+use Rattle.std.proofs.Common.{◌≡◌, ◌≤◌, ◌-◌, ◌^◌, ◌⊎◌}
+use Rattle.line_reader.specs.Lines.{NoFeed}
+use Rattle.line_reader.proofs.Going.{IsGoing}
+use Rattle.line_reader.proofs.reader.LineReader.next_line.Given as goal
+
+abbrev pub invariant-pieces : goal.invariant-pieces
+invariant-pieces g l = IsGoing l.initial.self l.self (g.S.Source.left l.initial.source) (g.S.Source.left l.source) l.line.items l.long
+    × (g.S.Source.faults l.initial.source ≤ g.S.Source.faults l.source)
+    × (NoFeed l.initial.self.held ⊎ ((l.source ≡ l.initial.source) × (l.self ≡ l.initial.self)))
+
+abbrev pub decreases-pieces : goal.decreases-pieces
+decreases-pieces g l = 2 ^ 30 - l.self.taken

@@ -1,0 +1,90 @@
+-- A reader of lines, and what a call of it answers.
+use Rattle.std.specs.Prelude.{◌≡◌, ℕ, ◌+◌, ◌-◌, ◌^◌, ◌<◌, ◌≤◌, ◌⊎◌, List, [], ◌∷◌, ◌++◌, length, Option, Some, None, Bool, true, false, Contains, Result, Ok, Err}
+use Rattle.line_reader.specs.declared.line.Line.{Line}
+use Rattle.line_reader.specs.declared.line.Line.TheVariants.{Text, TooLong, End}
+use Rattle.line_reader.specs.declared.line.LineFault.{LineFault}
+use Rattle.line_reader.specs.declared.line.LineFault.TheVariants.{Read, Limit}
+use Rattle.line_reader.specs.Lines.{NoFeed}
+
+-- the bytes read ahead, how many bytes were taken from sources, whether the end of a source was found, and whether a
+-- call answered the end or a fault
+pub record Reader : Type 0 where
+  pub held : List ℕ
+  pub taken : ℕ
+  pub ended : Bool
+  pub over : Bool
+
+-- a reader that has taken nothing
+abbrev pub fresh : Reader
+fresh = record { held = []; taken = 0; ended = false; over = false }
+
+-- bytes came off the front of what a source has left, where it tells
+abbrev pub Came : Option (List ℕ) → Option (List ℕ) → List ℕ → Type 0
+Came None after bytes = Unit {0}
+Came (Some left) after bytes = (left' : List ℕ) × (left ≡ bytes ++ left') × (after ≡ Some left')
+
+-- nothing is left of what a source had, where it tells
+abbrev pub NoneLeft : Option (List ℕ) → Option (List ℕ) → Type 0
+NoneLeft None after = Unit {0}
+NoneLeft (Some left) after = after ≡ Some []
+
+-- the first line of some bytes and what follows it; whether it is a last line, with bytes and no line feed
+abbrev pub IsFirst : List ℕ → List ℕ → List ℕ → Bool → Type 0
+IsFirst all line rest false = NoFeed line × (all ≡ line ++ 10 ∷ rest)
+IsFirst all line rest true = NoFeed line × (0 < length line) × (all ≡ line) × (rest ≡ [])
+
+-- the first line of the bytes held and those that came is given; where it has no line feed, nothing is left
+pub record Gives (old new : Reader) (left after : Option (List ℕ)) (came line : List ℕ) : Type 0 where
+  pub going : old.ended ≡ false
+  pub first : IsFirst (old.held ++ came) line new.held new.ended
+  pub last : new.ended ≡ true → NoneLeft left after
+
+-- no byte was held and none came; none is left, or the end was found before
+pub record Ends (old : Reader) (left after : Option (List ℕ)) (came : List ℕ) : Type 0 where
+  pub held : old.held ≡ []
+  pub none : came ≡ []
+  pub last : old.ended ≡ false → NoneLeft left after
+
+-- a line was broken off: the bytes held and those that came have no line feed, nor have those held then
+pub record BreaksOff (old new : Reader) (came : List ℕ) : Type 0 where
+  pub going : old.ended ≡ false
+  pub part : NoFeed (old.held ++ came)
+  pub held : NoFeed new.held
+
+-- a line was broken off when 2^30 bytes were taken in all, and another byte came
+pub record GoesPast (old new : Reader) (came : List ℕ) : Type 0 where
+  pub front : List ℕ
+  pub another : ℕ
+  pub came_is : came ≡ front ++ another ∷ []
+  pub most : old.taken + length front ≡ 2 ^ 30
+  pub broken : BreaksOff old new front
+
+-- what a call answers by the bytes that came in it from a source
+abbrev pub IsNext : Reader → Reader → Option (List ℕ) → Option (List ℕ) → List ℕ → List ℕ → Result Line LineFault → Type 0
+IsNext old new left after came line (Ok Text) = (length line ≤ 4096) × Gives old new left after came line
+IsNext old new left after came line (Ok TooLong) = (long : List ℕ) × (4096 < length long) × Gives old new left after came long
+IsNext old new left after came line (Ok End) = Ends old left after came
+IsNext old new left after came line (Err Read) = BreaksOff old new came
+IsNext old new left after came line (Err Limit) = GoesPast old new came
+
+-- a call answers so by the bytes that came in it, and counts them
+pub record Answers (old new : Reader) (left after : Option (List ℕ)) (line : List ℕ) (result : Result Line LineFault) : Type 0 where
+  pub bytes : List ℕ
+  pub came : Came left after bytes
+  pub counted : new.taken ≡ old.taken + length bytes
+  pub next : IsNext old new left after bytes line result
+
+-- a line feed is held, or the end was found
+abbrev pub NeedsNoRead : Reader → Type 0
+NeedsNoRead r = Contains r.held 10 ⊎ (r.ended ≡ true)
+
+-- an answer behind which no call may follow
+abbrev pub is_final : Result Line LineFault → Bool
+is_final (Ok Text) = false
+is_final (Ok TooLong) = false
+is_final (Ok End) = true
+is_final (Err fault) = true
+
+-- how many bytes may still be given
+abbrev pub room : Reader → ℕ
+room r = 2 ^ 30 + length r.held - r.taken
