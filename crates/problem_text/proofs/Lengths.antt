@@ -1,0 +1,67 @@
+-- How long the text of a lawful problem is.
+use Rattle.std.proofs.Common.{◌≡◌, ◌<◌, ◌≤◌, ◌+◌, ◌^◌, ℕ, zero, suc, List, [], ◌∷◌, ◌++◌, length, get_or, Option, Some, None, codes, All, arith, length-append}
+use Rattle.std.specs.Prelude.{IfSome}
+use Rattle.std.specs.List.{flat_map}
+use Rattle.std.proofs.lemmas.List.Elements.{All-head, All-tail}
+use Rattle.atto.specs.Decimal.{decimal_of}
+use Rattle.atto.proofs.DecimalLemmas.{length-decimal_of-le}
+use Rattle.line_format.specs.Words.{line_of}
+use Rattle.problem_model.specs.declared.items.Clock.{Clock}
+use Rattle.problem_model.specs.declared.items.Event.{Event}
+use Rattle.problem_model.specs.declared.items.Message.{Message}
+use Rattle.problem_model.specs.Name.{IsEventName, IsClockName}
+use Rattle.problem_model.specs.Problem.{ProblemLists, IsProblem, ClockFits, MessageFits}
+use Rattle.problem_model.specs.ProblemText.{problem_head, problem_text, clock_line, event_line, message_line, clock_name, event_name, most_word}
+use Rattle.cert.proofs.TextLengths.{line_size, lines_short}
+
+-- ---- words
+nano_short : (n : ℕ) → n < 2 ^ 62 → length (decimal_of n) ≤ 19
+nano_short n small = length-decimal_of-le 19 n (omega arith) (let below : 2 ^ 62 ≤ 10 ^ 19 = omega arith in omega (arith, small, below))
+
+most_short : (most : Option ℕ) → IfSome most (λ n. n < 2 ^ 62) → length (most_word most) ≤ 19
+most_short None fits = omega arith
+most_short (Some n) fits = nano_short n fits
+
+clock_name_short : (cs : List Clock) → All (λ c. IsClockName c.name) cs → (k : ℕ) → length (clock_name cs k) ≤ 32
+clock_name_short [] all k = omega arith
+clock_name_short (c ∷ cs) all zero = (All-head (λ (c : Clock). IsClockName c.name) c cs all).short
+clock_name_short (c ∷ cs) all (suc k) = clock_name_short cs (All-tail (λ (c : Clock). IsClockName c.name) c cs all) k
+
+event_name_short : (es : List Event) → All (λ e. IsEventName e.name) es → (k : ℕ) → length (event_name es k) ≤ 48
+event_name_short [] all k = omega arith
+event_name_short (e ∷ es) all zero = (All-head (λ (e : Event). IsEventName e.name) e es all).short
+event_name_short (e ∷ es) all (suc k) = event_name_short es (All-tail (λ (e : Event). IsEventName e.name) e es all) k
+
+-- ---- lines
+clock_short : (c : Clock) → IsClockName c.name → ClockFits c → length (clock_line c) ≤ 100
+clock_short c named fits =
+    let size : length (clock_line c) ≡ 5 + 1 + (length c.name + 1 + (length (decimal_of c.rate.short) + 1 + (length (decimal_of c.rate.long) + 1 + (length (decimal_of c.early) + 1 + (length (decimal_of c.late) + 1 + 0))))) =
+    line_size (codes "clock") (c.name ∷ decimal_of c.rate.short ∷ decimal_of c.rate.long ∷ decimal_of c.early ∷ decimal_of c.late ∷ []) in
+    let short : length (decimal_of c.rate.short) ≤ 9 = length-decimal_of-le 9 c.rate.short (omega arith) (let below = fits.0 in omega (arith, below)) in
+    let long : length (decimal_of c.rate.long) ≤ 10 = length-decimal_of-le 10 c.rate.long (omega arith) (let below = fits.1 in omega (arith, below)) in
+    omega (arith, size, named.short, short, long, nano_short c.early fits.2, nano_short c.late fits.3)
+
+event_short : (cs : List Clock) (e : Event) → All (λ c. IsClockName c.name) cs → IsEventName e.name → e.stamp < 2 ^ 62 → length (event_line cs e) ≤ 108
+event_short cs e clocks named fits =
+    let size : length (event_line cs e) ≡ 5 + 1 + (length e.name + 1 + (length (clock_name cs e.clock) + 1 + (length (decimal_of e.stamp) + 1 + 0))) =
+    line_size (codes "event") (e.name ∷ clock_name cs e.clock ∷ decimal_of e.stamp ∷ []) in
+    omega (arith, size, named.short, clock_name_short cs clocks e.clock, nano_short e.stamp fits)
+
+message_short : (es : List Event) (m : Message) → All (λ e. IsEventName e.name) es → MessageFits m → length (message_line es m) ≤ 146
+message_short es m events fits =
+    let size : length (message_line es m) ≡ 7 + 1 + (length (event_name es m.send) + 1 + (length (event_name es m.receive) + 1 + (length (decimal_of m.least) + 1 + (length (most_word m.most) + 1 + 0)))) =
+    line_size (codes "message") (event_name es m.send ∷ event_name es m.receive ∷ decimal_of m.least ∷ most_word m.most ∷ []) in
+    omega (arith, size, event_name_short es events m.send, event_name_short es events m.receive, nano_short m.least fits.0, most_short m.most fits.1)
+
+-- ---- the whole
+added : (a b c d e : List ℕ) → length (a ++ b ++ c ++ d ++ e) ≡ length a + length b + length c + length d + length e
+added a b c d e = omega (arith, length-append (a ++ b ++ c ++ d) e, length-append (a ++ b ++ c) d, length-append (a ++ b) c, length-append a b)
+
+pub text_short : (p : ProblemLists) → IsProblem p → length (problem_text p) ≤ 2 ^ 30
+text_short p lawful =
+    let clocks = lines_short clock_line 100 p.clocks (λ i d inside. clock_short (get_or p.clocks i d) (lawful.clock_names i d inside) (lawful.clocks_fit i d inside)) in
+    let events = lines_short (event_line p.clocks) 108 p.events (λ i d inside. event_short p.clocks (get_or p.events i d) lawful.clock_names (lawful.event_names i d inside) (lawful.stamps_fit i d inside)) in
+    let messages = lines_short (message_line p.events) 146 p.messages (λ i d inside. message_short p.events (get_or p.messages i d) lawful.event_names (lawful.messages_fit i d inside)) in
+    let sum : length (problem_text p) ≡ 10 + length (flat_map clock_line p.clocks) + length (flat_map (event_line p.clocks) p.events) + length (flat_map (message_line p.events) p.messages) + 4 =
+    added (line_of problem_head) (flat_map clock_line p.clocks) (flat_map (event_line p.clocks) p.events) (flat_map (message_line p.events) p.messages) (line_of (codes "end" ∷ [])) in
+    omega (arith, sum, clocks, events, messages, lawful.clock_limit, lawful.event_limit, lawful.message_limit)

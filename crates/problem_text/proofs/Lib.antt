@@ -1,0 +1,4 @@
+pub mod Lengths
+pub mod ListedLines
+pub mod OneProblem
+pub mod Whole

@@ -1,0 +1,83 @@
+// The lines of a problem's text, each written in one piece.
+ghost use Rattle.std.specs.Prelude.{◌≤◌, OnOk, OnErr};
+ghost use Rattle.line_format.specs.Words.{line_of};
+ghost use Rattle.ports.specs.Content.{Rose, Appends, AppendsPrefix};
+ghost use Rattle.problem_model.specs.ProblemText.{problem_head, clock_line};
+ghost use Rattle.problem.specs.Line.{line_words};
+ghost use Rattle.problem.specs.Line.Line.{EventLine, MessageLine, EndLine};
+
+use crate::words::{clock_line, event_line, message_line};
+use atto::Nano;
+use ports::{Failed, Sink, write_whole};
+use problem::{Clock, Name};
+
+/// Writes the first line of the text of a problem, which names its version: `problem 1`. It takes no memory. After
+/// `Failed`, which comes only where the sink's count of faults rose, some front of the line is written.
+pub fn write_head<O: Sink>(out: &mut O) -> Result<(), Failed>
+    ensures ok { OnOk result (Appends (O.written out.old) (O.written out.new) (line_of problem_head)) }
+    ensures err { OnErr result (AppendsPrefix (O.written out.old) (O.written out.new) (line_of problem_head)) }
+    ensures cause { OnErr result (Rose (O.faults out.old) (O.faults out.new)) }
+    ensures no_fall { O.faults out.old ≤ O.faults out.new }
+{
+    write_whole(out, b"problem 1\n")
+}
+
+/// Writes the line of a clock: `clock`, its name, its short and its long rate in parts per billion, and by how many ns an
+/// event may come early and late. It takes no memory. After `Failed`, which comes only where the sink's count of faults
+/// rose, some front of the line is written.
+pub fn write_clock<O: Sink>(c: &Clock, out: &mut O) -> Result<(), Failed>
+    ensures ok { OnOk result (Appends (O.written out.old) (O.written out.new) (clock_line c.now)) }
+    ensures err { OnErr result (AppendsPrefix (O.written out.old) (O.written out.new) (clock_line c.now)) }
+    ensures cause { OnErr result (Rose (O.faults out.old) (O.faults out.new)) }
+    ensures no_fall { O.faults out.old ≤ O.faults out.new }
+{
+    let line = clock_line(c);
+    write_whole(out, line.as_slice())
+}
+
+/// Writes the line of an event: `event`, its name, the name of its clock, and its stamp in ns of that clock. It takes no
+/// memory. After `Failed`, which comes only where the sink's count of faults rose, some front of the line is written.
+pub fn write_event<O: Sink>(
+    name: &Name,
+    clock: &Name,
+    stamp: Nano,
+    out: &mut O,
+) -> Result<(), Failed>
+    ensures ok { OnOk result (Appends (O.written out.old) (O.written out.new) (line_of (line_words (EventLine name.now clock.now stamp)))) }
+    ensures err { OnErr result (AppendsPrefix (O.written out.old) (O.written out.new) (line_of (line_words (EventLine name.now clock.now stamp)))) }
+    ensures cause { OnErr result (Rose (O.faults out.old) (O.faults out.new)) }
+    ensures no_fall { O.faults out.old ≤ O.faults out.new }
+{
+    let line = event_line(name, clock, stamp);
+    write_whole(out, line.as_slice())
+}
+
+/// Writes the line of a message: `message`, the names of the events that send and receive it, its least delay in ns, and
+/// its greatest one, or `none` where there is no such bound. It takes no memory. After `Failed`, which comes only where
+/// the sink's count of faults rose, some front of the line is written.
+pub fn write_message<O: Sink>(
+    send: &Name,
+    receive: &Name,
+    least: Nano,
+    most: Option<Nano>,
+    out: &mut O,
+) -> Result<(), Failed>
+    ensures ok { OnOk result (Appends (O.written out.old) (O.written out.new) (line_of (line_words (MessageLine send.now receive.now least most)))) }
+    ensures err { OnErr result (AppendsPrefix (O.written out.old) (O.written out.new) (line_of (line_words (MessageLine send.now receive.now least most)))) }
+    ensures cause { OnErr result (Rose (O.faults out.old) (O.faults out.new)) }
+    ensures no_fall { O.faults out.old ≤ O.faults out.new }
+{
+    let line = message_line(send, receive, least, most);
+    write_whole(out, line.as_slice())
+}
+
+/// Writes the last line of the text of a problem: `end`. It takes no memory. After `Failed`, which comes only where the
+/// sink's count of faults rose, some front of the line is written.
+pub fn write_end<O: Sink>(out: &mut O) -> Result<(), Failed>
+    ensures ok { OnOk result (Appends (O.written out.old) (O.written out.new) (line_of (line_words EndLine))) }
+    ensures err { OnErr result (AppendsPrefix (O.written out.old) (O.written out.new) (line_of (line_words EndLine))) }
+    ensures cause { OnErr result (Rose (O.faults out.old) (O.faults out.new)) }
+    ensures no_fall { O.faults out.old ≤ O.faults out.new }
+{
+    write_whole(out, b"end\n")
+}
