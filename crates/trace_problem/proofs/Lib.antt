@@ -1,0 +1,5 @@
+pub mod Lists
+pub mod Names
+pub mod Places
+pub mod Growth
+pub mod Seen

@@ -1,0 +1,75 @@
+// The events and messages of a problem, by the labels of their declaration.
+ghost use Rattle.std.specs.Prelude.{◌≡◌, ◌<◌, ℕ, length};
+ghost use Rattle.decl.specs.Declaration.{IsDeclaration, declaration_of, link_bounds};
+ghost use Rattle.problem.specs.Line.{HasEvent};
+ghost use Rattle.trace_problem.specs.Making.{IsKnown};
+ghost use Rattle.traces.specs.Traces.{name_of, host_of};
+ghost use Rattle.traces.specs.Messages.{event_with};
+ghost use Rattle.traces.specs.Logs.{placed_of};
+
+use crate::naming::event_name;
+use decl::Decl;
+use problem::Problem;
+use problem_model::{Event, Message, Name};
+use traces::{Couple, EventId, PlacedRow};
+
+// The host that an event happened at.
+fn host_of(decl: &Decl, id: EventId) -> u32
+    requires { id.label < length decl.now.labels.items }
+    ensures { result ≡ host_of (declaration_of decl.now) id }
+{
+    decl.labels[id.label as usize].host
+}
+
+// The name of an event.
+fn name_of(decl: &Decl, id: EventId) -> Name
+    requires lawful { IsDeclaration (declaration_of decl.now) }
+    requires label { id.label < length decl.now.labels.items }
+    ensures { result ≡ name_of (declaration_of decl.now) id }
+{
+    let label = &decl.labels[id.label as usize];
+    event_name(&label.name, id.number)
+}
+
+/// An event with its name, on the clock of its host.
+pub fn event_of(decl: &Decl, e: &PlacedRow) -> Event
+    requires lawful { IsDeclaration (declaration_of decl.now) }
+    requires label { e.now.id.label < length decl.now.labels.items }
+    ensures { result ≡ event_with (declaration_of decl.now) (placed_of e.now) }
+{
+    Event {
+        name: name_of(decl, e.id),
+        clock: host_of(decl, e.id),
+        stamp: e.row.stamp,
+    }
+}
+
+// The place of an event in a problem that has it.
+fn place_of(decl: &Decl, p: &Problem, id: EventId) -> u32
+    requires lawful { IsDeclaration (declaration_of decl.now) }
+    requires label { id.label < length decl.now.labels.items }
+    requires known { IsKnown (declaration_of decl.now) p.now id }
+    ensures { HasEvent p.now result (name_of (declaration_of decl.now) id) }
+{
+    p.event_place(&name_of(decl, id)).unwrap()
+}
+
+/// A message of a problem that has its events, with the bounds of the link from the one's host to the other's.
+pub fn message_of(decl: &Decl, p: &Problem, m: &Couple) -> Message
+    requires lawful { IsDeclaration (declaration_of decl.now) }
+    requires send_label { m.now.send.label < length decl.now.labels.items }
+    requires receive_label { m.now.receive.label < length decl.now.labels.items }
+    requires send_known { IsKnown (declaration_of decl.now) p.now m.now.send }
+    requires receive_known { IsKnown (declaration_of decl.now) p.now m.now.receive }
+    ensures send { HasEvent p.now result.send (name_of (declaration_of decl.now) m.now.send) }
+    ensures receive { HasEvent p.now result.receive (name_of (declaration_of decl.now) m.now.receive) }
+    ensures bounds { (result.least, result.most) ≡ link_bounds (declaration_of decl.now) (host_of (declaration_of decl.now) m.now.send) (host_of (declaration_of decl.now) m.now.receive) }
+{
+    let (least, most) = decl.link_of(host_of(decl, m.send), host_of(decl, m.receive));
+    Message {
+        send: place_of(decl, p, m.send),
+        receive: place_of(decl, p, m.receive),
+        least,
+        most,
+    }
+}
