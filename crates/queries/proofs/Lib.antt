@@ -1,0 +1,4 @@
+pub mod Contradictions
+pub mod Solved
+pub mod Showing
+mod OneReply

@@ -1,0 +1,65 @@
+-- Two events have one line of each kind.
+use Rattle.std.proofs.Common.{◌≡◌, ◌∷◌, [], ◌∙◌, inl, inr, ℕ, List, refl, sym, ap, codes, arith}
+use Rattle.std.specs.Prelude.{ℤ, ◌<ℤ◌}
+use Rattle.std.proofs.lemmas.Int.{ints}
+use Rattle.line_format.specs.Words.{line_of}
+use Rattle.problem_model.specs.declared.items.Node.{Node}
+use Rattle.problem_model.specs.declared.items.Node.TheVariants as nodes
+use Rattle.problem_model.specs.Problem.{ProblemLists}
+use Rattle.problem_model.specs.Bounds.{Times, IsExecution}
+use Rattle.intervals.specs.declared.ends.End.{End}
+use Rattle.intervals.specs.declared.order.Order.{Order}
+use Rattle.intervals.specs.declared.order.Order.TheVariants.{Before, After, Same, Undecided}
+use Rattle.intervals.specs.Executions.{difference, IsOrderOf}
+use Rattle.intervals.proofs.Times.{one_greatest, one_least}
+use Rattle.queries.specs.Words.{end_word, order_word}
+use Rattle.queries.specs.Replies.{IsIntervalLine, IsOrderLine, Replies}
+
+-- ---- real times
+apart : (a b : ℤ) → a <ℤ b → b <ℤ a → ⊥
+apart a b lt gt = omega (arith, ints)
+
+not_same : (a b : ℤ) → a <ℤ b → a ≡ b → ⊥
+not_same a b lt same = omega (arith, ints)
+
+not_same_turned : (a b : ℤ) → b <ℤ a → a ≡ b → ⊥
+not_same_turned a b gt same = omega (arith, ints)
+
+-- ---- orders
+pub one_order : (p : ProblemLists) (from to : Node) (x : Times) → IsExecution p x → (a b : Order) → IsOrderOf p from to a → IsOrderOf p from to b → a ≡ b
+one_order p from to x e Before Before one two = refl
+one_order p from to x e Before After one two = absurd (apart (x from) (x to) (one x e) (two x e))
+one_order p from to x e Before Same one two = absurd (not_same (x from) (x to) (one x e) (two x e))
+one_order p from to x e Before Undecided one two = absurd (two.0 one)
+one_order p from to x e After Before one two = absurd (apart (x from) (x to) (two x e) (one x e))
+one_order p from to x e After After one two = refl
+one_order p from to x e After Same one two = absurd (not_same_turned (x from) (x to) (one x e) (two x e))
+one_order p from to x e After Undecided one two = absurd (two.1 one)
+one_order p from to x e Same Before one two = absurd (not_same (x from) (x to) (two x e) (one x e))
+one_order p from to x e Same After one two = absurd (not_same_turned (x from) (x to) (two x e) (one x e))
+one_order p from to x e Same Same one two = refl
+one_order p from to x e Same Undecided one two = absurd (two.2 one)
+one_order p from to x e Undecided Before one two = absurd (one.0 two)
+one_order p from to x e Undecided After one two = absurd (one.1 two)
+one_order p from to x e Undecided Same one two = absurd (one.2 two)
+one_order p from to x e Undecided Undecided one two = refl
+
+-- ---- lines
+abbrev interval_words : End → End → List ℕ
+interval_words least greatest = line_of (codes "interval" ∷ end_word (codes "-inf") least ∷ end_word (codes "+inf") greatest ∷ [])
+
+pub one_interval : (p : ProblemLists) (from to : ℕ) (a b : List ℕ) → IsIntervalLine p from to a → IsIntervalLine p from to b → a ≡ b
+one_interval p from to a b (e, are, is) (f, are', is') =
+    let time = difference (nodes.Event from) (nodes.Event to) in
+    let least : e.least ≡ f.least = one_least p time e.least f.least are.below are'.below in
+    let greatest : e.greatest ≡ f.greatest = one_greatest p time e.greatest f.greatest are.above are'.above in
+    is ∙ ap (λ (end : End). interval_words end e.greatest) least ∙ ap (interval_words f.least) greatest ∙ sym is'
+
+pub one_order_line : (p : ProblemLists) (from to : ℕ) (a b : List ℕ) → ((x : Times) × IsExecution p x) → IsOrderLine p from to a → IsOrderLine p from to b → a ≡ b
+one_order_line p from to a b (x, execution) (o, one, is) (o', one', is') =
+    is ∙ ap (λ (order : Order). line_of (codes "order" ∷ order_word order ∷ [])) (one_order p (nodes.Event from) (nodes.Event to) x execution o o' one one') ∙ sym is'
+
+-- ---- replies
+pub reply_says : (p : ProblemLists) (Says : List ℕ → Type 0) (text : List ℕ) → ((x : Times) × IsExecution p x) → Replies p Says text → Says text
+reply_says p Says text some (inl said) = said.1
+reply_says p Says text some (inr contradicts) = absurd (contradicts.2 some.0 some.1)

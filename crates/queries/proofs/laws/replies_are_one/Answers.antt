@@ -1,0 +1,15 @@
+use Rattle.queries.specs.Replies.{IsIntervalLine, IsOrderLine}
+use Rattle.queries.proofs.OneReply.{one_interval, one_order_line, reply_says}
+use Rattle.queries.proofs.laws.replies_are_one.Goals as goal
+
+pub returns-clause-interval : goal.returns-clause-interval
+returns-clause-interval c = one_interval
+
+pub returns-clause-order : goal.returns-clause-order
+returns-clause-order c = one_order_line
+
+pub returns-clause-interval_reply : goal.returns-clause-interval_reply
+returns-clause-interval_reply c = λ p from to. reply_says p (IsIntervalLine p from to)
+
+pub returns-clause-order_reply : goal.returns-clause-order_reply
+returns-clause-order_reply c = λ p from to. reply_says p (IsOrderLine p from to)

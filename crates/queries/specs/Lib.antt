@@ -1,0 +1,3 @@
+pub mod Consistent
+pub mod Words
+pub mod Replies

@@ -1,0 +1,53 @@
+-- What is written of two events of a problem.
+use Rattle.std.specs.Prelude.{◌≡◌, ◌⊎◌, ◌≤◌, ℕ, List, [], ◌∷◌, length, map, Option, codes}
+use Rattle.line_format.specs.Words.{line_of}
+use Rattle.ports.specs.Content.{Appends}
+use Rattle.problem_model.specs.declared.items.Node.TheVariants as nodes
+use Rattle.problem_model.specs.Problem.{ProblemLists}
+use Rattle.problem_model.specs.Bounds.{Times, IsExecution}
+use Rattle.problem_model.specs.Nodes.{Reading, AreReadings, nodes_of}
+use Rattle.difference_bounds.specs.Solutions.{IsContradictionOf}
+use Rattle.cert.specs.declared.chain.Step.{Step}
+use Rattle.cert.specs.declared.certificate.Cert.TheVariants.{Cycle}
+use Rattle.cert.specs.CertificateText.{certificate_text}
+use Rattle.intervals.specs.declared.ends.Ends.{Ends}
+use Rattle.intervals.specs.declared.order.Order.{Order}
+use Rattle.intervals.specs.Executions.{difference, AreEndsOf, IsOrderOf}
+use Rattle.queries.specs.declared.question.Asked.{Asked}
+use Rattle.queries.specs.declared.question.Asked.TheVariants as asked
+use Rattle.queries.specs.declared.question.Question.{Question}
+use Rattle.queries.specs.Words.{end_word, order_word}
+
+-- the line has the least and the greatest difference from one event to another over all executions
+abbrev pub IsIntervalLine : ProblemLists → ℕ → ℕ → List ℕ → Type 0
+IsIntervalLine p from to text = (e : Ends) × AreEndsOf p (difference (nodes.Event from) (nodes.Event to)) e
+    × (text ≡ line_of (codes "interval" ∷ end_word (codes "-inf") e.least ∷ end_word (codes "+inf") e.greatest ∷ []))
+
+-- the line has the order of two events in every execution
+abbrev pub IsOrderLine : ProblemLists → ℕ → ℕ → List ℕ → Type 0
+IsOrderLine p from to text = (order : Order) × IsOrderOf p (nodes.Event from) (nodes.Event to) order
+    × (text ≡ line_of (codes "order" ∷ order_word order ∷ []))
+
+-- the line says what is asked of two events
+abbrev pub IsLineOf : Asked → ProblemLists → ℕ → ℕ → List ℕ → Type 0
+IsLineOf asked.Interval = IsIntervalLine
+IsLineOf asked.Order = IsOrderLine
+
+-- the line answers the question
+abbrev pub IsAnswer : ProblemLists → Question → List ℕ → Type 0
+IsAnswer p question = IsLineOf question.asked p question.from question.to
+
+-- no real times obey the bounds, and the text is the certificate of a contradiction of at most as many steps as nodes
+abbrev pub IsContradictionText : ProblemLists → List ℕ → Type 0
+IsContradictionText p text = (steps : List Step) × (readings : List Reading) × ((x : Times) → IsExecution p x → ⊥)
+    × IsContradictionOf p (map (λ s. (s.bound, s.weight)) steps) × AreReadings p readings
+    × (length steps ≤ length (nodes_of p readings))
+    × (text ≡ certificate_text p (nodes_of p readings) (Cycle steps))
+
+-- a line that says so where some execution obeys the bounds, else the certificate of a contradiction
+abbrev pub Replies : ProblemLists → (List ℕ → Type 0) → List ℕ → Type 0
+Replies p Says text = (((x : Times) × IsExecution p x) × Says text) ⊎ IsContradictionText p text
+
+-- a text of this kind is appended
+abbrev pub AppendsSome : (List ℕ → Type 0) → Option (List ℕ) → Option (List ℕ) → Type 0
+AppendsSome Shows old new = (text : List ℕ) × Shows text × Appends old new text

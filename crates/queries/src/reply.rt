@@ -1,0 +1,129 @@
+// The interval or the order of two events, or a contradiction.
+ghost use Rattle.std.specs.Prelude.{◌<◌, ◌≤◌, length, OnOk, IsErrOf};
+ghost use Rattle.ports.specs.Content.{Rose};
+ghost use Rattle.solver.specs.Solution.{IsSolved, IsSolution};
+ghost use Rattle.queries.specs.declared.stop.Stop.TheVariants as stops;
+ghost use Rattle.queries.specs.Replies.{IsIntervalLine, IsOrderLine, IsAnswer, Replies, AppendsSome};
+
+use crate::contradiction::write_contradiction;
+use crate::lines::line_for;
+use crate::question::{Asked, Question};
+use crate::stop::Stop;
+use earliest::Earliest;
+use ports::{Sink, write_whole};
+use problem::Problem;
+use reaches::pair_of;
+use solver::{Solution, solve};
+use std::alloc::Global;
+use sync_graph::Graph;
+
+// Writes the answer for a problem that has an execution.
+fn write_answer<O: Sink>(
+    alloc: Global,
+    p: &Problem,
+    g: &Graph,
+    e: &Earliest,
+    question: Question,
+    out: &mut O,
+) -> Result<(), Stop>
+    requires solved { IsSolved p.now g.now e.now }
+    requires from { question.from < length p.now.events }
+    requires to { question.to < length p.now.events }
+    ensures reply { OnOk result (AppendsSome (Replies p.now (IsAnswer p.now question)) (O.written out.old) (O.written out.new)) }
+    ensures cause { IsErrOf result stops.WriteFault → Rose (O.faults out.old) (O.faults out.new) }
+    ensures no_fall { O.faults out.old ≤ O.faults out.new }
+{
+    // It tells that the earliest execution is one.
+    let _ = p.readings();
+    let pair = pair_of(alloc, p, g, e, question.from, question.to)?;
+    let line = line_for(question.asked, pair);
+    write_whole(out, line.as_slice())?;
+    Ok(())
+}
+
+// Writes what a solution says.
+fn write_solution<O: Sink>(
+    alloc: Global,
+    p: &Problem,
+    solution: &Solution,
+    question: Question,
+    out: &mut O,
+) -> Result<(), Stop>
+    requires solution { IsSolution p.now solution.now }
+    requires from { question.from < length p.now.events }
+    requires to { question.to < length p.now.events }
+    ensures reply { OnOk result (AppendsSome (Replies p.now (IsAnswer p.now question)) (O.written out.old) (O.written out.new)) }
+    ensures cause { IsErrOf result stops.WriteFault → Rose (O.faults out.old) (O.faults out.new) }
+    ensures no_fall { O.faults out.old ≤ O.faults out.new }
+{
+    match solution {
+        Solution::Execution(g, e) => write_answer(alloc, p, g, e, question, out),
+        Solution::Contradiction(steps) => {
+            write_contradiction(p, steps, out)?;
+            Ok(())
+        }
+    }
+}
+
+// Solves the problem and writes what the solution says.
+fn write_reply<O: Sink>(
+    alloc: Global,
+    p: &Problem,
+    question: Question,
+    out: &mut O,
+) -> Result<(), Stop>
+    requires from { question.from < length p.now.events }
+    requires to { question.to < length p.now.events }
+    ensures reply { OnOk result (AppendsSome (Replies p.now (IsAnswer p.now question)) (O.written out.old) (O.written out.new)) }
+    ensures cause { IsErrOf result stops.WriteFault → Rose (O.faults out.old) (O.faults out.new) }
+    ensures no_fall { O.faults out.old ≤ O.faults out.new }
+{
+    let solution = solve(alloc, p)?;
+    write_solution(alloc, p, &solution, question, out)
+}
+
+/// Writes the line of the least and the greatest difference from one event to another over all executions, in ns, as
+/// `interval LEAST GREATEST`, with `-inf` and `+inf` where there is none; or the certificate of a contradiction where
+/// there is no execution. Events are given by their places in the problem, counted from 0.
+///
+/// `Memory` is answered for want of memory. `WriteFault` is answered only where the sink's count
+/// of faults rose, or stands at its last value; some front of the reply may then be written.
+pub fn write_interval<O: Sink>(
+    alloc: Global,
+    p: &Problem,
+    from: u32,
+    to: u32,
+    out: &mut O,
+) -> Result<(), Stop>
+    requires from { from < length p.now.events }
+    requires to { to < length p.now.events }
+    ensures reply { OnOk result (AppendsSome (Replies p.now (IsIntervalLine p.now from to)) (O.written out.old) (O.written out.new)) }
+    ensures cause { IsErrOf result stops.WriteFault → Rose (O.faults out.old) (O.faults out.new) }
+    ensures no_fall { O.faults out.old ≤ O.faults out.new }
+{
+    let asked = Asked::Interval;
+    write_reply(alloc, p, Question { asked, from, to }, out)
+}
+
+/// Writes the line of the order of two events in every execution, as `order WORD`: `before` where the first one always
+/// comes before the second, `after`, `same`, or `open` where none of these is so in every execution; or the certificate
+/// of a contradiction where there is no execution. Events are given by their places in the problem, counted from 0.
+///
+/// `Memory` is answered for want of memory. `WriteFault` is answered only where the sink's count
+/// of faults rose, or stands at its last value; some front of the reply may then be written.
+pub fn write_order<O: Sink>(
+    alloc: Global,
+    p: &Problem,
+    from: u32,
+    to: u32,
+    out: &mut O,
+) -> Result<(), Stop>
+    requires from { from < length p.now.events }
+    requires to { to < length p.now.events }
+    ensures reply { OnOk result (AppendsSome (Replies p.now (IsOrderLine p.now from to)) (O.written out.old) (O.written out.new)) }
+    ensures cause { IsErrOf result stops.WriteFault → Rose (O.faults out.old) (O.faults out.new) }
+    ensures no_fall { O.faults out.old ≤ O.faults out.new }
+{
+    let asked = Asked::Order;
+    write_reply(alloc, p, Question { asked, from, to }, out)
+}
