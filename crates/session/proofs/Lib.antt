@@ -1,0 +1,10 @@
+pub mod Asking
+pub mod OneCommand
+pub mod Composing
+pub mod Holding
+pub mod Naming
+pub mod Replying
+pub mod Starting
+pub mod Extending
+pub mod Standing
+pub mod Adding

@@ -1,0 +1,96 @@
+-- Replies of a session that stands for traces.
+use Rattle.std.proofs.Common.{◌≡◌, ◌⊎◌, inl, inr, ℕ, ◌≤◌, List, [], ◌∷◌, length, map, Option, Some, None, Result, Ok, Err, OnOk, IfOk, true, codes, nat_le, refl, sym, ◌∙◌, ap, subst, arith}
+use Rattle.problem_model.specs.Problem.{ProblemLists}
+use Rattle.problem.specs.Line.{HasEvent}
+use Rattle.ports.specs.Content.{Appends}
+use Rattle.ports.specs.Files.{Content}
+use Rattle.decl.specs.Declaration.{Declaration}
+use Rattle.traces.specs.Traces.{Seen, seen_of}
+use Rattle.traces.specs.declared.log.Log.{Log}
+use Rattle.traces.specs.Logs.{seen_in}
+use Rattle.traces.specs.Messages.{problem_of, problem_of_seen}
+use Rattle.queries.specs.Replies.{Replies, AppendsSome}
+use Rattle.session.specs.Commands.{Command, Add, Interval, Order, Problem, Asks}
+use Rattle.session.specs.Reply.{State, Found, Unread, IsUnknown, OfTwo, refusal}
+use Rattle.session.specs.Sessions.{CommandReply, LineReply, FoundAt, AreCounted}
+use Rattle.session.specs.Stands.{Held, StandsFor, Stepped, held_of, seen_held, problem_held}
+use Rattle.session.specs.Inside.{IsReplyOfTwo, Answered, Asked, CommandAnswered}
+use Rattle.session.proofs.Holding.{seen_logs, seen_traces}
+
+pub on_ok : {V E : Type 0} (r : Result V E) (P Q : Type 0) → (P → Q) → OnOk r P → OnOk r Q
+on_ok (Ok v) P Q f p = f p
+on_ok (Err e) P Q f p = tt
+
+-- ---- the events and the problem of what a session stands for
+pub seen_stands : (held : Held) (d : Declaration) (s : State) → StandsFor held d s → map seen_of s.traces ≡ seen_held held.rows
+seen_stands held d s stands = seen_traces s.traces ∙ ap seen_held (sym stands.rows)
+
+pub built : {E : Type 0} (d : Declaration) (logs : List Log) (held : Held) (r : Result ProblemLists E) → held_of d logs ≡ held → IfOk r (λ p. p ≡ problem_of_seen d (seen_in logs)) → IfOk r (λ p. p ≡ problem_held held)
+built d logs held (Ok p) same is = is ∙ ap (λ (seen : List (List Seen)). problem_of_seen d seen) (sym (seen_logs logs)) ∙ ap problem_held same
+built d logs held (Err e) same is = tt
+
+pub problem_stands : (held : Held) (d : Declaration) (s : State) → StandsFor held d s → problem_held held ≡ problem_of d s.traces
+problem_stands held d s stands =
+    ap (λ (x : Declaration). problem_of_seen x (seen_held held.rows)) stands.declaration ∙ ap (λ (seen : List (List Seen)). problem_of_seen d seen) (sym (seen_stands held d s stands))
+
+-- ---- two events
+-- a reply about two events of the problem that is held
+pub of_two : (held : Held) (p : ProblemLists) (a b : List ℕ) (written written' : Option (List ℕ)) (Says : ProblemLists → ℕ → ℕ → List ℕ → Type 0) → p ≡ problem_held held →
+    AppendsSome (IsReplyOfTwo p a b (Says p)) written written' →
+    (d : Declaration) (s : State) → StandsFor held d s → Answered held d written written' (λ text s'. (Unread ≡ Unread) × OfTwo (problem_of d s.traces) a b (Says (problem_of d s.traces)) s text s')
+of_two held p a b written written' Says is says d s stands =
+    let q_is : p ≡ problem_of d s.traces = is ∙ problem_stands held d s stands in
+    (says.0, s, (refl, two (problem_of d s.traces) (subst (λ (q : ProblemLists). IsReplyOfTwo q a b (Says q) says.0) q_is says.1)), says.2, stands)
+  where
+    two : (q : ProblemLists) → IsReplyOfTwo q a b (Says q) says.0 → OfTwo q a b (Says q) s says.0 s
+    two q (inl known) = inl (known.0, known.1, known.2, known.3, known.4, refl)
+    two q (inr unknown) = inr (unknown.0, (unknown.1, refl))
+
+pub two_known : (p : ProblemLists) (a b : List ℕ) (i j : ℕ) (written written' : Option (List ℕ)) (Says : ℕ → ℕ → List ℕ → Type 0) → HasEvent p i a → HasEvent p j b →
+    AppendsSome (Replies p (Says i j)) written written' → AppendsSome (IsReplyOfTwo p a b Says) written written'
+two_known p a b i j written written' Says at_i at_j says = (says.0, inl (i, j, at_i, at_j, says.1), says.2)
+
+pub two_unknown : (p : ProblemLists) (a b line : List ℕ) (written written' : Option (List ℕ)) (Says : ℕ → ℕ → List ℕ → Type 0) → IsUnknown p a ⊎ IsUnknown p b → line ≡ refusal (codes "28" ∷ []) →
+    Appends written written' line → AppendsSome (IsReplyOfTwo p a b Says) written written'
+two_unknown p a b line written written' Says unknown is appends = (line, inr (unknown, is), appends)
+
+-- ---- lines
+line_reply : (d : Declaration) (files : Content) (s s' : State) (line text : List ℕ) (c : Option Command) (found : Found) → length line ≤ 4096 → Asks line c →
+    CommandReply d files s c found text s' → LineReply d files s line found text s'
+line_reply d files s s' line text c found short asks reply =
+    let yes : nat_le (length line) 4096 ≡ true = grind (arith, short) in
+    rw yes (c, asks, reply)
+
+-- what answers the command of a line answers the line
+pub stepped : (files : Content) (f f' a a' : ℕ) (written written' : Option (List ℕ)) (held held' : Held) (line : List ℕ) (c : Option Command) → length line ≤ 4096 → Asks line c →
+    CommandAnswered files f f' a a' written written' held held' c → Stepped files f f' a a' written written' held held' line
+stepped files f f' a a' written written' held held' line c short asks answered = λ d s stands.
+    let r = answered d s stands in
+    (r.0, r.1.0, r.1.1, line_reply d files s r.1.1 line r.1.0 c r.0 short asks r.1.2, r.1.3, r.2, r.1.4)
+
+pub counted_unread : (f f' a a' : ℕ) → f ≤ f' → a ≤ a' → AreCounted (Unread ∷ []) f f' a a'
+counted_unread f f' a a' f_le a_le = record { failed = λ below. omega (arith, f_le); absent = λ below. omega (arith, a_le) }
+
+unread_at : (files : Content) (c : Command) → FoundAt files c Unread
+unread_at None c = tt
+unread_at (Some files) (Add label path) = tt
+unread_at (Some files) (Interval first second) = tt
+unread_at (Some files) (Order first second) = tt
+unread_at (Some files) Problem = tt
+
+-- a command that reads no file
+pub unread : (files : Content) (f a : ℕ) (written written' : Option (List ℕ)) (held : Held) (c : Command) → Asked held written written' c →
+    CommandAnswered files f f a a written written' held held (Some c)
+unread files f a written written' held c asked = λ d s stands.
+    let r = asked d s stands in
+    (Unread, (r.0, r.1, (unread_at files c, r.2), r.3, r.4), counted_unread f f a a (omega arith) (omega arith))
+
+pub stepped_unread : (files : Content) (f a : ℕ) (written written' : Option (List ℕ)) (held : Held) (line : List ℕ) (c : Command) → length line ≤ 4096 → Asks line (Some c) →
+    Asked held written written' c → Stepped files f f a a written written' held held line
+stepped_unread files f a written written' held line c short asks asked = stepped files f f a a written written' held held line (Some c) short asks (unread files f a written written' held c asked)
+
+-- a line that spells no command
+pub no_command : (files : Content) (f a : ℕ) (written written' : Option (List ℕ)) (held : Held) (line : List ℕ) → line ≡ refusal (codes "20" ∷ []) → Appends written written' line →
+    CommandAnswered files f f a a written written' held held None
+no_command files f a written written' held line is appends = λ d s stands.
+    (Unread, (line, s, (refl, (is, refl)), appends, stands), counted_unread f f a a (omega arith) (omega arith))

@@ -1,0 +1,33 @@
+-- The commands that a line of a script may spell.
+use Rattle.std.specs.Prelude.{◌≡◌, ℕ, ◌<◌, List, [], ◌∷◌, length, Option, Some, None, All, codes}
+use Rattle.std.specs.Int.{IsInRange}
+use Rattle.line_format.specs.Words.{words}
+
+-- a command with its words: a label and a path, or the names of two events
+pub data Command : Type 0 where
+  Add : List ℕ → List ℕ → Command
+  Interval : List ℕ → List ℕ → Command
+  Order : List ℕ → List ℕ → Command
+  Problem : Command
+
+-- some bytes that print, without a space
+pub record IsWord (w : List ℕ) : Type 0 where
+  pub some : 0 < length w
+  pub visible : All (λ b. IsInRange 33 126 b) w
+
+-- the words of a command
+abbrev pub command_words : Command → List (List ℕ)
+command_words (Add label path) = codes "add" ∷ label ∷ path ∷ []
+command_words (Interval first second) = codes "interval" ∷ first ∷ second ∷ []
+command_words (Order first second) = codes "order" ∷ first ∷ second ∷ []
+command_words Problem = codes "problem" ∷ []
+
+-- the line spells this command, or none
+abbrev pub Asks : List ℕ → Option Command → Type 0
+Asks line (Some c) = (line ≡ words (command_words c)) × All IsWord (command_words c)
+Asks line None = (c : Command) → All IsWord (command_words c) → line ≡ words (command_words c) → ⊥
+
+-- these are the words of a command, or of none
+abbrev pub HasWords : List (List ℕ) → Option Command → Type 0
+HasWords ws (Some c) = (ws ≡ command_words c) × All IsWord ws
+HasWords ws None = (c : Command) → All IsWord ws → ws ≡ command_words c → ⊥

@@ -1,0 +1,155 @@
+-- What a session may reply to a command, and what it then has.
+use Rattle.std.specs.Prelude.{◌≡◌, ℕ, ◌+◌, ◌^◌, ◌⊎◌, List, [], ◌∷◌, ◌++◌, length, map, slice_get, slice_set, Option, Some, None, Bool, true, false, nat_le, ◌&&◌, codes, MatchBool, position}
+use Rattle.std.specs.Str.{bytes_eq}
+use Rattle.atto.specs.Decimal.{decimal_of}
+use Rattle.line_format.specs.Words.{line_of}
+use Rattle.problem_model.specs.Problem.{ProblemLists}
+use Rattle.problem_model.specs.ProblemText.{problem_text}
+use Rattle.problem.specs.Line.{HasEvent}
+use Rattle.event_log.specs.declared.errors.LogError.{LogError}
+use Rattle.event_log.specs.declared.errors.LogError.TheVariants as faults
+use Rattle.event_log.specs.declared.row.Row.{Row}
+use Rattle.event_log.specs.Log.{records_of, AreRows, IsLogFault}
+use Rattle.decl.specs.declared.items.Label.{Label}
+use Rattle.decl.specs.declared.items.TraceKind.{TraceKind}
+use Rattle.decl.specs.declared.items.TraceKind.TheVariants.{Capture, Log}
+use Rattle.decl.specs.Declaration.{Declaration}
+use Rattle.traces.specs.declared.event.EventId.{EventId}
+use Rattle.traces.specs.Traces.{Trace, Captured, Logged, Traces, Seen, seen_of, size_of, events_of, event_count}
+use Rattle.traces.specs.Messages.{messages_of, missing, problem_of}
+use Rattle.queries.specs.Consistent.{IsConsistent}
+use Rattle.queries.specs.Replies.{IsIntervalLine, IsOrderLine, Replies}
+use Rattle.session.specs.Commands.{Command, Add, Interval, Order, Problem}
+
+-- what a session has: the traces, and the events that are kept
+pub record State : Type 0 where
+  pub traces : Traces
+  pub kept : List EventId
+
+-- what came of the read that a command makes
+pub data Found : Type 0 where
+  -- the command reads no file
+  Unread : Found
+  -- the path has these bytes
+  Bytes : List ℕ → Found
+  -- the path is not there
+  Absent : Found
+  -- a read failed
+  Failed : Found
+
+-- ---- refusals
+-- the line of a refusal, by its number and the further numbers
+abbrev pub refusal : List (List ℕ) → List ℕ
+refusal numbers = line_of (codes "refused" ∷ numbers)
+
+-- the command is refused so, and nothing changes
+abbrev pub Refuses : State → List (List ℕ) → List ℕ → State → Type 0
+Refuses s numbers text s' = (text ≡ refusal numbers) × (s' ≡ s)
+
+-- ---- questions
+-- no event has this name
+abbrev pub IsUnknown : ProblemLists → List ℕ → Type 0
+IsUnknown p name = (k : ℕ) → HasEvent p k name → ⊥
+
+-- two events are asked about by their names
+abbrev pub OfTwo : ProblemLists → List ℕ → List ℕ → (ℕ → ℕ → List ℕ → Type 0) → State → List ℕ → State → Type 0
+OfTwo p first second Says s text s' =
+    ((i : ℕ) × (j : ℕ) × HasEvent p i first × HasEvent p j second × Replies p (Says i j) text × (s' ≡ s))
+    ⊎ ((IsUnknown p first ⊎ IsUnknown p second) × Refuses s (codes "28" ∷ []) text s')
+
+-- ---- additions
+-- the events of all labels
+abbrev pub seen_by : Traces → List (List Seen)
+seen_by t = map seen_of t
+
+-- whether there is an execution, as a word
+abbrev pub state_word : Bool → List ℕ
+state_word true = codes "consistent"
+state_word false = codes "inconsistent"
+
+-- the line of an addition: new events, new messages, messages that are none any more, bytes that wait
+abbrev pub added_line : ℕ → ℕ → ℕ → ℕ → Bool → List ℕ
+added_line events messages withdrawn pending consistent =
+    line_of (codes "added" ∷ codes "events" ∷ decimal_of events ∷ codes "messages" ∷ decimal_of messages ∷ codes "withdrawn" ∷ decimal_of withdrawn
+    ∷ codes "pending" ∷ decimal_of pending ∷ state_word consistent ∷ [])
+
+-- the line of an addition of so many events to a log, by the messages before and after
+abbrev pub IsAdded : Declaration → Traces → Traces → ℕ → List ℕ → Type 0
+IsAdded d old new more text =
+    let before = messages_of (events_of (seen_by old)) in
+    let after = messages_of (events_of (seen_by new)) in
+    (b : Bool) × IsConsistent (problem_of d new) b × (text ≡ added_line more (missing after before) (missing before after) 0 b)
+
+-- a trace with the rows of one piece more, of so many bytes
+abbrev pub with_rows : Trace → List Row → ℕ → Trace
+with_rows (Captured bytes) more size = Captured bytes
+with_rows (Logged rows old) more size = Logged (rows ++ more) (old + size)
+
+-- the number of a fault of a log's piece, behind its row
+abbrev pub row_fault : LogError → Option (ℕ × ℕ)
+row_fault (faults.Fields row) = Some (row, 1)
+row_fault (faults.Stamp row) = Some (row, 2)
+row_fault (faults.Kind row) = Some (row, 3)
+row_fault (faults.Text row) = Some (row, 4)
+row_fault faults.Memory = None
+
+-- the first record of the piece that is no row, and the number of its fault
+abbrev pub IsRowFault : List ℕ → ℕ → ℕ → Type 0
+IsRowFault bytes row number = (e : LogError) × IsLogFault bytes e × (row_fault e ≡ Some (row, number))
+
+-- the rows are added, unless there would be too many events
+abbrev pub RowsReply : Declaration → State → ℕ → Trace → List Row → ℕ → List ℕ → State → Type 0
+RowsReply d s k trace rows size text s' =
+    let traces = slice_set s.traces k (with_rows trace rows size) in
+    MatchBool (nat_le (event_count (seen_by traces)) (2 ^ 20))
+    ((s' ≡ record s { traces = traces }) × IsAdded d s.traces traces (length rows) text)
+    (Refuses s (codes "27" ∷ []) text s')
+
+-- a piece of a log has rows, or a first fault
+abbrev pub LogReply : Declaration → State → ℕ → Trace → List ℕ → List ℕ → State → Type 0
+LogReply d s k trace bytes text s' =
+    ((rows : List Row) × AreRows (records_of bytes) rows × RowsReply d s k trace rows (length bytes) text s')
+    ⊎ ((row : ℕ) × (number : ℕ) × IsRowFault bytes row number × Refuses s (codes "26" ∷ decimal_of row ∷ decimal_of number ∷ []) text s')
+
+-- a piece by the kind of its label; captures are refused as a whole
+abbrev pub KindReply : Declaration → State → ℕ → Trace → TraceKind → List ℕ → List ℕ → State → Type 0
+KindReply d s k trace Capture bytes text s' = Refuses s (codes "24" ∷ codes "0" ∷ []) text s'
+KindReply d s k trace Log bytes text s' = LogReply d s k trace bytes text s'
+
+-- whether a piece is not too long, by itself and with what its label has
+abbrev pub fits_label : Trace → List ℕ → Bool
+fits_label trace bytes = nat_le (length bytes) (2 ^ 28) && nat_le (size_of trace + length bytes) (2 ^ 30)
+
+-- a piece for the label at a place
+abbrev pub PieceReply : Declaration → State → ℕ → Option Label → Option Trace → List ℕ → List ℕ → State → Type 0
+PieceReply d s k None trace bytes text s' = ⊥
+PieceReply d s k (Some label) None bytes text s' = ⊥
+PieceReply d s k (Some label) (Some trace) bytes text s' =
+    MatchBool (fits_label trace bytes) (KindReply d s k trace label.kind bytes text s') (Refuses s (codes "23" ∷ []) text s')
+
+-- the place of a label by its name
+abbrev pub label_at : Declaration → List ℕ → Option ℕ
+label_at d name = position (λ (l : Label). bytes_eq l.name name) d.labels
+
+-- the first refusal that applies, or what was added
+abbrev pub AddReply : Declaration → State → Option ℕ → Found → List ℕ → State → Type 0
+AddReply d s None Unread text s' = Refuses s (codes "21" ∷ []) text s'
+AddReply d s None (Bytes bytes) text s' = ⊥
+AddReply d s None Absent text s' = ⊥
+AddReply d s None Failed text s' = ⊥
+AddReply d s (Some k) Unread text s' = ⊥
+AddReply d s (Some k) (Bytes bytes) text s' = PieceReply d s k (slice_get d.labels k) (slice_get s.traces k) bytes text s'
+AddReply d s (Some k) Absent text s' = Refuses s (codes "22" ∷ []) text s'
+AddReply d s (Some k) Failed text s' = Refuses s (codes "22" ∷ []) text s'
+
+-- ---- any command
+-- the texts that are replies, and what the session then has
+abbrev pub Reply : Declaration → State → Command → Found → List ℕ → State → Type 0
+Reply d s (Add label path) found text s' = AddReply d s (label_at d label) found text s'
+Reply d s (Interval first second) found text s' =
+    let p = problem_of d s.traces in
+    (found ≡ Unread) × OfTwo p first second (IsIntervalLine p) s text s'
+Reply d s (Order first second) found text s' =
+    let p = problem_of d s.traces in
+    (found ≡ Unread) × OfTwo p first second (IsOrderLine p) s text s'
+Reply d s Problem found text s' = (found ≡ Unread) × (s' ≡ s) × (text ≡ problem_text (problem_of d s.traces))

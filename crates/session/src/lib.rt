@@ -1,0 +1,24 @@
+//! Sessions: commands line by line, and a reply to each.
+//!
+//! A session stands over a declaration. `add LABEL PATH` adds the file at a path to a label, `interval EVENT EVENT` and
+//! `order EVENT EVENT` ask about two events, and `problem` writes the problem of all that was added. Every line has one
+//! reply: an answer, or `refused` with a number.
+#![tactic(auto)]
+
+mod addition;
+mod command;
+mod events;
+mod labels;
+mod laws;
+mod lines;
+mod logs;
+mod questions;
+mod refusal;
+mod session;
+
+pub use laws::commands_are_one;
+pub use queries::Stop;
+pub use session::Session;
+
+#[cfg(test)]
+mod tests;

@@ -1,0 +1,99 @@
+// Lines of replies, composed word by word.
+ghost use Rattle.std.specs.Prelude.{◌≡◌, ◌≤◌, ◌∷◌, [], ◌++◌, ℕ, List, OnOk, IfOk, IsErrOf};
+ghost use Rattle.atto.specs.Decimal.{decimal_of};
+ghost use Rattle.line_format.specs.Words.{words};
+ghost use Rattle.ports.specs.Content.{Rose, Appends};
+ghost use Rattle.queries.specs.declared.stop.Stop.TheVariants as stops;
+ghost use Rattle.session.specs.Reply.{added_line, state_word};
+ghost use Rattle.session.specs.Inside.{row_line};
+
+use atto::{NsText, write_decimal};
+use ports::{Sink, write_whole};
+use queries::Stop;
+use std::alloc::{AllocError, Global};
+
+/// What an addition to a log changed.
+#[derive(Clone, Copy, Debug, PartialEq, Eq)]
+pub(crate) struct Added {
+    /// How many events there are more.
+    pub(crate) events: u64,
+    /// How many messages are new.
+    pub(crate) messages: u64,
+    /// How many messages are none any more.
+    pub(crate) withdrawn: u64,
+    /// Whether some execution obeys all bounds.
+    pub(crate) consistent: bool,
+}
+
+// Appends a word behind a space.
+fn push_word(line: &mut Vec<u8>, word: &[u8]) -> Result<(), AllocError>
+    ensures { (first : List ℕ) (ws : List (List ℕ)) → line.old.items ≡ words (first ∷ ws) → OnOk result (line.new.items ≡ words (first ∷ ws ++ word.now ∷ [])) }
+{
+    line.push(b' ')?;
+    line.extend_from_slice(word)?;
+    Ok(())
+}
+
+// Appends a decimal behind a space.
+fn push_decimal(line: &mut Vec<u8>, number: u64) -> Result<(), AllocError>
+    ensures { (first : List ℕ) (ws : List (List ℕ)) → line.old.items ≡ words (first ∷ ws) → OnOk result (line.new.items ≡ words (first ∷ ws ++ decimal_of number ∷ [])) }
+{
+    let mut text = NsText::new();
+    write_decimal(number, &mut text);
+    push_word(line, text.as_slice())
+}
+
+// Appends a word and a decimal.
+fn push_count(line: &mut Vec<u8>, word: &[u8], number: u64) -> Result<(), AllocError>
+    ensures { (first : List ℕ) (ws : List (List ℕ)) → line.old.items ≡ words (first ∷ ws) → OnOk result (line.new.items ≡ words (first ∷ ws ++ word.now ∷ decimal_of number ∷ [])) }
+{
+    push_word(line, word)?;
+    push_decimal(line, number)?;
+    Ok(())
+}
+
+fn state_word(consistent: bool) -> &'static [u8]
+    ensures { result.now ≡ state_word consistent }
+{
+    if consistent {
+        b"consistent"
+    } else {
+        b"inconsistent"
+    }
+}
+
+/// The line of an addition to a log.
+pub(crate) fn added_line(alloc: Global, added: Added) -> Result<Vec<u8>, AllocError>
+    ensures { IfOk result (λ line. line.items ≡ added_line added.events added.messages added.withdrawn 0 added.consistent) }
+{
+    let mut line = Vec::from_slice(alloc, b"added")?;
+    push_count(&mut line, b"events", added.events)?;
+    push_count(&mut line, b"messages", added.messages)?;
+    push_count(&mut line, b"withdrawn", added.withdrawn)?;
+    push_count(&mut line, b"pending", 0)?;
+    push_word(&mut line, state_word(added.consistent))?;
+    line.push(b'\n')?;
+    Ok(line)
+}
+
+/// The line of a refusal by a row of a log: the row, counted from 1, and what it lacks.
+pub(crate) fn row_line(alloc: Global, row: u32, number: u32) -> Result<Vec<u8>, AllocError>
+    ensures { IfOk result (λ line. line.items ≡ row_line row number) }
+{
+    let mut line = Vec::from_slice(alloc, b"refused")?;
+    push_word(&mut line, b"26")?;
+    push_decimal(&mut line, u64::from(row))?;
+    push_decimal(&mut line, u64::from(number))?;
+    line.push(b'\n')?;
+    Ok(line)
+}
+
+/// Writes a line that has its line feed.
+pub(crate) fn write_line<O: Sink>(line: &[u8], out: &mut O) -> Result<(), Stop>
+    ensures ok { OnOk result (Appends (O.written out.old) (O.written out.new) line.now) }
+    ensures cause { IsErrOf result stops.WriteFault → Rose (O.faults out.old) (O.faults out.new) }
+    ensures no_fall { O.faults out.old ≤ O.faults out.new }
+{
+    write_whole(out, line)?;
+    Ok(())
+}

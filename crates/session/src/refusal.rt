@@ -1,0 +1,41 @@
+// Refusals of a piece of a log by one of its rows.
+ghost use Rattle.std.specs.Prelude.{◌≡◌, ◌≤◌, OnOk, IsErrOf};
+ghost use Rattle.ports.specs.Content.{Rose};
+ghost use Rattle.queries.specs.declared.stop.Stop.TheVariants as stops;
+ghost use Rattle.queries.specs.Replies.{AppendsSome};
+ghost use Rattle.session.specs.Reply.{row_fault};
+ghost use Rattle.session.specs.Inside.{IsRowRefusal};
+
+use crate::lines::{row_line, write_line};
+use event_log::LogError;
+use ports::Sink;
+use queries::Stop;
+use std::alloc::Global;
+
+// The row of a fault, counted from 1, and its number.
+fn row_fault(e: LogError) -> Option<(u32, u32)>
+    ensures { result ≡ row_fault e }
+{
+    match e {
+        LogError::Fields(row) => Some((row, 1)),
+        LogError::Stamp(row) => Some((row, 2)),
+        LogError::Kind(row) => Some((row, 3)),
+        LogError::Text(row) => Some((row, 4)),
+        LogError::Memory => None,
+    }
+}
+
+/// Refuses a piece for this fault. For want of memory nothing is written, and `Memory` is answered.
+pub(crate) fn refuse_row<O: Sink>(alloc: Global, e: LogError, out: &mut O) -> Result<(), Stop>
+    ensures reply { OnOk result (AppendsSome (IsRowRefusal e) (O.written out.old) (O.written out.new)) }
+    ensures cause { IsErrOf result stops.WriteFault → Rose (O.faults out.old) (O.faults out.new) }
+    ensures no_fall { O.faults out.old ≤ O.faults out.new }
+{
+    match row_fault(e) {
+        Some((row, number)) => {
+            let line = row_line(alloc, row, number)?;
+            write_line(&line, out)
+        }
+        None => Err(Stop::Memory),
+    }
+}
