@@ -1,0 +1,126 @@
+-- How a session over a script ends.
+use Rattle.std.proofs.Common.{◌≡◌, ℕ, ◌+◌, ◌^◌, ◌<◌, ◌≤◌, List, [], ◌∷◌, ◌++◌, length, take, Option, Some, Bool, true, false, refl, sym, ◌∙◌, ap, arith, append_assoc, append-nil, length-append}
+use Rattle.decl.specs.Declaration.{Declaration}
+use Rattle.line_reader.specs.Lines.{whole_lines, lines_of}
+use Rattle.line_reader.specs.Reader.{Reader, Came, Ends, NoneLeft}
+use Rattle.session.specs.Stands.{Held}
+use Rattle.script.specs.declared.ended.Ended.{Ended}
+use Rattle.script.specs.declared.ended.Ended.TheVariants.{Done, ReadFault, Limit, WriteFault, Memory}
+use Rattle.script.specs.Script.{Told, OfScript, Replied, IsTaken, EndsSo}
+use Rattle.script.specs.Turns.{HasNoLine, FailsInLine, IsPastMost, HasNoReply}
+use Rattle.script.proofs.Scripts.{feeds, NoFeeds, whole_broken, lines_end, feeds_cut, take_front}
+use Rattle.script.proofs.Replies.{counted_later, rose_later}
+use Rattle.script.proofs.Places.{IsPlace, IsAt, of_script}
+
+-- what is written so far is the replies to the lines that are done
+replied : (d : Declaration) (old now now' : Told) (held : Held) (r : Reader) (script : List ℕ) (lines : List (List ℕ)) (here : IsAt d old now held r script) → lines ≡ here.done →
+    now'.written ≡ now.written → now.faults ≤ now'.faults → now.absences ≤ now'.absences → Replied d old now' lines []
+replied d old now now' held r script lines here is silent f_le a_le = record {
+  founds = here.founds;
+  texts = here.texts;
+  state = here.state;
+  session = rw is here.session;
+  counted = counted_later here.founds _ _ _ _ _ _ here.counted f_le a_le;
+  written = rw (append-nil, silent) here.written;
+}
+
+same_some : (x y : List ℕ) → Some x ≡ Some y → x ≡ y
+same_some x y e = cc
+
+tail_none : (held left : List ℕ) → held ++ left ≡ [] → left ≡ []
+tail_none [] left none = none
+tail_none (b ∷ bs) left none = absurd cc
+
+-- where no line is left, no byte is left
+none_left : (r : Reader) (script left : List ℕ) (after : Option (List ℕ)) (bytes : List ℕ) (done : List (List ℕ)) (ended : Bool) → r.ended ≡ ended →
+    IsPlace script done (r.held ++ left) ended → Came (Some left) after bytes → Ends r (Some left) after bytes → (r.held ++ left ≡ []) × (left ≡ [])
+none_left r script left after bytes done true is place came ends = (place.1, tail_none r.held left place.1)
+none_left r script left after bytes done false is place came ends =
+    let none : NoneLeft (Some left) after = ends.last is in
+    let rest : came.0 ≡ [] = same_some _ _ (sym came.2 ∙ none) in
+    let all : left ≡ [] = came.1 ∙ rw (ends.none, rest) refl in
+    (rw (ends.held, all) refl, all)
+
+lines_done : (script : List ℕ) (done : List (List ℕ)) (rest : List ℕ) (ended : Bool) → rest ≡ [] → IsPlace script done rest ended → lines_of script ≡ done
+lines_done script done rest true none place = place.0
+lines_done script done rest false none place = ap lines_of (place.0 ∙ ap (feeds done) none) ∙ lines_end done place.1
+
+few : (most taken : ℕ) (left script : List ℕ) → taken + length left ≡ length script → left ≡ [] → taken ≤ most → length script ≤ most
+few most taken left script count none within = omega (arith, count, ap length none, within)
+
+done_at : (d : Declaration) (old now now' : Told) (held : Held) (r r' : Reader) (script : List ℕ) → IsAt d old now held r script → HasNoLine r r' now now' →
+    now.faults ≤ now'.faults → now.absences ≤ now'.absences → (length script ≤ 2 ^ 30) × Replied d old now' (lines_of script) []
+done_at d old now now' held r r' script here turn f_le a_le =
+    let came : Came (Some here.left) now'.left turn.bytes = rw here.left_is at turn.counts.came in
+    let ends : Ends r (Some here.left) now'.left turn.bytes = rw here.left_is at turn.ends in
+    let none = none_left r script here.left now'.left turn.bytes here.done r.ended refl here.place came ends in (
+      few (2 ^ 30) r.taken here.left script here.count none.1 here.within,
+      replied d old now now' held r script (lines_of script) here (lines_done script here.done (r.held ++ here.left) r.ended none.0 here.place) turn.silent f_le a_le,
+    )
+
+-- where no last line was given, the script is the lines that are done, and the rest
+open_place : (script : List ℕ) (done : List (List ℕ)) (rest : List ℕ) (ended : Bool) → ended ≡ false → IsPlace script done rest ended → (script ≡ feeds done rest) × NoFeeds done
+open_place script done rest true going place = absurd cc
+open_place script done rest false going place = place
+
+cut_at : (script held left more left' : List ℕ) (done : List (List ℕ)) → script ≡ feeds done (held ++ left) → left ≡ more ++ left' → script ≡ feeds done (held ++ more) ++ left'
+cut_at script held left more left' done is cut =
+    is ∙ ap (λ (x : List ℕ). feeds done (held ++ x)) cut ∙ ap (feeds done) (sym (append_assoc held more left')) ∙ feeds_cut done (held ++ more) left'
+
+length_taken : (front left more left' script : List ℕ) (taken : ℕ) → taken + length left ≡ length script → left ≡ more ++ left' → script ≡ front ++ left' →
+    length front ≡ taken + length more
+length_taken front left more left' script taken count cut is =
+    omega (arith, count, ap length cut, ap length is, length-append more left', length-append front left')
+
+fault_at : (d : Declaration) (old now now' : Told) (held : Held) (r r' : Reader) (script : List ℕ) → IsAt d old now held r script → FailsInLine r r' now now' →
+    now.faults ≤ now'.faults → now.absences ≤ now'.absences → IsTaken d old now' [] script
+fault_at d old now now' held r r' script here turn f_le a_le =
+    let came : Came (Some here.left) now'.left turn.bytes = rw here.left_is at turn.counts.came in
+    let place = open_place script here.done (r.held ++ here.left) r.ended turn.breaks.going here.place in
+    let front = feeds here.done (r.held ++ turn.bytes) in
+    let cut : script ≡ front ++ came.0 = cut_at script r.held here.left turn.bytes came.0 here.done place.0 came.1 in
+    let long : length front ≡ r.taken + length turn.bytes = length_taken front here.left turn.bytes came.0 script r.taken here.count came.1 cut in
+    record {
+      taken = front;
+      rest = came.0;
+      is = cut;
+      left = came.2;
+      short = rw (long, ← turn.counts.counted) turn.counts.within;
+      replied = replied d old now now' held r script (whole_lines front) here (whole_broken here.done (r.held ++ turn.bytes) place.1 turn.breaks.part) turn.silent f_le a_le;
+    }
+
+one_more : (bytes front left left' : List ℕ) (another : ℕ) → left ≡ bytes ++ left' → bytes ≡ front ++ another ∷ [] → left ≡ front ++ another ∷ left'
+one_more bytes front left left' another cut is = cut ∙ ap (λ (b : List ℕ). b ++ left') is ∙ append_assoc front (another ∷ []) left'
+
+past : (most : ℕ) (script front back : List ℕ) (another : ℕ) → script ≡ front ++ another ∷ back → length front ≡ most → (most < length script) × (take most script ≡ front)
+past most script front back another is long =
+    (omega (arith, ap length is, length-append front (another ∷ back), long), rw is (take_front front (another ∷ back) most long))
+
+limit_at : (d : Declaration) (old now now' : Told) (held : Held) (r r' : Reader) (script : List ℕ) → IsAt d old now held r script → IsPastMost r r' now now' →
+    now.faults ≤ now'.faults → now.absences ≤ now'.absences → (2 ^ 30 < length script) × Replied d old now' (whole_lines (take (2 ^ 30) script)) []
+limit_at d old now now' held r r' script here turn f_le a_le =
+    let came : Came (Some here.left) now'.left turn.bytes = rw here.left_is at turn.came in
+    let goes = turn.goes in
+    let place = open_place script here.done (r.held ++ here.left) r.ended goes.broken.going here.place in
+    let left_is : here.left ≡ goes.front ++ goes.another ∷ came.0 = one_more turn.bytes goes.front here.left came.0 goes.another came.1 goes.came_is in
+    let front = feeds here.done (r.held ++ goes.front) in
+    let cut : script ≡ front ++ goes.another ∷ came.0 = cut_at script r.held here.left goes.front (goes.another ∷ came.0) here.done place.0 left_is in
+    let long = length_taken front here.left goes.front (goes.another ∷ came.0) script r.taken here.count left_is cut in
+    let over = past (2 ^ 30) script front came.0 goes.another cut (long ∙ goes.most) in (
+      over.0,
+      replied d old now now' held r script (whole_lines (take (2 ^ 30) script)) here
+          (ap whole_lines over.1 ∙ whole_broken here.done (r.held ++ goes.front) place.1 goes.broken.part) turn.silent f_le a_le,
+    )
+
+-- the script ends as its last turn says
+pub ends_so : (d : Declaration) (old now now' : Told) (held : Held) (r r' : Reader) (ended : Ended) → OfScript old.left (λ script. IsAt d old now held r script) →
+    HasNoReply r r' now now' ended → now.faults ≤ now'.faults → now.absences ≤ now'.absences → old.read_faults ≤ now.read_faults → old.write_faults ≤ now.write_faults →
+    EndsSo d old now' [] ended
+ends_so d old now now' held r r' Done here turn f_le a_le r_le w_le =
+    of_script old.left _ _ (λ script is. done_at d old now now' held r r' script is turn f_le a_le) here
+ends_so d old now now' held r r' ReadFault here turn f_le a_le r_le w_le =
+    (rose_later _ _ _ r_le turn.rose, of_script old.left _ _ (λ script is. fault_at d old now now' held r r' script is turn f_le a_le) here)
+ends_so d old now now' held r r' Limit here turn f_le a_le r_le w_le =
+    of_script old.left _ _ (λ script is. limit_at d old now now' held r r' script is turn f_le a_le) here
+ends_so d old now now' held r r' WriteFault here turn f_le a_le r_le w_le = rose_later _ _ _ w_le turn
+ends_so d old now now' held r r' Memory here turn f_le a_le r_le w_le = tt

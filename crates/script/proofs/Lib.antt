@@ -1,0 +1,4 @@
+pub mod Scripts
+pub mod Replies
+pub mod Places
+pub mod Endings
