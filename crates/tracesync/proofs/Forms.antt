@@ -1,9 +1,11 @@
 -- The words of each form.
 use Rattle.std.proofs.Common.{◌≡◌, ℕ, List, [], ◌∷◌, length, Some, slice_get, codes, sym, ◌∙◌, ap, subst, arith}
-use Rattle.tracesync.specs.Run.{obey_words, solve_words, ends_words, verify_words, Devices, Obeyed}
+use Rattle.script.specs.Script.{Told}
+use Rattle.tracesync.specs.Run.{obey_words, solve_words, ends_words, verify_words, session_words, Devices, Obeyed}
 use Rattle.tracesync.specs.Solve.{Solved}
 use Rattle.tracesync.specs.Ends.{Ended}
 use Rattle.tracesync.specs.Verify.{Verified}
+use Rattle.tracesync.specs.Sessions.{Conducted}
 use Rattle.tracesync.specs.declared.status.Status.{Status}
 
 -- three words, the first of which is `obey`
@@ -29,6 +31,13 @@ is_solve (x ∷ []) a long e is = absurd (omega (arith, long))
 is_solve (x ∷ y ∷ []) a long e is = (y, cc)
 is_solve (x ∷ y ∷ z ∷ ws) a long e is = absurd (omega (arith, long))
 
+-- two words, the first of which is `session`
+pub is_session : (ws : List (List ℕ)) (a : List ℕ) → length ws ≡ 2 → slice_get ws 0 ≡ Some a → a ≡ codes "session" → (decl : List ℕ) × (ws ≡ session_words decl)
+is_session [] a long e is = absurd (omega (arith, long))
+is_session (x ∷ []) a long e is = absurd (omega (arith, long))
+is_session (x ∷ y ∷ []) a long e is = (y, cc)
+is_session (x ∷ y ∷ z ∷ ws) a long e is = absurd (omega (arith, long))
+
 -- four words, the first of which is `ends`
 pub is_ends : (ws : List (List ℕ)) (a : List ℕ) → length ws ≡ 4 → slice_get ws 0 ≡ Some a → a ≡ codes "ends"
     → (problem : List ℕ) × (first : List ℕ) × (second : List ℕ) × (ws ≡ ends_words problem first second)
@@ -51,6 +60,9 @@ ends_four ws problem first second is = ap length is
 pub verify_three : (ws : List (List ℕ)) (problem cert : List ℕ) → ws ≡ verify_words problem cert → length ws ≡ 3
 verify_three ws problem cert is = ap length is
 
+pub session_two : (ws : List (List ℕ)) (decl : List ℕ) → ws ≡ session_words decl → length ws ≡ 2
+session_two ws decl is = ap length is
+
 -- words have one length
 pub other_length : (ws : List (List ℕ)) (m n : ℕ) → length ws ≡ m → length ws ≡ n → (m ≡ n → ⊥) → ⊥
 other_length ws m n a b differ = differ (sym a ∙ b)
@@ -63,6 +75,12 @@ pub obey_or_verify : (ws : List (List ℕ)) (problem exec problem' cert : List �
 obey_or_verify ws problem exec problem' cert a b =
     let first : codes "obey" ≡ codes "verify" = some_same (codes "obey") (codes "verify") (sym (ap (λ (v : List (List ℕ)). slice_get v 0) a) ∙ ap (λ (v : List (List ℕ)). slice_get v 0) b) in
     let size : 4 ≡ 6 = ap length first in
+    omega (arith, size)
+
+pub solve_or_session : (ws : List (List ℕ)) (problem decl : List ℕ) → ws ≡ solve_words problem → ws ≡ session_words decl → ⊥
+solve_or_session ws problem decl a b =
+    let first : codes "solve" ≡ codes "session" = some_same (codes "solve") (codes "session") (sym (ap (λ (v : List (List ℕ)). slice_get v 0) a) ∙ ap (λ (v : List (List ℕ)). slice_get v 0) b) in
+    let size : 5 ≡ 7 = ap length first in
     omega (arith, size)
 
 -- what `obey` says of the second and the third word
@@ -97,3 +115,10 @@ verify_by ws a b problem cert old new result e f is verified =
     let first : a ≡ problem = some_same a problem (sym e ∙ ap (λ (v : List (List ℕ)). slice_get v 1) is) in
     let second : b ≡ cert = some_same b cert (sym f ∙ ap (λ (v : List (List ℕ)). slice_get v 2) is) in
     subst (λ (v : List ℕ). Verified v cert old new result) first (subst (λ (v : List ℕ). Verified a v old new result) second verified)
+
+-- what `session` says of the second word
+pub session_by : (ws : List (List ℕ)) (a decl : List ℕ) (old new : Told) (result : Status) → slice_get ws 1 ≡ Some a → ws ≡ session_words decl
+    → Conducted a old new result → Conducted decl old new result
+session_by ws a decl old new result e is conducted =
+    let first : a ≡ decl = some_same a decl (sym e ∙ ap (λ (v : List (List ℕ)). slice_get v 1) is) in
+    subst (λ (v : List ℕ). Conducted v old new result) first conducted

@@ -1,9 +1,14 @@
 -- The line of an interval shows what it should.
-use Rattle.std.proofs.Common.{◌≡◌, inl, inr, ℕ, List, Option, Some, None, slice_get, refl, sym, ap, ◌∙◌}
-use Rattle.std.specs.Prelude.{IfNone}
+use Rattle.std.proofs.Common.{◌≡◌, inl, inr, ℕ, zero, suc, ◌<◌, List, [], ◌∷◌, length, map, Option, Some, None, slice_get, refl, subst, arith}
+use Rattle.std.proofs.lemmas.Option.{slice_get_within}
+use Rattle.std.proofs.lemmas.List.{length-map}
+use Rattle.std.proofs.lemmas.List.Elements.{All-head, All-tail}
+use Rattle.std.specs.Prelude.{All, IfNone}
 use Rattle.problem_model.specs.declared.items.Event.{Event}
 use Rattle.problem_model.specs.declared.items.Node.TheVariants as nodes
-use Rattle.problem_model.specs.Problem.{ProblemLists}
+use Rattle.problem_model.specs.Name.{IsEventName}
+use Rattle.problem_model.specs.Problem.{ProblemLists, IsProblem}
+use Rattle.problem.specs.Line.{HasEvent}
 use Rattle.row_pool.specs.declared.cell.Pair.{Pair}
 use Rattle.intervals.specs.declared.order.Order.{Order}
 use Rattle.intervals.specs.Ends.{ends_of}
@@ -11,7 +16,7 @@ use Rattle.intervals.specs.Orders.{IsOrder}
 use Rattle.intervals.specs.Executions.{IsPairOf}
 use Rattle.intervals.proofs.NodeOrders.{orders}
 use Rattle.intervals.proofs.Times.{ends_are}
-use Rattle.tracesync.specs.Ends.{IsNamedAt, IsIntervalLine, interval_line, EndsAnswered}
+use Rattle.tracesync.specs.Ends.{IsUnknown, IsIntervalLine, interval_line, EndsAnswered}
 use Rattle.tracesync.specs.Endings.{Ends}
 use Rattle.tracesync.specs.declared.status.Status.{Status}
 use Rattle.tracesync.specs.declared.status.Status.TheVariants as statuses
@@ -25,12 +30,15 @@ module _ (p : ProblemLists) (from to : ℕ) (pair : Pair) (is : IsPairOf p (node
   answered old new faults faults' result (inl ended) = inl (ended.0, (interval_line (ends_of pair) order, inl line_shows, ended.1))
   answered old new faults faults' result (inr ended) = inr (inl ended)
 
--- one event stands at a place
-pub one_event : (p : ProblemLists) (k place : ℕ) (name : List ℕ) (e : Event) → k ≡ place → slice_get p.events place ≡ Some e → IsNamedAt p k name → e.name ≡ name
-one_event p k place name e here there (v, at, is) =
-    let same : Some e ≡ Some v = sym there ∙ ap (λ (n : ℕ). slice_get p.events n) (sym here) ∙ at in
-    let one : e ≡ v = cc in
-    ap (λ (w : Event). w.name) one ∙ is
+-- ---- names of events
+name_of_some : (events : List Event) (k : ℕ) (name : List ℕ) → All (λ (e : Event). IsEventName e.name) events → slice_get (map (λ (e : Event). e.name) events) k ≡ Some name → IsEventName name
+name_of_some [] k name all at = absurd cc
+name_of_some (e ∷ events) zero name all at = let is : e.name ≡ name = cc in subst IsEventName is (All-head (λ (x : Event). IsEventName x.name) e events all)
+name_of_some (e ∷ events) (suc k) name all at = name_of_some events k name (All-tail (λ (x : Event). IsEventName x.name) e events all) at
+
+-- what is no name is the name of no event
+pub no_name : (p : ProblemLists) (name : List ℕ) → IsProblem p → (IsEventName name → ⊥) → IsUnknown p name
+no_name p name lawful other k at = other (name_of_some p.events k name lawful.event_names at)
 
 -- what holds where there is none
 pub where_none : {A : Type 0} (r : Option A) (P : Type 0) → P → IfNone r P

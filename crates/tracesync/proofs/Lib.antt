@@ -6,3 +6,5 @@ pub mod Forms
 pub mod Intervals
 pub mod Verifying
 pub mod Words
+pub mod Declaring
+pub mod Conducting

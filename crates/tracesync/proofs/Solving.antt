@@ -4,7 +4,8 @@ use Rattle.ports.specs.Files.{Content, HasBytes}
 use Rattle.problem_model.specs.Problem.{ProblemLists}
 use Rattle.tracesync.specs.Run.{Devices, SpellsProblem, RefusesProblem}
 use Rattle.tracesync.specs.Solve.{Solved, EndsSolved}
-use Rattle.tracesync.specs.Ends.{IsNamedAt, IsUnknown, Ended, EndsAnswered}
+use Rattle.problem.specs.Line.{HasEvent}
+use Rattle.tracesync.specs.Ends.{IsUnknown, Ended, EndsAnswered}
 use Rattle.tracesync.specs.Unread.{IsUnread}
 use Rattle.tracesync.specs.Endings.{Ends, EndsUnread}
 use Rattle.tracesync.specs.declared.status.Status.{Status}
@@ -48,7 +49,7 @@ module _ (problem : List ℕ) (files files' : Content) (rf rf' ab ab' wf wf' : �
         → Ends written written' wf wf' (codes "unknown event\n") statuses.UnknownEvent result → Ended problem first second before after result
     unknown_ends p result has unknown ends = stopping.printed says written written' wf wf' (λ rose. rose) tt (codes "unknown event\n") statuses.UnknownEvent result ends (λ prints. (p, has, unknown, prints))
 
-    pub answered_ends : (p : ProblemLists) (from to : ℕ) (result : Status) → HasBytes files problem (SpellsProblem p) → IsNamedAt p from first → IsNamedAt p to second
+    pub answered_ends : (p : ProblemLists) (from to : ℕ) (result : Status) → HasBytes files problem (SpellsProblem p) → HasEvent p from first → HasEvent p to second
         → EndsAnswered written written' wf wf' p from to result → Ended problem first second before after result
     answered_ends p from to result has named named' (inl ended) =
         stopping.so says written written' wf wf' (λ rose. rose) tt statuses.Done result ended.0 (let found = ended.1 in (p, from, to, found.0, has, named, named', found.1, found.2))

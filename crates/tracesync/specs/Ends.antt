@@ -1,48 +1,28 @@
 -- What `ends` prints and answers.
 use Rattle.std.specs.Prelude.{◌≡◌, ◌⊎◌, ℕ, List, [], ◌∷◌, Option, codes}
-use Rattle.atto.specs.NsText.{ns_text}
 use Rattle.ports.specs.Content.{Rose}
 use Rattle.ports.specs.Files.{HasBytes, IsAbsent}
 use Rattle.line_format.specs.Words.{line_of}
-use Rattle.problem_model.specs.declared.items.Event.{Event}
 use Rattle.problem_model.specs.declared.items.Node.TheVariants as nodes
 use Rattle.problem_model.specs.Problem.{ProblemLists}
-use Rattle.problem_model.specs.Bounds.{EventAt}
-use Rattle.intervals.specs.declared.ends.End.{End}
-use Rattle.intervals.specs.declared.ends.End.TheVariants.{At, Unbounded}
+use Rattle.problem.specs.Line.{HasEvent}
 use Rattle.intervals.specs.declared.ends.Ends.{Ends}
 use Rattle.intervals.specs.declared.order.Order.{Order}
-use Rattle.intervals.specs.declared.order.Order.TheVariants.{Before, After, Same, Undecided}
 use Rattle.intervals.specs.Executions.{difference, AreEndsOf, IsOrderOf}
+use Rattle.queries.specs.Words.{end_word, order_word}
+use Rattle.queries.specs.Replies.{IsContradictionText, AppendsSome}
 use Rattle.tracesync.specs.Refusal.{refusal_line}
 use Rattle.tracesync.specs.Run.{Devices, Prints, SpellsProblem, RefusesProblem}
-use Rattle.tracesync.specs.Solve.{IsContradictionText, AppendsSome}
 use Rattle.tracesync.specs.declared.refusal.Refusal.{Refusal}
 use Rattle.tracesync.specs.declared.status.Status.{Status}
-use Rattle.tracesync.specs.declared.status.Status.TheVariants.{Done, No, Usage, BadProblem, BadExec, BadCert, ReadFault, WriteFault, Memory, UnknownEvent}
+use Rattle.tracesync.specs.declared.status.Status.TheVariants.{Done, No, Usage, BadDecl, BadProblem, BadExec, BadCert, ReadFault, WriteFault, Memory, ScriptLimit, UnknownEvent}
 
 -- ---- the events
--- the event at this place has this name
-abbrev pub IsNamedAt : ProblemLists → ℕ → List ℕ → Type 0
-IsNamedAt p place name = (e : Event) × EventAt p place e × (e.name ≡ name)
-
 -- no event has this name
 abbrev pub IsUnknown : ProblemLists → List ℕ → Type 0
-IsUnknown p name = (place : ℕ) → IsNamedAt p place name → ⊥
+IsUnknown p name = (place : ℕ) → HasEvent p place name → ⊥
 
 -- ---- the line
--- an end of an interval, or the word for none
-abbrev pub end_word : List ℕ → End → List ℕ
-end_word unlimited (At units) = ns_text units
-end_word unlimited Unbounded = unlimited
-
--- the word of an order
-abbrev pub order_word : Order → List ℕ
-order_word Before = codes "before"
-order_word After = codes "after"
-order_word Same = codes "same"
-order_word Undecided = codes "open"
-
 -- the line of an interval and an order
 abbrev pub interval_line : Ends → Order → List ℕ
 interval_line e order = line_of (end_word (codes "-inf") e.least ∷ end_word (codes "+inf") e.greatest ∷ order_word order ∷ [])
@@ -67,10 +47,11 @@ EndsAnswered old new faults faults' p from to result =
 -- what `ends` prints, and when it ends with which status
 abbrev pub Ended : List ℕ → List ℕ → List ℕ → Devices → Devices → Status → Type 0
 Ended problem first second old new Done = (p : ProblemLists) × (from : ℕ) × (to : ℕ) × (text : List ℕ)
-    × HasBytes old.files problem (SpellsProblem p) × IsNamedAt p from first × IsNamedAt p to second
+    × HasBytes old.files problem (SpellsProblem p) × HasEvent p from first × HasEvent p to second
     × IsEndsText p from to text × Prints old new text
 Ended problem first second old new No = ⊥
 Ended problem first second old new Usage = ⊥
+Ended problem first second old new BadDecl = ⊥
 Ended problem first second old new BadProblem = (refusal : Refusal)
     × HasBytes old.files problem (λ text. RefusesProblem text refusal)
     × Prints old new (refusal_line (codes "problem") refusal)
@@ -80,6 +61,7 @@ Ended problem first second old new ReadFault = (Rose old.read_faults new.read_fa
     × Prints old new (codes "read fault\n")
 Ended problem first second old new WriteFault = Rose old.write_faults new.write_faults
 Ended problem first second old new Memory = Unit {0}
+Ended problem first second old new ScriptLimit = ⊥
 Ended problem first second old new UnknownEvent = (p : ProblemLists)
     × HasBytes old.files problem (SpellsProblem p) × (IsUnknown p first ⊎ IsUnknown p second)
     × Prints old new (codes "unknown event\n")

@@ -5,3 +5,4 @@ pub mod Unread
 pub mod Solve
 pub mod Ends
 pub mod Verify
+pub mod Sessions

@@ -16,22 +16,24 @@ use Rattle.problem.specs.Line.{problem_format}
 use Rattle.cert.specs.ExecutionFormat.{execution_format}
 use Rattle.tracesync.specs.Refusal.{answer_of, refusal_line}
 use Rattle.tracesync.specs.declared.form.Form.{Form}
-use Rattle.tracesync.specs.declared.form.Form.TheVariants.{Obey, Solve, Ends, Verify, Unknown}
+use Rattle.tracesync.specs.declared.form.Form.TheVariants.{Obey, Solve, Ends, Verify, Session, Unknown}
 use Rattle.tracesync.specs.declared.refusal.Refusal.{Refusal}
 use Rattle.tracesync.specs.declared.status.Status.{Status}
-use Rattle.tracesync.specs.declared.status.Status.TheVariants.{Done, No, Usage, BadProblem, BadExec, BadCert, ReadFault, WriteFault, Memory, UnknownEvent}
+use Rattle.tracesync.specs.declared.status.Status.TheVariants.{Done, No, Usage, BadDecl, BadProblem, BadExec, BadCert, ReadFault, WriteFault, Memory, ScriptLimit, UnknownEvent}
 
 -- the exit status
 abbrev pub code_of : Status → ℕ
 code_of Done = 0
 code_of No = 1
 code_of Usage = 2
+code_of BadDecl = 3
 code_of BadProblem = 4
 code_of BadExec = 5
 code_of BadCert = 6
 code_of ReadFault = 7
 code_of WriteFault = 8
 code_of Memory = 9
+code_of ScriptLimit = 10
 code_of UnknownEvent = 11
 
 -- ---- the words
@@ -47,12 +49,20 @@ ends_words problem first second = codes "ends" ∷ problem ∷ first ∷ second 
 abbrev pub verify_words : List ℕ → List ℕ → List (List ℕ)
 verify_words problem cert = codes "verify" ∷ problem ∷ cert ∷ []
 
+abbrev pub session_words : List ℕ → List (List ℕ)
+session_words decl = codes "session" ∷ decl ∷ []
+
+-- the words are of no session
+abbrev pub IsNoSession : List (List ℕ) → Type 0
+IsNoSession ws = (decl : List ℕ) → ws ≡ session_words decl → ⊥
+
 -- the words are of none of the forms
 pub record IsNoCommand (ws : List (List ℕ)) : Type 0 where
   pub obey : (problem exec : List ℕ) → ws ≡ obey_words problem exec → ⊥
   pub solve : (problem : List ℕ) → ws ≡ solve_words problem → ⊥
   pub ends : (problem first second : List ℕ) → ws ≡ ends_words problem first second → ⊥
   pub verify : (problem cert : List ℕ) → ws ≡ verify_words problem cert → ⊥
+  pub session : IsNoSession ws
 
 -- the words are of this form
 abbrev pub IsForm : List (List ℕ) → Form → Type 0
@@ -60,6 +70,7 @@ IsForm ws Obey = (problem : List ℕ) × (exec : List ℕ) × (ws ≡ obey_words
 IsForm ws Solve = (problem : List ℕ) × (ws ≡ solve_words problem)
 IsForm ws Ends = (problem : List ℕ) × (first : List ℕ) × (second : List ℕ) × (ws ≡ ends_words problem first second)
 IsForm ws Verify = (problem : List ℕ) × (cert : List ℕ) × (ws ≡ verify_words problem cert)
+IsForm ws Session = (decl : List ℕ) × (ws ≡ session_words decl)
 IsForm ws Unknown = IsNoCommand ws
 
 -- what is printed where the words are of none of the forms
@@ -122,6 +133,7 @@ Obeyed problem exec old new No = (p : ProblemLists) × (x : Times) × (b : Bound
     × BothHave old.files problem exec (λ text more. SpellsProblem p text × SpellsExecution p x more × IsFirstBroken p x b weight difference)
     × Prints old new (broken_line p b weight difference)
 Obeyed problem exec old new Usage = ⊥
+Obeyed problem exec old new BadDecl = ⊥
 Obeyed problem exec old new BadProblem = (refusal : Refusal)
     × HasBytes old.files problem (λ text. RefusesProblem text refusal)
     × Prints old new (refusal_line (codes "problem") refusal)
@@ -132,6 +144,7 @@ Obeyed problem exec old new BadCert = ⊥
 Obeyed problem exec old new ReadFault = MissesFile old new problem exec × Prints old new (codes "read fault\n")
 Obeyed problem exec old new WriteFault = Rose old.write_faults new.write_faults
 Obeyed problem exec old new Memory = Unit {0}
+Obeyed problem exec old new ScriptLimit = ⊥
 Obeyed problem exec old new UnknownEvent = ⊥
 
 -- ---- no command

@@ -30,7 +30,7 @@ use Rattle.tracesync.specs.Refusal.{answer_of, refusal_line}
 use Rattle.tracesync.specs.Run.{Devices, Prints, SpellsProblem, RefusesProblem, BothHave, MissesFile}
 use Rattle.tracesync.specs.declared.refusal.Refusal.{Refusal}
 use Rattle.tracesync.specs.declared.status.Status.{Status}
-use Rattle.tracesync.specs.declared.status.Status.TheVariants.{Done, No, Usage, BadProblem, BadExec, BadCert, ReadFault, WriteFault, Memory, UnknownEvent}
+use Rattle.tracesync.specs.declared.status.Status.TheVariants.{Done, No, Usage, BadDecl, BadProblem, BadExec, BadCert, ReadFault, WriteFault, Memory, ScriptLimit, UnknownEvent}
 
 -- ---- the line
 -- the word of a part
@@ -91,6 +91,7 @@ Verified problem cert old new No = (p : ProblemLists) × (c : Cert) × (part : P
     × BothHave old.files problem cert (λ text more. SpellsProblem p text × SpellsCert p c more × (Shows p c → ⊥) × IsFirstReason p c part reason)
     × Prints old new (no_line p part reason)
 Verified problem cert old new Usage = ⊥
+Verified problem cert old new BadDecl = ⊥
 Verified problem cert old new BadProblem = (refusal : Refusal)
     × HasBytes old.files problem (λ text. RefusesProblem text refusal)
     × Prints old new (refusal_line (codes "problem") refusal)
@@ -101,4 +102,5 @@ Verified problem cert old new BadCert = (p : ProblemLists) × (refusal : Refusal
 Verified problem cert old new ReadFault = MissesFile old new problem cert × Prints old new (codes "read fault\n")
 Verified problem cert old new WriteFault = Rose old.write_faults new.write_faults
 Verified problem cert old new Memory = Unit {0}
+Verified problem cert old new ScriptLimit = ⊥
 Verified problem cert old new UnknownEvent = ⊥

@@ -2,20 +2,21 @@
 ghost use Rattle.std.specs.Prelude.{◌≡◌, ◌<◌, ◌⊎◌, ℕ, length, IfSome, IfNone};
 ghost use Rattle.problem_model.specs.declared.items.Node.TheVariants as nodes;
 ghost use Rattle.problem_model.specs.Problem.{ProblemLists};
+ghost use Rattle.problem.specs.Line.{HasEvent};
 ghost use Rattle.intervals.specs.Ends.{FitsPair};
 ghost use Rattle.intervals.specs.Executions.{IsPairOf};
 ghost use Rattle.solver.specs.Solution.{IsSolved, HasContradiction, IsSolution};
-ghost use Rattle.tracesync.specs.Ends.{IsNamedAt, IsUnknown, EndsAnswered, Ended};
+ghost use Rattle.tracesync.specs.Ends.{IsUnknown, EndsAnswered, Ended};
 
 use crate::ending::{finish, stop};
 use crate::print::interval_line;
-use crate::solve::write_contradiction;
 use crate::status::Status;
 use crate::texts::problem_in;
 use earliest::Earliest;
 use intervals::{ends_from, order_of};
 use ports::{Failed, Files, Sink};
-use problem::Problem;
+use problem::{Name, Problem};
+use queries::write_contradiction;
 use reaches::pair_of;
 use row_pool::Pair;
 use solver::Solution;
@@ -24,15 +25,15 @@ use sync_graph::{Arc, Graph};
 
 // The place of the event of a name.
 fn event_of(p: &Problem, name: &[u8]) -> Option<u32>
-    ensures some { IfSome result (λ place. IsNamedAt p.now place name.now) }
+    ensures some { IfSome result (λ place. HasEvent p.now place name.now) }
     ensures none { IfNone result (IsUnknown p.now name.now) }
 {
-    for (place, event) in p.events().iter().enumerate() {
-        if event.name.bytes() == name {
-            return Some(place as u32);
-        }
+    // It tells that each event has an event's name.
+    let _ = p.events();
+    match Name::new(name) {
+        Some(name) => p.event_place(&name),
+        None => None,
     }
-    None
 }
 
 // Prints the interval and the order of two events, by their greatest differences in both directions.
@@ -51,7 +52,7 @@ fn answer<O: Sink>(alloc: Global, out: &mut O, pair: Pair) -> Status
 
 // The places of the events of two names.
 fn events_of(p: &Problem, first: &str, second: &str) -> Option<(u32, u32)>
-    ensures some { IfSome result (λ places. IsNamedAt p.now places.0 first.now × IsNamedAt p.now places.1 second.now) }
+    ensures some { IfSome result (λ places. HasEvent p.now places.0 first.now × HasEvent p.now places.1 second.now) }
     ensures none { IfNone result (IsUnknown p.now first.now ⊎ IsUnknown p.now second.now) }
 {
     let from = event_of(p, first.as_bytes())?;

@@ -14,6 +14,8 @@ pub enum Form {
     Ends,
     /// `verify PROBLEM CERT`.
     Verify,
+    /// `session DECL`.
+    Session,
     /// None of the forms.
     Unknown,
 }
@@ -34,6 +36,9 @@ pub fn form_of(words: &Words) -> Form
     }
     if count == 3 && words.word(0) == "verify" {
         return Form::Verify;
+    }
+    if count == 2 && words.word(0) == "session" {
+        return Form::Session;
     }
     Form::Unknown
 }

@@ -1,7 +1,8 @@
-//! Finds the earliest execution that declared bounds allow, or a contradiction of them, and judges executions and
-//! certificates.
+//! Finds the earliest execution that declared bounds allow, or a contradiction of them, judges executions and
+//! certificates, and answers questions about event logs.
 #![tactic(auto)]
 
+mod declaration;
 mod ending;
 mod ends;
 mod form;
@@ -9,6 +10,9 @@ mod obey;
 mod print;
 mod refusal;
 mod run;
+#[cfg(test)]
+mod session_tests;
+mod sessions;
 mod solve;
 mod status;
 #[cfg(test)]

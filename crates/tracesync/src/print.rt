@@ -7,12 +7,15 @@ ghost use Rattle.line_format.specs.Words.{words, line_of};
 ghost use Rattle.problem_model.specs.ProblemText.{clock_name, event_name};
 ghost use Rattle.problem_model.specs.BoundText.{bound_words, broken_line, span_words, delay_words};
 ghost use Rattle.tracesync.specs.Refusal.{refusal_line, number_of, place_of};
-ghost use Rattle.tracesync.specs.Ends.{end_word, order_word, interval_line};
+ghost use Rattle.queries.specs.Words.{end_word, order_word};
+ghost use Rattle.tracesync.specs.Ends.{interval_line};
+ghost use Rattle.tracesync.specs.Sessions.{section_word, declaration_line};
 ghost use Rattle.tracesync.specs.Verify.{part_word, broken_words, reason_words, no_line};
 
 use crate::refusal::Refusal;
 use atto::{Nano, NsText, write_decimal, write_ns};
 use cert_check::{Part, Reason};
+use decl::Section;
 use intervals::{End, Ends, Order};
 use problem::{Bound, Problem};
 use std::alloc::{AllocError, Global};
@@ -284,6 +287,35 @@ pub fn no_line(
     let mut line = Vec::from_slice(alloc, b"no")?;
     push_word(&mut line, part_word(part))?;
     push_reason(&mut line, p, reason)?;
+    line.push(b'\n')?;
+    Ok(line)
+}
+
+// The word of a section.
+fn section_word(section: Section) -> &'static [u8]
+    ensures { result.now ≡ section_word section }
+{
+    match section {
+        Section::Top => b"top",
+        Section::Hosts => b"hosts",
+        Section::Labels => b"labels",
+        Section::Links => b"links",
+    }
+}
+
+/// The line that says what is wrong with a declaration: the number of its first fault, the section and the index there.
+pub fn declaration_line(
+    alloc: Global,
+    number: u32,
+    section: Section,
+    index: u32,
+) -> Result<Vec<u8>, AllocError>
+    ensures { IfOk result (λ line. line.items ≡ declaration_line number section index) }
+{
+    let mut line = Vec::from_slice(alloc, b"declaration")?;
+    push_decimal(&mut line, u64::from(number))?;
+    push_word(&mut line, section_word(section))?;
+    push_decimal(&mut line, u64::from(index))?;
     line.push(b'\n')?;
     Ok(line)
 }

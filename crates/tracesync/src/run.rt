@@ -1,14 +1,16 @@
 // The program's one call.
 ghost use Rattle.std.specs.Prelude.{◌≡◌, ℕ, List};
-ghost use Rattle.tracesync.specs.Run.{Obeyed, ShowsUsage, IsNoCommand, obey_words, solve_words, ends_words, verify_words};
+ghost use Rattle.tracesync.specs.Run.{Obeyed, ShowsUsage, IsNoCommand, IsNoSession, obey_words, solve_words, ends_words, verify_words, session_words};
 ghost use Rattle.tracesync.specs.Solve.{Solved};
 ghost use Rattle.tracesync.specs.Ends.{Ended};
 ghost use Rattle.tracesync.specs.Verify.{Verified};
+ghost use Rattle.tracesync.specs.Sessions.{Conducted};
 
 use crate::ending::finish;
 use crate::ends::ends;
 use crate::form::{Form, form_of};
 use crate::obey::obey;
+use crate::sessions::session;
 use crate::solve::solve;
 use crate::status::Status;
 use crate::verify::verify;
@@ -24,10 +26,11 @@ const USAGE: &[u8] =
 /// `solve PROBLEM` prints the certificate of the earliest execution, or of a contradiction where there is none; `ends
 /// PROBLEM P Q` prints the least and the greatest difference of the real times of two events over all executions, and
 /// their order, or a contradiction; `verify PROBLEM CERT` says whether a certificate of the problem shows what it should, or
-/// the first reason why not. `Usage` comes where the words are of no form, `BadProblem`, `BadExec` and `BadCert` where a text
+/// the first reason why not; `session DECL` answers the lines of the input, one after another, in a session over the
+/// declaration. `Usage` comes where the words are of no form, `BadDecl`, `BadProblem`, `BadExec` and `BadCert` where a text
 /// is refused, `UnknownEvent` where the problem has no event of a name, `ReadFault` where a named file is not there or a read
-/// failed, `WriteFault` where a write failed, `Memory` where memory ran out, and else `Done` or `No` with the answer. The
-/// input is not read.
+/// failed, `ScriptLimit` where the input of a session is too long, `WriteFault` where a write failed, `Memory` where memory
+/// ran out, and else `Done` or `No` with the answer. No other command reads the input.
 pub fn run<F: Files, I: Source, O: Sink>(
     alloc: Global,
     words: &Words,
@@ -51,12 +54,16 @@ pub fn run<F: Files, I: Source, O: Sink>(
         (record { files = F.content files.old; read_faults = F.faults files.old; absences = F.absences files.old; written = O.written out.old; write_faults = O.faults out.old })
         (record { files = F.content files.new; read_faults = F.faults files.new; absences = F.absences files.new; written = O.written out.new; write_faults = O.faults out.new })
         result }
+    ensures session { (decl : List ℕ) → words.now ≡ session_words decl → Conducted decl
+        (record { files = F.content files.old; faults = F.faults files.old; absences = F.absences files.old; left = I.left input.old; read_faults = I.faults input.old; written = O.written out.old; write_faults = O.faults out.old })
+        (record { files = F.content files.new; faults = F.faults files.new; absences = F.absences files.new; left = I.left input.new; read_faults = I.faults input.new; written = O.written out.new; write_faults = O.faults out.new })
+        result }
     ensures usage { IsNoCommand words.now → ShowsUsage
         (record { files = F.content files.old; read_faults = F.faults files.old; absences = F.absences files.old; written = O.written out.old; write_faults = O.faults out.old })
         (record { files = F.content files.new; read_faults = F.faults files.new; absences = F.absences files.new; written = O.written out.new; write_faults = O.faults out.new })
         result }
     ensures files { F.content files.new ≡ F.content files.old }
-    ensures input { (I.left input.new ≡ I.left input.old) × (I.faults input.new ≡ I.faults input.old) }
+    ensures input { IsNoSession words.now → (I.left input.new ≡ I.left input.old) × (I.faults input.new ≡ I.faults input.old) }
 {
     match form_of(words) {
         Form::Obey => obey(alloc, files, words.word(1), words.word(2), out),
@@ -70,6 +77,7 @@ pub fn run<F: Files, I: Source, O: Sink>(
             out,
         ),
         Form::Verify => verify(alloc, files, words.word(1), words.word(2), out),
+        Form::Session => session(alloc, files, words.word(1), input, out),
         Form::Unknown => finish(out, USAGE, Status::Usage),
     }
 }

@@ -1,19 +1,21 @@
 // Finds the earliest execution of a problem, or a contradiction.
 ghost use Rattle.std.specs.Prelude.{◌≡◌, OnOk, OnErr};
 ghost use Rattle.ports.specs.Content.{Rose};
-ghost use Rattle.solver.specs.Solution.{IsSolved, HasContradiction, IsSolution};
-ghost use Rattle.tracesync.specs.Solve.{IsEarliestText, IsContradictionText, IsSolutionText, AppendsSome, EndsSolved, Solved};
+ghost use Rattle.solver.specs.Solution.{IsSolved, IsSolution};
+ghost use Rattle.queries.specs.Replies.{AppendsSome};
+ghost use Rattle.tracesync.specs.Solve.{IsEarliestText, IsSolutionText, EndsSolved, Solved};
 
 use crate::ending::stop;
 use crate::status::Status;
 use crate::texts::problem_in;
-use attain::{write_cycle, write_run};
+use attain::write_run;
 use earliest::Earliest;
 use ports::{Failed, Files, Sink};
 use problem::Problem;
+use queries::write_contradiction;
 use solver::Solution;
 use std::alloc::Global;
-use sync_graph::{Arc, Graph};
+use sync_graph::Graph;
 
 // Writes the certificate of the earliest execution.
 fn write_earliest<O: Sink>(p: &Problem, g: &Graph, e: &Earliest, out: &mut O) -> Result<(), Failed>
@@ -23,17 +25,6 @@ fn write_earliest<O: Sink>(p: &Problem, g: &Graph, e: &Earliest, out: &mut O) ->
 {
     let _ = p.readings();
     write_run(p, e, out)
-}
-
-/// Writes the certificate of a contradiction.
-pub fn write_contradiction<O: Sink>(p: &Problem, steps: &[Arc], out: &mut O) -> Result<(), Failed>
-    requires { HasContradiction p.now steps.now }
-    ensures ok { OnOk result (AppendsSome (IsContradictionText p.now) (O.written out.old) (O.written out.new)) }
-    ensures cause { OnErr result (Rose (O.faults out.old) (O.faults out.new)) }
-{
-    let _ = p.readings();
-    let _ = p.events();
-    write_cycle(p, steps, out)
 }
 
 // Writes the certificate of a solution.

@@ -11,18 +11,22 @@ pub enum Status {
     No,
     /// The words are no command.
     Usage,
+    /// The declaration is refused.
+    BadDecl,
     /// The problem text is refused.
     BadProblem,
     /// The execution text is refused.
     BadExec,
     /// The certificate text is refused.
     BadCert,
-    /// A named file is not there, or a read failed.
+    /// A named file is not there, or a read of it or of the script failed.
     ReadFault,
     /// A write failed.
     WriteFault,
     /// Memory ran out, also for the words.
     Memory,
+    /// The script is too long.
+    ScriptLimit,
     /// The problem has no event of a name in the words.
     UnknownEvent,
 }
@@ -36,12 +40,14 @@ impl Status {
             Status::Done => 0,
             Status::No => 1,
             Status::Usage => 2,
+            Status::BadDecl => 3,
             Status::BadProblem => 4,
             Status::BadExec => 5,
             Status::BadCert => 6,
             Status::ReadFault => 7,
             Status::WriteFault => 8,
             Status::Memory => 9,
+            Status::ScriptLimit => 10,
             Status::UnknownEvent => 11,
         }
     }

@@ -1,5 +1,5 @@
 use Rattle.std.proofs.Common.{◌≡◌, length, rules, sym, ◌∙◌, codes}
-use Rattle.tracesync.proofs.Forms.{is_obey, is_solve, is_ends, is_verify}
+use Rattle.tracesync.proofs.Forms.{is_obey, is_solve, is_ends, is_verify, is_session}
 use Rattle.tracesync.proofs.form.form_of.Goals as goal
 
 pub returns-then-eq : goal.returns-then-eq
@@ -25,3 +25,9 @@ returns-then-eq-4 c =
     let same : c.word-then-count-eq3-2.result.now ≡ codes "verify" = search rules in
     let long : length c.args.words.now ≡ 3 = sym c.len-count.ensures ∙ c.if-count-eq3-2.true in
     is_verify c.args.words.now c.word-then-count-eq3-2.result.now long c.word-then-count-eq3-2.ensures same
+
+pub returns-then-eq-5 : goal.returns-then-eq-5
+returns-then-eq-5 c =
+    let same : c.word-then-count-eq2-2.result.now ≡ codes "session" = search rules in
+    let long : length c.args.words.now ≡ 2 = sym c.len-count.ensures ∙ c.if-count-eq2-2.true in
+    is_session c.args.words.now c.word-then-count-eq2-2.result.now long c.word-then-count-eq2-2.ensures same

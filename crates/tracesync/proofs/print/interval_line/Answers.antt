@@ -1,5 +1,5 @@
 use Rattle.std.proofs.Common.{◌∷◌, [], ◌++◌, ◌∙◌, ap, ℕ, List, codes}
-use Rattle.tracesync.specs.Ends.{end_word}
+use Rattle.queries.specs.Words.{end_word}
 use Rattle.tracesync.proofs.print.interval_line.Goals as goal
 
 pub returns : goal.returns

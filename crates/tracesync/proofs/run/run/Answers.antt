@@ -1,5 +1,5 @@
-use Rattle.std.proofs.Common.{arith}
-use Rattle.tracesync.proofs.Forms.{obey_by, solve_by, ends_by, verify_by, other_length, obey_or_verify, obey_three, solve_two, ends_four, verify_three}
+use Rattle.std.proofs.Common.{arith, refl}
+use Rattle.tracesync.proofs.Forms.{obey_by, solve_by, ends_by, verify_by, session_by, other_length, obey_or_verify, solve_or_session, obey_three, solve_two, ends_four, verify_three, session_two}
 use Rattle.tracesync.proofs.run.run.Goals as goal
 
 pub returns-in-Obey-clause-obey : goal.returns-in-Obey-clause-obey
@@ -85,3 +85,57 @@ returns-in-Verify-clause-usage g c = λ none. absurd (none.verify _ _ c.in-Verif
 
 pub returns-in-Unknown-clause-verify : goal.returns-in-Unknown-clause-verify
 returns-in-Unknown-clause-verify g c = λ problem cert is. absurd (c.in-Unknown.ensures.verify problem cert is)
+
+pub returns-in-Session-clause-obey : goal.returns-in-Session-clause-obey
+returns-in-Session-clause-obey g c = λ problem exec is. absurd (other_length c.args.words.now 2 3 (session_two c.args.words.now _ c.in-Session.ensures.1) (obey_three c.args.words.now problem exec is) (λ e. omega (arith, e)))
+
+pub returns-in-Session-clause-solve : goal.returns-in-Session-clause-solve
+returns-in-Session-clause-solve g c = λ problem is. absurd (solve_or_session c.args.words.now problem _ is c.in-Session.ensures.1)
+
+pub returns-in-Session-clause-ends : goal.returns-in-Session-clause-ends
+returns-in-Session-clause-ends g c = λ problem first second is. absurd (other_length c.args.words.now 2 4 (session_two c.args.words.now _ c.in-Session.ensures.1) (ends_four c.args.words.now problem first second is) (λ e. omega (arith, e)))
+
+pub returns-in-Session-clause-verify : goal.returns-in-Session-clause-verify
+returns-in-Session-clause-verify g c = λ problem cert is. absurd (other_length c.args.words.now 2 3 (session_two c.args.words.now _ c.in-Session.ensures.1) (verify_three c.args.words.now problem cert is) (λ e. omega (arith, e)))
+
+pub returns-in-Obey-clause-session : goal.returns-in-Obey-clause-session
+returns-in-Obey-clause-session g c = λ decl is. absurd (other_length c.args.words.now 3 2 (obey_three c.args.words.now _ _ c.in-Obey.ensures.2) (session_two c.args.words.now decl is) (λ e. omega (arith, e)))
+
+pub returns-in-Solve-clause-session : goal.returns-in-Solve-clause-session
+returns-in-Solve-clause-session g c = λ decl is. absurd (solve_or_session c.args.words.now _ decl c.in-Solve.ensures.1 is)
+
+pub returns-in-Ends-clause-session : goal.returns-in-Ends-clause-session
+returns-in-Ends-clause-session g c = λ decl is. absurd (other_length c.args.words.now 4 2 (ends_four c.args.words.now _ _ _ c.in-Ends.ensures.3) (session_two c.args.words.now decl is) (λ e. omega (arith, e)))
+
+pub returns-in-Verify-clause-session : goal.returns-in-Verify-clause-session
+returns-in-Verify-clause-session g c = λ decl is. absurd (other_length c.args.words.now 3 2 (verify_three c.args.words.now _ _ c.in-Verify.ensures.2) (session_two c.args.words.now decl is) (λ e. omega (arith, e)))
+
+pub returns-in-Unknown-clause-session : goal.returns-in-Unknown-clause-session
+returns-in-Unknown-clause-session g c = λ decl is. absurd (c.in-Unknown.ensures.session decl is)
+
+pub returns-in-Session-clause-session : goal.returns-in-Session-clause-session
+returns-in-Session-clause-session g c = λ decl is. session_by c.args.words.now _ decl
+    (record { files = g.F.Files.content c.args.files.now; faults = g.F.Files.faults c.args.files.now; absences = g.F.Files.absences c.args.files.now; left = g.I.Source.left c.args.input.now; read_faults = g.I.Source.faults c.args.input.now; written = g.O.Sink.written c.args.out.now; write_faults = g.O.Sink.faults c.args.out.now })
+    (record { files = g.F.Files.content c.session.new.files; faults = g.F.Files.faults c.session.new.files; absences = g.F.Files.absences c.session.new.files; left = g.I.Source.left c.session.new.input; read_faults = g.I.Source.faults c.session.new.input; written = g.O.Sink.written c.session.new.out; write_faults = g.O.Sink.faults c.session.new.out })
+    _ c.word-in-Session.ensures is c.session.ensures.conducted
+
+pub returns-in-Session-clause-usage : goal.returns-in-Session-clause-usage
+returns-in-Session-clause-usage g c = λ none. absurd (none.session _ c.in-Session.ensures.1)
+
+pub returns-in-Session-clause-input : goal.returns-in-Session-clause-input
+returns-in-Session-clause-input g c = λ none. absurd (none _ c.in-Session.ensures.1)
+
+pub returns-in-Obey-clause-input : goal.returns-in-Obey-clause-input
+returns-in-Obey-clause-input g c = λ none. (refl, refl)
+
+pub returns-in-Solve-clause-input : goal.returns-in-Solve-clause-input
+returns-in-Solve-clause-input g c = λ none. (refl, refl)
+
+pub returns-in-Ends-clause-input : goal.returns-in-Ends-clause-input
+returns-in-Ends-clause-input g c = λ none. (refl, refl)
+
+pub returns-in-Verify-clause-input : goal.returns-in-Verify-clause-input
+returns-in-Verify-clause-input g c = λ none. (refl, refl)
+
+pub returns-in-Unknown-clause-input : goal.returns-in-Unknown-clause-input
+returns-in-Unknown-clause-input g c = λ none. (refl, refl)

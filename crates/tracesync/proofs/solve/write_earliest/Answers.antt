@@ -2,7 +2,8 @@ use Rattle.difference_bounds.specs.Executions.{at}
 use Rattle.cert.specs.Listed.{listed_run}
 use Rattle.cert.specs.CertificateText.{listing_of}
 use Rattle.tracesync.specs.Solve.{IsEarliestText}
-use Rattle.tracesync.proofs.Certifying.{nodes_valued, run_shows, shown}
+use Rattle.queries.proofs.Contradictions.{shown}
+use Rattle.tracesync.proofs.Certifying.{nodes_valued, run_shows}
 use Rattle.tracesync.proofs.solve.write_earliest.Goals as goal
 
 pub write_run-requires-clause-one_each : goal.write_run-requires-clause-one_each

@@ -1,5 +1,6 @@
 use Rattle.std.proofs.Common.{inl, inr}
-use Rattle.tracesync.specs.Solve.{IsEarliestText, IsContradictionText, IsSolutionText}
+use Rattle.queries.specs.Replies.{IsContradictionText}
+use Rattle.tracesync.specs.Solve.{IsEarliestText, IsSolutionText}
 use Rattle.tracesync.proofs.Certifying.{shown_as}
 use Rattle.tracesync.proofs.solve.write_solution.Goals as goal
 
