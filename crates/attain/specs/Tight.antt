@@ -40,11 +40,11 @@ pub record IsSoonest (p : ProblemLists) (first : Node) (earliest : Times) (K : �
 abbrev pub HasPath : ProblemLists → Node → Node → Type 0
 HasPath p m n = (steps : List WeighedBound) × Leads p m steps n
 
--- the clocks of all nodes to which there is a path from the first
+-- just those clocks are inside that have a node which a path from the first reaches
 abbrev pub IsUpperCut : ProblemLists → Node → List ℕ → Type 0
 IsUpperCut p first inside = (clock : ℕ) → Contains inside clock ↔ ((n : Node) × IsNodeOf p n × IsOnClock p n clock × HasPath p first n)
 
--- the clocks of all nodes from which there is no path to the first
+-- just those clocks are inside that have a node with no path back to the first
 abbrev pub IsLowerCut : ProblemLists → Node → List ℕ → Type 0
 IsLowerCut p first inside = (clock : ℕ) → Contains inside clock ↔ ((n : Node) × IsNodeOf p n × IsOnClock p n clock × (HasPath p n first → ⊥))
 

@@ -19,8 +19,8 @@ use row_pool::Cell;
 use sync_graph::Graph;
 
 /// Writes the certificate of both ends of the difference `x_q - x_p`, over all executions, of the events whose nodes are
-/// `p` and `q`. An end that is a limit has a path with its sum and an execution that attains it; where there is no limit
-/// stand the clocks inside a cut, and the earliest execution. `from` is the row of distances from `p` in the graph,
+/// `p` and `q`. A limit is shown by a path with its sum and by an execution that attains it, and the absence of one by
+/// the clocks inside a cut and the earliest execution. `from` is the row of distances from `p` in the graph,
 /// `to` that towards it. Numbers are printed as ns texts. It takes no memory. After `Failed`, which comes only where the
 /// sink's count of faults rose, some front of the certificate is written.
 pub fn write_ends<N: Listing, O: Sink>(

@@ -1,5 +1,5 @@
-//! Certificates, written as they are made: a contradiction bound by bound, an execution value by value. No call takes
-//! memory.
+//! Certificates, written as they are made: a contradiction bound by bound, an execution value by value, the ends of an
+//! interval path by path and cut by cut. No call takes memory.
 #![tactic(auto)]
 
 mod cut;

@@ -15,9 +15,9 @@ ghost use Rattle.cert_check.specs.declared.answer.Answer.{Answer};
 ghost use Rattle.cert_check.specs.Reasons.{IsSo, IsAnswer};
 ghost use Rattle.cert_check.specs.Ends.{IsUpperOfAll, IsLowerOfAll};
 
-/// A law, which does nothing when it runs. A certificate that shows what it should says so of every execution: a cycle
-/// leaves none, a run is one, and the ends of an interval are the greatest and the least difference of its events, or
-/// executions pass every number where there is no end.
+/// A law, which does nothing when it runs. What an accepted certificate says holds for all executions: with a cycle there
+/// are none, a run is one of them, and an end of an interval is the extreme difference of its two events, or, where the
+/// certificate says that there is no limit, some execution goes beyond any given number.
 pub fn soundness()
     ensures cycle { (p : ProblemLists) (steps : List Step) (x : Times) → Shows p (certs.Cycle steps) → IsExecution p x → ⊥ }
     ensures run { (p : ProblemLists) (values : List ℤ) (x : Times) → IsProblem p → Shows p (certs.Run values) → Lists p x values → IsExecution p x }

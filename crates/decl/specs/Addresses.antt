@@ -7,8 +7,7 @@ use Rattle.std.specs.Net.Reader.{read_ipv4, whole_value}
 use Rattle.toml.specs.Data.{as_str, Items, no_items, item}
 use Rattle.decl.specs.declared.items.Address.{Address}
 
--- the text is four decimals of 0 to 255 with points between, without zeros in front, and these bytes make the number,
--- the first the greatest
+-- the text is the dotted form of four octets, and the address is their number in network byte order
 pub record IsAddress (text : List ℕ) (address : ℕ) : Type 0 where
   pub octets : List ℕ
   pub dotted : IsDotted text octets

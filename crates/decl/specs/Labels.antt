@@ -28,7 +28,7 @@ host_at_key clocks key ms = place_of clocks (text_or_empty key ms)
 abbrev pub kind_at : Members → Option TraceKind
 kind_at ms = kind_of (text_or_empty (codes "kind") ms)
 
--- the name is no clock name, the host is unknown, or the kind is neither word
+-- something in the label names nothing: its own name, its host or its kind
 abbrev pub is_misnamed : List Clock → List ℕ → Members → Bool
 is_misnamed clocks name ms = not (is_clock_name name) || is_none (host_at_key clocks (codes "host") ms) || is_none (kind_at ms)
 

@@ -16,7 +16,7 @@ pub struct Decl {
     pub labels: Vec<Label>,
     /// What is known of delays, as it was written.
     pub links: Vec<Link>,
-    /// How many bytes of a payload tell one packet from another: at most 64.
+    /// How much of a payload belongs to the key of a packet, in bytes: at most 64.
     pub payload_bytes: u8,
     /// The host that shows true time, if one is said to: its clock is never short or long.
     pub source: Option<u32>,
@@ -25,7 +25,7 @@ pub struct Decl {
 /// An address of a host.
 #[derive(Clone, Copy, Debug, PartialEq, Eq)]
 pub struct Address {
-    /// An IPv4 address, its first byte the greatest.
+    /// An IPv4 address, as the number of its octets in network byte order.
     pub address: u32,
     /// The place of its host, from 0 on.
     pub host: u32,

@@ -2,12 +2,12 @@
 use Rattle.std.specs.Prelude.{◌≡◌, ℕ, ℤ, neg_ℤ, ◌≤ℤ◌, ◌<ℤ◌, List}
 use Rattle.difference_bounds.specs.Executions.{Arc, at, difference, IsExecution}
 
--- some execution has x_q - x_p = h, and none has more
+-- h is the maximum of x_q - x_p, and an execution has it
 pub record IsGreatest (nodes : ℕ) (arcs : List Arc) (p q : ℕ) (h : ℤ) : Type 0 where
   pub attained : (xs : List ℤ) × IsExecution nodes arcs xs × (difference (at xs) p q ≡ h)
   pub most : (xs : List ℤ) → IsExecution nodes arcs xs → difference (at xs) p q ≤ℤ h
 
--- for every number some execution has more as x_q - x_p
+-- x_q - x_p has no upper limit over the executions
 abbrev pub IsUnbounded : ℕ → List Arc → ℕ → ℕ → Type 0
 IsUnbounded nodes arcs p q = (h : ℤ) → (xs : List ℤ) × IsExecution nodes arcs xs × (h <ℤ difference (at xs) p q)
 

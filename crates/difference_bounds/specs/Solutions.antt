@@ -18,7 +18,7 @@ IsNodeOf p (nodes.Reading clock stamp) = IsReading p clock stamp
 abbrev pub IsFromZero : ProblemLists → Times → Type 0
 IsFromZero p x = (n : Node) → IsNodeOf p n → pos 0 ≤ℤ x n
 
--- an execution with no real time below 0, each of which is the least that such an execution has at that node
+-- of the executions that begin at 0 or later, the one that is no later than any other at any node
 pub record IsEarliestExecution (p : ProblemLists) (x : Times) : Type 0 where
   pub execution : IsExecution p x
   pub from_zero : IsFromZero p x

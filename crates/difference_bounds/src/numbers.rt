@@ -1,16 +1,7 @@
 //! The sums and differences by which arcs are judged and nodes are ordered, in units or any other whole number.
 
-ghost use Rattle.std.specs.Prelude.{◌≡◌, ◌↔◌, IsTrue, ◌+ℤ◌, ◌-ℤ◌, ◌≤ℤ◌};
+ghost use Rattle.std.specs.Prelude.{◌≡◌, ◌+ℤ◌, ◌-ℤ◌};
 ghost use Rattle.difference_bounds.specs.Numbers.{IsUpTo};
-
-/// Whether values `from` and `to`, each at most 2^120 in absolute value, obey an arc: `to - from` is at most `weight`.
-pub fn is_obeyed(from: i128, to: i128, weight: i128) -> bool
-    requires from { IsUpTo 120 from }
-    requires to { IsUpTo 120 to }
-    ensures { IsTrue result ↔ (to -ℤ from) ≤ℤ weight }
-{
-    to - from <= weight
-}
 
 /// How far the value at an arc's tail must rise for the arc to be obeyed: `to - weight - from`, at most 0 where it is.
 /// All three are at most 2^120 in absolute value.

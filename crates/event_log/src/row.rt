@@ -15,8 +15,7 @@ pub enum Kind {
 
 /// A row of an event log.
 ///
-/// It has 104 bytes, the key among them, and memory for a text that is not empty. The shortest row of a log has ten
-/// bytes with its line feed, so rows take at most about eleven times as much memory as their log.
+/// The key stands in the row itself; a text that is not empty has memory of its own.
 #[derive(Debug, Drop)]
 pub struct Row {
     /// When it happened, in ns of the host's clock, below 2^62.

@@ -45,6 +45,10 @@ HasClock p k name = slice_get (map (λ c. c.name) p.clocks) k ≡ Some name
 abbrev pub HasEvent : ProblemLists → ℕ → List ℕ → Type 0
 HasEvent p k name = slice_get (map (λ e. e.name) p.events) k ≡ Some name
 
+-- no event has this name
+abbrev pub IsUnknown : ProblemLists → List ℕ → Type 0
+IsUnknown p name = (k : ℕ) → HasEvent p k name → ⊥
+
 -- the message at this place goes from the one event to the other
 abbrev pub HasMessage : ProblemLists → ℕ → ℕ → ℕ → Type 0
 HasMessage p k send receive = slice_get {X = ℕ × ℕ} (map (λ m. (m.send, m.receive)) p.messages) k ≡ Some (send, receive)

@@ -2,8 +2,9 @@
 use crate::Name;
 use atto::{Nano, Rate};
 
-/// A clock: over a span it shows at most `rate.short()` parts per billion too much and `rate.long()` too little, and an
-/// event comes at most `early` ns of real time before the reading of its stamp and at most `late` ns behind it.
+/// A clock, with the bounds on its drift and on the error of its stamps. Its rate may be off by `rate.short()` parts per
+/// billion in the one direction and by `rate.long()` in the other; the real time of an event may lie `early` ns before
+/// that of the reading on its stamp, or `late` ns after it.
 #[derive(Clone, Copy, Debug, PartialEq, Eq)]
 pub struct Clock {
     /// A clock name: at most 32 bytes, without `#`.

@@ -8,8 +8,8 @@ ghost use Rattle.row_pool.specs.Reach.{known_reach};
 pub struct Cell {
     /// In units of 1e-9 ns, where it is known.
     pub value: i128,
-    /// The number of the last arc of a path that has the distance, or of the first in a row towards a node; `u32::MAX`
-    /// for none.
+    /// The number of the arc between this node and its parent in the tree of shortest paths; `u32::MAX` at the root and
+    /// where there is no path.
     pub parent: u32,
     /// Whether there is a path.
     pub known: bool,

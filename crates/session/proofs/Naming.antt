@@ -6,8 +6,7 @@ use Rattle.std.proofs.lemmas.List.Elements.{All-head, All-tail}
 use Rattle.problem_model.specs.declared.items.Event.{Event}
 use Rattle.problem_model.specs.Name.{IsEventName}
 use Rattle.problem_model.specs.Problem.{ProblemLists, IsProblem}
-use Rattle.problem.specs.Line.{HasEvent}
-use Rattle.session.specs.Reply.{IsUnknown}
+use Rattle.problem.specs.Line.{HasEvent, IsUnknown}
 
 name_of_some : (events : List Event) (k : ℕ) (name : List ℕ) → All (λ (e : Event). IsEventName e.name) events → slice_get (map (λ (e : Event). e.name) events) k ≡ Some name → IsEventName name
 name_of_some [] k name all at = absurd cc

@@ -1,7 +1,7 @@
 -- Replies of a session that stands for traces.
 use Rattle.std.proofs.Common.{◌≡◌, ◌⊎◌, inl, inr, ℕ, ◌≤◌, List, [], ◌∷◌, length, map, Option, Some, None, Result, Ok, Err, OnOk, IfOk, true, codes, nat_le, refl, sym, ◌∙◌, ap, subst, arith}
 use Rattle.problem_model.specs.Problem.{ProblemLists}
-use Rattle.problem.specs.Line.{HasEvent}
+use Rattle.problem.specs.Line.{HasEvent, IsUnknown}
 use Rattle.ports.specs.Content.{Appends}
 use Rattle.ports.specs.Files.{Content}
 use Rattle.decl.specs.Declaration.{Declaration}
@@ -11,7 +11,7 @@ use Rattle.traces.specs.Logs.{seen_in}
 use Rattle.traces.specs.Messages.{problem_of, problem_of_seen}
 use Rattle.queries.specs.Replies.{Replies, AppendsSome}
 use Rattle.session.specs.Commands.{Command, Add, Interval, Order, Problem, Asks}
-use Rattle.session.specs.Reply.{State, Found, Unread, IsUnknown, OfTwo, refusal}
+use Rattle.session.specs.Reply.{State, Found, Unread, OfTwo, refusal}
 use Rattle.session.specs.Sessions.{CommandReply, LineReply, FoundAt, AreCounted}
 use Rattle.session.specs.Stands.{Held, StandsFor, Stepped, held_of, seen_held, problem_held}
 use Rattle.session.specs.Inside.{IsReplyOfTwo, Answered, Asked, CommandAnswered}

@@ -13,9 +13,9 @@ use Rattle.traces.specs.Messages.{messages_of, missing, problem_of_seen}
 use Rattle.queries.specs.Consistent.{IsConsistent}
 use Rattle.session.specs.Commands.{Command}
 use Rattle.problem_model.specs.Problem.{ProblemLists}
-use Rattle.problem.specs.Line.{HasEvent}
+use Rattle.problem.specs.Line.{HasEvent, IsUnknown}
 use Rattle.queries.specs.Replies.{Replies}
-use Rattle.session.specs.Reply.{State, Found, Unread, IsUnknown, Reply, refusal, row_fault, added_line}
+use Rattle.session.specs.Reply.{State, Found, Unread, Reply, refusal, row_fault, added_line}
 use Rattle.session.specs.Sessions.{CommandReply, AreCounted}
 use Rattle.session.specs.Stands.{Held, StandsFor}
 

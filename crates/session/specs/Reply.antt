@@ -5,7 +5,7 @@ use Rattle.atto.specs.Decimal.{decimal_of}
 use Rattle.line_format.specs.Words.{line_of}
 use Rattle.problem_model.specs.Problem.{ProblemLists}
 use Rattle.problem_model.specs.ProblemText.{problem_text}
-use Rattle.problem.specs.Line.{HasEvent}
+use Rattle.problem.specs.Line.{HasEvent, IsUnknown}
 use Rattle.event_log.specs.declared.errors.LogError.{LogError}
 use Rattle.event_log.specs.declared.errors.LogError.TheVariants as faults
 use Rattle.event_log.specs.declared.row.Row.{Row}
@@ -47,10 +47,6 @@ abbrev pub Refuses : State → List (List ℕ) → List ℕ → State → Type 0
 Refuses s numbers text s' = (text ≡ refusal numbers) × (s' ≡ s)
 
 -- ---- questions
--- no event has this name
-abbrev pub IsUnknown : ProblemLists → List ℕ → Type 0
-IsUnknown p name = (k : ℕ) → HasEvent p k name → ⊥
-
 -- two events are asked about by their names
 abbrev pub OfTwo : ProblemLists → List ℕ → List ℕ → (ℕ → ℕ → List ℕ → Type 0) → State → List ℕ → State → Type 0
 OfTwo p first second Says s text s' =

@@ -1,7 +1,6 @@
 // Events of a problem by their names.
 ghost use Rattle.std.specs.Prelude.{◌⊎◌, IfSome, IfNone};
-ghost use Rattle.problem.specs.Line.{HasEvent};
-ghost use Rattle.session.specs.Reply.{IsUnknown};
+ghost use Rattle.problem.specs.Line.{HasEvent, IsUnknown};
 
 use problem::Problem;
 use problem_model::Name;

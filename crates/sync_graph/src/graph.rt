@@ -210,8 +210,8 @@ impl Graph {
         Some(number as u32)
     }
 
-    /// The number of the arc in force at place `k`, from 0 on, of those that leave a node; None exactly where there are
-    /// at most `k`. The order is that of the node's list, which changes only where arcs are pushed.
+    /// The number of one of the arcs in force that leave a node, the `k`-th of its list from 0 on; None exactly behind
+    /// the list's end. The list of a node changes only where arcs are pushed.
     pub fn leaving(&self, node: u32, k: u32) -> Option<u32>
         requires { node < length self.now.nodes }
         ensures { result ≡ slice_get (list_at self.now.leaving node) k }
@@ -219,8 +219,8 @@ impl Graph {
         self.leaving.entry(node, k)
     }
 
-    /// The number of the arc in force at place `k`, from 0 on, of those that reach a node; None exactly where there are
-    /// at most `k`. The order is that of the node's list, which changes only where arcs are pushed.
+    /// The number of one of the arcs in force that reach a node, the `k`-th of its list from 0 on; None exactly behind
+    /// the list's end. The list of a node changes only where arcs are pushed.
     pub fn arriving(&self, node: u32, k: u32) -> Option<u32>
         requires { node < length self.now.nodes }
         ensures { result ≡ slice_get (list_at self.now.arriving node) k }

@@ -8,7 +8,7 @@ use Rattle.problem_model.specs.declared.items.Event.{Event}
 use Rattle.problem_model.specs.declared.items.Node.TheVariants as nodes
 use Rattle.problem_model.specs.Name.{IsEventName}
 use Rattle.problem_model.specs.Problem.{ProblemLists, IsProblem}
-use Rattle.problem.specs.Line.{HasEvent}
+use Rattle.problem.specs.Line.{HasEvent, IsUnknown}
 use Rattle.row_pool.specs.declared.cell.Pair.{Pair}
 use Rattle.intervals.specs.declared.order.Order.{Order}
 use Rattle.intervals.specs.Ends.{ends_of}
@@ -16,7 +16,7 @@ use Rattle.intervals.specs.Orders.{IsOrder}
 use Rattle.intervals.specs.Executions.{IsPairOf}
 use Rattle.intervals.proofs.NodeOrders.{orders}
 use Rattle.intervals.proofs.Times.{ends_are}
-use Rattle.tracesync.specs.Ends.{IsUnknown, IsIntervalLine, interval_line, EndsAnswered}
+use Rattle.tracesync.specs.Ends.{IsIntervalLine, interval_line, EndsAnswered}
 use Rattle.tracesync.specs.Endings.{Ends}
 use Rattle.tracesync.specs.declared.status.Status.{Status}
 use Rattle.tracesync.specs.declared.status.Status.TheVariants as statuses

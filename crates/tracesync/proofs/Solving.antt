@@ -4,8 +4,8 @@ use Rattle.ports.specs.Files.{Content, HasBytes}
 use Rattle.problem_model.specs.Problem.{ProblemLists}
 use Rattle.tracesync.specs.Run.{Devices, SpellsProblem, RefusesProblem}
 use Rattle.tracesync.specs.Solve.{Solved, EndsSolved}
-use Rattle.problem.specs.Line.{HasEvent}
-use Rattle.tracesync.specs.Ends.{IsUnknown, Ended, EndsAnswered}
+use Rattle.problem.specs.Line.{HasEvent, IsUnknown}
+use Rattle.tracesync.specs.Ends.{Ended, EndsAnswered}
 use Rattle.tracesync.specs.Unread.{IsUnread}
 use Rattle.tracesync.specs.Endings.{Ends, EndsUnread}
 use Rattle.tracesync.specs.declared.status.Status.{Status}

@@ -5,7 +5,7 @@ use Rattle.ports.specs.Files.{HasBytes, IsAbsent}
 use Rattle.line_format.specs.Words.{line_of}
 use Rattle.problem_model.specs.declared.items.Node.TheVariants as nodes
 use Rattle.problem_model.specs.Problem.{ProblemLists}
-use Rattle.problem.specs.Line.{HasEvent}
+use Rattle.problem.specs.Line.{HasEvent, IsUnknown}
 use Rattle.intervals.specs.declared.ends.Ends.{Ends}
 use Rattle.intervals.specs.declared.order.Order.{Order}
 use Rattle.intervals.specs.Executions.{difference, AreEndsOf, IsOrderOf}
@@ -16,11 +16,6 @@ use Rattle.tracesync.specs.Run.{Devices, Prints, SpellsProblem, RefusesProblem}
 use Rattle.tracesync.specs.declared.refusal.Refusal.{Refusal}
 use Rattle.tracesync.specs.declared.status.Status.{Status}
 use Rattle.tracesync.specs.declared.status.Status.TheVariants.{Done, No, Usage, BadDecl, BadProblem, BadExec, BadCert, ReadFault, WriteFault, Memory, ScriptLimit, UnknownEvent}
-
--- ---- the events
--- no event has this name
-abbrev pub IsUnknown : ProblemLists → List ℕ → Type 0
-IsUnknown p name = (place : ℕ) → HasEvent p place name → ⊥
 
 -- ---- the line
 -- the line of an interval and an order

@@ -2,11 +2,11 @@
 ghost use Rattle.std.specs.Prelude.{◌≡◌, ◌<◌, ◌⊎◌, ℕ, length, IfSome, IfNone};
 ghost use Rattle.problem_model.specs.declared.items.Node.TheVariants as nodes;
 ghost use Rattle.problem_model.specs.Problem.{ProblemLists};
-ghost use Rattle.problem.specs.Line.{HasEvent};
+ghost use Rattle.problem.specs.Line.{HasEvent, IsUnknown};
 ghost use Rattle.intervals.specs.Ends.{FitsPair};
 ghost use Rattle.intervals.specs.Executions.{IsPairOf};
 ghost use Rattle.solver.specs.Solution.{IsSolved, HasContradiction, IsSolution};
-ghost use Rattle.tracesync.specs.Ends.{IsUnknown, EndsAnswered, Ended};
+ghost use Rattle.tracesync.specs.Ends.{EndsAnswered, Ended};
 
 use crate::ending::{finish, stop};
 use crate::print::interval_line;

@@ -1,5 +1,5 @@
 use Rattle.std.proofs.Common.{◌⊎◌, ℕ, inl, inr, subst}
-use Rattle.tracesync.specs.Ends.{IsUnknown}
+use Rattle.problem.specs.Line.{IsUnknown}
 use Rattle.tracesync.proofs.Intervals.{where_none}
 use Rattle.tracesync.proofs.ends.events_of.Goals as goal
 
