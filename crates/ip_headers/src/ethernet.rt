@@ -1,0 +1,67 @@
+// Ethernet II frames, with tags of IEEE 802.1Q.
+ghost use Rattle.std.specs.Prelude.{◌≡◌, ◌≤◌, true, false, length, drop, Some, None, IfOk, IfErr, OnOk};
+ghost use Rattle.ip_headers.specs.Bytes.{half_at};
+ghost use Rattle.ip_headers.specs.Checks.{first_reason};
+ghost use Rattle.ip_headers.specs.Frame.{is_tag, untagged, is_cut, typed_part, ethernet_checks};
+ghost use Rattle.ip_headers.specs.declared.key.Reason.TheVariants.{Short};
+
+use crate::Reason;
+use crate::bytes::{behind, half_at};
+
+// What the header has in front of its first type: two addresses of six bytes.
+const ADDRESSES: usize = 12;
+
+// The whole of a header without tags.
+const HEADER: usize = 14;
+
+// What a tag takes: its type, and two bytes with a priority and the number of a network.
+const TAG: usize = 4;
+
+// The bytes of a type.
+const TYPE: usize = 2;
+
+// The types, of which IEEE keeps the list.
+const IPV4: u16 = 0x0800;
+
+const CUSTOMER_TAG: u16 = 0x8100;
+
+const PROVIDER_TAG: u16 = 0x88a8;
+
+fn is_tag(ether_type: u16) -> bool
+    ensures { result ≡ is_tag ether_type }
+{
+    ether_type == CUSTOMER_TAG || ether_type == PROVIDER_TAG
+}
+
+// Bytes that begin with a type, from their first type on that is no tag.
+fn skip_tags(typed: &[u8]) -> Result<&[u8], Reason>
+    requires { 2 ≤ length typed.now }
+    ensures whole { OnOk result (is_cut (untagged typed.now) ≡ false) }
+    ensures untagged { IfOk result (λ rest. rest.now ≡ untagged typed.now) }
+    ensures cut { IfErr result (λ reason. (is_cut (untagged typed.now) ≡ true) × (reason ≡ Short)) }
+{
+    let mut rest = typed;
+    while is_tag(half_at(rest, 0)) {
+        if rest.len() < TAG + TYPE {
+            return Err(Reason::Short);
+        }
+        rest = behind(rest, TAG);
+    }
+    Ok(rest)
+}
+
+// The datagram in a frame.
+pub(crate) fn datagram_in(frame: &[u8]) -> Result<&[u8], Reason>
+    ensures lawful { OnOk result (first_reason (ethernet_checks frame.now) ≡ None) }
+    ensures found { IfOk result (λ datagram. datagram.now ≡ drop 2 (typed_part frame.now)) }
+    ensures refused { IfErr result (λ reason. first_reason (ethernet_checks frame.now) ≡ Some reason) }
+{
+    if frame.len() < HEADER {
+        return Err(Reason::Short);
+    }
+    let typed = skip_tags(behind(frame, ADDRESSES))?;
+    if half_at(typed, 0) != IPV4 {
+        return Err(Reason::Other);
+    }
+    Ok(behind(typed, TYPE))
+}
