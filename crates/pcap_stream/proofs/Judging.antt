@@ -1,0 +1,152 @@
+-- Each stream is read or refused.
+use Rattle.std.proofs.Common.{◌≡◌, ◌≢◌, ◌≤◌, ◌+◌, ◌-◌, ◌%◌, ◌⊎◌, ℕ, zero, suc, List, [], ◌∷◌, ◌++◌, length, take, drop, Some, None, refl, sym, ap, inl, inr, ◌∙◌, arith, append_assoc, length-append}
+use Rattle.std.specs.List.{flat_map}
+use Rattle.std.proofs.lemmas.Bool.{cases_lt, cases_eq}
+use Rattle.std.proofs.lemmas.List.{take-append-drop}
+use Rattle.std.proofs.lemmas.List.Elements.{All-cons, All-nil}
+use Rattle.pcap_stream.specs.declared.errors.PcapError.{PcapError}
+use Rattle.pcap_stream.specs.declared.errors.PcapError.TheVariants.{Magic, Version, Length, Memory}
+use Rattle.pcap_stream.specs.declared.header.Order.{Order}
+use Rattle.pcap_stream.specs.declared.header.Order.TheVariants.{Big, Little}
+use Rattle.pcap_stream.specs.declared.header.Fraction.{Fraction}
+use Rattle.pcap_stream.specs.declared.header.Fraction.TheVariants.{Micros, Nanos}
+use Rattle.pcap_stream.specs.declared.header.Header.{Header}
+use Rattle.pcap_stream.specs.Capture.{Capture, Record, IsHeader, IsMadeOf, IsRecord, HasRecord, HasTooLong, Reads, IsFault, IsFrontOf, BeginsAs, LacksMagic, bytes_of, captured_length, magic, number_in, version}
+use Rattle.pcap_stream.specs.Inside.{AreFirst, IsPart}
+use Rattle.pcap_stream.proofs.Headers.{begun, header_first, header_with, lacks}
+use Rattle.pcap_stream.proofs.Records.{record_long}
+use Rattle.pcap_stream.proofs.Reading.{has_length}
+use Rattle.pcap_stream.proofs.Growing.{whole_record}
+
+abbrev IsJudged : List ℕ → Type 0
+IsJudged s = ((c : Capture) × Reads s c) ⊎ ((e : PcapError) × IsFault s e × (e ≢ Memory))
+
+-- ---- headers
+is_front : (front whole : List ℕ) → IsFrontOf front whole ⊎ (IsFrontOf front whole → ⊥)
+is_front [] whole = inl (whole, refl)
+is_front (x ∷ front) [] = inr (λ h. absurd (cc (h.1)))
+is_front (x ∷ front) (y ∷ whole) =
+    elim (cases_eq x y) [
+      | inl same ↦ elim (is_front front whole) [
+        | inl h ↦ inl (h.0, grown x y (front ++ h.0) whole same h.1)
+        | inr other ↦ inr (λ h. other (h.0, cc (h.1)))
+      ]
+      | inr other ↦ inr (λ h. other (cc (h.1)))
+    ]
+  where
+    grown : (x y : ℕ) (xs ys : List ℕ) → x ≡ y → xs ≡ ys → x ∷ xs ≡ y ∷ ys
+    grown x y xs ys p q = cc
+
+abbrev HasMagic : List ℕ → Type 0
+HasMagic s = (o : Order) × (f : Fraction) × BeginsAs s o f
+
+has_magic : (s : List ℕ) → HasMagic s ⊎ LacksMagic s
+has_magic s =
+    elim (is_front (take 4 s) (magic Big Micros)) [
+      | inl a ↦ inl (Big, Micros, a)
+      | inr a ↦ elim (is_front (take 4 s) (magic Little Micros)) [
+        | inl b ↦ inl (Little, Micros, b)
+        | inr b ↦ elim (is_front (take 4 s) (magic Big Nanos)) [
+          | inl d ↦ inl (Big, Nanos, d)
+          | inr d ↦ elim (is_front (take 4 s) (magic Little Nanos)) [
+            | inl e ↦ inl (Little, Nanos, e)
+            | inr e ↦ inr (lacks s a b d e)
+          ]
+        ]
+      ]
+    ]
+
+-- ---- records
+-- what may begin the bytes
+data Next (o : Order) (bytes : List ℕ) : Type 0 where
+  part : IsPart o bytes → Next o bytes
+  long : HasTooLong o bytes → Next o bytes
+  whole : HasRecord o bytes → Next o bytes
+
+next : (o : Order) (bytes : List ℕ) → Next o bytes
+next o bytes =
+    elim (cases_lt (length bytes) 16) [
+      | inl few ↦ part (record { no_more = λ has. omega (arith, few, has_length o bytes has); none_too_long = λ l. omega (arith, few, l.0) })
+      | inr many ↦ elim (cases_lt 262144 (captured_length o bytes)) [
+        | inl more ↦ long (many, more)
+        | inr fits ↦ elim (cases_lt (length bytes) (16 + captured_length o bytes)) [
+          | inl short ↦ part (record { no_more = λ has. omega (arith, short, has_length o bytes has); none_too_long = λ l. omega (arith, fits, l.1) })
+          | inr all ↦ whole (whole_record o bytes many fits all)
+        ]
+      ]
+    ]
+
+-- all records, and how what is left ends them
+record Split (o : Order) (bytes : List ℕ) : Type 0 where
+  pub records : List Record
+  pub left : List ℕ
+  pub first : AreFirst o bytes records left
+  pub end : IsPart o left ⊎ HasTooLong o left
+
+none_first : (o : Order) (bytes : List ℕ) → AreFirst o bytes [] bytes
+none_first o bytes = record { lawful = All-nil (IsRecord o); whole = refl }
+
+more_first : (o : Order) (bytes : List ℕ) (has : HasRecord o bytes) → Split o has.1 → Split o bytes
+more_first o bytes has rest = record {
+  records = has.0 ∷ rest.records;
+  left = rest.left;
+  first = record {
+    lawful = All-cons (IsRecord o) has.0 rest.records has.2 rest.first.lawful;
+    whole = has.3 ∙ ap (λ (l : List ℕ). bytes_of has.0 ++ l) rest.first.whole ∙ sym (append_assoc (bytes_of has.0) (flat_map bytes_of rest.records) rest.left);
+  };
+  end = rest.end;
+}
+
+after_short : (o : Order) (bytes : List ℕ) (n : ℕ) (has : HasRecord o bytes) → length bytes ≤ suc n → length has.1 ≤ n
+after_short o bytes n has small =
+    let is : IsRecord o has.0 = has.2 in
+    omega (arith, small, ap (λ (l : List ℕ). length l) has.3, record_long has.0 has.1, is.size)
+
+split : (n : ℕ) (o : Order) (bytes : List ℕ) → length bytes ≤ n → Split o bytes
+split zero o bytes small =
+    elim (next o bytes) [
+      | part p ↦ record { records = []; left = bytes; first = none_first o bytes; end = inl p }
+      | long l ↦ record { records = []; left = bytes; first = none_first o bytes; end = inr l }
+      | whole has ↦ absurd (omega (arith, small, has_length o bytes has))
+    ]
+split (suc n) o bytes small =
+    elim (next o bytes) [
+      | part p ↦ record { records = []; left = bytes; first = none_first o bytes; end = inl p }
+      | long l ↦ record { records = []; left = bytes; first = none_first o bytes; end = inr l }
+      | whole has ↦ more_first o bytes has (split n o has.1 (after_short o bytes n has small))
+    ]
+
+-- ---- streams
+judged_behind : (s : List ℕ) (h : Header) → IsHeader (take 24 s) h → Split h.order (drop 24 s) → IsJudged s
+judged_behind s h is all =
+    let joined : s ≡ take 24 s ++ (flat_map bytes_of all.records ++ all.left) = sym (take-append-drop 24 s) ∙ ap (λ (l : List ℕ). take 24 s ++ l) all.first.whole in
+    let made : IsMadeOf s h all.records all.left = record {
+      header = take 24 s;
+      says = is;
+      are_records = all.first.lawful;
+      whole = joined ∙ sym (append_assoc (take 24 s) (flat_map bytes_of all.records) all.left);
+    } in
+    let short : length all.left ≤ length s = omega (arith, ap (λ (l : List ℕ). length l) made.whole, length-append (take 24 s ++ flat_map bytes_of all.records) all.left) in
+    elim all.end [
+      | inl p ↦ inl (record { header = Some h; records = all.records; rest = all.left }, record { made = made; no_more = p.no_more; none_too_long = p.none_too_long })
+      | inr l ↦ inr (Length (length s - length all.left), record { header = h; records = all.records; rest = all.left; made = made; long = l; at = omega (arith, short) }, λ e. absurd (cc (e)))
+    ]
+
+judged_magic : (s : List ℕ) (o : Order) (f : Fraction) → BeginsAs s o f → IsJudged s
+judged_magic s o f begins =
+    elim (is_front (take 4 (drop 4 s)) (version o)) [
+      | inl follows ↦ elim (cases_lt (length s) 24) [
+        | inl short ↦ inl (record { header = None; records = []; rest = s }, (begun s o f short begins follows, refl, refl))
+        | inr enough ↦
+            let is = header_first s o f (number_in o 4 (drop 20 s)) enough begins follows refl in
+            judged_behind s (header_with o f (number_in o 4 (drop 20 s) % 65536)) is (split (length (drop 24 s)) o (drop 24 s) (omega arith))
+      ]
+      | inr other ↦ inr (Version, record { order = o; fraction = f; begins = begins; other = other }, λ e. absurd (cc (e)))
+    ]
+
+pub judged : (s : List ℕ) → IsJudged s
+judged s =
+    elim (has_magic s) [
+      | inl m ↦ judged_magic s m.0 m.1 m.2
+      | inr lacking ↦ inr (Magic, lacking, λ e. absurd (cc (e)))
+    ]

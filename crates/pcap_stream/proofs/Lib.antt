@@ -1,0 +1,7 @@
+mod Lists
+mod Headers
+mod Records
+mod Streams
+mod Reading
+mod Growing
+mod Judging

@@ -1,0 +1,13 @@
+use Rattle.std.proofs.Common.{◌≡◌, ℕ, List, ◌++◌, take, drop, length, sym, ap, ◌∙◌}
+use Rattle.std.proofs.lemmas.Bool.Decides.{Decides-eqb}
+use Rattle.std.proofs.lemmas.Slice.Eq.{starts_is}
+use Rattle.pcap_stream.proofs.header.begin.Goals as goal
+
+pub returns : goal.returns
+returns c =
+    let is = starts_is Decides-eqb c.args.whole.now c.first_four.result.now c.starts_with.result c.starts_with.ensures.value in
+    let first : c.first_four.result.now ≡ take 4 c.args.bytes.now = c.first_four.ensures in
+    let rest : List ℕ = drop (length c.first_four.result.now) c.args.whole.now in (
+      (λ so. (rest, ap (λ (l : List ℕ). l ++ rest) (sym first) ∙ sym (is.0 so))),
+      (λ front. is.1 front.0 (sym front.1 ∙ ap (λ (l : List ℕ). l ++ front.0) (sym first))),
+    )

@@ -1,0 +1,13 @@
+// A captured packet.
+use atto::Nano;
+
+/// A packet as it was captured.
+#[derive(Debug, Drop)]
+pub struct Packet {
+    /// When it was captured, in ns of the host's clock.
+    pub stamp: Nano,
+    /// The link type of its capture, the lower 16 bits of the field.
+    pub link: u16,
+    /// Its first bytes, as many as were captured.
+    pub bytes: Vec<u8>,
+}

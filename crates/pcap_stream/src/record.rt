@@ -1,0 +1,93 @@
+// Records: 16 bytes that say what was captured, and the bytes that were.
+ghost use Rattle.std.specs.Prelude.{◌≡◌, ◌+◌, ◌*◌, ◌≤◌, ◌^◌, length, drop, IfOk, IfErr};
+ghost use Rattle.pcap_stream.specs.Capture.{number_in, nanos};
+ghost use Rattle.pcap_stream.specs.Feeding.{seen_packets};
+ghost use Rattle.pcap_stream.specs.Inside.{FindsRecord, IsRecordFault, HasRead, EndsRecords, IsRecordsFault};
+
+use crate::header::{Fraction, Header};
+use crate::{Packet, PcapError};
+use atto::Nano;
+use std::alloc::Global;
+
+// How many bytes stand before those that were captured.
+const HEAD_BYTES: usize = 16;
+
+// Where the head says the fraction of a second, and how many bytes were captured.
+const FRACTION_PLACE: usize = 4;
+
+const CAPTURED_PLACE: usize = 8;
+
+// How many bytes of a packet may be captured.
+const MOST_CAPTURED: u32 = 262_144;
+
+const NANOS_A_SECOND: u64 = 1_000_000_000;
+
+// The stamp that the head of a record says, below 2^62 whatever stands there.
+fn stamp_of(header: Header, head: &[u8]) -> Nano
+    requires { 8 ≤ length head.now }
+    ensures { result ≡ number_in header.order 4 head.now * 1000000000 + nanos header.fraction (number_in header.order 4 (drop 4 head.now)) }
+{
+    let seconds = u64::from(header.order.number(head));
+    let fraction = u64::from(header.order.number(&head[FRACTION_PLACE..]));
+    let nanos = match header.fraction {
+        Fraction::Micros => fraction * 1000,
+        Fraction::Nanos => fraction,
+    };
+    Nano::new(seconds * NANOS_A_SECOND + nanos).unwrap()
+}
+
+// The packet of the record that begins these bytes, or `None` where they begin no whole record. `Length` of this place
+// comes where a record says that more than 262,144 bytes were captured.
+fn read_record(
+    alloc: Global,
+    header: Header,
+    place: u32,
+    bytes: &[u8],
+) -> Result<Option<Packet>, PcapError>
+    ensures ok { IfOk result (λ found. FindsRecord header bytes.now found) }
+    ensures fault { IfErr result (λ e. IsRecordFault header.order bytes.now place e) }
+{
+    if bytes.len() < HEAD_BYTES {
+        return Ok(None);
+    }
+    let (head, behind) = bytes.split_at(HEAD_BYTES);
+    let captured = header.order.number(&head[CAPTURED_PLACE..]);
+    if captured > MOST_CAPTURED {
+        return Err(PcapError::Length(place));
+    }
+    if behind.len() < captured as usize {
+        return Ok(None);
+    }
+    let bytes = Vec::from_slice(alloc, &behind[..captured as usize])?;
+    Ok(Some(Packet {
+        stamp: stamp_of(header, head),
+        link: header.link,
+        bytes,
+    }))
+}
+
+/// Appends the packets of the whole records that begin these bytes, which stand at this place of a capture, and answers
+/// what is left. `Length` has the place of the first record of more than 262,144 bytes.
+pub(crate) fn read_records<'a>(
+    alloc: Global,
+    header: Header,
+    place: u32,
+    bytes: &'a [u8],
+    packets: &mut Vec<Packet>,
+) -> Result<&'a [u8], PcapError>
+    requires { place + length bytes.now ≤ 2 ^ 30 }
+    ensures ok { IfOk result (λ left. EndsRecords header bytes.now left.now (seen_packets packets.old.items) (seen_packets packets.new.items)) }
+    ensures fault { IfErr result (λ e. IsRecordsFault header.order bytes.now place e) }
+{
+    let mut left = bytes;
+    'records: while let Some(packet) = read_record(
+        alloc,
+        header,
+        place + (bytes.len() - left.len()) as u32,
+        left,
+    )? {
+        left = &left[HEAD_BYTES + packet.bytes.len()..];
+        packets.push(packet)?;
+    }
+    Ok(left)
+}
