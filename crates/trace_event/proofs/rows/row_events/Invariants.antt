@@ -1,0 +1,7 @@
+use Rattle.std.proofs.Common.{◌≡◌, map}
+use Rattle.trace_event.specs.Seen.{seen_events, seen_row}
+use Rattle.trace_event.proofs.rows.row_events.Given as goal
+
+-- the events so far are those of the rows so far
+abbrev pub invariant-loop-row : goal.invariant-loop-row
+invariant-loop-row l = seen_events l.events.items ≡ map seen_row l.yielded

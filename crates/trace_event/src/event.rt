@@ -1,0 +1,68 @@
+// Events of all traces.
+use atto::Nano;
+use event_log::{LogText, WordKey};
+use ip_headers::PacketKey;
+
+/// An end of a message.
+#[derive(Clone, Copy, Debug, PartialEq, Eq)]
+pub enum Side {
+    /// Where it was sent.
+    Send,
+    /// Where it was received.
+    Receive,
+}
+
+/// What a message is known by at both of its ends.
+#[derive(Debug, PartialEq, Eq, Hash, Drop)]
+pub enum Key {
+    /// A packet, by its headers and the beginning of its payload.
+    Packet(PacketKey),
+    /// A message of event logs, by its word. It is never that of a packet.
+    Word(WordKey),
+}
+
+/// Why an event is the end of no message.
+#[derive(Clone, Copy, Debug, PartialEq, Eq)]
+pub enum NoKey {
+    /// The packet's link type is neither Ethernet nor raw IP.
+    Link,
+    /// The packet is no IPv4 datagram of TCP or UDP.
+    Other,
+    /// Too little of the packet was captured.
+    Short,
+    /// A header of the packet can't be one.
+    Header,
+    /// The packet is a fragment.
+    Fragment,
+    /// A length in the packet does not fit the others.
+    Length,
+    /// The packet comes from its label's host and goes there, or neither.
+    Side,
+    /// The row of an event log says that no other host took part.
+    Local,
+}
+
+/// Which end of which message an event is, if of any.
+#[derive(Debug, Drop)]
+pub enum Mark {
+    /// The end of a message.
+    Keyed {
+        /// What the message is known by.
+        key: Key,
+        /// Which end it is.
+        side: Side,
+    },
+    /// The end of none.
+    Unkeyed(NoKey),
+}
+
+/// An event of a trace.
+#[derive(Debug, Drop)]
+pub struct Event {
+    /// When it happened, in ns of the host's clock, below 2^62.
+    pub stamp: Nano,
+    /// Which end of which message it is.
+    pub mark: Mark,
+    /// What an event log says of it; None for a packet.
+    pub text: Option<LogText>,
+}

@@ -1,0 +1,100 @@
+// Events of captures.
+ghost use Rattle.std.specs.Prelude.{◌≡◌, ◌≤◌, map, IfOk};
+ghost use Rattle.decl.specs.Declaration.{declaration_of};
+ghost use Rattle.ip_headers.specs.Keys.{answer_of, fields_of};
+ghost use Rattle.pcap_stream.specs.Feeding.{seen_packet, seen_packets};
+ghost use Rattle.trace_event.specs.Seen.{event_of_packet, is_at, mark_by, mark_of, mark_of_packet, no_key, seen_event, seen_events};
+
+use crate::{Event, Key, Mark, NoKey, Side};
+use decl::Decl;
+use ip_headers::{Decoded, PacketKey, Reason, decode};
+use pcap_stream::Packet;
+use std::alloc::{AllocError, Global};
+
+// Why an event has no key, whose packet has none.
+fn no_key(reason: Reason) -> NoKey
+    ensures { result ≡ no_key reason }
+{
+    match reason {
+        Reason::Link => NoKey::Link,
+        Reason::Other => NoKey::Other,
+        Reason::Short => NoKey::Short,
+        Reason::Header => NoKey::Header,
+        Reason::Fragment => NoKey::Fragment,
+        Reason::Length => NoKey::Length,
+    }
+}
+
+// Whether an address is one of this host.
+fn is_at(decl: &Decl, host: u32, address: u32) -> bool
+    ensures { result ≡ is_at (declaration_of decl.now) host address }
+{
+    match decl.host_of(address) {
+        Some(other) => other == host,
+        None => false,
+    }
+}
+
+// The mark of a packet of this key, by whether it comes from the host and whether it goes there.
+fn mark_by(key: PacketKey, from_host: bool, to_host: bool) -> Mark
+    ensures { mark_of result ≡ mark_by (fields_of key) from_host to_host }
+{
+    match (from_host, to_host) {
+        (true, false) => Mark::Keyed {
+            key: Key::Packet(key),
+            side: Side::Send,
+        },
+        (false, true) => Mark::Keyed {
+            key: Key::Packet(key),
+            side: Side::Receive,
+        },
+        _ => Mark::Unkeyed(NoKey::Side),
+    }
+}
+
+// The mark of a packet at a host, by what its headers say.
+fn mark_of_packet(decl: &Decl, host: u32, decoded: Decoded) -> Mark
+    ensures { mark_of result ≡ mark_of_packet (declaration_of decl.now) host (answer_of decoded) }
+{
+    match decoded {
+        Decoded::Key(key) => {
+            let from_host = is_at(decl, host, key.source);
+            let to_host = is_at(decl, host, key.target);
+            mark_by(key, from_host, to_host)
+        }
+        Decoded::NoKey(reason) => Mark::Unkeyed(no_key(reason)),
+    }
+}
+
+// The event of a packet that was captured at a host.
+fn event_of_packet(decl: &Decl, host: u32, packet: &Packet) -> Event
+    requires { decl.now.payload_bytes ≤ 64 }
+    ensures { seen_event result ≡ event_of_packet (declaration_of decl.now) host (seen_packet packet.now) }
+{
+    let decoded = decode(packet.link, &packet.bytes, decl.payload_bytes);
+    Event {
+        stamp: packet.stamp,
+        mark: mark_of_packet(decl, host, decoded),
+        text: None,
+    }
+}
+
+/// The events of packets that were captured at a host, in their order; an error where memory runs out.
+///
+/// A host goes by the place of its clock. A packet is a send where its source is an address of the host and its
+/// destination is none, and a receive the other way round. Of a payload at most 64 bytes are in the key.
+pub fn packet_events(
+    alloc: Global,
+    decl: &Decl,
+    host: u32,
+    packets: &[Packet],
+) -> Result<Vec<Event>, AllocError>
+    requires { decl.now.payload_bytes ≤ 64 }
+    ensures { IfOk result (λ events. seen_events events.items ≡ map (event_of_packet (declaration_of decl.now) host) (seen_packets packets.now)) }
+{
+    let mut events = Vec::with_capacity(alloc, packets.len())?;
+    for packet in packets {
+        events.push(event_of_packet(decl, host, packet))?;
+    }
+    Ok(events)
+}
