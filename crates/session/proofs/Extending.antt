@@ -1,47 +1,69 @@
--- Logs with more rows.
-use Rattle.std.proofs.Common.{◌≡◌, ℕ, zero, suc, ◌+◌, ◌<◌, ◌≤◌, ◌^◌, List, [], ◌∷◌, ◌++◌, slice_get, slice_set, Option, Some, Result, Ok, Err, OnErr, option_map, sym, ◌∙◌, ap, arith}
-use Rattle.std.proofs.lemmas.Option.{slice_get-map}
+-- What the code holds, with more at one label.
+use Rattle.std.proofs.Common.{◌≡◌, ℕ, zero, suc, ◌+◌, ◌<◌, ◌≤◌, ◌^◌, List, [], ◌∷◌, length, map, slice_get, slice_set, Option, Some, Result, Ok, Err, OnErr, All, option_map, sym, ◌∙◌, ap, subst, arith}
+use Rattle.std.specs.List.{slice_index_or}
+use Rattle.std.proofs.lemmas.List.{length-map}
+use Rattle.std.proofs.lemmas.List.Elements.{All-head, All-tail}
+use Rattle.std.proofs.lemmas.Option.{slice_get-map, slice_get-get_or}
 use Rattle.std.proofs.Math.Seq.{map-set}
-use Rattle.event_log.specs.declared.row.Row.{Row}
-use Rattle.traces.specs.declared.log.Log.{Log}
-use Rattle.session.specs.Stands.{rows_in, sizes_in}
-use Rattle.session.specs.Inside.{HasPlace, appended, with_rows_at, grown, with_size_at}
+use Rattle.pcap_stream.specs.Feeding.{Tail}
+use Rattle.trace_event.specs.Seen.{Seen}
+use Rattle.traces.specs.declared.accepted.Accepted.{Accepted}
+use Rattle.decl.specs.Declaration.{Declaration}
+use Rattle.session.specs.Stands.{Under, Held, IsUnder, IsHeld, held_of, under_of}
+use Rattle.session.specs.Inside.{HasPlace, IsGrownAt, IsTailWithin, grown}
+use Rattle.session.proofs.Holding.{some_same}
 
 pub on_err : {V E : Type 0} (r : Result V E) (P Q : Type 0) → (P → Q) → OnErr r P → OnErr r Q
 on_err (Ok v) P Q f p = tt
 on_err (Err e) P Q f p = f p
 
-some_same : {A : Type 0} (x y : A) → Some x ≡ Some y → x ≡ y
-some_same x y e = cc
+at_place : (accepted : List Accepted) (k : ℕ) (a : Accepted) → slice_get accepted k ≡ Some a → slice_get (map under_of accepted) k ≡ Some (under_of a)
+at_place accepted k a at_k = slice_get-map under_of accepted k ∙ ap (option_map under_of) at_k
 
-pub rows_extended : (logs : List Log) (k : ℕ) (log new : Log) (rows : List Row) → slice_get logs k ≡ Some log → new.rows.items ≡ log.rows.items ++ rows →
-    rows_in (slice_set logs k new) ≡ with_rows_at (rows_in logs) k rows
-rows_extended logs k log new rows at_k is =
-    let f = λ (l : Log). l.rows.items in
-    let had : slice_get (rows_in logs) k ≡ Some log.rows.items = slice_get-map f logs k ∙ ap (option_map f) at_k in
-    let added : appended (slice_get (rows_in logs) k) rows ≡ log.rows.items ++ rows = ap (λ (o : Option (List Row)). appended o rows) had in
-    map-set f logs k new ∙ ap (λ (x : List Row). slice_set (rows_in logs) k x) (is ∙ sym added)
+pub grown_at : (accepted : List Accepted) (k : ℕ) (a new : Accepted) (events : List Seen) (size : ℕ) (tail : Tail) → slice_get accepted k ≡ Some a →
+    under_of new ≡ grown (under_of a) events size tail → IsGrownAt (map under_of accepted) (map under_of (slice_set accepted k new)) k events size tail
+grown_at accepted k a new events size tail at_k is = record {
+  at = under_of a;
+  was = at_place accepted k a at_k;
+  is = map-set under_of accepted k new ∙ ap (λ (u : Under). slice_set (map under_of accepted) k u) is;
+}
 
-pub sizes_extended : (logs : List Log) (k : ℕ) (log new : Log) (more : ℕ) → slice_get logs k ≡ Some log → new.size ≡ log.size + more →
-    sizes_in (slice_set logs k new) ≡ with_size_at (sizes_in logs) k more
-sizes_extended logs k log new more at_k is =
-    let f = λ (l : Log). l.size in
-    let had : slice_get (sizes_in logs) k ≡ Some log.size = slice_get-map f logs k ∙ ap (option_map f) at_k in
-    let added : grown (slice_get (sizes_in logs) k) more ≡ log.size + more = ap (λ (o : Option ℕ). grown o more) had in
-    map-set f logs k new ∙ ap (λ (x : ℕ). slice_set (sizes_in logs) k x) (is ∙ sym added)
+pub kept_at : (accepted : List Accepted) (k : ℕ) (a new : Accepted) → slice_get accepted k ≡ Some a → under_of new ≡ under_of a → map under_of (slice_set accepted k new) ≡ map under_of accepted
+kept_at [] k a new at_k is = absurd cc
+kept_at (x ∷ accepted) zero a new at_k is = ap (λ (u : Under). u ∷ map under_of accepted) (is ∙ ap under_of (sym (some_same x a at_k)))
+kept_at (x ∷ accepted) (suc k) a new at_k is = ap (λ (more : List Under). under_of x ∷ more) (kept_at accepted k a new at_k is)
 
-pub rows_kept : (logs : List Log) (k : ℕ) (log new : Log) → slice_get logs k ≡ Some log → new.rows.items ≡ log.rows.items → rows_in (slice_set logs k new) ≡ rows_in logs
-rows_kept [] k log new at_k is = absurd cc
-rows_kept (x ∷ logs) zero log new at_k is = ap (λ (rows : List Row). rows ∷ rows_in logs) (is ∙ ap (λ (l : Log). l.rows.items) (sym (some_same x log at_k)))
-rows_kept (x ∷ logs) (suc k) log new at_k is = ap (λ (more : List (List Row)). x.rows.items ∷ more) (rows_kept logs k log new at_k is)
+pub size_fits : (accepted : List Accepted) (k : ℕ) (a : Accepted) (size : ℕ) → slice_get accepted k ≡ Some a → HasPlace (map under_of accepted) k size → a.size + size < 2 ^ 64
+size_fits accepted k a size at_k place = let fits : a.size + size ≤ 2 ^ 30 = place (under_of a) (at_place accepted k a at_k) in omega (arith, fits)
 
-pub sizes_kept : (logs : List Log) (k : ℕ) (log new : Log) → slice_get logs k ≡ Some log → new.size ≡ log.size → sizes_in (slice_set logs k new) ≡ sizes_in logs
-sizes_kept [] k log new at_k is = absurd cc
-sizes_kept (x ∷ logs) zero log new at_k is = ap (λ (size : ℕ). size ∷ sizes_in logs) (is ∙ ap (λ (l : Log). l.size) (sym (some_same x log at_k)))
-sizes_kept (x ∷ logs) (suc k) log new at_k is = ap (λ (more : List ℕ). x.size ∷ more) (sizes_kept logs k log new at_k is)
+-- ---- the tail of a label
+-- what is held at a place, by what the code holds there
+pub under_at : (d : Declaration) (accepted : List Accepted) (held : Held) (k : ℕ) (a : Accepted) → held_of d accepted ≡ held → k < length held.under → a ≡ slice_index_or accepted k a →
+    slice_get held.under k ≡ Some (under_of a)
+under_at d accepted held k a same inside is =
+    let P : Held → Type 0 = λ h. k < length h.under in
+    let i : k < length (map under_of accepted) = subst P (sym same) inside in
+    let e = length-map accepted under_of in
+    let within : k < length accepted = omega (arith, i, e) in
+    let had : slice_get accepted k ≡ Some a = slice_get-get_or accepted k a within ∙ ap Some (sym is) in
+    subst (λ (h : Held). slice_get h.under k ≡ Some (under_of a)) same (at_place accepted k a had)
 
-pub size_fits : (logs : List Log) (k : ℕ) (log : Log) (size : ℕ) → slice_get logs k ≡ Some log → HasPlace (sizes_in logs) k size → log.size + size < 2 ^ 64
-size_fits logs k log size at_k place =
-    let f = λ (l : Log). l.size in
-    let fits : log.size + size ≤ 2 ^ 30 = place log.size (slice_get-map f logs k ∙ ap (option_map f) at_k) in
-    omega (arith, fits)
+fits_at : (under : List Under) (k : ℕ) (u : Under) → All IsUnder under → slice_get under k ≡ Some u → IsUnder u
+fits_at [] k u all at_k = absurd cc
+fits_at (v ∷ under) zero u all at_k = subst IsUnder (some_same v u at_k) (All-head IsUnder v under all)
+fits_at (v ∷ under) (suc k) u all at_k = fits_at under k u (All-tail IsUnder v under all) at_k
+
+-- a piece that has its place can be fed
+pub tail_fits : (held : Held) (k n : ℕ) (u : Under) → IsHeld held → slice_get held.under k ≡ Some u → HasPlace held.under k n → u.tail.offset + length u.tail.rest + n ≤ 2 ^ 30
+tail_fits held k n u is at_k place =
+    let within : u.tail.offset + length u.tail.rest ≤ u.size = (fits_at held.under k u is.fit at_k).1 in
+    let room : u.size + n ≤ 2 ^ 30 = place u at_k in
+    omega (arith, within, room)
+
+-- and the tail behind it is of no more than the label then has
+pub tail_within : (held : Held) (k n : ℕ) (u : Under) (next : Tail) → IsHeld held → slice_get held.under k ≡ Some u → next.offset + length next.rest ≡ u.tail.offset + length u.tail.rest + n →
+    IsTailWithin held.under k n next
+tail_within held k n u next is at_k size v at_v =
+    let same : u.size ≡ v.size = ap (λ (x : Under). x.size) (some_same u v (sym at_k ∙ at_v)) in
+    let within : u.tail.offset + length u.tail.rest ≤ u.size = (fits_at held.under k u is.fit at_k).1 in
+    omega (arith, same, within, size)

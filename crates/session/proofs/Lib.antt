@@ -4,7 +4,11 @@ pub mod Composing
 pub mod Holding
 pub mod Naming
 pub mod Replying
+pub mod Beginning
 pub mod Starting
 pub mod Extending
+pub mod Growing
+pub mod Accepting
 pub mod Standing
-pub mod Adding
+pub mod Finding
+pub mod OneReply

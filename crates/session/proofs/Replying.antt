@@ -5,33 +5,31 @@ use Rattle.problem.specs.Line.{HasEvent, IsUnknown}
 use Rattle.ports.specs.Content.{Appends}
 use Rattle.ports.specs.Files.{Content}
 use Rattle.decl.specs.Declaration.{Declaration}
-use Rattle.traces.specs.Traces.{Seen, seen_of}
-use Rattle.traces.specs.declared.log.Log.{Log}
-use Rattle.traces.specs.Logs.{seen_in}
+use Rattle.trace_event.specs.Seen.{Seen}
+use Rattle.traces.specs.declared.accepted.Accepted.{Accepted}
+use Rattle.traces.specs.Held.{seen_in}
 use Rattle.traces.specs.Messages.{problem_of, problem_of_seen}
 use Rattle.queries.specs.Replies.{Replies, AppendsSome}
 use Rattle.session.specs.Commands.{Command, Add, Interval, Order, Problem, Asks}
 use Rattle.session.specs.Reply.{State, Found, Unread, OfTwo, refusal}
 use Rattle.session.specs.Sessions.{CommandReply, LineReply, FoundAt, AreCounted}
-use Rattle.session.specs.Stands.{Held, StandsFor, Stepped, held_of, seen_held, problem_held}
+use Rattle.session.specs.Stands.{Held, StandsFor, Stepped, held_of, problem_held, seen_held}
 use Rattle.session.specs.Inside.{IsReplyOfTwo, Answered, Asked, CommandAnswered}
-use Rattle.session.proofs.Holding.{seen_logs, seen_traces}
+use Rattle.session.proofs.Holding.{seen_accepted}
 
 pub on_ok : {V E : Type 0} (r : Result V E) (P Q : Type 0) → (P → Q) → OnOk r P → OnOk r Q
 on_ok (Ok v) P Q f p = f p
 on_ok (Err e) P Q f p = tt
 
--- ---- the events and the problem of what a session stands for
-pub seen_stands : (held : Held) (d : Declaration) (s : State) → StandsFor held d s → map seen_of s.traces ≡ seen_held held.rows
-seen_stands held d s stands = seen_traces s.traces ∙ ap seen_held (sym stands.rows)
-
-pub built : {E : Type 0} (d : Declaration) (logs : List Log) (held : Held) (r : Result ProblemLists E) → held_of d logs ≡ held → IfOk r (λ p. p ≡ problem_of_seen d (seen_in logs)) → IfOk r (λ p. p ≡ problem_held held)
-built d logs held (Ok p) same is = is ∙ ap (λ (seen : List (List Seen)). problem_of_seen d seen) (sym (seen_logs logs)) ∙ ap problem_held same
-built d logs held (Err e) same is = tt
+-- ---- the problem of what a session stands for
+pub built : {E : Type 0} (d : Declaration) (accepted : List Accepted) (held : Held) (r : Result ProblemLists E) → held_of d accepted ≡ held → IfOk r (λ p. p ≡ problem_of_seen d (seen_in accepted)) →
+    IfOk r (λ p. p ≡ problem_held held)
+built d accepted held (Ok p) same is = is ∙ ap (λ (seen : List (List Seen)). problem_of_seen d seen) (sym (seen_accepted accepted)) ∙ ap problem_held same
+built d accepted held (Err e) same is = tt
 
 pub problem_stands : (held : Held) (d : Declaration) (s : State) → StandsFor held d s → problem_held held ≡ problem_of d s.traces
 problem_stands held d s stands =
-    ap (λ (x : Declaration). problem_of_seen x (seen_held held.rows)) stands.declaration ∙ ap (λ (seen : List (List Seen)). problem_of_seen d seen) (sym (seen_stands held d s stands))
+    ap (λ (x : Declaration). problem_of_seen x (seen_held held.under)) stands.declaration ∙ ap (λ (seen : List (List Seen)). problem_of_seen d seen) stands.events
 
 -- ---- two events
 -- a reply about two events of the problem that is held

@@ -1,23 +1,28 @@
 -- What the parts of a session promise each other.
-use Rattle.std.specs.Prelude.{◌≡◌, ◌⊎◌, ℕ, ◌+◌, ◌^◌, ◌<◌, ◌≤◌, List, [], ◌∷◌, ◌++◌, length, slice_get, slice_set, Option, Some, None, Bool, true, false, codes}
+use Rattle.std.specs.Prelude.{◌≡◌, ◌⊎◌, ℕ, ◌+◌, ◌^◌, ◌<◌, ◌≤◌, List, [], ◌∷◌, ◌++◌, length, slice_get, slice_set, Option, Some, Bool, true, false, codes, All}
 use Rattle.atto.specs.Decimal.{decimal_of}
 use Rattle.ports.specs.Content.{Appends}
 use Rattle.ports.specs.Files.{Content}
 use Rattle.event_log.specs.declared.errors.LogError.{LogError}
-use Rattle.event_log.specs.declared.row.Row.{Row}
-use Rattle.decl.specs.declared.items.TraceKind.TheVariants as kinds
+use Rattle.pcap_stream.specs.declared.errors.PcapError.{PcapError}
+use Rattle.pcap_stream.specs.Capture as captures
+use Rattle.pcap_stream.specs.Feeding as feeding
+use Rattle.pcap_stream.specs.Feeding.{Tail, IsNew}
+use Rattle.decl.specs.declared.items.Label.{Label}
+use Rattle.decl.specs.declared.items.TraceKind.{TraceKind}
 use Rattle.decl.specs.Declaration.{Declaration}
+use Rattle.trace_event.specs.Seen.{Seen}
 use Rattle.traces.specs.declared.event.Couple.{Couple}
-use Rattle.traces.specs.Traces.{Trace, Seen, IsOfKind, events_of}
+use Rattle.traces.specs.Traces.{Trace, Captured, IsOfKind, seen_of, size_of, events_of}
 use Rattle.traces.specs.Messages.{messages_of, missing, problem_of_seen}
 use Rattle.queries.specs.Consistent.{IsConsistent}
 use Rattle.session.specs.Commands.{Command}
 use Rattle.problem_model.specs.Problem.{ProblemLists}
 use Rattle.problem.specs.Line.{HasEvent, IsUnknown}
 use Rattle.queries.specs.Replies.{Replies}
-use Rattle.session.specs.Reply.{State, Found, Unread, Reply, refusal, row_fault, added_line}
+use Rattle.session.specs.Reply.{State, Found, Unread, Reply, AcceptReply, refusal, row_fault, capture_fault, pending_of, added_line}
 use Rattle.session.specs.Sessions.{CommandReply, AreCounted}
-use Rattle.session.specs.Stands.{Held, StandsFor}
+use Rattle.session.specs.Stands.{Held, Under, StandsFor}
 
 -- ---- what is written
 -- the line of a refusal by a row
@@ -28,11 +33,15 @@ row_line row number = refusal (codes "26" ∷ decimal_of row ∷ decimal_of numb
 abbrev pub IsRowRefusal : LogError → List ℕ → Type 0
 IsRowRefusal e text = (row : ℕ) × (number : ℕ) × (row_fault e ≡ Some (row, number)) × (text ≡ row_line row number)
 
--- the line of an addition of so many events, by the messages before and all events after
-abbrev pub IsAddedTo : Declaration → List Couple → List (List Seen) → ℕ → List ℕ → Type 0
-IsAddedTo d before seen more text =
+-- the line of the refusal of a capture with this fault
+abbrev pub IsCaptureRefusal : PcapError → List ℕ → Type 0
+IsCaptureRefusal e text = (numbers : List (List ℕ)) × (capture_fault e ≡ Some numbers) × (text ≡ refusal numbers)
+
+-- the line of an addition of so many events, by the messages before and all events after, where so many bytes wait
+abbrev pub IsAddedTo : Declaration → List Couple → List (List Seen) → ℕ → ℕ → List ℕ → Type 0
+IsAddedTo d before seen more pending text =
     let after = messages_of (events_of seen) in
-    (b : Bool) × IsConsistent (problem_of_seen d seen) b × (text ≡ added_line more (missing after before) (missing before after) 0 b)
+    (b : Bool) × IsConsistent (problem_of_seen d seen) b × (text ≡ added_line more (missing after before) (missing before after) pending b)
 
 -- what is asked of two events by their names, or the refusal where one is unknown
 abbrev pub IsReplyOfTwo : ProblemLists → List ℕ → List ℕ → (ℕ → ℕ → List ℕ → Type 0) → List ℕ → Type 0
@@ -41,27 +50,33 @@ IsReplyOfTwo p first second Says text =
     ⊎ ((IsUnknown p first ⊎ IsUnknown p second) × (text ≡ refusal (codes "28" ∷ [])))
 
 -- ---- what is held
+-- nothing is held under a label
+pub record IsEmpty (u : Under) : Type 0 where
+  pub events : u.events ≡ []
+  pub size : u.size ≡ 0
+  pub tail : IsNew u.tail
+
+-- nothing is held under so many labels
+abbrev pub AreEmpty : List Under → ℕ → Type 0
+AreEmpty under n = (length under ≡ n) × All IsEmpty under
+
 -- a label has room for so many bytes more
-abbrev pub HasPlace : List ℕ → ℕ → ℕ → Type 0
-HasPlace sizes k size = (had : ℕ) → slice_get sizes k ≡ Some had → had + size ≤ 2 ^ 30
+abbrev pub HasPlace : List Under → ℕ → ℕ → Type 0
+HasPlace under k size = (u : Under) → slice_get under k ≡ Some u → u.size + size ≤ 2 ^ 30
 
--- rows behind those of a label, where there is one
-abbrev pub appended : Option (List Row) → List Row → List Row
-appended None more = more
-appended (Some rows) more = rows ++ more
+-- what a label has, with so many bytes more, is as much as this tail is of
+abbrev pub IsTailWithin : List Under → ℕ → ℕ → Tail → Type 0
+IsTailWithin under k size tail = (u : Under) → slice_get under k ≡ Some u → tail.offset + length tail.rest ≤ u.size + size
 
--- all rows, with more of them at a place
-abbrev pub with_rows_at : List (List Row) → ℕ → List Row → List (List Row)
-with_rows_at rows k more = slice_set rows k (appended (slice_get rows k) more)
+-- what is held under a label, with more events that came in so many bytes, and another tail
+abbrev pub grown : Under → List Seen → ℕ → Tail → Under
+grown u events size tail = record { events = u.events ++ events; size = u.size + size; tail = tail }
 
--- a size and more, where there is one
-abbrev pub grown : Option ℕ → ℕ → ℕ
-grown None more = more
-grown (Some size) more = size + more
-
--- all sizes, with more at a place
-abbrev pub with_size_at : List ℕ → ℕ → ℕ → List ℕ
-with_size_at sizes k more = slice_set sizes k (grown (slice_get sizes k) more)
+-- what is held under all labels, with more at a place
+pub record IsGrownAt (old new : List Under) (k : ℕ) (events : List Seen) (size : ℕ) (tail : Tail) : Type 0 where
+  pub at : Under
+  pub was : slice_get old k ≡ Some at
+  pub is : new ≡ slice_set old k (grown at events size tail)
 
 -- the front of a piece is all of it, or there is more of it than a piece may have
 abbrev pub IsPiece : Bool → List ℕ → List ℕ → Type 0
@@ -81,10 +96,24 @@ Asked held written written' command = (d : Declaration) (s : State) → StandsFo
 abbrev pub PieceAnswered : Held → Held → Option (List ℕ) → Option (List ℕ) → (Declaration → State → List ℕ → State → Type 0) → Type 0
 PieceAnswered held held' written written' IsReply = (d : Declaration) (s : State) → StandsFor held d s → Answered held' d written written' (IsReply d s)
 
--- the same where the label is one of logs
-abbrev pub LogAnswered : Held → Held → ℕ → Option (List ℕ) → Option (List ℕ) → (Declaration → State → Trace → List ℕ → State → Type 0) → Type 0
-LogAnswered held held' k written written' IsReply = (d : Declaration) (s : State) (trace : Trace) → StandsFor held d s → slice_get s.traces k ≡ Some trace
-    → IsOfKind kinds.Log trace → Answered held' d written written' (IsReply d s trace)
+-- the same of a piece for a label of this kind, by what was accepted under it
+abbrev pub KindAnswered : TraceKind → Held → Held → ℕ → Option (List ℕ) → Option (List ℕ) → (Declaration → State → Trace → List ℕ → State → Type 0) → Type 0
+KindAnswered kind held held' k written written' IsReply = (d : Declaration) (s : State) (trace : Trace) → StandsFor held d s → slice_get s.traces k ≡ Some trace
+    → IsOfKind kind trace → Answered held' d written written' (IsReply d s trace)
+
+-- a trace of a label of this host grew by these events, which came in so many bytes, and this is its tail
+pub record IsGrownTrace (d : Declaration) (host : ℕ) (kind : TraceKind) (old new : Trace) (more : List Seen) (came : ℕ) (next : Tail) : Type 0 where
+  pub of_kind : IsOfKind kind new
+  pub events : seen_of d host new ≡ seen_of d host old ++ more
+  pub size : size_of new ≡ size_of old + came
+  pub waits : length next.rest ≡ pending_of new
+  pub tail : (bytes : List ℕ) (capture : captures.Capture) → new ≡ Captured bytes capture → feeding.StandsFor next bytes capture
+
+-- these events were accepted, or refused for their number: the answer is a reply for every trace that they make of the one before
+abbrev pub AcceptAnswered : Held → Held → ℕ → List Seen → ℕ → Tail → Option (List ℕ) → Option (List ℕ) → Type 0
+AcceptAnswered held held' k events size tail written written' = (d : Declaration) (s : State) (label : Label) (old new : Trace) → StandsFor held d s
+    → slice_get d.labels k ≡ Some label → slice_get s.traces k ≡ Some old → IsGrownTrace d label.host label.kind old new events size tail
+    → Answered held' d written written' (AcceptReply d s k new)
 
 -- the same of a command or of a line that spells none, with what its read came to
 abbrev pub CommandAnswered : Content → ℕ → ℕ → ℕ → ℕ → Option (List ℕ) → Option (List ℕ) → Held → Held → Option Command → Type 0

@@ -4,3 +4,4 @@ pub mod Reply
 pub mod Sessions
 pub mod Stands
 pub mod Inside
+pub mod OneReply

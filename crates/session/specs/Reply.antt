@@ -1,5 +1,5 @@
 -- What a session may reply to a command, and what it then has.
-use Rattle.std.specs.Prelude.{◌≡◌, ℕ, ◌+◌, ◌^◌, ◌⊎◌, List, [], ◌∷◌, ◌++◌, length, map, slice_get, slice_set, Option, Some, None, Bool, true, false, nat_le, ◌&&◌, codes, MatchBool, position}
+use Rattle.std.specs.Prelude.{◌≡◌, ℕ, ◌+◌, ◌-◌, ◌^◌, ◌⊎◌, List, [], ◌∷◌, ◌++◌, length, slice_get, slice_set, Option, Some, None, Bool, true, false, nat_le, ◌&&◌, codes, MatchBool, position}
 use Rattle.std.specs.Str.{bytes_eq}
 use Rattle.atto.specs.Decimal.{decimal_of}
 use Rattle.line_format.specs.Words.{line_of}
@@ -10,12 +10,17 @@ use Rattle.event_log.specs.declared.errors.LogError.{LogError}
 use Rattle.event_log.specs.declared.errors.LogError.TheVariants as faults
 use Rattle.event_log.specs.declared.row.Row.{Row}
 use Rattle.event_log.specs.Log.{records_of, AreRows, IsLogFault}
+use Rattle.pcap_stream.specs.declared.errors.PcapError.{PcapError}
+use Rattle.pcap_stream.specs.declared.errors.PcapError.TheVariants as refused
+use Rattle.pcap_stream.specs.Capture as captures
+use Rattle.pcap_stream.specs.Capture.{Reads, IsFault}
 use Rattle.decl.specs.declared.items.Label.{Label}
 use Rattle.decl.specs.declared.items.TraceKind.{TraceKind}
 use Rattle.decl.specs.declared.items.TraceKind.TheVariants.{Capture, Log}
 use Rattle.decl.specs.Declaration.{Declaration}
 use Rattle.traces.specs.declared.event.EventId.{EventId}
-use Rattle.traces.specs.Traces.{Trace, Captured, Logged, Traces, Seen, seen_of, size_of, events_of, event_count}
+use Rattle.traces.specs.declared.event.Couple.{Couple}
+use Rattle.traces.specs.Traces.{Trace, Captured, Logged, Traces, seen_by, size_of, events_of, event_count}
 use Rattle.traces.specs.Messages.{messages_of, missing, problem_of}
 use Rattle.queries.specs.Consistent.{IsConsistent}
 use Rattle.queries.specs.Replies.{IsIntervalLine, IsOrderLine, Replies}
@@ -54,10 +59,6 @@ OfTwo p first second Says s text s' =
     ⊎ ((IsUnknown p first ⊎ IsUnknown p second) × Refuses s (codes "28" ∷ []) text s')
 
 -- ---- additions
--- the events of all labels
-abbrev pub seen_by : Traces → List (List Seen)
-seen_by t = map seen_of t
-
 -- whether there is an execution, as a word
 abbrev pub state_word : Bool → List ℕ
 state_word true = codes "consistent"
@@ -69,16 +70,37 @@ added_line events messages withdrawn pending consistent =
     line_of (codes "added" ∷ codes "events" ∷ decimal_of events ∷ codes "messages" ∷ decimal_of messages ∷ codes "withdrawn" ∷ decimal_of withdrawn
     ∷ codes "pending" ∷ decimal_of pending ∷ state_word consistent ∷ [])
 
--- the line of an addition of so many events to a log, by the messages before and after
-abbrev pub IsAdded : Declaration → Traces → Traces → ℕ → List ℕ → Type 0
-IsAdded d old new more text =
-    let before = messages_of (events_of (seen_by old)) in
-    let after = messages_of (events_of (seen_by new)) in
-    (b : Bool) × IsConsistent (problem_of d new) b × (text ≡ added_line more (missing after before) (missing before after) 0 b)
+-- the messages of traces
+abbrev pub messages_by : Declaration → Traces → List Couple
+messages_by d traces = messages_of (events_of (seen_by d traces))
 
+-- how many events traces have
+abbrev pub count_by : Declaration → Traces → ℕ
+count_by d traces = event_count (seen_by d traces)
+
+-- the line of an addition by the traces before and after, where so many bytes wait
+abbrev pub IsAdded : Declaration → Traces → Traces → ℕ → List ℕ → Type 0
+IsAdded d old new pending text =
+    (b : Bool) × IsConsistent (problem_of d new) b
+    × (text ≡ added_line (count_by d new - count_by d old) (missing (messages_by d new) (messages_by d old)) (missing (messages_by d old) (messages_by d new)) pending b)
+
+-- how many bytes under a label belong to no whole header or record yet; of a log there are none
+abbrev pub pending_of : Trace → ℕ
+pending_of (Captured bytes capture) = length capture.rest
+pending_of (Logged rows size) = 0
+
+-- what was accepted under the label at a place becomes this, unless there would be too many events
+abbrev pub AcceptReply : Declaration → State → ℕ → Trace → List ℕ → State → Type 0
+AcceptReply d s k trace text s' =
+    let traces = slice_set s.traces k trace in
+    MatchBool (nat_le (count_by d traces) (2 ^ 20))
+    ((s' ≡ record s { traces = traces }) × IsAdded d s.traces traces (pending_of trace) text)
+    (Refuses s (codes "27" ∷ []) text s')
+
+-- ---- pieces of logs
 -- a trace with the rows of one piece more, of so many bytes
 abbrev pub with_rows : Trace → List Row → ℕ → Trace
-with_rows (Captured bytes) more size = Captured bytes
+with_rows (Captured bytes capture) more size = Captured bytes capture
 with_rows (Logged rows old) more size = Logged (rows ++ more) (old + size)
 
 -- the number of a fault of a log's piece, behind its row
@@ -93,23 +115,39 @@ row_fault faults.Memory = None
 abbrev pub IsRowFault : List ℕ → ℕ → ℕ → Type 0
 IsRowFault bytes row number = (e : LogError) × IsLogFault bytes e × (row_fault e ≡ Some (row, number))
 
--- the rows are added, unless there would be too many events
-abbrev pub RowsReply : Declaration → State → ℕ → Trace → List Row → ℕ → List ℕ → State → Type 0
-RowsReply d s k trace rows size text s' =
-    let traces = slice_set s.traces k (with_rows trace rows size) in
-    MatchBool (nat_le (event_count (seen_by traces)) (2 ^ 20))
-    ((s' ≡ record s { traces = traces }) × IsAdded d s.traces traces (length rows) text)
-    (Refuses s (codes "27" ∷ []) text s')
-
 -- a piece of a log has rows, or a first fault
 abbrev pub LogReply : Declaration → State → ℕ → Trace → List ℕ → List ℕ → State → Type 0
 LogReply d s k trace bytes text s' =
-    ((rows : List Row) × AreRows (records_of bytes) rows × RowsReply d s k trace rows (length bytes) text s')
+    ((rows : List Row) × AreRows (records_of bytes) rows × AcceptReply d s k (with_rows trace rows (length bytes)) text s')
     ⊎ ((row : ℕ) × (number : ℕ) × IsRowFault bytes row number × Refuses s (codes "26" ∷ decimal_of row ∷ decimal_of number ∷ []) text s')
 
--- a piece by the kind of its label; captures are refused as a whole
+-- ---- pieces of captures
+-- the bytes of a capture so far
+abbrev pub bytes_of : Trace → List ℕ
+bytes_of (Captured bytes capture) = bytes
+bytes_of (Logged rows size) = []
+
+-- the numbers by which a capture is refused
+abbrev pub capture_fault : PcapError → Option (List (List ℕ))
+capture_fault refused.Magic = Some (codes "24" ∷ codes "1" ∷ [])
+capture_fault refused.Version = Some (codes "24" ∷ codes "2" ∷ [])
+capture_fault (refused.Length place) = Some (codes "25" ∷ decimal_of place ∷ [])
+capture_fault refused.Memory = None
+
+-- why a capture of these bytes is refused, as numbers
+abbrev pub IsCaptureFault : List ℕ → List (List ℕ) → Type 0
+IsCaptureFault bytes numbers = (e : PcapError) × IsFault bytes e × (capture_fault e ≡ Some numbers)
+
+-- a capture with one piece more is read, or refused
+abbrev pub CaptureReply : Declaration → State → ℕ → Trace → List ℕ → List ℕ → State → Type 0
+CaptureReply d s k trace piece text s' =
+    let bytes = bytes_of trace ++ piece in
+    ((capture : captures.Capture) × Reads bytes capture × AcceptReply d s k (Captured bytes capture) text s')
+    ⊎ ((numbers : List (List ℕ)) × IsCaptureFault bytes numbers × Refuses s numbers text s')
+
+-- a piece by the kind of its label
 abbrev pub KindReply : Declaration → State → ℕ → Trace → TraceKind → List ℕ → List ℕ → State → Type 0
-KindReply d s k trace Capture bytes text s' = Refuses s (codes "24" ∷ codes "0" ∷ []) text s'
+KindReply d s k trace Capture bytes text s' = CaptureReply d s k trace bytes text s'
 KindReply d s k trace Log bytes text s' = LogReply d s k trace bytes text s'
 
 -- whether a piece is not too long, by itself and with what its label has

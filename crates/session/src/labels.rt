@@ -18,3 +18,11 @@ pub(crate) fn kind_at(labels: &[Label], k: usize) -> TraceKind
 {
     labels[k].kind
 }
+
+/// The host of the label at a place.
+pub(crate) fn host_of(labels: &[Label], k: usize) -> u32
+    requires { k < length labels.now }
+    ensures { slice_get (map (λ label. label.host) labels.now) k ≡ Some result }
+{
+    labels[k].host
+}

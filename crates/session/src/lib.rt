@@ -5,18 +5,19 @@
 //! reply: an answer, or `refused` with a number.
 #![tactic(auto)]
 
+mod accepted;
+mod adding;
 mod addition;
 mod command;
 mod events;
 mod labels;
 mod laws;
 mod lines;
-mod logs;
 mod questions;
 mod refusal;
 mod session;
 
-pub use laws::commands_are_one;
+pub use laws::{commands_are_one, replies_are_one};
 pub use queries::Stop;
 pub use session::Session;
 

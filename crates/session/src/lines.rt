@@ -1,10 +1,10 @@
 // Lines of replies, composed word by word.
-ghost use Rattle.std.specs.Prelude.{◌≡◌, ◌≤◌, ◌∷◌, [], ◌++◌, ℕ, List, OnOk, IfOk, IsErrOf};
+ghost use Rattle.std.specs.Prelude.{◌≡◌, ◌≤◌, ◌∷◌, [], ◌++◌, ℕ, List, OnOk, IfOk, IsErrOf, codes};
 ghost use Rattle.atto.specs.Decimal.{decimal_of};
 ghost use Rattle.line_format.specs.Words.{words};
 ghost use Rattle.ports.specs.Content.{Rose, Appends};
 ghost use Rattle.queries.specs.declared.stop.Stop.TheVariants as stops;
-ghost use Rattle.session.specs.Reply.{added_line, state_word};
+ghost use Rattle.session.specs.Reply.{added_line, refusal, state_word};
 ghost use Rattle.session.specs.Inside.{row_line};
 
 use atto::{NsText, write_decimal};
@@ -12,7 +12,7 @@ use ports::{Sink, write_whole};
 use queries::Stop;
 use std::alloc::{AllocError, Global};
 
-/// What an addition to a log changed.
+/// What an addition changed.
 #[derive(Clone, Copy, Debug, PartialEq, Eq)]
 pub(crate) struct Added {
     /// How many events there are more.
@@ -21,6 +21,8 @@ pub(crate) struct Added {
     pub(crate) messages: u64,
     /// How many messages are none any more.
     pub(crate) withdrawn: u64,
+    /// How many bytes under the label belong to no whole header or record yet.
+    pub(crate) pending: u64,
     /// Whether some execution obeys all bounds.
     pub(crate) consistent: bool,
 }
@@ -62,15 +64,15 @@ fn state_word(consistent: bool) -> &'static [u8]
     }
 }
 
-/// The line of an addition to a log.
+/// The line of an addition.
 pub(crate) fn added_line(alloc: Global, added: Added) -> Result<Vec<u8>, AllocError>
-    ensures { IfOk result (λ line. line.items ≡ added_line added.events added.messages added.withdrawn 0 added.consistent) }
+    ensures { IfOk result (λ line. line.items ≡ added_line added.events added.messages added.withdrawn added.pending added.consistent) }
 {
     let mut line = Vec::from_slice(alloc, b"added")?;
     push_count(&mut line, b"events", added.events)?;
     push_count(&mut line, b"messages", added.messages)?;
     push_count(&mut line, b"withdrawn", added.withdrawn)?;
-    push_count(&mut line, b"pending", 0)?;
+    push_count(&mut line, b"pending", added.pending)?;
     push_word(&mut line, state_word(added.consistent))?;
     line.push(b'\n')?;
     Ok(line)
@@ -84,6 +86,17 @@ pub(crate) fn row_line(alloc: Global, row: u32, number: u32) -> Result<Vec<u8>, 
     push_word(&mut line, b"26")?;
     push_decimal(&mut line, u64::from(row))?;
     push_decimal(&mut line, u64::from(number))?;
+    line.push(b'\n')?;
+    Ok(line)
+}
+
+/// The line of a refusal by the place of a record of a capture, in bytes from its start.
+pub(crate) fn place_line(alloc: Global, place: u32) -> Result<Vec<u8>, AllocError>
+    ensures { IfOk result (λ line. line.items ≡ refusal (codes "25" ∷ decimal_of place ∷ [])) }
+{
+    let mut line = Vec::from_slice(alloc, b"refused")?;
+    push_word(&mut line, b"25")?;
+    push_decimal(&mut line, u64::from(place))?;
     line.push(b'\n')?;
     Ok(line)
 }

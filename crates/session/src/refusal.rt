@@ -1,13 +1,14 @@
-// Refusals of a piece of a log by one of its rows.
+// Refusals of a piece: of a log by one of its rows, of a capture by its header or one of its records.
 ghost use Rattle.std.specs.Prelude.{◌≡◌, ◌≤◌, OnOk, IsErrOf};
 ghost use Rattle.ports.specs.Content.{Rose};
 ghost use Rattle.queries.specs.declared.stop.Stop.TheVariants as stops;
 ghost use Rattle.queries.specs.Replies.{AppendsSome};
 ghost use Rattle.session.specs.Reply.{row_fault};
-ghost use Rattle.session.specs.Inside.{IsRowRefusal};
+ghost use Rattle.session.specs.Inside.{IsCaptureRefusal, IsRowRefusal};
 
-use crate::lines::{row_line, write_line};
+use crate::lines::{place_line, row_line, write_line};
 use event_log::LogError;
+use pcap_stream::PcapError;
 use ports::Sink;
 use queries::Stop;
 use std::alloc::Global;
@@ -37,5 +38,22 @@ pub(crate) fn refuse_row<O: Sink>(alloc: Global, e: LogError, out: &mut O) -> Re
             write_line(&line, out)
         }
         None => Err(Stop::Memory),
+    }
+}
+
+/// Refuses a piece of a capture for this fault. For want of memory nothing is written, and `Memory` is answered.
+pub(crate) fn refuse_capture<O: Sink>(alloc: Global, e: PcapError, out: &mut O) -> Result<(), Stop>
+    ensures reply { OnOk result (AppendsSome (IsCaptureRefusal e) (O.written out.old) (O.written out.new)) }
+    ensures cause { IsErrOf result stops.WriteFault → Rose (O.faults out.old) (O.faults out.new) }
+    ensures no_fall { O.faults out.old ≤ O.faults out.new }
+{
+    match e {
+        PcapError::Magic => write_line(b"refused 24 1\n", out),
+        PcapError::Version => write_line(b"refused 24 2\n", out),
+        PcapError::Length(place) => {
+            let line = place_line(alloc, place)?;
+            write_line(&line, out)
+        }
+        PcapError::Memory => Err(Stop::Memory),
     }
 }

@@ -15,7 +15,113 @@ const CAPTURE: &str =
 
 const FIRST: &str = "added events 2 messages 0 withdrawn 0 pending 0 consistent\n";
 
+const NOTHING: &str = "added events 0 messages 0 withdrawn 0 pending 0 consistent\n";
+
+const ONE: &str = "added events 1 messages 0 withdrawn 0 pending 0 consistent\n";
+
 const SECOND: &str = "added events 2 messages 2 withdrawn 0 pending 0 consistent\n";
+
+// The same two hosts with a capture each.
+const TWO_CAPTURES: &str =
+    "[hosts.a]\naddresses = [\"10.0.0.1\"]\n[hosts.b]\naddresses = [\"10.0.0.2\"]\n\
+    [labels.a]\nhost = \"a\"\nkind = \"capture\"\n[labels.b]\nhost = \"b\"\nkind = \"capture\"\n\
+    [[links]]\nfrom = \"a\"\nto = \"b\"\nleast = 10\nmost = 20\n[[links]]\nfrom = \"b\"\nto = \"a\"\nleast = 10\nmost = 20\n";
+
+// Two records of 28 bytes under a header of little-endian nanoseconds and link type 101: at 100 ns a packet from
+// 10.0.0.1:5000 to 10.0.0.2:6000, at 180 ns one back.
+const CAPTURE_A: [u8; 112] = [
+    0x4d, 0x3c, 0xb2, 0xa1, 2, 0, 4, 0, 0, 0, 0, 0, 0, 0, 0, 0, 0, 0, 4, 0, 101, 0, 0, 0, //
+    0, 0, 0, 0, 100, 0, 0, 0, 28, 0, 0, 0, 28, 0, 0, 0, //
+    0x45, 0, 0, 0x1c, 0, 7, 0, 0, 0x40, 0x11, 0, 0, 10, 0, 0, 1, 10, 0, 0, 2, 0x13, 0x88, 0x17,
+    0x70, 0, 8, 0, 0, //
+    0, 0, 0, 0, 180, 0, 0, 0, 28, 0, 0, 0, 28, 0, 0, 0, //
+    0x45, 0, 0, 0x1c, 0, 8, 0, 0, 0x40, 0x11, 0, 0, 10, 0, 0, 2, 10, 0, 0, 1, 0x17, 0x70, 0x13,
+    0x88, 0, 8, 0, 0, //
+];
+
+// The same packets at 250 ns and 300 ns.
+const CAPTURE_B: [u8; 112] = [
+    0x4d, 0x3c, 0xb2, 0xa1, 2, 0, 4, 0, 0, 0, 0, 0, 0, 0, 0, 0, 0, 0, 4, 0, 101, 0, 0, 0, //
+    0, 0, 0, 0, 250, 0, 0, 0, 28, 0, 0, 0, 28, 0, 0, 0, //
+    0x45, 0, 0, 0x1c, 0, 7, 0, 0, 0x40, 0x11, 0, 0, 10, 0, 0, 1, 10, 0, 0, 2, 0x13, 0x88, 0x17,
+    0x70, 0, 8, 0, 0, //
+    0, 0, 0, 0, 44, 1, 0, 0, 28, 0, 0, 0, 28, 0, 0, 0, //
+    0x45, 0, 0, 0x1c, 0, 8, 0, 0, 0x40, 0x11, 0, 0, 10, 0, 0, 2, 10, 0, 0, 1, 0x17, 0x70, 0x13,
+    0x88, 0, 8, 0, 0, //
+];
+
+// The head of a record that says that 262,145 bytes were captured.
+const TOO_LONG: [u8; 16] = [0, 0, 0, 0, 100, 0, 0, 0, 1, 0, 4, 0, 1, 0, 4, 0];
+
+// What is asked when both hosts' traces were added, whether they are logs or captures.
+const QUESTIONS: [(&str, &str); 4] = [
+    ("interval a#1 b#1", "interval 10.000000000 20.000000000\n"),
+    ("interval b#1 a#1", "interval -20.000000000 -10.000000000\n"),
+    ("order a#1 b#1", "order before\n"),
+    (
+        "problem",
+        "problem 1\nclock a 0 0 0 0\nclock b 0 0 0 0\nevent a#1 a 100\nevent a#2 a 180\nevent b#1 b 250\nevent b#2 b 300\n\
+        message a#1 b#1 10 20\nmessage b#2 a#2 10 20\nend\n",
+    ),
+];
+
+// Where the first capture is cut, and the replies to its two pieces.
+const CUTS: [(usize, &str, &str); 14] = [
+    (0, NOTHING, FIRST),
+    (
+        1,
+        "added events 0 messages 0 withdrawn 0 pending 1 consistent\n",
+        FIRST,
+    ),
+    (
+        3,
+        "added events 0 messages 0 withdrawn 0 pending 3 consistent\n",
+        FIRST,
+    ),
+    (
+        4,
+        "added events 0 messages 0 withdrawn 0 pending 4 consistent\n",
+        FIRST,
+    ),
+    (
+        8,
+        "added events 0 messages 0 withdrawn 0 pending 8 consistent\n",
+        FIRST,
+    ),
+    (
+        23,
+        "added events 0 messages 0 withdrawn 0 pending 23 consistent\n",
+        FIRST,
+    ),
+    (24, NOTHING, FIRST),
+    (
+        39,
+        "added events 0 messages 0 withdrawn 0 pending 15 consistent\n",
+        FIRST,
+    ),
+    (
+        40,
+        "added events 0 messages 0 withdrawn 0 pending 16 consistent\n",
+        FIRST,
+    ),
+    (
+        67,
+        "added events 0 messages 0 withdrawn 0 pending 43 consistent\n",
+        FIRST,
+    ),
+    (68, ONE, ONE),
+    (
+        84,
+        "added events 1 messages 0 withdrawn 0 pending 16 consistent\n",
+        ONE,
+    ),
+    (
+        111,
+        "added events 1 messages 0 withdrawn 0 pending 43 consistent\n",
+        ONE,
+    ),
+    (112, FIRST, NOTHING),
+];
 
 // The files that are read, by their paths.
 const FILES: [(&str, &str); 10] = [
@@ -31,6 +137,20 @@ const FILES: [(&str, &str); 10] = [
     ("empty.csv", ""),
 ];
 
+// Pieces of captures by their paths: no magic number, version 2.3, a record of 2^32 - 1 bytes, a byte.
+const PIECES: [(&str, &[u8]); 4] = [
+    ("no.pcap", &[0x0a, 0x0d]),
+    ("old.pcap", &[0x4d, 0x3c, 0xb2, 0xa1, 2, 0, 3, 0]),
+    (
+        "endless.pcap",
+        &[
+            0x4d, 0x3c, 0xb2, 0xa1, 2, 0, 4, 0, 0, 0, 0, 0, 0, 0, 0, 0, 0, 0, 4, 0, 101, 0, 0, 0, //
+            0, 0, 0, 0, 100, 0, 0, 0, 255, 255, 255, 255, 255, 255, 255, 255, //
+        ],
+    ),
+    ("zero.pcap", &[0]),
+];
+
 // A session over a declaration: lines with their replies. Reads with these numbers fail, counted from 1.
 struct Case {
     declaration: &'static str,
@@ -38,7 +158,7 @@ struct Case {
     lines: &'static [(&'static str, &'static str)],
 }
 
-const CASES: [Case; 8] = [
+const CASES: [Case; 9] = [
     // Two logs with a message each way. What is refused changes nothing.
     Case {
         declaration: TWO_LOGS,
@@ -158,15 +278,39 @@ const CASES: [Case; 8] = [
             ("add b b.csv", SECOND),
         ],
     },
-    // Captures are refused; the path comes first.
+    // A capture and a log; what is refused of the capture changes nothing. The path comes first.
     Case {
         declaration: CAPTURE,
         fails: &[],
         lines: &[
             ("add c nofile", "refused 22\n"),
-            ("add c a.csv", "refused 24 0\n"),
+            ("add c no.pcap", "refused 24 1\n"),
+            ("add c old.pcap", "refused 24 2\n"),
+            ("add c endless.pcap", "refused 25 24\n"),
+            ("add c toolong.pcap", "refused 25 68\n"),
+            (
+                "add c begun.pcap",
+                "added events 0 messages 0 withdrawn 0 pending 23 consistent\n",
+            ),
+            ("add c zero.pcap", NOTHING),
             ("add l a.csv", FIRST),
             ("interval l#1 l#2", "interval 80.000000000 80.000000000\n"),
+        ],
+    },
+    // A record that is refused, and whole captures.
+    Case {
+        declaration: TWO_CAPTURES,
+        fails: &[],
+        lines: &[
+            ("add a toolong.pcap", "refused 25 68\n"),
+            ("add a a.pcap", FIRST),
+            ("add b b.pcap", SECOND),
+            ("interval a#1 b#1", "interval 10.000000000 20.000000000\n"),
+            (
+                "problem",
+                "problem 1\nclock a 0 0 0 0\nclock b 0 0 0 0\nevent a#1 a 100\nevent a#2 a 180\nevent b#1 b 250\nevent b#2 b 300\n\
+                message a#1 b#1 10 20\nmessage b#2 a#2 10 20\nend\n",
+            ),
         ],
     },
     // No labels.
@@ -180,28 +324,47 @@ const CASES: [Case; 8] = [
     },
 ];
 
+// A capture as far as its first record, and then a record that is too long.
+fn too_long(alloc: Global) -> Result<Vec<u8>, AllocError> {
+    let mut bytes = Vec::from_slice(alloc, &CAPTURE_A[..68])?;
+    bytes.extend_from_slice(&TOO_LONG)?;
+    Ok(bytes)
+}
+
+fn put_captures(alloc: Global, files: &mut MemFiles) -> Result<(), AllocError> {
+    files.put("a.pcap", &CAPTURE_A)?;
+    files.put("b.pcap", &CAPTURE_B)?;
+    files.put("begun.pcap", &CAPTURE_A[..23])?;
+    files.put("toolong.pcap", &too_long(alloc)?)?;
+    for (path, bytes) in &PIECES {
+        files.put(path, bytes)?;
+    }
+    Ok(())
+}
+
 fn put_files(alloc: Global, fails: &[u32]) -> Result<MemFiles, AllocError> {
     let mut files = MemFiles::new(alloc, fails)?;
     for (path, text) in &FILES {
         files.put(path, text.as_bytes())?;
     }
+    put_captures(alloc, &mut files)?;
     Ok(files)
 }
 
 // Whether a session gives these replies.
-fn replies(alloc: Global, case: &Case) -> Result<bool, Stop> {
-    let Ok(decl) = read_decl(alloc, case.declaration.as_bytes()) else {
-        return Ok(false);
-    };
-    let mut session = Session::new(alloc, decl)?;
-    let mut files = put_files(alloc, case.fails)?;
+fn answers(
+    alloc: Global,
+    session: &mut Session,
+    files: &mut MemFiles,
+    lines: &[(&str, &str)],
+) -> Result<bool, Stop> {
     let mut out = MemSink::new(alloc, 5_000, 7, &[])?;
     let mut wanted = Vec::new(alloc);
-    for (line, reply) in case.lines {
+    for (line, reply) in lines {
         if line.len() > 4096 {
             return Ok(false);
         }
-        session.step(line.as_bytes(), &mut files, &mut out)?;
+        session.step(line.as_bytes(), files, &mut out)?;
         wanted.extend_from_slice(reply.as_bytes())?;
         if out.bytes() != wanted.as_slice() {
             return Ok(false);
@@ -210,10 +373,57 @@ fn replies(alloc: Global, case: &Case) -> Result<bool, Stop> {
     Ok(true)
 }
 
+fn replies(alloc: Global, case: &Case) -> Result<bool, Stop> {
+    let Ok(decl) = read_decl(alloc, case.declaration.as_bytes()) else {
+        return Ok(false);
+    };
+    let mut session = Session::new(alloc, decl)?;
+    let mut files = put_files(alloc, case.fails)?;
+    answers(alloc, &mut session, &mut files, case.lines)
+}
+
 #[test]
 fn sessions(rt: HostRuntime) {
     for (k, case) in CASES.iter().enumerate() {
         assert!(rt; replies(rt.alloc(), case) == Ok(true), "case {k}");
+    }
+}
+
+// Whether a capture in two pieces, and another host's, are answered so.
+fn is_answered_when_cut(
+    alloc: Global,
+    cut: usize,
+    first: &'static str,
+    second: &'static str,
+) -> Result<bool, Stop> {
+    let Ok(decl) = read_decl(alloc, TWO_CAPTURES.as_bytes()) else {
+        return Ok(false);
+    };
+    let mut session = Session::new(alloc, decl)?;
+    let mut files = MemFiles::new(alloc, &[])?;
+    if cut > CAPTURE_A.len() {
+        return Ok(false);
+    }
+    let (front, back) = CAPTURE_A.split_at(cut);
+    files.put("front", front)?;
+    files.put("back", back)?;
+    files.put("b", &CAPTURE_B)?;
+    let additions = [
+        ("add a front", first),
+        ("add a back", second),
+        ("add b b", SECOND),
+    ];
+    let added = answers(alloc, &mut session, &mut files, &additions)?;
+    Ok(added && answers(alloc, &mut session, &mut files, &QUESTIONS)?)
+}
+
+#[test]
+fn cut_captures(rt: HostRuntime) {
+    for (cut, first, second) in &CUTS {
+        assert!(rt;
+            is_answered_when_cut(rt.alloc(), *cut, first, second) == Ok(true),
+            "cut {cut}"
+        );
     }
 }
 

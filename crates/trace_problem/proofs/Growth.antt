@@ -16,9 +16,9 @@ use Rattle.decl.specs.declared.items.Link.{Link}
 use Rattle.decl.specs.Declaration.{Declaration, IsDeclaration, LinkFits, bounds_among, link_bounds}
 use Rattle.traces.specs.declared.event.EventId.{EventId}
 use Rattle.traces.specs.declared.event.Couple.{Couple}
-use Rattle.traces.specs.declared.event.PlacedRow.{PlacedRow}
+use Rattle.traces.specs.declared.event.PlacedEvent.{PlacedEvent}
 use Rattle.traces.specs.Traces.{Placed, name_of, host_of}
-use Rattle.traces.specs.Logs.{placed_in, placed_of}
+use Rattle.traces.specs.Held.{placed_in, placed_of}
 use Rattle.traces.specs.Messages.{event_with, linked, place_of}
 use Rattle.trace_problem.specs.Making.{problem_by, IsOneOf, AreEvents, AreMessages}
 use Rattle.trace_problem.proofs.Lists.{got, all_at, pairs_map, pairs_before, take_next, map_next}
@@ -150,8 +150,8 @@ module _ (d : Declaration) (lawful : IsDeclaration d) (events : List Placed) (co
   }
 
 -- ---- what the code makes of one event and of one message
-pub placed_at : (rows : List PlacedRow) (k : ℕ) (e : PlacedRow) → k < length rows → e ≡ get_or rows k e → slice_get (placed_in rows) k ≡ Some (placed_of e)
-placed_at rows k e within is = slice_get-map placed_of rows k ∙ ap (option_map placed_of) (slice_get_read rows (length rows) k e refl within is)
+pub placed_at : (events : List PlacedEvent) (k : ℕ) (e : PlacedEvent) → k < length events → e ≡ get_or events k e → slice_get (placed_in events) k ≡ Some (placed_of e)
+placed_at events k e within is = slice_get-map placed_of events k ∙ ap (option_map placed_of) (slice_get_read events (length events) k e refl within is)
 
 same_message : (s t r u l n : ℕ) (o q : Option ℕ) → s ≡ t → r ≡ u → l ≡ n → o ≡ q →
     (let a : Message = record { send = s; receive = r; least = l; most = o } in a) ≡ (let b : Message = record { send = t; receive = u; least = n; most = q } in b)

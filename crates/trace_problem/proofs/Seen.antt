@@ -6,7 +6,8 @@ use Rattle.problem_model.specs.Problem.{IsProblem}
 use Rattle.decl.specs.Declaration.{Declaration, IsDeclaration}
 use Rattle.traces.specs.declared.event.EventId.{EventId}
 use Rattle.traces.specs.declared.event.Couple.{Couple}
-use Rattle.traces.specs.Traces.{Seen, Placed, numbered, events_from, events_of, event_count}
+use Rattle.trace_event.specs.Seen.{Seen}
+use Rattle.traces.specs.Traces.{Placed, numbered, events_from, events_of, event_count}
 use Rattle.traces.specs.Messages.{messages_of, problem_of_seen}
 use Rattle.traces.proofs.Ids.{ids_differ, ids_rise, ids_within, length_events}
 use Rattle.traces.proofs.MessageEnds.{ends_differ, ends_known, messages_few, sends_differ}

@@ -5,7 +5,8 @@ use Rattle.problem.specs.Line.{HasEvent}
 use Rattle.decl.specs.Declaration.{Declaration}
 use Rattle.traces.specs.declared.event.EventId.{EventId}
 use Rattle.traces.specs.declared.event.Couple.{Couple}
-use Rattle.traces.specs.Traces.{Placed, Seen, name_of}
+use Rattle.trace_event.specs.Seen.{Seen}
+use Rattle.traces.specs.Traces.{Placed, name_of}
 use Rattle.traces.specs.Messages.{event_with, linked}
 
 -- the clocks of all hosts, these events and these messages

@@ -2,7 +2,8 @@
 ghost use Rattle.std.specs.Prelude.{◌≡◌, ◌≤◌, ◌^◌, List, length};
 ghost use Rattle.problem_model.specs.Problem.{IsProblem};
 ghost use Rattle.decl.specs.Declaration.{Declaration, IsDeclaration};
-ghost use Rattle.traces.specs.Traces.{Seen, event_count};
+ghost use Rattle.trace_event.specs.Seen.{Seen};
+ghost use Rattle.traces.specs.Traces.{event_count};
 ghost use Rattle.traces.specs.Messages.{problem_of_seen};
 ghost use Rattle.trace_problem.specs.Making.{StampsFit};
 

@@ -1,9 +1,9 @@
-// The problem of events and messages, and of logs.
+// The problem of events and messages, and of all that was accepted.
 ghost use Rattle.std.specs.Prelude.{◌≡◌, ◌≤◌, ◌^◌, length, IfOk};
 ghost use Rattle.decl.specs.Declaration.{IsDeclaration, declaration_of};
 ghost use Rattle.traces.specs.Traces.{event_count};
 ghost use Rattle.traces.specs.Messages.{problem_of_seen};
-ghost use Rattle.traces.specs.Logs.{placed_in, seen_in};
+ghost use Rattle.traces.specs.Held.{placed_in, seen_in};
 ghost use Rattle.trace_problem.specs.Making.{AreEvents, AreMessages, problem_by};
 
 use crate::adding::{add_clock, add_event, add_message};
@@ -11,13 +11,13 @@ use crate::parts::{event_of, message_of};
 use decl::Decl;
 use problem::Problem;
 use std::alloc::{AllocError, Global};
-use traces::{Couple, Log, PlacedRow, events, messages};
+use traces::{Accepted, Couple, PlacedEvent, events, messages};
 
 // The problem of a declaration's clocks, of these events and of these messages.
 fn problem_by(
     alloc: Global,
     decl: &Decl,
-    events: &[PlacedRow],
+    events: &[PlacedEvent],
     couples: &[Couple],
 ) -> Result<Problem, AllocError>
     requires lawful { IsDeclaration (declaration_of decl.now) }
@@ -40,16 +40,16 @@ fn problem_by(
     Ok(p)
 }
 
-/// The problem of a declaration and of the logs of its labels, one for each label: the clocks of all hosts, the events of
+/// The problem of a declaration and of what was accepted under each of its labels: the clocks of all hosts, the events of
 /// all labels on the clocks of their hosts, and their messages with the bounds of the links between the hosts. An error
 /// where memory runs out.
-pub fn problem_in(alloc: Global, decl: &Decl, logs: &[Log]) -> Result<Problem, AllocError>
+pub fn problem_in(alloc: Global, decl: &Decl, accepted: &[Accepted]) -> Result<Problem, AllocError>
     requires declared { IsDeclaration (declaration_of decl.now) }
-    requires labels { length logs.now ≡ length decl.now.labels.items }
-    requires count { event_count (seen_in logs.now) ≤ 2 ^ 20 }
-    ensures problem { IfOk result (λ p. p ≡ problem_of_seen (declaration_of decl.now) (seen_in logs.now)) }
+    requires labels { length accepted.now ≡ length decl.now.labels.items }
+    requires count { event_count (seen_in accepted.now) ≤ 2 ^ 20 }
+    ensures problem { IfOk result (λ p. p ≡ problem_of_seen (declaration_of decl.now) (seen_in accepted.now)) }
 {
-    let events = events(alloc, logs)?;
+    let events = events(alloc, accepted)?;
     let couples = messages(alloc, &events)?;
     problem_by(alloc, decl, &events, &couples)
 }

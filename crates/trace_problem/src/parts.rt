@@ -5,13 +5,13 @@ ghost use Rattle.problem.specs.Line.{HasEvent};
 ghost use Rattle.trace_problem.specs.Making.{IsKnown};
 ghost use Rattle.traces.specs.Traces.{name_of, host_of};
 ghost use Rattle.traces.specs.Messages.{event_with};
-ghost use Rattle.traces.specs.Logs.{placed_of};
+ghost use Rattle.traces.specs.Held.{placed_of};
 
 use crate::naming::event_name;
 use decl::Decl;
 use problem::Problem;
 use problem_model::{Event, Message, Name};
-use traces::{Couple, EventId, PlacedRow};
+use traces::{Couple, EventId, PlacedEvent};
 
 // The host that an event happened at.
 fn host_of(decl: &Decl, id: EventId) -> u32
@@ -32,7 +32,7 @@ fn name_of(decl: &Decl, id: EventId) -> Name
 }
 
 /// An event with its name, on the clock of its host.
-pub fn event_of(decl: &Decl, e: &PlacedRow) -> Event
+pub fn event_of(decl: &Decl, e: &PlacedEvent) -> Event
     requires lawful { IsDeclaration (declaration_of decl.now) }
     requires label { e.now.id.label < length decl.now.labels.items }
     ensures { result ≡ event_with (declaration_of decl.now) (placed_of e.now) }
@@ -40,7 +40,7 @@ pub fn event_of(decl: &Decl, e: &PlacedRow) -> Event
     Event {
         name: name_of(decl, e.id),
         clock: host_of(decl, e.id),
-        stamp: e.row.stamp,
+        stamp: e.event.stamp,
     }
 }
 

@@ -7,11 +7,13 @@ use super::*;
 use atto::{Nano, Rate};
 use decl::{Decl, Label, Link, TraceKind};
 use event_log::read_rows;
+use pcap_stream::PcapStream;
 use problem::{Problem, read_problem};
 use problem_model::{Clock, Name};
 use std::alloc::Global;
 use std::test::*;
-use traces::{Log, event_count};
+use trace_event::row_events;
+use traces::{Accepted, event_count};
 
 // The logs of the labels p at the host b, q and r at the host a, and the problem that they make. From a to b a message
 // takes 10 to 20 ns, from b to a at least 5, and from a to a 1 or 2.
@@ -119,20 +121,19 @@ fn declared(alloc: Global) -> Option<Decl>
     })
 }
 
-fn log_of(alloc: Global, text: &str) -> Option<Log> {
+fn log_of(alloc: Global, text: &str) -> Option<Accepted> {
     if text.len() > 1 << 28 {
         return None;
     }
-    match read_rows(alloc, text.as_bytes()) {
-        Ok(rows) => Some(Log {
-            rows,
-            size: text.len() as u64,
-        }),
-        Err(_) => None,
-    }
+    let rows = read_rows(alloc, text.as_bytes()).ok()?;
+    Some(Accepted {
+        events: row_events(alloc, rows).ok()?,
+        size: text.len() as u64,
+        stream: PcapStream::new(alloc),
+    })
 }
 
-fn logs_of(alloc: Global, texts: &[&str; 3]) -> Option<Vec<Log>> {
+fn logs_of(alloc: Global, texts: &[&str; 3]) -> Option<Vec<Accepted>> {
     let first = log_of(alloc, texts[0])?;
     let second = log_of(alloc, texts[1])?;
     let third = log_of(alloc, texts[2])?;

@@ -1,14 +1,19 @@
--- The rows of one log among those of all.
+-- The events of one label among those of all.
 use Rattle.std.proofs.Common.{◌≡◌, ◌<◌, ◌≤◌, ℕ, List, length, get_or, sym, ap, ◌∙◌, subst}
 use Rattle.std.proofs.lemmas.List.{get_or-map, length-map}
 use Rattle.std.proofs.lemmas.List.Sums.{get_or-le-sum_by}
-use Rattle.traces.specs.declared.log.Log.{Log}
-use Rattle.traces.specs.Traces.{Seen, event_count, seen_row}
-use Rattle.traces.specs.Logs.{seen_in, seen_log}
+use Rattle.trace_event.specs.Seen.{Seen, seen_event, seen_events}
+use Rattle.traces.specs.declared.accepted.Accepted.{Accepted}
+use Rattle.traces.specs.Traces.{event_count}
+use Rattle.traces.specs.Held.{seen_in}
 
-pub rows_few : (logs : List Log) (i : ℕ) (log : Log) → i < length logs → log ≡ get_or logs i log → length log.rows.items ≤ event_count (seen_in logs)
-rows_few logs i log inside is =
-    let at : get_or (seen_in logs) i (seen_log log) ≡ seen_log log = get_or-map seen_log logs i log (seen_log log) inside ∙ ap seen_log (sym is) in
-    let place : i < length (seen_in logs) = subst (λ (n : ℕ). i < n) (sym (length-map logs seen_log)) inside in
-    let few : length (seen_log log) ≤ event_count (seen_in logs) = subst (λ (s : List Seen). length s ≤ event_count (seen_in logs)) at (get_or-le-sum_by length (seen_in logs) i (seen_log log) place) in
-    subst (λ (n : ℕ). n ≤ event_count (seen_in logs)) (length-map log.rows.items seen_row) few
+-- the events of one label
+abbrev seen_here : Accepted → List Seen
+seen_here a = seen_events a.events.items
+
+pub events_few : (accepted : List Accepted) (i : ℕ) (a : Accepted) → i < length accepted → a ≡ get_or accepted i a → length a.events.items ≤ event_count (seen_in accepted)
+events_few accepted i a inside is =
+    let at : get_or (seen_in accepted) i (seen_here a) ≡ seen_here a = get_or-map seen_here accepted i a (seen_here a) inside ∙ ap seen_here (sym is) in
+    let place : i < length (seen_in accepted) = subst (λ (n : ℕ). i < n) (sym (length-map accepted seen_here)) inside in
+    let few : length (seen_here a) ≤ event_count (seen_in accepted) = subst (λ (s : List Seen). length s ≤ event_count (seen_in accepted)) at (get_or-le-sum_by length (seen_in accepted) i (seen_here a) place) in
+    subst (λ (n : ℕ). n ≤ event_count (seen_in accepted)) (length-map a.events.items seen_event) few

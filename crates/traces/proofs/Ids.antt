@@ -5,7 +5,8 @@ use Rattle.std.proofs.lemmas.List.Elements.{All-append, All-cons, All-nil, All-w
 use Rattle.std.proofs.lemmas.List.Kept.{AllPairs-cons}
 use Rattle.std.proofs.lemmas.List.Sums.{sum_by-cons, sum_by-set}
 use Rattle.traces.specs.declared.event.EventId.{EventId}
-use Rattle.traces.specs.Traces.{Seen, Placed, numbered, events_from, events_of, event_count}
+use Rattle.trace_event.specs.Seen.{Seen}
+use Rattle.traces.specs.Traces.{Placed, numbered, events_from, events_of, event_count}
 use Rattle.traces.specs.Pairs.{ComesBefore}
 use Rattle.traces.proofs.Members.{no_pairs, pairs_joined}
 

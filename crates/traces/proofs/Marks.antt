@@ -1,13 +1,15 @@
 -- Events by their key and side.
-use Rattle.std.proofs.Common.{◌≡◌, ◌≢◌, ℕ, List, [], ◌∷◌, Option, Some, None, Bool, true, false, inl, inr, refl, sym, ap, ◌∙◌, subst, arith}
+use Rattle.std.proofs.Common.{◌≡◌, ◌≢◌, List, [], ◌∷◌, Bool, true, false, inl, inr, refl, sym, ap, ◌∙◌, subst, arith}
 use Rattle.std.specs.Prelude.{AllPairs, Contains}
-use Rattle.std.specs.Str.{bytes_eq}
 use Rattle.std.proofs.lemmas.Bool.{and_from, and_parts, false≢true}
 use Rattle.std.proofs.lemmas.List.Elements.{All-contains}
 use Rattle.std.proofs.lemmas.List.Kept.{AllPairs-filter}
-use Rattle.std.proofs.lemmas.Slice.Eq.{bytes_eq-Decides}
-use Rattle.traces.specs.Traces.{Side, Send, Receive, Placed}
-use Rattle.traces.specs.Messages.{is_mark, is_same_side, with_mark}
+use Rattle.trace_event.specs.declared.event.Side.{Side}
+use Rattle.trace_event.specs.declared.event.Side.TheVariants.{Send, Receive}
+use Rattle.trace_event.specs.Seen.{EventKey, SeenMark, Keyed, Unkeyed, is_mark, is_same_key, is_same_side}
+use Rattle.trace_event.proofs.Keys.{keys_tell}
+use Rattle.traces.specs.Traces.{Placed}
+use Rattle.traces.specs.Messages.{with_mark}
 use Rattle.traces.specs.Pairs.{IsOnly}
 use Rattle.traces.proofs.Members.{first_of_pairs, has_passed, head_or_tail, here, kept, none_in, rest_of_pairs, there, was_in}
 
@@ -22,29 +24,29 @@ own_side : (a : Side) → is_same_side a a ≡ true
 own_side Send = refl
 own_side Receive = refl
 
-is_receive : Option (List ℕ × Side) → Bool
-is_receive None = false
-is_receive (Some mark) = is_same_side Receive mark.1
+is_receive : SeenMark → Bool
+is_receive (Keyed key side) = is_same_side Receive side
+is_receive (Unkeyed reason) = false
 
-pub sides_differ : (mark : Option (List ℕ × Side)) (key key' : List ℕ) → mark ≡ Some (key, Send) → mark ≡ Some (key', Receive) → ⊥
+pub sides_differ : (mark : SeenMark) (key key' : EventKey) → mark ≡ Keyed key Send → mark ≡ Keyed key' Receive → ⊥
 unfolding is_receive
 sides_differ mark key key' send receive =
     let no' : is_receive mark ≡ false = ap is_receive send in
     let yes' : is_receive mark ≡ true = ap is_receive receive in
     false≢true (sym no' ∙ yes')
 
-mark_is : (key : List ℕ) (side : Side) (mark : Option (List ℕ × Side)) → is_mark key side mark ≡ true → mark ≡ Some (key, side)
-mark_is key side None is = absurd (false≢true is)
-mark_is key side (Some mark) is =
-    let both = and_parts (bytes_eq mark.0 key) (is_same_side mark.1 side) is in
-    ap (λ (k : List ℕ). Some (k, mark.1)) ((bytes_eq-Decides mark.0 key).0 both.0) ∙ ap (λ (s : Side). Some (key, s)) (same_side mark.1 side both.1)
+mark_is : (key : EventKey) (side : Side) (mark : SeenMark) → is_mark key side mark ≡ true → mark ≡ Keyed key side
+mark_is key side (Unkeyed reason) is = absurd (false≢true is)
+mark_is key side (Keyed other its_side) is =
+    let both = and_parts (is_same_key other key) (is_same_side its_side side) is in
+    ap (λ (k : EventKey). Keyed k its_side) ((keys_tell other key).0 both.0) ∙ ap (λ (s : Side). Keyed key s) (same_side its_side side both.1)
 
-is_marked : (key : List ℕ) (side : Side) (mark : Option (List ℕ × Side)) → mark ≡ Some (key, side) → is_mark key side mark ≡ true
-is_marked key side mark is = ap (is_mark key side) is ∙ and_from (bytes_eq key key) (is_same_side side side) ((bytes_eq-Decides key key).1 refl) (own_side side)
+is_marked : (key : EventKey) (side : Side) (mark : SeenMark) → mark ≡ Keyed key side → is_mark key side mark ≡ true
+is_marked key side mark is = ap (is_mark key side) is ∙ and_from (is_same_key key key) (is_same_side side side) ((keys_tell key key).1 refl) (own_side side)
 
 -- ---- the only event
 -- what is left of the events by a mark is one: it is the only one
-pub only_from : (events : List Placed) (key : List ℕ) (side : Side) (e : Placed) → with_mark key side events ≡ e ∷ [] → IsOnly events key side e
+pub only_from : (events : List Placed) (key : EventKey) (side : Side) (e : Placed) → with_mark key side events ≡ e ∷ [] → IsOnly events key side e
 only_from events key side e is =
     let test = λ (o : Placed). is_mark key side o.seen.mark in
     let held : Contains (with_mark key side events) e = subst (λ (xs : List Placed). Contains xs e) (sym is) (here e []) in record {
@@ -66,7 +68,7 @@ one_left (x ∷ y ∷ more) e held alone differ =
     absurd (differ 0 1 x (omega arith) (omega arith) (ap (λ (p : Placed). p.id) same))
 
 -- and where names differ, the only one is what is left
-pub only_to : (events : List Placed) (key : List ℕ) (side : Side) (e : Placed) → AllPairs (λ (a b : Placed). a.id ≢ b.id) events → IsOnly events key side e → with_mark key side events ≡ e ∷ []
+pub only_to : (events : List Placed) (key : EventKey) (side : Side) (e : Placed) → AllPairs (λ (a b : Placed). a.id ≢ b.id) events → IsOnly events key side e → with_mark key side events ≡ e ∷ []
 only_to events key side e differ only =
     let test = λ (o : Placed). is_mark key side o.seen.mark in
     one_left (with_mark key side events) e (kept test events e only.among (is_marked key side e.seen.mark only.marked))

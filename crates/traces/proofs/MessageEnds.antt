@@ -1,10 +1,13 @@
 -- Messages one by one: their ends, their order and their number.
-use Rattle.std.proofs.Common.{◌≡◌, ◌≢◌, ◌≤◌, ℕ, List, [], ◌∷◌, length, Option, Some, None, inl, inr, refl, sym, ap, ◌∙◌, subst, arith, length-append}
+use Rattle.std.proofs.Common.{◌≡◌, ◌≢◌, ◌≤◌, List, [], ◌∷◌, length, inl, inr, refl, sym, ap, ◌∙◌, subst, arith, length-append}
 use Rattle.std.specs.Prelude.{All, AllPairs, Contains, slice_index_or}
 use Rattle.std.proofs.lemmas.List.Elements.{All-contains, Contains-get_or}
 use Rattle.traces.specs.declared.event.EventId.{EventId}
 use Rattle.traces.specs.declared.event.Couple.{Couple}
-use Rattle.traces.specs.Traces.{Side, Send, Receive, Seen, Placed, events_of}
+use Rattle.trace_event.specs.declared.event.Side.{Side}
+use Rattle.trace_event.specs.declared.event.Side.TheVariants.{Send, Receive}
+use Rattle.trace_event.specs.Seen.{EventKey, SeenMark, Keyed, Unkeyed, Seen}
+use Rattle.traces.specs.Traces.{Placed, events_of}
 use Rattle.traces.specs.Messages.{messages_of, only_two, sent_by, with_mark}
 use Rattle.traces.specs.Pairs.{ComesBefore, IsPair}
 use Rattle.traces.proofs.Ids.{before_differs, ids_differ, ids_rise}
@@ -23,7 +26,7 @@ two_of (s ∷ []) (r ∷ []) m held = elim (head_or_tail _ m [] held) [
 ]
 two_of (s ∷ []) (r ∷ t ∷ more) m held = absurd (none_in m held)
 
-sent_at : (events : List Placed) (key : List ℕ) (side : Side) (m : Couple) → Contains (sent_by events (Some (key, side))) m → (pair : IsPair events m) × ◌≡◌ {A = Option (List ℕ × Side)} (Some (key, side)) (Some (pair.key, Send))
+sent_at : (events : List Placed) (key : EventKey) (side : Side) (m : Couple) → Contains (sent_by events (Keyed key side)) m → (pair : IsPair events m) × ◌≡◌ {A = SeenMark} (Keyed key side) (Keyed pair.key Send)
 sent_at events key Receive m held = absurd (none_in m held)
 sent_at events key Send m held =
     let two = two_of (with_mark key Send events) (with_mark key Receive events) m held in (
@@ -39,9 +42,9 @@ sent_at events key Send m held =
     )
 
 -- what an event of this mark sends is a pair, and the mark is that of its send
-sent_pair : (events : List Placed) (mark : Option (List ℕ × Side)) (m : Couple) → Contains (sent_by events mark) m → (pair : IsPair events m) × (mark ≡ Some (pair.key, Send))
-sent_pair events None m held = absurd (none_in m held)
-sent_pair events (Some mark) m held = sent_at events mark.0 mark.1 m held
+sent_pair : (events : List Placed) (mark : SeenMark) (m : Couple) → Contains (sent_by events mark) m → (pair : IsPair events m) × (mark ≡ Keyed pair.key Send)
+sent_pair events (Unkeyed reason) m held = absurd (none_in m held)
+sent_pair events (Keyed key side) m held = sent_at events key side m held
 
 -- each message is a pair
 pub pair_from : (events : List Placed) (m : Couple) → Contains (messages_of events) m → IsPair events m
@@ -83,13 +86,13 @@ two_few (s ∷ []) [] = omega arith
 two_few (s ∷ []) (r ∷ []) = omega arith
 two_few (s ∷ []) (r ∷ t ∷ more) = omega arith
 
-few_at : (events : List Placed) (key : List ℕ) (side : Side) → length (sent_by events (Some (key, side))) ≤ 1
+few_at : (events : List Placed) (key : EventKey) (side : Side) → length (sent_by events (Keyed key side)) ≤ 1
 few_at events key Send = two_few (with_mark key Send events) (with_mark key Receive events)
 few_at events key Receive = omega arith
 
-sent_few : (events : List Placed) (mark : Option (List ℕ × Side)) → length (sent_by events mark) ≤ 1
-sent_few events None = omega arith
-sent_few events (Some mark) = few_at events mark.0 mark.1
+sent_few : (events : List Placed) (mark : SeenMark) → length (sent_by events mark) ≤ 1
+sent_few events (Unkeyed reason) = omega arith
+sent_few events (Keyed key side) = few_at events key side
 
 all_few : (events some : List Placed) → length (sent_of events some) ≤ length some
 all_few events [] = omega arith

@@ -1,5 +1,5 @@
 pub mod Traces
 pub mod Messages
-pub mod Logs
+pub mod Held
 pub mod Ends
 pub mod Pairs

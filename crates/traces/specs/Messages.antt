@@ -1,29 +1,20 @@
 -- The messages among events, and the problem of a declaration and traces.
-use Rattle.std.specs.Prelude.{ℕ, List, [], ◌∷◌, length, map, filter, position, unwrap_or, Option, Some, None, Bool, true, false, not, ◌&&◌}
+use Rattle.std.specs.Prelude.{ℕ, List, [], ◌∷◌, length, map, filter, position, unwrap_or, Option, Bool, not, ◌&&◌}
 use Rattle.std.specs.List.{flat_map, list_any}
-use Rattle.std.specs.Str.{bytes_eq}
 use Rattle.problem_model.specs.declared.items.Event.{Event}
 use Rattle.problem_model.specs.declared.items.Message.{Message}
 use Rattle.problem_model.specs.Problem.{ProblemLists}
 use Rattle.decl.specs.Declaration.{Declaration, link_bounds}
+use Rattle.trace_event.specs.declared.event.Side.{Side}
+use Rattle.trace_event.specs.declared.event.Side.TheVariants.{Send, Receive}
+use Rattle.trace_event.specs.Seen.{EventKey, SeenMark, Keyed, Unkeyed, Seen, is_mark}
 use Rattle.traces.specs.declared.event.EventId.{EventId}
 use Rattle.traces.specs.declared.event.Couple.{Couple}
-use Rattle.traces.specs.Traces.{Traces, Side, Send, Receive, Seen, Placed, seen_of, events_of, is_same, name_of, host_of}
+use Rattle.traces.specs.Traces.{Traces, Placed, seen_by, events_of, is_same, name_of, host_of}
 
 -- ---- messages
-abbrev pub is_same_side : Side → Side → Bool
-is_same_side Send Send = true
-is_same_side Send Receive = false
-is_same_side Receive Send = false
-is_same_side Receive Receive = true
-
--- whether a mark has this key and this side
-abbrev pub is_mark : List ℕ → Side → Option (List ℕ × Side) → Bool
-is_mark key side None = false
-is_mark key side (Some mark) = bytes_eq mark.0 key && is_same_side mark.1 side
-
 -- all events with this key and this side
-abbrev pub with_mark : List ℕ → Side → List Placed → List Placed
+abbrev pub with_mark : EventKey → Side → List Placed → List Placed
 with_mark key side events = filter (λ (e : Placed). is_mark key side e.seen.mark) events
 
 -- a send and a receive, where each is the only one
@@ -32,9 +23,10 @@ only_two (s ∷ []) (r ∷ []) = (record { send = s.id; receive = r.id }) ∷ []
 only_two _ _ = []
 
 -- the message that an event with this mark sends, among all events
-abbrev pub sent_by : List Placed → Option (List ℕ × Side) → List Couple
-sent_by events None = []
-sent_by events (Some mark) = elim mark.1 as (λ _. List Couple) [ Send ↦ only_two (with_mark mark.0 Send events) (with_mark mark.0 Receive events) | Receive ↦ [] ]
+abbrev pub sent_by : List Placed → SeenMark → List Couple
+sent_by events (Keyed key Send) = only_two (with_mark key Send events) (with_mark key Receive events)
+sent_by events (Keyed key Receive) = []
+sent_by events (Unkeyed reason) = []
 
 -- the messages in the order of their sends: an event and another one are a message where the one is the only send of its
 -- key and the other the only receive of that key
@@ -74,4 +66,4 @@ problem_of_seen d seen =
 
 -- the problem of a declaration and traces
 abbrev pub problem_of : Declaration → Traces → ProblemLists
-problem_of d t = problem_of_seen d (map seen_of t)
+problem_of d t = problem_of_seen d (seen_by d t)

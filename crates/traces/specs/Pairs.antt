@@ -1,18 +1,21 @@
 -- What a message is, one by one.
-use Rattle.std.specs.Prelude.{◌≡◌, ◌<◌, ◌⊎◌, ℕ, List, Contains, Some}
+use Rattle.std.specs.Prelude.{◌≡◌, ◌<◌, ◌⊎◌, List, Contains}
+use Rattle.trace_event.specs.declared.event.Side.{Side}
+use Rattle.trace_event.specs.declared.event.Side.TheVariants.{Send, Receive}
+use Rattle.trace_event.specs.Seen.{EventKey, Keyed}
 use Rattle.traces.specs.declared.event.EventId.{EventId}
 use Rattle.traces.specs.declared.event.Couple.{Couple}
-use Rattle.traces.specs.Traces.{Side, Send, Receive, Placed}
+use Rattle.traces.specs.Traces.{Placed}
 
 -- the event is one of these, it has this key and this side, and no other one has
-pub record IsOnly (events : List Placed) (key : List ℕ) (side : Side) (e : Placed) : Type 0 where
+pub record IsOnly (events : List Placed) (key : EventKey) (side : Side) (e : Placed) : Type 0 where
   pub among : Contains events e
-  pub marked : e.seen.mark ≡ Some (key, side)
-  pub alone : (other : Placed) → Contains events other → other.seen.mark ≡ Some (key, side) → other ≡ e
+  pub marked : e.seen.mark ≡ Keyed key side
+  pub alone : (other : Placed) → Contains events other → other.seen.mark ≡ Keyed key side → other ≡ e
 
 -- the couple is the only send of a key and the only receive of that key
 pub record IsPair (events : List Placed) (m : Couple) : Type 0 where
-  pub key : List ℕ
+  pub key : EventKey
   pub sender : Placed
   pub receiver : Placed
   pub sends : IsOnly events key Send sender

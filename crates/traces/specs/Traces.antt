@@ -1,19 +1,20 @@
 -- What was accepted under each label, and the events of it.
 use Rattle.std.specs.Prelude.{ℕ, ◌+◌, List, [], ◌∷◌, ◌++◌, length, map, sum_by, slice_get, Option, Some, None, Bool, ◌==◌, ◌&&◌}
 use Rattle.atto.specs.Decimal.{decimal_of}
-use Rattle.event_log.specs.declared.row.Kind.{Kind}
-use Rattle.event_log.specs.declared.row.Kind.TheVariants as kinds
 use Rattle.event_log.specs.declared.row.Row.{Row}
 use Rattle.decl.specs.declared.items.Label.{Label}
 use Rattle.decl.specs.declared.items.TraceKind.{TraceKind}
 use Rattle.decl.specs.declared.items.TraceKind.TheVariants.{Capture, Log}
 use Rattle.decl.specs.Declaration.{Declaration}
+use Rattle.pcap_stream.specs.Capture as captures
+use Rattle.pcap_stream.specs.Capture.{Reads, packets_of, nothing}
+use Rattle.trace_event.specs.Seen.{Seen, seen_row, event_of_packet}
 use Rattle.traces.specs.declared.event.EventId.{EventId}
 
 -- ---- what was accepted
--- under one label: the bytes of a capture; the rows of a log, and how many bytes they came in
+-- under one label: the bytes of a capture, and what they stand for; the rows of a log, and how many bytes they came in
 pub data Trace : Type 0 where
-  Captured : List ℕ → Trace
+  Captured : List ℕ → captures.Capture → Trace
   Logged : List Row → ℕ → Trace
 
 -- under each label, by its place
@@ -22,48 +23,36 @@ Traces = List Trace
 
 -- how many bytes were accepted under a label
 abbrev pub size_of : Trace → ℕ
-size_of (Captured bytes) = length bytes
+size_of (Captured bytes capture) = length bytes
 size_of (Logged rows size) = size
 
 -- nothing was accepted yet
 abbrev pub nothing_for : TraceKind → Trace
-nothing_for Capture = Captured []
+nothing_for Capture = Captured [] nothing
 nothing_for Log = Logged [] 0
 
--- what was accepted is of the label's kind
+-- what was accepted is of the label's kind, and the bytes of a capture stand for this
 abbrev pub IsOfKind : TraceKind → Trace → Type 0
-IsOfKind Capture (Captured bytes) = Unit {0}
+IsOfKind Capture (Captured bytes capture) = Reads bytes capture
 IsOfKind Capture (Logged rows size) = ⊥
-IsOfKind Log (Captured bytes) = ⊥
+IsOfKind Log (Captured bytes capture) = ⊥
 IsOfKind Log (Logged rows size) = Unit {0}
 
 -- ---- what it says
--- which end of a message an event is
-pub data Side : Type 0 where
-  Send : Side
-  Receive : Side
+-- the events of what was accepted under a label of this host, in its order
+abbrev pub seen_of : Declaration → ℕ → Trace → List Seen
+seen_of d host (Captured bytes capture) = map (event_of_packet d host) (packets_of capture)
+seen_of d host (Logged rows size) = map seen_row rows
 
--- an event by itself: its stamp, and the key of the message that it is an end of, with the side
-pub record Seen : Type 0 where
-  pub stamp : ℕ
-  pub mark : Option (List ℕ × Side)
+-- the events of each label, by what was accepted under it
+abbrev pub seen_under : Declaration → List Label → Traces → List (List Seen)
+seen_under d [] traces = []
+seen_under d (label ∷ labels) [] = []
+seen_under d (label ∷ labels) (trace ∷ traces) = seen_of d label.host trace ∷ seen_under d labels traces
 
--- the key of a row with the side of its kind
-abbrev pub mark_of : Kind → Option (List ℕ) → Option (List ℕ × Side)
-mark_of kinds.Send None = None
-mark_of kinds.Send (Some key) = Some (key, Send)
-mark_of kinds.Receive None = None
-mark_of kinds.Receive (Some key) = Some (key, Receive)
-mark_of kinds.Local key = None
-
--- the event of a row
-abbrev pub seen_row : Row → Seen
-seen_row row = record { stamp = row.stamp; mark = mark_of row.kind row.key }
-
--- the events of what was accepted under a label, in its order
-abbrev pub seen_of : Trace → List Seen
-seen_of (Captured bytes) = []
-seen_of (Logged rows size) = map seen_row rows
+-- the events of each label of a declaration
+abbrev pub seen_by : Declaration → Traces → List (List Seen)
+seen_by d traces = seen_under d d.labels traces
 
 -- ---- all events
 -- an event, by the place of its label and its number there

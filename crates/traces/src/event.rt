@@ -1,5 +1,5 @@
 // The events of all labels, by their names.
-use event_log::Row;
+use trace_event::Event;
 
 /// An event: the place of its label, from 0 on, and its number there, from 1 on.
 #[derive(Clone, Copy, Debug, PartialEq, Eq)]
@@ -15,9 +15,9 @@ pub struct Couple {
     pub receive: EventId,
 }
 
-/// An event with its row.
+/// An event with its name.
 #[derive(Clone, Copy)]
-pub struct PlacedRow<'a> {
+pub struct PlacedEvent<'a> {
     pub id: EventId,
-    pub row: &'a Row,
+    pub event: &'a Event,
 }

@@ -1,7 +1,8 @@
 // What is true of the messages of all traces.
 ghost use Rattle.std.specs.Prelude.{ℕ, List, Contains, AllPairs};
 ghost use Rattle.traces.specs.declared.event.Couple.{Couple};
-ghost use Rattle.traces.specs.Traces.{Seen, events_of};
+ghost use Rattle.traces.specs.Traces.{events_of};
+ghost use Rattle.trace_event.specs.Seen.{Seen};
 ghost use Rattle.traces.specs.Messages.{messages_of};
 ghost use Rattle.traces.specs.Pairs.{ComesBefore, IsPair};
 

@@ -1,16 +1,16 @@
 //! What was accepted under the labels of a declaration: the events of all labels, and the messages among them.
 #![tactic(auto)]
 
+mod accepted;
 mod event;
 mod laws;
-mod log;
 mod pairing;
 mod placing;
 mod withdrawn;
 
-pub use event::{Couple, EventId, PlacedRow};
+pub use accepted::Accepted;
+pub use event::{Couple, EventId, PlacedEvent};
 pub use laws::messages_are_pairs;
-pub use log::Log;
 pub use pairing::{messages, messages_in};
 pub use placing::{event_count, events};
 pub use withdrawn::missing;

@@ -1,52 +1,54 @@
-// The events of logs, by the place of their label and then by number.
-ghost use Rattle.std.specs.Prelude.{◌≡◌, ◌≤◌, ◌-◌, ◌^◌, ◌++◌, min, length, map, IfOk, OnOk};
-ghost use Rattle.traces.specs.Traces.{event_count, events_of, numbered, seen_row};
-ghost use Rattle.traces.specs.Logs.{placed_in, seen_in};
+// The events of all labels, by the place of their label and then by number.
+ghost use Rattle.std.specs.Prelude.{◌≡◌, ◌≤◌, ◌-◌, ◌^◌, ◌++◌, min, length, IfOk, OnOk};
+ghost use Rattle.trace_event.specs.Seen.{seen_events};
+ghost use Rattle.traces.specs.Traces.{event_count, events_of, numbered};
+ghost use Rattle.traces.specs.Held.{placed_in, seen_in};
 
-use crate::{EventId, Log, PlacedRow};
-use event_log::Row;
+use crate::{Accepted, EventId, PlacedEvent};
 use std::alloc::{AllocError, Global};
+use trace_event::Event;
 
-/// How many events logs have: as many as rows. It is 2^64 - 1 where they have that many or more.
-pub fn event_count(logs: &[Log]) -> u64
-    ensures { result ≡ min (event_count (seen_in logs.now)) (2 ^ 64 - 1) }
+/// How many events were accepted. It is 2^64 - 1 where they are that many or more.
+pub fn event_count(accepted: &[Accepted]) -> u64
+    ensures { result ≡ min (event_count (seen_in accepted.now)) (2 ^ 64 - 1) }
 {
     let mut count: u64 = 0;
-    for log in logs {
-        count = count.saturating_add(log.rows.len() as u64);
+    for under in accepted {
+        count = count.saturating_add(under.events.len() as u64);
     }
     count
 }
 
-// Appends the rows of a label as its events, numbered from 1 on.
-fn place_rows<'a>(
-    events: &mut Vec<PlacedRow<'a>>,
+// Appends the events of a label, numbered from 1 on.
+fn place_events<'a>(
+    placed: &mut Vec<PlacedEvent<'a>>,
     label: u32,
-    rows: &'a [Row],
+    events: &'a [Event],
 ) -> Result<(), AllocError>
-    requires { length rows.now ≤ 2 ^ 20 }
-    ensures { OnOk result (placed_in events.new.items ≡ placed_in events.old.items ++ numbered label 1 (map seen_row rows.now)) }
+    requires { length events.now ≤ 2 ^ 20 }
+    ensures { OnOk result (placed_in placed.new.items ≡ placed_in placed.old.items ++ numbered label 1 (seen_events events.now)) }
 {
-    for (place, row) in rows.iter().enumerate() {
+    for (place, event) in events.iter().enumerate() {
         let number = place as u32 + 1;
         let id = EventId { label, number };
-        events.push(PlacedRow { id, row })?;
+        placed.push(PlacedEvent { id, event })?;
     }
     Ok(())
 }
 
-/// The events of logs with their rows, by the place of their label and then by number; an error where memory runs out.
+/// The events of all labels with their names, by the place of their label and then by number; an error where memory runs
+/// out.
 ///
-/// A label goes by the place of its log, from 0 on. Events of a label are numbered from 1 on, in the order of its rows.
-/// There are at most 65,536 logs, with at most 2^20 rows together.
-pub fn events(alloc: Global, logs: &[Log]) -> Result<Vec<PlacedRow<'_>>, AllocError>
-    requires labels { length logs.now ≤ 65536 }
-    requires few { event_count (seen_in logs.now) ≤ 2 ^ 20 }
-    ensures { IfOk result (λ es. placed_in es.items ≡ events_of (seen_in logs.now)) }
+/// A label goes by its place, from 0 on. Events of a label are numbered from 1 on, in their order. There are at most
+/// 65,536 labels, with at most 2^20 events together.
+pub fn events(alloc: Global, accepted: &[Accepted]) -> Result<Vec<PlacedEvent<'_>>, AllocError>
+    requires labels { length accepted.now ≤ 65536 }
+    requires few { event_count (seen_in accepted.now) ≤ 2 ^ 20 }
+    ensures { IfOk result (λ es. placed_in es.items ≡ events_of (seen_in accepted.now)) }
 {
-    let mut events = Vec::with_capacity(alloc, event_count(logs) as usize)?;
-    for (label, log) in logs.iter().enumerate() {
-        place_rows(&mut events, label as u32, &log.rows)?;
+    let mut events = Vec::with_capacity(alloc, event_count(accepted) as usize)?;
+    for (label, under) in accepted.iter().enumerate() {
+        place_events(&mut events, label as u32, &under.events)?;
     }
     Ok(events)
 }

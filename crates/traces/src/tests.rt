@@ -1,7 +1,12 @@
 use super::*;
-use event_log::{LogError, read_rows};
+use arrayvec::ArrayVec;
+use atto::Nano;
+use event_log::{LogError, WordKey, read_rows};
+use ip_headers::PacketKey;
+use pcap_stream::PcapStream;
 use std::alloc::{AllocError, Global};
 use std::test::*;
+use trace_event::{Event, Key, Mark, Side, row_events};
 
 // The logs of three labels before, and after more was accepted.
 struct Case {
@@ -115,33 +120,40 @@ const CASES: [Case; 9] = [
     },
 ];
 
-fn read_logs(alloc: Global, texts: &[&str; 3]) -> Result<Vec<Log>, LogError> {
+fn accepted(alloc: Global, events: Vec<Event>, size: u64) -> Accepted {
+    Accepted {
+        events,
+        size,
+        stream: PcapStream::new(alloc),
+    }
+}
+
+fn read_logs(alloc: Global, texts: &[&str; 3]) -> Result<Vec<Accepted>, LogError> {
     let mut logs = Vec::new(alloc);
     for text in texts {
         if text.len() > 1 << 28 {
             return Err(LogError::Memory);
         }
-        let rows = read_rows(alloc, text.as_bytes())?;
-        let size = text.len() as u64;
-        logs.push(Log { rows, size })?;
+        let events = row_events(alloc, read_rows(alloc, text.as_bytes())?)?;
+        logs.push(accepted(alloc, events, text.len() as u64))?;
     }
     Ok(logs)
 }
 
-// The messages of logs, by way of their events.
-fn pairs(alloc: Global, logs: &[Log]) -> Result<Vec<Couple>, AllocError> {
-    if logs.len() > 65536 || event_count(logs) > 1 << 20 {
+// The messages of all labels, by way of their events.
+fn pairs(alloc: Global, labels: &[Accepted]) -> Result<Vec<Couple>, AllocError> {
+    if labels.len() > 65536 || event_count(labels) > 1 << 20 {
         return Err(AllocError);
     }
-    let events = events(alloc, logs)?;
+    let events = events(alloc, labels)?;
     messages(alloc, &events)
 }
 
-fn pairs_at_once(alloc: Global, logs: &[Log]) -> Result<Vec<Couple>, AllocError> {
-    if logs.len() > 65536 || event_count(logs) > 1 << 20 {
+fn pairs_at_once(alloc: Global, labels: &[Accepted]) -> Result<Vec<Couple>, AllocError> {
+    if labels.len() > 65536 || event_count(labels) > 1 << 20 {
         return Err(AllocError);
     }
-    messages_in(alloc, logs)
+    messages_in(alloc, labels)
 }
 
 fn is_wanted(m: &Couple, wanted: &[u32; 4]) -> bool {
@@ -181,5 +193,130 @@ fn holds(alloc: Global, case: &Case) -> Result<bool, LogError> {
 fn messages_of_logs(rt: HostRuntime) {
     for (k, case) in CASES.iter().enumerate() {
         assert!(rt; holds(rt.alloc(), case) == Ok(true), "case {k}");
+    }
+}
+
+// What an event is known by: the identification of a packet with the payload "m", or a word.
+#[derive(Clone, Copy)]
+enum Known {
+    Packet(u16),
+    Word(&'static str),
+}
+
+// The events of two labels, and their messages.
+struct Mixed {
+    labels: [&'static [(Known, Side)]; 2],
+    messages: &'static [[u32; 4]],
+}
+
+const MIXED: [Mixed; 4] = [
+    // Over and back.
+    Mixed {
+        labels: [
+            &[
+                (Known::Packet(7), Side::Send),
+                (Known::Packet(8), Side::Receive),
+            ],
+            &[
+                (Known::Packet(8), Side::Send),
+                (Known::Packet(7), Side::Receive),
+            ],
+        ],
+        messages: &[[0, 1, 1, 2], [1, 1, 0, 2]],
+    },
+    // A packet beside a word: each has a message of its own.
+    Mixed {
+        labels: [
+            &[
+                (Known::Packet(7), Side::Send),
+                (Known::Word("m"), Side::Send),
+            ],
+            &[
+                (Known::Word("m"), Side::Receive),
+                (Known::Packet(7), Side::Receive),
+            ],
+        ],
+        messages: &[[0, 1, 1, 2], [0, 2, 1, 1]],
+    },
+    // They are never joined, though the word is the payload.
+    Mixed {
+        labels: [
+            &[
+                (Known::Packet(7), Side::Send),
+                (Known::Word("m"), Side::Receive),
+            ],
+            &[],
+        ],
+        messages: &[],
+    },
+    // Another packet is none, and neither is one that was sent twice.
+    Mixed {
+        labels: [
+            &[
+                (Known::Packet(7), Side::Send),
+                (Known::Packet(9), Side::Send),
+            ],
+            &[
+                (Known::Packet(8), Side::Receive),
+                (Known::Packet(9), Side::Receive),
+                (Known::Packet(9), Side::Send),
+            ],
+        ],
+        messages: &[],
+    },
+];
+
+// A UDP datagram from 10.0.0.1 to 10.0.0.2.
+fn packet_key(id: u16) -> Option<PacketKey> {
+    let mut payload = ArrayVec::new();
+    payload.try_push(b'm').ok()?;
+    Some(PacketKey {
+        source: 0x0a00_0001,
+        target: 0x0a00_0002,
+        protocol: 17,
+        id,
+        source_port: 5000,
+        target_port: 6000,
+        sequence: 0,
+        acknowledged: 0,
+        flags: 0,
+        length: 9,
+        payload,
+    })
+}
+
+fn key_of(known: Known) -> Option<Key> {
+    match known {
+        Known::Packet(id) => Some(Key::Packet(packet_key(id)?)),
+        Known::Word(text) => Some(Key::Word(WordKey::new(text.as_bytes())?)),
+    }
+}
+
+fn label_of(alloc: Global, ends: &[(Known, Side)]) -> Option<Accepted> {
+    let mut events = Vec::new(alloc);
+    for (known, side) in ends {
+        let key = key_of(*known)?;
+        let event = Event {
+            stamp: Nano::new(5)?,
+            mark: Mark::Keyed { key, side: *side },
+            text: None,
+        };
+        events.push(event).ok()?;
+    }
+    Some(accepted(alloc, events, 0))
+}
+
+fn mixed_holds(alloc: Global, case: &Mixed) -> Option<bool> {
+    let first = label_of(alloc, case.labels[0])?;
+    let second = label_of(alloc, case.labels[1])?;
+    let labels = Vec::from_array(alloc, [first, second]).ok()?;
+    let found = pairs(alloc, &labels).ok()?;
+    Some(are_wanted(&found, case.messages))
+}
+
+#[test]
+fn messages_of_packets(rt: HostRuntime) {
+    for (k, case) in MIXED.iter().enumerate() {
+        assert!(rt; mixed_holds(rt.alloc(), case) == Some(true), "case {k}");
     }
 }

@@ -8,7 +8,7 @@ use Rattle.decl.specs.Declaration.{Declaration, declaration_of}
 use Rattle.traces.specs.declared.event.Couple.{Couple}
 use Rattle.traces.specs.Traces.{Placed}
 use Rattle.traces.specs.Messages.{event_with, linked}
-use Rattle.traces.specs.Logs.{placed_in, placed_of}
+use Rattle.traces.specs.Held.{placed_in, placed_of}
 use Rattle.trace_problem.specs.Making.{IsKnown}
 use Rattle.trace_problem.proofs.Lists.{all_at}
 use Rattle.trace_problem.proofs.Places.{known, label_of}

@@ -1,6 +1,6 @@
 use Rattle.std.proofs.Common.{◌≡◌, [], take}
 use Rattle.decl.specs.Declaration.{declaration_of}
-use Rattle.traces.specs.Logs.{placed_in}
+use Rattle.traces.specs.Held.{placed_in}
 use Rattle.trace_problem.specs.Making.{problem_by}
 use Rattle.trace_problem.proofs.Growth.{clocks_alone}
 use Rattle.trace_problem.proofs.making.problem_by.Given as goal

@@ -1,6 +1,6 @@
 use Rattle.std.proofs.Common.{◌≡◌, ◌++◌, drop}
 use Rattle.traces.specs.Messages.{messages_of}
-use Rattle.traces.specs.Logs.{placed_in}
+use Rattle.traces.specs.Held.{placed_in}
 use Rattle.traces.proofs.Sent.{sent_of}
 use Rattle.traces.proofs.pairing.messages.Given as goal
 

@@ -3,7 +3,7 @@ use Rattle.decl.specs.Declaration.{declaration_of}
 use Rattle.session.specs.Reply.{label_at}
 use Rattle.session.specs.Stands.{Held}
 use Rattle.session.proofs.Replying.{on_ok}
-use Rattle.session.proofs.Adding.{add_unknown, add_failed, add_absent, add_read}
+use Rattle.session.proofs.Finding.{add_unknown, add_failed, add_absent, add_read}
 use Rattle.session.proofs.session.Session.add.Goals as goal
 
 pub returns-in-Ok-clause-reply : goal.returns-in-Ok-clause-reply

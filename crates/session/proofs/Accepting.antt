@@ -1,0 +1,235 @@
+-- Events that are accepted under a label.
+use Rattle.std.proofs.Common.{◌≡◌, ◌≢◌, ◌⊎◌, inl, inr, ℕ, zero, suc, ◌+◌, ◌-◌, ◌^◌, ◌<◌, ◌≤◌, List, [], ◌∷◌, ◌++◌, length, map, slice_get, slice_set, Option, Some, None, Bool, true, false, nat_le, option_map, codes, refl, sym, ◌∙◌, ap, subst, arith, MatchBool, length-set}
+use Rattle.std.proofs.lemmas.Option.{slice_get-map}
+use Rattle.std.proofs.Math.Seq.{map-set}
+use Rattle.ports.specs.Content.{Appends}
+use Rattle.problem_model.specs.Problem.{ProblemLists}
+use Rattle.pcap_stream.specs.Capture as captures
+use Rattle.pcap_stream.specs.Feeding as feeding
+use Rattle.pcap_stream.specs.Feeding.{Tail}
+use Rattle.decl.specs.declared.items.Label.{Label}
+use Rattle.decl.specs.Declaration.{Declaration}
+use Rattle.trace_event.specs.Seen.{Seen}
+use Rattle.traces.specs.declared.accepted.Accepted.{Accepted}
+use Rattle.traces.specs.declared.event.Couple.{Couple}
+use Rattle.traces.specs.Held.{seen_in}
+use Rattle.traces.specs.Traces.{Trace, Captured, Traces, size_of, seen_of, seen_under, seen_by, IsOfKind, event_count, events_of}
+use Rattle.traces.specs.Messages.{messages_of, missing, problem_of_seen}
+use Rattle.queries.specs.Consistent.{IsConsistent}
+use Rattle.queries.specs.Replies.{AppendsSome}
+use Rattle.session.specs.Reply.{State, AcceptReply, IsAdded, added_line, count_by, pending_of, refusal}
+use Rattle.session.specs.Stands.{Held, Under, IsHeld, StandsFor, held_of, under_of, seen_held}
+use Rattle.session.specs.Inside.{AcceptAnswered, HasPlace, IsTailWithin, IsAddedTo, IsGrownAt, IsGrownTrace, grown}
+use Rattle.session.proofs.Holding.{count_grown, held_grown, room_by, room_few, seen_accepted, some_same, there_some}
+
+pub choose : (b b' : Bool) (P Q : Type 0) → b ≡ b' → MatchBool b' P Q → MatchBool b P Q
+choose b b' P Q e m = rw e m
+
+-- the place is the one that was set, or what stands there stood there
+set_or_same : {A : Type 0} (xs : List A) (k j : ℕ) (x y : A) → slice_get (slice_set xs k x) j ≡ Some y → ((j ≡ k) × (y ≡ x)) ⊎ ((j ≢ k) × (slice_get xs j ≡ Some y))
+set_or_same [] k j x y e = absurd cc
+set_or_same (z ∷ xs) zero zero x y e = inl (refl, sym (some_same x y e))
+set_or_same (z ∷ xs) zero (suc j) x y e = inr (λ same. omega (arith, same), e)
+set_or_same (z ∷ xs) (suc k) zero x y e = inr (λ same. omega (arith, same), e)
+set_or_same (z ∷ xs) (suc k) (suc j) x y e = next (set_or_same xs k j x y e)
+  where
+    next : ((j ≡ k) × (y ≡ x)) ⊎ ((j ≢ k) × (slice_get xs j ≡ Some y)) → ((suc j ≡ suc k) × (y ≡ x)) ⊎ ((suc j ≢ suc k) × (slice_get xs j ≡ Some y))
+    next (inl p) = inl (ap suc p.0, p.1)
+    next (inr p) = inr (λ same. p.0 (omega (arith, same)), p.1)
+
+-- ---- the events under each label
+seen_at : (d : Declaration) (labels : List Label) (traces : Traces) (k : ℕ) (label : Label) (trace : Trace) → slice_get labels k ≡ Some label → slice_get traces k ≡ Some trace →
+    slice_get (seen_under d labels traces) k ≡ Some (seen_of d label.host trace)
+seen_at d [] traces k label trace at at' = absurd cc
+seen_at d (l ∷ labels) [] k label trace at at' = absurd cc
+seen_at d (l ∷ labels) (t ∷ traces) zero label trace at at' =
+    ap (λ (x : Label). Some (seen_of d x.host t)) (some_same l label at) ∙ ap (λ (x : Trace). Some (seen_of d label.host x)) (some_same t trace at')
+seen_at d (l ∷ labels) (t ∷ traces) (suc k) label trace at at' = seen_at d labels traces k label trace at at'
+
+seen_set : (d : Declaration) (labels : List Label) (traces : Traces) (k : ℕ) (label : Label) (new : Trace) → slice_get labels k ≡ Some label →
+    seen_under d labels (slice_set traces k new) ≡ slice_set (seen_under d labels traces) k (seen_of d label.host new)
+seen_set d [] traces k label new at = absurd cc
+seen_set d (l ∷ labels) [] k label new at = refl
+seen_set d (l ∷ labels) (t ∷ traces) zero label new at = ap (λ (x : Label). seen_of d x.host new ∷ seen_under d labels traces) (some_same l label at)
+seen_set d (l ∷ labels) (t ∷ traces) (suc k) label new at = ap (λ (more : List (List Seen)). seen_of d l.host t ∷ more) (seen_set d labels traces k label new at)
+
+-- ---- a trace that grew
+module _ (held : Held) (d : Declaration) (s : State) (k : ℕ) (label : Label) (old new : Trace) (events : List Seen) (size : ℕ) (tail : Tail) (stands : StandsFor held d s) (at_label : slice_get d.labels k ≡ Some label)
+    (at_old : slice_get s.traces k ≡ Some old) (g : IsGrownTrace d label.host label.kind old new events size tail) where
+  events_are : (u : Under) → slice_get held.under k ≡ Some u → u.events ≡ seen_of d label.host old
+  events_are u was =
+      let had : slice_get (seen_held held.under) k ≡ Some u.events = slice_get-map (λ (x : Under). x.events) held.under k ∙ ap (option_map (λ (x : Under). x.events)) was in
+      let also : slice_get (seen_held held.under) k ≡ Some (seen_of d label.host old) = ap (λ (x : List (List Seen)). slice_get x k) stands.events ∙ seen_at d d.labels s.traces k label old at_label at_old in
+      some_same u.events (seen_of d label.host old) (sym had ∙ also)
+
+  size_is : (u : Under) → slice_get held.under k ≡ Some u → u.size ≡ size_of old
+  size_is u was =
+      let f = λ (x : Under). x.size in
+      let had : slice_get (map f held.under) k ≡ Some u.size = slice_get-map f held.under k ∙ ap (option_map f) was in
+      let also : slice_get (map f held.under) k ≡ Some (size_of old) = ap (λ (x : List ℕ). slice_get x k) stands.sizes ∙ slice_get-map size_of s.traces k ∙ ap (option_map size_of) at_old in
+      some_same u.size (size_of old) (sym had ∙ also)
+
+  seen_then : (u : Under) → slice_get held.under k ≡ Some u → seen_by d (slice_set s.traces k new) ≡ seen_held (slice_set held.under k (grown u events size tail))
+  seen_then u was =
+      seen_set d d.labels s.traces k label new at_label
+      ∙ ap (λ (x : List Seen). slice_set (seen_by d s.traces) k x) (g.events ∙ ap (λ (x : List Seen). x ++ events) (sym (events_are u was)))
+      ∙ ap (λ (x : List (List Seen)). slice_set x k (u.events ++ events)) (sym stands.events)
+      ∙ sym (map-set (λ (x : Under). x.events) held.under k (grown u events size tail))
+
+  sizes_then : (u : Under) → slice_get held.under k ≡ Some u → map (λ (x : Under). x.size) (slice_set held.under k (grown u events size tail)) ≡ map size_of (slice_set s.traces k new)
+  sizes_then u was =
+      let f = λ (x : Under). x.size in
+      map-set f held.under k (grown u events size tail)
+      ∙ ap (λ (x : List ℕ). slice_set x k (u.size + size)) stands.sizes
+      ∙ ap (λ (n : ℕ). slice_set (map size_of s.traces) k n) (ap (λ (n : ℕ). n + size) (size_is u was) ∙ sym g.size)
+      ∙ sym (map-set size_of s.traces k new)
+
+  count_then : k < length held.under → count_by d (slice_set s.traces k new) ≡ event_count (seen_held held.under) + length events
+  count_then inside =
+      let u = there_some held.under k inside in
+      ap event_count (seen_then u.0 u.1) ∙ count_grown held.under k u.0 events size tail u.1
+
+  room_is : (b : Bool) → k < length held.under → nat_le (event_count (seen_held held.under) + length events) (2 ^ 20) ≡ b → nat_le (count_by d (slice_set s.traces k new)) (2 ^ 20) ≡ b
+  room_is b inside room = ap (λ (n : ℕ). nat_le n (2 ^ 20)) (count_then inside) ∙ room
+
+  more_is : k < length held.under → length events ≡ count_by d (slice_set s.traces k new) - count_by d s.traces
+  more_is inside =
+      let before : event_count (seen_held held.under) ≡ count_by d s.traces = ap event_count stands.events in
+      let after = count_then inside in
+      omega (arith, before, after)
+
+  kind_of : (j : ℕ) (l : Label) (t : Trace) → slice_get d.labels j ≡ Some l → ((j ≡ k) × (t ≡ new)) ⊎ ((j ≢ k) × (slice_get s.traces j ≡ Some t)) → IsOfKind l.kind t
+  kind_of j l t at_l (inr had) = stands.kinds j l t at_l had.1
+  kind_of j l t at_l (inl is) =
+      let same : label ≡ l = some_same label l (sym at_label ∙ subst (λ (i : ℕ). slice_get d.labels i ≡ Some l) is.0 at_l) in
+      subst (λ (x : Trace). IsOfKind l.kind x) (sym is.1) (subst (λ (x : Label). IsOfKind x.kind new) same g.of_kind)
+
+  tail_of : (u : Under) (j : ℕ) (v : Under) (bytes : List ℕ) (capture : captures.Capture) → ((j ≡ k) × (v ≡ grown u events size tail)) ⊎ ((j ≢ k) × (slice_get held.under j ≡ Some v)) →
+      ((j ≡ k) × (Captured bytes capture ≡ new)) ⊎ ((j ≢ k) × (slice_get s.traces j ≡ Some (Captured bytes capture))) → feeding.StandsFor v.tail bytes capture
+  tail_of u j v bytes capture (inl p) (inl q) = subst (λ (t : Tail). feeding.StandsFor t bytes capture) (ap (λ (x : Under). x.tail) (sym p.1)) (g.tail bytes capture (sym q.1))
+  tail_of u j v bytes capture (inl p) (inr q) = absurd (q.0 p.0)
+  tail_of u j v bytes capture (inr p) (inl q) = absurd (p.0 q.0)
+  tail_of u j v bytes capture (inr p) (inr q) = stands.tails j v bytes capture p.1 q.1
+
+  stands_then : (held' : Held) → held'.declaration ≡ held.declaration → IsGrownAt held.under held'.under k events size tail → StandsFor held' d (record s { traces = slice_set s.traces k new })
+  stands_then held' same grew =
+      let set = slice_set held.under k (grown grew.at events size tail) in
+      record {
+        declaration = same ∙ stands.declaration;
+        labels = length-set s.traces k new ∙ stands.labels;
+        kinds = λ j l t at_l at_t. kind_of j l t at_l (set_or_same s.traces k j new t at_t);
+        events = ap seen_held grew.is ∙ sym (seen_then grew.at grew.was);
+        sizes = ap (λ (us : List Under). map (λ (x : Under). x.size) us) grew.is ∙ sizes_then grew.at grew.was;
+        tails = λ j v bytes capture at_v at_t. tail_of grew.at j v bytes capture
+            (set_or_same held.under k j (grown grew.at events size tail) v (ap (λ (us : List Under). slice_get us j) (sym grew.is) ∙ at_v))
+            (set_or_same s.traces k j new (Captured bytes capture) at_t);
+        kept = stands.kept;
+      }
+
+  added_then : (held' : Held) (before : List Couple) (seen : List (List Seen)) (text : List ℕ) → k < length held.under → before ≡ messages_of (events_of (seen_held held.under)) → seen ≡ seen_held held'.under →
+      IsGrownAt held.under held'.under k events size tail → IsAddedTo held.declaration before seen (length events) (length tail.rest) text →
+      IsAdded d s.traces (slice_set s.traces k new) (pending_of new) text
+  added_then held' before seen text inside before_is seen_is grew says =
+      let after : seen ≡ seen_by d (slice_set s.traces k new) = seen_is ∙ ap seen_held grew.is ∙ sym (seen_then grew.at grew.was) in
+      let earlier : before ≡ messages_of (events_of (seen_by d s.traces)) = before_is ∙ ap (λ (x : List (List Seen)). messages_of (events_of x)) stands.events in
+      let one : IsAddedTo d before seen (length events) (length tail.rest) text = subst (λ (x : Declaration). IsAddedTo x before seen (length events) (length tail.rest) text) stands.declaration says in
+      let two : IsAddedTo d before (seen_by d (slice_set s.traces k new)) (length events) (length tail.rest) text =
+      subst (λ (x : List (List Seen)). IsAddedTo d before x (length events) (length tail.rest) text) after one in
+      let three : IsAddedTo d (messages_of (events_of (seen_by d s.traces))) (seen_by d (slice_set s.traces k new)) (length events) (length tail.rest) text =
+      subst (λ (x : List Couple). IsAddedTo d x (seen_by d (slice_set s.traces k new)) (length events) (length tail.rest) text) earlier two in
+      let four = subst (λ (n : ℕ). IsAddedTo d (messages_of (events_of (seen_by d s.traces))) (seen_by d (slice_set s.traces k new)) n (length tail.rest) text) (more_is inside) three in
+      subst (λ (n : ℕ). IsAddedTo d (messages_of (events_of (seen_by d s.traces))) (seen_by d (slice_set s.traces k new)) (count_by d (slice_set s.traces k new) - count_by d s.traces) n text) g.waits four
+
+-- ---- the replies
+pub accept_refused : (held : Held) (k : ℕ) (events : List Seen) (size : ℕ) (tail : Tail) (line : List ℕ) (written written' : Option (List ℕ)) → k < length held.under →
+    nat_le (event_count (seen_held held.under) + length events) (2 ^ 20) ≡ false → line ≡ refusal (codes "27" ∷ []) → Appends written written' line → AcceptAnswered held held k events size tail written written'
+accept_refused held k events size tail line written written' inside room is appends d s label old new stands at_label at_old g =
+    (line, s, choose _ false _ _ (room_is held d s k label old new events size tail stands at_label at_old g false inside room) (is, refl), appends, stands)
+
+pub accept_added : (held held' : Held) (k : ℕ) (events : List Seen) (size : ℕ) (tail : Tail) (before : List Couple) (seen : List (List Seen)) (written written' : Option (List ℕ)) → k < length held.under →
+    nat_le (event_count (seen_held held.under) + length events) (2 ^ 20) ≡ true → before ≡ messages_of (events_of (seen_held held.under)) → seen ≡ seen_held held'.under →
+    held'.declaration ≡ held.declaration → IsGrownAt held.under held'.under k events size tail →
+    AppendsSome (IsAddedTo held.declaration before seen (length events) (length tail.rest)) written written' → AcceptAnswered held held' k events size tail written written'
+accept_added held held' k events size tail before seen written written' inside room before_is seen_is same grew says d s label old new stands at_label at_old g = (
+  says.0,
+  record s { traces = slice_set s.traces k new },
+  choose _ true _ _ (room_is held d s k label old new events size tail stands at_label at_old g true inside room)
+      (refl, added_then held d s k label old new events size tail stands at_label at_old g held' before seen says.0 inside before_is seen_is grew says.1),
+  says.2,
+  stands_then held d s k label old new events size tail stands at_label at_old g held' same grew,
+)
+
+-- the line of an addition, by what was found out for it
+pub added_says : (d : Declaration) (before after : List Couple) (seen : List (List Seen)) (p : ProblemLists) (b : Bool) (events new gone pending : ℕ) (line : List ℕ) (written written' : Option (List ℕ)) →
+    after ≡ messages_of (events_of seen) → p ≡ problem_of_seen d seen → IsConsistent p b → new ≡ missing after before → gone ≡ missing before after → line ≡ added_line events new gone pending b →
+    Appends written written' line → AppendsSome (IsAddedTo d before seen events pending) written written'
+added_says d before after seen p b events new gone pending line written written' after_is p_is consistent new_is gone_is line_is appends = (
+  line,
+  (
+    b,
+    subst (λ (q : ProblemLists). IsConsistent q b) p_is consistent,
+    line_is
+        ∙ ap (λ (n : ℕ). added_line events n gone pending b) (new_is ∙ ap (λ (ms : List Couple). missing ms before) after_is)
+        ∙ ap (λ (n : ℕ). added_line events (missing (messages_of (events_of seen)) before) n pending b) (gone_is ∙ ap (λ (ms : List Couple). missing before ms) after_is),
+  ),
+  appends,
+)
+
+-- ---- the same by what the code holds
+pub refused_in : (d : Declaration) (accepted : List Accepted) (held : Held) (k n : ℕ) (events : List Seen) (size : ℕ) (tail : Tail) (r : Bool) (line : List ℕ) (written written' : Option (List ℕ)) → held_of d accepted ≡ held →
+    k < length held.under → n ≡ length events → r ≡ nat_le (event_count (seen_in accepted) + n) (2 ^ 20) → r ≡ false → line ≡ refusal (codes "27" ∷ []) → Appends written written' line →
+    AcceptAnswered held held k events size tail written written'
+refused_in d accepted held k n events size tail r line written written' same inside n_is r_is full is appends =
+    let P : Held → Type 0 = λ h. k < length h.under → AcceptAnswered h h k events size tail written written' in
+    let room = room_by accepted (length events) r false (r_is ∙ ap (λ (m : ℕ). nat_le (event_count (seen_in accepted) + m) (2 ^ 20)) n_is) full in
+    subst P same (λ within. accept_refused (held_of d accepted) k events size tail line written written' within room is appends) inside
+
+-- what was found out of an addition of events to what the code holds
+pub record Extended (d : Declaration) (accepted new : List Accepted) (held : Held) (k : ℕ) (events : List Seen) (size : ℕ) (tail : Tail) : Type 0 where
+  pub same : held_of d accepted ≡ held
+  pub inside : k < length held.under
+  pub place : HasPlace held.under k size
+  pub within : IsTailWithin held.under k size tail
+  pub room : nat_le (event_count (seen_in accepted) + length events) (2 ^ 20) ≡ true
+  pub grew : IsGrownAt (map under_of accepted) (map under_of new) k events size tail
+
+pub extended : (d : Declaration) (accepted seen taken new : List Accepted) (held : Held) (k n : ℕ) (events : List Seen) (size : ℕ) (tail : Tail) (r : Bool) → held_of d accepted ≡ held → k < length held.under →
+    HasPlace held.under k size → IsTailWithin held.under k size tail → seen ≡ accepted → n ≡ length events → r ≡ nat_le (event_count (seen_in seen) + n) (2 ^ 20) → r ≡ true → taken ≡ accepted →
+    IsGrownAt (map under_of taken) (map under_of new) k events size tail → Extended d accepted new held k events size tail
+extended d accepted seen taken new held k n events size tail r same inside place within seen_is n_is r_is fit taken_is grew = record {
+  same = same;
+  inside = inside;
+  place = place;
+  within = within;
+  room = ap (λ (m : ℕ). nat_le (event_count (seen_in accepted) + m) (2 ^ 20)) (sym n_is) ∙ ap (λ (l : List Accepted). nat_le (event_count (seen_in l) + n) (2 ^ 20)) (sym seen_is) ∙ sym r_is ∙ fit;
+  grew = subst (λ (l : List Accepted). IsGrownAt (map under_of l) (map under_of new) k events size tail) taken_is grew;
+}
+
+module _ (d : Declaration) (accepted new : List Accepted) (held : Held) (k : ℕ) (events : List Seen) (size : ℕ) (tail : Tail) (e : Extended d accepted new held k events size tail) where
+  inside_is : k < length (map under_of accepted)
+  inside_is = let P : Held → Type 0 = λ h. k < length h.under in subst P (sym e.same) e.inside
+
+  has_room : nat_le (event_count (seen_held (map under_of accepted)) + length events) (2 ^ 20) ≡ true
+  has_room = room_by accepted (length events) true true (sym e.room) refl
+
+  pub held_extended : IsHeld (held_of d accepted) → IsHeld (held_of d new)
+  held_extended is =
+      let P : Held → Type 0 = λ h. HasPlace h.under k size in
+      let Q : Held → Type 0 = λ h. IsTailWithin h.under k size tail in
+      held_grown (held_of d accepted) (held_of d new) k events size tail is (subst P (sym e.same) e.place) (subst Q (sym e.same) e.within) (room_few (map under_of accepted) (length events) has_room) refl e.grew
+
+  pub few_extended : event_count (seen_in new) ≤ 2 ^ 20
+  few_extended =
+      let count : event_count (seen_held (map under_of new)) ≡ event_count (seen_held (map under_of accepted)) + length events =
+      ap (λ (u : List Under). event_count (seen_held u)) e.grew.is ∙ count_grown (map under_of accepted) k e.grew.at events size tail e.grew.was in
+      let same : event_count (seen_held (map under_of new)) ≡ event_count (seen_in new) = ap event_count (seen_accepted new) in
+      let few = room_few (map under_of accepted) (length events) has_room in omega (arith, count, same, few)
+
+  pub added_in : (before : List Couple) (n pending : ℕ) (written written' : Option (List ℕ)) → before ≡ messages_of (events_of (seen_in accepted)) → n ≡ length events → pending ≡ length tail.rest →
+      AppendsSome (IsAddedTo d before (seen_in new) n pending) written written' → AcceptAnswered held (held_of d new) k events size tail written written'
+  added_in before n pending written written' before_is n_is pending_is says =
+      let P : Held → Type 0 = λ h. AcceptAnswered h (held_of d new) k events size tail written written' in
+      let then_before : before ≡ messages_of (events_of (seen_held (map under_of accepted))) = before_is ∙ ap (λ (x : List (List Seen)). messages_of (events_of x)) (sym (seen_accepted accepted)) in
+      let said = subst (λ (m : ℕ). AppendsSome (IsAddedTo d before (seen_in new) m pending) written written') n_is says in
+      let waits = subst (λ (m : ℕ). AppendsSome (IsAddedTo d before (seen_in new) (length events) m) written written') pending_is said in
+      subst P e.same (accept_added (held_of d accepted) (held_of d new) k events size tail before (seen_in new) written written' inside_is has_room then_before (sym (seen_accepted new)) refl e.grew waits)

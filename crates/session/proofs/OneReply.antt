@@ -1,0 +1,202 @@
+-- A line has one reply, but for which contradiction is printed.
+use Rattle.std.proofs.Common.{◌≡◌, ◌≢◌, ◌⊎◌, inl, inr, ℕ, suc, ◌-◌, ◌^◌, List, [], ◌∷◌, ◌++◌, length, slice_get, slice_set, Option, Some, None, Bool, true, false, nat_le, MatchBool, codes, refl, sym, ◌∙◌, ap, subst, arith}
+use Rattle.atto.specs.Decimal.{decimal_of}
+use Rattle.ports.specs.Files.{Content}
+use Rattle.problem_model.specs.Problem.{ProblemLists, IsProblem}
+use Rattle.problem_model.specs.Bounds.{Times, IsExecution}
+use Rattle.problem.specs.Line.{HasEvent, IsUnknown}
+use Rattle.problem.proofs.Taking.{one_place}
+use Rattle.event_log.specs.declared.errors.LogError.{LogError}
+use Rattle.event_log.specs.declared.errors.LogError.TheVariants as faults
+use Rattle.event_log.specs.declared.row.Row.{Row}
+use Rattle.event_log.specs.Log.{records_of, AreRows, IsLogFault}
+use Rattle.pcap_stream.specs.declared.errors.PcapError.{PcapError}
+use Rattle.pcap_stream.specs.declared.errors.PcapError.TheVariants as refused
+use Rattle.pcap_stream.specs.Capture as captures
+use Rattle.pcap_stream.specs.Capture.{Reads, IsFault}
+use Rattle.decl.specs.declared.items.Label.{Label}
+use Rattle.decl.specs.declared.items.TraceKind.{TraceKind}
+use Rattle.decl.specs.declared.items.TraceKind.TheVariants.{Capture, Log}
+use Rattle.decl.specs.Declaration.{Declaration, IsDeclaration}
+use Rattle.traces.specs.Traces.{Trace, Captured, Traces, seen_under, seen_by}
+use Rattle.traces.specs.Messages.{missing, problem_of}
+use Rattle.trace_problem.proofs.Seen.{problem_lawful}
+use Rattle.queries.specs.Consistent.{IsConsistent}
+use Rattle.queries.specs.Replies.{IsIntervalLine, IsOrderLine, Replies}
+use Rattle.session.specs.Commands.{Command, Add, Interval, Order, Problem, Asks}
+use Rattle.session.specs.Reply.{State, Found, Unread, Bytes, Absent, Failed, Refuses, OfTwo, added_line, messages_by, count_by, IsAdded, pending_of, AcceptReply, with_rows, row_fault, IsRowFault, LogReply, bytes_of, capture_fault, IsCaptureFault, CaptureReply, KindReply, fits_label, PieceReply, label_at, AddReply, Reply}
+use Rattle.session.specs.Sessions.{CommandReply, LineReply}
+use Rattle.session.specs.OneReply.{IsState, AreOneBut}
+use Rattle.session.proofs.OneCommand.{command_one}
+
+-- what the crates below say of their own answers
+pub record Below : Type 0 where
+  pub rows : (piece : List ℕ) (a : List Row) (b : List Row) → AreRows (records_of piece) a → AreRows (records_of piece) b → a ≡ b
+  pub fault : (piece : List ℕ) (e : LogError) (f : LogError) → IsLogFault piece e → IsLogFault piece f → e ≢ faults.Memory → f ≢ faults.Memory → e ≡ f
+  pub either : (piece : List ℕ) (rows : List Row) (e : LogError) → AreRows (records_of piece) rows → IsLogFault piece e → e ≡ faults.Memory
+  pub interval : (p : ProblemLists) (from to : ℕ) (a b : List ℕ) → IsIntervalLine p from to a → IsIntervalLine p from to b → a ≡ b
+  pub order : (p : ProblemLists) (from to : ℕ) (a b : List ℕ) → ((x : Times) × IsExecution p x) → IsOrderLine p from to a → IsOrderLine p from to b → a ≡ b
+  pub capture : (s : List ℕ) (a b : captures.Capture) → Reads s a → Reads s b → a ≡ b
+  pub capture_fault : (s : List ℕ) (e f : PcapError) → IsFault s e → IsFault s f → e ≢ refused.Memory → f ≢ refused.Memory → e ≡ f
+  pub judged : (s : List ℕ) (c : captures.Capture) (e : PcapError) → Reads s c → IsFault s e → e ≢ refused.Memory → ⊥
+
+-- any two replies of this kind are one, and so is the state that follows
+abbrev AreOne : ProblemLists → (List ℕ → State → Type 0) → Type 0
+AreOne p IsReply = (a b : List ℕ) (after other : State) → IsReply a after → IsReply b other → AreOneBut p a b × (after ≡ other)
+
+one_refusal : (p : ProblemLists) (s : State) (numbers : List (List ℕ)) → AreOne p (Refuses s numbers)
+one_refusal p s numbers a b after other x y = (inl (x.0 ∙ sym y.0), x.1 ∙ sym y.1)
+
+by_test : (p : ProblemLists) (test : Bool) (Yes No : List ℕ → State → Type 0) → AreOne p Yes → AreOne p No → AreOne p (λ text s'. MatchBool test (Yes text s') (No text s'))
+by_test p true Yes No one other = one
+by_test p false Yes No one other = other
+
+-- ---- additions
+one_state : (p : ProblemLists) (a b : Bool) → IsConsistent p a → IsConsistent p b → a ≡ b
+one_state p true true some some' = refl
+one_state p true false some none = absurd (none some.0 some.1)
+one_state p false true none some = absurd (none some.0 some.1)
+one_state p false false none none' = refl
+
+one_added : (d : Declaration) (old new : Traces) (pending : ℕ) (a b : List ℕ) → IsAdded d old new pending a → IsAdded d old new pending b → a ≡ b
+one_added d old new pending a b x y =
+    let line : Bool → List ℕ = added_line (count_by d new - count_by d old) (missing (messages_by d new) (messages_by d old)) (missing (messages_by d old) (messages_by d new)) pending in
+    x.2 ∙ ap line (one_state (problem_of d new) x.0 y.0 x.1 y.1) ∙ sym y.2
+
+one_acceptance : (p : ProblemLists) (d : Declaration) (s : State) (k : ℕ) (trace : Trace) → AreOne p (AcceptReply d s k trace)
+one_acceptance p d s k trace =
+    let traces = slice_set s.traces k trace in
+    by_test p (nat_le (count_by d traces) (2 ^ 20)) (λ text s'. (s' ≡ record s { traces = traces }) × IsAdded d s.traces traces (pending_of trace) text) (Refuses s (codes "27" ∷ []))
+    (λ a b after other x y. (inl (one_added d s.traces traces (pending_of trace) a b x.1 y.1), x.0 ∙ sym y.0)) (one_refusal p s (codes "27" ∷ []))
+
+-- ---- pieces of logs
+row_not_memory : (e : LogError) (at : ℕ × ℕ) → row_fault e ≡ Some at → e ≢ faults.Memory
+row_not_memory e at is memory = let none : row_fault faults.Memory ≡ Some at = sym (ap row_fault memory) ∙ is in absurd cc
+
+abbrev row_numbers : Option (ℕ × ℕ) → List (List ℕ)
+row_numbers None = []
+row_numbers (Some at) = codes "26" ∷ decimal_of at.0 ∷ decimal_of at.1 ∷ []
+
+module _ (below : Below) where
+  one_row_fault : (bytes : List ℕ) (row number row' number' : ℕ) → IsRowFault bytes row number → IsRowFault bytes row' number' → row_numbers (Some (row, number)) ≡ row_numbers (Some (row', number'))
+  one_row_fault bytes row number row' number' (e, fault, is) (f, fault', is') =
+      let same : e ≡ f = below.fault bytes e f fault fault' (row_not_memory e (row, number) is) (row_not_memory f (row', number') is') in
+      ap row_numbers (sym is ∙ ap row_fault same ∙ is')
+
+  rows_no_fault : (bytes : List ℕ) (rows : List Row) (row number : ℕ) → AreRows (records_of bytes) rows → IsRowFault bytes row number → ⊥
+  rows_no_fault bytes rows row number are (e, fault, is) = row_not_memory e (row, number) is (below.either bytes rows e are fault)
+
+  one_log : (p : ProblemLists) (d : Declaration) (s : State) (k : ℕ) (trace : Trace) (bytes : List ℕ) → AreOne p (LogReply d s k trace bytes)
+  one_log p d s k trace bytes a b after other (inl (rows, are, x)) (inl (rows', are', y)) =
+      let same : rows' ≡ rows = below.rows bytes rows' rows are' are in
+      one_acceptance p d s k (with_rows trace rows (length bytes)) a b after other x (subst (λ (all : List Row). AcceptReply d s k (with_rows trace all (length bytes)) b other) same y)
+  one_log p d s k trace bytes a b after other (inl (rows, are, x)) (inr (row, number, fault, y)) = absurd (rows_no_fault bytes rows row number are fault)
+  one_log p d s k trace bytes a b after other (inr (row, number, fault, x)) (inl (rows, are, y)) = absurd (rows_no_fault bytes rows row number are fault)
+  one_log p d s k trace bytes a b after other (inr (row, number, fault, x)) (inr (row', number', fault', y)) =
+      let same = one_row_fault bytes row' number' row number fault' fault in
+      one_refusal p s (row_numbers (Some (row, number))) a b after other x (subst (λ (numbers : List (List ℕ)). Refuses s numbers b other) same y)
+
+-- ---- questions
+-- where there is an execution, two lines of this kind about two events are one
+abbrev AreOneLine : ProblemLists → (ℕ → ℕ → List ℕ → Type 0) → Type 0
+AreOneLine p Says = (i j : ℕ) (a b : List ℕ) → ((x : Times) × IsExecution p x) → Says i j a → Says i j b → a ≡ b
+
+one_answer : (p : ProblemLists) (Says : ℕ → ℕ → List ℕ → Type 0) (i j : ℕ) (a b : List ℕ) → AreOneLine p Says → Replies p (Says i j) a → Replies p (Says i j) b → AreOneBut p a b
+one_answer p Says i j a b one (inl x) (inl y) = inl (one i j a b x.0 x.1 y.1)
+one_answer p Says i j a b one (inl x) (inr y) = absurd (y.2 x.0.0 x.0.1)
+one_answer p Says i j a b one (inr x) (inl y) = absurd (x.2 y.0.0 y.0.1)
+one_answer p Says i j a b one (inr x) (inr y) = inr (x, y)
+
+known_both : (p : ProblemLists) (first second : List ℕ) (i j : ℕ) → HasEvent p i first → HasEvent p j second → IsUnknown p first ⊎ IsUnknown p second → ⊥
+known_both p first second i j at at' (inl none) = none i at
+known_both p first second i j at at' (inr none) = none j at'
+
+one_of_two : (p : ProblemLists) (s : State) (first second : List ℕ) (Says : ℕ → ℕ → List ℕ → Type 0) → IsProblem p → AreOneLine p Says → AreOne p (OfTwo p first second Says s)
+one_of_two p s first second Says lawful one a b after other (inl (i, j, at_i, at_j, x, stays)) (inl (k, l, at_k, at_l, y, stays')) =
+    let from : k ≡ i = one_place p k i first lawful at_k at_i in
+    let to : l ≡ j = one_place p l j second lawful at_l at_j in
+    let z : Replies p (Says i j) b = subst (λ (n : ℕ). Replies p (Says n j) b) from (subst (λ (n : ℕ). Replies p (Says k n) b) to y) in
+    (one_answer p Says i j a b one x z, stays ∙ sym stays')
+one_of_two p s first second Says lawful one a b after other (inl (i, j, at_i, at_j, x, stays)) (inr (unknown, y)) = absurd (known_both p first second i j at_i at_j unknown)
+one_of_two p s first second Says lawful one a b after other (inr (unknown, x)) (inl (i, j, at_i, at_j, y, stays)) = absurd (known_both p first second i j at_i at_j unknown)
+one_of_two p s first second Says lawful one a b after other (inr (unknown, x)) (inr (unknown', y)) = one_refusal p s (codes "28" ∷ []) a b after other x y
+
+-- ---- the problem of a state
+seen_length : (d : Declaration) (labels : List Label) (traces : Traces) → length traces ≡ length labels → length (seen_under d labels traces) ≡ length labels
+seen_length d [] traces same = refl
+seen_length d (label ∷ labels) [] same = absurd (omega (arith, same))
+seen_length d (label ∷ labels) (trace ∷ traces) same = let more : length traces ≡ length labels = omega (arith, same) in ap suc (seen_length d labels traces more)
+
+state_lawful : (d : Declaration) (s : State) → IsDeclaration d → IsState d s → IsProblem (problem_of d s.traces)
+state_lawful d s declared state = problem_lawful d (seen_by d s.traces) declared (seen_length d d.labels s.traces state.labels) state.few state.stamps
+
+-- ---- pieces of captures
+capture_not_memory : (e : PcapError) (numbers : List (List ℕ)) → capture_fault e ≡ Some numbers → e ≢ refused.Memory
+capture_not_memory e numbers is memory = let none : capture_fault refused.Memory ≡ Some numbers = sym (ap capture_fault memory) ∙ is in absurd cc
+
+module _ (below : Below) where
+  one_capture_fault : (bytes : List ℕ) (numbers numbers' : List (List ℕ)) → IsCaptureFault bytes numbers → IsCaptureFault bytes numbers' → numbers ≡ numbers'
+  one_capture_fault bytes numbers numbers' (e, fault, is) (f, fault', is') =
+      let same : e ≡ f = below.capture_fault bytes e f fault fault' (capture_not_memory e numbers is) (capture_not_memory f numbers' is') in
+      let both : Some numbers ≡ Some numbers' = sym is ∙ ap capture_fault same ∙ is' in
+      cc
+
+  read_no_fault : (bytes : List ℕ) (c : captures.Capture) (numbers : List (List ℕ)) → Reads bytes c → IsCaptureFault bytes numbers → ⊥
+  read_no_fault bytes c numbers reads (e, fault, is) = below.judged bytes c e reads fault (capture_not_memory e numbers is)
+
+  one_capture : (p : ProblemLists) (d : Declaration) (s : State) (k : ℕ) (trace : Trace) (piece : List ℕ) → AreOne p (CaptureReply d s k trace piece)
+  one_capture p d s k trace piece a b after other (inl (c, reads, x)) (inl (c', reads', y)) =
+      let bytes = bytes_of trace ++ piece in
+      let same : c' ≡ c = below.capture bytes c' c reads' reads in
+      one_acceptance p d s k (Captured bytes c) a b after other x (subst (λ (z : captures.Capture). AcceptReply d s k (Captured bytes z) b other) same y)
+  one_capture p d s k trace piece a b after other (inl (c, reads, x)) (inr (numbers, fault, y)) = absurd (read_no_fault (bytes_of trace ++ piece) c numbers reads fault)
+  one_capture p d s k trace piece a b after other (inr (numbers, fault, x)) (inl (c, reads, y)) = absurd (read_no_fault (bytes_of trace ++ piece) c numbers reads fault)
+  one_capture p d s k trace piece a b after other (inr (numbers, fault, x)) (inr (numbers', fault', y)) =
+      let same : numbers' ≡ numbers = one_capture_fault (bytes_of trace ++ piece) numbers' numbers fault' fault in
+      one_refusal p s numbers a b after other x (subst (λ (all : List (List ℕ)). Refuses s all b other) same y)
+
+  -- ---- pieces
+  one_of_kind : (p : ProblemLists) (d : Declaration) (s : State) (k : ℕ) (trace : Trace) (kind : TraceKind) (bytes : List ℕ) → AreOne p (KindReply d s k trace kind bytes)
+  one_of_kind p d s k trace Capture bytes = one_capture p d s k trace bytes
+  one_of_kind p d s k trace Log bytes = one_log below p d s k trace bytes
+
+  one_piece : (p : ProblemLists) (d : Declaration) (s : State) (k : ℕ) (label : Option Label) (trace : Option Trace) (bytes : List ℕ) → AreOne p (PieceReply d s k label trace bytes)
+  one_piece p d s k None trace bytes = λ a b after other x y. absurd x
+  one_piece p d s k (Some label) None bytes = λ a b after other x y. absurd x
+  one_piece p d s k (Some label) (Some trace) bytes =
+      by_test p (fits_label trace bytes) (KindReply d s k trace label.kind bytes) (Refuses s (codes "23" ∷ []))
+      (one_of_kind p d s k trace label.kind bytes) (one_refusal p s (codes "23" ∷ []))
+
+  one_addition : (p : ProblemLists) (d : Declaration) (s : State) (place : Option ℕ) (found : Found) → AreOne p (AddReply d s place found)
+  one_addition p d s None Unread = one_refusal p s (codes "21" ∷ [])
+  one_addition p d s None (Bytes bytes) = λ a b after other x y. absurd x
+  one_addition p d s None Absent = λ a b after other x y. absurd x
+  one_addition p d s None Failed = λ a b after other x y. absurd x
+  one_addition p d s (Some k) Unread = λ a b after other x y. absurd x
+  one_addition p d s (Some k) (Bytes bytes) = one_piece p d s k (slice_get d.labels k) (slice_get s.traces k) bytes
+  one_addition p d s (Some k) Absent = one_refusal p s (codes "22" ∷ [])
+  one_addition p d s (Some k) Failed = one_refusal p s (codes "22" ∷ [])
+
+  -- ---- lines
+  one_reply : (d : Declaration) (s : State) (c : Command) (found : Found) → IsProblem (problem_of d s.traces) → AreOne (problem_of d s.traces) (Reply d s c found)
+  one_reply d s (Add label path) found lawful = one_addition (problem_of d s.traces) d s (label_at d label) found
+  one_reply d s (Interval first second) found lawful = λ a b after other x y.
+      let p = problem_of d s.traces in
+      one_of_two p s first second (IsIntervalLine p) lawful (λ i j one two some. below.interval p i j one two) a b after other x.1 y.1
+  one_reply d s (Order first second) found lawful = λ a b after other x y.
+      let p = problem_of d s.traces in
+      one_of_two p s first second (IsOrderLine p) lawful (below.order p) a b after other x.1 y.1
+  one_reply d s Problem found lawful = λ a b after other x y. (inl (x.2 ∙ sym y.2), x.1 ∙ sym y.1)
+
+  one_of_command : (d : Declaration) (files : Content) (s : State) (c : Option Command) (found : Found) → IsProblem (problem_of d s.traces) → AreOne (problem_of d s.traces) (CommandReply d files s c found)
+  one_of_command d files s None found lawful = λ a b after other x y. one_refusal (problem_of d s.traces) s (codes "20" ∷ []) a b after other x.1 y.1
+  one_of_command d files s (Some c) found lawful = λ a b after other x y. one_reply d s c found lawful a b after other x.1 y.1
+
+  pub one_line : (d : Declaration) (files : Content) (s : State) (line : List ℕ) (found : Found) → IsDeclaration d → IsState d s → AreOne (problem_of d s.traces) (LineReply d files s line found)
+  one_line d files s line found declared state =
+      let p = problem_of d s.traces in
+      by_test p (nat_le (length line) 4096) (λ text s'. (c : Option Command) × Asks line c × CommandReply d files s c found text s') (λ text s'. (found ≡ Unread) × Refuses s (codes "20" ∷ []) text s')
+      (λ a b after other (c, asks, x) (c', asks', y).
+      let same : c' ≡ c = command_one line c' c asks' asks in
+      one_of_command d files s c found (state_lawful d s declared state) a b after other x (subst (λ (o : Option Command). CommandReply d files s o found b other) same y))
+      (λ a b after other x y. one_refusal p s (codes "20" ∷ []) a b after other x.1 y.1)

@@ -1,0 +1,20 @@
+-- When two replies are one.
+use Rattle.std.specs.Prelude.{◌≡◌, ◌⊎◌, ℕ, ◌^◌, ◌≤◌, List, length, slice_get, Some}
+use Rattle.problem_model.specs.Problem.{ProblemLists}
+use Rattle.decl.specs.declared.items.Label.{Label}
+use Rattle.decl.specs.Declaration.{Declaration}
+use Rattle.traces.specs.Traces.{Trace, IsOfKind, seen_by}
+use Rattle.trace_problem.specs.Making.{StampsFit}
+use Rattle.queries.specs.Replies.{IsContradictionText}
+use Rattle.session.specs.Reply.{State, count_by}
+
+-- what a session has is lawful: something of each label's kind, with at most 2^20 events and stamps below 2^62
+pub record IsState (d : Declaration) (s : State) : Type 0 where
+  pub labels : length s.traces ≡ length d.labels
+  pub kinds : (k : ℕ) (label : Label) (trace : Trace) → slice_get d.labels k ≡ Some label → slice_get s.traces k ≡ Some trace → IsOfKind label.kind trace
+  pub few : count_by d s.traces ≤ 2 ^ 20
+  pub stamps : StampsFit (seen_by d s.traces)
+
+-- the same text, or two contradictions of one problem
+abbrev pub AreOneBut : ProblemLists → List ℕ → List ℕ → Type 0
+AreOneBut p a b = (a ≡ b) ⊎ (IsContradictionText p a × IsContradictionText p b)

@@ -1,0 +1,148 @@
+// Additions to the labels of a session.
+ghost use Rattle.std.specs.Prelude.{◌≡◌, ◌<◌, ◌≤◌, ◌+◌, ◌^◌, ℕ, List, length, slice_get, OnOk, IsErrOf, Some};
+ghost use Rattle.ports.specs.Content.{Rose};
+ghost use Rattle.decl.specs.declared.items.TraceKind.TheVariants as kinds;
+ghost use Rattle.queries.specs.declared.stop.Stop.TheVariants as stops;
+ghost use Rattle.trace_event.specs.Seen.{seen_events};
+ghost use Rattle.session.specs.Commands as asked;
+ghost use Rattle.session.specs.Reply.{PieceReply, LogReply, CaptureReply};
+ghost use Rattle.session.specs.Inside.{HasPlace, IsTailWithin, IsPiece, PieceAnswered, KindAnswered, AcceptAnswered, CommandAnswered};
+
+use crate::Session;
+use crate::accepted::{extend, has_place, has_room, size_at};
+use crate::addition::write_added;
+use crate::labels::{host_of, kind_at, label_at};
+use crate::lines::write_line;
+use crate::refusal::{refuse_capture, refuse_row};
+use decl::TraceKind;
+use event_log::read_rows;
+use pcap_stream::PcapStream;
+use ports::{FileFault, Files, Sink, read_file};
+use queries::Stop;
+use trace_event::{Event, packet_events, row_events};
+use traces::messages_in;
+
+impl Session {
+    /// Adds the file at a path to the label of this name.
+    pub(crate) fn add<F: Files, O: Sink>(
+        &mut self,
+        label: &[u8],
+        path: &str,
+        files: &mut F,
+        out: &mut O,
+    ) -> Result<(), Stop>
+        ensures reply { OnOk result (CommandAnswered (F.content files.old) (F.faults files.old) (F.faults files.new) (F.absences files.old) (F.absences files.new) (O.written out.old) (O.written out.new) self.old self.new (Some (asked.Add label.now path.now))) }
+        ensures cause { IsErrOf result stops.WriteFault → Rose (O.faults out.old) (O.faults out.new) }
+        ensures same { F.content files.new ≡ F.content files.old }
+        ensures no_fall { (F.faults files.old ≤ F.faults files.new) × (F.absences files.old ≤ F.absences files.new) }
+        ensures out_no_fall { O.faults out.old ≤ O.faults out.new }
+    {
+        match label_at(&self.decl.labels, label) {
+            Some(k) => match read_file(self.alloc, files, path, 1 << 28) {
+                Ok(file) => self.add_piece(k, &file.bytes, file.more, out),
+                Err(FileFault::Absent) => write_line(b"refused 22\n", out),
+                Err(FileFault::Read) => write_line(b"refused 22\n", out),
+                Err(FileFault::Memory) => Err(Stop::Memory),
+            },
+            None => write_line(b"refused 21\n", out),
+        }
+    }
+
+    // Adds a piece, which is read whole where there is no more of it, to the label at a place.
+    fn add_piece<O: Sink>(
+        &mut self,
+        k: usize,
+        front: &[u8],
+        more: bool,
+        out: &mut O,
+    ) -> Result<(), Stop>
+        requires { k < length self.old.declaration.labels }
+        ensures reply { OnOk result ((bytes : List ℕ) → IsPiece more front.now bytes → PieceAnswered self.old self.new (O.written out.old) (O.written out.new) (λ d s. PieceReply d s k (slice_get d.labels k) (slice_get s.traces k) bytes)) }
+        ensures cause { IsErrOf result stops.WriteFault → Rose (O.faults out.old) (O.faults out.new) }
+        ensures no_fall { O.faults out.old ≤ O.faults out.new }
+    {
+        if more {
+            return write_line(b"refused 23\n", out);
+        }
+        if !has_place(size_at(&self.accepted, k), front.len() as u64) {
+            return write_line(b"refused 23\n", out);
+        }
+        match kind_at(&self.decl.labels, k) {
+            TraceKind::Capture => self.add_capture(k, front, out),
+            TraceKind::Log => self.add_log(k, front, out),
+        }
+    }
+
+    // Adds a piece of a log, for which the label has room.
+    fn add_log<O: Sink>(&mut self, k: usize, piece: &[u8], out: &mut O) -> Result<(), Stop>
+        requires inside { k < length self.old.under }
+        requires short { length piece.now ≤ 2 ^ 28 }
+        requires place { HasPlace self.old.under k (length piece.now) }
+        ensures reply { OnOk result (KindAnswered kinds.Log self.old self.new k (O.written out.old) (O.written out.new) (λ d s trace. LogReply d s k trace piece.now)) }
+        ensures cause { IsErrOf result stops.WriteFault → Rose (O.faults out.old) (O.faults out.new) }
+        ensures no_fall { O.faults out.old ≤ O.faults out.new }
+    {
+        match read_rows(self.alloc, piece) {
+            Ok(rows) => {
+                let events = row_events(self.alloc, rows)?;
+                let stream = PcapStream::new(self.alloc);
+                self.accept(k, events, piece.len() as u64, stream, out)
+            }
+            Err(e) => refuse_row(self.alloc, e, out),
+        }
+    }
+
+    // Adds a piece of a capture, for which the label has room.
+    fn add_capture<O: Sink>(&mut self, k: usize, piece: &[u8], out: &mut O) -> Result<(), Stop>
+        requires inside { k < length self.old.under }
+        requires short { length piece.now ≤ 2 ^ 28 }
+        requires place { HasPlace self.old.under k (length piece.now) }
+        ensures reply { OnOk result (KindAnswered kinds.Capture self.old self.new k (O.written out.old) (O.written out.new) (λ d s trace. CaptureReply d s k trace piece.now)) }
+        ensures cause { IsErrOf result stops.WriteFault → Rose (O.faults out.old) (O.faults out.new) }
+        ensures no_fall { O.faults out.old ≤ O.faults out.new }
+    {
+        let mut packets = Vec::new(self.alloc);
+        match self.accepted[k].stream.feed(piece, &mut packets) {
+            Ok(stream) => {
+                let host = host_of(&self.decl.labels, k);
+                let events = packet_events(self.alloc, &self.decl, host, &packets)?;
+                self.accept(k, events, piece.len() as u64, stream, out)
+            }
+            Err(e) => refuse_capture(self.alloc, e, out),
+        }
+    }
+
+    // Accepts events that came in a piece of so many bytes, unless there would be too many.
+    fn accept<O: Sink>(
+        &mut self,
+        k: usize,
+        events: Vec<Event>,
+        size: u64,
+        stream: PcapStream,
+        out: &mut O,
+    ) -> Result<(), Stop>
+        requires inside { k < length self.old.under }
+        requires place { HasPlace self.old.under k size }
+        requires within { IsTailWithin self.old.under k size stream }
+        ensures reply { OnOk result (AcceptAnswered self.old self.new k (seen_events events.items) size stream (O.written out.old) (O.written out.new)) }
+        ensures cause { IsErrOf result stops.WriteFault → Rose (O.faults out.old) (O.faults out.new) }
+        ensures no_fall { O.faults out.old ≤ O.faults out.new }
+    {
+        let more = events.len();
+        if !has_room(&self.accepted, more) {
+            return write_line(b"refused 27\n", out);
+        }
+        let pending = u64::from(stream.pending());
+        let before = messages_in(self.alloc, &self.accepted)?;
+        extend(&mut self.accepted, k, events, size, stream)?;
+        write_added(
+            self.alloc,
+            &self.decl,
+            &self.accepted,
+            more as u64,
+            pending,
+            &before,
+            out,
+        )
+    }
+}
