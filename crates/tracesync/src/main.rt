@@ -1,5 +1,5 @@
 //! Finds the earliest execution that declared bounds allow, or a contradiction of them, judges executions and
-//! certificates, and answers questions about event logs.
+//! certificates, and answers questions about event logs and packet captures.
 #![tactic(auto)]
 
 mod declaration;

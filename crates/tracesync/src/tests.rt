@@ -58,112 +58,115 @@ const OPEN: &str =
 // Two events of one stamp have one reading.
 const SHARED: &str = "problem 1\nclock c 0 0 1 0\nevent p c 4\nevent q c 4\nend\n";
 
+// Problems, executions, and what is answered.
+const JUDGED: [(&str, &str, Status, &str); 17] = [
+    (
+        ONE_EVENT,
+        "execution 1\nevent p 0.000000000\nreading c 0 0.000000000\nend\n",
+        Status::Done,
+        "obeys\n",
+    ),
+    (
+        ONE_EVENT,
+        "execution 1\nevent p 1.000000000\nreading c 0 0.000000000\nend\n",
+        Status::No,
+        "broken late p 0.000000000 1.000000000\n",
+    ),
+    (
+        ONE_EVENT,
+        "execution 1\nevent p -1.000000000\nreading c 0 0.000000000\nend\n",
+        Status::No,
+        "broken early p 0.000000000 1.000000000\n",
+    ),
+    (
+        DRIFT,
+        "execution 1\nevent p 0.000000000\nevent q 9223372036854775806.000000000\nreading c 0 0.000000000\nreading c 4611686018427387903 9223372036854775806.000000000\nend\n",
+        Status::Done,
+        "obeys\n",
+    ),
+    (
+        DRIFT,
+        "execution 1\nevent p 0.000000000\nevent q 9223372036854775806.000000001\nreading c 0 0.000000000\nreading c 4611686018427387903 9223372036854775806.000000001\nend\n",
+        Status::No,
+        "broken span-most c 0 4611686018427387903 9223372036854775806.000000000 9223372036854775806.000000001\n",
+    ),
+    (
+        DRIFT,
+        "execution 1\nevent p 0.000000000\nevent q 4611686018.427387903\nreading c 0 0.000000000\nreading c 4611686018427387903 4611686018.427387903\nend\n",
+        Status::Done,
+        "obeys\n",
+    ),
+    (
+        DRIFT,
+        "execution 1\nevent p 0.000000000\nevent q 4611686018.427387902\nreading c 0 0.000000000\nreading c 4611686018427387903 4611686018.427387902\nend\n",
+        Status::No,
+        "broken span-least c 0 4611686018427387903 -4611686018.427387903 -4611686018.427387902\n",
+    ),
+    (
+        STAMP_ERROR,
+        "execution 1\nevent p -5.000000000\nreading c 0 0.000000000\nend\n",
+        Status::Done,
+        "obeys\n",
+    ),
+    (
+        STAMP_ERROR,
+        "execution 1\nevent p -5.000000001\nreading c 0 0.000000000\nend\n",
+        Status::No,
+        "broken early p 5.000000000 5.000000001\n",
+    ),
+    (
+        STAMP_ERROR,
+        "execution 1\nevent p 7.000000001\nreading c 0 0.000000000\nend\n",
+        Status::No,
+        "broken late p 7.000000000 7.000000001\n",
+    ),
+    (
+        CHAIN,
+        "execution 1\nevent p 0.000000000\nevent q 11.000000000\nevent r 20.000000000\nreading c 0 0.000000000\nreading c 10 11.000000000\nreading c 20 20.000000000\nend\n",
+        Status::No,
+        "broken span-most c 0 10 10.000000000 11.000000000\n",
+    ),
+    (
+        MESSAGES,
+        "execution 1\nevent p 0.000000000\nevent q 21.000000000\nreading c 5 0.000000000\nreading d 3 21.000000000\nend\n",
+        Status::No,
+        "broken delay-most p q 20.000000000 21.000000000\n",
+    ),
+    (
+        MESSAGES,
+        "execution 1\nevent p 0.000000000\nevent q 9.000000000\nreading c 5 0.000000000\nreading d 3 9.000000000\nend\n",
+        Status::No,
+        "broken delay-least p q -10.000000000 -9.000000000\n",
+    ),
+    (
+        MESSAGES,
+        "execution 1\nevent p 0.000000000\nevent q 15.000000000\nreading c 5 0.000000000\nreading d 3 15.000000000\nend\n",
+        Status::No,
+        "broken delay-least q p 0.000000000 15.000000000\n",
+    ),
+    (
+        OPEN,
+        "execution 1\nevent p 0.000000000\nevent q 999999999999.000000000\nreading c 5 0.000000000\nreading d 3 999999999999.000000000\nend\n",
+        Status::Done,
+        "obeys\n",
+    ),
+    (
+        SHARED,
+        "execution 1\nevent p 3.000000000\nevent q 4.000000000\nreading c 4 4.000000000\nend\n",
+        Status::Done,
+        "obeys\n",
+    ),
+    (
+        "problem 1\nend\n",
+        "execution 1\nend\n",
+        Status::Done,
+        "obeys\n",
+    ),
+];
+
 #[test]
 fn executions_are_judged(rt: HostRuntime) -> Result<(), Fail> {
-    for (problem, exec, status, printed) in [
-        (
-            ONE_EVENT,
-            "execution 1\nevent p 0.000000000\nreading c 0 0.000000000\nend\n",
-            Status::Done,
-            "obeys\n",
-        ),
-        (
-            ONE_EVENT,
-            "execution 1\nevent p 1.000000000\nreading c 0 0.000000000\nend\n",
-            Status::No,
-            "broken late p 0.000000000 1.000000000\n",
-        ),
-        (
-            ONE_EVENT,
-            "execution 1\nevent p -1.000000000\nreading c 0 0.000000000\nend\n",
-            Status::No,
-            "broken early p 0.000000000 1.000000000\n",
-        ),
-        (
-            DRIFT,
-            "execution 1\nevent p 0.000000000\nevent q 9223372036854775806.000000000\nreading c 0 0.000000000\nreading c 4611686018427387903 9223372036854775806.000000000\nend\n",
-            Status::Done,
-            "obeys\n",
-        ),
-        (
-            DRIFT,
-            "execution 1\nevent p 0.000000000\nevent q 9223372036854775806.000000001\nreading c 0 0.000000000\nreading c 4611686018427387903 9223372036854775806.000000001\nend\n",
-            Status::No,
-            "broken span-most c 0 4611686018427387903 9223372036854775806.000000000 9223372036854775806.000000001\n",
-        ),
-        (
-            DRIFT,
-            "execution 1\nevent p 0.000000000\nevent q 4611686018.427387903\nreading c 0 0.000000000\nreading c 4611686018427387903 4611686018.427387903\nend\n",
-            Status::Done,
-            "obeys\n",
-        ),
-        (
-            DRIFT,
-            "execution 1\nevent p 0.000000000\nevent q 4611686018.427387902\nreading c 0 0.000000000\nreading c 4611686018427387903 4611686018.427387902\nend\n",
-            Status::No,
-            "broken span-least c 0 4611686018427387903 -4611686018.427387903 -4611686018.427387902\n",
-        ),
-        (
-            STAMP_ERROR,
-            "execution 1\nevent p -5.000000000\nreading c 0 0.000000000\nend\n",
-            Status::Done,
-            "obeys\n",
-        ),
-        (
-            STAMP_ERROR,
-            "execution 1\nevent p -5.000000001\nreading c 0 0.000000000\nend\n",
-            Status::No,
-            "broken early p 5.000000000 5.000000001\n",
-        ),
-        (
-            STAMP_ERROR,
-            "execution 1\nevent p 7.000000001\nreading c 0 0.000000000\nend\n",
-            Status::No,
-            "broken late p 7.000000000 7.000000001\n",
-        ),
-        (
-            CHAIN,
-            "execution 1\nevent p 0.000000000\nevent q 11.000000000\nevent r 20.000000000\nreading c 0 0.000000000\nreading c 10 11.000000000\nreading c 20 20.000000000\nend\n",
-            Status::No,
-            "broken span-most c 0 10 10.000000000 11.000000000\n",
-        ),
-        (
-            MESSAGES,
-            "execution 1\nevent p 0.000000000\nevent q 21.000000000\nreading c 5 0.000000000\nreading d 3 21.000000000\nend\n",
-            Status::No,
-            "broken delay-most p q 20.000000000 21.000000000\n",
-        ),
-        (
-            MESSAGES,
-            "execution 1\nevent p 0.000000000\nevent q 9.000000000\nreading c 5 0.000000000\nreading d 3 9.000000000\nend\n",
-            Status::No,
-            "broken delay-least p q -10.000000000 -9.000000000\n",
-        ),
-        (
-            MESSAGES,
-            "execution 1\nevent p 0.000000000\nevent q 15.000000000\nreading c 5 0.000000000\nreading d 3 15.000000000\nend\n",
-            Status::No,
-            "broken delay-least q p 0.000000000 15.000000000\n",
-        ),
-        (
-            OPEN,
-            "execution 1\nevent p 0.000000000\nevent q 999999999999.000000000\nreading c 5 0.000000000\nreading d 3 999999999999.000000000\nend\n",
-            Status::Done,
-            "obeys\n",
-        ),
-        (
-            SHARED,
-            "execution 1\nevent p 3.000000000\nevent q 4.000000000\nreading c 4 4.000000000\nend\n",
-            Status::Done,
-            "obeys\n",
-        ),
-        (
-            "problem 1\nend\n",
-            "execution 1\nend\n",
-            Status::Done,
-            "obeys\n",
-        ),
-    ] {
+    for (problem, exec, status, printed) in JUDGED {
         assert!(rt;
             obeys_so(rt.alloc(), problem, exec, status, printed)?,
             "at {exec}"
@@ -172,55 +175,58 @@ fn executions_are_judged(rt: HostRuntime) -> Result<(), Fail> {
     Ok(())
 }
 
+// Problems and executions of which one is refused.
+const REFUSED: [(&str, &str, Status, &str); 10] = [
+    ("", "", Status::BadProblem, "problem 1 1\n"),
+    (
+        "problem 1\nclock c 0 0 0 0\nevent p d 0\nend\n",
+        "",
+        Status::BadProblem,
+        "problem 2 3\n",
+    ),
+    (
+        "problem 1\nclock c 1000000000 0 0 0\nend\n",
+        "",
+        Status::BadProblem,
+        "problem 3 2\n",
+    ),
+    ("problem 1\nend", "", Status::BadProblem, "problem 1 2\n"),
+    (ONE_EVENT, "", Status::BadExec, "execution 1 1\n"),
+    (
+        ONE_EVENT,
+        "execution 1\nevent p 0.000000000\nend\n",
+        Status::BadExec,
+        "execution 1 3\n",
+    ),
+    (
+        ONE_EVENT,
+        "execution 1\nevent q 0.000000000\nreading c 0 0.000000000\nend\n",
+        Status::BadExec,
+        "execution 2 2\n",
+    ),
+    (
+        ONE_EVENT,
+        "execution 1\nevent p 0.000000000\nreading c 1 0.000000000\nend\n",
+        Status::BadExec,
+        "execution 2 3\n",
+    ),
+    (
+        ONE_EVENT,
+        "execution 1\nevent p 1329227995784915872903807060.280344577\nreading c 0 0.000000000\nend\n",
+        Status::BadExec,
+        "execution 3 2\n",
+    ),
+    (
+        ONE_EVENT,
+        "execution 1\nevent p 0.000000000\nreading c 0 0.000000000\nend\n\n",
+        Status::BadExec,
+        "execution 1 5\n",
+    ),
+];
+
 #[test]
 fn texts_are_refused(rt: HostRuntime) -> Result<(), Fail> {
-    for (problem, exec, status, printed) in [
-        ("", "", Status::BadProblem, "problem 1 1\n"),
-        (
-            "problem 1\nclock c 0 0 0 0\nevent p d 0\nend\n",
-            "",
-            Status::BadProblem,
-            "problem 2 3\n",
-        ),
-        (
-            "problem 1\nclock c 1000000000 0 0 0\nend\n",
-            "",
-            Status::BadProblem,
-            "problem 3 2\n",
-        ),
-        ("problem 1\nend", "", Status::BadProblem, "problem 1 2\n"),
-        (ONE_EVENT, "", Status::BadExec, "execution 1 1\n"),
-        (
-            ONE_EVENT,
-            "execution 1\nevent p 0.000000000\nend\n",
-            Status::BadExec,
-            "execution 1 3\n",
-        ),
-        (
-            ONE_EVENT,
-            "execution 1\nevent q 0.000000000\nreading c 0 0.000000000\nend\n",
-            Status::BadExec,
-            "execution 2 2\n",
-        ),
-        (
-            ONE_EVENT,
-            "execution 1\nevent p 0.000000000\nreading c 1 0.000000000\nend\n",
-            Status::BadExec,
-            "execution 2 3\n",
-        ),
-        (
-            ONE_EVENT,
-            "execution 1\nevent p 1329227995784915872903807060.280344577\nreading c 0 0.000000000\nend\n",
-            Status::BadExec,
-            "execution 3 2\n",
-        ),
-        (
-            ONE_EVENT,
-            "execution 1\nevent p 0.000000000\nreading c 0 0.000000000\nend\n\n",
-            Status::BadExec,
-            "execution 1 5\n",
-        ),
-    ] {
+    for (problem, exec, status, printed) in REFUSED {
         assert!(rt;
             obeys_so(rt.alloc(), problem, exec, status, printed)?,
             "at {problem}{exec}"
@@ -245,35 +251,37 @@ fn solves_so(alloc: Global, problem: &str, printed: &str) -> Result<bool, AllocE
 
 // The sums of the cycles: 20 + 50 + 20 - 95 = -5 ns; 0 + 0 - 2, where the least delay is above the greatest; 39 - 4 * 10
 // over four clocks; and 1000000000 - 1000000100, where one clock may run 100 ppb slow and the other must keep time.
+const SOLVED: [(&str, &str); 7] = [
+    ("problem 1\nend\n", "certificate 1\nrun\nend\n"),
+    (
+        "problem 1\nclock a 0 0 0 0\nclock b 0 0 0 0\nevent a#1 a 100\nevent a#2 a 180\nevent b#1 b 250\nevent b#2 b 300\nmessage a#1 b#1 10 20\nmessage b#2 a#2 10 20\nend\n",
+        "certificate 1\nrun\nevent a#1 0.000000000\nevent a#2 80.000000000\nevent b#1 10.000000000\nevent b#2 60.000000000\nreading a 100 0.000000000\nreading a 180 80.000000000\nreading b 250 10.000000000\nreading b 300 60.000000000\nend\n",
+    ),
+    (
+        "problem 1\nclock a 0 0 0 0\nclock b 0 0 0 0\nevent a#1 a 100\nevent a#2 a 195\nevent b#1 b 250\nevent b#2 b 300\nmessage a#1 b#1 10 20\nmessage b#2 a#2 10 20\nend\n",
+        "certificate 1\ncycle\nstep early a#2 0.000000000\nstep span-least a 100 195 -95.000000000\nstep late a#1 0.000000000\nstep delay-most a#1 b#1 20.000000000\nstep early b#1 0.000000000\nstep span-most b 250 300 50.000000000\nstep late b#2 0.000000000\nstep delay-most b#2 a#2 20.000000000\nend\n",
+    ),
+    (
+        "problem 1\nclock c 0 0 0 0\nevent p c 0\nevent q c 0\nmessage p q 2 1\nend\n",
+        "certificate 1\ncycle\nstep early p 0.000000000\nstep late q 0.000000000\nstep delay-least p q -2.000000000\nend\n",
+    ),
+    (
+        "problem 1\nclock a 0 0 0 0\nclock b 0 0 0 0\nclock c 0 0 0 0\nclock d 0 0 0 0\nevent a1 a 0\nevent a2 a 39\nevent b1 b 5\nevent c1 c 7\nevent d1 d 9\nmessage a1 b1 10 none\nmessage b1 c1 10 none\nmessage c1 d1 10 none\nmessage d1 a2 10 none\nend\n",
+        "certificate 1\ncycle\nstep delay-least c1 d1 -10.000000000\nstep delay-least b1 c1 -10.000000000\nstep delay-least a1 b1 -10.000000000\nstep early a1 0.000000000\nstep span-most a 0 39 39.000000000\nstep late a2 0.000000000\nstep delay-least d1 a2 -10.000000000\nend\n",
+    ),
+    (
+        "problem 1\nclock c 0 0 0 0\nclock d 0 0 0 0\nevent p c 0\nevent q c 1000000000\nevent r d 0\nevent s d 1000000100\nmessage p r 0 0\nmessage q s 0 0\nend\n",
+        "certificate 1\ncycle\nstep early s 0.000000000\nstep span-least d 0 1000000100 -1000000100.000000000\nstep late r 0.000000000\nstep delay-least p r 0.000000000\nstep early p 0.000000000\nstep span-most c 0 1000000000 1000000000.000000000\nstep late q 0.000000000\nstep delay-most q s 0.000000000\nend\n",
+    ),
+    (
+        "problem 1\nclock c 0 0 0 0\nclock d 100 0 0 0\nevent p c 0\nevent q c 1000000000\nevent r d 0\nevent s d 1000000100\nmessage p r 0 0\nmessage q s 0 0\nend\n",
+        "certificate 1\nrun\nevent p 0.000000000\nevent q 1000000000.000000000\nevent r 0.000000000\nevent s 1000000000.000000000\nreading c 0 0.000000000\nreading c 1000000000 1000000000.000000000\nreading d 0 0.000000000\nreading d 1000000100 1000000000.000000000\nend\n",
+    ),
+];
+
 #[test]
 fn problems_are_solved(rt: HostRuntime) -> Result<(), Fail> {
-    for (problem, printed) in [
-        ("problem 1\nend\n", "certificate 1\nrun\nend\n"),
-        (
-            "problem 1\nclock a 0 0 0 0\nclock b 0 0 0 0\nevent a#1 a 100\nevent a#2 a 180\nevent b#1 b 250\nevent b#2 b 300\nmessage a#1 b#1 10 20\nmessage b#2 a#2 10 20\nend\n",
-            "certificate 1\nrun\nevent a#1 0.000000000\nevent a#2 80.000000000\nevent b#1 10.000000000\nevent b#2 60.000000000\nreading a 100 0.000000000\nreading a 180 80.000000000\nreading b 250 10.000000000\nreading b 300 60.000000000\nend\n",
-        ),
-        (
-            "problem 1\nclock a 0 0 0 0\nclock b 0 0 0 0\nevent a#1 a 100\nevent a#2 a 195\nevent b#1 b 250\nevent b#2 b 300\nmessage a#1 b#1 10 20\nmessage b#2 a#2 10 20\nend\n",
-            "certificate 1\ncycle\nstep early a#2 0.000000000\nstep span-least a 100 195 -95.000000000\nstep late a#1 0.000000000\nstep delay-most a#1 b#1 20.000000000\nstep early b#1 0.000000000\nstep span-most b 250 300 50.000000000\nstep late b#2 0.000000000\nstep delay-most b#2 a#2 20.000000000\nend\n",
-        ),
-        (
-            "problem 1\nclock c 0 0 0 0\nevent p c 0\nevent q c 0\nmessage p q 2 1\nend\n",
-            "certificate 1\ncycle\nstep early p 0.000000000\nstep late q 0.000000000\nstep delay-least p q -2.000000000\nend\n",
-        ),
-        (
-            "problem 1\nclock a 0 0 0 0\nclock b 0 0 0 0\nclock c 0 0 0 0\nclock d 0 0 0 0\nevent a1 a 0\nevent a2 a 39\nevent b1 b 5\nevent c1 c 7\nevent d1 d 9\nmessage a1 b1 10 none\nmessage b1 c1 10 none\nmessage c1 d1 10 none\nmessage d1 a2 10 none\nend\n",
-            "certificate 1\ncycle\nstep delay-least c1 d1 -10.000000000\nstep delay-least b1 c1 -10.000000000\nstep delay-least a1 b1 -10.000000000\nstep early a1 0.000000000\nstep span-most a 0 39 39.000000000\nstep late a2 0.000000000\nstep delay-least d1 a2 -10.000000000\nend\n",
-        ),
-        (
-            "problem 1\nclock c 0 0 0 0\nclock d 0 0 0 0\nevent p c 0\nevent q c 1000000000\nevent r d 0\nevent s d 1000000100\nmessage p r 0 0\nmessage q s 0 0\nend\n",
-            "certificate 1\ncycle\nstep early s 0.000000000\nstep span-least d 0 1000000100 -1000000100.000000000\nstep late r 0.000000000\nstep delay-least p r 0.000000000\nstep early p 0.000000000\nstep span-most c 0 1000000000 1000000000.000000000\nstep late q 0.000000000\nstep delay-most q s 0.000000000\nend\n",
-        ),
-        (
-            "problem 1\nclock c 0 0 0 0\nclock d 100 0 0 0\nevent p c 0\nevent q c 1000000000\nevent r d 0\nevent s d 1000000100\nmessage p r 0 0\nmessage q s 0 0\nend\n",
-            "certificate 1\nrun\nevent p 0.000000000\nevent q 1000000000.000000000\nevent r 0.000000000\nevent s 1000000000.000000000\nreading c 0 0.000000000\nreading c 1000000000 1000000000.000000000\nreading d 0 0.000000000\nreading d 1000000100 1000000000.000000000\nend\n",
-        ),
-    ] {
+    for (problem, printed) in SOLVED {
         assert!(rt; solves_so(rt.alloc(), problem, printed)?, "at {problem}");
     }
     Ok(())
@@ -305,104 +313,106 @@ const CROSSED: &str =
 // Drift of 100 ppb over a second; a message of 0 ns and of 1 ns at least; stamps off by 5 and 7 ns; the greatest span at
 // both extremes of drift; clocks that no message ties; two paths of which the longer is the tighter; a contradiction;
 // names that are not there, also beside one.
+const INTERVALS: [(&str, &str, &str, Status, &str); 16] = [
+    (
+        RATE,
+        "p",
+        "q",
+        Status::Done,
+        "999999900.000000000 1000000100.000000000 before\n",
+    ),
+    (
+        RATE,
+        "q",
+        "p",
+        Status::Done,
+        "-1000000100.000000000 -999999900.000000000 after\n",
+    ),
+    (
+        RATE,
+        "p",
+        "p",
+        Status::Done,
+        "0.000000000 0.000000000 same\n",
+    ),
+    (RATE, "p", "z", Status::UnknownEvent, "unknown event\n"),
+    (
+        TWO_CLOCKS,
+        "p",
+        "q",
+        Status::Done,
+        "0.000000000 +inf open\n",
+    ),
+    (
+        TWO_CLOCKS,
+        "q",
+        "p",
+        Status::Done,
+        "-inf 0.000000000 open\n",
+    ),
+    (
+        "problem 1\nclock c 0 0 0 0\nclock d 0 0 0 0\nevent p c 5\nevent q d 3\nmessage p q 1 none\nend\n",
+        "p",
+        "q",
+        Status::Done,
+        "1.000000000 +inf before\n",
+    ),
+    (
+        "problem 1\nclock c 0 0 5 7\nevent p c 0\nevent q c 100\nend\n",
+        "p",
+        "q",
+        Status::Done,
+        "88.000000000 112.000000000 before\n",
+    ),
+    (
+        "problem 1\nclock c 0 0 5 7\nevent p c 0\nevent q c 0\nend\n",
+        "p",
+        "q",
+        Status::Done,
+        "-12.000000000 12.000000000 open\n",
+    ),
+    (
+        DRIFT,
+        "p",
+        "q",
+        Status::Done,
+        "4611686018.427387903 9223372036854775806.000000000 before\n",
+    ),
+    (
+        "problem 1\nclock c 0 0 0 0\nclock d 0 0 0 0\nevent p c 5\nevent q d 3\nend\n",
+        "p",
+        "q",
+        Status::Done,
+        "-inf +inf open\n",
+    ),
+    (
+        "problem 1\nclock a 0 0 0 0\nclock b 0 0 0 0\nevent a#1 a 100\nevent a#2 a 190\nevent b#1 b 250\nevent b#2 b 300\nmessage a#1 b#1 10 20\nmessage b#2 a#2 10 20\nend\n",
+        "a#1",
+        "b#1",
+        Status::Done,
+        "20.000000000 20.000000000 before\n",
+    ),
+    (
+        CROSSED,
+        "p",
+        "q",
+        Status::Done,
+        "certificate 1\ncycle\nstep early p 0.000000000\nstep late q 0.000000000\nstep delay-least p q -2.000000000\nend\n",
+    ),
+    (
+        "problem 1\nclock a 0 0 0 0\nclock b 0 0 0 0\nevent a#1 a 100\nevent a#2 a 195\nevent b#1 b 250\nevent b#2 b 300\nmessage a#1 b#1 10 20\nmessage b#2 a#2 10 20\nend\n",
+        "a#1",
+        "b#1",
+        Status::Done,
+        "certificate 1\ncycle\nstep early a#2 0.000000000\nstep span-least a 100 195 -95.000000000\nstep late a#1 0.000000000\nstep delay-most a#1 b#1 20.000000000\nstep early b#1 0.000000000\nstep span-most b 250 300 50.000000000\nstep late b#2 0.000000000\nstep delay-most b#2 a#2 20.000000000\nend\n",
+    ),
+    (CROSSED, "z", "q", Status::UnknownEvent, "unknown event\n"),
+    ("problem 2\n", "p", "q", Status::BadProblem, "problem 1 1\n"),
+];
+
 #[test]
 fn intervals_are_printed(rt: HostRuntime) -> Result<(), Fail> {
-    for (problem, first, second, status, printed) in [
-        (
-            RATE,
-            "p",
-            "q",
-            Status::Done,
-            "999999900.000000000 1000000100.000000000 before\n",
-        ),
-        (
-            RATE,
-            "q",
-            "p",
-            Status::Done,
-            "-1000000100.000000000 -999999900.000000000 after\n",
-        ),
-        (
-            RATE,
-            "p",
-            "p",
-            Status::Done,
-            "0.000000000 0.000000000 same\n",
-        ),
-        (RATE, "p", "z", Status::UnknownEvent, "unknown event\n"),
-        (
-            TWO_CLOCKS,
-            "p",
-            "q",
-            Status::Done,
-            "0.000000000 +inf open\n",
-        ),
-        (
-            TWO_CLOCKS,
-            "q",
-            "p",
-            Status::Done,
-            "-inf 0.000000000 open\n",
-        ),
-        (
-            "problem 1\nclock c 0 0 0 0\nclock d 0 0 0 0\nevent p c 5\nevent q d 3\nmessage p q 1 none\nend\n",
-            "p",
-            "q",
-            Status::Done,
-            "1.000000000 +inf before\n",
-        ),
-        (
-            "problem 1\nclock c 0 0 5 7\nevent p c 0\nevent q c 100\nend\n",
-            "p",
-            "q",
-            Status::Done,
-            "88.000000000 112.000000000 before\n",
-        ),
-        (
-            "problem 1\nclock c 0 0 5 7\nevent p c 0\nevent q c 0\nend\n",
-            "p",
-            "q",
-            Status::Done,
-            "-12.000000000 12.000000000 open\n",
-        ),
-        (
-            DRIFT,
-            "p",
-            "q",
-            Status::Done,
-            "4611686018.427387903 9223372036854775806.000000000 before\n",
-        ),
-        (
-            "problem 1\nclock c 0 0 0 0\nclock d 0 0 0 0\nevent p c 5\nevent q d 3\nend\n",
-            "p",
-            "q",
-            Status::Done,
-            "-inf +inf open\n",
-        ),
-        (
-            "problem 1\nclock a 0 0 0 0\nclock b 0 0 0 0\nevent a#1 a 100\nevent a#2 a 190\nevent b#1 b 250\nevent b#2 b 300\nmessage a#1 b#1 10 20\nmessage b#2 a#2 10 20\nend\n",
-            "a#1",
-            "b#1",
-            Status::Done,
-            "20.000000000 20.000000000 before\n",
-        ),
-        (
-            CROSSED,
-            "p",
-            "q",
-            Status::Done,
-            "certificate 1\ncycle\nstep early p 0.000000000\nstep late q 0.000000000\nstep delay-least p q -2.000000000\nend\n",
-        ),
-        (
-            "problem 1\nclock a 0 0 0 0\nclock b 0 0 0 0\nevent a#1 a 100\nevent a#2 a 195\nevent b#1 b 250\nevent b#2 b 300\nmessage a#1 b#1 10 20\nmessage b#2 a#2 10 20\nend\n",
-            "a#1",
-            "b#1",
-            Status::Done,
-            "certificate 1\ncycle\nstep early a#2 0.000000000\nstep span-least a 100 195 -95.000000000\nstep late a#1 0.000000000\nstep delay-most a#1 b#1 20.000000000\nstep early b#1 0.000000000\nstep span-most b 250 300 50.000000000\nstep late b#2 0.000000000\nstep delay-most b#2 a#2 20.000000000\nend\n",
-        ),
-        (CROSSED, "z", "q", Status::UnknownEvent, "unknown event\n"),
-        ("problem 2\n", "p", "q", Status::BadProblem, "problem 1 1\n"),
-    ] {
+    for (problem, first, second, status, printed) in INTERVALS {
         assert!(rt;
             ends_of_so(rt.alloc(), problem, first, second, status, printed)?,
             "at {problem}{first} {second}"
@@ -440,35 +450,37 @@ fn refused_so(alloc: Global, text: &[u8], printed: &str) -> Result<bool, AllocEr
 }
 
 // Each line has two faults. Syntax counts before Name, Name before Range, Range before Limit.
+const TWO_FAULTS: [(&str, &str); 6] = [
+    (
+        "problem 1\nclock c 0 0 0 0\nevent p d 01\nend\n",
+        "problem 1 3\n",
+    ),
+    (
+        "problem 1\nclock c 0 0 0 0\nevent p c 4611686018427387904 \nend\n",
+        "problem 1 3\n",
+    ),
+    (
+        "problem 1\nclock c 0 0 0 0\nevent p d 4611686018427387904\nend\n",
+        "problem 2 3\n",
+    ),
+    (
+        "problem 1\nclock c 0 0 0 0\nclock c 1000000000 0 0 0\nend\n",
+        "problem 2 3\n",
+    ),
+    (
+        "problem 1\nclock c 0 0 0 0\nevent p c 0\nmessage p q 4611686018427387904 none\nend\n",
+        "problem 2 4\n",
+    ),
+    (
+        "problem 1\nclock c 0 0 0 0\nevent p c 0\nevent q c 0\nmessage p q 4611686018427387904 00\nend\n",
+        "problem 1 5\n",
+    ),
+];
+
 #[test]
 fn the_first_of_two_faults(rt: HostRuntime) -> Result<(), Fail> {
     let alloc = rt.alloc();
-    for (text, printed) in [
-        (
-            "problem 1\nclock c 0 0 0 0\nevent p d 01\nend\n",
-            "problem 1 3\n",
-        ),
-        (
-            "problem 1\nclock c 0 0 0 0\nevent p c 4611686018427387904 \nend\n",
-            "problem 1 3\n",
-        ),
-        (
-            "problem 1\nclock c 0 0 0 0\nevent p d 4611686018427387904\nend\n",
-            "problem 2 3\n",
-        ),
-        (
-            "problem 1\nclock c 0 0 0 0\nclock c 1000000000 0 0 0\nend\n",
-            "problem 2 3\n",
-        ),
-        (
-            "problem 1\nclock c 0 0 0 0\nevent p c 0\nmessage p q 4611686018427387904 none\nend\n",
-            "problem 2 4\n",
-        ),
-        (
-            "problem 1\nclock c 0 0 0 0\nevent p c 0\nevent q c 0\nmessage p q 4611686018427387904 00\nend\n",
-            "problem 1 5\n",
-        ),
-    ] {
+    for (text, printed) in TWO_FAULTS {
         assert!(rt; refused_so(alloc, text.as_bytes(), printed)?, "at {text}");
     }
     for (line, printed) in [
