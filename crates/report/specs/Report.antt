@@ -1,0 +1,62 @@
+-- What is reported, as data of JSON (RFC 8259), and its line. An object's keys stand in byte order. A key of a message may
+-- have a quotation mark or a backslash in it: how JSON escapes it is a matter of `compact_text`.
+use Rattle.std.specs.Prelude.{ℕ, List, [], ◌∷◌, ◌++◌, map, codes}
+use Rattle.std.specs.Str.{IsAscii}
+use Rattle.serde_json.specs.Data.{Data, boolean, number, unsigned, string, array, object, member, no_members}
+use Rattle.serde_json.specs.View.{items_of}
+use Rattle.serde_json.specs.Written.{compact_text}
+use Rattle.report.specs.declared.view.NoKeys.{NoKeys}
+use Rattle.report.specs.declared.view.NamedGroup.{NamedGroup}
+use Rattle.report.specs.declared.view.View.{View}
+
+-- a number
+abbrev pub count : ℕ → Data
+count n = number (unsigned n)
+
+-- an array of texts
+abbrev pub texts : List (List ℕ) → Data
+texts ts = array (items_of (map string ts))
+
+-- an ambiguous key, with the names of its events
+abbrev pub group_data : NamedGroup → Data
+group_data g = object (
+    member (codes "key") (string g.key.items) (
+    member (codes "receives") (texts g.receives.items) (
+    member (codes "sends") (texts g.sends.items)
+    no_members)))
+
+-- all of them, in their order
+abbrev pub groups_data : List NamedGroup → Data
+groups_data gs = array (items_of (map group_data gs))
+
+-- how many events have no key, by reason
+abbrev pub nokey_data : NoKeys → Data
+nokey_data n = object (
+    member (codes "fragment") (count n.fragment) (
+    member (codes "header") (count n.header) (
+    member (codes "length") (count n.length) (
+    member (codes "link") (count n.link) (
+    member (codes "local") (count n.local) (
+    member (codes "other") (count n.other) (
+    member (codes "short") (count n.short) (
+    member (codes "side") (count n.side)
+    no_members))))))))
+
+-- the whole report
+abbrev pub report_data : View → Data
+report_data v = object (
+    member (codes "ambiguous") (groups_data v.groups.items) (
+    member (codes "consistent") (boolean v.consistent) (
+    member (codes "events") (count v.events) (
+    member (codes "messages") (count v.messages) (
+    member (codes "nokey") (nokey_data v.nokeys) (
+    member (codes "unmatched") (count v.unmatched)
+    no_members))))))
+
+-- its text, without spaces, and a line feed
+abbrev pub report_line : View → List ℕ
+report_line v = compact_text (report_data v) ++ 10 ∷ []
+
+-- the text of the key is ASCII
+abbrev pub HasAsciiKey : NamedGroup → Type 0
+HasAsciiKey g = IsAscii g.key.items

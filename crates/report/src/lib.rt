@@ -1,0 +1,16 @@
+//! Reports on traces: how many events and messages there are, how many events have no key or no partner, and which keys
+//! are ambiguous, as one line of JSON (RFC 8259).
+//!
+//! A report has no space between its parts, and an object's keys stand in byte order. What it is made of comes in as a
+//! `View`, so nothing here knows of sessions or of how messages are found.
+#![tactic(auto)]
+
+mod line;
+mod values;
+mod view;
+
+pub use line::report_line;
+pub use view::{NamedGroup, NoKeys, View};
+
+#[cfg(test)]
+mod tests;

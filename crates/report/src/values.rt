@@ -1,0 +1,96 @@
+// The parts of a report as values of JSON.
+ghost use Rattle.std.specs.Prelude.{◌≡◌, All, IfOk};
+ghost use Rattle.std.specs.Str.{IsAscii};
+ghost use Rattle.serde_json.specs.Data.{string};
+ghost use Rattle.serde_json.specs.View.{view};
+ghost use Rattle.report.specs.Report.{HasAsciiKey, texts, group_data, groups_data, nokey_data, report_data};
+
+use crate::{NamedGroup, NoKeys, View};
+use problem_model::Name;
+use serde_json::{Value, json};
+use std::alloc::{AllocError, Global};
+
+// A text in ASCII.
+fn text_value(alloc: Global, text: &[u8]) -> Result<Value, AllocError>
+    requires { IsAscii text.now }
+    ensures { IfOk result (λ value. view value ≡ string text.now) }
+{
+    match std::str::from_utf8(text) {
+        Ok(text) => Value::try_from_str(alloc, text),
+        Err(_) => unreachable!(),
+    }
+}
+
+// A name.
+fn name_value(alloc: Global, name: &Name) -> Result<Value, AllocError>
+    ensures { IfOk result (λ value. view value ≡ string name.now) }
+{
+    text_value(alloc, name.bytes())
+}
+
+// An array of names.
+fn names_value(alloc: Global, names: &[Name]) -> Result<Value, AllocError>
+    ensures { IfOk result (λ value. view value ≡ texts names.now) }
+{
+    let mut values = Vec::with_capacity(alloc, names.len())?;
+    for name in names {
+        values.push(name_value(alloc, name)?)?;
+    }
+    Ok(Value::from(values))
+}
+
+// An ambiguous key with its events.
+fn group_value(alloc: Global, group: &NamedGroup) -> Result<Value, AllocError>
+    requires { HasAsciiKey group.now }
+    ensures { IfOk result (λ value. view value ≡ group_data group.now) }
+{
+    let key = text_value(alloc, &group.key)?;
+    let receives = names_value(alloc, &group.receives)?;
+    let sends = names_value(alloc, &group.sends)?;
+    json!(in alloc; {"key": key, "receives": receives, "sends": sends})
+}
+
+// The array of the ambiguous keys.
+fn groups_value(alloc: Global, groups: &[NamedGroup]) -> Result<Value, AllocError>
+    requires { All HasAsciiKey groups.now }
+    ensures { IfOk result (λ value. view value ≡ groups_data groups.now) }
+{
+    let mut values = Vec::with_capacity(alloc, groups.len())?;
+    for group in groups {
+        values.push(group_value(alloc, group)?)?;
+    }
+    Ok(Value::from(values))
+}
+
+// The numbers of events without a key.
+fn nokey_value(alloc: Global, nokeys: &NoKeys) -> Result<Value, AllocError>
+    ensures { IfOk result (λ value. view value ≡ nokey_data nokeys.now) }
+{
+    json!(in alloc; {
+        "fragment": nokeys.fragment,
+        "header": nokeys.header,
+        "length": nokeys.length,
+        "link": nokeys.link,
+        "local": nokeys.local,
+        "other": nokeys.other,
+        "short": nokeys.short,
+        "side": nokeys.side,
+    })
+}
+
+// The whole report.
+pub(crate) fn report_value(alloc: Global, v: &View) -> Result<Value, AllocError>
+    requires { All HasAsciiKey v.now.groups.items }
+    ensures { IfOk result (λ value. view value ≡ report_data v.now) }
+{
+    let ambiguous = groups_value(alloc, &v.groups)?;
+    let nokey = nokey_value(alloc, &v.nokeys)?;
+    json!(in alloc; {
+        "ambiguous": ambiguous,
+        "consistent": v.consistent,
+        "events": v.events,
+        "messages": v.messages,
+        "nokey": nokey,
+        "unmatched": v.unmatched,
+    })
+}

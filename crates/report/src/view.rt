@@ -1,0 +1,51 @@
+// What is reported.
+use problem_model::Name;
+
+/// How many events have no key, by reason.
+#[derive(Clone, Copy, Debug, Default, PartialEq, Eq)]
+pub struct NoKeys {
+    /// Packets of a link type that is neither Ethernet nor raw IP.
+    pub link: u32,
+    /// Packets that are no IPv4 datagrams of TCP or UDP.
+    pub other: u32,
+    /// Packets of which too little was captured.
+    pub short: u32,
+    /// Packets with a header that can't be one.
+    pub header: u32,
+    /// Fragments of IPv4 datagrams (RFC 791).
+    pub fragment: u32,
+    /// Packets with a length that does not fit the others.
+    pub length: u32,
+    /// Packets that come from the host of their trace and go there, or neither.
+    pub side: u32,
+    /// Log rows of the kind `local`.
+    pub local: u32,
+}
+
+/// An ambiguous key, with the events that have it.
+#[derive(Debug, Drop)]
+pub struct NamedGroup {
+    /// The text of the key, in ASCII.
+    pub key: Vec<u8>,
+    /// The events that send it.
+    pub sends: Vec<Name>,
+    /// The events that receive it.
+    pub receives: Vec<Name>,
+}
+
+/// What is to be reported. No field is tied to another one.
+#[derive(Debug, Drop)]
+pub struct View {
+    /// How many events there are.
+    pub events: u32,
+    /// How many messages there are.
+    pub messages: u32,
+    /// How many events have a key and neither a partner nor an ambiguous key.
+    pub unmatched: u32,
+    /// Whether what is declared has an execution.
+    pub consistent: bool,
+    /// How many events have no key.
+    pub nokeys: NoKeys,
+    /// The ambiguous keys, in the order in which they are to be reported.
+    pub groups: Vec<NamedGroup>,
+}
