@@ -1,0 +1,59 @@
+-- The code's own test on keys.
+use Rattle.std.proofs.Common.{◌≡◌, ℕ, List, [], ◌∷◌, ◌++◌, map, get_or, slice_get, Bool, true, false, ◌||◌, ◌&&◌, ◌==◌, cond, Option, Some, None, refl, sym, ap, ◌∙◌}
+use Rattle.std.specs.Prelude.{IfSome, IfNone, is_some, option_map}
+use Rattle.std.specs.List.{position, list_any}
+use Rattle.std.specs.Str.{bytes_eq}
+use Rattle.std.proofs.lemmas.List.{map_push}
+use Rattle.std.proofs.lemmas.List.Quantifiers.{position-Some}
+use Rattle.std.proofs.lemmas.Option.{slice_get-get_or, slice_get-map}
+use Rattle.trace_event.specs.declared.event.Key.{Key}
+use Rattle.trace_event.specs.declared.event.Key.TheVariants as code
+use Rattle.trace_event.specs.contracts.event.KeyPartialEq.TheImpl as eq
+use Rattle.trace_event.specs.Seen.{is_same_key, key_of}
+use Rattle.msg_match.proofs.Grouping.{exact_keys}
+
+abbrev pub key_eq : Key → Key → Bool
+key_eq = eq.eq-value.it
+
+-- however the tests are grouped
+regroup : (b1 b2 b3 b4 b5 b6 b7 b8 b9 b10 b11 : Bool) → (b1 && (b2 && (b3 && (b4 && (b5 && (b6 && (b7 && (b8 && (b9 && (b10 && b11)))))))))) ≡ (b1 && b2 && b3 && b4 && b5 && b6 && b7 && b8 && b9 && b10 && b11)
+regroup false b2 b3 b4 b5 b6 b7 b8 b9 b10 b11 = refl
+regroup true false b3 b4 b5 b6 b7 b8 b9 b10 b11 = refl
+regroup true true false b4 b5 b6 b7 b8 b9 b10 b11 = refl
+regroup true true true false b5 b6 b7 b8 b9 b10 b11 = refl
+regroup true true true true false b6 b7 b8 b9 b10 b11 = refl
+regroup true true true true true false b7 b8 b9 b10 b11 = refl
+regroup true true true true true true false b8 b9 b10 b11 = refl
+regroup true true true true true true true false b9 b10 b11 = refl
+regroup true true true true true true true true false b10 b11 = refl
+regroup true true true true true true true true true false b11 = refl
+regroup true true true true true true true true true true b11 = refl
+
+key_eq_is : (a b : Key) → key_eq a b ≡ is_same_key (key_of a) (key_of b)
+key_eq_is (code.Packet a) (code.Packet b) =
+    regroup (a.source == b.source) (a.target == b.target) (a.protocol == b.protocol) (a.id == b.id) (a.source_port == b.source_port) (a.target_port == b.target_port) (a.sequence == b.sequence) (a.acknowledged == b.acknowledged) (a.flags == b.flags) (a.length == b.length) (bytes_eq a.payload.items b.payload.items)
+key_eq_is (code.Packet a) (code.Word b) = refl
+key_eq_is (code.Word a) (code.Packet b) = refl
+key_eq_is (code.Word a) (code.Word b) = refl
+
+any_is : (k : Key) (ks : List Key) → list_any (key_eq k) ks ≡ list_any (is_same_key (key_of k)) (map key_of ks)
+any_is k [] = refl
+any_is k (j ∷ ks) =
+    ap (λ (b : Bool). b || list_any (key_eq k) ks) (key_eq_is k j) ∙ ap (λ (b : Bool). is_same_key (key_of k) (key_of j) || b) (any_is k ks)
+
+-- a key is found at its place
+pub found : (k : Key) (ks : List Key) (o : Option ℕ) → o ≡ position (key_eq k) ks → IfSome o (λ p. slice_get (map key_of ks) p ≡ Some (key_of k))
+found k ks None is = tt
+found k ks (Some p) is =
+    let at = position-Some (key_eq k) ks p k (sym is) in
+    let same : key_of k ≡ key_of (get_or ks p k) = exact_keys.one (key_of k) (key_of (get_or ks p k)) (sym (key_eq_is k (get_or ks p k)) ∙ at.1) in
+    slice_get-map key_of ks p ∙ ap (option_map key_of) (slice_get-get_or ks p k at.0) ∙ ap Some (sym same)
+
+-- or it is not there
+pub missed : (k : Key) (ks : List Key) (o : Option ℕ) → is_some o ≡ list_any (key_eq k) ks → IfNone o (list_any (is_same_key (key_of k)) (map key_of ks) ≡ false)
+missed k ks (Some p) is = tt
+missed k ks None is = sym (any_is k ks) ∙ sym is
+
+-- a key that is not there comes last
+pub added : (k : Key) (ks : List Key) → list_any (is_same_key (key_of k)) (map key_of ks) ≡ false → map key_of (cond (list_any (key_eq k) ks) ks (ks ++ k ∷ [])) ≡ map key_of ks ++ key_of k ∷ []
+added k ks new = ap (λ (b : Bool). map key_of (cond b ks (ks ++ k ∷ []))) (any_is k ks ∙ new) ∙ map_push key_of ks k

@@ -1,0 +1,10 @@
+pub mod Distinct
+pub mod Grouping
+pub mod Keeping
+pub mod KeyTests
+pub mod TableLemmas
+pub mod Counting
+pub mod Coupling
+pub mod Changing
+pub mod Numbering
+pub mod MessageEnds

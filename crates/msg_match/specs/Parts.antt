@@ -1,0 +1,93 @@
+-- What the parts of a matcher promise each other.
+use Rattle.std.specs.Prelude.{◌≡◌, ℕ, ◌-◌, ◌==◌, List, [], ◌∷◌, ◌++◌, length, take, slice_set, slice_index_or, sum_by, Some, Option, None, Bool, ◌&&◌, if◌then◌else◌, Contains, AllPairs, ◌≢◌}
+use Rattle.std.specs.List.{list_any}
+use Rattle.trace_event.specs.declared.event.Side.{Side}
+use Rattle.trace_event.specs.declared.event.Side.TheVariants.{Send, Receive}
+use Rattle.trace_event.specs.Seen.{EventKey, Word}
+use Rattle.msg_match.specs.declared.change.Couple.{Couple}
+use Rattle.msg_match.specs.declared.change.Tallies.{Tallies}
+use Rattle.msg_match.specs.declared.entry.Entry.{Entry}
+use Rattle.msg_match.specs.Groups.{SeenItem, SeenGroup, group_of, couple_of, size_of, is_matched, is_ambiguous, is_unmatched}
+
+-- ---- one group
+-- a key with no events
+abbrev pub empty_group : EventKey → SeenGroup
+empty_group key = record { key = key; sends = []; receives = [] }
+
+-- an event more
+abbrev pub with_event : SeenGroup → Side → ℕ → SeenGroup
+with_event g Send event = record { key = g.key; sends = g.sends ++ event ∷ []; receives = g.receives }
+with_event g Receive event = record { key = g.key; sends = g.sends; receives = g.receives ++ event ∷ [] }
+
+-- a list without its last element
+abbrev pub shorter : {X : Type 0} → List X → List X
+shorter xs = take (length xs - 1) xs
+
+-- the last event of a side less
+abbrev pub without_last : SeenGroup → Side → SeenGroup
+without_last g Send = record { key = g.key; sends = shorter g.sends; receives = g.receives }
+without_last g Receive = record { key = g.key; sends = g.sends; receives = shorter g.receives }
+
+-- ---- tables
+-- the group at a place
+abbrev pub group_at : List SeenGroup → ℕ → SeenGroup
+group_at groups place = slice_index_or groups place (empty_group (Word []))
+
+-- an event whose key has this place
+abbrev pub entry_at : ℕ → Side → ℕ → Entry
+entry_at event side place = record { event = event; side = side; place = place }
+
+-- the group of an event, without it
+abbrev pub group_before : List SeenGroup → Entry → SeenGroup
+group_before groups e = without_last (group_at groups e.place) e.side
+
+-- groups after the last event is taken away, which was this one
+abbrev pub groups_before : List SeenGroup → Entry → List SeenGroup
+groups_before groups e =
+    let less = slice_set groups e.place (group_before groups e) in
+    if size_of (group_before groups e) == 0 then shorter less else less
+
+-- their keys
+abbrev pub keys_before : List SeenGroup → Entry → List EventKey → List EventKey
+keys_before groups e keys = if size_of (group_before groups e) == 0 then shorter keys else keys
+
+-- ---- counts
+-- what the events of a key count as: one message, or so many events
+abbrev pub tallies_of : SeenGroup → Tallies
+tallies_of g = record {
+  messages = if is_matched g then 1 else 0;
+  unmatched = if is_unmatched g then size_of g else 0;
+  ambiguous = if is_ambiguous g then size_of g else 0;
+}
+
+-- how many events there are in all groups
+abbrev pub total_of : List SeenGroup → ℕ
+total_of groups = sum_by size_of groups
+
+-- what all groups count as
+abbrev pub sum_of : List SeenGroup → Tallies
+sum_of groups = record {
+  messages = sum_by (λ (g : SeenGroup). if is_matched g then 1 else 0) groups;
+  unmatched = sum_by (λ (g : SeenGroup). if is_unmatched g then size_of g else 0) groups;
+  ambiguous = sum_by (λ (g : SeenGroup). if is_ambiguous g then size_of g else 0) groups;
+}
+
+-- ---- couples
+-- the same two events
+abbrev pub is_same_couple : Couple → Couple → Bool
+is_same_couple a b = (a.send == b.send) && (a.receive == b.receive)
+
+-- messages with one more, where it is not there
+abbrev pub noted : List Couple → Option Couple → List Couple
+noted found None = found
+noted found (Some m) = if list_any (is_same_couple m) found then found else found ++ m ∷ []
+
+-- the couple is the message of a key of one of these events
+abbrev pub IsCoupleOf : List SeenItem → List SeenItem → Couple → Type 0
+IsCoupleOf items some m = (x : SeenItem) × Contains some x × (couple_of (group_of items x.key) ≡ Some m)
+
+-- these are just the messages of the keys of some events, each once
+pub record AreCouplesOf (items some : List SeenItem) (found : List Couple) : Type 0 where
+  pub only : (m : Couple) → Contains found m → IsCoupleOf items some m
+  pub all : (m : Couple) → IsCoupleOf items some m → Contains found m
+  pub once : AllPairs (λ (a b : Couple). a ≢ b) found

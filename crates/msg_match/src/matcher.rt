@@ -1,0 +1,185 @@
+// Messages among all events that were added.
+ghost use Rattle.std.specs.Prelude.{◌≡◌, ◌<◌, ◌≤◌, ◌-◌, ◌+◌, ◌^◌, ◌++◌, ◌∷◌, [], List, length, take, slice_get, OnOk, OnErr, IfOk};
+ghost use Rattle.trace_event.specs.Seen.{key_of};
+ghost use Rattle.msg_match.specs.Groups.{SeenItem, couple_of, group_of, ambiguous_groups};
+ghost use Rattle.msg_match.specs.Messages.{tallies};
+ghost use Rattle.msg_match.specs.Held.{seen_item, seen_items, seen_found};
+ghost use Rattle.msg_match.specs.Changes.{HaveOwnNumbers, AreMessagesAnew};
+ghost use Rattle.msg_match.specs.Parts.{AreCouplesOf, noted};
+
+use crate::entry::Entry;
+use crate::keys::Keys;
+use crate::tables::{push_at, push_first, take_back};
+use crate::tallying::{ambiguous_count, ambiguous_group, sum};
+use crate::{Change, Couple, Group, Item, Tallies};
+use indexmap::IndexSet;
+use std::alloc::{AllocError, Global};
+use std::marker::Model;
+use trace_event::Key;
+
+// Appends a message that is not there; an error where memory runs out.
+fn note(found: &mut IndexSet<Couple>, couple: Option<Couple>) -> Result<(), AllocError>
+    ensures { OnOk result (found.new.keys ≡ noted found.old.keys couple) }
+{
+    if let Some(couple) = couple {
+        found.insert(couple)?;
+    }
+    Ok(())
+}
+
+/// The events that are ends of messages, and which of them are a message. It is seen as the list of all events that were
+/// added, at most 2^22.
+///
+/// Two events are a message where one is the only send of a key and the other the only receive of that key, among all
+/// events that were added. An ambiguous key has sends and receives, and two of the ones or the others at least: nobody can
+/// tell which belong together.
+#[derive(Drop)]
+pub struct Matcher {
+    log: Vec<Entry>,
+    keys: Keys,
+    groups: Vec<Group>,
+}
+
+impl Model for Matcher {
+    ghost use Rattle.std.specs.Prelude.{List};
+    ghost use Rattle.msg_match.specs.Groups.{SeenItem};
+    ghost use Rattle.msg_match.specs.Held.{seen_groups};
+    ghost use Rattle.msg_match.specs.Inside.{items_by, AreKept};
+
+    ghost Value = { List SeenItem };
+
+    ghost view = { λ m. items_by m.keys m.log.items };
+
+    ghost invariant = { λ m. AreKept m.keys m.log.items (seen_groups m.groups.items) };
+}
+
+impl Matcher {
+    /// No events. It takes no memory.
+    pub fn new(alloc: Global) -> Matcher
+        ensures { result ≡ [] }
+    {
+        Matcher {
+            log: Vec::new(alloc),
+            keys: Keys::new(alloc),
+            groups: Vec::new(alloc),
+        }
+    }
+
+    // How many events were added.
+    fn len(&self) -> usize
+        ensures count { result ≡ length self.now }
+        ensures few { length self.now ≤ 2 ^ 22 }
+    {
+        self.log.len()
+    }
+
+    // The message of a key.
+    fn couple(&self, key: &Key) -> Option<Couple>
+        ensures { result ≡ couple_of (group_of self.now (key_of key.now)) }
+    {
+        let place = self.keys.place(key)?;
+        self.groups[place].couple()
+    }
+
+    // The messages of the keys of some events, each once; an error where memory runs out.
+    fn couples(&self, items: &[Item]) -> Result<Vec<Couple>, AllocError>
+        ensures { IfOk result (λ found. AreCouplesOf self.now (seen_items items.now) found.items) }
+    {
+        let alloc = *self.log.allocator();
+        let mut found = IndexSet::new(alloc);
+        for item in items {
+            note(&mut found, self.couple(&item.key))?;
+        }
+        Vec::from_slice(alloc, found.as_slice())
+    }
+
+    // Appends an event. All stays as before where memory runs out.
+    fn push(&mut self, item: &Item) -> Result<(), AllocError>
+        requires { length self.old < 2 ^ 22 }
+        ensures ok { OnOk result (self.new ≡ self.old ++ seen_item item.now ∷ []) }
+        ensures err { OnErr result (self.new ≡ self.old) }
+    {
+        match self.keys.place(&item.key) {
+            Some(place) => push_at(&mut self.groups, &mut self.log, place, item),
+            None => push_first(&mut self.keys, &mut self.groups, &mut self.log, item),
+        }
+    }
+
+    // Takes the last event away, where there is one.
+    fn pop(&mut self)
+        ensures { self.new ≡ take (length self.old - 1) self.old }
+    {
+        if let Some(entry) = self.log.pop() {
+            take_back(&mut self.keys, &mut self.groups, entry);
+        }
+    }
+
+    // Takes all events behind the first ones away.
+    fn truncate(&mut self, len: usize)
+        requires { len ≤ length self.old }
+        ensures { self.new ≡ take len self.old }
+    {
+        while self.len() > len {
+            self.pop();
+        }
+    }
+
+    // Appends events, and answers the messages of their keys. Where memory runs out, some of them may stay.
+    fn append(&mut self, items: &[Item]) -> Result<Vec<Couple>, AllocError>
+        requires { length self.old + length items.now ≤ 2 ^ 22 }
+        ensures ok { OnOk result (self.new ≡ self.old ++ seen_items items.now) }
+        ensures found { IfOk result (λ found. AreCouplesOf self.new (seen_items items.now) found.items) }
+        ensures err { OnErr result ((some : List SeenItem) × (self.new ≡ self.old ++ some)) }
+    {
+        for item in items {
+            self.push(item)?;
+        }
+        self.couples(items)
+    }
+
+    /// Adds events, and answers how they change the messages. Where memory runs out there is an error, and all is as
+    /// before.
+    ///
+    /// No two events have the same number, those before included, and there are at most 2^22 in all. A message that
+    /// comes and goes again within the events added is in neither list. The time goes by the events that are added.
+    pub fn add(&mut self, items: &[Item]) -> Result<Change, AllocError>
+        requires few { length self.old + length items.now ≤ 2 ^ 22 }
+        requires differ { HaveOwnNumbers (self.old ++ seen_items items.now) }
+        ensures ok { OnOk result (self.new ≡ self.old ++ seen_items items.now) }
+        ensures added { IfOk result (λ change. AreMessagesAnew self.old self.new change.added.items) }
+        ensures withdrawn { IfOk result (λ change. AreMessagesAnew self.new self.old change.withdrawn.items) }
+        ensures err { OnErr result (self.new ≡ self.old) }
+    {
+        let before = self.len();
+        let withdrawn = self.couples(items)?;
+        match self.append(items) {
+            Ok(added) => Ok(Change { added, withdrawn }),
+            Err(error) => {
+                self.truncate(before);
+                Err(error)
+            }
+        }
+    }
+
+    /// How many messages there are, events that are in none, and events with ambiguous keys.
+    pub fn tallies(&self) -> Tallies
+        ensures { result ≡ tallies self.now }
+    {
+        sum(&self.groups)
+    }
+
+    /// How many keys are ambiguous, at most 2^22.
+    pub fn groups(&self) -> u32
+        ensures { result ≡ length (ambiguous_groups self.now) }
+    {
+        ambiguous_count(&self.groups)
+    }
+
+    /// The events of an ambiguous key. Such keys are counted from 0 on, in the order in which they first came; None
+    /// exactly from `groups` on.
+    pub fn group(&self, k: u32) -> Option<&Group>
+        ensures { seen_found result ≡ slice_get (ambiguous_groups self.now) k }
+    {
+        ambiguous_group(&self.groups, k)
+    }
+}

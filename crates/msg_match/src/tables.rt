@@ -1,0 +1,91 @@
+// The tables of a matcher, changed by one event.
+ghost use Rattle.std.specs.Prelude.{◌≡◌, ◌<◌, ◌≤◌, ◌^◌, ◌++◌, ◌∷◌, [], length, slice_set, false, OnOk, OnErr, IfOk};
+ghost use Rattle.std.specs.List.{list_any};
+ghost use Rattle.trace_event.specs.Seen.{key_of, is_same_key};
+ghost use Rattle.msg_match.specs.Held.{seen_groups};
+ghost use Rattle.msg_match.specs.Parts.{group_at, with_event, empty_group, entry_at, groups_before, keys_before};
+
+use crate::entry::Entry;
+use crate::keys::Keys;
+use crate::{Group, Item};
+use std::alloc::AllocError;
+use trace_event::Key;
+
+// A key once more; an error where memory runs out.
+fn copy_key(key: &Key) -> Result<Key, AllocError>
+    ensures { IfOk result (λ copy. key_of copy ≡ key_of key.now) }
+{
+    match key {
+        Key::Packet(packet) => Ok(Key::Packet(packet.clone()?)),
+        Key::Word(word) => Ok(Key::Word(*word)),
+    }
+}
+
+// Appends an event whose key has this place. All stays as before where memory runs out.
+pub(crate) fn push_at(
+    groups: &mut Vec<Group>,
+    log: &mut Vec<Entry>,
+    place: usize,
+    item: &Item,
+) -> Result<(), AllocError>
+    requires within { place < length groups.old.items }
+    requires few { length groups.old.items ≤ 2 ^ 22 }
+    ensures groups_ok { OnOk result (seen_groups groups.new.items ≡ slice_set (seen_groups groups.old.items) place (with_event (group_at (seen_groups groups.old.items) place) item.now.side item.now.event)) }
+    ensures log_ok { OnOk result (log.new.items ≡ log.old.items ++ entry_at item.now.event item.now.side place ∷ []) }
+    ensures groups_err { OnErr result (seen_groups groups.new.items ≡ seen_groups groups.old.items) }
+    ensures log_err { OnErr result (log.new.items ≡ log.old.items) }
+{
+    log.reserve(1)?;
+    let group = &mut groups[place];
+    group.push(item.side, item.event)?;
+    log.push_reserved(Entry {
+        event: item.event,
+        side: item.side,
+        place: place as u32,
+    });
+    Ok(())
+}
+
+// Appends the first event of a key. All stays as before where memory runs out.
+pub(crate) fn push_first(
+    keys: &mut Keys,
+    groups: &mut Vec<Group>,
+    log: &mut Vec<Entry>,
+    item: &Item,
+) -> Result<(), AllocError>
+    requires absent { list_any (is_same_key (key_of item.now.key)) keys.old ≡ false }
+    requires few { length groups.old.items ≤ 2 ^ 22 }
+    ensures keys_ok { OnOk result (keys.new ≡ keys.old ++ key_of item.now.key ∷ []) }
+    ensures groups_ok { OnOk result (seen_groups groups.new.items ≡ seen_groups groups.old.items ++ with_event (empty_group (key_of item.now.key)) item.now.side item.now.event ∷ []) }
+    ensures log_ok { OnOk result (log.new.items ≡ log.old.items ++ entry_at item.now.event item.now.side (length groups.old.items) ∷ []) }
+    ensures keys_err { OnErr result (keys.new ≡ keys.old) }
+    ensures groups_err { OnErr result (groups.new.items ≡ groups.old.items) }
+    ensures log_err { OnErr result (log.new.items ≡ log.old.items) }
+{
+    let mut group = Group::new(*groups.allocator(), copy_key(&item.key)?);
+    group.push(item.side, item.event)?;
+    groups.reserve(1)?;
+    log.reserve(1)?;
+    keys.push(copy_key(&item.key)?)?;
+    log.push_reserved(Entry {
+        event: item.event,
+        side: item.side,
+        place: groups.len() as u32,
+    });
+    groups.push_reserved(group);
+    Ok(())
+}
+
+// Takes the last event away, which was this one, and its key where it has no other event.
+pub(crate) fn take_back(keys: &mut Keys, groups: &mut Vec<Group>, entry: Entry)
+    requires { entry.place < length groups.old.items }
+    ensures groups { seen_groups groups.new.items ≡ groups_before (seen_groups groups.old.items) entry }
+    ensures keys { keys.new ≡ keys_before (seen_groups groups.old.items) entry keys.old }
+{
+    let group = &mut groups[entry.place as usize];
+    group.pop(entry.side);
+    if group.is_empty() {
+        let _last = groups.pop();
+        keys.pop();
+    }
+}
