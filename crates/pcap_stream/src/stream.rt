@@ -11,7 +11,7 @@ use crate::{Packet, PcapError};
 use std::alloc::Global;
 use std::marker::Model;
 
-/// A capture so far: what its header says, and the bytes that belong to no whole header or record yet.
+/// A capture so far: what its header says, and the bytes behind its last whole record, or of a header that is not whole.
 ///
 /// It keeps no byte of a record that is whole. A piece may end anywhere.
 #[derive(Drop)]
@@ -46,7 +46,7 @@ impl PcapStream {
         }
     }
 
-    /// How many bytes came that belong to no whole header or record yet: below 262,160.
+    /// How many bytes came behind the last whole record, or of a header that is not whole: below 262,160.
     pub fn pending(&self) -> u32
         ensures { result ≡ length self.now.rest }
     {

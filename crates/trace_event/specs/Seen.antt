@@ -96,7 +96,7 @@ is_host (Some other) host = other == host
 abbrev pub is_at : Declaration → ℕ → ℕ → Bool
 is_at d host address = is_host (host_at d address) host
 
--- a packet that a host sent, or received, or neither: it can't be both
+-- a packet that a host sent, or received; where both of its addresses or neither are the host's it has no side
 abbrev pub mark_by : KeyFields → Bool → Bool → SeenMark
 mark_by key true false = Keyed (Packet key) Send
 mark_by key false true = Keyed (Packet key) Receive
