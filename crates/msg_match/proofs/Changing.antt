@@ -18,7 +18,7 @@ use Rattle.msg_match.proofs.Grouping.{exact_keys, none_with, some_with}
 use Rattle.msg_match.proofs.Keeping.{key_in, key_known}
 
 -- ---- the message of a key
-two_parts : (ss rs : List ℕ) (m : Couple) → only_two ss rs ≡ Some m → (ss ≡ m.send ∷ []) × (rs ≡ m.receive ∷ [])
+pub two_parts : (ss rs : List ℕ) (m : Couple) → only_two ss rs ≡ Some m → (ss ≡ m.send ∷ []) × (rs ≡ m.receive ∷ [])
 two_parts [] rs m is = absurd (none-some m is)
 two_parts (s ∷ t ∷ more) rs m is = absurd (none-some m is)
 two_parts (s ∷ []) [] m is = absurd (none-some m is)

@@ -195,7 +195,7 @@ same_tallies m m' u u' a a' messages unmatched ambiguous =
     ap (λ (n : ℕ). made_tallies n u a) messages ∙ ap (λ (n : ℕ). made_tallies m' n a) unmatched ∙ ap (λ (n : ℕ). made_tallies m' u' n) ambiguous
 
 -- what all groups count as is what is counted
-sums_are : (items : List SeenItem) → sum_of (map (group_of items) (keys_of items)) ≡ tallies items
+pub sums_are : (items : List SeenItem) → sum_of (map (group_of items) (keys_of items)) ≡ tallies items
 sums_are items =
     same_tallies _ _ _ _ _ _
     (by_groups (sends_message items) (λ (g : SeenGroup). cond (is_matched g) 1 0) items
@@ -208,7 +208,7 @@ all_pass [] = refl
 all_pass (x ∷ items) = omega (arith, all_pass items)
 
 -- there are as many events in all groups as were added
-totals_are : (items : List SeenItem) → total_of (map (group_of items) (keys_of items)) ≡ length items
+pub totals_are : (items : List SeenItem) → total_of (map (group_of items) (keys_of items)) ≡ length items
 totals_are items = by_groups (λ (x : SeenItem). true) size_of items (λ k. count_key (λ (j : EventKey). true) items k) ∙ all_pass items
 
 groups_of_kept : (keys : List EventKey) (log : List Entry) (groups : List SeenGroup) → AreKept keys log groups → groups ≡ map (group_of (items_by keys log)) (keys_of (items_by keys log))

@@ -78,8 +78,8 @@ impl Group {
         }
     }
 
-    // Whether there are sends and receives, and two of the ones or the others at least.
-    pub(crate) fn is_ambiguous(&self) -> bool
+    /// Whether there are sends and receives, and two of the ones or the others at least.
+    pub fn is_ambiguous(&self) -> bool
         ensures { result ≡ is_ambiguous (seen_group self.now) }
     {
         let sends = self.sends.len();

@@ -1,9 +1,9 @@
 // Messages among all events that were added.
 ghost use Rattle.std.specs.Prelude.{◌≡◌, ◌<◌, ◌≤◌, ◌-◌, ◌+◌, ◌^◌, ◌++◌, ◌∷◌, [], List, length, take, slice_get, OnOk, OnErr, IfOk};
 ghost use Rattle.trace_event.specs.Seen.{key_of};
-ghost use Rattle.msg_match.specs.Groups.{SeenItem, couple_of, group_of, ambiguous_groups};
+ghost use Rattle.msg_match.specs.Groups.{SeenItem, couple_of, group_of, groups_of, ambiguous_groups};
 ghost use Rattle.msg_match.specs.Messages.{tallies};
-ghost use Rattle.msg_match.specs.Held.{seen_item, seen_items, seen_found};
+ghost use Rattle.msg_match.specs.Held.{seen_item, seen_items, seen_found, seen_groups};
 ghost use Rattle.msg_match.specs.Changes.{HaveOwnNumbers, AreMessagesAnew};
 ghost use Rattle.msg_match.specs.Parts.{AreCouplesOf, noted};
 
@@ -73,8 +73,8 @@ impl Matcher {
         self.log.len()
     }
 
-    // The message of a key.
-    fn couple(&self, key: &Key) -> Option<Couple>
+    /// The message of a key, where it has one send and one receive among all events.
+    pub fn couple(&self, key: &Key) -> Option<Couple>
         ensures { result ≡ couple_of (group_of self.now (key_of key.now)) }
     {
         let place = self.keys.place(key)?;
@@ -181,5 +181,12 @@ impl Matcher {
         ensures { seen_found result ≡ slice_get (ambiguous_groups self.now) k }
     {
         ambiguous_group(&self.groups, k)
+    }
+
+    /// The events of each key, ambiguous or not, in the order in which the keys first came.
+    pub fn all_groups(&self) -> &[Group]
+        ensures { seen_groups result.now ≡ groups_of self.now }
+    {
+        &self.groups
     }
 }

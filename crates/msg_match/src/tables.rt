@@ -11,8 +11,8 @@ use crate::{Group, Item};
 use std::alloc::AllocError;
 use trace_event::Key;
 
-// A key once more; an error where memory runs out.
-fn copy_key(key: &Key) -> Result<Key, AllocError>
+/// A key once more; an error where memory runs out.
+pub(crate) fn copy_key(key: &Key) -> Result<Key, AllocError>
     ensures { IfOk result (λ copy. key_of copy ≡ key_of key.now) }
 {
     match key {
