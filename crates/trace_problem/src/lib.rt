@@ -8,7 +8,7 @@ mod naming;
 mod parts;
 
 pub use law::lawful;
-pub use making::problem_in;
+pub use making::problem_of;
 pub use naming::event_name;
 
 #[cfg(test)]

@@ -1,8 +1,8 @@
 // The problem of events and messages, and of all that was accepted.
 ghost use Rattle.std.specs.Prelude.{◌≡◌, ◌≤◌, ◌^◌, length, IfOk};
 ghost use Rattle.decl.specs.Declaration.{IsDeclaration, declaration_of};
-ghost use Rattle.traces.specs.Traces.{event_count};
-ghost use Rattle.traces.specs.Messages.{problem_of_seen};
+ghost use Rattle.traces.specs.Traces.{event_count, events_of};
+ghost use Rattle.traces.specs.Messages.{messages_of, problem_of_seen};
 ghost use Rattle.traces.specs.Held.{placed_in, seen_in};
 ghost use Rattle.trace_problem.specs.Making.{AreEvents, AreMessages, problem_by};
 
@@ -11,7 +11,7 @@ use crate::parts::{event_of, message_of};
 use decl::Decl;
 use problem::Problem;
 use std::alloc::{AllocError, Global};
-use traces::{Accepted, Couple, PlacedEvent, events, messages};
+use traces::{Accepted, Couple, PlacedEvent, events};
 
 // The problem of a declaration's clocks, of these events and of these messages.
 fn problem_by(
@@ -41,15 +41,20 @@ fn problem_by(
 }
 
 /// The problem of a declaration and of what was accepted under each of its labels: the clocks of all hosts, the events of
-/// all labels on the clocks of their hosts, and their messages with the bounds of the links between the hosts. An error
-/// where memory runs out.
-pub fn problem_in(alloc: Global, decl: &Decl, accepted: &[Accepted]) -> Result<Problem, AllocError>
+/// all labels on the clocks of their hosts, and their messages, which are given in the order of their sends, with the bounds
+/// of the links between the hosts. An error where memory runs out.
+pub fn problem_of(
+    alloc: Global,
+    decl: &Decl,
+    accepted: &[Accepted],
+    messages: &[Couple],
+) -> Result<Problem, AllocError>
     requires declared { IsDeclaration (declaration_of decl.now) }
     requires labels { length accepted.now ≡ length decl.now.labels.items }
     requires count { event_count (seen_in accepted.now) ≤ 2 ^ 20 }
+    requires messages { messages.now ≡ messages_of (events_of (seen_in accepted.now)) }
     ensures problem { IfOk result (λ p. p ≡ problem_of_seen (declaration_of decl.now) (seen_in accepted.now)) }
 {
     let events = events(alloc, accepted)?;
-    let couples = messages(alloc, &events)?;
-    problem_by(alloc, decl, &events, &couples)
+    problem_by(alloc, decl, &events, messages)
 }

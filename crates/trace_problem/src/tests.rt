@@ -13,7 +13,7 @@ use problem_model::{Clock, Name};
 use std::alloc::Global;
 use std::test::*;
 use trace_event::row_events;
-use traces::{Accepted, event_count};
+use traces::{Accepted, event_count, messages_in};
 
 // The logs of the labels p at the host b, q and r at the host a, and the problem that they make. From a to b a message
 // takes 10 to 20 ns, from b to a at least 5, and from a to a 1 or 2.
@@ -140,13 +140,14 @@ fn logs_of(alloc: Global, texts: &[&str; 3]) -> Option<Vec<Accepted>> {
     Vec::from_array(alloc, [first, second, third]).ok()
 }
 
-fn problem_of(alloc: Global, texts: &[&str; 3]) -> Option<Problem> {
+fn problem_from(alloc: Global, texts: &[&str; 3]) -> Option<Problem> {
     let decl = declared(alloc)?;
     let logs = logs_of(alloc, texts)?;
-    if logs.len() != decl.labels.len() || event_count(&logs) > 1 << 20 {
+    if logs.len() > 65536 || logs.len() != decl.labels.len() || event_count(&logs) > 1 << 20 {
         return None;
     }
-    problem_in(alloc, &decl, &logs).ok()
+    let messages = messages_in(alloc, &logs).ok()?;
+    problem_of(alloc, &decl, &logs, &messages).ok()
 }
 
 fn are_same(a: &Problem, b: &Problem) -> bool {
@@ -154,7 +155,7 @@ fn are_same(a: &Problem, b: &Problem) -> bool {
 }
 
 fn makes(alloc: Global, texts: &[&str; 3], wanted: &str) -> bool {
-    match problem_of(alloc, texts) {
+    match problem_from(alloc, texts) {
         Some(made) => match read_problem(alloc, wanted.as_bytes()) {
             Ok(wanted) => are_same(&made, &wanted),
             Err(_) => false,
