@@ -1,3 +1,5 @@
 mod Ascii
 mod Text
 mod Worked
+mod MergeLines
+mod MergeOrders

@@ -1,6 +1,6 @@
 -- What is reported, as data of JSON (RFC 8259), and its line. An object's keys stand in byte order. A key of a message may
 -- have a quotation mark or a backslash in it: how JSON escapes it is a matter of `compact_text`.
-use Rattle.std.specs.Prelude.{ℕ, List, [], ◌∷◌, ◌++◌, map, codes}
+use Rattle.std.specs.Prelude.{ℕ, Bool, List, [], ◌∷◌, ◌++◌, map, codes}
 use Rattle.std.specs.Str.{IsAscii}
 use Rattle.serde_json.specs.Data.{Data, boolean, number, unsigned, string, array, object, member, no_members}
 use Rattle.serde_json.specs.View.{items_of}
@@ -8,6 +8,21 @@ use Rattle.serde_json.specs.Written.{compact_text}
 use Rattle.report.specs.declared.view.NoKeys.{NoKeys}
 use Rattle.report.specs.declared.view.NamedGroup.{NamedGroup}
 use Rattle.report.specs.declared.view.View.{View}
+
+-- an ambiguous key: its text, and the names of its events
+pub record ReportedKey : Type 0 where
+  pub key : List ℕ
+  pub sends : List (List ℕ)
+  pub receives : List (List ℕ)
+
+-- all that is reported
+pub record Reported : Type 0 where
+  pub events : ℕ
+  pub messages : ℕ
+  pub unmatched : ℕ
+  pub consistent : Bool
+  pub nokeys : NoKeys
+  pub groups : List ReportedKey
 
 -- a number
 abbrev pub count : ℕ → Data
@@ -18,15 +33,15 @@ abbrev pub texts : List (List ℕ) → Data
 texts ts = array (items_of (map string ts))
 
 -- an ambiguous key, with the names of its events
-abbrev pub group_data : NamedGroup → Data
+abbrev pub group_data : ReportedKey → Data
 group_data g = object (
-    member (codes "key") (string g.key.items) (
-    member (codes "receives") (texts g.receives.items) (
-    member (codes "sends") (texts g.sends.items)
+    member (codes "key") (string g.key) (
+    member (codes "receives") (texts g.receives) (
+    member (codes "sends") (texts g.sends)
     no_members)))
 
 -- all of them, in their order
-abbrev pub groups_data : List NamedGroup → Data
+abbrev pub groups_data : List ReportedKey → Data
 groups_data gs = array (items_of (map group_data gs))
 
 -- how many events have no key, by reason
@@ -43,9 +58,9 @@ nokey_data n = object (
     no_members))))))))
 
 -- the whole report
-abbrev pub report_data : View → Data
+abbrev pub report_data : Reported → Data
 report_data v = object (
-    member (codes "ambiguous") (groups_data v.groups.items) (
+    member (codes "ambiguous") (groups_data v.groups) (
     member (codes "consistent") (boolean v.consistent) (
     member (codes "events") (count v.events) (
     member (codes "messages") (count v.messages) (
@@ -54,8 +69,24 @@ report_data v = object (
     no_members))))))
 
 -- its text, without spaces, and a line feed
-abbrev pub report_line : View → List ℕ
+abbrev pub report_line : Reported → List ℕ
 report_line v = compact_text (report_data v) ++ 10 ∷ []
+
+-- ---- the code's view
+-- a key with its events
+abbrev pub reported_key : NamedGroup → ReportedKey
+reported_key g = record { key = g.key.items; sends = g.sends.items; receives = g.receives.items }
+
+-- all of it
+abbrev pub reported : View → Reported
+reported v = record {
+  events = v.events;
+  messages = v.messages;
+  unmatched = v.unmatched;
+  consistent = v.consistent;
+  nokeys = v.nokeys;
+  groups = map reported_key v.groups.items;
+}
 
 -- the text of the key is ASCII
 abbrev pub HasAsciiKey : NamedGroup → Type 0

@@ -1,6 +1,6 @@
 // The line of a report.
 ghost use Rattle.std.specs.Prelude.{◌≡◌, All, IfOk};
-ghost use Rattle.report.specs.Report.{HasAsciiKey, report_line};
+ghost use Rattle.report.specs.Report.{HasAsciiKey, report_line, reported};
 
 use crate::View;
 use crate::values::report_value;
@@ -21,7 +21,7 @@ use std::alloc::{AllocError, Global};
 /// The error comes only where memory runs out.
 pub fn report_line(alloc: Global, v: &View) -> Result<Vec<u8>, AllocError>
     requires { All HasAsciiKey v.now.groups.items }
-    ensures { IfOk result (λ line. line.items ≡ report_line v.now) }
+    ensures { IfOk result (λ line. line.items ≡ report_line (reported v.now)) }
 {
     let mut line = report_value(alloc, v)?.to_vec(alloc)?;
     line.push(b'\n')?;

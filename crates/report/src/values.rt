@@ -1,9 +1,9 @@
 // The parts of a report as values of JSON.
-ghost use Rattle.std.specs.Prelude.{◌≡◌, All, IfOk};
+ghost use Rattle.std.specs.Prelude.{◌≡◌, All, IfOk, map};
 ghost use Rattle.std.specs.Str.{IsAscii};
 ghost use Rattle.serde_json.specs.Data.{string};
 ghost use Rattle.serde_json.specs.View.{view};
-ghost use Rattle.report.specs.Report.{HasAsciiKey, texts, group_data, groups_data, nokey_data, report_data};
+ghost use Rattle.report.specs.Report.{HasAsciiKey, texts, group_data, groups_data, nokey_data, report_data, reported, reported_key};
 
 use crate::{NamedGroup, NoKeys, View};
 use problem_model::Name;
@@ -42,7 +42,7 @@ fn names_value(alloc: Global, names: &[Name]) -> Result<Value, AllocError>
 // An ambiguous key with its events.
 fn group_value(alloc: Global, group: &NamedGroup) -> Result<Value, AllocError>
     requires { HasAsciiKey group.now }
-    ensures { IfOk result (λ value. view value ≡ group_data group.now) }
+    ensures { IfOk result (λ value. view value ≡ group_data (reported_key group.now)) }
 {
     let key = text_value(alloc, &group.key)?;
     let receives = names_value(alloc, &group.receives)?;
@@ -53,7 +53,7 @@ fn group_value(alloc: Global, group: &NamedGroup) -> Result<Value, AllocError>
 // The array of the ambiguous keys.
 fn groups_value(alloc: Global, groups: &[NamedGroup]) -> Result<Value, AllocError>
     requires { All HasAsciiKey groups.now }
-    ensures { IfOk result (λ value. view value ≡ groups_data groups.now) }
+    ensures { IfOk result (λ value. view value ≡ groups_data (map reported_key groups.now)) }
 {
     let mut values = Vec::with_capacity(alloc, groups.len())?;
     for group in groups {
@@ -81,7 +81,7 @@ fn nokey_value(alloc: Global, nokeys: &NoKeys) -> Result<Value, AllocError>
 // The whole report.
 pub(crate) fn report_value(alloc: Global, v: &View) -> Result<Value, AllocError>
     requires { All HasAsciiKey v.now.groups.items }
-    ensures { IfOk result (λ value. view value ≡ report_data v.now) }
+    ensures { IfOk result (λ value. view value ≡ report_data (reported v.now)) }
 {
     let ambiguous = groups_value(alloc, &v.groups)?;
     let nokey = nokey_value(alloc, &v.nokeys)?;
