@@ -1,0 +1,11 @@
+mod Composing
+mod Ascii
+mod Keyed
+mod Fitting
+mod Matched
+mod Counted
+mod Named
+mod Grouped
+mod Whole
+mod Adding
+mod Worked

@@ -1,0 +1,78 @@
+-- The messages among events are those among the ones that have keys.
+use Rattle.std.proofs.Common.{◌≡◌, ℕ, ◌+◌, List, [], ◌∷◌, ◌++◌, length, Bool, cond, inl, inr, refl, sym, ap, ◌∙◌, arith, length-append}
+use Rattle.std.proofs.lemmas.List.{length-map}
+use Rattle.std.specs.Prelude.{filter, is_some}
+use Rattle.std.specs.List.{flat_map}
+use Rattle.std.proofs.lemmas.Bool.{cases_Bool}
+use Rattle.trace_event.specs.declared.event.Side.{Side}
+use Rattle.trace_event.specs.declared.event.Side.TheVariants.{Send, Receive}
+use Rattle.trace_event.specs.Seen.{EventKey, SeenMark, Keyed, Unkeyed, is_mark}
+use Rattle.traces.specs.Traces.{Placed}
+use Rattle.traces.specs.Messages as traces
+use Rattle.traces.specs.Messages.{messages_of, sent_by, with_mark}
+use Rattle.msg_match.specs.Groups as groups
+use Rattle.msg_match.specs.Groups.{SeenItem, events_with, group_of, has_mark, is_matched}
+use Rattle.msg_match.specs.Messages.{sends_message, tallies}
+use Rattle.trace_report.specs.Reports.{keyed_at, keyed_from}
+
+-- ---- events with a key and a side
+count_first : {X : Type 0} (p : X → Bool) (x : X) (xs : List X) → length (filter p (x ∷ xs)) ≡ cond (p x) 1 0 + length (filter p xs)
+count_first p x xs = elim (cases_Bool (p x)) [
+  | inl passes ↦ rw passes (omega arith)
+  | inr fails ↦ rw fails (omega arith)
+]
+
+counted : (items : List SeenItem) (key : EventKey) (side : Side) → length (events_with items key side) ≡ length (filter (has_mark key side) items)
+counted items key side = length-map (filter (has_mark key side) items) (λ (x : SeenItem). x.event)
+
+keyed_first : (key : EventKey) (side : Side) (n : ℕ) (m : SeenMark) (rest : List SeenItem) → length (filter (has_mark key side) (keyed_at n m ++ rest)) ≡ cond (is_mark key side m) 1 0 + length (filter (has_mark key side) rest)
+keyed_first key side n (Keyed other its_side) rest = count_first (has_mark key side) (record { event = n; side = its_side; key = other }) rest
+keyed_first key side n (Unkeyed reason) rest = omega arith
+
+marked : (key : EventKey) (side : Side) (n : ℕ) (events : List Placed) → length (with_mark key side events) ≡ length (filter (has_mark key side) (keyed_from n events))
+marked key side n [] = refl
+marked key side n (e ∷ more) =
+    count_first (λ (x : Placed). is_mark key side x.seen.mark) e more
+    ∙ ap (λ (k : ℕ). cond (is_mark key side e.seen.mark) 1 0 + k) (marked key side (n + 1) more)
+    ∙ sym (keyed_first key side n e.seen.mark (keyed_from (n + 1) more))
+
+same_many : (key : EventKey) (side : Side) (events : List Placed) → length (with_mark key side events) ≡ length (events_with (keyed_from 0 events) key side)
+same_many key side events = marked key side 0 events ∙ sym (counted (keyed_from 0 events) key side)
+
+-- ---- messages
+-- a send and a receive alone, told by how many there are
+two_alone : (ss rs : List Placed) (us vs : List ℕ) → length ss ≡ length us → length rs ≡ length vs → length (traces.only_two ss rs) ≡ cond (is_some (groups.only_two us vs)) 1 0
+two_alone [] rs [] vs e f = refl
+two_alone [] rs (u ∷ us) vs e f = absurd (omega (arith, e))
+two_alone (s ∷ ss) rs [] vs e f = absurd (omega (arith, e))
+two_alone (s ∷ p ∷ ss) rs (u ∷ []) vs e f = absurd (omega (arith, e))
+two_alone (s ∷ []) rs (u ∷ t ∷ us) vs e f = absurd (omega (arith, e))
+two_alone (s ∷ p ∷ ss) rs (u ∷ t ∷ us) vs e f = refl
+two_alone (s ∷ []) [] (u ∷ []) [] e f = refl
+two_alone (s ∷ []) [] (u ∷ []) (v ∷ vs) e f = absurd (omega (arith, f))
+two_alone (s ∷ []) (r ∷ rs) (u ∷ []) [] e f = absurd (omega (arith, f))
+two_alone (s ∷ []) (r ∷ []) (u ∷ []) (v ∷ []) e f = refl
+two_alone (s ∷ []) (r ∷ []) (u ∷ []) (v ∷ w ∷ vs) e f = absurd (omega (arith, f))
+two_alone (s ∷ []) (r ∷ q ∷ rs) (u ∷ []) (v ∷ []) e f = absurd (omega (arith, f))
+two_alone (s ∷ []) (r ∷ q ∷ rs) (u ∷ []) (v ∷ w ∷ vs) e f = refl
+
+sent_first : (all : List Placed) (n : ℕ) (m : SeenMark) (rest : List SeenItem)
+    → length (filter (sends_message (keyed_from 0 all)) (keyed_at n m ++ rest)) ≡ length (sent_by all m) + length (filter (sends_message (keyed_from 0 all)) rest)
+sent_first all n (Keyed key Send) rest =
+    let items : List SeenItem = keyed_from 0 all in
+    count_first (sends_message items) (record { event = n; side = Send; key = key }) rest
+    ∙ ap (λ (k : ℕ). k + length (filter (sends_message items) rest))
+    (sym (two_alone (with_mark key Send all) (with_mark key Receive all) (events_with items key Send) (events_with items key Receive) (same_many key Send all) (same_many key Receive all)))
+sent_first all n (Keyed key Receive) rest = omega arith
+sent_first all n (Unkeyed reason) rest = omega arith
+
+sent_many : (all : List Placed) (n : ℕ) (events : List Placed) → length (flat_map (λ (e : Placed). sent_by all e.seen.mark) events) ≡ length (filter (sends_message (keyed_from 0 all)) (keyed_from n events))
+sent_many all n [] = refl
+sent_many all n (e ∷ more) =
+    length-append (sent_by all e.seen.mark) (flat_map (λ (x : Placed). sent_by all x.seen.mark) more)
+    ∙ ap (λ (k : ℕ). length (sent_by all e.seen.mark) + k) (sent_many all (n + 1) more)
+    ∙ sym (sent_first all n e.seen.mark (keyed_from (n + 1) more))
+
+-- they are as many
+pub messages_many : (events : List Placed) → (tallies (keyed_from 0 events)).messages ≡ length (messages_of events)
+messages_many events = sym (sent_many events 0 events)

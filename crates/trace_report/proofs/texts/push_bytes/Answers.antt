@@ -1,0 +1,11 @@
+use Rattle.std.proofs.Common.{◌++◌, ◌∷◌, [], ◌∙◌, ap, ℕ, List}
+use Rattle.std.specs.Prelude.{codes}
+use Rattle.trace_report.specs.KeyTexts.{payload_word}
+use Rattle.trace_report.proofs.Composing.{two_more, words_more}
+use Rattle.trace_report.proofs.texts.push_bytes.Goals as goal
+
+pub returns-clause-text : goal.returns-clause-text
+returns-clause-text c = λ first ws is.
+    let name = c.in_ok-push_word.ensures first ws is in
+    two_more first ws (codes "payload") (payload_word c.args.payload.now) _
+    (c.in_ok-push_payload.ensures.text ∙ ap (λ (l : List ℕ). l ++ payload_word c.args.payload.now) c.in_ok-push.ensures.items ∙ words_more first (ws ++ codes "payload" ∷ []) (payload_word c.args.payload.now) _ name)

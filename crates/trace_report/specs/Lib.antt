@@ -1,0 +1,4 @@
+pub mod KeyTexts
+pub mod Reports
+pub mod Counts
+pub mod Inside
