@@ -1,5 +1,5 @@
 -- The row of an event tells its greatest differences over all executions of the problem.
-use Rattle.std.proofs.Common.{◌≡◌, ◌<◌, ◌≤◌, ◌*◌, ◌^◌, ℕ, Bool, true, false, List, length, map, refl, sym, ◌∙◌, ap, subst, arith}
+use Rattle.std.proofs.Common.{◌≡◌, ◌<◌, ◌≤◌, ◌*◌, ◌^◌, ℕ, Bool, true, false, List, length, slice_get, Some, map, refl, sym, ◌∙◌, ap, subst, arith}
 use Rattle.std.specs.Prelude.{ℤ, pos, neg_ℤ, ◌≤ℤ◌, ◌<ℤ◌}
 use Rattle.std.proofs.lemmas.Int.{ints}
 use Rattle.std.proofs.lemmas.List.Elements.{All-map, All-weaker}
@@ -25,7 +25,7 @@ use Rattle.sync_graph.specs.Graph.{GraphLists, IsGraph, IsSound, table_of, unnam
 use Rattle.earliest.specs.Values.{Values}
 use Rattle.intervals.specs.Ends.{IsSmall, FitsReach}
 use Rattle.intervals.specs.Executions.{IsReachOf}
-use Rattle.solver.specs.Solution.{IsSolved}
+use Rattle.solver.specs.Solution.{IsGraphOf, IsSolved}
 use Rattle.row_pool.specs.Reach.{known_reach, reach_of}
 
 -- ---- sizes
@@ -52,6 +52,20 @@ path_small : (g : GraphLists) (p q : ℕ) (steps : List Arc) (z : ℤ) → IsGra
 path_small g p q steps z is path sum short =
     let bounds = short_sum (length g.nodes) (map unnamed g.arcs) p q steps (2 ^ 93) (arcs_light g is) path (let le : length steps ≤ length g.nodes = omega (arith, short) in le) in
     subst IsSmall sum (small_sum (length g.nodes) (sum_of steps) is.node_limit bounds.0 bounds.1)
+
+-- ---- nodes of the graph
+module _ (p : ProblemLists) (readings : List Reading) (are : AreReadings p readings) (g : GraphLists) (graph : IsGraphOf p g) where
+  same_nodes : g.nodes ≡ nodes_of p readings
+  same_nodes = (graph.bounds readings are).nodes_are
+
+  pub stands_in_problem : (place : ℕ) (n : Node) → slice_get g.nodes place ≡ Some n → IsNodeAt p readings place n
+  stands_in_problem place n at = subst (λ (ns : List Node). slice_get ns place ≡ Some n) same_nodes at
+
+  pub event_node : (k : ℕ) → k < length p.events → slice_get g.nodes k ≡ Some (nodes.Event k)
+  event_node k inside = subst (λ (ns : List Node). slice_get ns k ≡ Some (nodes.Event k)) (sym same_nodes) (event_stands p readings k inside)
+
+  pub event_inside : (k : ℕ) → k < length p.events → k < length g.nodes
+  event_inside k inside = slice_get_within g.nodes k (nodes.Event k) (event_node k inside)
 
 -- ---- greatest differences
 module _ (p : ProblemLists) (readings : List Reading) (are : AreReadings p readings) (g : GraphLists) (e : Values) (solved : IsSolved p g e) where
@@ -117,6 +131,3 @@ module _ (p : ProblemLists) (readings : List Reading) (are : AreReadings p readi
 
     pub back_fits : IsRow (length g.nodes) (reversed_table (table_of g)) from c → FitsReach (reach_of c to)
     back_fits row = back_fits_by row (c.known to) refl
-
-  pub event_count : (e : ℕ) → e < length p.events → e < length g.nodes
-  event_count k inside = node_count k (nodes.Event k) (event_stands p readings k inside)

@@ -1,6 +1,14 @@
-//! The greatest differences of two events in both directions, by rows that are made for them.
+//! The greatest differences of two events, or of a clock's reading and an event, in both directions, by rows that are made
+//! for them; and the rows themselves.
 #![tactic(auto)]
 
 mod pair;
+mod reading;
+mod room;
+mod rows;
+#[cfg(test)]
+mod tests;
 
 pub use pair::pair_of;
+pub use reading::pair_of_reading;
+pub use rows::{Rows, rows_of};

@@ -1,5 +1,6 @@
 // The greatest differences of two events.
-ghost use Rattle.std.specs.Prelude.{◌≡◌, ◌<◌, ◌≤◌, length, IfOk};
+ghost use Rattle.std.specs.Prelude.{◌≡◌, ◌<◌, ◌≤◌, length, slice_get, Some, IfOk};
+ghost use Rattle.problem_model.specs.declared.items.Node.{Node};
 ghost use Rattle.problem_model.specs.declared.items.Node.TheVariants as nodes;
 ghost use Rattle.frontier.specs.Keys.{IsEmpty};
 ghost use Rattle.row_pool.specs.Row.{cells_of};
@@ -8,6 +9,7 @@ ghost use Rattle.intervals.specs.Executions.{IsPairOf};
 ghost use Rattle.solver.specs.Solution.{IsSolved};
 ghost use Rattle.row_pool.specs.Reach.{reach_of};
 
+use crate::room::{new_row, room_for};
 use distances::{row_from, row_to};
 use earliest::Earliest;
 use frontier::Frontier;
@@ -15,23 +17,6 @@ use problem::Problem;
 use row_pool::{Cell, Pair, Reach};
 use std::alloc::{AllocError, Global};
 use sync_graph::Graph;
-
-// A row with a cell for each node.
-fn new_row(alloc: Global, nodes: u32) -> Result<Vec<Cell>, AllocError>
-    ensures { IfOk result (λ row. length row.items ≡ nodes) }
-{
-    vec![in alloc; Cell::unknown(); nodes as usize]
-}
-
-// An empty frontier with room for so many nodes.
-fn room_for(alloc: Global, nodes: u32) -> Result<Frontier, AllocError>
-    ensures empty { IfOk result (λ front. IsEmpty front) }
-    ensures room { IfOk result (λ front. nodes ≤ length front) }
-{
-    let mut front = Frontier::new(alloc);
-    front.reserve(nodes)?;
-    Ok(front)
-}
 
 // The greatest difference that a row tells of a node.
 fn reach_in(row: &[Cell], node: u32) -> Reach
@@ -41,7 +26,7 @@ fn reach_in(row: &[Cell], node: u32) -> Reach
     row[node as usize].reach()
 }
 
-// The greatest differences of two events, by rows that are made in this one.
+// The greatest differences of two nodes, which are given by their numbers, by rows that are made in this one.
 fn pair_in(
     p: &Problem,
     g: &Graph,
@@ -52,12 +37,13 @@ fn pair_in(
     front: &mut Frontier,
 ) -> Pair
     requires solved { IsSolved p.now g.now e.now }
-    requires from { from < length p.now.events }
-    requires to { to < length p.now.events }
+    requires from { from < length g.now.nodes }
+    requires to { to < length g.now.nodes }
     requires cells { length g.now.nodes ≤ length row.old }
     requires empty { IsEmpty front.old }
     requires room { length g.now.nodes ≤ length front.old }
-    ensures pair { IsPairOf p.now (nodes.Event from) (nodes.Event to) result }
+    ensures pair { (m n : Node) → slice_get g.now.nodes from ≡ Some m → slice_get g.now.nodes to ≡ Some n
+        → IsPairOf p.now m n result }
     ensures fits { FitsPair result }
 {
     let _ = p.readings();
@@ -67,6 +53,27 @@ fn pair_in(
     row_to(g, e, from, row, front);
     let down = reach_in(row, to);
     Pair { up, down }
+}
+
+// The greatest differences of two nodes, which are given by their numbers. It makes a row for the first one.
+pub(crate) fn pair_between(
+    alloc: Global,
+    p: &Problem,
+    g: &Graph,
+    e: &Earliest,
+    from: u32,
+    to: u32,
+) -> Result<Pair, AllocError>
+    requires solved { IsSolved p.now g.now e.now }
+    requires from { from < length g.now.nodes }
+    requires to { to < length g.now.nodes }
+    ensures pair { (m n : Node) → slice_get g.now.nodes from ≡ Some m → slice_get g.now.nodes to ≡ Some n
+        → IfOk result (IsPairOf p.now m n) }
+    ensures fits { IfOk result FitsPair }
+{
+    let mut front = room_for(alloc, g.nodes())?;
+    let mut row = new_row(alloc, g.nodes())?;
+    Ok(pair_in(p, g, e, from, to, &mut row, &mut front))
 }
 
 /// The greatest differences of two events of a problem in both directions, in units of 1e-9 ns and below 2^120 in
@@ -86,7 +93,6 @@ pub fn pair_of(
     ensures pair { IfOk result (IsPairOf p.now (nodes.Event from) (nodes.Event to)) }
     ensures fits { IfOk result FitsPair }
 {
-    let mut front = room_for(alloc, g.nodes())?;
-    let mut row = new_row(alloc, g.nodes())?;
-    Ok(pair_in(p, g, e, from, to, &mut row, &mut front))
+    let _ = p.readings();
+    pair_between(alloc, p, g, e, from, to)
 }

@@ -1,0 +1,181 @@
+// Greatest differences of problems that are read.
+ghost use Rattle.std.specs.Prelude.{◌<◌, length};
+ghost use Rattle.solver.specs.Solution.{IsSolved};
+
+use super::*;
+use earliest::Earliest;
+use problem::{Problem, ProblemError, read_problem};
+use row_pool::{Pair, Reach};
+use solver::{Solution, solve};
+use std::alloc::{AllocError, Global};
+use std::test::Fail;
+use sync_graph::Graph;
+
+// A message in each direction.
+const TWO_LOGS: &str =
+    "problem 1\nclock a 0 0 0 0\nclock b 0 0 0 0\nevent a#1 a 100\nevent a#2 a 180\nevent b#1 b 250\nevent b#2 b 300\nmessage a#1 b#1 10 20\nmessage b#2 a#2 10 20\nend\n";
+
+// Two clocks without a message.
+const UNLINKED: &str =
+    "problem 1\nclock a 0 0 0 0\nclock b 0 0 0 0\nevent a#1 a 0\nevent b#1 b 0\nend\n";
+
+// One event, whose clock may be early or late.
+const ALONE: &str = "problem 1\nclock a 0 0 2 3\nevent p a 7\nend\n";
+
+// The event `q` is at least 10 ns and at most 25 ns behind `p`, and its clock reads it 1 ns early to 2 ns late.
+const TOLERANT: &str =
+    "problem 1\nclock a 0 0 0 0\nclock b 0 0 1 2\nevent p a 3000\nevent q b 5000\nmessage p q 10 25\nend\n";
+
+// A problem, the places of two of its events, and the greatest differences: of these events, and of the first one's
+// reading and the second one.
+struct Case {
+    problem: &'static str,
+    first: u32,
+    second: u32,
+    events: Pair,
+    reading: Pair,
+}
+
+const NEVER: Pair = Pair {
+    up: Reach::Never,
+    down: Reach::Never,
+};
+
+const CASES: [Case; 5] = [
+    Case {
+        problem: TWO_LOGS,
+        first: 0,
+        second: 2,
+        events: Pair {
+            up: Reach::At(20_000_000_000),
+            down: Reach::At(-10_000_000_000),
+        },
+        reading: Pair {
+            up: Reach::At(20_000_000_000),
+            down: Reach::At(-10_000_000_000),
+        },
+    },
+    Case {
+        problem: UNLINKED,
+        first: 0,
+        second: 1,
+        events: NEVER,
+        reading: NEVER,
+    },
+    Case {
+        problem: ALONE,
+        first: 0,
+        second: 0,
+        events: Pair {
+            up: Reach::At(0),
+            down: Reach::At(0),
+        },
+        reading: Pair {
+            up: Reach::At(3_000_000_000),
+            down: Reach::At(2_000_000_000),
+        },
+    },
+    Case {
+        problem: TOLERANT,
+        first: 0,
+        second: 1,
+        events: Pair {
+            up: Reach::At(25_000_000_000),
+            down: Reach::At(-10_000_000_000),
+        },
+        reading: Pair {
+            up: Reach::At(25_000_000_000),
+            down: Reach::At(-10_000_000_000),
+        },
+    },
+    Case {
+        problem: TOLERANT,
+        first: 1,
+        second: 0,
+        events: Pair {
+            up: Reach::At(-10_000_000_000),
+            down: Reach::At(25_000_000_000),
+        },
+        reading: Pair {
+            up: Reach::At(-8_000_000_000),
+            down: Reach::At(26_000_000_000),
+        },
+    },
+];
+
+// Whether the rows of an event tell these greatest differences of it and a node.
+fn tell(rows: &Rows, node: u32, want: Pair) -> bool {
+    match (rows.from.get(node as usize), rows.to.get(node as usize)) {
+        (Some(from), Some(to)) => {
+            want == Pair {
+                up: from.reach(),
+                down: to.reach(),
+            }
+        }
+        _ => false,
+    }
+}
+
+// The greatest differences of an event's reading and another event.
+fn from_its_reading(
+    alloc: Global,
+    p: &Problem,
+    g: &Graph,
+    e: &Earliest,
+    first: u32,
+    second: u32,
+) -> Result<Pair, AllocError>
+    requires solved { IsSolved p.now g.now e.now }
+    requires first { first < length p.now.events }
+    requires second { second < length p.now.events }
+{
+    let event = p.events()[first as usize];
+    pair_of_reading(alloc, p, g, e, event.clock, event.stamp, second)
+}
+
+// Whether the greatest differences are so, where the problem has an execution.
+fn tells(
+    alloc: Global,
+    p: &Problem,
+    g: &Graph,
+    e: &Earliest,
+    case: &Case,
+) -> Result<bool, AllocError>
+    requires solved { IsSolved p.now g.now e.now }
+    requires first { case.now.first < length p.now.events }
+    requires second { case.now.second < length p.now.events }
+{
+    let events = pair_of(alloc, p, g, e, case.first, case.second)?;
+    let reading = from_its_reading(alloc, p, g, e, case.first, case.second)?;
+    let rows = rows_of(alloc, p, g, e, case.first)?;
+    Ok(events == case.events && reading == case.reading && tell(&rows, case.second, case.events))
+}
+
+// Whether the problem has an execution, and the greatest differences are so.
+fn is_so(alloc: Global, case: &Case) -> Result<bool, ProblemError> {
+    let p = read_problem(alloc, case.problem.as_bytes())?;
+    let events = p.events().len() as u32;
+    if case.first >= events || case.second >= events {
+        return Ok(false);
+    }
+    match solve(alloc, &p)? {
+        Solution::Execution(g, e) => Ok(tells(alloc, &p, &g, &e, case)?),
+        Solution::Contradiction(_) => Ok(false),
+    }
+}
+
+// Whether all cases are so.
+fn all_so(alloc: Global) -> Result<bool, ProblemError> {
+    for case in &CASES {
+        if !is_so(alloc, case)? {
+            return Ok(false);
+        }
+    }
+    Ok(true)
+}
+
+#[test]
+fn greatest_differences(rt: HostRuntime) -> Result<(), Fail> {
+    assert!(rt; matches!(all_so(rt.alloc()), Ok(true)));
+    Ok(())
+}
