@@ -8,12 +8,13 @@ use Rattle.problem_model.specs.declared.items.Node.TheVariants as nodes
 use Rattle.problem_model.specs.Problem.{ProblemLists}
 use Rattle.problem_model.specs.Bounds.{Times, IsExecution}
 use Rattle.intervals.specs.declared.ends.End.{End}
+use Rattle.intervals.specs.declared.ends.Ends.{Ends}
 use Rattle.intervals.specs.declared.order.Order.{Order}
 use Rattle.intervals.specs.declared.order.Order.TheVariants.{Before, After, Same, Undecided}
-use Rattle.intervals.specs.Executions.{difference, IsOrderOf}
+use Rattle.intervals.specs.Executions.{difference, time_by, AreEndsOf, IsOrderOf}
 use Rattle.intervals.proofs.Times.{one_greatest, one_least}
 use Rattle.queries.specs.Words.{end_word, order_word}
-use Rattle.queries.specs.Replies.{IsIntervalLine, IsOrderLine, Replies}
+use Rattle.queries.specs.Replies.{HasReading, IsIntervalLine, IsOrderLine, IsTimeLine, Replies}
 
 -- ---- real times
 apart : (a b : ℤ) → a <ℤ b → b <ℤ a → ⊥
@@ -45,15 +46,23 @@ one_order p from to x e Undecided Same one two = absurd (one.2 two)
 one_order p from to x e Undecided Undecided one two = refl
 
 -- ---- lines
-abbrev interval_words : End → End → List ℕ
-interval_words least greatest = line_of (codes "interval" ∷ end_word (codes "-inf") least ∷ end_word (codes "+inf") greatest ∷ [])
+abbrev ends_words : List ℕ → End → End → List ℕ
+ends_words first least greatest = line_of (first ∷ end_word (codes "-inf") least ∷ end_word (codes "+inf") greatest ∷ [])
+
+-- the line of the ends of a time
+one_line : (p : ProblemLists) (time : Times → ℤ) (first : List ℕ) (e f : Ends) → AreEndsOf p time e → AreEndsOf p time f → ends_words first e.least e.greatest ≡ ends_words first f.least f.greatest
+one_line p time first e f are are' =
+    let least : e.least ≡ f.least = one_least p time e.least f.least are.below are'.below in
+    let greatest : e.greatest ≡ f.greatest = one_greatest p time e.greatest f.greatest are.above are'.above in
+    ap (λ (end : End). ends_words first end e.greatest) least ∙ ap (ends_words first f.least) greatest
 
 pub one_interval : (p : ProblemLists) (from to : ℕ) (a b : List ℕ) → IsIntervalLine p from to a → IsIntervalLine p from to b → a ≡ b
 one_interval p from to a b (e, are, is) (f, are', is') =
-    let time = difference (nodes.Event from) (nodes.Event to) in
-    let least : e.least ≡ f.least = one_least p time e.least f.least are.below are'.below in
-    let greatest : e.greatest ≡ f.greatest = one_greatest p time e.greatest f.greatest are.above are'.above in
-    is ∙ ap (λ (end : End). interval_words end e.greatest) least ∙ ap (interval_words f.least) greatest ∙ sym is'
+    is ∙ one_line p (difference (nodes.Event from) (nodes.Event to)) (codes "interval") e f are are' ∙ sym is'
+
+pub one_time_line : (p : ProblemLists) (clock event : ℕ) (a b : List ℕ) → HasReading p clock → IsTimeLine p clock event a → IsTimeLine p clock event b → a ≡ b
+one_time_line p clock event a b (stamp, reads) (e, each, is) (f, each', is') =
+    is ∙ one_line p (time_by clock stamp (nodes.Event event)) (codes "time") e f (each stamp reads) (each' stamp reads) ∙ sym is'
 
 pub one_order_line : (p : ProblemLists) (from to : ℕ) (a b : List ℕ) → ((x : Times) × IsExecution p x) → IsOrderLine p from to a → IsOrderLine p from to b → a ≡ b
 one_order_line p from to a b (x, execution) (o, one, is) (o', one', is') =

@@ -1,3 +1,4 @@
-pub mod Consistent
 pub mod Words
 pub mod Replies
+pub mod Consistent
+pub mod Clocks

@@ -4,7 +4,7 @@ use Rattle.line_format.specs.Words.{line_of}
 use Rattle.ports.specs.Content.{Appends}
 use Rattle.problem_model.specs.declared.items.Node.TheVariants as nodes
 use Rattle.problem_model.specs.Problem.{ProblemLists}
-use Rattle.problem_model.specs.Bounds.{Times, IsExecution}
+use Rattle.problem_model.specs.Bounds.{Times, IsExecution, IsReading}
 use Rattle.problem_model.specs.Nodes.{Reading, AreReadings, nodes_of}
 use Rattle.difference_bounds.specs.Solutions.{IsContradictionOf}
 use Rattle.cert.specs.declared.chain.Step.{Step}
@@ -12,7 +12,8 @@ use Rattle.cert.specs.declared.certificate.Cert.TheVariants.{Cycle}
 use Rattle.cert.specs.CertificateText.{certificate_text}
 use Rattle.intervals.specs.declared.ends.Ends.{Ends}
 use Rattle.intervals.specs.declared.order.Order.{Order}
-use Rattle.intervals.specs.Executions.{difference, AreEndsOf, IsOrderOf}
+use Rattle.intervals.specs.Executions.{difference, time_by, AreEndsOf, IsOrderOf}
+use Rattle.attain.specs.Tight.{IsTightText}
 use Rattle.queries.specs.declared.question.Asked.{Asked}
 use Rattle.queries.specs.declared.question.Asked.TheVariants as asked
 use Rattle.queries.specs.declared.question.Question.{Question}
@@ -27,6 +28,20 @@ IsIntervalLine p from to text = (e : Ends) × AreEndsOf p (difference (nodes.Eve
 abbrev pub IsOrderLine : ProblemLists → ℕ → ℕ → List ℕ → Type 0
 IsOrderLine p from to text = (order : Order) × IsOrderOf p (nodes.Event from) (nodes.Event to) order
     × (text ≡ line_of (codes "order" ∷ order_word order ∷ []))
+
+-- the clock has a reading
+abbrev pub HasReading : ProblemLists → ℕ → Type 0
+HasReading p clock = (stamp : ℕ) × IsReading p clock stamp
+
+-- the line has the least and the greatest time of an event by a clock, over all executions: the same by each of its readings
+abbrev pub IsTimeLine : ProblemLists → ℕ → ℕ → List ℕ → Type 0
+IsTimeLine p clock event text = (e : Ends) × ((stamp : ℕ) → IsReading p clock stamp → AreEndsOf p (time_by clock stamp (nodes.Event event)) e)
+    × (text ≡ line_of (codes "time" ∷ end_word (codes "-inf") e.least ∷ end_word (codes "+inf") e.greatest ∷ []))
+
+-- the text is the certificate of both ends of the difference from one event to another, with the executions that attain
+-- them and the cuts that show that there is none
+abbrev pub IsProofText : ProblemLists → ℕ → ℕ → List ℕ → Type 0
+IsProofText p from to text = (readings : List Reading) × AreReadings p readings × IsTightText p readings from to text
 
 -- the line says what is asked of two events
 abbrev pub IsLineOf : Asked → ProblemLists → ℕ → ℕ → List ℕ → Type 0

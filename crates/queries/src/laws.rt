@@ -2,13 +2,15 @@
 ghost use Rattle.std.specs.Prelude.{◌≡◌, ℕ, List};
 ghost use Rattle.problem_model.specs.Problem.{ProblemLists};
 ghost use Rattle.problem_model.specs.Bounds.{Times, IsExecution};
-ghost use Rattle.queries.specs.Replies.{IsIntervalLine, IsOrderLine, Replies};
+ghost use Rattle.queries.specs.Replies.{HasReading, IsIntervalLine, IsOrderLine, IsTimeLine, Replies};
 
 /// A law, which does nothing when it runs: two events of a problem have one line of their interval and, where some
-/// execution obeys the bounds, one line of their order. There each question has one reply, and no contradiction is one.
+/// execution obeys the bounds, one line of their order; an event has one line of its time by a clock that has a reading. There each question has one reply, and no contradiction is one.
 pub fn replies_are_one()
     ensures interval { (p : ProblemLists) (from to : ℕ) (a b : List ℕ) → IsIntervalLine p from to a → IsIntervalLine p from to b → a ≡ b }
     ensures order { (p : ProblemLists) (from to : ℕ) (a b : List ℕ) → ((x : Times) × IsExecution p x) → IsOrderLine p from to a → IsOrderLine p from to b → a ≡ b }
+    ensures time { (p : ProblemLists) (clock event : ℕ) (a b : List ℕ) → HasReading p clock → IsTimeLine p clock event a → IsTimeLine p clock event b → a ≡ b }
     ensures interval_reply { (p : ProblemLists) (from to : ℕ) (text : List ℕ) → ((x : Times) × IsExecution p x) → Replies p (IsIntervalLine p from to) text → IsIntervalLine p from to text }
     ensures order_reply { (p : ProblemLists) (from to : ℕ) (text : List ℕ) → ((x : Times) × IsExecution p x) → Replies p (IsOrderLine p from to) text → IsOrderLine p from to text }
+    ensures time_reply { (p : ProblemLists) (clock event : ℕ) (text : List ℕ) → ((x : Times) × IsExecution p x) → Replies p (IsTimeLine p clock event) text → IsTimeLine p clock event text }
 {}

@@ -1,20 +1,24 @@
-//! What is asked of a problem and of two of its events: whether some execution obeys the bounds, the interval of the
-//! difference of two real times, and their order.
+//! What is asked of a problem and of its events: whether some execution obeys the bounds, the interval of the difference of
+//! two real times and its certificate, their order, and the time of an event by a clock.
 #![tactic(auto)]
 
 mod consistent;
 mod contradiction;
 mod laws;
 mod lines;
+mod prove;
 mod question;
 mod reply;
 mod stop;
+mod time;
 
 pub use consistent::is_consistent;
 pub use contradiction::write_contradiction;
 pub use laws::replies_are_one;
+pub use prove::write_proof;
 pub use reply::{write_interval, write_order};
 pub use stop::Stop;
+pub use time::{reading_of, write_time};
 
 #[cfg(test)]
 mod tests;

@@ -26,15 +26,30 @@ fn push_end(line: &mut Line, end: End, unlimited: &[u8])
     }
 }
 
-// The line of an interval.
-fn interval_line(ends: &Ends) -> Line
-    ensures { result.items ≡ line_of (codes "interval" ∷ end_word (codes "-inf") ends.now.least ∷ end_word (codes "+inf") ends.now.greatest ∷ []) }
+// The line of both ends behind its first word.
+fn ends_line(first: &[u8], ends: &Ends) -> Line
+    requires { length first.now ≤ 10 }
+    ensures { result.items ≡ line_of (first.now ∷ end_word (codes "-inf") ends.now.least ∷ end_word (codes "+inf") ends.now.greatest ∷ []) }
 {
-    let mut line = first_word(b"interval");
+    let mut line = first_word(first);
     push_end(&mut line, ends.least, b"-inf");
     push_end(&mut line, ends.greatest, b"+inf");
     line.push(b'\n');
     line
+}
+
+// The line of an interval.
+fn interval_line(ends: &Ends) -> Line
+    ensures { result.items ≡ line_of (codes "interval" ∷ end_word (codes "-inf") ends.now.least ∷ end_word (codes "+inf") ends.now.greatest ∷ []) }
+{
+    ends_line(b"interval", ends)
+}
+
+/// The line of the time of an event by a clock, by its ends in units of 1e-9 ns.
+pub fn time_line(ends: &Ends) -> Line
+    ensures { result.items ≡ line_of (codes "time" ∷ end_word (codes "-inf") ends.now.least ∷ end_word (codes "+inf") ends.now.greatest ∷ []) }
+{
+    ends_line(b"time", ends)
 }
 
 // The word of an order.

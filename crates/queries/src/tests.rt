@@ -1,4 +1,5 @@
 ghost use Rattle.std.specs.Prelude.{◌<◌, ◌↔◌, IsTrue, length};
+ghost use Rattle.queries.specs.Clocks.{KeepsTime};
 
 use super::*;
 use ports::MemSink;
@@ -32,6 +33,27 @@ const TOGETHER: &str = "problem 1\nclock c 0 0 0 0\nevent p c 5\nevent q c 5\nen
 // The contradiction: the way from a#1 to a#2 over host b takes 90 ns at most, and 95 ns by host a's clock.
 const CYCLE: &str =
     "certificate 1\ncycle\nstep early a#2 0.000000000\nstep span-least a 100 195 -95.000000000\nstep late a#1 0.000000000\nstep delay-most a#1 b#1 20.000000000\nstep early b#1 0.000000000\nstep span-most b 250 300 50.000000000\nstep late b#2 0.000000000\nstep delay-most b#2 a#2 20.000000000\nend\n";
+
+// A source, whose clock r keeps time, and a host. Event r#1, stamped 1000, sends to b#1, which sends back to r#2. Their places
+// are 1, 2 and 0.
+const SOURCE: &str =
+    "problem 1\nclock r 0 0 0 0\nclock b 0 0 0 0\nevent r#2 r 1500\nevent r#1 r 1000\nevent b#1 b 250\nmessage r#1 b#1 10 20\nmessage b#1 r#2 0 none\nend\n";
+
+// The same without the way back, and the source may stamp 2 ns early or 3 ns late.
+const STRAYING: &str =
+    "problem 1\nclock r 0 0 2 3\nclock b 0 0 0 0\nevent r#1 r 1000\nevent b#1 b 250\nmessage r#1 b#1 10 20\nend\n";
+
+// Clock a has no event.
+const SILENT: &str =
+    "problem 1\nclock a 0 0 0 0\nclock b 0 0 0 0\nclock c 0 0 0 0\nevent b#1 b 7\nevent c#1 c 9\nend\n";
+
+// The certificate of events a#1 and b#1 of the two logs.
+const LIMITED: &str =
+    "certificate 1\nends a#1 b#1\nupper 20.000000000\nstep delay-most a#1 b#1 20.000000000\nevent a#1 0.000000000\nevent a#2 80.000000000\nevent b#1 20.000000000\nevent b#2 70.000000000\nreading a 100 0.000000000\nreading a 180 80.000000000\nreading b 250 20.000000000\nreading b 300 70.000000000\nlower 10.000000000\nstep delay-least a#1 b#1 -10.000000000\nevent a#1 0.000000000\nevent a#2 80.000000000\nevent b#1 10.000000000\nevent b#2 60.000000000\nreading a 100 0.000000000\nreading a 180 80.000000000\nreading b 250 10.000000000\nreading b 300 60.000000000\nend\n";
+
+// That of two events that nothing ties.
+const UNLIMITED: &str =
+    "certificate 1\nends a#1 b#1\nupper +inf\ninside a\nevent a#1 0.000000000\nevent b#1 0.000000000\nreading a 0 0.000000000\nreading b 0 0.000000000\nlower -inf\ninside b\nevent a#1 0.000000000\nevent b#1 0.000000000\nreading a 0 0.000000000\nreading b 0 0.000000000\nend\n";
 
 // What is to be written of two events.
 struct Case {
@@ -108,10 +130,166 @@ const CASES: [Case; 9] = [
     },
 ];
 
+// What is to be written of an event by a clock, or so far where these writes fail.
+struct Timed {
+    problem: &'static str,
+    clock: u32,
+    event: u32,
+    fails: &'static [u32],
+    answer: Result<(), Stop>,
+    written: &'static str,
+}
+
+const TIMES: [Timed; 10] = [
+    Timed {
+        problem: SOURCE,
+        clock: 0,
+        event: 2,
+        fails: &[],
+        answer: Ok(()),
+        written: "time 1010.000000000 1020.000000000\n",
+    },
+    Timed {
+        problem: SOURCE,
+        clock: 0,
+        event: 1,
+        fails: &[],
+        answer: Ok(()),
+        written: "time 1000.000000000 1000.000000000\n",
+    },
+    Timed {
+        problem: SOURCE,
+        clock: 0,
+        event: 0,
+        fails: &[],
+        answer: Ok(()),
+        written: "time 1500.000000000 1500.000000000\n",
+    },
+    Timed {
+        problem: STRAYING,
+        clock: 0,
+        event: 0,
+        fails: &[],
+        answer: Ok(()),
+        written: "time 998.000000000 1003.000000000\n",
+    },
+    Timed {
+        problem: STRAYING,
+        clock: 0,
+        event: 1,
+        fails: &[],
+        answer: Ok(()),
+        written: "time 1008.000000000 1023.000000000\n",
+    },
+    Timed {
+        problem: APART,
+        clock: 0,
+        event: 1,
+        fails: &[],
+        answer: Ok(()),
+        written: "time -inf +inf\n",
+    },
+    Timed {
+        problem: OPEN,
+        clock: 0,
+        event: 1,
+        fails: &[],
+        answer: Ok(()),
+        written: "time 5.000000000 +inf\n",
+    },
+    Timed {
+        problem: CONTRADICTING,
+        clock: 0,
+        event: 3,
+        fails: &[],
+        answer: Ok(()),
+        written: CYCLE,
+    },
+    Timed {
+        problem: SOURCE,
+        clock: 0,
+        event: 2,
+        fails: &[3],
+        answer: Err(Stop::WriteFault),
+        written: "time 1010.0000",
+    },
+    Timed {
+        problem: CONTRADICTING,
+        clock: 0,
+        event: 3,
+        fails: &[4],
+        answer: Err(Stop::WriteFault),
+        written: "certificate 1\ncycle\n",
+    },
+];
+
+// What is to be written to prove the interval of two events, or so far where these writes fail.
+struct Proved {
+    problem: &'static str,
+    from: u32,
+    to: u32,
+    fails: &'static [u32],
+    answer: Result<(), Stop>,
+    written: &'static str,
+}
+
+const PROOFS: [Proved; 5] = [
+    Proved {
+        problem: TWO_LOGS,
+        from: 0,
+        to: 2,
+        fails: &[],
+        answer: Ok(()),
+        written: LIMITED,
+    },
+    Proved {
+        problem: APART,
+        from: 0,
+        to: 1,
+        fails: &[],
+        answer: Ok(()),
+        written: UNLIMITED,
+    },
+    Proved {
+        problem: CONTRADICTING,
+        from: 0,
+        to: 3,
+        fails: &[],
+        answer: Ok(()),
+        written: CYCLE,
+    },
+    Proved {
+        problem: TWO_LOGS,
+        from: 0,
+        to: 2,
+        fails: &[4],
+        answer: Err(Stop::WriteFault),
+        written: "certificate 1\nends a#",
+    },
+    Proved {
+        problem: CONTRADICTING,
+        from: 0,
+        to: 3,
+        fails: &[1],
+        answer: Err(Stop::WriteFault),
+        written: "",
+    },
+];
+
 fn is_event(p: &Problem, place: u32) -> bool
     ensures { IsTrue result ↔ (place < length p.now.events) }
 {
     (place as usize) < p.events().len()
+}
+
+// Whether the clock at this place is never short or long.
+fn keeps_time(p: &Problem, clock: u32) -> bool
+    ensures { IsTrue result → KeepsTime p.now clock }
+{
+    match p.clocks().get(clock as usize) {
+        Some(c) => c.rate.short() == 0 && c.rate.long() == 0,
+        None => false,
+    }
 }
 
 // Whether the interval is answered so over a sink where these writes fail, and written so far.
@@ -148,6 +326,35 @@ fn order_so(
     Some(given == answer && out.bytes() == written.as_bytes())
 }
 
+// Whether the time is answered so.
+fn time_so(alloc: Global, case: &Timed) -> Option<bool> {
+    let p = read_problem(alloc, case.problem.as_bytes()).ok()?;
+    if !is_event(&p, case.event) || !keeps_time(&p, case.clock) {
+        return None;
+    }
+    let stamp = reading_of(&p, case.clock)?;
+    let mut out = MemSink::new(alloc, 600, 7, case.fails).ok()?;
+    let given = write_time(alloc, &p, case.clock, stamp, case.event, &mut out);
+    Some(given == case.answer && out.bytes() == case.written.as_bytes())
+}
+
+// Whether the proof is answered so.
+fn proof_so(alloc: Global, case: &Proved) -> Option<bool> {
+    let p = read_problem(alloc, case.problem.as_bytes()).ok()?;
+    if !is_event(&p, case.from) || !is_event(&p, case.to) {
+        return None;
+    }
+    let mut out = MemSink::new(alloc, 2000, 7, case.fails).ok()?;
+    let given = write_proof(alloc, &p, case.from, case.to, &mut out);
+    Some(given == case.answer && out.bytes() == case.written.as_bytes())
+}
+
+// Whether the first event of the clock reads this stamp; none stands for a clock without an event.
+fn reads_so(alloc: Global, problem: &str, clock: u32, stamp: Option<u64>) -> Option<bool> {
+    let p = read_problem(alloc, problem.as_bytes()).ok()?;
+    Some(reading_of(&p, clock).map(|read| read.get()) == stamp)
+}
+
 fn consistent(alloc: Global, problem: &str) -> Option<bool> {
     let p = read_problem(alloc, problem.as_bytes()).ok()?;
     is_consistent(alloc, &p).ok()
@@ -181,5 +388,32 @@ fn consistency(rt: HostRuntime) {
         ("problem 1\nend\n", true),
     ] {
         assert!(rt; consistent(rt.alloc(), problem) == Some(wanted));
+    }
+}
+
+#[test]
+fn times_by_a_clock(rt: HostRuntime) {
+    for case in &TIMES {
+        assert!(rt; time_so(rt.alloc(), case) == Some(true));
+    }
+}
+
+#[test]
+fn proofs_of_intervals(rt: HostRuntime) {
+    for case in &PROOFS {
+        assert!(rt; proof_so(rt.alloc(), case) == Some(true));
+    }
+}
+
+#[test]
+fn first_readings(rt: HostRuntime) {
+    for (problem, clock, stamp) in [
+        (SOURCE, 0, Some(1500)),
+        (SOURCE, 1, Some(250)),
+        (SILENT, 0, None),
+        (SILENT, 2, Some(9)),
+        (SILENT, 3, None),
+    ] {
+        assert!(rt; reads_so(rt.alloc(), problem, clock, stamp) == Some(true));
     }
 }

@@ -1,5 +1,5 @@
-use Rattle.queries.specs.Replies.{IsIntervalLine, IsOrderLine}
-use Rattle.queries.proofs.OneReply.{one_interval, one_order_line, reply_says}
+use Rattle.queries.specs.Replies.{IsIntervalLine, IsOrderLine, IsTimeLine}
+use Rattle.queries.proofs.OneReply.{one_interval, one_order_line, one_time_line, reply_says}
 use Rattle.queries.proofs.laws.replies_are_one.Goals as goal
 
 pub returns-clause-interval : goal.returns-clause-interval
@@ -13,3 +13,9 @@ returns-clause-interval_reply c = λ p from to. reply_says p (IsIntervalLine p f
 
 pub returns-clause-order_reply : goal.returns-clause-order_reply
 returns-clause-order_reply c = λ p from to. reply_says p (IsOrderLine p from to)
+
+pub returns-clause-time : goal.returns-clause-time
+returns-clause-time c = one_time_line
+
+pub returns-clause-time_reply : goal.returns-clause-time_reply
+returns-clause-time_reply c = λ p clock event. reply_says p (IsTimeLine p clock event)
