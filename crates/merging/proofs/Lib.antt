@@ -1,0 +1,4 @@
+mod OneOrder
+mod Agreeing
+mod Shown
+mod Texts

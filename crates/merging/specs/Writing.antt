@@ -1,0 +1,29 @@
+-- What the parts of a merge promise each other.
+use Rattle.std.specs.Prelude.{◌≡◌, ℕ, List, [], ◌∷◌, ◌++◌, length, codes, ℤ, pos}
+use Rattle.std.specs.List.{flat_map}
+use Rattle.atto.specs.Decimal.{decimal_of}
+use Rattle.line_format.specs.Words.{line_of}
+use Rattle.problem_model.specs.declared.items.Node.TheVariants as nodes
+use Rattle.problem_model.specs.Bounds.{Times}
+use Rattle.difference_bounds.specs.Executions.{at}
+use Rattle.decl.specs.Declaration.{Declaration}
+use Rattle.traces.specs.Traces.{Placed}
+use Rattle.report.specs.Merging.{IsMergeOrder}
+use Rattle.merging.specs.Merged.{keys_from, line_at}
+
+-- the events' real times by a list that begins with them
+abbrev pub times_by : List ℤ → Times
+times_by values (nodes.Event k) = at values k
+times_by values (nodes.Reading clock stamp) = pos 0
+
+-- the line of how many events there are
+abbrev pub count_line : ℕ → List ℕ
+count_line count = line_of (codes "merge" ∷ decimal_of count ∷ [])
+
+-- the lines of these events, by their places
+abbrev pub lines_of : Declaration → Times → List Placed → List ℕ → List ℕ
+lines_of d x events order = flat_map (line_at d x events) order
+
+-- the text has the number of these events, and then their lines in the order of their times
+abbrev pub IsTextBy : Declaration → Times → List Placed → List ℕ → Type 0
+IsTextBy d x events text = (order : List ℕ) × IsMergeOrder (keys_from x 0 events) order × (text ≡ count_line (length events) ++ lines_of d x events order)

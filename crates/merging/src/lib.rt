@@ -1,0 +1,13 @@
+//! The events of all labels in one order: by their times in the earliest execution of their problem.
+#![tactic(auto)]
+
+mod keys;
+mod laws;
+mod lines;
+mod merge;
+
+pub use laws::merges_are_one;
+pub use merge::write_merge;
+
+#[cfg(test)]
+mod tests;

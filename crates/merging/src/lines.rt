@@ -1,0 +1,135 @@
+// The lines of merged events.
+ghost use Rattle.std.specs.Prelude.{◌≡◌, ◌<◌, ◌≤◌, ◌++◌, true, All, length, OnOk, OnErr};
+ghost use Rattle.ports.specs.Content.{Rose, Appends};
+ghost use Rattle.decl.specs.Declaration.{IsDeclaration, declaration_of};
+ghost use Rattle.trace_event.specs.Seen.{seen_event};
+ghost use Rattle.traces.specs.Traces.{name_of};
+ghost use Rattle.traces.specs.Held.{placed_in};
+ghost use Rattle.report.specs.Merging.{merge_line};
+ghost use Rattle.trace_problem.specs.Making.{AreEvents};
+ghost use Rattle.merging.specs.Merged.{line_at};
+ghost use Rattle.merging.specs.Writing.{count_line, lines_of, times_by};
+
+use cert::line::{Line, first_word, push_decimal};
+use decl::Decl;
+use earliest::Earliest;
+use ports::{Failed, Sink, write_whole};
+use problem_model::Name;
+use report::write_merge_line;
+use trace_event::Event;
+use trace_problem::event_name;
+use traces::{EventId, PlacedEvent};
+
+// The name of an event.
+fn name_of(decl: &Decl, id: EventId) -> Name
+    requires declared { IsDeclaration (declaration_of decl.now) }
+    requires label { id.label < length decl.now.labels.items }
+    ensures { result ≡ name_of (declaration_of decl.now) id }
+{
+    let label = &decl.labels[id.label as usize];
+    event_name(&label.name, id.number)
+}
+
+// What an event log says of an event; nothing of a packet.
+fn text_of(event: &Event) -> &[u8]
+    ensures { result.now ≡ (seen_event event.now).text }
+{
+    match &event.text {
+        Some(text) => text.bytes(),
+        None => &[],
+    }
+}
+
+// Writes the line of an event whose real time is given in units of 1e-9 ns.
+fn write_event<O: Sink>(
+    decl: &Decl,
+    event: &PlacedEvent,
+    value: i128,
+    out: &mut O,
+) -> Result<(), Failed>
+    requires declared { IsDeclaration (declaration_of decl.now) }
+    requires label { event.now.id.label < length decl.now.labels.items }
+    ensures ok { OnOk result (Appends (O.written out.old) (O.written out.new) (merge_line value (name_of (declaration_of decl.now) event.now.id) (seen_event event.now.event.now).text)) }
+    ensures cause { OnErr result (Rose (O.faults out.old) (O.faults out.new)) }
+    ensures no_fall { O.faults out.old ≤ O.faults out.new }
+{
+    let name = name_of(decl, event.id);
+    write_merge_line(value, &name, text_of(event.event), out)
+}
+
+// Writes the line of the event at a place.
+fn write_line_at<O: Sink>(
+    decl: &Decl,
+    events: &[PlacedEvent],
+    e: &Earliest,
+    place: u32,
+    out: &mut O,
+) -> Result<(), Failed>
+    requires declared { IsDeclaration (declaration_of decl.now) }
+    requires events { AreEvents (declaration_of decl.now) (placed_in events.now) }
+    requires solved { e.now.is_solved ≡ true }
+    requires values { length events.now ≤ length e.now.values }
+    requires inside { place < length events.now }
+    ensures ok { OnOk result (Appends (O.written out.old) (O.written out.new) (line_at (declaration_of decl.now) (times_by e.now.values) (placed_in events.now) place)) }
+    ensures cause { OnErr result (Rose (O.faults out.old) (O.faults out.new)) }
+    ensures no_fall { O.faults out.old ≤ O.faults out.new }
+{
+    let event = &events[place as usize];
+    write_event(decl, event, e.value(place), out)
+}
+
+// Writes the lines of the events at these places.
+fn write_lines<O: Sink>(
+    decl: &Decl,
+    events: &[PlacedEvent],
+    e: &Earliest,
+    order: &[u32],
+    out: &mut O,
+) -> Result<(), Failed>
+    requires declared { IsDeclaration (declaration_of decl.now) }
+    requires events { AreEvents (declaration_of decl.now) (placed_in events.now) }
+    requires solved { e.now.is_solved ≡ true }
+    requires values { length events.now ≤ length e.now.values }
+    requires inside { All (λ place. place < length events.now) order.now }
+    ensures ok { OnOk result (Appends (O.written out.old) (O.written out.new) (lines_of (declaration_of decl.now) (times_by e.now.values) (placed_in events.now) order.now)) }
+    ensures cause { OnErr result (Rose (O.faults out.old) (O.faults out.new)) }
+    ensures no_fall { O.faults out.old ≤ O.faults out.new }
+{
+    for place in order {
+        write_line_at(decl, events, e, *place, out)?;
+    }
+    Ok(())
+}
+
+// The line of how many events there are.
+fn count_line(count: u64) -> Line
+    ensures { result.items ≡ count_line count }
+{
+    let mut line = first_word(b"merge");
+    push_decimal(&mut line, count);
+    line.push(b'\n');
+    line
+}
+
+/// Writes how many events there are, and then the lines of the events at these places, with their real times by values that
+/// begin with theirs. It takes no memory, and fails only where the sink's count of faults rose, or stands at its last value.
+pub(crate) fn write_ordered<O: Sink>(
+    decl: &Decl,
+    events: &[PlacedEvent],
+    e: &Earliest,
+    order: &[u32],
+    out: &mut O,
+) -> Result<(), Failed>
+    requires declared { IsDeclaration (declaration_of decl.now) }
+    requires events { AreEvents (declaration_of decl.now) (placed_in events.now) }
+    requires solved { e.now.is_solved ≡ true }
+    requires values { length events.now ≤ length e.now.values }
+    requires inside { All (λ place. place < length events.now) order.now }
+    ensures ok { OnOk result (Appends (O.written out.old) (O.written out.new) (count_line (length events.now) ++ lines_of (declaration_of decl.now) (times_by e.now.values) (placed_in events.now) order.now)) }
+    ensures cause { OnErr result (Rose (O.faults out.old) (O.faults out.new)) }
+    ensures no_fall { O.faults out.old ≤ O.faults out.new }
+{
+    let line = count_line(events.len() as u64);
+    write_whole(out, line.as_slice())?;
+    write_lines(decl, events, e, order, out)
+}
