@@ -11,14 +11,15 @@ use Rattle.decl.specs.declared.items.Label.{Label}
 use Rattle.decl.specs.Declaration.{Declaration}
 use Rattle.trace_event.specs.Seen.{Seen}
 use Rattle.traces.specs.declared.accepted.Accepted.{Accepted}
-use Rattle.traces.specs.declared.event.Couple.{Couple}
 use Rattle.traces.specs.Held.{seen_in}
 use Rattle.traces.specs.Traces.{Trace, Captured, Traces, size_of, seen_of, seen_under, seen_by, IsOfKind, event_count, events_of}
-use Rattle.traces.specs.Messages.{messages_of, missing, problem_of_seen}
+use Rattle.traces.specs.Messages.{messages_of, missing, problem_of, problem_of_seen}
+use Rattle.trace_match.specs.declared.matcher.Changed.{Changed}
+use Rattle.trace_match.specs.Ends.{End, AreEndsOf, IsChange}
 use Rattle.queries.specs.Consistent.{IsConsistent}
 use Rattle.queries.specs.Replies.{AppendsSome}
-use Rattle.session.specs.Reply.{State, AcceptReply, IsAdded, added_line, count_by, pending_of, refusal}
-use Rattle.session.specs.Stands.{Held, Under, IsHeld, StandsFor, held_of, under_of, seen_held}
+use Rattle.session.specs.Reply.{State, AcceptReply, IsAdded, added_line, count_by, messages_by, pending_of, refusal}
+use Rattle.session.specs.Stands.{Held, Under, IsHeld, StandsFor, held_of, under_of, problem_held, seen_held}
 use Rattle.session.specs.Inside.{AcceptAnswered, HasPlace, IsTailWithin, IsAddedTo, IsGrownAt, IsGrownTrace, grown}
 use Rattle.session.proofs.Holding.{count_grown, held_grown, room_by, room_few, seen_accepted, some_same, there_some}
 
@@ -126,19 +127,27 @@ module _ (held : Held) (d : Declaration) (s : State) (k : ℕ) (label : Label) (
         kept = stands.kept;
       }
 
-  added_then : (held' : Held) (before : List Couple) (seen : List (List Seen)) (text : List ℕ) → k < length held.under → before ≡ messages_of (events_of (seen_held held.under)) → seen ≡ seen_held held'.under →
-      IsGrownAt held.under held'.under k events size tail → IsAddedTo held.declaration before seen (length events) (length tail.rest) text →
+  added_then : (held' : Held) (p : ProblemLists) (changed : Changed) (text : List ℕ) → k < length held.under → held'.declaration ≡ held.declaration → p ≡ problem_held held' →
+      IsChange (seen_held held.under) (seen_held held'.under) changed → IsGrownAt held.under held'.under k events size tail → IsAddedTo p changed (length events) (length tail.rest) text →
       IsAdded d s.traces (slice_set s.traces k new) (pending_of new) text
-  added_then held' before seen text inside before_is seen_is grew says =
-      let after : seen ≡ seen_by d (slice_set s.traces k new) = seen_is ∙ ap seen_held grew.is ∙ sym (seen_then grew.at grew.was) in
-      let earlier : before ≡ messages_of (events_of (seen_by d s.traces)) = before_is ∙ ap (λ (x : List (List Seen)). messages_of (events_of x)) stands.events in
-      let one : IsAddedTo d before seen (length events) (length tail.rest) text = subst (λ (x : Declaration). IsAddedTo x before seen (length events) (length tail.rest) text) stands.declaration says in
-      let two : IsAddedTo d before (seen_by d (slice_set s.traces k new)) (length events) (length tail.rest) text =
-      subst (λ (x : List (List Seen)). IsAddedTo d before x (length events) (length tail.rest) text) after one in
-      let three : IsAddedTo d (messages_of (events_of (seen_by d s.traces))) (seen_by d (slice_set s.traces k new)) (length events) (length tail.rest) text =
-      subst (λ (x : List Couple). IsAddedTo d x (seen_by d (slice_set s.traces k new)) (length events) (length tail.rest) text) earlier two in
-      let four = subst (λ (n : ℕ). IsAddedTo d (messages_of (events_of (seen_by d s.traces))) (seen_by d (slice_set s.traces k new)) n (length tail.rest) text) (more_is inside) three in
-      subst (λ (n : ℕ). IsAddedTo d (messages_of (events_of (seen_by d s.traces))) (seen_by d (slice_set s.traces k new)) (count_by d (slice_set s.traces k new) - count_by d s.traces) n text) g.waits four
+  added_then held' p changed text inside same p_is change grew says =
+      let traces = slice_set s.traces k new in
+      let after : seen_held held'.under ≡ seen_by d traces = ap seen_held grew.is ∙ sym (seen_then grew.at grew.was) in
+      let problem : p ≡ problem_of d traces =
+      p_is ∙ ap (λ (x : Declaration). problem_of_seen x (seen_held held'.under)) (same ∙ stands.declaration) ∙ ap (λ (x : List (List Seen)). problem_of_seen d x) after in
+      let now = λ (x : List (List Seen)). messages_of (events_of x) in
+      let came : changed.messages ≡ missing (messages_by d traces) (messages_by d s.traces) =
+      change.added ∙ ap (λ (x : List (List Seen)). missing (now x) (now (seen_held held.under))) after ∙ ap (λ (x : List (List Seen)). missing (messages_by d traces) (now x)) stands.events in
+      let went : changed.withdrawn ≡ missing (messages_by d s.traces) (messages_by d traces) =
+      change.withdrawn ∙ ap (λ (x : List (List Seen)). missing (now (seen_held held.under)) (now x)) after ∙ ap (λ (x : List (List Seen)). missing (now x) (messages_by d traces)) stands.events in (
+        says.0,
+        subst (λ (q : ProblemLists). IsConsistent q says.0) problem says.1,
+        says.2
+            ∙ ap (λ (n : ℕ). added_line n changed.messages changed.withdrawn (length tail.rest) says.0) (more_is inside)
+            ∙ ap (λ (n : ℕ). added_line (count_by d traces - count_by d s.traces) n changed.withdrawn (length tail.rest) says.0) came
+            ∙ ap (λ (n : ℕ). added_line (count_by d traces - count_by d s.traces) (missing (messages_by d traces) (messages_by d s.traces)) n (length tail.rest) says.0) went
+            ∙ ap (λ (n : ℕ). added_line (count_by d traces - count_by d s.traces) (missing (messages_by d traces) (messages_by d s.traces)) (missing (messages_by d s.traces) (messages_by d traces)) n says.0) g.waits,
+      )
 
 -- ---- the replies
 pub accept_refused : (held : Held) (k : ℕ) (events : List Seen) (size : ℕ) (tail : Tail) (line : List ℕ) (written written' : Option (List ℕ)) → k < length held.under →
@@ -146,31 +155,28 @@ pub accept_refused : (held : Held) (k : ℕ) (events : List Seen) (size : ℕ) (
 accept_refused held k events size tail line written written' inside room is appends d s label old new stands at_label at_old g =
     (line, s, choose _ false _ _ (room_is held d s k label old new events size tail stands at_label at_old g false inside room) (is, refl), appends, stands)
 
-pub accept_added : (held held' : Held) (k : ℕ) (events : List Seen) (size : ℕ) (tail : Tail) (before : List Couple) (seen : List (List Seen)) (written written' : Option (List ℕ)) → k < length held.under →
-    nat_le (event_count (seen_held held.under) + length events) (2 ^ 20) ≡ true → before ≡ messages_of (events_of (seen_held held.under)) → seen ≡ seen_held held'.under →
-    held'.declaration ≡ held.declaration → IsGrownAt held.under held'.under k events size tail →
-    AppendsSome (IsAddedTo held.declaration before seen (length events) (length tail.rest)) written written' → AcceptAnswered held held' k events size tail written written'
-accept_added held held' k events size tail before seen written written' inside room before_is seen_is same grew says d s label old new stands at_label at_old g = (
+pub accept_added : (held held' : Held) (k : ℕ) (events : List Seen) (size : ℕ) (tail : Tail) (p : ProblemLists) (changed : Changed) (written written' : Option (List ℕ)) → k < length held.under →
+    nat_le (event_count (seen_held held.under) + length events) (2 ^ 20) ≡ true → held'.declaration ≡ held.declaration → p ≡ problem_held held' →
+    IsChange (seen_held held.under) (seen_held held'.under) changed → IsGrownAt held.under held'.under k events size tail →
+    AppendsSome (IsAddedTo p changed (length events) (length tail.rest)) written written' → AcceptAnswered held held' k events size tail written written'
+accept_added held held' k events size tail p changed written written' inside room same p_is change grew says d s label old new stands at_label at_old g = (
   says.0,
   record s { traces = slice_set s.traces k new },
   choose _ true _ _ (room_is held d s k label old new events size tail stands at_label at_old g true inside room)
-      (refl, added_then held d s k label old new events size tail stands at_label at_old g held' before seen says.0 inside before_is seen_is grew says.1),
+      (refl, added_then held d s k label old new events size tail stands at_label at_old g held' p changed says.0 inside same p_is change grew says.1),
   says.2,
   stands_then held d s k label old new events size tail stands at_label at_old g held' same grew,
 )
 
 -- the line of an addition, by what was found out for it
-pub added_says : (d : Declaration) (before after : List Couple) (seen : List (List Seen)) (p : ProblemLists) (b : Bool) (events new gone pending : ℕ) (line : List ℕ) (written written' : Option (List ℕ)) →
-    after ≡ messages_of (events_of seen) → p ≡ problem_of_seen d seen → IsConsistent p b → new ≡ missing after before → gone ≡ missing before after → line ≡ added_line events new gone pending b →
-    Appends written written' line → AppendsSome (IsAddedTo d before seen events pending) written written'
-added_says d before after seen p b events new gone pending line written written' after_is p_is consistent new_is gone_is line_is appends = (
+pub added_says : (p : ProblemLists) (changed : Changed) (b : Bool) (events new gone pending : ℕ) (line : List ℕ) (written written' : Option (List ℕ)) → IsConsistent p b → new ≡ changed.messages →
+    gone ≡ changed.withdrawn → line ≡ added_line events new gone pending b → Appends written written' line → AppendsSome (IsAddedTo p changed events pending) written written'
+added_says p changed b events new gone pending line written written' consistent new_is gone_is line_is appends = (
   line,
   (
     b,
-    subst (λ (q : ProblemLists). IsConsistent q b) p_is consistent,
-    line_is
-        ∙ ap (λ (n : ℕ). added_line events n gone pending b) (new_is ∙ ap (λ (ms : List Couple). missing ms before) after_is)
-        ∙ ap (λ (n : ℕ). added_line events (missing (messages_of (events_of seen)) before) n pending b) (gone_is ∙ ap (λ (ms : List Couple). missing before ms) after_is),
+    consistent,
+    line_is ∙ ap (λ (n : ℕ). added_line events n gone pending b) new_is ∙ ap (λ (n : ℕ). added_line events changed.messages n pending b) gone_is,
   ),
   appends,
 )
@@ -212,24 +218,23 @@ module _ (d : Declaration) (accepted new : List Accepted) (held : Held) (k : ℕ
   has_room : nat_le (event_count (seen_held (map under_of accepted)) + length events) (2 ^ 20) ≡ true
   has_room = room_by accepted (length events) true true (sym e.room) refl
 
-  pub held_extended : IsHeld (held_of d accepted) → IsHeld (held_of d new)
+  held_extended : IsHeld (held_of d accepted) → IsHeld (held_of d new)
   held_extended is =
       let P : Held → Type 0 = λ h. HasPlace h.under k size in
       let Q : Held → Type 0 = λ h. IsTailWithin h.under k size tail in
       held_grown (held_of d accepted) (held_of d new) k events size tail is (subst P (sym e.same) e.place) (subst Q (sym e.same) e.within) (room_few (map under_of accepted) (length events) has_room) refl e.grew
 
-  pub few_extended : event_count (seen_in new) ≤ 2 ^ 20
-  few_extended =
-      let count : event_count (seen_held (map under_of new)) ≡ event_count (seen_held (map under_of accepted)) + length events =
-      ap (λ (u : List Under). event_count (seen_held u)) e.grew.is ∙ count_grown (map under_of accepted) k e.grew.at events size tail e.grew.was in
-      let same : event_count (seen_held (map under_of new)) ≡ event_count (seen_in new) = ap event_count (seen_accepted new) in
-      let few = room_few (map under_of accepted) (length events) has_room in omega (arith, count, same, few)
+  pub whole_extended : (then : List Accepted) (ends : List End) → then ≡ new → IsHeld (held_of d accepted) → AreEndsOf ends (seen_in new) → IsHeld (held_of d then) × AreEndsOf ends (seen_in then)
+  whole_extended then ends is held are =
+      (subst (λ (l : List Accepted). IsHeld (held_of d l)) (sym is) (held_extended held), subst (λ (l : List Accepted). AreEndsOf ends (seen_in l)) (sym is) are)
 
-  pub added_in : (before : List Couple) (n pending : ℕ) (written written' : Option (List ℕ)) → before ≡ messages_of (events_of (seen_in accepted)) → n ≡ length events → pending ≡ length tail.rest →
-      AppendsSome (IsAddedTo d before (seen_in new) n pending) written written' → AcceptAnswered held (held_of d new) k events size tail written written'
-  added_in before n pending written written' before_is n_is pending_is says =
+  pub added_in : (p : ProblemLists) (changed : Changed) (n pending : ℕ) (written written' : Option (List ℕ)) → p ≡ problem_held (held_of d new) → IsChange (seen_in accepted) (seen_in new) changed →
+      n ≡ length events → pending ≡ length tail.rest → AppendsSome (IsAddedTo p changed n pending) written written' → AcceptAnswered held (held_of d new) k events size tail written written'
+  added_in p changed n pending written written' p_is change n_is pending_is says =
       let P : Held → Type 0 = λ h. AcceptAnswered h (held_of d new) k events size tail written written' in
-      let then_before : before ≡ messages_of (events_of (seen_held (map under_of accepted))) = before_is ∙ ap (λ (x : List (List Seen)). messages_of (events_of x)) (sym (seen_accepted accepted)) in
-      let said = subst (λ (m : ℕ). AppendsSome (IsAddedTo d before (seen_in new) m pending) written written') n_is says in
-      let waits = subst (λ (m : ℕ). AppendsSome (IsAddedTo d before (seen_in new) (length events) m) written written') pending_is said in
-      subst P e.same (accept_added (held_of d accepted) (held_of d new) k events size tail before (seen_in new) written written' inside_is has_room then_before (sym (seen_accepted new)) refl e.grew waits)
+      let from_old : IsChange (seen_held (map under_of accepted)) (seen_in new) changed = subst (λ (x : List (List Seen)). IsChange x (seen_in new) changed) (sym (seen_accepted accepted)) change in
+      let to_new : IsChange (seen_held (map under_of accepted)) (seen_held (map under_of new)) changed =
+      subst (λ (x : List (List Seen)). IsChange (seen_held (map under_of accepted)) x changed) (sym (seen_accepted new)) from_old in
+      let said = subst (λ (m : ℕ). AppendsSome (IsAddedTo p changed m pending) written written') n_is says in
+      let waits = subst (λ (m : ℕ). AppendsSome (IsAddedTo p changed (length events) m) written written') pending_is said in
+      subst P e.same (accept_added (held_of d accepted) (held_of d new) k events size tail p changed written written' inside_is has_room refl p_is to_new e.grew waits)

@@ -1,5 +1,5 @@
 -- The command of a line, by its words.
-use Rattle.std.proofs.Common.{◌≡◌, ℕ, ◌<◌, List, [], ◌∷◌, length, Option, Some, None, All, true, nat_le, ◌&&◌, codes, refl, sym, ◌∙◌, ap, subst, arith}
+use Rattle.std.proofs.Common.{◌≡◌, ℕ, ◌<◌, List, [], ◌∷◌, length, Option, Some, None, All, true, nat_le, ◌&&◌, unwrap_or, codes, refl, sym, ◌∙◌, ap, subst, arith}
 use Rattle.std.specs.Int.{IsInRange}
 use Rattle.std.specs.Str.{IsUtf8}
 use Rattle.std.proofs.lemmas.List.Elements.{All-cons, All-nil, All-head, All-tail, recursion_from_All}
@@ -7,10 +7,11 @@ use Rattle.std.proofs.lemmas.Str.{IsUtf8-from_ascii}
 use Rattle.std.proofs.lemmas.Str.Ascii.{IsAscii-from_all}
 use Rattle.std.specs.List.{list_all, slice_index_or}
 use Rattle.line_format.specs.Words.{words}
-use Rattle.line_format.specs.Cut.{Lacks, fields}
+use Rattle.line_format.specs.Cut.{cut, Lacks, fields}
+use Rattle.line_format.proofs.Cutting.{cut_again, cut_lacks}
 use Rattle.line_format.proofs.Fields.{fields_take, fields_again}
 use Rattle.line_format.proofs.Lacking.{all_high}
-use Rattle.session.specs.Commands.{Command, Add, Interval, Order, Problem, IsWord, command_words, Asks, HasWords}
+use Rattle.session.specs.Commands.{Command, Add, Interval, Order, Time, Merge, Prove, Problem, Report, IsWord, command_words, Asks, HasWords}
 
 -- a word has no space
 word_lacks : (w : List ℕ) → IsWord w → Lacks 32 w
@@ -32,38 +33,87 @@ second_word a b c all = All-head IsWord b (c ∷ []) (All-tail IsWord a (b ∷ c
 pub third_word : (a b c : List ℕ) → All IsWord (a ∷ b ∷ c ∷ []) → IsWord c
 third_word a b c all = All-head IsWord c [] (All-tail IsWord b (c ∷ []) (All-tail IsWord a (b ∷ c ∷ []) all))
 
--- a command of three words is cut into them
-pub three_cut : (line a b c : List ℕ) → All IsWord (a ∷ b ∷ c ∷ []) → line ≡ words (a ∷ b ∷ c ∷ []) → fields 2 line ≡ Some (a ∷ b ∷ c ∷ [])
-three_cut line a b c all is = three_again a b c line (first_word a b c all) (second_word a b c all) is
+-- ---- the words of a line
+-- the words of a line, as commands have them: three where there are two spaces, else two where there is one
+abbrev pub told : List ℕ → List (List ℕ)
+told line = unwrap_or (fields 2 line) (unwrap_or (fields 1 line) (line ∷ []))
 
-same_words : (a b : List (List ℕ)) → Some a ≡ Some b → a ≡ b
-same_words a b e = cc
+pub told_by_three : (line : List ℕ) (ws : List (List ℕ)) → fields 2 line ≡ Some ws → told line ≡ ws
+told_by_three line ws three = rw three refl
 
-pub problem_cut : fields 2 (codes "problem") ≡ None
+pub told_by_two : (line : List ℕ) (ws : List (List ℕ)) → fields 2 line ≡ None → fields 1 line ≡ Some ws → told line ≡ ws
+told_by_two line ws none two = rw (none, two) refl
+
+pub told_by_one : (line : List ℕ) → fields 2 line ≡ None → fields 1 line ≡ None → told line ≡ line ∷ []
+told_by_one line none none' = rw (none, none') refl
+
+-- a line that is cut once has two words
+pub cut_two : (line first rest : List ℕ) → cut 32 line ≡ Some (first, rest) → fields 1 line ≡ Some (first ∷ rest ∷ [])
 unfolding fields
-problem_cut = refl
+cut_two line first rest is = rw is refl
 
--- what is cut into three words spells the command of these words, and no other
+pub cut_none : (line : List ℕ) → cut 32 line ≡ None → fields 1 line ≡ None
+unfolding fields
+cut_none line is = rw is refl
+
+-- one word is not cut
+one_few : (w : List ℕ) → Lacks 32 w → (fields 2 w ≡ None) × (fields 1 w ≡ None)
+unfolding fields
+one_few w lacks = rw (cut_lacks 32 w lacks) (refl, refl)
+
+-- two words are cut once
+two_few : (a b : List ℕ) → Lacks 32 a → Lacks 32 b → fields 2 (words (a ∷ b ∷ [])) ≡ None
+unfolding fields
+two_few a b la lb = rw (cut_again 32 a b la, cut_lacks 32 b lb) refl
+
+-- ---- the words of a command
+told_one : (a : List ℕ) → All IsWord (a ∷ []) → told (words (a ∷ [])) ≡ a ∷ []
+told_one a all = let none = one_few a (word_lacks a (All-head IsWord a [] all)) in told_by_one a none.0 none.1
+
+told_two : (a b : List ℕ) → All IsWord (a ∷ b ∷ []) → told (words (a ∷ b ∷ [])) ≡ a ∷ b ∷ []
+told_two a b all =
+    let la = word_lacks a (All-head IsWord a (b ∷ []) all) in
+    let lb = word_lacks b (All-head IsWord b [] (All-tail IsWord a (b ∷ []) all)) in
+    told_by_two (words (a ∷ b ∷ [])) (a ∷ b ∷ []) (two_few a b la lb) (fields_again 1 (a ∷ b ∷ []) refl (la, tt))
+
+told_three : (a b c : List ℕ) → All IsWord (a ∷ b ∷ c ∷ []) → told (words (a ∷ b ∷ c ∷ [])) ≡ a ∷ b ∷ c ∷ []
+told_three a b c all =
+    told_by_three (words (a ∷ b ∷ c ∷ [])) (a ∷ b ∷ c ∷ []) (three_again a b c (words (a ∷ b ∷ c ∷ [])) (first_word a b c all) (second_word a b c all) refl)
+
+-- the words of a command are those of its line
+words_told : (c : Command) → All IsWord (command_words c) → told (words (command_words c)) ≡ command_words c
+words_told (Add label path) all = told_three (codes "add") label path all
+words_told (Interval first second) all = told_three (codes "interval") first second all
+words_told (Order first second) all = told_three (codes "order") first second all
+words_told (Time event) all = told_two (codes "time") event all
+words_told Merge all = told_one (codes "merge") all
+words_told (Prove first second) all = told_three (codes "prove") first second all
+words_told Problem all = told_one (codes "problem") all
+words_told Report all = told_one (codes "report") all
+
+pub command_told : (line : List ℕ) (c : Command) → Asks line (Some c) → told line ≡ command_words c
+command_told line c asks = ap told asks.0 ∙ words_told c asks.1
+
+-- ---- lines
+-- a line that has these words asks for their command
+asks_by : (line : List ℕ) (ws : List (List ℕ)) (o : Option Command) → told line ≡ ws → line ≡ words ws → HasWords ws o → Asks line o
+asks_by line ws (Some c) known is has = (is ∙ ap words has.0, subst (λ (vs : List (List ℕ)). All IsWord vs) has.0 has.1)
+asks_by line ws None known is none = λ c all spelled.
+    let same : ws ≡ command_words c = sym known ∙ command_told line c (spelled, all) in
+    none c (subst (λ (vs : List (List ℕ)). All IsWord vs) (sym same) all) same
+
 pub asks_three : (line a b c : List ℕ) (o : Option Command) → fields 2 line ≡ Some (a ∷ b ∷ c ∷ []) → HasWords (a ∷ b ∷ c ∷ []) o → Asks line o
-asks_three line a b c (Some command) cut has = ((fields_take 2 line (a ∷ b ∷ c ∷ []) cut).0 ∙ ap words has.0, subst (λ ws. All IsWord ws) has.0 has.1)
-asks_three line a b c None cut none = λ command all is. other command all is
-  where
-    from : (x y z : List ℕ) → All IsWord (x ∷ y ∷ z ∷ []) → line ≡ words (x ∷ y ∷ z ∷ []) → a ∷ b ∷ c ∷ [] ≡ x ∷ y ∷ z ∷ []
-    from x y z all is = same_words _ _ (sym cut ∙ three_cut line x y z all is)
+asks_three line a b c o three has = asks_by line (a ∷ b ∷ c ∷ []) o (told_by_three line _ three) (fields_take 2 line (a ∷ b ∷ c ∷ []) three).0 has
 
-    other : (command : Command) → All IsWord (command_words command) → line ≡ words (command_words command) → ⊥
-    other (Add label path) all is = let e = from (codes "add") label path all is in none (Add label path) (subst (λ ws. All IsWord ws) (sym e) all) e
-    other (Interval x y) all is = let e = from (codes "interval") x y all is in none (Interval x y) (subst (λ ws. All IsWord ws) (sym e) all) e
-    other (Order x y) all is = let e = from (codes "order") x y all is in none (Order x y) (subst (λ ws. All IsWord ws) (sym e) all) e
-    other Problem all is = let e : fields 2 line ≡ None = ap (fields 2) is ∙ problem_cut in let f = sym cut ∙ e in absurd cc
+pub asks_two : (line a b : List ℕ) (o : Option Command) → fields 2 line ≡ None → cut 32 line ≡ Some (a, b) → HasWords (a ∷ b ∷ []) o → Asks line o
+asks_two line a b o none is has =
+    let two = cut_two line a b is in
+    asks_by line (a ∷ b ∷ []) o (told_by_two line _ none two) (fields_take 1 line (a ∷ b ∷ []) two).0 has
 
--- what has fewer words spells no command but one of one word
-pub asks_none : (line : List ℕ) → fields 2 line ≡ None → (line ≡ codes "problem" → ⊥) → Asks line None
-asks_none line none other (Add label path) all is = let cut = three_cut line (codes "add") label path all is in absurd cc
-asks_none line none other (Interval x y) all is = let cut = three_cut line (codes "interval") x y all is in absurd cc
-asks_none line none other (Order x y) all is = let cut = three_cut line (codes "order") x y all is in absurd cc
-asks_none line none other Problem all is = other is
+pub asks_one : (line : List ℕ) (o : Option Command) → fields 2 line ≡ None → cut 32 line ≡ None → HasWords (line ∷ []) o → Asks line o
+asks_one line o none is has = asks_by line (line ∷ []) o (told_by_one line none (cut_none line is)) refl has
 
+-- ---- words that are written out
 visible_test : (w : List ℕ) → list_all (λ b. nat_le 33 b && nat_le b 126) w ≡ true → All (λ b. IsInRange 33 126 b) w
 visible_test [] e = All-nil (λ b. IsInRange 33 126 b)
 visible_test (x ∷ xs) e = All-cons (λ b. IsInRange 33 126 b) x xs (grind (arith, e)) (visible_test xs (grind (arith, e)))
@@ -71,9 +121,6 @@ visible_test (x ∷ xs) e = All-cons (λ b. IsInRange 33 126 b) x xs (grind (ari
 -- of a word that is written out: by refl
 pub word_test : (w : List ℕ) → 0 < length w → list_all (λ b. nat_le 33 b && nat_le b 126) w ≡ true → IsWord w
 word_test w some e = record { some = some; visible = visible_test w e }
-
-pub problem_asked : (line : List ℕ) → line ≡ codes "problem" → Asks line (Some Problem)
-problem_asked line is = (is, All-cons IsWord (codes "problem") [] (word_test (codes "problem") (omega arith) refl) (All-nil IsWord))
 
 pub ascii : (w : List ℕ) → IsWord w → IsUtf8 w
 ascii w is = IsUtf8-from_ascii w (IsAscii-from_all w (λ k d inside. let v : IsInRange 33 126 (slice_index_or w k d) = is.visible k d inside in omega (arith, v)))

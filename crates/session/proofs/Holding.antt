@@ -1,5 +1,5 @@
 -- What a session holds, and the events of it.
-use Rattle.std.proofs.Common.{◌≡◌, ℕ, zero, suc, ◌+◌, ◌*◌, ◌^◌, ◌<◌, ◌≤◌, List, [], ◌∷◌, ◌++◌, length, map, replicate, slice_get, slice_set, Option, Some, Bool, true, nat_le, option_map, refl, sym, ◌∙◌, ap, subst, arith, length-set}
+use Rattle.std.proofs.Common.{◌≡◌, ℕ, zero, suc, ◌+◌, ◌*◌, ◌^◌, ◌<◌, ◌≤◌, List, [], ◌∷◌, ◌++◌, length, map, replicate, slice_get, slice_set, Some, Bool, true, nat_le, option_map, refl, sym, ◌∙◌, ap, subst, arith, length-set}
 use Rattle.std.specs.List.{slice_index_or}
 use Rattle.std.proofs.lemmas.List.{length-map}
 use Rattle.std.proofs.lemmas.List.Elements.{All-set}
@@ -10,12 +10,9 @@ use Rattle.pcap_stream.specs.Feeding.{Tail}
 use Rattle.decl.specs.Declaration.{Declaration}
 use Rattle.trace_event.specs.Seen.{Seen, seen_events}
 use Rattle.traces.specs.declared.accepted.Accepted.{Accepted}
-use Rattle.traces.specs.declared.event.Couple.{Couple}
-use Rattle.traces.specs.Traces.{event_count, events_of}
+use Rattle.traces.specs.Traces.{event_count}
 use Rattle.traces.specs.Held.{seen_in}
-use Rattle.traces.specs.Messages.{messages_of}
-use Rattle.traces.proofs.Ids.{count_appended, length_events}
-use Rattle.traces.proofs.MessageEnds.{messages_few}
+use Rattle.traces.proofs.Ids.{count_appended}
 use Rattle.session.specs.Stands.{Under, Held, IsUnder, IsHeld, held_of, under_of, seen_held}
 use Rattle.session.specs.Inside.{HasPlace, IsTailWithin, IsGrownAt, grown}
 
@@ -42,19 +39,12 @@ accepted_each d accepted held = sym (length-map accepted under_of) ∙ held.each
 pub labels_few : (d : Declaration) (accepted : List Accepted) → IsHeld (held_of d accepted) → length accepted ≤ 65536
 labels_few d accepted held = let each = accepted_each d accepted held in let few = held.declared.label_limit in omega (arith, each, few)
 
--- messages of a few events are few
-pub messages_short : (seen : List (List Seen)) (messages : List Couple) → messages ≡ messages_of (events_of seen) → event_count seen ≤ 2 ^ 20 → length messages < 2 ^ 32
-messages_short seen messages is few =
-    let count = messages_few (events_of seen) in
-    let all = length_events seen in
-    let same = ap length is in omega (arith, count, all, same, few)
-
 -- whether there is room for more events, by what the code holds
 pub room_by : (accepted : List Accepted) (n : ℕ) (r b : Bool) → r ≡ nat_le (event_count (seen_in accepted) + n) (2 ^ 20) → r ≡ b →
     nat_le (event_count (seen_held (map under_of accepted)) + n) (2 ^ 20) ≡ b
 room_by accepted n r b is e = ap (λ (seen : List (List Seen)). nat_le (event_count seen + n) (2 ^ 20)) (seen_accepted accepted) ∙ sym is ∙ e
 
-le_true : (n most : ℕ) → nat_le n most ≡ true → n ≤ most
+pub le_true : (n most : ℕ) → nat_le n most ≡ true → n ≤ most
 le_true n most e = grind (arith, e)
 
 pub room_few : (under : List Under) (n : ℕ) → nat_le (event_count (seen_held under) + n) (2 ^ 20) ≡ true → event_count (seen_held under) + n ≤ 2 ^ 20

@@ -4,7 +4,6 @@ pub mod Composing
 pub mod Holding
 pub mod Naming
 pub mod Replying
-pub mod Beginning
 pub mod Starting
 pub mod Extending
 pub mod Growing

@@ -1,4 +1,4 @@
--- A line has one reply, but for which contradiction is printed.
+-- A line has one reply, but for which contradiction and which path of bounds is printed.
 use Rattle.std.proofs.Common.{◌≡◌, ◌≢◌, ◌⊎◌, inl, inr, ℕ, suc, ◌-◌, ◌^◌, List, [], ◌∷◌, ◌++◌, length, slice_get, slice_set, Option, Some, None, Bool, true, false, nat_le, MatchBool, codes, refl, sym, ◌∙◌, ap, subst, arith}
 use Rattle.atto.specs.Decimal.{decimal_of}
 use Rattle.ports.specs.Files.{Content}
@@ -18,13 +18,16 @@ use Rattle.decl.specs.declared.items.Label.{Label}
 use Rattle.decl.specs.declared.items.TraceKind.{TraceKind}
 use Rattle.decl.specs.declared.items.TraceKind.TheVariants.{Capture, Log}
 use Rattle.decl.specs.Declaration.{Declaration, IsDeclaration}
+use Rattle.trace_event.specs.Seen.{Seen}
 use Rattle.traces.specs.Traces.{Trace, Captured, Traces, seen_under, seen_by}
-use Rattle.traces.specs.Messages.{missing, problem_of}
+use Rattle.traces.specs.Messages.{missing, problem_of, problem_of_seen}
 use Rattle.trace_problem.proofs.Seen.{problem_lawful}
 use Rattle.queries.specs.Consistent.{IsConsistent}
-use Rattle.queries.specs.Replies.{IsIntervalLine, IsOrderLine, Replies}
-use Rattle.session.specs.Commands.{Command, Add, Interval, Order, Problem, Asks}
-use Rattle.session.specs.Reply.{State, Found, Unread, Bytes, Absent, Failed, Refuses, OfTwo, added_line, messages_by, count_by, IsAdded, pending_of, AcceptReply, with_rows, row_fault, IsRowFault, LogReply, bytes_of, capture_fault, IsCaptureFault, CaptureReply, KindReply, fits_label, PieceReply, label_at, AddReply, Reply}
+use Rattle.queries.specs.Replies.{HasReading, IsIntervalLine, IsOrderLine, IsProofText, IsTimeLine, Replies}
+use Rattle.merging.specs.Merged.{IsMergeText}
+use Rattle.trace_report.specs.Reports.{report_text}
+use Rattle.session.specs.Commands.{Command, Add, Interval, Order, Time, Merge, Prove, Problem, Report, Asks}
+use Rattle.session.specs.Reply.{State, Found, Unread, Bytes, Absent, Failed, Refuses, OfTwo, OfOne, IsTimeReply, IsReport, added_line, messages_by, count_by, IsAdded, pending_of, AcceptReply, with_rows, row_fault, IsRowFault, LogReply, bytes_of, capture_fault, IsCaptureFault, CaptureReply, KindReply, fits_label, PieceReply, label_at, AddReply, Reply}
 use Rattle.session.specs.Sessions.{CommandReply, LineReply}
 use Rattle.session.specs.OneReply.{IsState, AreOneBut}
 use Rattle.session.proofs.OneCommand.{command_one}
@@ -36,6 +39,8 @@ pub record Below : Type 0 where
   pub either : (piece : List ℕ) (rows : List Row) (e : LogError) → AreRows (records_of piece) rows → IsLogFault piece e → e ≡ faults.Memory
   pub interval : (p : ProblemLists) (from to : ℕ) (a b : List ℕ) → IsIntervalLine p from to a → IsIntervalLine p from to b → a ≡ b
   pub order : (p : ProblemLists) (from to : ℕ) (a b : List ℕ) → ((x : Times) × IsExecution p x) → IsOrderLine p from to a → IsOrderLine p from to b → a ≡ b
+  pub time : (p : ProblemLists) (clock event : ℕ) (a b : List ℕ) → HasReading p clock → IsTimeLine p clock event a → IsTimeLine p clock event b → a ≡ b
+  pub merge : (d : Declaration) (seen : List (List Seen)) (a b : List ℕ) → IsMergeText d seen a → IsMergeText d seen b → a ≡ b
   pub capture : (s : List ℕ) (a b : captures.Capture) → Reads s a → Reads s b → a ≡ b
   pub capture_fault : (s : List ℕ) (e f : PcapError) → IsFault s e → IsFault s f → e ≢ refused.Memory → f ≢ refused.Memory → e ≡ f
   pub judged : (s : List ℕ) (c : captures.Capture) (e : PcapError) → Reads s c → IsFault s e → e ≢ refused.Memory → ⊥
@@ -97,29 +102,41 @@ module _ (below : Below) where
       one_refusal p s (row_numbers (Some (row, number))) a b after other x (subst (λ (numbers : List (List ℕ)). Refuses s numbers b other) same y)
 
 -- ---- questions
--- where there is an execution, two lines of this kind about two events are one
-abbrev AreOneLine : ProblemLists → (ℕ → ℕ → List ℕ → Type 0) → Type 0
-AreOneLine p Says = (i j : ℕ) (a b : List ℕ) → ((x : Times) × IsExecution p x) → Says i j a → Says i j b → a ≡ b
+-- where there is an execution, two texts that say this are one
+abbrev AreOneText : ProblemLists → (List ℕ → Type 0) → Type 0
+AreOneText p Says = (a b : List ℕ) → ((x : Times) × IsExecution p x) → Says a → Says b → AreOneBut p a b
 
-one_answer : (p : ProblemLists) (Says : ℕ → ℕ → List ℕ → Type 0) (i j : ℕ) (a b : List ℕ) → AreOneLine p Says → Replies p (Says i j) a → Replies p (Says i j) b → AreOneBut p a b
-one_answer p Says i j a b one (inl x) (inl y) = inl (one i j a b x.0 x.1 y.1)
-one_answer p Says i j a b one (inl x) (inr y) = absurd (y.2 x.0.0 x.0.1)
-one_answer p Says i j a b one (inr x) (inl y) = absurd (x.2 y.0.0 y.0.1)
-one_answer p Says i j a b one (inr x) (inr y) = inr (x, y)
+one_answer : (p : ProblemLists) (Says : List ℕ → Type 0) (a b : List ℕ) → AreOneText p Says → Replies p Says a → Replies p Says b → AreOneBut p a b
+one_answer p Says a b one (inl x) (inl y) = one a b x.0 x.1 y.1
+one_answer p Says a b one (inl x) (inr y) = absurd (y.2 x.0.0 x.0.1)
+one_answer p Says a b one (inr x) (inl y) = absurd (x.2 y.0.0 y.0.1)
+one_answer p Says a b one (inr x) (inr y) = inr (inl (x, y))
 
 known_both : (p : ProblemLists) (first second : List ℕ) (i j : ℕ) → HasEvent p i first → HasEvent p j second → IsUnknown p first ⊎ IsUnknown p second → ⊥
 known_both p first second i j at at' (inl none) = none i at
 known_both p first second i j at at' (inr none) = none j at'
 
-one_of_two : (p : ProblemLists) (s : State) (first second : List ℕ) (Says : ℕ → ℕ → List ℕ → Type 0) → IsProblem p → AreOneLine p Says → AreOne p (OfTwo p first second Says s)
+one_of_two : (p : ProblemLists) (s : State) (first second : List ℕ) (Says : ℕ → ℕ → List ℕ → Type 0) → IsProblem p → ((i j : ℕ) → AreOneText p (Says i j)) → AreOne p (OfTwo p first second Says s)
 one_of_two p s first second Says lawful one a b after other (inl (i, j, at_i, at_j, x, stays)) (inl (k, l, at_k, at_l, y, stays')) =
     let from : k ≡ i = one_place p k i first lawful at_k at_i in
     let to : l ≡ j = one_place p l j second lawful at_l at_j in
     let z : Replies p (Says i j) b = subst (λ (n : ℕ). Replies p (Says n j) b) from (subst (λ (n : ℕ). Replies p (Says k n) b) to y) in
-    (one_answer p Says i j a b one x z, stays ∙ sym stays')
+    (one_answer p (Says i j) a b (one i j) x z, stays ∙ sym stays')
 one_of_two p s first second Says lawful one a b after other (inl (i, j, at_i, at_j, x, stays)) (inr (unknown, y)) = absurd (known_both p first second i j at_i at_j unknown)
 one_of_two p s first second Says lawful one a b after other (inr (unknown, x)) (inl (i, j, at_i, at_j, y, stays)) = absurd (known_both p first second i j at_i at_j unknown)
 one_of_two p s first second Says lawful one a b after other (inr (unknown, x)) (inr (unknown', y)) = one_refusal p s (codes "28" ∷ []) a b after other x y
+
+one_of_one : (p : ProblemLists) (event : List ℕ) (Says : ℕ → List ℕ → Type 0) → IsProblem p → ((i : ℕ) (a b : List ℕ) → Says i a → Says i b → AreOneBut p a b) →
+    (a b : List ℕ) → OfOne p event Says a → OfOne p event Says b → AreOneBut p a b
+one_of_one p event Says lawful one a b (inl (i, at, x)) (inl (j, at', y)) =
+    let same : j ≡ i = one_place p j i event lawful at' at in
+    one i a b x (subst (λ (n : ℕ). Says n b) same y)
+one_of_one p event Says lawful one a b (inl (i, at, x)) (inr (none, y)) = absurd (none i at)
+one_of_one p event Says lawful one a b (inr (none, x)) (inl (i, at, y)) = absurd (none i at)
+one_of_one p event Says lawful one a b (inr (none, x)) (inr (none', y)) = inl (x ∙ sym y)
+
+one_report : (d : Declaration) (seen : List (List Seen)) (a b : List ℕ) → IsReport d seen a → IsReport d seen b → a ≡ b
+one_report d seen a b (x, is_x, is) (y, is_y, is') = is ∙ ap (λ (consistent : Bool). report_text d seen consistent) (one_state (problem_of_seen d seen) x y is_x is_y) ∙ sym is'
 
 -- ---- the problem of a state
 seen_length : (d : Declaration) (labels : List Label) (traces : Traces) → length traces ≡ length labels → length (seen_under d labels traces) ≡ length labels
@@ -177,16 +194,34 @@ module _ (below : Below) where
   one_addition p d s (Some k) Absent = one_refusal p s (codes "22" ∷ [])
   one_addition p d s (Some k) Failed = one_refusal p s (codes "22" ∷ [])
 
+  -- ---- times
+  one_time : (p : ProblemLists) (source : Option ℕ) (i : ℕ) (a b : List ℕ) → IsTimeReply p source i a → IsTimeReply p source i b → AreOneBut p a b
+  one_time p None i a b x y = inl (x ∙ sym y)
+  one_time p (Some clock) i a b (inl (has, x)) (inl (has', y)) = one_answer p (IsTimeLine p clock i) a b (λ one two some is is'. inl (below.time p clock i one two has is is')) x y
+  one_time p (Some clock) i a b (inl (has, x)) (inr (none, y)) = absurd (none has)
+  one_time p (Some clock) i a b (inr (none, x)) (inl (has, y)) = absurd (none has)
+  one_time p (Some clock) i a b (inr (none, x)) (inr (none', y)) = inl (x ∙ sym y)
+
   -- ---- lines
   one_reply : (d : Declaration) (s : State) (c : Command) (found : Found) → IsProblem (problem_of d s.traces) → AreOne (problem_of d s.traces) (Reply d s c found)
   one_reply d s (Add label path) found lawful = one_addition (problem_of d s.traces) d s (label_at d label) found
   one_reply d s (Interval first second) found lawful = λ a b after other x y.
       let p = problem_of d s.traces in
-      one_of_two p s first second (IsIntervalLine p) lawful (λ i j one two some. below.interval p i j one two) a b after other x.1 y.1
+      one_of_two p s first second (IsIntervalLine p) lawful (λ i j one two some is is'. inl (below.interval p i j one two is is')) a b after other x.1 y.1
   one_reply d s (Order first second) found lawful = λ a b after other x y.
       let p = problem_of d s.traces in
-      one_of_two p s first second (IsOrderLine p) lawful (below.order p) a b after other x.1 y.1
+      one_of_two p s first second (IsOrderLine p) lawful (λ i j one two some is is'. inl (below.order p i j one two some is is')) a b after other x.1 y.1
+  one_reply d s (Time event) found lawful = λ a b after other x y.
+      let p = problem_of d s.traces in
+      (one_of_one p event (IsTimeReply p d.source) lawful (one_time p d.source) a b x.2 y.2, x.1 ∙ sym y.1)
+  one_reply d s Merge found lawful = λ a b after other x y.
+      let seen = seen_by d s.traces in
+      (one_answer (problem_of d s.traces) (IsMergeText d seen) a b (λ one two some is is'. inl (below.merge d seen one two is is')) x.2 y.2, x.1 ∙ sym y.1)
+  one_reply d s (Prove first second) found lawful = λ a b after other x y.
+      let p = problem_of d s.traces in
+      one_of_two p s first second (IsProofText p) lawful (λ i j one two some is is'. inr (inr (i, j, is, is'))) a b after other x.1 y.1
   one_reply d s Problem found lawful = λ a b after other x y. (inl (x.2 ∙ sym y.2), x.1 ∙ sym y.1)
+  one_reply d s Report found lawful = λ a b after other x y. (inl (one_report d (seen_by d s.traces) a b x.2 y.2), x.1 ∙ sym y.1)
 
   one_of_command : (d : Declaration) (files : Content) (s : State) (c : Option Command) (found : Found) → IsProblem (problem_of d s.traces) → AreOne (problem_of d s.traces) (CommandReply d files s c found)
   one_of_command d files s None found lawful = λ a b after other x y. one_refusal (problem_of d s.traces) s (codes "20" ∷ []) a b after other x.1 y.1

@@ -3,12 +3,16 @@ use Rattle.std.specs.Prelude.{◌≡◌, ℕ, ◌<◌, List, [], ◌∷◌, leng
 use Rattle.std.specs.Int.{IsInRange}
 use Rattle.line_format.specs.Words.{words}
 
--- a command with its words: a label and a path, or the names of two events
+-- a command with its words: a label and a path, or the names of one or two events
 pub data Command : Type 0 where
   Add : List ℕ → List ℕ → Command
   Interval : List ℕ → List ℕ → Command
   Order : List ℕ → List ℕ → Command
+  Time : List ℕ → Command
+  Merge : Command
+  Prove : List ℕ → List ℕ → Command
   Problem : Command
+  Report : Command
 
 -- some bytes that print, without a space
 pub record IsWord (w : List ℕ) : Type 0 where
@@ -20,7 +24,11 @@ abbrev pub command_words : Command → List (List ℕ)
 command_words (Add label path) = codes "add" ∷ label ∷ path ∷ []
 command_words (Interval first second) = codes "interval" ∷ first ∷ second ∷ []
 command_words (Order first second) = codes "order" ∷ first ∷ second ∷ []
+command_words (Time event) = codes "time" ∷ event ∷ []
+command_words Merge = codes "merge" ∷ []
+command_words (Prove first second) = codes "prove" ∷ first ∷ second ∷ []
 command_words Problem = codes "problem" ∷ []
+command_words Report = codes "report" ∷ []
 
 -- the line spells this command, or none
 abbrev pub Asks : List ℕ → Option Command → Type 0

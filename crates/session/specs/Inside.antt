@@ -12,9 +12,8 @@ use Rattle.decl.specs.declared.items.Label.{Label}
 use Rattle.decl.specs.declared.items.TraceKind.{TraceKind}
 use Rattle.decl.specs.Declaration.{Declaration}
 use Rattle.trace_event.specs.Seen.{Seen}
-use Rattle.traces.specs.declared.event.Couple.{Couple}
-use Rattle.traces.specs.Traces.{Trace, Captured, IsOfKind, seen_of, size_of, events_of}
-use Rattle.traces.specs.Messages.{messages_of, missing, problem_of_seen}
+use Rattle.traces.specs.Traces.{Trace, Captured, IsOfKind, seen_of, size_of}
+use Rattle.trace_match.specs.declared.matcher.Changed.{Changed}
 use Rattle.queries.specs.Consistent.{IsConsistent}
 use Rattle.session.specs.Commands.{Command}
 use Rattle.problem_model.specs.Problem.{ProblemLists}
@@ -37,11 +36,10 @@ IsRowRefusal e text = (row : ℕ) × (number : ℕ) × (row_fault e ≡ Some (ro
 abbrev pub IsCaptureRefusal : PcapError → List ℕ → Type 0
 IsCaptureRefusal e text = (numbers : List (List ℕ)) × (capture_fault e ≡ Some numbers) × (text ≡ refusal numbers)
 
--- the line of an addition of so many events, by the messages before and all events after, where so many bytes wait
-abbrev pub IsAddedTo : Declaration → List Couple → List (List Seen) → ℕ → ℕ → List ℕ → Type 0
-IsAddedTo d before seen more pending text =
-    let after = messages_of (events_of seen) in
-    (b : Bool) × IsConsistent (problem_of_seen d seen) b × (text ≡ added_line more (missing after before) (missing before after) pending b)
+-- the line of an addition of so many events, behind which this is the problem, by how the messages changed, where so many
+-- bytes wait
+abbrev pub IsAddedTo : ProblemLists → Changed → ℕ → ℕ → List ℕ → Type 0
+IsAddedTo p changed more pending text = (b : Bool) × IsConsistent p b × (text ≡ added_line more changed.messages changed.withdrawn pending b)
 
 -- what is asked of two events by their names, or the refusal where one is unknown
 abbrev pub IsReplyOfTwo : ProblemLists → List ℕ → List ℕ → (ℕ → ℕ → List ℕ → Type 0) → List ℕ → Type 0

@@ -18,13 +18,16 @@ use Rattle.decl.specs.declared.items.Label.{Label}
 use Rattle.decl.specs.declared.items.TraceKind.{TraceKind}
 use Rattle.decl.specs.declared.items.TraceKind.TheVariants.{Capture, Log}
 use Rattle.decl.specs.Declaration.{Declaration}
+use Rattle.trace_event.specs.Seen.{Seen}
 use Rattle.traces.specs.declared.event.EventId.{EventId}
 use Rattle.traces.specs.declared.event.Couple.{Couple}
 use Rattle.traces.specs.Traces.{Trace, Captured, Logged, Traces, seen_by, size_of, events_of, event_count}
-use Rattle.traces.specs.Messages.{messages_of, missing, problem_of}
+use Rattle.traces.specs.Messages.{messages_of, missing, problem_of, problem_of_seen}
 use Rattle.queries.specs.Consistent.{IsConsistent}
-use Rattle.queries.specs.Replies.{IsIntervalLine, IsOrderLine, Replies}
-use Rattle.session.specs.Commands.{Command, Add, Interval, Order, Problem}
+use Rattle.queries.specs.Replies.{HasReading, IsIntervalLine, IsOrderLine, IsProofText, IsTimeLine, Replies}
+use Rattle.merging.specs.Merged.{IsMergeText}
+use Rattle.trace_report.specs.Reports.{report_text}
+use Rattle.session.specs.Commands.{Command, Add, Interval, Order, Time, Merge, Prove, Problem, Report}
 
 -- what a session has: the traces, and the events that are kept
 pub record State : Type 0 where
@@ -58,6 +61,20 @@ OfTwo p first second Says s text s' =
     ((i : ℕ) × (j : ℕ) × HasEvent p i first × HasEvent p j second × Replies p (Says i j) text × (s' ≡ s))
     ⊎ ((IsUnknown p first ⊎ IsUnknown p second) × Refuses s (codes "28" ∷ []) text s')
 
+-- what is said of an event by its name, or the refusal where none has it
+abbrev pub OfOne : ProblemLists → List ℕ → (ℕ → List ℕ → Type 0) → List ℕ → Type 0
+OfOne p event Says text = ((i : ℕ) × HasEvent p i event × Says i text) ⊎ (IsUnknown p event × (text ≡ refusal (codes "28" ∷ [])))
+
+-- the time of an event by the source's clock, or the refusal where no source is declared or its clock has no reading
+abbrev pub IsTimeReply : ProblemLists → Option ℕ → ℕ → List ℕ → Type 0
+IsTimeReply p None event text = text ≡ refusal (codes "29" ∷ [])
+IsTimeReply p (Some clock) event text = (HasReading p clock × Replies p (IsTimeLine p clock event) text)
+    ⊎ ((HasReading p clock → ⊥) × (text ≡ refusal (codes "29" ∷ [])))
+
+-- the report on the events of all labels, by whether their problem has an execution
+abbrev pub IsReport : Declaration → List (List Seen) → List ℕ → Type 0
+IsReport d seen text = (b : Bool) × IsConsistent (problem_of_seen d seen) b × (text ≡ report_text d seen b)
+
 -- ---- additions
 -- whether there is an execution, as a word
 abbrev pub state_word : Bool → List ℕ
@@ -84,7 +101,7 @@ IsAdded d old new pending text =
     (b : Bool) × IsConsistent (problem_of d new) b
     × (text ≡ added_line (count_by d new - count_by d old) (missing (messages_by d new) (messages_by d old)) (missing (messages_by d old) (messages_by d new)) pending b)
 
--- how many bytes under a label belong to no whole header or record yet; of a log there are none
+-- how many bytes under a label wait for the rest of their record or header; of a log none do
 abbrev pub pending_of : Trace → ℕ
 pending_of (Captured bytes capture) = length capture.rest
 pending_of (Logged rows size) = 0
@@ -186,4 +203,12 @@ Reply d s (Interval first second) found text s' =
 Reply d s (Order first second) found text s' =
     let p = problem_of d s.traces in
     (found ≡ Unread) × OfTwo p first second (IsOrderLine p) s text s'
+Reply d s (Time event) found text s' =
+    let p = problem_of d s.traces in
+    (found ≡ Unread) × (s' ≡ s) × OfOne p event (IsTimeReply p d.source) text
+Reply d s Merge found text s' = (found ≡ Unread) × (s' ≡ s) × Replies (problem_of d s.traces) (IsMergeText d (seen_by d s.traces)) text
+Reply d s (Prove first second) found text s' =
+    let p = problem_of d s.traces in
+    (found ≡ Unread) × OfTwo p first second (IsProofText p) s text s'
 Reply d s Problem found text s' = (found ≡ Unread) × (s' ≡ s) × (text ≡ problem_text (problem_of d s.traces))
+Reply d s Report found text s' = (found ≡ Unread) × (s' ≡ s) × IsReport d (seen_by d s.traces) text

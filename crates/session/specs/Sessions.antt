@@ -4,7 +4,7 @@ use Rattle.ports.specs.Files.{Content}
 use Rattle.decl.specs.declared.items.Label.{Label}
 use Rattle.decl.specs.Declaration.{Declaration}
 use Rattle.traces.specs.Traces.{nothing_for}
-use Rattle.session.specs.Commands.{Command, Add, Interval, Order, Problem, Asks}
+use Rattle.session.specs.Commands.{Command, Add, Interval, Order, Time, Merge, Prove, Problem, Report, Asks}
 use Rattle.session.specs.Reply.{State, Found, Unread, Bytes, Absent, Failed, Refuses, Reply}
 
 -- what is found at the path of a command, where the files tell it
@@ -16,7 +16,11 @@ FoundAt (Some files) (Add label path) Absent = files path ≡ None
 FoundAt (Some files) (Add label path) Failed = Unit {0}
 FoundAt (Some files) (Interval first second) found = Unit {0}
 FoundAt (Some files) (Order first second) found = Unit {0}
+FoundAt (Some files) (Time event) found = Unit {0}
+FoundAt (Some files) Merge found = Unit {0}
+FoundAt (Some files) (Prove first second) found = Unit {0}
 FoundAt (Some files) Problem found = Unit {0}
+FoundAt (Some files) Report found = Unit {0}
 
 -- the reply to a command, or the refusal of a line that spells none
 abbrev pub CommandReply : Declaration → Content → State → Option Command → Found → List ℕ → State → Type 0

@@ -1,16 +1,17 @@
 // What was accepted under the labels.
-ghost use Rattle.std.specs.Prelude.{◌≡◌, ◌<◌, ◌≤◌, ◌+◌, ◌^◌, ◌&&◌, [], length, map, replicate, nat_le, slice_get, Some, OnOk, OnErr, IfOk};
-ghost use Rattle.pcap_stream.specs.Feeding.{IsNew};
-ghost use Rattle.trace_event.specs.Seen.{seen_events};
-ghost use Rattle.traces.specs.Traces.{event_count};
+ghost use Rattle.std.specs.Prelude.{◌≡◌, ◌<◌, ◌≤◌, ◌+◌, ◌^◌, ◌++◌, ◌&&◌, List, length, map, nat_le, slice_get, Some, OnOk, OnErr, IfOk};
+ghost use Rattle.trace_event.specs.Seen.{Seen, seen_events};
+ghost use Rattle.traces.specs.Traces.{event_count, numbered};
 ghost use Rattle.traces.specs.Held.{seen_in};
-ghost use Rattle.session.specs.Stands.{Under, under_of};
-ghost use Rattle.session.specs.Inside.{AreEmpty, HasPlace, IsGrownAt, grown};
+ghost use Rattle.trace_match.specs.Ends.{ends_of, AreEndsOf, IsChange};
+ghost use Rattle.session.specs.Stands.{under_of};
+ghost use Rattle.session.specs.Inside.{AreEmpty, HasPlace, IsGrownAt};
 
 use decl::Label;
 use pcap_stream::PcapStream;
 use std::alloc::{AllocError, Global};
 use trace_event::Event;
+use trace_match::{Changed, TraceMatcher, ends_grow};
 use traces::{Accepted, event_count};
 
 /// Nothing yet, under each label.
@@ -54,37 +55,59 @@ pub(crate) fn has_room(accepted: &[Accepted], more: usize) -> bool
     event_count(accepted) + more as u64 <= 1 << 20
 }
 
-// Appends events, which came in so many bytes. For want of memory all stays.
-fn grow(
-    under: &mut Accepted,
+// Appends events to those of a label, and to the ends of messages. It answers how the messages change; for want of memory all
+// stays.
+fn append(
+    held: &mut Vec<Event>,
+    matcher: &mut TraceMatcher,
+    label: u32,
     mut events: Vec<Event>,
-    size: u64,
-    stream: PcapStream,
-) -> Result<(), AllocError>
-    requires { under.old.size + size < 2 ^ 64 }
-    ensures grown { OnOk result (under_of under.new ≡ grown (under_of under.old) (seen_events events.items) size stream) }
-    ensures stays { OnErr result (under_of under.new ≡ under_of under.old) }
+) -> Result<Changed, AllocError>
+    requires few { length matcher.old + length events.items ≤ 2 ^ 22 }
+    requires numbers { length held.old.items + length events.items ≤ 2 ^ 20 }
+    ensures held_ok { OnOk result (seen_events held.new.items ≡ seen_events held.old.items ++ seen_events events.items) }
+    ensures held_err { OnErr result (seen_events held.new.items ≡ seen_events held.old.items) }
+    ensures ends_ok { OnOk result (matcher.new ≡ matcher.old ++ ends_of (numbered label (length held.old.items + 1) (seen_events events.items))) }
+    ensures ends_err { OnErr result (matcher.new ≡ matcher.old) }
+    ensures changed { IfOk result (λ changed. (before after : List (List Seen)) → AreEndsOf matcher.old before → AreEndsOf matcher.new after → IsChange before after changed) }
 {
-    under.events.append(&mut events)?;
-    under.size += size;
-    under.stream = stream;
-    Ok(())
+    let old = held.len();
+    held.append(&mut events)?;
+    match matcher.add(label, old as u32 + 1, &held[old..]) {
+        Ok(changed) => Ok(changed),
+        Err(error) => {
+            held.truncate(old);
+            Err(error)
+        }
+    }
 }
 
-/// Appends events to those of the label at a place, which came in so many bytes, and how far its capture was read then.
-/// For want of memory all stays.
+/// Appends events to those of the label at a place, which came in so many bytes, and to the ends of messages, and notes how
+/// far the label's capture was read then. It answers how the messages change; for want of memory all stays.
 pub(crate) fn extend(
     accepted: &mut [Accepted],
+    matcher: &mut TraceMatcher,
     k: usize,
     events: Vec<Event>,
     size: u64,
     stream: PcapStream,
-) -> Result<(), AllocError>
+) -> Result<Changed, AllocError>
     requires inside { k < length accepted.old }
+    requires labels { length accepted.old ≤ 65536 }
     requires place { HasPlace (map under_of accepted.old) k size }
+    requires few { event_count (seen_in accepted.old) + length events.items ≤ 2 ^ 20 }
+    requires ends { AreEndsOf matcher.old (seen_in accepted.old) }
     ensures grown { OnOk result (IsGrownAt (map under_of accepted.old) (map under_of accepted.new) k (seen_events events.items) size stream) }
     ensures stays { OnErr result (map under_of accepted.new ≡ map under_of accepted.old) }
+    ensures ends { AreEndsOf matcher.new (seen_in accepted.new) }
+    ensures changed { IfOk result (λ changed. IsChange (seen_in accepted.old) (seen_in accepted.new) changed) }
     ensures len { length accepted.new ≡ length accepted.old }
 {
-    grow(&mut accepted[k], events, size, stream)
+    // It tells of what the ends are with more events.
+    ends_grow();
+    let under = &mut accepted[k];
+    let changed = append(&mut under.events, matcher, k as u32, events)?;
+    under.size += size;
+    under.stream = stream;
+    Ok(changed)
 }

@@ -20,7 +20,6 @@ use pcap_stream::PcapStream;
 use ports::{FileFault, Files, Sink, read_file};
 use queries::Stop;
 use trace_event::{Event, packet_events, row_events};
-use traces::messages_in;
 
 impl Session {
     /// Adds the file at a path to the label of this name.
@@ -133,16 +132,15 @@ impl Session {
             return write_line(b"refused 27\n", out);
         }
         let pending = u64::from(stream.pending());
-        let before = messages_in(self.alloc, &self.accepted)?;
-        extend(&mut self.accepted, k, events, size, stream)?;
-        write_added(
-            self.alloc,
-            &self.decl,
-            &self.accepted,
-            more as u64,
-            pending,
-            &before,
-            out,
-        )
+        let changed = extend(
+            &mut self.accepted,
+            &mut self.matcher,
+            k,
+            events,
+            size,
+            stream,
+        )?;
+        let p = self.build()?;
+        write_added(self.alloc, &p, more as u64, pending, changed, out)
     }
 }

@@ -1,10 +1,11 @@
 // The command of a line.
-ghost use Rattle.std.specs.Prelude.{◌≡◌, ◌↔◌, ◌∷◌, [], IsTrue, option_map, All};
+ghost use Rattle.std.specs.Prelude.{◌≡◌, ◌↔◌, ◌∷◌, [], None, IsTrue, option_map, All};
 ghost use Rattle.std.specs.Int.{IsInRange};
+ghost use Rattle.line_format.specs.Cut.{fields};
 ghost use Rattle.session.specs.Commands.{IsWord, Asks, HasWords};
 ghost use Rattle.session.specs.CommandSeen.{command_seen};
 
-use line_format::three_words;
+use line_format::{cut, three_words};
 
 /// What a line asks for. Each word is 1 byte or more from 33 to 126.
 #[derive(Clone, Copy, Debug)]
@@ -30,8 +31,24 @@ pub enum Command<'a> {
         /// The name of the other.
         second: &'a [u8],
     },
+    /// The time of an event by the source's clock.
+    Time {
+        /// The name of the event.
+        event: &'a [u8],
+    },
+    /// All events in one order.
+    Merge,
+    /// The certificate of the interval of the real time from one event to another.
+    Prove {
+        /// The name of the event that it is measured from.
+        first: &'a [u8],
+        /// The name of the event that it leads to.
+        second: &'a [u8],
+    },
     /// The problem of all that was added.
     Problem,
+    /// What there is to say of all events.
+    Report,
 }
 
 fn are_visible(word: &[u8]) -> bool
@@ -75,8 +92,50 @@ fn command_of<'a>(name: &[u8], first: &'a [u8], second: &'a [u8]) -> Option<Comm
         Some(Command::Interval { first, second })
     } else if name == b"order".as_slice() {
         Some(Command::Order { first, second })
+    } else if name == b"prove".as_slice() {
+        Some(Command::Prove { first, second })
     } else {
         None
+    }
+}
+
+// The command of two words.
+fn command_of_two<'a>(name: &[u8], event: &'a [u8]) -> Option<Command<'a>>
+    ensures { HasWords (name.now ∷ event.now ∷ []) (option_map command_seen result) }
+{
+    if !is_word(event) {
+        return None;
+    }
+    if name == b"time".as_slice() {
+        Some(Command::Time { event })
+    } else {
+        None
+    }
+}
+
+// The command of one word.
+fn command_of_one(name: &[u8]) -> Option<Command<'_>>
+    ensures { HasWords (name.now ∷ []) (option_map command_seen result) }
+{
+    if name == b"merge".as_slice() {
+        Some(Command::Merge)
+    } else if name == b"problem".as_slice() {
+        Some(Command::Problem)
+    } else if name == b"report".as_slice() {
+        Some(Command::Report)
+    } else {
+        None
+    }
+}
+
+// The command of fewer than three words.
+fn shorter_command(line: &[u8]) -> Option<Command<'_>>
+    requires { fields 2 line.now ≡ None }
+    ensures { Asks line.now (option_map command_seen result) }
+{
+    match cut(b' ', line) {
+        Some((name, event)) => command_of_two(name, event),
+        None => command_of_one(line),
     }
 }
 
@@ -87,7 +146,6 @@ pub fn read_command(line: &[u8]) -> Option<Command<'_>>
 {
     match three_words(line) {
         Some((name, first, second)) => command_of(name, first, second),
-        None if line == b"problem".as_slice() => Some(Command::Problem),
-        None => None,
+        None => shorter_command(line),
     }
 }

@@ -5,8 +5,8 @@ ghost use Rattle.problem.specs.Line.{HasEvent, IsUnknown};
 use problem::Problem;
 use problem_model::Name;
 
-// The place of the event of this name.
-fn event_of(p: &Problem, name: &[u8]) -> Option<u32>
+/// The place of the event of this name.
+pub(crate) fn event_of(p: &Problem, name: &[u8]) -> Option<u32>
     ensures some { IfSome result (λ k. HasEvent p.now k name.now) }
     ensures none { IfNone result (IsUnknown p.now name.now) }
 {

@@ -10,6 +10,7 @@ ghost use Rattle.session.specs.Sessions.{LineReply};
 ghost use Rattle.session.specs.OneReply.{IsState, AreOneBut};
 
 use event_log::log_answers_are_one;
+use merging::merges_are_one;
 use pcap_stream::{captures_are_one, faults_are_one, refused_or_read};
 
 /// A law, which does nothing when it runs: a line asks for one command at most.
@@ -18,7 +19,7 @@ pub fn commands_are_one()
 {}
 
 /// A law, which does nothing when it runs: what was declared and accepted, a line and what its read came to make one
-/// reply, but for which contradiction is printed, and one state that follows.
+/// reply, but for which contradiction and which path of bounds is printed, and one state that follows.
 pub fn replies_are_one()
     ensures text { (d : Declaration) (files : Content) (s after other : State) (line a b : List ℕ) (found : Found) → IsDeclaration d → IsState d s → LineReply d files s line found a after → LineReply d files s line found b other → AreOneBut (problem_of d s.traces) a b }
     ensures next { (d : Declaration) (files : Content) (s after other : State) (line a b : List ℕ) (found : Found) → IsDeclaration d → IsState d s → LineReply d files s line found a after → LineReply d files s line found b other → after ≡ other }
@@ -29,4 +30,5 @@ pub fn replies_are_one()
     faults_are_one();
     refused_or_read();
     queries::replies_are_one();
+    merges_are_one();
 }

@@ -1,8 +1,9 @@
 //! Sessions: commands line by line, and a reply to each.
 //!
-//! A session stands over a declaration. `add LABEL PATH` adds the file at a path to a label, `interval EVENT EVENT` and
-//! `order EVENT EVENT` ask about two events, and `problem` writes the problem of all that was added. Every line has one
-//! reply: an answer, or `refused` with a number.
+//! A session stands over a declaration. `add LABEL PATH` adds the file at a path to a label; `interval EVENT EVENT`,
+//! `order EVENT EVENT` and `prove EVENT EVENT` ask about two events, and `time EVENT` about one; `merge` writes all events in
+//! one order, `problem` the problem of all that was added, and `report` what there is to say of its events. Every line has
+//! one reply: an answer, or `refused` with a number.
 #![tactic(auto)]
 
 mod accepted;
@@ -15,11 +16,14 @@ mod laws;
 mod lines;
 mod questions;
 mod refusal;
+mod reporting;
 mod session;
 
 pub use laws::{commands_are_one, replies_are_one};
 pub use queries::Stop;
 pub use session::Session;
 
+#[cfg(test)]
+mod query_tests;
 #[cfg(test)]
 mod tests;

@@ -21,7 +21,7 @@ pub(crate) struct Added {
     pub(crate) messages: u64,
     /// How many messages are none any more.
     pub(crate) withdrawn: u64,
-    /// How many bytes under the label belong to no whole header or record yet.
+    /// How many bytes under the label wait for the rest of their record or header.
     pub(crate) pending: u64,
     /// Whether some execution obeys all bounds.
     pub(crate) consistent: bool,

@@ -1,15 +1,17 @@
-// Questions about two events, by their names.
-ghost use Rattle.std.specs.Prelude.{◌≤◌, OnOk, IsErrOf};
+// Questions about events, by their names.
+ghost use Rattle.std.specs.Prelude.{◌≤◌, ◌<◌, length, Some, IfSome, OnOk, IsErrOf};
 ghost use Rattle.ports.specs.Content.{Rose};
 ghost use Rattle.queries.specs.declared.stop.Stop.TheVariants as stops;
-ghost use Rattle.queries.specs.Replies.{AppendsSome, IsIntervalLine, IsOrderLine};
+ghost use Rattle.queries.specs.Clocks.{KeepsTime};
+ghost use Rattle.queries.specs.Replies.{AppendsSome, IsIntervalLine, IsOrderLine, IsProofText};
 ghost use Rattle.session.specs.Inside.{IsReplyOfTwo};
+ghost use Rattle.session.specs.Reply.{IsTimeReply, OfOne};
 
-use crate::events::two_events;
+use crate::events::{event_of, two_events};
 use crate::lines::write_line;
 use ports::Sink;
 use problem::Problem;
-use queries::{Stop, write_interval, write_order};
+use queries::{Stop, reading_of, write_interval, write_order, write_proof, write_time};
 use std::alloc::Global;
 
 /// Writes the interval from the first event to the second.
@@ -44,6 +46,66 @@ pub(crate) fn ask_order<O: Sink>(
 {
     match two_events(p, first, second) {
         Some((from, to)) => write_order(alloc, p, from, to, out),
+        None => write_line(b"refused 28\n", out),
+    }
+}
+
+/// Writes the certificate of the interval from the first event to the second.
+pub(crate) fn ask_proof<O: Sink>(
+    alloc: Global,
+    p: &Problem,
+    first: &[u8],
+    second: &[u8],
+    out: &mut O,
+) -> Result<(), Stop>
+    ensures reply { OnOk result (AppendsSome (IsReplyOfTwo p.now first.now second.now (IsProofText p.now)) (O.written out.old) (O.written out.new)) }
+    ensures cause { IsErrOf result stops.WriteFault → Rose (O.faults out.old) (O.faults out.new) }
+    ensures no_fall { O.faults out.old ≤ O.faults out.new }
+{
+    match two_events(p, first, second) {
+        Some((from, to)) => write_proof(alloc, p, from, to, out),
+        None => write_line(b"refused 28\n", out),
+    }
+}
+
+// Writes the time of an event by the clock at a place.
+fn time_by<O: Sink>(
+    alloc: Global,
+    p: &Problem,
+    clock: u32,
+    event: u32,
+    out: &mut O,
+) -> Result<(), Stop>
+    requires clock { KeepsTime p.now clock }
+    requires event { event < length p.now.events }
+    ensures reply { OnOk result (AppendsSome (IsTimeReply p.now (Some clock) event) (O.written out.old) (O.written out.new)) }
+    ensures cause { IsErrOf result stops.WriteFault → Rose (O.faults out.old) (O.faults out.new) }
+    ensures no_fall { O.faults out.old ≤ O.faults out.new }
+{
+    match reading_of(p, clock) {
+        Some(stamp) => write_time(alloc, p, clock, stamp, event, out),
+        None => write_line(b"refused 29\n", out),
+    }
+}
+
+/// Writes the time of an event by the source's clock, which is given by its place, if there is a source.
+pub(crate) fn ask_time<O: Sink>(
+    alloc: Global,
+    p: &Problem,
+    source: Option<u32>,
+    event: &[u8],
+    out: &mut O,
+) -> Result<(), Stop>
+    requires source { IfSome source (λ clock. KeepsTime p.now clock) }
+    ensures reply { OnOk result (AppendsSome (OfOne p.now event.now (IsTimeReply p.now source)) (O.written out.old) (O.written out.new)) }
+    ensures cause { IsErrOf result stops.WriteFault → Rose (O.faults out.old) (O.faults out.new) }
+    ensures no_fall { O.faults out.old ≤ O.faults out.new }
+{
+    match event_of(p, event) {
+        Some(event) => match source {
+            Some(clock) => time_by(alloc, p, clock, event, out),
+            None => write_line(b"refused 29\n", out),
+        },
         None => write_line(b"refused 28\n", out),
     }
 }

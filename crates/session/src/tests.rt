@@ -54,10 +54,14 @@ const CAPTURE_B: [u8; 112] = [
 const TOO_LONG: [u8; 16] = [0, 0, 0, 0, 100, 0, 0, 0, 1, 0, 4, 0, 1, 0, 4, 0];
 
 // What is asked when both hosts' traces were added, whether they are logs or captures.
-const QUESTIONS: [(&str, &str); 4] = [
+const QUESTIONS: [(&str, &str); 5] = [
     ("interval a#1 b#1", "interval 10.000000000 20.000000000\n"),
     ("interval b#1 a#1", "interval -20.000000000 -10.000000000\n"),
     ("order a#1 b#1", "order before\n"),
+    (
+        "merge",
+        "merge 4\n0.000000000 a#1\n10.000000000 b#1\n60.000000000 b#2\n80.000000000 a#2\n",
+    ),
     (
         "problem",
         "problem 1\nclock a 0 0 0 0\nclock b 0 0 0 0\nevent a#1 a 100\nevent a#2 a 180\nevent b#1 b 250\nevent b#2 b 300\n\
@@ -177,7 +181,7 @@ const CASES: [Case; 9] = [
             ("order b#2 b#2", "order same\n"),
             ("interval a#1", "refused 20\n"),
             ("", "refused 20\n"),
-            ("merge", "refused 20\n"),
+            ("merges", "refused 20\n"),
             ("problem ", "refused 20\n"),
             ("interval  a#1 b#1", "refused 20\n"),
             ("interval a#1 b#1 ", "refused 20\n"),

@@ -14,12 +14,12 @@ use Rattle.session.proofs.session.Session.add_capture.Goals as goal
 
 pub feed-requires : goal.feed-requires
 feed-requires g c =
-    tail_fits c.args.self.now c.args.k (length c.args.piece.now) (under_of c.index.result.now) (subst IsHeld c.self.view_is c.self.invariant)
+    tail_fits c.args.self.now c.args.k (length c.args.piece.now) (under_of c.index.result.now) (subst IsHeld c.self.view_is c.self.invariant.0)
     (under_at (declaration_of c.self.inside.decl) c.self.inside.accepted.items c.args.self.now c.args.k c.index.result.now c.self.view_is c.requires.inside c.index.ensures) c.requires.place
 
 pub accept-requires-clause-within : goal.accept-requires-clause-within
 accept-requires-clause-within g c =
-    tail_within c.args.self.now c.args.k (length c.args.piece.now) (under_of c.index.result.now) c.in-Ok.stream (subst IsHeld c.self.view_is c.self.invariant)
+    tail_within c.args.self.now c.args.k (length c.args.piece.now) (under_of c.index.result.now) c.in-Ok.stream (subst IsHeld c.self.view_is c.self.invariant.0)
     (under_at (declaration_of c.self.inside.decl) c.self.inside.accepted.items c.args.self.now c.args.k c.index.result.now c.self.view_is c.requires.inside c.index.ensures) c.in-Ok.ensures.size
 
 pub returns-in-Ok-clause-reply : goal.returns-in-Ok-clause-reply

@@ -1,0 +1,361 @@
+// Sessions over logs and captures, with the replies to all that is asked of them.
+use super::*;
+use decl::read_decl;
+use ports::{MemFiles, MemSink};
+use std::alloc::{AllocError, Global};
+use std::test::*;
+
+// Two hosts with a log each, and a link each way.
+const TWO_LOGS: &str =
+    "[hosts.a]\n[hosts.b]\n[labels.a]\nhost = \"a\"\nkind = \"log\"\n[labels.b]\nhost = \"b\"\nkind = \"log\"\n\
+    [[links]]\nfrom = \"a\"\nto = \"b\"\nleast = 10\nmost = 20\n[[links]]\nfrom = \"b\"\nto = \"a\"\nleast = 10\nmost = 20\n";
+
+// A source and another host with a log each, and a link from the one to the other.
+const WITH_SOURCE: &str =
+    "source = \"r\"\n[hosts.b]\n[hosts.r]\n[labels.b]\nhost = \"b\"\nkind = \"log\"\n[labels.r]\nhost = \"r\"\nkind = \"log\"\n\
+    [[links]]\nfrom = \"r\"\nto = \"b\"\nleast = 10\nmost = 20\n";
+
+// A source whose stamps may be 5 ns early or 7 ns late.
+const INEXACT_SOURCE: &str =
+    "source = \"r\"\n[hosts.r]\nearly = 7\nlate = 5\n[labels.r]\nhost = \"r\"\nkind = \"log\"\n";
+
+// Two hosts with an address and a capture each, and no links.
+const TWO_CAPTURES: &str =
+    "payload_bytes = 0\n[hosts.a]\naddresses = [\"10.0.0.1\"]\n[hosts.b]\naddresses = [\"10.0.0.2\"]\n\
+    [labels.ca]\nhost = \"a\"\nkind = \"capture\"\n[labels.cb]\nhost = \"b\"\nkind = \"capture\"\n";
+
+const NONE: &str = "added events 2 messages 0 withdrawn 0 pending 0 consistent\n";
+
+const BOTH: &str = "added events 2 messages 2 withdrawn 0 pending 0 consistent\n";
+
+const ONE: &str = "added events 1 messages 0 withdrawn 0 pending 0 consistent\n";
+
+// The contradiction of two messages: the way there and back takes 90 ns at most, and 95 ns by the clock of host a.
+const CYCLE: &str =
+    "certificate 1\ncycle\nstep early a#2 0.000000000\nstep span-least a 100 195 -95.000000000\nstep late a#1 0.000000000\nstep delay-most a#1 b#1 20.000000000\nstep early b#1 0.000000000\nstep span-most b 250 300 50.000000000\nstep late b#2 0.000000000\nstep delay-most b#2 a#2 20.000000000\nend\n";
+
+const PROOF: &str =
+    "certificate 1\nends a#1 b#1\nupper 20.000000000\nstep delay-most a#1 b#1 20.000000000\nevent a#1 0.000000000\nevent a#2 80.000000000\nevent b#1 20.000000000\nevent b#2 70.000000000\nreading a 100 0.000000000\nreading a 180 80.000000000\nreading b 250 20.000000000\nreading b 300 70.000000000\nlower 10.000000000\nstep delay-least a#1 b#1 -10.000000000\nevent a#1 0.000000000\nevent a#2 80.000000000\nevent b#1 10.000000000\nevent b#2 60.000000000\nreading a 100 0.000000000\nreading a 180 80.000000000\nreading b 250 10.000000000\nreading b 300 60.000000000\nend\n";
+
+const OPEN_PROOF: &str =
+    "certificate 1\nends a#1 b#1\nupper +inf\ninside a\nevent a#1 0.000000000\nevent b#1 0.000000000\nreading a 0 0.000000000\nreading b 0 0.000000000\nlower -inf\ninside b\nevent a#1 0.000000000\nevent b#1 0.000000000\nreading a 0 0.000000000\nreading b 0 0.000000000\nend\n";
+
+// The logs, by their paths.
+const LOGS: [(&str, &str); 11] = [
+    ("a.csv", "100,send,m1,\n180,receive,m2,\n"),
+    ("late.csv", "100,send,m1,\n190,receive,m2,\n"),
+    ("later.csv", "100,send,m1,\n195,receive,m2,\n"),
+    ("b.csv", "250,receive,m1,\n300,send,m2,\n"),
+    ("again.csv", "200,send,m1,\n"),
+    ("note.csv", "140,local,,note\n"),
+    ("zero.csv", "0,local,,\n"),
+    ("b250.csv", "250,receive,m1,\n"),
+    ("r1000.csv", "1000,send,m1,\n"),
+    ("ties.csv", "7,local,,second\n7,local,,first one\n"),
+    (
+        "odd.csv",
+        "1,send,\"a\"\"b\\\",\n2,send,\"a\"\"b\\\",\n3,receive,\"a\"\"b\\\",\n",
+    ),
+];
+
+// A header of little-endian nanoseconds and link type Ethernet.
+const HEADER: [u8; 24] = [
+    0x4d, 0x3c, 0xb2, 0xa1, 2, 0, 4, 0, 0, 0, 0, 0, 0, 0, 0, 0, 0, 0, 4, 0, 1, 0, 0, 0,
+];
+
+// Both addresses of Ethernet.
+const ADDRESSES: [u8; 12] = [2, 0, 0, 0, 0, 2, 2, 0, 0, 0, 0, 1];
+
+// What follows them in each frame: UDP from 10.0.0.1:5000 to 10.0.0.2:6000, behind a tag of a VLAN and without one.
+const TAGGED: [u8; 34] = [
+    0x81, 0, 0, 0x64, 8, 0, //
+    0x45, 0, 0, 0x1c, 0, 7, 0, 0, 0x40, 0x11, 0, 0, 10, 0, 0, 1, 10, 0, 0, 2, 0x13, 0x88, 0x17,
+    0x70, 0, 8, 0, 0, //
+];
+
+const PLAIN: [u8; 30] = [
+    8, 0, //
+    0x45, 0, 0, 0x1c, 0, 7, 0, 0, 0x40, 0x11, 0, 0, 10, 0, 0, 1, 10, 0, 0, 2, 0x13, 0x88, 0x17,
+    0x70, 0, 8, 0, 0, //
+];
+
+// The same with identification 0, and a fragment.
+const REPEATED: [u8; 30] = [
+    8, 0, //
+    0x45, 0, 0, 0x1c, 0, 0, 0, 0, 0x40, 0x11, 0, 0, 10, 0, 0, 1, 10, 0, 0, 2, 0x13, 0x88, 0x17,
+    0x70, 0, 8, 0, 0, //
+];
+
+const FRAGMENT: [u8; 30] = [
+    8, 0, //
+    0x45, 0, 0, 0x1c, 0, 9, 0x20, 0, 0x40, 0x11, 0, 0, 10, 0, 0, 1, 10, 0, 0, 2, 0x13, 0x88, 0x17,
+    0x70, 0, 8, 0, 0, //
+];
+
+// ARP.
+const ARP: [u8; 30] = [
+    8, 6, 0, 0, 0, 0, 0, 0, 0, 0, 0, 0, 0, 0, 0, 0, 0, 0, 0, 0, 0, 0, 0, 0, 0, 0, 0, 0, 0, 0,
+];
+
+// A segment of TCP that was lost, and the same once more.
+const LOST: [u8; 52] = [
+    8, 0, //
+    0x45, 0, 0, 0x32, 0, 0x64, 0, 0, 0x40, 6, 0, 0, 10, 0, 0, 1, 10, 0, 0, 2, //
+    0x13, 0x88, 0, 0x50, 0, 0, 0, 1, 0, 0, 0, 1, 0x50, 0x18, 0x20, 0, 0, 0, 0, 0, //
+    0x30, 0x31, 0x32, 0x33, 0x34, 0x35, 0x36, 0x37, 0x38, 0x39, //
+];
+
+const SENT_AGAIN: [u8; 52] = [
+    8, 0, //
+    0x45, 0, 0, 0x32, 0, 0x65, 0, 0, 0x40, 6, 0, 0, 10, 0, 0, 1, 10, 0, 0, 2, //
+    0x13, 0x88, 0, 0x50, 0, 0, 0, 1, 0, 0, 0, 1, 0x50, 0x18, 0x20, 0, 0, 0, 0, 0, //
+    0x30, 0x31, 0x32, 0x33, 0x34, 0x35, 0x36, 0x37, 0x38, 0x39, //
+];
+
+// The frames that each host captured, by their ends.
+const FRAMES_A: [&[u8]; 7] = [
+    &TAGGED,
+    &ARP,
+    &REPEATED,
+    &REPEATED,
+    &FRAGMENT,
+    &LOST,
+    &SENT_AGAIN,
+];
+
+const FRAMES_B: [&[u8]; 4] = [&PLAIN, &REPEATED, &REPEATED, &SENT_AGAIN];
+
+// A session over a declaration: lines with their replies.
+struct Case {
+    declaration: &'static str,
+    lines: &'static [(&'static str, &'static str)],
+}
+
+const CASES: [Case; 10] = [
+    Case {
+        declaration: TWO_LOGS,
+        lines: &[
+            (
+                "report",
+                "{\"ambiguous\":[],\"consistent\":true,\"events\":0,\"messages\":0,\"nokey\":{\"fragment\":0,\"header\":0,\"length\":0,\"link\":0,\"local\":0,\"other\":0,\"short\":0,\"side\":0},\"unmatched\":0}\n",
+            ),
+            ("add a a.csv", NONE),
+            (
+                "report",
+                "{\"ambiguous\":[],\"consistent\":true,\"events\":2,\"messages\":0,\"nokey\":{\"fragment\":0,\"header\":0,\"length\":0,\"link\":0,\"local\":0,\"other\":0,\"short\":0,\"side\":0},\"unmatched\":2}\n",
+            ),
+            ("add b b.csv", BOTH),
+            (
+                "merge",
+                "merge 4\n0.000000000 a#1\n10.000000000 b#1\n60.000000000 b#2\n80.000000000 a#2\n",
+            ),
+            ("prove a#1 b#1", PROOF),
+            ("prove a#1 b#3", "refused 28\n"),
+            ("time a#1", "refused 29\n"),
+            ("time c#1", "refused 28\n"),
+            ("add a note.csv", ONE),
+            ("interval a#1 b#1", "interval 10.000000000 20.000000000\n"),
+            ("interval a#1 a#3", "interval 40.000000000 40.000000000\n"),
+            (
+                "merge",
+                "merge 5\n0.000000000 a#1\n10.000000000 b#1\n40.000000000 a#3 note\n60.000000000 b#2\n80.000000000 a#2\n",
+            ),
+            ("merge a", "refused 20\n"),
+            ("time", "refused 20\n"),
+            ("report ", "refused 20\n"),
+            ("prove a#1", "refused 20\n"),
+        ],
+    },
+    // A second send of a key: nobody can tell which one was received.
+    Case {
+        declaration: TWO_LOGS,
+        lines: &[
+            ("add a late.csv", NONE),
+            ("add b b.csv", BOTH),
+            ("interval a#1 b#1", "interval 20.000000000 20.000000000\n"),
+            (
+                "add a again.csv",
+                "added events 1 messages 0 withdrawn 1 pending 0 consistent\n",
+            ),
+            ("interval a#1 b#1", "interval 20.000000000 30.000000000\n"),
+            (
+                "report",
+                "{\"ambiguous\":[{\"key\":\"log m1\",\"receives\":[\"b#1\"],\"sends\":[\"a#1\",\"a#3\"]}],\"consistent\":true,\"events\":5,\"messages\":1,\"nokey\":{\"fragment\":0,\"header\":0,\"length\":0,\"link\":0,\"local\":0,\"other\":0,\"short\":0,\"side\":0},\"unmatched\":0}\n",
+            ),
+        ],
+    },
+    // No execution: the contradiction in place of an answer, behind the refusals.
+    Case {
+        declaration: TWO_LOGS,
+        lines: &[
+            ("add a later.csv", NONE),
+            (
+                "add b b.csv",
+                "added events 2 messages 2 withdrawn 0 pending 0 inconsistent\n",
+            ),
+            ("merge", CYCLE),
+            ("prove a#1 b#1", CYCLE),
+            ("prove a#1 b#9", "refused 28\n"),
+            ("time a#1", "refused 29\n"),
+            (
+                "report",
+                "{\"ambiguous\":[],\"consistent\":false,\"events\":4,\"messages\":2,\"nokey\":{\"fragment\":0,\"header\":0,\"length\":0,\"link\":0,\"local\":0,\"other\":0,\"short\":0,\"side\":0},\"unmatched\":0}\n",
+            ),
+        ],
+    },
+    // Nothing ties the two clocks.
+    Case {
+        declaration: TWO_LOGS,
+        lines: &[
+            ("add a zero.csv", ONE),
+            ("add b zero.csv", ONE),
+            ("interval a#1 b#1", "interval -inf +inf\n"),
+            ("order a#1 b#1", "order open\n"),
+            ("prove a#1 b#1", OPEN_PROOF),
+            (
+                "report",
+                "{\"ambiguous\":[],\"consistent\":true,\"events\":2,\"messages\":0,\"nokey\":{\"fragment\":0,\"header\":0,\"length\":0,\"link\":0,\"local\":2,\"other\":0,\"short\":0,\"side\":0},\"unmatched\":0}\n",
+            ),
+        ],
+    },
+    // Nothing is declared.
+    Case {
+        declaration: "",
+        lines: &[
+            ("merge", "merge 0\n"),
+            ("problem", "problem 1\nend\n"),
+            (
+                "report",
+                "{\"ambiguous\":[],\"consistent\":true,\"events\":0,\"messages\":0,\"nokey\":{\"fragment\":0,\"header\":0,\"length\":0,\"link\":0,\"local\":0,\"other\":0,\"short\":0,\"side\":0},\"unmatched\":0}\n",
+            ),
+        ],
+    },
+    // Times by the source's clock, once it has a reading.
+    Case {
+        declaration: WITH_SOURCE,
+        lines: &[
+            ("add b b250.csv", ONE),
+            ("time b#1", "refused 29\n"),
+            ("time z#1", "refused 28\n"),
+            (
+                "add r r1000.csv",
+                "added events 1 messages 1 withdrawn 0 pending 0 consistent\n",
+            ),
+            ("time b#1", "time 1010.000000000 1020.000000000\n"),
+            ("time r#1", "time 1000.000000000 1000.000000000\n"),
+        ],
+    },
+    // A source and a host that nothing ties to it.
+    Case {
+        declaration: WITH_SOURCE,
+        lines: &[
+            ("add b zero.csv", ONE),
+            ("add r zero.csv", ONE),
+            ("time b#1", "time -inf +inf\n"),
+        ],
+    },
+    // The time of an event is not the stamp alone.
+    Case {
+        declaration: INEXACT_SOURCE,
+        lines: &[
+            ("add r r1000.csv", ONE),
+            ("time r#1", "time 993.000000000 1005.000000000\n"),
+        ],
+    },
+    // At one time by label and number, and a key with a quotation mark and a backslash in it.
+    Case {
+        declaration: TWO_LOGS,
+        lines: &[
+            ("add b ties.csv", NONE),
+            ("add a zero.csv", ONE),
+            (
+                "merge",
+                "merge 3\n0.000000000 a#1\n0.000000000 b#1 second\n0.000000000 b#2 first one\n",
+            ),
+            (
+                "add b odd.csv",
+                "added events 3 messages 0 withdrawn 0 pending 0 consistent\n",
+            ),
+            (
+                "report",
+                "{\"ambiguous\":[{\"key\":\"log a\\\"b\\\\\",\"receives\":[\"b#5\"],\"sends\":[\"b#3\",\"b#4\"]}],\"consistent\":true,\"events\":6,\"messages\":0,\"nokey\":{\"fragment\":0,\"header\":0,\"length\":0,\"link\":0,\"local\":3,\"other\":0,\"short\":0,\"side\":0},\"unmatched\":0}\n",
+            ),
+        ],
+    },
+    // Captures of a network as it is.
+    Case {
+        declaration: TWO_CAPTURES,
+        lines: &[
+            (
+                "add ca a.pcap",
+                "added events 7 messages 0 withdrawn 0 pending 0 consistent\n",
+            ),
+            (
+                "add cb b.pcap",
+                "added events 4 messages 2 withdrawn 0 pending 0 consistent\n",
+            ),
+            (
+                "report",
+                "{\"ambiguous\":[{\"key\":\"udp 10.0.0.1:5000 10.0.0.2:6000 id 0 length 8 payload -\",\"receives\":[\"cb#2\",\"cb#3\"],\"sends\":[\"ca#3\",\"ca#4\"]}],\"consistent\":true,\"events\":11,\"messages\":2,\"nokey\":{\"fragment\":1,\"header\":0,\"length\":0,\"link\":0,\"local\":0,\"other\":1,\"short\":0,\"side\":0},\"unmatched\":1}\n",
+            ),
+            (
+                "problem",
+                "problem 1\nclock a 0 0 0 0\nclock b 0 0 0 0\nevent ca#1 a 1000\nevent ca#2 a 2000\nevent ca#3 a 3000\nevent ca#4 a 4000\nevent ca#5 a 5000\nevent ca#6 a 6000\nevent ca#7 a 7000\nevent cb#1 b 1000\nevent cb#2 b 2000\nevent cb#3 b 3000\nevent cb#4 b 4000\nmessage ca#1 cb#1 0 none\nmessage ca#7 cb#4 0 none\nend\n",
+            ),
+        ],
+    },
+];
+
+// A capture of these frames. The k-th has the stamp of k times 1,000 ns.
+fn capture_of(alloc: Global, frames: &[&[u8]]) -> Result<Vec<u8>, AllocError> {
+    let mut bytes = Vec::from_slice(alloc, &HEADER)?;
+    let mut stamp: u32 = 0;
+    for frame in frames {
+        stamp = stamp.wrapping_add(1000);
+        let size = u32::try_from(ADDRESSES.len().wrapping_add(frame.len())).unwrap_or(0);
+        bytes.extend_from_slice(&[0, 0, 0, 0])?;
+        bytes.extend_from_slice(&stamp.to_le_bytes())?;
+        bytes.extend_from_slice(&size.to_le_bytes())?;
+        bytes.extend_from_slice(&size.to_le_bytes())?;
+        bytes.extend_from_slice(&ADDRESSES)?;
+        bytes.extend_from_slice(frame)?;
+    }
+    Ok(bytes)
+}
+
+fn put_files(alloc: Global) -> Result<MemFiles, AllocError> {
+    let mut files = MemFiles::new(alloc, &[])?;
+    for (path, text) in &LOGS {
+        files.put(path, text.as_bytes())?;
+    }
+    files.put("a.pcap", &capture_of(alloc, &FRAMES_A)?)?;
+    files.put("b.pcap", &capture_of(alloc, &FRAMES_B)?)?;
+    Ok(files)
+}
+
+// Whether a session gives these replies.
+fn replies(alloc: Global, case: &Case) -> Result<bool, Stop> {
+    let Ok(decl) = read_decl(alloc, case.declaration.as_bytes()) else {
+        return Ok(false);
+    };
+    let mut session = Session::new(alloc, decl)?;
+    let mut files = put_files(alloc)?;
+    for (line, reply) in case.lines {
+        let mut out = MemSink::new(alloc, 2_000, 7, &[])?;
+        if line.len() > 4096 {
+            return Ok(false);
+        }
+        session.step(line.as_bytes(), &mut files, &mut out)?;
+        if out.bytes() != reply.as_bytes() {
+            return Ok(false);
+        }
+    }
+    Ok(true)
+}
+
+#[test]
+fn questions(rt: HostRuntime) {
+    for (k, case) in CASES.iter().enumerate() {
+        assert!(rt; replies(rt.alloc(), case) == Ok(true), "case {k}");
+    }
+}
