@@ -49,12 +49,14 @@ few : (most taken : ℕ) (left script : List ℕ) → taken + length left ≡ le
 few most taken left script count none within = omega (arith, count, ap length none, within)
 
 done_at : (d : Declaration) (old now now' : Told) (held : Held) (r r' : Reader) (script : List ℕ) → IsAt d old now held r script → HasNoLine r r' now now' →
-    now.faults ≤ now'.faults → now.absences ≤ now'.absences → (length script ≤ 2 ^ 30) × Replied d old now' (lines_of script) []
+    now.faults ≤ now'.faults → now.absences ≤ now'.absences → (length script ≤ 2 ^ 30) × (now'.left ≡ Some []) × Replied d old now' (lines_of script) []
 done_at d old now now' held r r' script here turn f_le a_le =
     let came : Came (Some here.left) now'.left turn.bytes = rw here.left_is at turn.counts.came in
     let ends : Ends r (Some here.left) now'.left turn.bytes = rw here.left_is at turn.ends in
-    let none = none_left r script here.left now'.left turn.bytes here.done r.ended refl here.place came ends in (
+    let none = none_left r script here.left now'.left turn.bytes here.done r.ended refl here.place came ends in
+    let after : came.0 ≡ [] = tail_none turn.bytes came.0 (sym came.1 ∙ none.1) in (
       few (2 ^ 30) r.taken here.left script here.count none.1 here.within,
+      came.2 ∙ ap Some after,
       replied d old now now' held r script (lines_of script) here (lines_done script here.done (r.held ++ here.left) r.ended none.0 here.place) turn.silent f_le a_le,
     )
 

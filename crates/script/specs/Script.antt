@@ -1,5 +1,5 @@
 -- A session over the lines of a script, and how it ends.
-use Rattle.std.specs.Prelude.{◌≡◌, ℕ, ◌^◌, ◌<◌, ◌≤◌, List, ◌++◌, length, take, Option, Some, None}
+use Rattle.std.specs.Prelude.{◌≡◌, ℕ, ◌^◌, ◌<◌, ◌≤◌, List, [], ◌++◌, length, take, Option, Some, None}
 use Rattle.std.specs.List.{concat}
 use Rattle.ports.specs.Content.{Rose, Appends}
 use Rattle.ports.specs.Files.{Content}
@@ -34,9 +34,9 @@ abbrev pub OfScript : Option (List ℕ) → (List ℕ → Type 0) → Type 0
 OfScript None P = Unit {0}
 OfScript (Some script) P = P script
 
--- the script was read to its end, and each of its lines has its reply
+-- the script was read to its end, so that nothing of it is left, and each of its lines has its reply
 abbrev pub IsDone : Declaration → Told → Told → List ℕ → Type 0
-IsDone d old new last = OfScript old.left (λ script. (length script ≤ 2 ^ 30) × Replied d old new (lines_of script) last)
+IsDone d old new last = OfScript old.left (λ script. (length script ≤ 2 ^ 30) × (new.left ≡ Some []) × Replied d old new (lines_of script) last)
 
 -- so much of a script was taken, and its whole lines have their replies
 pub record IsTaken (d : Declaration) (old new : Told) (last script : List ℕ) : Type 0 where
