@@ -1,5 +1,5 @@
 -- From the parts of a session to what is said of it.
-use Rattle.std.proofs.Common.{◌≡◌, ◌⊎◌, inl, inr, ℕ, ◌+◌, ◌-◌, ◌^◌, ◌<◌, ◌≤◌, List, [], ◌++◌, length, take, Option, codes, sym, ◌∙◌, ap, subst, arith, append-nil}
+use Rattle.std.proofs.Common.{◌≡◌, ◌⊎◌, inl, inr, ℕ, ◌+◌, ◌-◌, ◌^◌, ◌<◌, ◌≤◌, List, [], ◌++◌, length, take, Option, Some, codes, sym, ◌∙◌, ap, subst, arith, append-nil}
 use Rattle.std.specs.List.{concat}
 use Rattle.ports.specs.Content.{Rose, Appends}
 use Rattle.ports.specs.Files.{Content}
@@ -60,8 +60,9 @@ module _ (d : Declaration) (old begun mid new : Told) (last : List ℕ) (begins 
   on_script P Q f p = subst (λ (o : Option (List ℕ)). OfScript o Q) begins.left (of_script begun.left P Q f p)
 
   pub done_on : IsDone d begun mid [] → IsDone d old new last
-  done_on is = on_script (λ script. (length script ≤ 2 ^ 30) × Replied d begun mid (lines_of script) []) (λ script. (length script ≤ 2 ^ 30) × Replied d old new (lines_of script) last)
-      (λ script r. (r.0, replied_on (lines_of script) r.1)) is
+  done_on is = on_script (λ script. (length script ≤ 2 ^ 30) × (mid.left ≡ Some []) × Replied d begun mid (lines_of script) [])
+      (λ script. (length script ≤ 2 ^ 30) × (new.left ≡ Some []) × Replied d old new (lines_of script) last)
+      (λ script r. (r.0, closes.left ∙ r.1, replied_on (lines_of script) r.2)) is
 
   taken_on : (script : List ℕ) → IsTaken d begun mid [] script → IsTaken d old new last script
   taken_on script t = record { taken = t.taken; rest = t.rest; is = t.is; left = closes.left ∙ t.left; short = t.short; replied = replied_on (whole_lines t.taken) t.replied }

@@ -20,6 +20,8 @@ mod tests;
 mod texts;
 mod verify;
 #[cfg(test)]
+mod verify_cases;
+#[cfg(test)]
 mod verify_tests;
 
 use crate::run::run;

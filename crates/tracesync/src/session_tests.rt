@@ -39,11 +39,11 @@ const LATE: &str = "100,send,m1,\n190,receive,m2,\n";
 
 const TOO_LATE: &str = "100,send,m1,\n195,receive,m2,\n";
 
-// The files of a run.
-fn files_of(alloc: Global, case: &Case) -> Result<MemFiles, AllocError> {
-    let mut files = MemFiles::new(alloc, case.file_fails)?;
-    files.put("d", case.decl.as_bytes())?;
-    files.put("a.csv", case.log.as_bytes())?;
+// The files of a run over a declaration, and which log `a.csv` is. Reads with these numbers fail.
+fn files_of(alloc: Global, decl: &str, log: &str, fails: &[u32]) -> Result<MemFiles, AllocError> {
+    let mut files = MemFiles::new(alloc, fails)?;
+    files.put("d", decl.as_bytes())?;
+    files.put("a.csv", log.as_bytes())?;
     files.put("b.csv", b"250,receive,m1,\n300,send,m2,\n")?;
     files.put("d.csv", b"310,send,m2,\n")?;
     Ok(files)
@@ -66,7 +66,7 @@ fn status_of(
 
 // Whether a run ends as the case says. The script comes in pieces of 14 bytes.
 fn ends_so(alloc: Global, case: &Case) -> Result<bool, AllocError> {
-    let mut files = files_of(alloc, case)?;
+    let mut files = files_of(alloc, case.decl, case.log, case.file_fails)?;
     let mut input = MemSource::new(alloc, case.script.as_bytes(), 14, case.read_fails)?;
     let mut out = MemSink::new(alloc, 900, 300, case.write_fails)?;
     let status = status_of(alloc, &["session", "d"], &mut files, &mut input, &mut out)?;
@@ -78,11 +78,11 @@ const SESSIONS: [Case; 8] = [
         decl: TWO_LOGS,
         log: ON_TIME,
         file_fails: &[],
-        script: "add a a.csv\nadd b b.csv\ninterval a#1 b#1\norder a#1 b#1\nproblem\n",
+        script: "add a a.csv\nadd b b.csv\ninterval a#1 b#1\norder a#1 b#1\nmerge\nproblem\n",
         read_fails: &[],
         write_fails: &[],
         status: Status::Done,
-        printed: "added events 2 messages 0 withdrawn 0 pending 0 consistent\nadded events 2 messages 2 withdrawn 0 pending 0 consistent\ninterval 10.000000000 20.000000000\norder before\nproblem 1\nclock a 0 0 0 0\nclock b 0 0 0 0\nevent a#1 a 100\nevent a#2 a 180\nevent b#1 b 250\nevent b#2 b 300\nmessage a#1 b#1 10 20\nmessage b#2 a#2 10 20\nend\n",
+        printed: "added events 2 messages 0 withdrawn 0 pending 0 consistent\nadded events 2 messages 2 withdrawn 0 pending 0 consistent\ninterval 10.000000000 20.000000000\norder before\nmerge 4\n0.000000000 a#1\n10.000000000 b#1\n60.000000000 b#2\n80.000000000 a#2\nproblem 1\nclock a 0 0 0 0\nclock b 0 0 0 0\nevent a#1 a 100\nevent a#2 a 180\nevent b#1 b 250\nevent b#2 b 300\nmessage a#1 b#1 10 20\nmessage b#2 a#2 10 20\nend\n",
     },
     Case {
         decl: TWO_LOGS,
@@ -124,7 +124,7 @@ const SESSIONS: [Case; 8] = [
         read_fails: &[],
         write_fails: &[],
         status: Status::Done,
-        printed: "added events 2 messages 0 withdrawn 0 pending 0 consistent\nadded events 2 messages 2 withdrawn 0 pending 0 consistent\nrefused 20\nrefused 20\nrefused 21\nrefused 28\nrefused 20\nrefused 20\n",
+        printed: "added events 2 messages 0 withdrawn 0 pending 0 consistent\nadded events 2 messages 2 withdrawn 0 pending 0 consistent\nrefused 20\nrefused 20\nrefused 21\nrefused 28\nrefused 20\nrefused 29\n",
     },
     // The script fails behind its first line, which has 14 bytes.
     Case {
@@ -290,6 +290,70 @@ fn words_of_sessions(rt: HostRuntime) -> Result<(), Fail> {
         (&["session", "d", "d"], 0, Status::Usage, usage),
     ] {
         assert!(rt; runs_so(rt.alloc(), words, size, status, printed)?);
+    }
+    Ok(())
+}
+
+// Sessions over logs, each of which says how `a.csv` is, and what is to be proved.
+const PROOFS: [(&str, &str); 6] = [
+    (ON_TIME, "prove a#1 b#1"),
+    (ON_TIME, "prove b#2 a#1"),
+    (ON_TIME, "prove a#2 a#2"),
+    (LATE, "prove b#1 a#2"),
+    (TOO_LATE, "prove a#1 b#1"),
+    ("0,local,,\n", "prove a#1 b#1"),
+];
+
+// What a session over a log and `b.csv` prints behind its two additions, for a last line.
+fn last_reply(
+    alloc: Global,
+    log: &str,
+    line: &str,
+    out: &mut MemSink,
+) -> Result<usize, AllocError> {
+    let mut files = files_of(alloc, TWO_LOGS, log, &[])?;
+    let mut script = Vec::from_slice(alloc, b"add a a.csv\nadd b b.csv\n")?;
+    let mut input = MemSource::new(alloc, &script, 14, &[])?;
+    let mut before = MemSink::new(alloc, 900, 300, &[])?;
+    status_of(
+        alloc,
+        &["session", "d"],
+        &mut files,
+        &mut input,
+        &mut before,
+    )?;
+    script.extend_from_slice(line.as_bytes())?;
+    let mut input = MemSource::new(alloc, &script, 14, &[])?;
+    status_of(alloc, &["session", "d"], &mut files, &mut input, out)?;
+    Ok(before.bytes().len())
+}
+
+// Whether what `prove` replies is accepted as a certificate of what `problem` replies.
+fn proof_holds(alloc: Global, log: &str, line: &str) -> Result<bool, AllocError> {
+    let mut problem = MemSink::new(alloc, 2_000, 300, &[])?;
+    let mut proof = MemSink::new(alloc, 2_000, 300, &[])?;
+    let problem_begins = last_reply(alloc, log, "problem", &mut problem)?;
+    let proof_begins = last_reply(alloc, log, line, &mut proof)?;
+    let (Some(problem), Some(proof)) = (
+        problem.bytes().get(problem_begins..),
+        proof.bytes().get(proof_begins..),
+    ) else {
+        return Ok(false);
+    };
+    let mut files = MemFiles::new(alloc, &[])?;
+    files.put("p", problem)?;
+    files.put("c", proof)?;
+    let mut input = MemSource::new(alloc, b"", 1, &[])?;
+    let mut out = MemSink::new(alloc, 100, 7, &[])?;
+    let words = ["verify", "p", "c"];
+    let status = status_of(alloc, &words, &mut files, &mut input, &mut out)?;
+    Ok(status == Status::Done && out.bytes() == b"yes\n".as_slice())
+}
+
+#[test]
+fn proofs_hold(rt: HostRuntime) -> Result<(), Fail> {
+    for (log, line) in &PROOFS {
+        assert!(rt; proof_holds(rt.alloc(), log, line)?);
     }
     Ok(())
 }

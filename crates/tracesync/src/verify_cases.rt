@@ -1,0 +1,564 @@
+// Certificates of small problems, changes of them, and what is answered of each.
+
+// Two logs and two messages, one each way.
+pub(crate) const TWO_LOGS: &str =
+    "problem 1\nclock a 0 0 0 0\nclock b 0 0 0 0\nevent a#1 a 100\nevent a#2 a 180\nevent b#1 b 250\nevent b#2 b 300\nmessage a#1 b#1 10 20\nmessage b#2 a#2 10 20\nend\n";
+
+// The same, but host a has waited longer than bounds and clocks allow.
+pub(crate) const CONTRADICTING: &str =
+    "problem 1\nclock a 0 0 0 0\nclock b 0 0 0 0\nevent a#1 a 100\nevent a#2 a 195\nevent b#1 b 250\nevent b#2 b 300\nmessage a#1 b#1 10 20\nmessage b#2 a#2 10 20\nend\n";
+
+// Nothing ties the two clocks.
+pub(crate) const APART: &str =
+    "problem 1\nclock a 0 0 0 0\nclock b 0 0 0 0\nevent a#1 a 0\nevent b#1 b 0\nend\n";
+
+// A message that may be under way for any time.
+pub(crate) const OPEN: &str =
+    "problem 1\nclock c 0 0 0 0\nclock d 0 0 0 0\nevent p c 5\nevent q d 3\nmessage p q 0 none\nend\n";
+
+// The same, with a least delay.
+pub(crate) const ONE_WAY: &str =
+    "problem 1\nclock c 0 0 0 0\nclock d 0 0 0 0\nevent p c 5\nevent q d 3\nmessage p q 1 none\nend\n";
+
+// The interval from a#1 to b#1.
+pub(crate) const PROVED: &str =
+    "certificate 1\nends a#1 b#1\nupper 20.000000000\nstep delay-most a#1 b#1 20.000000000\nevent a#1 0.000000000\nevent a#2 80.000000000\nevent b#1 20.000000000\nevent b#2 70.000000000\nreading a 100 0.000000000\nreading a 180 80.000000000\nreading b 250 20.000000000\nreading b 300 70.000000000\nlower 10.000000000\nstep delay-least a#1 b#1 -10.000000000\nevent a#1 0.000000000\nevent a#2 80.000000000\nevent b#1 10.000000000\nevent b#2 60.000000000\nreading a 100 0.000000000\nreading a 180 80.000000000\nreading b 250 10.000000000\nreading b 300 60.000000000\nend\n";
+
+// The earliest execution of the two logs.
+pub(crate) const RUN: &str =
+    "certificate 1\nrun\nevent a#1 0.000000000\nevent a#2 80.000000000\nevent b#1 10.000000000\nevent b#2 60.000000000\nreading a 100 0.000000000\nreading a 180 80.000000000\nreading b 250 10.000000000\nreading b 300 60.000000000\nend\n";
+
+// The contradiction.
+pub(crate) const CYCLE: &str =
+    "certificate 1\ncycle\nstep delay-most a#1 b#1 20.000000000\nstep early b#1 0.000000000\nstep span-most b 250 300 50.000000000\nstep late b#2 0.000000000\nstep delay-most b#2 a#2 20.000000000\nstep early a#2 0.000000000\nstep span-least a 100 195 -95.000000000\nstep late a#1 0.000000000\nend\n";
+
+// An interval without ends.
+pub(crate) const UNLINKED: &str =
+    "certificate 1\nends a#1 b#1\nupper +inf\ninside a\nevent a#1 0.000000000\nevent b#1 0.000000000\nreading a 0 0.000000000\nreading b 0 0.000000000\nlower -inf\ninside b\nevent a#1 0.000000000\nevent b#1 0.000000000\nreading a 0 0.000000000\nreading b 0 0.000000000\nend\n";
+
+// An interval with one end.
+pub(crate) const ONE_SIDED: &str =
+    "certificate 1\nends p q\nupper +inf\ninside c\nevent p 0.000000000\nevent q 1.000000000\nreading c 5 0.000000000\nreading d 3 1.000000000\nlower 1.000000000\nstep delay-least p q -1.000000000\nevent p 0.000000000\nevent q 1.000000000\nreading c 5 0.000000000\nreading d 3 1.000000000\nend\n";
+
+// The same from the receive to the send, with a cut that the message leaves.
+pub(crate) const TURNED: &str =
+    "certificate 1\nends q p\nupper +inf\ninside d\nevent p 0.000000000\nevent q 0.000000000\nreading c 5 0.000000000\nreading d 3 0.000000000\nlower -inf\ninside c\nevent p 0.000000000\nevent q 0.000000000\nreading c 5 0.000000000\nreading d 3 0.000000000\nend\n";
+
+// Certificates with a change, and what is printed.
+pub(crate) const ACCEPTED: [(&str, &str, &str, &str, &str); 6] = [
+    (TWO_LOGS, PROVED, "", "", "yes\n"),
+    (TWO_LOGS, RUN, "", "", "yes\n"),
+    (CONTRADICTING, CYCLE, "", "", "yes\n"),
+    (APART, UNLINKED, "", "", "yes\n"),
+    (ONE_WAY, ONE_SIDED, "", "", "yes\n"),
+    (
+        APART,
+        UNLINKED,
+        "ends a#1 b#1\nupper +inf\ninside a\nevent a#1 0.000000000\nevent b#1 0.000000000\nreading a 0 0.000000000\nreading b 0 0.000000000\nlower -inf\ninside b\nevent a#1 0.000000000\nevent b#1 0.000000000\nreading a 0 0.000000000\nreading b 0 0.000000000\nend\n",
+        "ends a#1 a#1\nupper 0.000000000\nevent a#1 0.000000000\nevent b#1 0.000000000\nreading a 0 0.000000000\nreading b 0 0.000000000\nlower 0.000000000\nevent a#1 0.000000000\nevent b#1 0.000000000\nreading a 0 0.000000000\nreading b 0 0.000000000\nend\n",
+        "yes\n",
+    ),
+];
+
+// Certificates with a change, and why they do not show what they should.
+pub(crate) const NOT_ACCEPTED: [(&str, &str, &str, &str, &str); 46] = [
+    (
+        TWO_LOGS,
+        PROVED,
+        "20.000000000\nevent",
+        "20.000000001\nevent",
+        "no upper weight 1\n",
+    ),
+    (
+        TWO_LOGS,
+        PROVED,
+        "upper 20",
+        "upper 21",
+        "no upper sum 20.000000000\n",
+    ),
+    (
+        TWO_LOGS,
+        PROVED,
+        "step delay-most a#1 b#1 20.000000000\n",
+        "",
+        "no upper join 1\n",
+    ),
+    (
+        TWO_LOGS,
+        PROVED,
+        "step delay-least a#1 b#1 -10.",
+        "step delay-most a#1 b#1 20.",
+        "no lower join 1\n",
+    ),
+    (
+        TWO_LOGS,
+        PROVED,
+        "event b#1 20.",
+        "event b#1 21.",
+        "no upper broken late b#1 0.000000000 1.000000000\n",
+    ),
+    (
+        TWO_LOGS,
+        PROVED,
+        "event a#1 0.000000000\nevent a#2 80.000000000\nevent b#1 20.000000000\nevent b#2 70.000000000\nreading a 100 0.000000000\nreading a 180 80.000000000\nreading b 250 20.000000000\nreading b 300 70.000000000\n",
+        "event a#1 0.000000000\nevent a#2 80.000000000\nevent b#1 10.000000000\nevent b#2 60.000000000\nreading a 100 0.000000000\nreading a 180 80.000000000\nreading b 250 10.000000000\nreading b 300 60.000000000\n",
+        "no upper difference 10.000000000\n",
+    ),
+    (
+        TWO_LOGS,
+        PROVED,
+        "ends a#1 b#1",
+        "ends b#1 a#1",
+        "no upper join 1\n",
+    ),
+    (
+        TWO_LOGS,
+        PROVED,
+        "ends a#1 b#1",
+        "ends a#1 b#2",
+        "no upper join 1\n",
+    ),
+    (
+        TWO_LOGS,
+        PROVED,
+        "ends a#1 b#1",
+        "ends a#2 b#1",
+        "no upper join 2\n",
+    ),
+    (
+        TWO_LOGS,
+        PROVED,
+        "b#1 20.000000000\nevent",
+        "b#1 20.000000000\nstep late a#1 0.000000000\nevent",
+        "no upper join 3\n",
+    ),
+    (
+        TWO_LOGS,
+        PROVED,
+        "b#1 20.000000000\nevent",
+        "b#1 20.000000000\nstep early a#1 0.000000000\nevent",
+        "no upper join 2\n",
+    ),
+    (
+        TWO_LOGS,
+        PROVED,
+        "step delay-most a#1 b#1 20.",
+        "step delay-most b#2 a#2 21.",
+        "no upper join 1\n",
+    ),
+    (
+        TWO_LOGS,
+        PROVED,
+        "step delay-most a#1 b#1 20.",
+        "step delay-least a#1 b#1 -10.",
+        "no upper join 1\n",
+    ),
+    (
+        TWO_LOGS,
+        PROVED,
+        "lower 10",
+        "lower 9",
+        "no lower sum -10.000000000\n",
+    ),
+    (
+        TWO_LOGS,
+        PROVED,
+        "lower 10",
+        "lower -10",
+        "no lower sum -10.000000000\n",
+    ),
+    (
+        TWO_LOGS,
+        PROVED,
+        "-10.000000000\nevent",
+        "-10.000000001\nevent",
+        "no lower weight 1\n",
+    ),
+    (
+        TWO_LOGS,
+        PROVED,
+        "event a#1 0.000000000\nevent a#2 80.000000000\nevent b#1 10.000000000\nevent b#2 60.000000000\nreading a 100 0.000000000\nreading a 180 80.000000000\nreading b 250 10.000000000\nreading b 300 60.000000000\n",
+        "event a#1 0.000000000\nevent a#2 80.000000000\nevent b#1 20.000000000\nevent b#2 70.000000000\nreading a 100 0.000000000\nreading a 180 80.000000000\nreading b 250 20.000000000\nreading b 300 70.000000000\n",
+        "no lower difference 20.000000000\n",
+    ),
+    (
+        TWO_LOGS,
+        PROVED,
+        "event b#2 60.",
+        "event b#2 61.",
+        "no lower broken late b#2 0.000000000 1.000000000\n",
+    ),
+    (
+        TWO_LOGS,
+        PROVED,
+        "step delay-least a#1 b#1 -10.000000000\n",
+        "",
+        "no lower join 1\n",
+    ),
+    (
+        TWO_LOGS,
+        PROVED,
+        "-10.000000000\nevent",
+        "-10.000000000\nstep early a#1 0.000000000\nevent",
+        "no lower join 3\n",
+    ),
+    (
+        TWO_LOGS,
+        RUN,
+        "reading b 250 10.",
+        "reading b 250 11.",
+        "no run broken span-least b 250 300 -50.000000000 -49.000000000\n",
+    ),
+    (
+        TWO_LOGS,
+        RUN,
+        "run\nevent a#1 0.000000000\nevent a#2 80.000000000\nevent b#1 10.000000000\nevent b#2 60.000000000\nreading a 100 0.000000000\nreading a 180 80.000000000\nreading b 250 10.000000000\nreading b 300 60.000000000\n",
+        "run\nevent a#1 0.000000000\nevent a#2 80.000000000\nevent b#1 21.000000000\nevent b#2 71.000000000\nreading a 100 0.000000000\nreading a 180 80.000000000\nreading b 250 21.000000000\nreading b 300 71.000000000\n",
+        "no run broken delay-most a#1 b#1 20.000000000 21.000000000\n",
+    ),
+    (
+        TWO_LOGS,
+        RUN,
+        "run\nevent a#1 0.000000000\nevent a#2 80.000000000\nevent b#1 10.000000000\nevent b#2 60.000000000\nreading a 100 0.000000000\nreading a 180 80.000000000\nreading b 250 10.000000000\nreading b 300 60.000000000\n",
+        "cycle\nstep late a#1 0.000000000\nstep early a#1 0.000000000\n",
+        "no cycle sum 0.000000000\n",
+    ),
+    (
+        TWO_LOGS,
+        RUN,
+        "run\nevent a#1 0.000000000\nevent a#2 80.000000000\nevent b#1 10.000000000\nevent b#2 60.000000000\nreading a 100 0.000000000\nreading a 180 80.000000000\nreading b 250 10.000000000\nreading b 300 60.000000000\n",
+        "cycle\nstep late a#1 0.000000001\nstep late a#1 0.000000000\n",
+        "no cycle weight 1\n",
+    ),
+    (
+        TWO_LOGS,
+        RUN,
+        "run\nevent a#1 0.000000000\nevent a#2 80.000000000\nevent b#1 10.000000000\nevent b#2 60.000000000\nreading a 100 0.000000000\nreading a 180 80.000000000\nreading b 250 10.000000000\nreading b 300 60.000000000\n",
+        "cycle\nstep late a#1 0.000000000\n",
+        "no cycle join 1\n",
+    ),
+    (
+        CONTRADICTING,
+        CYCLE,
+        "step delay-most a#1 b#1 20.000000000\nstep early b#1 0.000000000\nstep span-most b 250 300 50.000000000\nstep late b#2 0.000000000\nstep delay-most b#2 a#2 20.000000000\nstep early a#2 0.000000000\nstep span-least a 100 195 -95.000000000\nstep late a#1 0.000000000\n",
+        "",
+        "no cycle empty\n",
+    ),
+    (
+        CONTRADICTING,
+        CYCLE,
+        "step late a#1 0.000000000\n",
+        "",
+        "no cycle join 7\n",
+    ),
+    (
+        CONTRADICTING,
+        CYCLE,
+        "-95.000000000",
+        "-94.000000000",
+        "no cycle weight 7\n",
+    ),
+    (
+        CONTRADICTING,
+        CYCLE,
+        "step early b#1 0.000000000\n",
+        "",
+        "no cycle join 1\n",
+    ),
+    (
+        CONTRADICTING,
+        CYCLE,
+        "step delay-most a#1 b#1 20.000000000\n",
+        "",
+        "no cycle join 7\n",
+    ),
+    (
+        CONTRADICTING,
+        CYCLE,
+        "step early b#1 0.000000000\n",
+        "step early b#1 0.000000000\nstep late b#1 0.000000000\n",
+        "no cycle join 3\n",
+    ),
+    (
+        CONTRADICTING,
+        CYCLE,
+        "span-least a 100 195 -95",
+        "span-most a 100 195 95",
+        "no cycle join 6\n",
+    ),
+    (APART, UNLINKED, "inside a\n", "", "no upper home\n"),
+    (
+        APART,
+        UNLINKED,
+        "inside a\n",
+        "inside a\ninside b\n",
+        "no upper away\n",
+    ),
+    (
+        APART,
+        UNLINKED,
+        "inside a\n",
+        "inside b\n",
+        "no upper home\n",
+    ),
+    (APART, UNLINKED, "inside b\n", "", "no lower home\n"),
+    (
+        APART,
+        UNLINKED,
+        "inside b\n",
+        "inside a\ninside b\n",
+        "no lower away\n",
+    ),
+    (
+        APART,
+        UNLINKED,
+        "event b#1 0.",
+        "event b#1 1.",
+        "no upper broken late b#1 0.000000000 1.000000000\n",
+    ),
+    (
+        APART,
+        UNLINKED,
+        "ends a#1 b#1",
+        "ends b#1 a#1",
+        "no upper home\n",
+    ),
+    (
+        APART,
+        UNLINKED,
+        "ends a#1 b#1",
+        "ends a#1 a#1",
+        "no upper away\n",
+    ),
+    (
+        APART,
+        UNLINKED,
+        "upper +inf\ninside a\n",
+        "upper 0.000000000\n",
+        "no upper join 1\n",
+    ),
+    (
+        ONE_WAY,
+        ONE_SIDED,
+        "lower 1.000000000\nstep delay-least p q -1.000000000\n",
+        "lower -inf\ninside d\n",
+        "no lower leaves delay-least p q\n",
+    ),
+    (
+        ONE_WAY,
+        ONE_SIDED,
+        "event q 1.",
+        "event q 2.",
+        "no upper broken late q 0.000000000 1.000000000\n",
+    ),
+    (
+        ONE_WAY,
+        ONE_SIDED,
+        "inside c\n",
+        "inside c\ninside d\n",
+        "no upper away\n",
+    ),
+    (OPEN, TURNED, "", "", "no upper leaves delay-least p q\n"),
+    (
+        APART,
+        UNLINKED,
+        "ends a#1 b#1\nupper +inf\ninside a\nevent a#1 0.000000000\nevent b#1 0.000000000\nreading a 0 0.000000000\nreading b 0 0.000000000\nlower -inf\ninside b\nevent a#1 0.000000000\nevent b#1 0.000000000\nreading a 0 0.000000000\nreading b 0 0.000000000\nend\n",
+        "ends a#1 a#1\nupper 1.000000000\nevent a#1 0.000000000\nevent b#1 0.000000000\nreading a 0 0.000000000\nreading b 0 0.000000000\nlower 0.000000000\nevent a#1 0.000000000\nevent b#1 0.000000000\nreading a 0 0.000000000\nreading b 0 0.000000000\nend\n",
+        "no upper sum 0.000000000\n",
+    ),
+];
+
+// Certificates with a change, and how their texts are refused.
+pub(crate) const REFUSED: [(&str, &str, &str, &str, &str); 29] = [
+    (
+        TWO_LOGS,
+        PROVED,
+        "certificate 1",
+        "certificate 2",
+        "certificate 1 1\n",
+    ),
+    (
+        TWO_LOGS,
+        PROVED,
+        "ends a#1 b#1",
+        "ends a#1 b#9",
+        "certificate 2 2\n",
+    ),
+    (
+        TWO_LOGS,
+        PROVED,
+        "ends a#1 b#1",
+        "ends a#1  b#1",
+        "certificate 1 2\n",
+    ),
+    (
+        TWO_LOGS,
+        PROVED,
+        "upper 20",
+        "upper 020",
+        "certificate 1 3\n",
+    ),
+    (
+        TWO_LOGS,
+        PROVED,
+        "upper 20.000000000",
+        "upper +inf",
+        "certificate 1 4\n",
+    ),
+    (TWO_LOGS, PROVED, "upper", "lower", "certificate 1 3\n"),
+    (
+        TWO_LOGS,
+        PROVED,
+        "delay-most a#1 b#1",
+        "delay-most b#1 a#1",
+        "certificate 2 4\n",
+    ),
+    (
+        TWO_LOGS,
+        PROVED,
+        "step delay-most",
+        "step delay-some",
+        "certificate 1 4\n",
+    ),
+    (
+        TWO_LOGS,
+        PROVED,
+        "b#1 20.000000000\nevent",
+        "b#1 1329227995784915872903807060.280344577\nevent",
+        "certificate 3 4\n",
+    ),
+    (
+        TWO_LOGS,
+        PROVED,
+        "event a#1 0.000000000\n",
+        "",
+        "certificate 2 5\n",
+    ),
+    (
+        TWO_LOGS,
+        PROVED,
+        "event a#1",
+        "event a#2",
+        "certificate 2 5\n",
+    ),
+    (
+        TWO_LOGS,
+        PROVED,
+        "reading a 180",
+        "reading a 181",
+        "certificate 2 10\n",
+    ),
+    (
+        TWO_LOGS,
+        PROVED,
+        "reading a 180 80.000000000\n",
+        "",
+        "certificate 2 10\n",
+    ),
+    (
+        TWO_LOGS,
+        PROVED,
+        "lower 10",
+        "upper 10",
+        "certificate 1 13\n",
+    ),
+    (TWO_LOGS, PROVED, "end\n", "", "certificate 1 23\n"),
+    (
+        TWO_LOGS,
+        PROVED,
+        "end\n",
+        "end\nend\n",
+        "certificate 1 24\n",
+    ),
+    (
+        TWO_LOGS,
+        PROVED,
+        "step delay-least",
+        "inside a\nstep delay-least",
+        "certificate 1 14\n",
+    ),
+    (
+        TWO_LOGS,
+        PROVED,
+        "reading b 300 60.000000000\nend",
+        "reading b 300 60.000000000\nevent a#1 0.000000000\nend",
+        "certificate 1 23\n",
+    ),
+    (
+        TWO_LOGS,
+        PROVED,
+        "step delay-most a#1 b#1",
+        "step span-most a 180 100",
+        "certificate 2 4\n",
+    ),
+    (
+        TWO_LOGS,
+        PROVED,
+        "step delay-most a#1 b#1",
+        "step span-most a 100 181",
+        "certificate 2 4\n",
+    ),
+    (
+        TWO_LOGS,
+        PROVED,
+        "step delay-most a#1 b#1",
+        "step span-most c 100 180",
+        "certificate 2 4\n",
+    ),
+    (
+        TWO_LOGS,
+        PROVED,
+        "step delay-most a#1 b#1 20.000000000",
+        "step late b#9 0",
+        "certificate 1 4\n",
+    ),
+    (
+        TWO_LOGS,
+        PROVED,
+        "step delay-most a#1 b#1 20.000000000",
+        "step late b#9 0.000000000",
+        "certificate 2 4\n",
+    ),
+    (
+        TWO_LOGS,
+        PROVED,
+        "upper 20.000000000",
+        "upper 1329227995784915872903807060.280344577",
+        "certificate 3 3\n",
+    ),
+    (
+        APART,
+        UNLINKED,
+        "inside a\n",
+        "inside b\ninside a\n",
+        "certificate 2 5\n",
+    ),
+    (
+        APART,
+        UNLINKED,
+        "inside a\n",
+        "inside a\ninside a\n",
+        "certificate 2 5\n",
+    ),
+    (
+        APART,
+        UNLINKED,
+        "inside a\n",
+        "inside c\n",
+        "certificate 2 4\n",
+    ),
+    (
+        OPEN,
+        TURNED,
+        "inside d\n",
+        "step late q 0.000000000\n",
+        "certificate 1 4\n",
+    ),
+    (
+        OPEN,
+        TURNED,
+        "upper +inf\ninside d\n",
+        "upper 0.000000000\nstep delay-most p q 0.000000000\n",
+        "certificate 2 4\n",
+    ),
+];
