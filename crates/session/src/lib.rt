@@ -24,6 +24,8 @@ pub use queries::Stop;
 pub use session::Session;
 
 #[cfg(test)]
+mod cut_tests;
+#[cfg(test)]
 mod query_tests;
 #[cfg(test)]
 mod tests;

@@ -19,17 +19,17 @@ const NOTHING: &str = "added events 0 messages 0 withdrawn 0 pending 0 consisten
 
 const ONE: &str = "added events 1 messages 0 withdrawn 0 pending 0 consistent\n";
 
-const SECOND: &str = "added events 2 messages 2 withdrawn 0 pending 0 consistent\n";
+pub(crate) const SECOND: &str = "added events 2 messages 2 withdrawn 0 pending 0 consistent\n";
 
 // The same two hosts with a capture each.
-const TWO_CAPTURES: &str =
+pub(crate) const TWO_CAPTURES: &str =
     "[hosts.a]\naddresses = [\"10.0.0.1\"]\n[hosts.b]\naddresses = [\"10.0.0.2\"]\n\
     [labels.a]\nhost = \"a\"\nkind = \"capture\"\n[labels.b]\nhost = \"b\"\nkind = \"capture\"\n\
     [[links]]\nfrom = \"a\"\nto = \"b\"\nleast = 10\nmost = 20\n[[links]]\nfrom = \"b\"\nto = \"a\"\nleast = 10\nmost = 20\n";
 
 // Two records of 28 bytes under a header of little-endian nanoseconds and link type 101: at 100 ns a packet from
 // 10.0.0.1:5000 to 10.0.0.2:6000, at 180 ns one back.
-const CAPTURE_A: [u8; 112] = [
+pub(crate) const CAPTURE_A: [u8; 112] = [
     0x4d, 0x3c, 0xb2, 0xa1, 2, 0, 4, 0, 0, 0, 0, 0, 0, 0, 0, 0, 0, 0, 4, 0, 101, 0, 0, 0, //
     0, 0, 0, 0, 100, 0, 0, 0, 28, 0, 0, 0, 28, 0, 0, 0, //
     0x45, 0, 0, 0x1c, 0, 7, 0, 0, 0x40, 0x11, 0, 0, 10, 0, 0, 1, 10, 0, 0, 2, 0x13, 0x88, 0x17,
@@ -40,7 +40,7 @@ const CAPTURE_A: [u8; 112] = [
 ];
 
 // The same packets at 250 ns and 300 ns.
-const CAPTURE_B: [u8; 112] = [
+pub(crate) const CAPTURE_B: [u8; 112] = [
     0x4d, 0x3c, 0xb2, 0xa1, 2, 0, 4, 0, 0, 0, 0, 0, 0, 0, 0, 0, 0, 0, 4, 0, 101, 0, 0, 0, //
     0, 0, 0, 0, 250, 0, 0, 0, 28, 0, 0, 0, 28, 0, 0, 0, //
     0x45, 0, 0, 0x1c, 0, 7, 0, 0, 0x40, 0x11, 0, 0, 10, 0, 0, 1, 10, 0, 0, 2, 0x13, 0x88, 0x17,
