@@ -88,16 +88,6 @@ fn new_row(alloc: Global, nodes: u32) -> Result<Vec<Cell>, AllocError>
     vec![in alloc; Cell::unknown(); nodes as usize]
 }
 
-// An empty frontier with room for so many nodes.
-fn room_for(alloc: Global, nodes: u32) -> Result<Frontier, AllocError>
-    ensures empty { IfOk result (λ front. IsEmpty front) }
-    ensures room { IfOk result (λ front. nodes ≤ length front) }
-{
-    let mut front = Frontier::new(alloc);
-    front.reserve(nodes)?;
-    Ok(front)
-}
-
 // Writes the certificate of two events, by rows that are made in these.
 fn certify(
     p: &Problem,
@@ -140,7 +130,7 @@ fn certify_solved(
     requires first { first < length p.now.events }
     requires second { second < length p.now.events }
 {
-    let mut front = room_for(alloc, g.nodes())?;
+    let mut front = Frontier::with_room(alloc, g.nodes())?;
     let mut from = new_row(alloc, g.nodes())?;
     let mut to = new_row(alloc, g.nodes())?;
     certify(p, g, e, first, second, &mut from, &mut to, &mut front, out);

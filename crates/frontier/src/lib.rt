@@ -6,7 +6,7 @@ mod order;
 #[cfg(test)]
 mod tests;
 
-ghost use Rattle.std.specs.Prelude.{◌≡◌, ◌+◌, ◌-◌, ◌<◌, ◌≤◌, ◌^◌, [], ◌++◌, length, replicate, IfNone, IfSome, OnOk, OnErr, List, ℤ, ◌≤ℤ◌, slice_set, slice_index_or, Option, Some, None};
+ghost use Rattle.std.specs.Prelude.{◌≡◌, ◌+◌, ◌-◌, ◌<◌, ◌≤◌, ◌^◌, [], ◌++◌, length, replicate, IfNone, IfSome, IfOk, OnOk, OnErr, List, ℤ, ◌≤ℤ◌, slice_set, slice_index_or, Option, Some, None};
 ghost use Rattle.frontier.specs.Keys.{Waits, IsFree, IsEmpty, IsLeastEntry};
 
 use heap::{remove_root, sift_up};
@@ -47,6 +47,16 @@ impl Frontier {
             heap: Vec::new(alloc),
             places: Vec::new(alloc),
         }
+    }
+
+    /// Nothing waits, and there is room for so many nodes. An `Err` comes only if memory does not suffice.
+    pub fn with_room(alloc: Global, nodes: u32) -> Result<Frontier, AllocError>
+        ensures empty { IfOk result (λ front. IsEmpty front) }
+        ensures room { IfOk result (λ front. length front ≡ nodes) }
+    {
+        let mut front = Frontier::new(alloc);
+        front.reserve(nodes)?;
+        Ok(front)
     }
 
     /// Grows the room to `nodes`, if it is less. What waits goes on waiting. An `Err` comes only if memory does not

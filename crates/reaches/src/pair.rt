@@ -9,7 +9,7 @@ ghost use Rattle.intervals.specs.Executions.{IsPairOf};
 ghost use Rattle.solver.specs.Solution.{IsSolved};
 ghost use Rattle.row_pool.specs.Reach.{reach_of};
 
-use crate::room::{new_row, room_for};
+use crate::room::new_row;
 use distances::{row_from, row_to};
 use earliest::Earliest;
 use frontier::Frontier;
@@ -71,7 +71,7 @@ pub(crate) fn pair_between(
         → IfOk result (IsPairOf p.now m n) }
     ensures fits { IfOk result FitsPair }
 {
-    let mut front = room_for(alloc, g.nodes())?;
+    let mut front = Frontier::with_room(alloc, g.nodes())?;
     let mut row = new_row(alloc, g.nodes())?;
     Ok(pair_in(p, g, e, from, to, &mut row, &mut front))
 }

@@ -6,9 +6,10 @@ ghost use Rattle.sync_graph.specs.Graph.{table_of};
 ghost use Rattle.row_pool.specs.Row.{cells_of};
 ghost use Rattle.solver.specs.Solution.{IsSolved};
 
-use crate::room::{new_row, room_for};
+use crate::room::new_row;
 use distances::{row_from, row_to};
 use earliest::Earliest;
+use frontier::Frontier;
 use problem::Problem;
 use row_pool::Cell;
 use std::alloc::{AllocError, Global};
@@ -40,7 +41,7 @@ pub fn rows_of(
     ensures cells_to { IfOk result (λ rows. length g.now.nodes ≤ length rows.to.items) }
 {
     let _ = p.readings();
-    let mut front = room_for(alloc, g.nodes())?;
+    let mut front = Frontier::with_room(alloc, g.nodes())?;
     let mut from = new_row(alloc, g.nodes())?;
     let mut to = new_row(alloc, g.nodes())?;
     row_from(g, e, event, &mut from, &mut front);

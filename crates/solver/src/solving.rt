@@ -22,16 +22,6 @@ fn zeros(alloc: Global, nodes: u32) -> Result<Earliest, AllocError>
     Ok(e)
 }
 
-// An empty frontier with room for so many nodes.
-fn room_for(alloc: Global, nodes: u32) -> Result<Frontier, AllocError>
-    ensures empty { IfOk result (λ front. IsEmpty front) }
-    ensures room { IfOk result (λ front. length front ≡ nodes) }
-{
-    let mut front = Frontier::new(alloc);
-    front.reserve(nodes)?;
-    Ok(front)
-}
-
 /// Finds the earliest execution of a problem, or a contradiction where it has none. It answers an error only where
 /// memory runs out.
 pub fn solve(alloc: Global, p: &Problem) -> Result<Solution, AllocError>
@@ -43,7 +33,7 @@ pub fn solve(alloc: Global, p: &Problem) -> Result<Solution, AllocError>
     g.exact();
     let order = insertion_order(alloc, p, &g)?;
     let mut e = zeros(alloc, g.nodes())?;
-    let mut front = room_for(alloc, g.nodes())?;
+    let mut front = Frontier::with_room(alloc, g.nodes())?;
     match e.rebuild_in_order(&g, &order, &mut front)? {
         Inserted::Kept => Ok(Solution::Execution(g, e)),
         Inserted::Negative(steps) => Ok(Solution::Contradiction(steps)),

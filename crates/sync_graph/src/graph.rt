@@ -187,8 +187,8 @@ impl Graph {
         Some(number as u32)
     }
 
-    /// The nodes of the nearest readings of a clock strictly below and strictly above a stamp; None exactly where there
-    /// is none. It looks at each node once.
+    /// The nodes of the nearest readings of a clock strictly below and strictly above a stamp, each None exactly where there
+    /// is none.
     pub fn neighbours(&self, clock: u32, stamp: Nano) -> (Option<u32>, Option<u32>)
         ensures below { IsNearestBelow self.now.nodes clock stamp result.0 }
         ensures above { IsNearestAbove self.now.nodes clock stamp result.1 }
