@@ -1,17 +1,7 @@
--- Words that are appended one by one, and what stands at a place of two lists in a row.
+-- What stands at a place of two lists in a row.
 use Rattle.std.proofs.Common.{◌≡◌, ◌<◌, ◌+◌, List, [], ◌∷◌, ◌++◌, ℕ, zero, suc, length, map, slice_get, Some, Result, Ok, Err, refl, sym, ◌∙◌, ap, arith, append_assoc}
 use Rattle.std.specs.Prelude.{OnOk, OnErr}
 use Rattle.std.specs.List.{slice_index_or}
-use Rattle.line_format.specs.Words.{words}
-
-words_push : (first : List ℕ) (ws : List (List ℕ)) (w : List ℕ) → words (first ∷ ws ++ w ∷ []) ≡ words (first ∷ ws) ++ 32 ∷ w
-words_push first [] w = refl
-words_push first (v ∷ ws) w =
-    ap (λ (rest : List ℕ). first ++ 32 ∷ rest) (words_push v ws w) ∙ sym (append_assoc first (32 ∷ words (v ∷ ws)) (32 ∷ w))
-
-pub words_more : (first : List ℕ) (ws : List (List ℕ)) (w : List ℕ) (line : List ℕ) → line ≡ words (first ∷ ws) → (line ++ 32 ∷ []) ++ w ≡ words (first ∷ ws ++ w ∷ [])
-words_more first ws w line is =
-    append_assoc line (32 ∷ []) w ∙ ap (λ (l : List ℕ). l ++ 32 ∷ w) is ∙ sym (words_push first ws w)
 
 -- a name that is looked up is the name at that place
 pub name_found : (names : List (List ℕ)) (k : ℕ) (name : List ℕ) → slice_get names k ≡ Some name → name ≡ slice_index_or names k []

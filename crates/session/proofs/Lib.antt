@@ -1,6 +1,5 @@
 pub mod Asking
 pub mod OneCommand
-pub mod Composing
 pub mod Holding
 pub mod Naming
 pub mod Replying

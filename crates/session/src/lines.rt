@@ -7,7 +7,7 @@ ghost use Rattle.queries.specs.declared.stop.Stop.TheVariants as stops;
 ghost use Rattle.session.specs.Reply.{added_line, refusal, state_word};
 ghost use Rattle.session.specs.Inside.{row_line};
 
-use atto::{NsText, write_decimal};
+use line_words::{push_decimal, push_word};
 use ports::{Sink, write_whole};
 use queries::Stop;
 use std::alloc::{AllocError, Global};
@@ -25,24 +25,6 @@ pub(crate) struct Added {
     pub(crate) pending: u64,
     /// Whether some execution obeys all bounds.
     pub(crate) consistent: bool,
-}
-
-// Appends a word behind a space.
-fn push_word(line: &mut Vec<u8>, word: &[u8]) -> Result<(), AllocError>
-    ensures { (first : List ℕ) (ws : List (List ℕ)) → line.old.items ≡ words (first ∷ ws) → OnOk result (line.new.items ≡ words (first ∷ ws ++ word.now ∷ [])) }
-{
-    line.push(b' ')?;
-    line.extend_from_slice(word)?;
-    Ok(())
-}
-
-// Appends a decimal behind a space.
-fn push_decimal(line: &mut Vec<u8>, number: u64) -> Result<(), AllocError>
-    ensures { (first : List ℕ) (ws : List (List ℕ)) → line.old.items ≡ words (first ∷ ws) → OnOk result (line.new.items ≡ words (first ∷ ws ++ decimal_of number ∷ [])) }
-{
-    let mut text = NsText::new();
-    write_decimal(number, &mut text);
-    push_word(line, text.as_slice())
 }
 
 // Appends a word and a decimal.

@@ -10,20 +10,12 @@ ghost use Rattle.trace_report.specs.KeyTexts.{endpoint, key_text, payload_word, 
 use crate::spelling::{push_decimal, push_endpoint, push_payload};
 use event_log::WordKey;
 use ip_headers::PacketKey;
+use line_words::push_word;
 use std::alloc::{AllocError, Global};
 use trace_event::Key;
 
 // The number of TCP among the protocols over IPv4 (RFC 9293).
 const TCP: u8 = 6;
-
-// Appends a word behind a space.
-fn push_word(text: &mut Vec<u8>, word: &[u8]) -> Result<(), AllocError>
-    ensures { (first : List ℕ) (ws : List (List ℕ)) → text.old.items ≡ words (first ∷ ws) → OnOk result (text.new.items ≡ words (first ∷ ws ++ word.now ∷ [])) }
-{
-    text.push(b' ')?;
-    text.extend_from_slice(word)?;
-    Ok(())
-}
 
 // Appends an address with its port behind a space.
 fn push_end(text: &mut Vec<u8>, address: u32, port: u16) -> Result<(), AllocError>

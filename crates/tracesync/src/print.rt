@@ -13,37 +13,13 @@ ghost use Rattle.tracesync.specs.Sessions.{section_word, declaration_line};
 ghost use Rattle.tracesync.specs.Verify.{part_word, broken_words, reason_words, no_line};
 
 use crate::refusal::Refusal;
-use atto::{Nano, NsText, write_decimal, write_ns};
+use atto::{Nano, NsText, write_ns};
 use cert_check::{Part, Reason};
 use decl::Section;
 use intervals::{End, Ends, Order};
+use line_words::{push_decimal, push_ns, push_word};
 use problem::{Bound, Problem};
 use std::alloc::{AllocError, Global};
-
-// Appends a word behind a space.
-fn push_word(line: &mut Vec<u8>, word: &[u8]) -> Result<(), AllocError>
-    ensures { (first : List ℕ) (ws : List (List ℕ)) → line.old.items ≡ words (first ∷ ws) → OnOk result (line.new.items ≡ words (first ∷ ws ++ word.now ∷ [])) }
-{
-    line.push(b' ')?;
-    line.extend_from_slice(word)?;
-    Ok(())
-}
-
-fn push_decimal(line: &mut Vec<u8>, number: u64) -> Result<(), AllocError>
-    ensures { (first : List ℕ) (ws : List (List ℕ)) → line.old.items ≡ words (first ∷ ws) → OnOk result (line.new.items ≡ words (first ∷ ws ++ decimal_of number ∷ [])) }
-{
-    let mut text = NsText::new();
-    write_decimal(number, &mut text);
-    push_word(line, text.as_slice())
-}
-
-fn push_ns(line: &mut Vec<u8>, units: i128) -> Result<(), AllocError>
-    ensures { (first : List ℕ) (ws : List (List ℕ)) → line.old.items ≡ words (first ∷ ws) → OnOk result (line.new.items ≡ words (first ∷ ws ++ ns_text units ∷ [])) }
-{
-    let mut text = NsText::new();
-    write_ns(units, &mut text);
-    push_word(line, text.as_slice())
-}
 
 fn push_event_name(line: &mut Vec<u8>, p: &Problem, event: u32) -> Result<(), AllocError>
     ensures { (first : List ℕ) (ws : List (List ℕ)) → line.old.items ≡ words (first ∷ ws) → OnOk result (line.new.items ≡ words (first ∷ ws ++ event_name p.now.events event ∷ [])) }

@@ -1,5 +1,5 @@
 use Rattle.std.proofs.Common.{◌++◌, ◌∙◌, ap, ℕ, List}
-use Rattle.cert.proofs.Lines.{words_more}
+use Rattle.line_words.proofs.Composing.{words_more}
 use Rattle.cert.proofs.line.push_word.Goals as goal
 
 pub returns-clause-appended : goal.returns-clause-appended

@@ -1,6 +1,6 @@
 use Rattle.std.proofs.Common.{◌∷◌, [], ◌++◌}
 use Rattle.atto.specs.Decimal.{decimal_of}
-use Rattle.session.proofs.Composing.{two_more}
+use Rattle.line_words.proofs.Composing.{two_more}
 use Rattle.session.proofs.lines.push_count.Goals as goal
 
 pub returns : goal.returns

@@ -1,6 +1,6 @@
 use Rattle.std.proofs.Common.{◌++◌, ◌∙◌, ap, ℕ, List}
 use Rattle.trace_report.specs.KeyTexts.{endpoint}
-use Rattle.trace_report.proofs.Composing.{words_more}
+use Rattle.line_words.proofs.Composing.{words_more}
 use Rattle.trace_report.proofs.texts.push_end.Goals as goal
 
 pub returns : goal.returns

@@ -1,7 +1,0 @@
-use Rattle.std.proofs.Common.{◌++◌, ◌∙◌, ap, ℕ, List}
-use Rattle.trace_report.proofs.Composing.{words_more}
-use Rattle.trace_report.proofs.texts.push_word.Goals as goal
-
-pub returns : goal.returns
-returns c = λ first ws is.
-    c.in_ok-extend_from_slice.ensures.items ∙ ap (λ (l : List ℕ). l ++ c.args.word.now) c.in_ok-push.ensures.items ∙ words_more first ws c.args.word.now c.args.text.now.items is
