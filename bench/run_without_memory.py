@@ -3,13 +3,14 @@
 
     run_without_memory.py
 
-Each command runs over files of examples/, first with all memory, and then with the first, the second, .. request refused, until
-a run makes no more of them. A run with a refused request must end with status 9 and print a front of the whole output, or end and
+Each command runs over files of examples/, and each of some sessions over files that are made here, first with all memory, and then
+with the first, the second, .. request refused, until a run makes no more of them. A run with a refused request must end with status 9 and print a front of the whole output, or end and
 print as if nothing had been refused. TRACESYNC names another program to run than crates/tracesync/out/tracesync.
 """
 import os
 import subprocess
 import sys
+import tempfile
 
 TOP = os.path.dirname(os.path.dirname(os.path.abspath(__file__)))
 PROGRAM = os.environ.get("TRACESYNC", f"{TOP}/crates/tracesync/out/tracesync")
@@ -29,13 +30,72 @@ COMMANDS = [
 ]
 
 
-def run(words, script, number):
+QUESTIONS = ["interval a#1 b#1", "order a#1 b#1", "merge", "problem", "prove a#1 b#1", "report", "time a#1"]
+
+
+def declaration(kind, first="", second=""):
+    """Returns two hosts with a label each, the first of which is the source, and links of 10 to 20 ns."""
+    hosts = "".join(f'[hosts.{it}]\n{more}[labels.{it}]\nhost = "{it}"\nkind = "{kind}"\n' for it, more in (("a", first), ("b", second)))
+    links = "".join(f'[[links]]\nfrom = "{one}"\nto = "{other}"\nleast = 10\nmost = 20\n' for one, other in ("ab", "ba"))
+    return f'source = "a"\n{hosts}{links}'.encode()
+
+
+def logs(second_receive):
+    """Returns the files of two logs with a message each way, of a second send, and their declaration."""
+    return {
+        "hosts.toml": declaration("log"),
+        "a.csv": f"100,send,m1,\n{second_receive},receive,m2,\n".encode(),
+        "b.csv": b"250,receive,m1,\n300,send,m2,\n",
+        "c.csv": b"200,send,m1,\n",
+    }
+
+
+def captures(cut):
+    """Returns the files of two captures with the same messages, as datagrams; that of a is cut into two."""
+    head = bytes.fromhex("4d3cb2a102000400000000000000000000000400") + (101).to_bytes(4, "little")
+    one = bytes.fromhex("4500001c00070000401100000a0000010a000002138817700008" "0000")
+    other = bytes.fromhex("4500001c00080000401100000a0000020a000001177013880008" "0000")
+    record = lambda stamp, packet: b"".join(it.to_bytes(4, "little") for it in (0, stamp, 28, 28)) + packet
+    whole = head + record(100, one) + record(180, other)
+    return {
+        "hosts.toml": declaration("capture", 'addresses = ["10.0.0.1"]\n', 'addresses = ["10.0.0.2"]\n'),
+        "front": whole[:cut],
+        "rest": whole[cut:],
+        "b": head + record(250, one) + record(300, other),
+    }
+
+
+SESSIONS = [
+    ("two logs", logs(180), ["add a a.csv", "add b b.csv"] + QUESTIONS),
+    ("a second send", logs(190), ["add a a.csv", "add b b.csv", "add a c.csv"] + QUESTIONS),
+    ("a contradiction", logs(195), ["add a a.csv", "add b b.csv"] + QUESTIONS),
+] + [(f"a capture cut at {cut}", captures(cut), ["add a front", "add a rest", "add b b"] + QUESTIONS) for cut in (10, 24, 67, 90, 112)]
+
+
+def run(words, source, folder, number):
     environment = dict(os.environ)
     if number:
         environment |= {"LD_PRELOAD": f"{TOP}/bench/out/fail_memory.so", "FAIL_MEMORY": str(number)}
-    with open(f"{TOP}/{script}" if script else os.devnull, "rb") as source:
-        done = subprocess.run([PROGRAM] + words, stdin=source, capture_output=True, cwd=TOP, env=environment)
+    done = subprocess.run([PROGRAM] + words, input=source, capture_output=True, cwd=folder, env=environment)
     return done.returncode, done.stdout
+
+
+def refuse_each(title, words, source, folder):
+    """Refuses one request after another, and prints how many there were."""
+    whole = run(words, source, folder, 0)
+    if whole[0] not in (0, 1) or b"refused" in whole[1]:
+        sys.exit(f"{title}: {whole}")
+    number, refused, spared = 0, 0, 0
+    while spared < 40:
+        number += 1
+        status, printed = run(words, source, folder, number)
+        if (status, printed) == whole:
+            spared += 1
+        elif status == 9 and whole[1].startswith(printed):
+            refused, spared = refused + 1, 0
+        else:
+            sys.exit(f"{title}, request {number}: status {status}, {printed!r}")
+    print(f"{title}: {refused} requests refused, status 9 each")
 
 
 def main():
@@ -43,18 +103,17 @@ def main():
     compiler = os.environ.get("CC", "gcc")
     subprocess.run([compiler, "-O2", "-Wall", "-shared", "-fPIC", "-o", f"{TOP}/bench/out/fail_memory.so", f"{TOP}/bench/fail_memory.c", "-ldl"], check=True)
     for words, script in COMMANDS:
-        whole = run(words, script, 0)
-        number, refused, spared = 0, 0, 0
-        while spared < 40:
-            number += 1
-            status, printed = run(words, script, number)
-            if (status, printed) == whole:
-                spared += 1
-            elif status == 9 and whole[1].startswith(printed):
-                refused, spared = refused + 1, 0
-            else:
-                sys.exit(f"{words}, request {number}: status {status}, {printed!r}")
-        print(f"{' '.join(words)}: {refused} requests refused, status 9 each")
+        source = b""
+        if script:
+            with open(f"{TOP}/{script}", "rb") as it:
+                source = it.read()
+        refuse_each(" ".join(words), words, source, TOP)
+    for title, files, lines in SESSIONS:
+        with tempfile.TemporaryDirectory() as folder:
+            for name, content in files.items():
+                with open(f"{folder}/{name}", "wb") as it:
+                    it.write(content)
+            refuse_each(title, ["session", "hosts.toml"], "".join(f"{line}\n" for line in lines).encode(), folder)
 
 
 main()
