@@ -11,6 +11,8 @@ mod print;
 mod refusal;
 mod run;
 #[cfg(test)]
+mod running;
+#[cfg(test)]
 mod session_tests;
 mod sessions;
 mod solve;

@@ -1,6 +1,6 @@
-use crate::run::run;
+use crate::running::status_of;
 use crate::status::Status;
-use ports::{MemFiles, MemSink, MemSource, Words};
+use ports::{MemFiles, MemSink, MemSource};
 use std::alloc::{AllocError, Global};
 use std::test::Fail;
 
@@ -47,21 +47,6 @@ fn files_of(alloc: Global, decl: &str, log: &str, fails: &[u32]) -> Result<MemFi
     files.put("b.csv", b"250,receive,m1,\n300,send,m2,\n")?;
     files.put("d.csv", b"310,send,m2,\n")?;
     Ok(files)
-}
-
-// How a run with these words ends.
-fn status_of(
-    alloc: Global,
-    words: &[&str],
-    files: &mut MemFiles,
-    input: &mut MemSource,
-    out: &mut MemSink,
-) -> Result<Status, AllocError> {
-    let mut all = Words::new(alloc);
-    for word in words {
-        all.push(word)?;
-    }
-    Ok(run(alloc, &all, files, input, out))
 }
 
 // Whether a run ends as the case says. The script comes in pieces of 14 bytes.

@@ -1,7 +1,7 @@
-use crate::run::run;
+use crate::running::status_of;
 use crate::status::Status;
 use atto::{NsText, write_decimal};
-use ports::{MemFiles, MemSink, MemSource, Words};
+use ports::{MemFiles, MemSink, MemSource};
 use std::alloc::{AllocError, Global};
 use std::test::Fail;
 
@@ -14,13 +14,9 @@ fn ends_so(
     status: Status,
     printed: &str,
 ) -> Result<bool, AllocError> {
-    let mut all = Words::new(alloc);
-    for word in words {
-        all.push(word)?;
-    }
     let mut input = MemSource::new(alloc, b"", 1, &[])?;
     let mut out = MemSink::new(alloc, 600, 7, fails)?;
-    let result = run(alloc, &all, files, &mut input, &mut out);
+    let result = status_of(alloc, words, files, &mut input, &mut out)?;
     Ok(result == status && out.bytes() == printed.as_bytes())
 }
 

@@ -1,10 +1,10 @@
 // Certificates that are checked: lawful ones, and what is answered of each change.
-use crate::run::run;
+use crate::running::status_of;
 use crate::status::Status;
 use crate::verify_cases::{
     ACCEPTED, APART, CONTRADICTING, NOT_ACCEPTED, ONE_WAY, OPEN, REFUSED, TWO_LOGS,
 };
-use ports::{MemFiles, MemSink, MemSource, Words};
+use ports::{MemFiles, MemSink, MemSource};
 use std::alloc::{AllocError, Global};
 use std::test::Fail;
 
@@ -38,12 +38,8 @@ fn run_over(
     files: &mut MemFiles,
     out: &mut MemSink,
 ) -> Result<Status, AllocError> {
-    let mut all = Words::new(alloc);
-    for word in words {
-        all.push(word)?;
-    }
     let mut input = MemSource::new(alloc, b"", 1, &[])?;
-    Ok(run(alloc, &all, files, &mut input, out))
+    status_of(alloc, words, files, &mut input, out)
 }
 
 // Whether `verify` over these two texts ends so.
