@@ -1,5 +1,5 @@
 // A session over the lines of a script.
-ghost use Rattle.std.specs.Prelude.{◌≡◌, ◌<◌, ◌≤◌, ℕ, List, [], IfErr, OnOk, false};
+ghost use Rattle.std.specs.Prelude.{◌≡◌, ◌<◌, ◌≤◌, [], IfErr, OnOk, false};
 ghost use Rattle.decl.specs.Declaration.{Declaration, IsDeclaration, declaration_of};
 ghost use Rattle.line_reader.specs.Reader.{fresh, room};
 ghost use Rattle.session.specs.Sessions.{start};

@@ -1,5 +1,5 @@
 -- Events that are accepted under a label.
-use Rattle.std.proofs.Common.{◌≡◌, ◌≢◌, ◌⊎◌, inl, inr, ℕ, zero, suc, ◌+◌, ◌-◌, ◌^◌, ◌<◌, ◌≤◌, List, [], ◌∷◌, ◌++◌, length, map, slice_get, slice_set, Option, Some, None, Bool, true, false, nat_le, option_map, codes, refl, sym, ◌∙◌, ap, subst, arith, MatchBool, length-set}
+use Rattle.std.proofs.Common.{◌≡◌, ◌≢◌, ◌⊎◌, inl, inr, ℕ, zero, suc, ◌+◌, ◌-◌, ◌^◌, ◌<◌, List, [], ◌∷◌, ◌++◌, length, map, slice_get, slice_set, Option, Some, Bool, true, false, nat_le, option_map, codes, refl, sym, ◌∙◌, ap, subst, arith, MatchBool, length-set}
 use Rattle.std.proofs.lemmas.Option.{slice_get-map}
 use Rattle.std.proofs.Math.Seq.{map-set}
 use Rattle.ports.specs.Content.{Appends}
@@ -18,7 +18,7 @@ use Rattle.trace_match.specs.declared.matcher.Changed.{Changed}
 use Rattle.trace_match.specs.Ends.{End, AreEndsOf, IsChange}
 use Rattle.queries.specs.Consistent.{IsConsistent}
 use Rattle.queries.specs.Replies.{AppendsSome}
-use Rattle.session.specs.Reply.{State, AcceptReply, IsAdded, added_line, count_by, messages_by, pending_of, refusal}
+use Rattle.session.specs.Reply.{State, IsAdded, added_line, count_by, messages_by, pending_of, refusal}
 use Rattle.session.specs.Stands.{Held, Under, IsHeld, StandsFor, held_of, under_of, problem_held, seen_held}
 use Rattle.session.specs.Inside.{AcceptAnswered, HasPlace, IsTailWithin, IsAddedTo, IsGrownAt, IsGrownTrace, grown}
 use Rattle.session.proofs.Holding.{count_grown, held_grown, room_by, room_few, seen_accepted, some_same, there_some}

@@ -1,7 +1,7 @@
 -- A line asks for one command at most.
-use Rattle.std.proofs.Common.{◌≡◌, ℕ, List, [], ◌∷◌, Option, Some, None, All, cond, codes, refl, sym, ◌∙◌, ap}
+use Rattle.std.proofs.Common.{◌≡◌, ℕ, List, [], ◌∷◌, Option, Some, None, cond, codes, refl, sym, ◌∙◌, ap}
 use Rattle.std.specs.Str.{bytes_eq}
-use Rattle.session.specs.Commands.{Command, Add, Interval, Order, Time, Merge, Prove, Problem, Report, IsWord, command_words, Asks}
+use Rattle.session.specs.Commands.{Command, Add, Interval, Order, Time, Merge, Prove, Problem, Report, command_words, Asks}
 use Rattle.session.proofs.Asking.{told, command_told}
 
 -- the command that has these words

@@ -1,5 +1,5 @@
 -- Replies of a session that stands for traces.
-use Rattle.std.proofs.Common.{◌≡◌, ◌⊎◌, inl, inr, ℕ, ◌≤◌, List, [], ◌∷◌, length, map, Option, Some, None, Bool, Result, Ok, Err, OnOk, IfOk, IfSome, true, codes, nat_le, refl, sym, ◌∙◌, ap, subst, arith}
+use Rattle.std.proofs.Common.{◌≡◌, ◌⊎◌, inl, inr, ℕ, ◌≤◌, List, [], ◌∷◌, length, Option, Some, None, Bool, Result, Ok, Err, OnOk, IfOk, IfSome, true, codes, nat_le, refl, sym, ◌∙◌, ap, subst, arith}
 use Rattle.problem_model.specs.Problem.{ProblemLists}
 use Rattle.problem_model.specs.Bounds.{IsReading}
 use Rattle.problem.specs.Line.{HasEvent, IsUnknown}

@@ -1,5 +1,5 @@
 // Additions to the labels of a session.
-ghost use Rattle.std.specs.Prelude.{◌≡◌, ◌<◌, ◌≤◌, ◌+◌, ◌^◌, ℕ, List, length, slice_get, OnOk, IsErrOf, Some};
+ghost use Rattle.std.specs.Prelude.{◌≡◌, ◌<◌, ◌≤◌, ◌^◌, ℕ, List, length, slice_get, OnOk, IsErrOf, Some};
 ghost use Rattle.ports.specs.Content.{Rose};
 ghost use Rattle.decl.specs.declared.items.TraceKind.TheVariants as kinds;
 ghost use Rattle.queries.specs.declared.stop.Stop.TheVariants as stops;

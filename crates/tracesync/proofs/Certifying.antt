@@ -1,25 +1,18 @@
 -- The certificate of a solution.
-use Rattle.std.proofs.Common.{◌≡◌, ◌<◌, List, [], ◌∷◌, length, map, refl, sym, ◌∙◌, ap, subst, arith}
+use Rattle.std.proofs.Common.{◌≡◌, ◌<◌, List, length, map, sym, ◌∙◌, ap, subst}
 use Rattle.std.specs.Prelude.{All, ℕ, ℤ, Option, Result, Ok, Err, OnOk}
-use Rattle.ports.specs.Content.{Appends}
 use Rattle.ports.specs.declared.failed.Failed.{Failed}
-use Rattle.std.proofs.lemmas.List.{length-map}
-use Rattle.std.proofs.lemmas.List.Elements.{All-nil, All-cons}
-use Rattle.problem_model.specs.declared.items.Node.{Node}
-use Rattle.problem_model.specs.Problem.{ProblemLists, IsProblem}
+use Rattle.problem_model.specs.Problem.{ProblemLists}
 use Rattle.problem_model.specs.Nodes.{Reading, AreReadings, nodes_of}
 use Rattle.problem_model.proofs.OneList.{listed, readings_one}
 use Rattle.difference_bounds.specs.Executions.{at}
-use Rattle.difference_bounds.specs.Solutions.{Leads, IsContradictionOf}
-use Rattle.sync_graph.specs.declared.arc.Arc.{Arc}
 use Rattle.sync_graph.specs.Graph.{GraphLists}
 use Rattle.earliest.specs.Values.{Values}
-use Rattle.cert.specs.declared.chain.Step.{Step}
 use Rattle.cert.specs.declared.certificate.Cert.TheVariants.{Run}
-use Rattle.cert.specs.Listed.{IsNamed, listed_nodes, listed_cycle, listed_run}
+use Rattle.cert.specs.Listed.{listed_nodes, listed_run}
 use Rattle.cert.specs.CertificateText.{listing_of, certificate_text}
-use Rattle.cert.proofs.OwnListing.{is_named, numbers_below, cycle_is, run_is}
-use Rattle.solver.specs.Solution.{steps_of, IsSolved, HasContradiction}
+use Rattle.cert.proofs.OwnListing.{numbers_below, run_is}
+use Rattle.solver.specs.Solution.{IsSolved}
 use Rattle.queries.specs.Replies.{AppendsSome}
 use Rattle.tracesync.specs.Solve.{IsEarliestText}
 

@@ -1,7 +1,7 @@
 -- From the parts of a session to what is said of it.
-use Rattle.std.proofs.Common.{◌≡◌, ◌⊎◌, inl, inr, ℕ, ◌+◌, ◌-◌, ◌^◌, ◌<◌, ◌≤◌, List, [], ◌++◌, length, take, Option, Some, codes, sym, ◌∙◌, ap, subst, arith, append-nil}
+use Rattle.std.proofs.Common.{◌≡◌, inl, inr, ℕ, ◌+◌, ◌-◌, ◌^◌, ◌<◌, ◌≤◌, List, [], ◌++◌, length, take, Option, Some, codes, sym, ◌∙◌, subst, arith, append-nil}
 use Rattle.std.specs.List.{concat}
-use Rattle.ports.specs.Content.{Rose, Appends}
+use Rattle.ports.specs.Content.{Appends}
 use Rattle.ports.specs.Files.{Content}
 use Rattle.decl.specs.Declaration.{Declaration}
 use Rattle.line_reader.specs.Lines.{whole_lines, lines_of}
@@ -12,7 +12,7 @@ use Rattle.script.specs.Script.{Told, OfScript, Replied, IsTaken, IsDone, IsScri
 use Rattle.script.proofs.Replies.{appends_more, appends_nothing, rose_later}
 use Rattle.script.proofs.Places.{of_script}
 use Rattle.tracesync.specs.Endings.{Ends, EndsScript}
-use Rattle.tracesync.specs.Sessions.{IsDeclaredAt, IsUndeclared, EndsUndeclared, PrintsAlone, declaration_line, Conducted}
+use Rattle.tracesync.specs.Sessions.{IsDeclaredAt, IsUndeclared, EndsUndeclared, declaration_line, Conducted}
 use Rattle.tracesync.specs.declared.declaration.Undeclared.{Undeclared}
 use Rattle.tracesync.specs.declared.declaration.Undeclared.TheVariants as causes
 use Rattle.tracesync.specs.declared.status.Status.{Status}

@@ -1,5 +1,5 @@
 -- From a file to the declaration in it, or its first fault.
-use Rattle.std.proofs.Common.{◌≡◌, ℕ, ◌<◌, ◌≤◌, List, length, Option, Some, None, Bool, true, false, nat_lt, refl, subst, arith, inl, inr}
+use Rattle.std.proofs.Common.{◌≡◌, ℕ, List, length, Some, None, Bool, true, false, nat_lt, refl, subst, arith}
 use Rattle.std.proofs.lemmas.Grind.{common_steps}
 use Rattle.ports.specs.Files.{Content, HasBytes, IsFront}
 use Rattle.decl.specs.declared.errors.DeclError.TheVariants as faults

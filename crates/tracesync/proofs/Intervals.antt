@@ -1,14 +1,12 @@
 -- The line of an interval shows what it should.
-use Rattle.std.proofs.Common.{◌≡◌, inl, inr, ℕ, zero, suc, ◌<◌, List, [], ◌∷◌, length, map, Option, Some, None, slice_get, refl, subst, arith}
-use Rattle.std.proofs.lemmas.Option.{slice_get_within}
-use Rattle.std.proofs.lemmas.List.{length-map}
+use Rattle.std.proofs.Common.{◌≡◌, inl, inr, ℕ, zero, suc, List, [], ◌∷◌, length, map, Option, Some, None, slice_get, refl, subst}
 use Rattle.std.proofs.lemmas.List.Elements.{All-head, All-tail}
 use Rattle.std.specs.Prelude.{All, IfNone}
 use Rattle.problem_model.specs.declared.items.Event.{Event}
 use Rattle.problem_model.specs.declared.items.Node.TheVariants as nodes
 use Rattle.problem_model.specs.Name.{IsEventName}
 use Rattle.problem_model.specs.Problem.{ProblemLists, IsProblem}
-use Rattle.problem.specs.Line.{HasEvent, IsUnknown}
+use Rattle.problem.specs.Line.{IsUnknown}
 use Rattle.row_pool.specs.declared.cell.Pair.{Pair}
 use Rattle.intervals.specs.declared.order.Order.{Order}
 use Rattle.intervals.specs.Ends.{ends_of}

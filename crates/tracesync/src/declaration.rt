@@ -1,7 +1,6 @@
 // The declaration in a file.
 ghost use Rattle.std.specs.Prelude.{◌≡◌, ◌≤◌, IfOk, IfErr};
 ghost use Rattle.decl.specs.Declaration.{IsDeclaration, declaration_of};
-ghost use Rattle.decl.specs.Walk.{IsFirstFault};
 ghost use Rattle.tracesync.specs.Sessions.{IsDeclaredAt, IsUndeclared};
 
 use decl::{Decl, DeclError, Section, read_decl};

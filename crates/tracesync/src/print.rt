@@ -1,12 +1,11 @@
 // The lines that the program prints.
-ghost use Rattle.std.specs.Prelude.{◌≡◌, ◌∷◌, [], ◌++◌, ℕ, List, ℤ, OnOk, IfOk, codes};
-ghost use Rattle.std.specs.Option.{option_copied};
+ghost use Rattle.std.specs.Prelude.{◌≡◌, ◌∷◌, [], ◌++◌, ℕ, List, OnOk, IfOk, codes};
 ghost use Rattle.atto.specs.Decimal.{decimal_of};
 ghost use Rattle.atto.specs.NsText.{ns_text};
-ghost use Rattle.line_format.specs.Words.{words, line_of};
+ghost use Rattle.line_format.specs.Words.{words};
 ghost use Rattle.problem_model.specs.ProblemText.{clock_name, event_name};
 ghost use Rattle.problem_model.specs.BoundText.{bound_words, broken_line, span_words, delay_words};
-ghost use Rattle.tracesync.specs.Refusal.{refusal_line, number_of, place_of};
+ghost use Rattle.tracesync.specs.Refusal.{refusal_line};
 ghost use Rattle.queries.specs.Words.{end_word, order_word};
 ghost use Rattle.tracesync.specs.Ends.{interval_line};
 ghost use Rattle.tracesync.specs.Sessions.{section_word, declaration_line};

@@ -1,4 +1,4 @@
-use Rattle.std.proofs.Common.{◌≡◌, ◌≤◌, refl}
+use Rattle.std.proofs.Common.{refl}
 use Rattle.decl.specs.Declaration.{declaration_of}
 use Rattle.script.specs.Script.{Told}
 use Rattle.tracesync.proofs.Conducting.{Begins, Closes, conducted, undeclared}
