@@ -10,6 +10,7 @@ fn words_are_appended(rt: HostRuntime) -> Result<(), Fail> {
     push_decimal(&mut line, u64::MAX)?;
     push_ns(&mut line, -1_500_000_000)?;
     push_ns(&mut line, 1)?;
-    assert!(rt; line.as_slice() == b"end  a1 0 18446744073709551615 -1.500000000 0.000000001");
+    let want = b"end  a1 0 18446744073709551615 -1.500000000 0.000000001";
+    assert!(rt; line.as_slice() == want.as_slice());
     Ok(())
 }
