@@ -11,7 +11,7 @@ use std::alloc::Global;
 const MOST: u64 = 1 << 24;
 
 /// Why a file gave no declaration.
-#[derive(Clone, Copy, Debug, PartialEq, Eq)]
+#[derive(Clone, Copy, Debug)]
 pub enum Undeclared {
     /// Its first fault: the number of what is wrong, the section and the index there.
     Faulty(u32, Section, u32),

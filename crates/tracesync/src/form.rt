@@ -4,7 +4,7 @@ ghost use Rattle.tracesync.specs.Run.{IsForm};
 use ports::Words;
 
 /// The form of the words of a command line.
-#[derive(Clone, Copy, Debug, PartialEq, Eq)]
+#[derive(Clone, Copy, Debug)]
 pub enum Form {
     /// `obey PROBLEM EXEC`.
     Obey,

@@ -5,7 +5,7 @@ ghost use Rattle.tracesync.specs.Refusal.{number_of, place_of};
 use line_format::FaultKind;
 
 /// Why a text is refused: the first fault and its line, or that it is longer than 2^30 bytes.
-#[derive(Clone, Copy, Debug, PartialEq, Eq)]
+#[derive(Clone, Copy, Debug)]
 pub enum Refusal {
     /// The first faulty line, counted from 1, and what is wrong with it.
     Faulty(FaultKind, u32),

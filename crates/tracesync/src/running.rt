@@ -18,3 +18,8 @@ pub(crate) fn status_of(
     }
     Ok(run(alloc, &all, files, input, out))
 }
+
+// Whether a run ended as it should.
+pub(crate) fn is_same(found: Status, wanted: Status) -> bool {
+    found.code() == wanted.code()
+}

@@ -1,4 +1,4 @@
-use crate::running::status_of;
+use crate::running::{is_same, status_of};
 use crate::status::Status;
 use ports::{MemFiles, MemSink, MemSource};
 use std::alloc::{AllocError, Global};
@@ -55,7 +55,7 @@ fn ends_so(alloc: Global, case: &Case) -> Result<bool, AllocError> {
     let mut input = MemSource::new(alloc, case.script.as_bytes(), 14, case.read_fails)?;
     let mut out = MemSink::new(alloc, 900, 300, case.write_fails)?;
     let status = status_of(alloc, &["session", "d"], &mut files, &mut input, &mut out)?;
-    Ok(status == case.status && out.bytes() == case.printed.as_bytes())
+    Ok(is_same(status, case.status) && out.bytes() == case.printed.as_bytes())
 }
 
 const SESSIONS: [Case; 8] = [
@@ -249,7 +249,7 @@ fn runs_so(
     let mut input = MemSource::new(alloc, b"problem\n", 14, &[])?;
     let mut out = MemSink::new(alloc, 900, 300, &[])?;
     let result = status_of(alloc, words, &mut files, &mut input, &mut out)?;
-    Ok(result == status && out.bytes() == printed.as_bytes())
+    Ok(is_same(result, status) && out.bytes() == printed.as_bytes())
 }
 
 // A declaration of 2^24 bytes is read, and one of more is refused; a path that is not there; too few words and too many.
@@ -332,7 +332,7 @@ fn proof_holds(alloc: Global, log: &str, line: &str) -> Result<bool, AllocError>
     let mut out = MemSink::new(alloc, 100, 7, &[])?;
     let words = ["verify", "p", "c"];
     let status = status_of(alloc, &words, &mut files, &mut input, &mut out)?;
-    Ok(status == Status::Done && out.bytes() == b"yes\n".as_slice())
+    Ok(is_same(status, Status::Done) && out.bytes() == b"yes\n".as_slice())
 }
 
 #[test]

@@ -1,4 +1,4 @@
-use crate::running::status_of;
+use crate::running::{is_same, status_of};
 use crate::status::Status;
 use atto::{NsText, write_decimal};
 use ports::{MemFiles, MemSink, MemSource};
@@ -17,7 +17,7 @@ fn ends_so(
     let mut input = MemSource::new(alloc, b"", 1, &[])?;
     let mut out = MemSink::new(alloc, 600, 7, fails)?;
     let result = status_of(alloc, words, files, &mut input, &mut out)?;
-    Ok(result == status && out.bytes() == printed.as_bytes())
+    Ok(is_same(result, status) && out.bytes() == printed.as_bytes())
 }
 
 // Whether `obey` over these two texts ends so.

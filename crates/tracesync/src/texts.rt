@@ -19,7 +19,7 @@ use std::alloc::Global;
 const MOST: u64 = 1 << 30;
 
 /// Why a file gave no value.
-#[derive(Clone, Copy, Debug, PartialEq, Eq)]
+#[derive(Clone, Copy, Debug)]
 pub enum Unread {
     /// Its text is refused.
     Refused(Refusal),

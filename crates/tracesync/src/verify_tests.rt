@@ -1,5 +1,5 @@
 // Certificates that are checked: lawful ones, and what is answered of each change.
-use crate::running::status_of;
+use crate::running::{is_same, status_of};
 use crate::status::Status;
 use crate::verify_cases::{
     ACCEPTED, APART, CONTRADICTING, NOT_ACCEPTED, ONE_WAY, OPEN, REFUSED, TWO_LOGS,
@@ -55,7 +55,7 @@ fn ends_so(
     files.put("c", cert)?;
     let mut out = MemSink::new(alloc, 100, 7, &[])?;
     let result = run_over(alloc, &["verify", "p", "c"], &mut files, &mut out)?;
-    Ok(result == status && out.bytes() == printed.as_bytes())
+    Ok(is_same(result, status) && out.bytes() == printed.as_bytes())
 }
 
 // Whether `verify` over the problem and the changed certificate ends so.
@@ -80,12 +80,12 @@ fn solution_holds(alloc: Global, problem: &str) -> Result<bool, AllocError> {
 
 #[test]
 fn certificates_that_hold(rt: HostRuntime) -> Result<(), Fail> {
-    for (problem, cert, old, new, printed) in ACCEPTED {
+    for (problem, cert, old, new, printed) in &ACCEPTED {
         let change = Change {
-            problem,
-            cert,
-            old,
-            new,
+            problem: *problem,
+            cert: *cert,
+            old: *old,
+            new: *new,
         };
         assert!(rt; verifies_so(rt.alloc(), change, Status::Done, printed)?);
     }
@@ -94,12 +94,12 @@ fn certificates_that_hold(rt: HostRuntime) -> Result<(), Fail> {
 
 #[test]
 fn changed_certificates(rt: HostRuntime) -> Result<(), Fail> {
-    for (problem, cert, old, new, printed) in NOT_ACCEPTED {
+    for (problem, cert, old, new, printed) in &NOT_ACCEPTED {
         let change = Change {
-            problem,
-            cert,
-            old,
-            new,
+            problem: *problem,
+            cert: *cert,
+            old: *old,
+            new: *new,
         };
         assert!(rt; verifies_so(rt.alloc(), change, Status::No, printed)?);
     }
@@ -108,12 +108,12 @@ fn changed_certificates(rt: HostRuntime) -> Result<(), Fail> {
 
 #[test]
 fn refused_certificates(rt: HostRuntime) -> Result<(), Fail> {
-    for (problem, cert, old, new, printed) in REFUSED {
+    for (problem, cert, old, new, printed) in &REFUSED {
         let change = Change {
-            problem,
-            cert,
-            old,
-            new,
+            problem: *problem,
+            cert: *cert,
+            old: *old,
+            new: *new,
         };
         assert!(rt; verifies_so(rt.alloc(), change, Status::BadCert, printed)?);
     }
