@@ -4,10 +4,10 @@ use super::*;
 use crate::order::insertion_order;
 use crate::ranks::node_ranks;
 use earliest::Earliest;
-use problem::read_problem;
+use problem::{Problem, read_problem};
 use std::alloc::Global;
 use std::test::*;
-use sync_graph::graph_of;
+use sync_graph::{Graph, graph_of};
 
 // Events a#1, a#2, b#1 and b#2 are the nodes 0 to 3; their readings 100, 180, 250 and 300 are the nodes 4 to 7.
 const TWO_LOGS: &str =
@@ -25,20 +25,40 @@ const TURNED: &str =
 const ONE_WAY: &str =
     "problem 1\nclock a 0 0 0 0\nclock b 0 0 0 0\nevent a#1 a 0\nevent a#2 a 1000\nevent b#1 b 10\nevent b#2 b 20\nevent b#3 b 30\nevent b#4 b 1010\nmessage a#1 b#1 10 20\nmessage a#2 b#4 10 20\nend\n";
 
+// Whether the nodes of a graph have these ranks.
+fn are_ranks(alloc: Global, p: &Problem, g: &Graph, want: &[u32]) -> Option<bool> {
+    let ranks = node_ranks(alloc, p, g).ok()?;
+    Some(ranks.as_slice() == want)
+}
+
+// Whether the nodes of a problem's graph have these ranks.
+fn graph_has_ranks(alloc: Global, p: &Problem, want: &[u32]) -> Option<bool> {
+    let g = graph_of(alloc, p).ok()?;
+    are_ranks(alloc, p, &g, want)
+}
+
 // Whether the nodes of a problem have these ranks.
 fn has_ranks(alloc: Global, text: &str, want: &[u32]) -> Option<bool> {
     let p = read_problem(alloc, text.as_bytes()).ok()?;
-    let g = graph_of(alloc, &p).ok()?;
-    let ranks = node_ranks(alloc, &p, &g).ok()?;
-    Some(ranks.as_slice() == want)
+    graph_has_ranks(alloc, &p, want)
+}
+
+// Whether the arcs of a graph are brought in in this order.
+fn is_order(alloc: Global, p: &Problem, g: &Graph, want: &[u32]) -> Option<bool> {
+    let order = insertion_order(alloc, p, g).ok()?;
+    Some(order.as_slice() == want)
+}
+
+// Whether the arcs of a problem's graph are brought in in this order.
+fn graph_has_order(alloc: Global, p: &Problem, want: &[u32]) -> Option<bool> {
+    let g = graph_of(alloc, p).ok()?;
+    is_order(alloc, p, &g, want)
 }
 
 // Whether the arcs of a problem are brought in in this order.
 fn has_order(alloc: Global, text: &str, want: &[u32]) -> Option<bool> {
     let p = read_problem(alloc, text.as_bytes()).ok()?;
-    let g = graph_of(alloc, &p).ok()?;
-    let order = insertion_order(alloc, &p, &g).ok()?;
-    Some(order.as_slice() == want)
+    graph_has_order(alloc, &p, want)
 }
 
 // Whether the first values are these, in units.
@@ -58,22 +78,32 @@ fn begins_with(e: &Earliest, nodes: u32, want: &[i128]) -> bool
 }
 
 // Whether a problem has an execution, and its earliest one begins with these values, in units.
-fn has_values(alloc: Global, text: &str, want: &[i128]) -> Option<bool> {
-    let p = read_problem(alloc, text.as_bytes()).ok()?;
-    match solve(alloc, &p) {
+fn values_begin(alloc: Global, p: &Problem, want: &[i128]) -> Option<bool> {
+    match solve(alloc, p) {
         Ok(Solution::Execution(g, e)) => Some(begins_with(&e, g.nodes(), want)),
         Ok(Solution::Contradiction(_)) => Some(false),
         Err(_) => None,
     }
 }
 
+// The same of a problem by its text.
+fn has_values(alloc: Global, text: &str, want: &[i128]) -> Option<bool> {
+    let p = read_problem(alloc, text.as_bytes()).ok()?;
+    values_begin(alloc, &p, want)
+}
+
 // How many bounds the contradiction of a problem has, where it has one.
+fn bounds_of_contradiction(alloc: Global, p: &Problem) -> Option<usize> {
+    match solve(alloc, p) {
+        Ok(Solution::Contradiction(steps)) => Some(steps.len()),
+        _ => None,
+    }
+}
+
+// The same of a problem by its text.
 fn contradiction_size(alloc: Global, text: &str) -> Option<usize> {
     let p = read_problem(alloc, text.as_bytes()).ok()?;
-    match solve(alloc, &p).ok()? {
-        Solution::Execution(_, _) => None,
-        Solution::Contradiction(steps) => Some(steps.len()),
-    }
+    bounds_of_contradiction(alloc, &p)
 }
 
 #[test]

@@ -313,18 +313,8 @@ fn last_reply(
     Ok(before.bytes().len())
 }
 
-// Whether what `prove` replies is accepted as a certificate of what `problem` replies.
-fn proof_holds(alloc: Global, log: &str, line: &str) -> Result<bool, AllocError> {
-    let mut problem = MemSink::new(alloc, 2_000, 300, &[])?;
-    let mut proof = MemSink::new(alloc, 2_000, 300, &[])?;
-    let problem_begins = last_reply(alloc, log, "problem", &mut problem)?;
-    let proof_begins = last_reply(alloc, log, line, &mut proof)?;
-    let (Some(problem), Some(proof)) = (
-        problem.bytes().get(problem_begins..),
-        proof.bytes().get(proof_begins..),
-    ) else {
-        return Ok(false);
-    };
+// Whether `verify` accepts this certificate of this problem.
+fn is_accepted(alloc: Global, problem: &[u8], proof: &[u8]) -> Result<bool, AllocError> {
     let mut files = MemFiles::new(alloc, &[])?;
     files.put("p", problem)?;
     files.put("c", proof)?;
@@ -333,6 +323,35 @@ fn proof_holds(alloc: Global, log: &str, line: &str) -> Result<bool, AllocError>
     let words = ["verify", "p", "c"];
     let status = status_of(alloc, &words, &mut files, &mut input, &mut out)?;
     Ok(is_same(status, Status::Done) && out.bytes() == b"yes\n".as_slice())
+}
+
+// Whether what stands behind these places is a problem and a certificate of it that is accepted.
+fn are_accepted(
+    alloc: Global,
+    problem: &[u8],
+    problem_begins: usize,
+    proof: &[u8],
+    proof_begins: usize,
+) -> Result<bool, AllocError> {
+    match (problem.get(problem_begins..), proof.get(proof_begins..)) {
+        (Some(problem), Some(proof)) => is_accepted(alloc, problem, proof),
+        _ => Ok(false),
+    }
+}
+
+// Whether what `prove` replies is accepted as a certificate of what `problem` replies.
+fn proof_holds(alloc: Global, log: &str, line: &str) -> Result<bool, AllocError> {
+    let mut problem = MemSink::new(alloc, 2_000, 300, &[])?;
+    let mut proof = MemSink::new(alloc, 2_000, 300, &[])?;
+    let problem_begins = last_reply(alloc, log, "problem", &mut problem)?;
+    let proof_begins = last_reply(alloc, log, line, &mut proof)?;
+    are_accepted(
+        alloc,
+        problem.bytes(),
+        problem_begins,
+        proof.bytes(),
+        proof_begins,
+    )
 }
 
 #[test]
