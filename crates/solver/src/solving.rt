@@ -1,5 +1,5 @@
 // The solving of a problem.
-ghost use Rattle.std.specs.Prelude.{◌≡◌, ◌≤◌, length, IfOk};
+ghost use Rattle.std.specs.Prelude.{◌≡◌, ◌+◌, ◌≤◌, length, IfOk, OnOk};
 ghost use Rattle.frontier.specs.Keys.{IsEmpty};
 ghost use Rattle.solver.specs.Solution.{IsSolution};
 
@@ -11,14 +11,22 @@ use problem::Problem;
 use std::alloc::{AllocError, Global};
 use sync_graph::graph_of;
 
+// So many more nodes have the value 0.
+fn push_zeros(e: &mut Earliest, nodes: u32) -> Result<(), AllocError>
+    ensures { OnOk result (length e.new.values ≡ length e.old.values + nodes) }
+{
+    for _node in 0..nodes {
+        e.push_node()?;
+    }
+    Ok(())
+}
+
 // One value of 0 for each node.
 fn zeros(alloc: Global, nodes: u32) -> Result<Earliest, AllocError>
     ensures { IfOk result (λ e. length e.values ≡ nodes) }
 {
     let mut e = Earliest::new(alloc);
-    for _node in 0..nodes {
-        e.push_node()?;
-    }
+    push_zeros(&mut e, nodes)?;
     Ok(e)
 }
 
