@@ -8,11 +8,11 @@ use distances::{row_from, row_to};
 use earliest::Earliest;
 use frontier::Frontier;
 use ports::MemSink;
-use problem::{Problem, ProblemError, read_problem};
+use problem::{Problem, read_problem};
 use row_pool::Cell;
 use solver::{Solution, solve};
 use std::alloc::{AllocError, Global};
-use std::test::Fail;
+use std::test::*;
 use sync_graph::Graph;
 
 // One message, with a least delay alone.
@@ -85,24 +85,25 @@ const CASES: [Case; 6] = [
 fn new_row(alloc: Global, nodes: u32) -> Result<Vec<Cell>, AllocError>
     ensures { IfOk result (λ row. length row.items ≡ nodes) }
 {
-    vec![in alloc; Cell::unknown(); nodes as usize]
+    let mut row = Vec::new(alloc);
+    row.resize(nodes as usize, Cell::unknown())?;
+    Ok(row)
 }
 
-// Writes the certificate of two events, by rows that are made in these.
+// Writes the certificate of a case, by rows that are made in these.
 fn certify(
     p: &Problem,
     g: &Graph,
     e: &Earliest,
-    first: u32,
-    second: u32,
+    case: &Case,
     from: &mut [Cell],
     to: &mut [Cell],
     front: &mut Frontier,
     out: &mut MemSink,
 )
     requires solved { IsSolved p.now g.now e.now }
-    requires first { first < length p.now.events }
-    requires second { second < length p.now.events }
+    requires first { case.now.first < length p.now.events }
+    requires second { case.now.second < length p.now.events }
     requires cells_from { length g.now.nodes ≤ length from.old }
     requires cells_to { length g.now.nodes ≤ length to.old }
     requires empty { IsEmpty front.old }
@@ -111,61 +112,108 @@ fn certify(
     let _ = p.events();
     let _ = p.readings();
     g.exact();
-    row_from(g, e, first, from, front);
-    row_to(g, e, first, to, front);
-    let _failed = write_ends(p, g, e, from, to, first, second, out);
+    row_from(g, e, case.first, from, front);
+    row_to(g, e, case.first, to, front);
+    let _failed = write_ends(p, g, e, from, to, case.first, case.second, out);
 }
 
-// Writes the certificate of two events of a problem that has an execution.
-fn certify_solved(
+// Whether the certificate of a case is written so, by rows that are made in these.
+fn writes(
     alloc: Global,
     p: &Problem,
     g: &Graph,
     e: &Earliest,
-    first: u32,
-    second: u32,
-    out: &mut MemSink,
-) -> Result<(), AllocError>
+    case: &Case,
+    from: &mut [Cell],
+    to: &mut [Cell],
+    front: &mut Frontier,
+) -> Option<bool>
     requires solved { IsSolved p.now g.now e.now }
-    requires first { first < length p.now.events }
-    requires second { second < length p.now.events }
+    requires first { case.now.first < length p.now.events }
+    requires second { case.now.second < length p.now.events }
+    requires cells_from { length g.now.nodes ≤ length from.old }
+    requires cells_to { length g.now.nodes ≤ length to.old }
+    requires empty { IsEmpty front.old }
+    requires room { length g.now.nodes ≤ length front.old }
 {
-    let mut front = Frontier::with_room(alloc, g.nodes())?;
-    let mut from = new_row(alloc, g.nodes())?;
-    let mut to = new_row(alloc, g.nodes())?;
-    certify(p, g, e, first, second, &mut from, &mut to, &mut front, out);
-    Ok(())
+    let mut out = MemSink::new(alloc, 2000, 64, &[]).ok()?;
+    certify(p, g, e, case, from, to, front, &mut out);
+    Some(out.bytes() == case.printed.as_bytes())
+}
+
+// The same, with a frontier of its own.
+fn writes_in(
+    alloc: Global,
+    p: &Problem,
+    g: &Graph,
+    e: &Earliest,
+    case: &Case,
+    from: &mut [Cell],
+    to: &mut [Cell],
+) -> Option<bool>
+    requires solved { IsSolved p.now g.now e.now }
+    requires first { case.now.first < length p.now.events }
+    requires second { case.now.second < length p.now.events }
+    requires cells_from { length g.now.nodes ≤ length from.old }
+    requires cells_to { length g.now.nodes ≤ length to.old }
+{
+    let mut front = Frontier::with_room(alloc, g.nodes()).ok()?;
+    writes(alloc, p, g, e, case, from, to, &mut front)
+}
+
+// The same, with a row of its own for the ways to the first event.
+fn writes_from(
+    alloc: Global,
+    p: &Problem,
+    g: &Graph,
+    e: &Earliest,
+    case: &Case,
+    from: &mut [Cell],
+) -> Option<bool>
+    requires solved { IsSolved p.now g.now e.now }
+    requires first { case.now.first < length p.now.events }
+    requires second { case.now.second < length p.now.events }
+    requires cells_from { length g.now.nodes ≤ length from.old }
+{
+    let mut to = new_row(alloc, g.nodes()).ok()?;
+    writes_in(alloc, p, g, e, case, from, &mut to)
+}
+
+// The same, with a row of its own for the ways from it too.
+fn certifies(alloc: Global, p: &Problem, g: &Graph, e: &Earliest, case: &Case) -> Option<bool>
+    requires solved { IsSolved p.now g.now e.now }
+    requires first { case.now.first < length p.now.events }
+    requires second { case.now.second < length p.now.events }
+{
+    let mut from = new_row(alloc, g.nodes()).ok()?;
+    writes_from(alloc, p, g, e, case, &mut from)
 }
 
 // Whether the problem has an execution, and the certificate is written so.
-fn is_so(alloc: Global, case: &Case) -> Result<bool, ProblemError> {
-    let p = read_problem(alloc, case.problem.as_bytes())?;
-    let events = p.events().len() as u32;
-    if case.first >= events || case.second >= events {
-        return Ok(false);
-    }
-    let mut out = MemSink::new(alloc, 2000, 64, &[])?;
-    match solve(alloc, &p)? {
-        Solution::Execution(g, e) => {
-            certify_solved(alloc, &p, &g, &e, case.first, case.second, &mut out)?;
-            Ok(out.bytes() == case.printed.as_bytes())
-        }
-        Solution::Contradiction(_) => Ok(false),
+fn solves(alloc: Global, p: &Problem, case: &Case) -> Option<bool>
+    requires first { case.now.first < length p.now.events }
+    requires second { case.now.second < length p.now.events }
+{
+    match solve(alloc, p) {
+        Ok(Solution::Execution(g, e)) => certifies(alloc, p, &g, &e, case),
+        Ok(Solution::Contradiction(_)) => Some(false),
+        Err(_) => None,
     }
 }
 
-// Whether all cases are so.
-fn all_so(alloc: Global) -> Result<bool, ProblemError> {
-    for case in &CASES {
-        if !is_so(alloc, case)? {
-            return Ok(false);
-        }
+// The same of a case by its text.
+fn is_so(alloc: Global, case: &Case) -> Option<bool> {
+    let p = read_problem(alloc, case.problem.as_bytes()).ok()?;
+    let events = p.events().len() as u32;
+    if case.first >= events || case.second >= events {
+        return Some(false);
     }
-    Ok(true)
+    solves(alloc, &p, case)
 }
 
 #[test]
-fn certificates_of_intervals(rt: HostRuntime) -> Result<(), Fail> {
-    assert!(rt; matches!(all_so(rt.alloc()), Ok(true)));
-    Ok(())
+fn certificates_of_intervals(rt: HostRuntime) {
+    for case in &CASES {
+        assert!(rt; is_so(rt.alloc(), case) == Some(true));
+    }
 }

@@ -52,14 +52,29 @@ fn execution(alloc: Global, p: &Problem, times: [i128; 4]) -> Option<Execution>
     }
 }
 
+// An end with this path.
+fn limit_by(alloc: Global, p: &Problem, path: Chain) -> Option<EndProof>
+    requires { All (IsStepOf p.now) path }
+    ensures { IfSome result (λ e. IsEndOf p.now e) }
+{
+    let value = Units::new(-10_250_000_000)?;
+    match execution(alloc, p, [10_250_000_000, 0, 1, 2]) {
+        Some(execution) => Some(EndProof::At {
+            value,
+            path,
+            execution,
+        }),
+        None => None,
+    }
+}
+
 fn limit(alloc: Global, p: &Problem) -> Option<EndProof>
     ensures { IfSome result (λ e. IsEndOf p.now e) }
 {
-    Some(EndProof::At {
-        value: Units::new(-10_250_000_000)?,
-        path: chain(alloc, p)?,
-        execution: execution(alloc, p, [10_250_000_000, 0, 1, 2])?,
-    })
+    match chain(alloc, p) {
+        Some(path) => limit_by(alloc, p, path),
+        None => None,
+    }
 }
 
 // The second clock inside.

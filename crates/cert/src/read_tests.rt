@@ -4,7 +4,7 @@ ghost use Rattle.cert.specs.CertificateText.{IsCertOf};
 use super::*;
 use ports::MemSink;
 use problem::{Problem, read_problem};
-use std::alloc::Global;
+use std::alloc::{AllocError, Global};
 use std::test::*;
 
 // Two readings of clock a, and a message each way, of which one has no greatest delay.
@@ -63,21 +63,32 @@ const ENDS: [&str; 20] = [
 // A text in the place of a line, and the fault that it makes.
 type Case = (usize, &'static str, CertError);
 
+// Appends the lines, with another text in the place of one.
+pub(crate) fn push_lines(
+    bytes: &mut Vec<u8>,
+    lines: &[&str],
+    place: usize,
+    text: &str,
+) -> Result<(), AllocError> {
+    for (k, line) in lines.iter().enumerate() {
+        let line = if k + 1 == place { text } else { *line };
+        bytes.extend_from_slice(line.as_bytes())?;
+    }
+    Ok(())
+}
+
 // The lines, with another text in the place of one.
-fn text_with(
+pub(crate) fn text_with(
     alloc: Global,
     lines: &[&str],
     place: usize,
     text: &str,
 ) -> Result<Vec<u8>, CertError> {
     let mut bytes = Vec::new(alloc);
-    for (k, line) in lines.iter().enumerate() {
-        let line = if k + 1 == place { text } else { *line };
-        if bytes.extend_from_slice(line.as_bytes()).is_err() {
-            return Err(CertError::Memory);
-        }
+    match push_lines(&mut bytes, lines, place, text) {
+        Ok(()) => Ok(bytes),
+        Err(_) => Err(CertError::Memory),
     }
-    Ok(bytes)
 }
 
 // Why the text is refused, if it is.
@@ -153,10 +164,22 @@ fn certificates_are_read(rt: HostRuntime) {
     assert_eq!(rt; first_lost(rt.alloc(), &p, &ENDS, &LAWFUL_ENDS), None);
 }
 
+// Whether this is the fault of a case.
+fn has_fault(
+    alloc: Global,
+    p: &Problem,
+    lines: &[&str],
+    place: usize,
+    text: &str,
+    want: CertError,
+) -> bool {
+    fault_of(alloc, p, lines, place, text) == Some(want)
+}
+
 // The first case of a table whose fault is another.
 fn first_wrong(alloc: Global, p: &Problem, lines: &[&str], cases: &[Case]) -> Option<usize> {
     for (k, (place, text, want)) in cases.iter().enumerate() {
-        if fault_of(alloc, p, lines, *place, text) != Some(*want) {
+        if !has_fault(alloc, p, lines, *place, text, *want) {
             return Some(k);
         }
     }

@@ -4,6 +4,7 @@ ghost use Rattle.cert.specs.Listed.{IsNamed};
 ghost use Rattle.cert.specs.CertificateText.{listing_of};
 
 use super::*;
+use crate::read_tests::text_with;
 use atto::Nano;
 use ports::MemSink;
 use problem::{Bound, Listing, Problem, read_problem};
@@ -27,19 +28,23 @@ const LINES: [&str; 10] = [
     "end\n",
 ];
 
-// What the lines read as, with another text in the place of one.
-fn read_with(alloc: Global, place: usize, text: &str) -> Result<Execution, CertError> {
-    let mut bytes = Vec::new(alloc);
-    for (k, line) in LINES.iter().enumerate() {
-        let line = if k + 1 == place { text } else { *line };
-        if bytes.extend_from_slice(line.as_bytes()).is_err() {
-            return Err(CertError::Memory);
-        }
-    }
+// What a text reads as.
+fn read_text(alloc: Global, text: &[u8]) -> Result<Execution, CertError> {
     match read_problem(alloc, PROBLEM.as_bytes()) {
-        Ok(p) => read_execution(alloc, &p, &bytes),
+        Ok(p) => read_execution(alloc, &p, text),
         Err(_) => Err(CertError::Memory),
     }
+}
+
+// What the lines read as, with another text in the place of one.
+fn read_with(alloc: Global, place: usize, text: &str) -> Result<Execution, CertError> {
+    let bytes = text_with(alloc, &LINES, place, text)?;
+    read_text(alloc, &bytes)
+}
+
+// Why the lines are refused, with another text in the place of one.
+fn fault_with(alloc: Global, place: usize, text: &str) -> Option<CertError> {
+    read_with(alloc, place, text).err()
 }
 
 #[test]
@@ -101,7 +106,7 @@ fn first_faults(rt: HostRuntime) {
     ];
     for (place, text, want) in cases {
         assert!(rt;
-            read_with(rt.alloc(), place, text).err() == Some(want),
+            fault_with(rt.alloc(), place, text) == Some(want),
             "at {place}: {text}"
         );
     }
@@ -123,26 +128,38 @@ fn is_named(p: &Problem, bound: &Bound) -> bool
     }
 }
 
+// Whether this is written of a step into a sink.
+fn writes_step(p: &Problem, bound: &Bound, weight: i128, want: &str, out: &mut MemSink) -> bool
+    requires { IsNamed (listing_of p.now) bound.now }
+{
+    write_step(p, bound, weight, out).is_ok() && out.bytes() == want.as_bytes()
+}
+
 // Whether this is written of a step.
 fn step_is(alloc: Global, p: &Problem, bound: &Bound, weight: i128, want: &str) -> bool {
-    let Ok(mut out) = MemSink::new(alloc, 256, 7, &[]) else {
-        return false;
-    };
     if !is_named(p, bound) {
         return false;
     }
-    write_step(p, bound, weight, &mut out).is_ok() && out.bytes() == want.as_bytes()
+    match MemSink::new(alloc, 256, 7, &[]) {
+        Ok(mut out) => writes_step(p, bound, weight, want, &mut out),
+        Err(_) => false,
+    }
+}
+
+// Whether this is written of a node into a sink.
+fn writes_value(p: &Problem, place: u32, value: i128, want: &str, out: &mut MemSink) -> bool {
+    if u64::from(place) >= u64::from(p.event_count()) + u64::from(p.reading_count()) {
+        return false;
+    }
+    write_value(p, place, value, out).is_ok() && out.bytes() == want.as_bytes()
 }
 
 // Whether this is written of a node.
 fn value_is(alloc: Global, p: &Problem, place: u32, value: i128, want: &str) -> bool {
-    let Ok(mut out) = MemSink::new(alloc, 256, 7, &[]) else {
-        return false;
-    };
-    if u64::from(place) >= u64::from(p.event_count()) + u64::from(p.reading_count()) {
-        return false;
+    match MemSink::new(alloc, 256, 7, &[]) {
+        Ok(mut out) => writes_value(p, place, value, want, &mut out),
+        Err(_) => false,
     }
-    write_value(p, place, value, &mut out).is_ok() && out.bytes() == want.as_bytes()
 }
 
 #[test]

@@ -148,6 +148,29 @@ fn execution(alloc: Global, p: &Problem, times: &[i128]) -> Option<Execution>
     }
 }
 
+// An end with a value and a path, where these real times are as many as the nodes.
+fn limit_by(
+    alloc: Global,
+    p: &Problem,
+    value: i128,
+    path: Chain,
+    times: &[i128],
+) -> Option<EndProof>
+    requires steps { All (IsStepOf p.now) path }
+    requires times { length times.now ≤ 9 }
+    ensures { IfSome result (λ e. IsEndOf p.now e) }
+{
+    let value = Units::new(value)?;
+    match execution(alloc, p, times) {
+        Some(execution) => Some(EndProof::At {
+            value,
+            path,
+            execution,
+        }),
+        None => None,
+    }
+}
+
 // An end with a value, where its parts are of the problem.
 fn limit(
     alloc: Global,
@@ -160,11 +183,10 @@ fn limit(
     requires times { length times.now ≤ 9 }
     ensures { IfSome result (λ e. IsEndOf p.now e) }
 {
-    Some(EndProof::At {
-        value: Units::new(value)?,
-        path: chain(alloc, p, steps)?,
-        execution: execution(alloc, p, times)?,
-    })
+    match chain(alloc, p, steps) {
+        Some(path) => limit_by(alloc, p, value, path, times),
+        None => None,
+    }
 }
 
 // No end, with the clock at this place inside.
@@ -268,26 +290,31 @@ fn lower_answers(
     ends_answer(p, upper, lower, want)
 }
 
+// An upper end with a path back over the span of clock 0 between these stamps.
+fn back_over(alloc: Global, p: &Problem, s: Nano, t: Nano, value: i128) -> Option<EndProof>
+    ensures { IfSome result (λ e. IsEndOf p.now e) }
+{
+    let most = Bound::SpanMost { clock: 0, s, t };
+    let back = [(Bound::Late(1), 0), (most, 10 * NS), (Bound::Early(0), 0)];
+    limit(alloc, p, value, &back, &[0, 10 * NS, 0, 10 * NS])
+}
+
+// A lower end with a path along it.
+fn along(alloc: Global, p: &Problem, s: Nano, t: Nano, value: i128) -> Option<EndProof>
+    ensures { IfSome result (λ e. IsEndOf p.now e) }
+{
+    let least = Bound::SpanLeast { clock: 0, s, t };
+    let along = [(Bound::Early(1), 0), (least, -10 * NS), (Bound::Late(0), 0)];
+    limit(alloc, p, value, &along, &[0, 10 * NS, 0, 10 * NS])
+}
+
 // Whether this is the answer for ends of these values, with paths back over the span of a clock and along it.
 fn span_answers(alloc: Global, p: &Problem, above: i128, below: i128, want: Answer) -> bool {
     let [first, second, ..] = p.events() else {
         return false;
     };
-    let most = Bound::SpanMost {
-        clock: 0,
-        s: first.stamp,
-        t: second.stamp,
-    };
-    let least = Bound::SpanLeast {
-        clock: 0,
-        s: first.stamp,
-        t: second.stamp,
-    };
-    let times = [0, 10 * NS, 0, 10 * NS];
-    let back = [(Bound::Late(1), 0), (most, 10 * NS), (Bound::Early(0), 0)];
-    let along = [(Bound::Early(1), 0), (least, -10 * NS), (Bound::Late(0), 0)];
-    let upper = limit(alloc, p, above, &back, &times);
-    let lower = limit(alloc, p, below, &along, &times);
+    let upper = back_over(alloc, p, first.stamp, second.stamp, above);
+    let lower = along(alloc, p, first.stamp, second.stamp, below);
     ends_answer(p, upper, lower, want)
 }
 
@@ -363,8 +390,12 @@ fn cycles_are_checked(rt: HostRuntime) {
     ] {
         assert!(rt; cycle_answers(rt.alloc(), &p, &[first, second], no(Part::Cycle, reason)));
     }
-    assert!(rt; cycle_answers(rt.alloc(), &p, &[], no(Part::Cycle, Reason::Empty)));
+}
+
+#[test]
+fn contradictions_and_nothing_are_checked(rt: HostRuntime) {
     let p = read_problem(rt.alloc(), CONTRADICTED.as_bytes()).expect(&rt, "a problem");
+    assert!(rt; cycle_answers(rt.alloc(), &p, &[], no(Part::Cycle, Reason::Empty)));
     let steps = [(MOST, 10 * NS), (LEAST, -20 * NS)];
     assert!(rt; cycle_answers(rt.alloc(), &p, &steps, Answer::Yes));
 }

@@ -292,6 +292,28 @@ fn keeps_time(p: &Problem, clock: u32) -> bool
     }
 }
 
+// Whether the answer is this one, and this is written so far.
+fn is_so(out: &MemSink, given: Result<(), Stop>, answer: Result<(), Stop>, written: &str) -> bool {
+    given == answer && out.bytes() == written.as_bytes()
+}
+
+// Whether the interval of two events is answered so.
+fn interval_is(
+    alloc: Global,
+    p: &Problem,
+    case: &Case,
+    fails: &[u32],
+    answer: Result<(), Stop>,
+    written: &str,
+) -> Option<bool> {
+    if !is_event(p, case.from) || !is_event(p, case.to) {
+        return None;
+    }
+    let mut out = MemSink::new(alloc, 600, 7, fails).ok()?;
+    let given = write_interval(alloc, p, case.from, case.to, &mut out);
+    Some(is_so(&out, given, answer, written))
+}
+
 // Whether the interval is answered so over a sink where these writes fail, and written so far.
 fn interval_so(
     alloc: Global,
@@ -301,12 +323,24 @@ fn interval_so(
     written: &str,
 ) -> Option<bool> {
     let p = read_problem(alloc, case.problem.as_bytes()).ok()?;
-    if !is_event(&p, case.from) || !is_event(&p, case.to) {
+    interval_is(alloc, &p, case, fails, answer, written)
+}
+
+// Whether the order of two events is answered so.
+fn order_is(
+    alloc: Global,
+    p: &Problem,
+    case: &Case,
+    fails: &[u32],
+    answer: Result<(), Stop>,
+    written: &str,
+) -> Option<bool> {
+    if !is_event(p, case.from) || !is_event(p, case.to) {
         return None;
     }
     let mut out = MemSink::new(alloc, 600, 7, fails).ok()?;
-    let given = write_interval(alloc, &p, case.from, case.to, &mut out);
-    Some(given == answer && out.bytes() == written.as_bytes())
+    let given = write_order(alloc, p, case.from, case.to, &mut out);
+    Some(is_so(&out, given, answer, written))
 }
 
 // Whether the order is answered so over a sink where these writes fail, and written so far.
@@ -318,35 +352,40 @@ fn order_so(
     written: &str,
 ) -> Option<bool> {
     let p = read_problem(alloc, case.problem.as_bytes()).ok()?;
-    if !is_event(&p, case.from) || !is_event(&p, case.to) {
-        return None;
-    }
-    let mut out = MemSink::new(alloc, 600, 7, fails).ok()?;
-    let given = write_order(alloc, &p, case.from, case.to, &mut out);
-    Some(given == answer && out.bytes() == written.as_bytes())
+    order_is(alloc, &p, case, fails, answer, written)
 }
 
-// Whether the time is answered so.
+// Whether the time of an event is answered so.
+fn time_is(alloc: Global, p: &Problem, case: &Timed) -> Option<bool> {
+    if !is_event(p, case.event) || !keeps_time(p, case.clock) {
+        return None;
+    }
+    let stamp = reading_of(p, case.clock)?;
+    let mut out = MemSink::new(alloc, 600, 7, case.fails).ok()?;
+    let given = write_time(alloc, p, case.clock, stamp, case.event, &mut out);
+    Some(is_so(&out, given, case.answer, case.written))
+}
+
+// The same of a case by its text.
 fn time_so(alloc: Global, case: &Timed) -> Option<bool> {
     let p = read_problem(alloc, case.problem.as_bytes()).ok()?;
-    if !is_event(&p, case.event) || !keeps_time(&p, case.clock) {
-        return None;
-    }
-    let stamp = reading_of(&p, case.clock)?;
-    let mut out = MemSink::new(alloc, 600, 7, case.fails).ok()?;
-    let given = write_time(alloc, &p, case.clock, stamp, case.event, &mut out);
-    Some(given == case.answer && out.bytes() == case.written.as_bytes())
+    time_is(alloc, &p, case)
 }
 
-// Whether the proof is answered so.
-fn proof_so(alloc: Global, case: &Proved) -> Option<bool> {
-    let p = read_problem(alloc, case.problem.as_bytes()).ok()?;
-    if !is_event(&p, case.from) || !is_event(&p, case.to) {
+// Whether the proof of an interval is answered so.
+fn proof_is(alloc: Global, p: &Problem, case: &Proved) -> Option<bool> {
+    if !is_event(p, case.from) || !is_event(p, case.to) {
         return None;
     }
     let mut out = MemSink::new(alloc, 2000, 7, case.fails).ok()?;
-    let given = write_proof(alloc, &p, case.from, case.to, &mut out);
-    Some(given == case.answer && out.bytes() == case.written.as_bytes())
+    let given = write_proof(alloc, p, case.from, case.to, &mut out);
+    Some(is_so(&out, given, case.answer, case.written))
+}
+
+// The same of a case by its text.
+fn proof_so(alloc: Global, case: &Proved) -> Option<bool> {
+    let p = read_problem(alloc, case.problem.as_bytes()).ok()?;
+    proof_is(alloc, &p, case)
 }
 
 // Whether the first event of the clock reads this stamp; none stands for a clock without an event.

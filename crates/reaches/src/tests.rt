@@ -4,11 +4,11 @@ ghost use Rattle.solver.specs.Solution.{IsSolved};
 
 use super::*;
 use earliest::Earliest;
-use problem::{Problem, ProblemError, read_problem};
+use problem::{Problem, read_problem};
 use row_pool::{Pair, Reach};
 use solver::{Solution, solve};
-use std::alloc::{AllocError, Global};
-use std::test::Fail;
+use std::alloc::Global;
+use std::test::*;
 use sync_graph::Graph;
 
 // A message in each direction.
@@ -116,66 +116,73 @@ fn tell(rows: &Rows, node: u32, want: Pair) -> bool {
     }
 }
 
-// The greatest differences of an event's reading and another event.
-fn from_its_reading(
-    alloc: Global,
-    p: &Problem,
-    g: &Graph,
-    e: &Earliest,
-    first: u32,
-    second: u32,
-) -> Result<Pair, AllocError>
-    requires solved { IsSolved p.now g.now e.now }
-    requires first { first < length p.now.events }
-    requires second { second < length p.now.events }
-{
-    let event = p.events()[first as usize];
-    pair_of_reading(alloc, p, g, e, event.clock, event.stamp, second)
-}
-
-// Whether the greatest differences are so, where the problem has an execution.
-fn tells(
-    alloc: Global,
-    p: &Problem,
-    g: &Graph,
-    e: &Earliest,
-    case: &Case,
-) -> Result<bool, AllocError>
+// Whether the greatest differences of the two events are so.
+fn events_so(alloc: Global, p: &Problem, g: &Graph, e: &Earliest, case: &Case) -> Option<bool>
     requires solved { IsSolved p.now g.now e.now }
     requires first { case.now.first < length p.now.events }
     requires second { case.now.second < length p.now.events }
 {
-    let events = pair_of(alloc, p, g, e, case.first, case.second)?;
-    let reading = from_its_reading(alloc, p, g, e, case.first, case.second)?;
-    let rows = rows_of(alloc, p, g, e, case.first)?;
-    Ok(events == case.events && reading == case.reading && tell(&rows, case.second, case.events))
+    let events = pair_of(alloc, p, g, e, case.first, case.second).ok()?;
+    Some(events == case.events)
+}
+
+// Whether the greatest differences of the first event's reading and the second event are so.
+fn reading_so(alloc: Global, p: &Problem, g: &Graph, e: &Earliest, case: &Case) -> Option<bool>
+    requires solved { IsSolved p.now g.now e.now }
+    requires first { case.now.first < length p.now.events }
+    requires second { case.now.second < length p.now.events }
+{
+    let event = p.events()[case.first as usize];
+    let reading = pair_of_reading(alloc, p, g, e, event.clock, event.stamp, case.second).ok()?;
+    Some(reading == case.reading)
+}
+
+// Whether the rows of the first event tell the greatest differences of the two.
+fn rows_so(alloc: Global, p: &Problem, g: &Graph, e: &Earliest, case: &Case) -> Option<bool>
+    requires solved { IsSolved p.now g.now e.now }
+    requires first { case.now.first < length p.now.events }
+{
+    let rows = rows_of(alloc, p, g, e, case.first).ok()?;
+    Some(tell(&rows, case.second, case.events))
+}
+
+// Whether all greatest differences of a case are so.
+fn tells(alloc: Global, p: &Problem, g: &Graph, e: &Earliest, case: &Case) -> Option<bool>
+    requires solved { IsSolved p.now g.now e.now }
+    requires first { case.now.first < length p.now.events }
+    requires second { case.now.second < length p.now.events }
+{
+    let events = events_so(alloc, p, g, e, case)?;
+    let reading = reading_so(alloc, p, g, e, case)?;
+    let rows = rows_so(alloc, p, g, e, case)?;
+    Some(events && reading && rows)
 }
 
 // Whether the problem has an execution, and the greatest differences are so.
-fn is_so(alloc: Global, case: &Case) -> Result<bool, ProblemError> {
-    let p = read_problem(alloc, case.problem.as_bytes())?;
-    let events = p.events().len() as u32;
-    if case.first >= events || case.second >= events {
-        return Ok(false);
-    }
-    match solve(alloc, &p)? {
-        Solution::Execution(g, e) => Ok(tells(alloc, &p, &g, &e, case)?),
-        Solution::Contradiction(_) => Ok(false),
+fn solves(alloc: Global, p: &Problem, case: &Case) -> Option<bool>
+    requires first { case.now.first < length p.now.events }
+    requires second { case.now.second < length p.now.events }
+{
+    match solve(alloc, p) {
+        Ok(Solution::Execution(g, e)) => tells(alloc, p, &g, &e, case),
+        Ok(Solution::Contradiction(_)) => Some(false),
+        Err(_) => None,
     }
 }
 
-// Whether all cases are so.
-fn all_so(alloc: Global) -> Result<bool, ProblemError> {
-    for case in &CASES {
-        if !is_so(alloc, case)? {
-            return Ok(false);
-        }
+// The same of a case by its text.
+fn is_so(alloc: Global, case: &Case) -> Option<bool> {
+    let p = read_problem(alloc, case.problem.as_bytes()).ok()?;
+    let events = p.events().len() as u32;
+    if case.first >= events || case.second >= events {
+        return Some(false);
     }
-    Ok(true)
+    solves(alloc, &p, case)
 }
 
 #[test]
-fn greatest_differences(rt: HostRuntime) -> Result<(), Fail> {
-    assert!(rt; matches!(all_so(rt.alloc()), Ok(true)));
-    Ok(())
+fn greatest_differences(rt: HostRuntime) {
+    for case in &CASES {
+        assert!(rt; is_so(rt.alloc(), case) == Some(true));
+    }
 }

@@ -1,8 +1,7 @@
 // Captures cut at each byte, and the longest record.
 use super::*;
-use crate::tests::{CAPTURE_A, CAPTURE_B, SECOND, TWO_CAPTURES};
+use crate::tests::{CAPTURE_A, SECOND, TWO_CAPTURES, put_cut, session_over};
 use atto::{NsText, write_decimal};
-use decl::read_decl;
 use ports::{MemFiles, MemSink};
 use std::alloc::{AllocError, Global};
 use std::test::*;
@@ -50,24 +49,45 @@ fn wanted_at(alloc: Global, cut: u64) -> Result<Vec<u8>, AllocError> {
     Ok(text)
 }
 
+// What a session replies to some lines.
+fn reply(
+    session: &mut Session,
+    files: &mut MemFiles,
+    lines: &[&str],
+    out: &mut MemSink,
+) -> Result<bool, Stop> {
+    for line in lines {
+        if line.len() > 4096 {
+            return Ok(false);
+        }
+        session.step(line.as_bytes(), files, out)?;
+    }
+    Ok(true)
+}
+
 // What a session over these files replies to some lines.
-fn replies_to(
+fn reply_over(
     alloc: Global,
     files: &mut MemFiles,
     lines: &[&str],
-) -> Result<Option<MemSink>, Stop> {
-    let Ok(decl) = read_decl(alloc, TWO_CAPTURES.as_bytes()) else {
-        return Ok(None);
-    };
-    let mut session = Session::new(alloc, decl)?;
-    let mut out = MemSink::new(alloc, 5_000, 4_000, &[])?;
-    for line in lines {
-        if line.len() > 4096 {
-            return Ok(None);
-        }
-        session.step(line.as_bytes(), files, &mut out)?;
+    out: &mut MemSink,
+) -> Result<bool, Stop> {
+    match session_over(alloc, TWO_CAPTURES)? {
+        Some(mut session) => reply(&mut session, files, lines, out),
+        None => Ok(false),
     }
-    Ok(Some(out))
+}
+
+// Whether these are all replies to some lines.
+fn are_replies(
+    alloc: Global,
+    files: &mut MemFiles,
+    lines: &[&str],
+    wanted: &[u8],
+) -> Result<bool, Stop> {
+    let mut out = MemSink::new(alloc, 5_000, 4_000, &[])?;
+    let replied = reply_over(alloc, files, lines, &mut out)?;
+    Ok(replied && out.bytes() == wanted)
 }
 
 const LINES: [&str; 7] = [
@@ -81,20 +101,15 @@ const LINES: [&str; 7] = [
 ];
 
 // Whether a capture that is cut there is answered as if it were whole.
-fn is_whole(alloc: Global, cut: usize) -> Result<bool, Stop> {
-    if cut > CAPTURE_A.len() {
-        return Ok(false);
-    }
-    let (front, back) = CAPTURE_A.split_at(cut);
-    let mut files = MemFiles::new(alloc, &[])?;
-    files.put("front", front)?;
-    files.put("back", back)?;
-    files.put("b", &CAPTURE_B)?;
+fn whole_over(alloc: Global, files: &mut MemFiles, cut: usize) -> Result<bool, Stop> {
     let wanted = wanted_at(alloc, cut as u64)?;
-    match replies_to(alloc, &mut files, &LINES)? {
-        Some(out) => Ok(out.bytes() == wanted.as_slice()),
-        None => Ok(false),
-    }
+    are_replies(alloc, files, &LINES, &wanted)
+}
+
+fn is_whole(alloc: Global, cut: usize) -> Result<bool, Stop> {
+    let mut files = MemFiles::new(alloc, &[])?;
+    let is_put = put_cut(&mut files, cut)?;
+    Ok(is_put && whole_over(alloc, &mut files, cut)?)
 }
 
 #[test]
@@ -115,21 +130,39 @@ fn zeros(alloc: Global, size: u32, zeros: usize) -> Result<Vec<u8>, AllocError> 
     Ok(bytes)
 }
 
-// Whether the longest record is an event, and one byte more is refused by the record's head alone.
-fn longest_is_taken(alloc: Global) -> Result<bool, Stop> {
-    let mut files = MemFiles::new(alloc, &[])?;
-    files.put("longest", &zeros(alloc, 262_144, 262_144)?)?;
-    files.put("longer", &zeros(alloc, 262_145, 0)?)?;
+// What is replied where the longest record is an event, and one byte more is refused by the record's head alone.
+fn wanted_of_longest(alloc: Global) -> Result<Vec<u8>, AllocError> {
     let mut wanted = Vec::new(alloc);
     push_added(&mut wanted, 1, 0)?;
     wanted.extend_from_slice(REPORT.as_bytes())?;
     wanted.extend_from_slice(b"refused 25 24\n")?;
     wanted.extend_from_slice(REPORT.as_bytes())?;
+    Ok(wanted)
+}
+
+// A file with a capture of a record of zeros.
+fn put_zeros(
+    alloc: Global,
+    files: &mut MemFiles,
+    path: &str,
+    size: u32,
+    count: usize,
+) -> Result<(), AllocError> {
+    let bytes = zeros(alloc, size, count)?;
+    files.put(path, &bytes)
+}
+
+fn longest_over(alloc: Global, files: &mut MemFiles) -> Result<bool, Stop> {
+    let wanted = wanted_of_longest(alloc)?;
     let lines = ["add a longest", "report", "add b longer", "report"];
-    match replies_to(alloc, &mut files, &lines)? {
-        Some(out) => Ok(out.bytes() == wanted.as_slice()),
-        None => Ok(false),
-    }
+    are_replies(alloc, files, &lines, &wanted)
+}
+
+fn longest_is_taken(alloc: Global) -> Result<bool, Stop> {
+    let mut files = MemFiles::new(alloc, &[])?;
+    put_zeros(alloc, &mut files, "longest", 262_144, 262_144)?;
+    put_zeros(alloc, &mut files, "longer", 262_145, 0)?;
+    longest_over(alloc, &mut files)
 }
 
 #[test]

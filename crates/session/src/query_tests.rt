@@ -1,7 +1,7 @@
 // Sessions over logs and captures, with the replies to all that is asked of them.
 use super::*;
-use decl::read_decl;
-use ports::{MemFiles, MemSink};
+use crate::tests::replies_over;
+use ports::MemFiles;
 use std::alloc::{AllocError, Global};
 use std::test::*;
 
@@ -306,21 +306,36 @@ const CASES: [Case; 10] = [
     },
 ];
 
+// Appends a record of a frame.
+fn push_frame(bytes: &mut Vec<u8>, stamp: u32, frame: &[u8]) -> Result<(), AllocError> {
+    let size = u32::try_from(ADDRESSES.len().wrapping_add(frame.len())).unwrap_or(0);
+    bytes.extend_from_slice(&[0, 0, 0, 0])?;
+    bytes.extend_from_slice(&stamp.to_le_bytes())?;
+    bytes.extend_from_slice(&size.to_le_bytes())?;
+    bytes.extend_from_slice(&size.to_le_bytes())?;
+    bytes.extend_from_slice(&ADDRESSES)?;
+    bytes.extend_from_slice(frame)
+}
+
 // A capture of these frames. The k-th has the stamp of k times 1,000 ns.
 fn capture_of(alloc: Global, frames: &[&[u8]]) -> Result<Vec<u8>, AllocError> {
     let mut bytes = Vec::from_slice(alloc, &HEADER)?;
     let mut stamp: u32 = 0;
     for frame in frames {
         stamp = stamp.wrapping_add(1000);
-        let size = u32::try_from(ADDRESSES.len().wrapping_add(frame.len())).unwrap_or(0);
-        bytes.extend_from_slice(&[0, 0, 0, 0])?;
-        bytes.extend_from_slice(&stamp.to_le_bytes())?;
-        bytes.extend_from_slice(&size.to_le_bytes())?;
-        bytes.extend_from_slice(&size.to_le_bytes())?;
-        bytes.extend_from_slice(&ADDRESSES)?;
-        bytes.extend_from_slice(frame)?;
+        push_frame(&mut bytes, stamp, frame)?;
     }
     Ok(bytes)
+}
+
+fn put_capture(
+    alloc: Global,
+    files: &mut MemFiles,
+    path: &str,
+    frames: &[&[u8]],
+) -> Result<(), AllocError> {
+    let bytes = capture_of(alloc, frames)?;
+    files.put(path, &bytes)
 }
 
 fn put_files(alloc: Global) -> Result<MemFiles, AllocError> {
@@ -328,29 +343,15 @@ fn put_files(alloc: Global) -> Result<MemFiles, AllocError> {
     for (path, text) in &LOGS {
         files.put(path, text.as_bytes())?;
     }
-    files.put("a.pcap", &capture_of(alloc, &FRAMES_A)?)?;
-    files.put("b.pcap", &capture_of(alloc, &FRAMES_B)?)?;
+    put_capture(alloc, &mut files, "a.pcap", &FRAMES_A)?;
+    put_capture(alloc, &mut files, "b.pcap", &FRAMES_B)?;
     Ok(files)
 }
 
 // Whether a session gives these replies.
 fn replies(alloc: Global, case: &Case) -> Result<bool, Stop> {
-    let Ok(decl) = read_decl(alloc, case.declaration.as_bytes()) else {
-        return Ok(false);
-    };
-    let mut session = Session::new(alloc, decl)?;
     let mut files = put_files(alloc)?;
-    for (line, reply) in case.lines {
-        let mut out = MemSink::new(alloc, 2_000, 7, &[])?;
-        if line.len() > 4096 {
-            return Ok(false);
-        }
-        session.step(line.as_bytes(), &mut files, &mut out)?;
-        if out.bytes() != reply.as_bytes() {
-            return Ok(false);
-        }
-    }
-    Ok(true)
+    replies_over(alloc, case.declaration, &mut files, case.lines)
 }
 
 #[test]

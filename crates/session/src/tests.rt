@@ -335,11 +335,16 @@ fn too_long(alloc: Global) -> Result<Vec<u8>, AllocError> {
     Ok(bytes)
 }
 
+fn put_too_long(alloc: Global, files: &mut MemFiles) -> Result<(), AllocError> {
+    let bytes = too_long(alloc)?;
+    files.put("toolong.pcap", &bytes)
+}
+
 fn put_captures(alloc: Global, files: &mut MemFiles) -> Result<(), AllocError> {
     files.put("a.pcap", &CAPTURE_A)?;
     files.put("b.pcap", &CAPTURE_B)?;
     files.put("begun.pcap", &CAPTURE_A[..23])?;
-    files.put("toolong.pcap", &too_long(alloc)?)?;
+    put_too_long(alloc, files)?;
     for (path, bytes) in &PIECES {
         files.put(path, bytes)?;
     }
@@ -355,6 +360,51 @@ fn put_files(alloc: Global, fails: &[u32]) -> Result<MemFiles, AllocError> {
     Ok(files)
 }
 
+// Whether a line is answered by this reply, behind what was wanted so far.
+fn is_answered(
+    session: &mut Session,
+    files: &mut MemFiles,
+    line: &str,
+    reply: &str,
+    wanted: &mut Vec<u8>,
+    out: &mut MemSink,
+) -> Result<bool, Stop> {
+    if line.len() > 4096 {
+        return Ok(false);
+    }
+    session.step(line.as_bytes(), files, out)?;
+    wanted.extend_from_slice(reply.as_bytes())?;
+    Ok(out.bytes() == wanted.as_slice())
+}
+
+// Whether each line is answered by its reply.
+fn are_answered(
+    session: &mut Session,
+    files: &mut MemFiles,
+    lines: &[(&str, &str)],
+    wanted: &mut Vec<u8>,
+    out: &mut MemSink,
+) -> Result<bool, Stop> {
+    for (line, reply) in lines {
+        if !is_answered(session, files, line, reply, wanted, out)? {
+            return Ok(false);
+        }
+    }
+    Ok(true)
+}
+
+// The same over a sink.
+fn answers_into(
+    alloc: Global,
+    session: &mut Session,
+    files: &mut MemFiles,
+    lines: &[(&str, &str)],
+    out: &mut MemSink,
+) -> Result<bool, Stop> {
+    let mut wanted = Vec::new(alloc);
+    are_answered(session, files, lines, &mut wanted, out)
+}
+
 // Whether a session gives these replies.
 fn answers(
     alloc: Global,
@@ -363,33 +413,74 @@ fn answers(
     lines: &[(&str, &str)],
 ) -> Result<bool, Stop> {
     let mut out = MemSink::new(alloc, 5_000, 7, &[])?;
-    let mut wanted = Vec::new(alloc);
-    for (line, reply) in lines {
-        if line.len() > 4096 {
-            return Ok(false);
-        }
-        session.step(line.as_bytes(), files, &mut out)?;
-        wanted.extend_from_slice(reply.as_bytes())?;
-        if out.bytes() != wanted.as_slice() {
-            return Ok(false);
-        }
+    answers_into(alloc, session, files, lines, &mut out)
+}
+
+// A session over a declaration by its text.
+pub(crate) fn session_over(alloc: Global, declaration: &str) -> Result<Option<Session>, Stop> {
+    match read_decl(alloc, declaration.as_bytes()) {
+        Ok(decl) => Ok(Some(Session::new(alloc, decl)?)),
+        Err(_) => Ok(None),
     }
-    Ok(true)
+}
+
+// Whether a session over these files gives these replies.
+pub(crate) fn replies_over(
+    alloc: Global,
+    declaration: &str,
+    files: &mut MemFiles,
+    lines: &[(&str, &str)],
+) -> Result<bool, Stop> {
+    match session_over(alloc, declaration)? {
+        Some(mut session) => answers(alloc, &mut session, files, lines),
+        None => Ok(false),
+    }
 }
 
 fn replies(alloc: Global, case: &Case) -> Result<bool, Stop> {
-    let Ok(decl) = read_decl(alloc, case.declaration.as_bytes()) else {
-        return Ok(false);
-    };
-    let mut session = Session::new(alloc, decl)?;
     let mut files = put_files(alloc, case.fails)?;
-    answers(alloc, &mut session, &mut files, case.lines)
+    replies_over(alloc, case.declaration, &mut files, case.lines)
 }
 
 #[test]
 fn sessions(rt: HostRuntime) {
     for (k, case) in CASES.iter().enumerate() {
         assert!(rt; replies(rt.alloc(), case) == Ok(true), "case {k}");
+    }
+}
+
+// The first capture in two pieces, and the other one.
+pub(crate) fn put_cut(files: &mut MemFiles, cut: usize) -> Result<bool, AllocError> {
+    if cut > CAPTURE_A.len() {
+        return Ok(false);
+    }
+    let (front, back) = CAPTURE_A.split_at(cut);
+    files.put("front", front)?;
+    files.put("back", back)?;
+    files.put("b", &CAPTURE_B)?;
+    Ok(true)
+}
+
+// Whether a session answers the additions so, and then all questions.
+fn is_answered_by(
+    alloc: Global,
+    session: &mut Session,
+    files: &mut MemFiles,
+    additions: &[(&str, &str)],
+) -> Result<bool, Stop> {
+    let added = answers(alloc, session, files, additions)?;
+    Ok(added && answers(alloc, session, files, &QUESTIONS)?)
+}
+
+// The same of a session over these files.
+fn is_answered_over(
+    alloc: Global,
+    files: &mut MemFiles,
+    additions: &[(&str, &str)],
+) -> Result<bool, Stop> {
+    match session_over(alloc, TWO_CAPTURES)? {
+        Some(mut session) => is_answered_by(alloc, &mut session, files, additions),
+        None => Ok(false),
     }
 }
 
@@ -400,25 +491,14 @@ fn is_answered_when_cut(
     first: &'static str,
     second: &'static str,
 ) -> Result<bool, Stop> {
-    let Ok(decl) = read_decl(alloc, TWO_CAPTURES.as_bytes()) else {
-        return Ok(false);
-    };
-    let mut session = Session::new(alloc, decl)?;
     let mut files = MemFiles::new(alloc, &[])?;
-    if cut > CAPTURE_A.len() {
-        return Ok(false);
-    }
-    let (front, back) = CAPTURE_A.split_at(cut);
-    files.put("front", front)?;
-    files.put("back", back)?;
-    files.put("b", &CAPTURE_B)?;
+    let is_put = put_cut(&mut files, cut)?;
     let additions = [
         ("add a front", first),
         ("add a back", second),
         ("add b b", SECOND),
     ];
-    let added = answers(alloc, &mut session, &mut files, &additions)?;
-    Ok(added && answers(alloc, &mut session, &mut files, &QUESTIONS)?)
+    Ok(is_put && is_answered_over(alloc, &mut files, &additions)?)
 }
 
 #[test]
@@ -432,16 +512,33 @@ fn cut_captures(rt: HostRuntime) {
 }
 
 // Whether a line that is too long is refused, and a sink that fails stops the session.
-fn stops(alloc: Global) -> Result<bool, Stop> {
-    let Ok(decl) = read_decl(alloc, TWO_LOGS.as_bytes()) else {
-        return Ok(false);
-    };
-    let mut session = Session::new(alloc, decl)?;
-    let mut files = put_files(alloc, &[])?;
-    let mut out = MemSink::new(alloc, 100, 5_000, &[2])?;
-    session.too_long(&mut out)?;
-    let stop = session.step(b"problem", &mut files, &mut out);
+fn session_stops(
+    session: &mut Session,
+    files: &mut MemFiles,
+    out: &mut MemSink,
+) -> Result<bool, Stop> {
+    session.too_long(out)?;
+    let stop = session.step(b"problem", files, out);
     Ok(out.bytes() == b"refused 20\n".as_slice() && stop == Err(Stop::WriteFault))
+}
+
+// The same over a sink.
+fn stops_into(alloc: Global, session: &mut Session, files: &mut MemFiles) -> Result<bool, Stop> {
+    let mut out = MemSink::new(alloc, 100, 5_000, &[2])?;
+    session_stops(session, files, &mut out)
+}
+
+// The same over files.
+fn stops_over(alloc: Global, session: &mut Session) -> Result<bool, Stop> {
+    let mut files = put_files(alloc, &[])?;
+    stops_into(alloc, session, &mut files)
+}
+
+fn stops(alloc: Global) -> Result<bool, Stop> {
+    match session_over(alloc, TWO_LOGS)? {
+        Some(mut session) => stops_over(alloc, &mut session),
+        None => Ok(false),
+    }
 }
 
 #[test]

@@ -10,7 +10,7 @@ row_from-requires-clause-node c =
     let readings = c.readings.result.now in
     let g = c.args.g.now in
     let stands = own_standing p readings c.events.ensures.lawful c.readings.ensures g c.exact.ensures (c.requires.solved.graph.bounds readings c.readings.ensures) in
-    event_within (listing_of p) c.args.first (length g.nodes) stands.nodes (c.args.first, (c.args.first, own_event p readings c.events.ensures.lawful c.readings.ensures c.args.first c.requires.first))
+    event_within (listing_of p) c.args.case.now.first (length g.nodes) stands.nodes (c.args.case.now.first, (c.args.case.now.first, own_event p readings c.events.ensures.lawful c.readings.ensures c.args.case.now.first c.requires.first))
 
 pub row_to-requires-clause-node : goal.row_to-requires-clause-node
 row_to-requires-clause-node c =
@@ -18,7 +18,7 @@ row_to-requires-clause-node c =
     let readings = c.readings.result.now in
     let g = c.args.g.now in
     let stands = own_standing p readings c.events.ensures.lawful c.readings.ensures g c.exact.ensures (c.requires.solved.graph.bounds readings c.readings.ensures) in
-    event_within (listing_of p) c.args.first (length g.nodes) stands.nodes (c.args.first, (c.args.first, own_event p readings c.events.ensures.lawful c.readings.ensures c.args.first c.requires.first))
+    event_within (listing_of p) c.args.case.now.first (length g.nodes) stands.nodes (c.args.case.now.first, (c.args.case.now.first, own_event p readings c.events.ensures.lawful c.readings.ensures c.args.case.now.first c.requires.first))
 
 pub write_ends-failed-requires-clause-stands : goal.write_ends-failed-requires-clause-stands
 write_ends-failed-requires-clause-stands c =
@@ -31,8 +31,8 @@ pub write_ends-failed-requires-clause-events : goal.write_ends-failed-requires-c
 write_ends-failed-requires-clause-events c =
     let p = c.args.p.now in
     let readings = c.readings.result.now in (
-      c.args.first,
-      c.args.second,
-      (c.args.first, own_event p readings c.events.ensures.lawful c.readings.ensures c.args.first c.requires.first),
-      (c.args.second, own_event p readings c.events.ensures.lawful c.readings.ensures c.args.second c.requires.second),
+      c.args.case.now.first,
+      c.args.case.now.second,
+      (c.args.case.now.first, own_event p readings c.events.ensures.lawful c.readings.ensures c.args.case.now.first c.requires.first),
+      (c.args.case.now.second, own_event p readings c.events.ensures.lawful c.readings.ensures c.args.case.now.second c.requires.second),
     )
