@@ -9,13 +9,14 @@ const TWO_LOGS: &str =
     "[hosts.a]\n[hosts.b]\n[labels.a]\nhost = \"a\"\nkind = \"log\"\n[labels.b]\nhost = \"b\"\nkind = \"log\"\n[[links]]\nfrom = \"a\"\nto = \"b\"\nleast = 10\nmost = 20\n[[links]]\nfrom = \"b\"\nto = \"a\"\nleast = 10\nmost = 20\n";
 
 // A script, which calls fail, and how the session ends with which replies.
-struct Case {
-    script: &'static str,
-    read_fails: &'static [u32],
-    file_fails: &'static [u32],
-    write_fails: &'static [u32],
+#[derive(Clone, Copy)]
+struct Case<'a> {
+    script: &'a [u8],
+    read_fails: &'a [u32],
+    file_fails: &'a [u32],
+    write_fails: &'a [u32],
     ended: Ended,
-    replies: &'static str,
+    replies: &'a str,
 }
 
 // How a session over the script ends.
@@ -34,19 +35,51 @@ fn logs(alloc: Global, fails: &[u32]) -> Result<MemFiles, AllocError> {
     Ok(files)
 }
 
-// Whether a session ends as the case says, where the script comes in pieces of at most so many bytes.
-fn ends_so(alloc: Global, case: &Case, most: u32) -> Result<bool, AllocError> {
-    let mut files = logs(alloc, case.file_fails)?;
-    let mut input = MemSource::new(alloc, case.script.as_bytes(), most.max(1), case.read_fails)?;
-    let mut out = MemSink::new(alloc, 600, 200, case.write_fails)?;
-    let how = ended(alloc, &mut files, &mut input, &mut out);
-    Ok(how == case.ended && out.bytes() == case.replies.as_bytes())
+// Whether a session ends as the case says.
+fn is_so(
+    alloc: Global,
+    case: &Case<'_>,
+    files: &mut MemFiles,
+    input: &mut MemSource,
+    out: &mut MemSink,
+) -> bool {
+    let how = ended(alloc, files, input, out);
+    how == case.ended && out.bytes() == case.replies.as_bytes()
 }
 
-const NO_FAULTS: [Case; 6] = [
+// The same where the script comes in pieces of at most so many bytes.
+fn is_so_in_pieces(
+    alloc: Global,
+    case: &Case<'_>,
+    most: u32,
+    files: &mut MemFiles,
+    out: &mut MemSink,
+) -> Result<bool, AllocError> {
+    let mut input = MemSource::new(alloc, case.script, most.max(1), case.read_fails)?;
+    Ok(is_so(alloc, case, files, &mut input, out))
+}
+
+// The same over these files.
+fn is_so_over(
+    alloc: Global,
+    case: &Case<'_>,
+    most: u32,
+    files: &mut MemFiles,
+) -> Result<bool, AllocError> {
+    let mut out = MemSink::new(alloc, 600, 200, case.write_fails)?;
+    is_so_in_pieces(alloc, case, most, files, &mut out)
+}
+
+// The same over the two logs.
+fn ends_so(alloc: Global, case: &Case<'_>, most: u32) -> Result<bool, AllocError> {
+    let mut files = logs(alloc, case.file_fails)?;
+    is_so_over(alloc, case, most, &mut files)
+}
+
+const NO_FAULTS: [Case<'static>; 6] = [
     // No script, and one empty line.
     Case {
-        script: "",
+        script: b"",
         read_fails: &[],
         file_fails: &[],
         write_fails: &[],
@@ -54,7 +87,7 @@ const NO_FAULTS: [Case; 6] = [
         replies: "",
     },
     Case {
-        script: "\n",
+        script: b"\n",
         read_fails: &[],
         file_fails: &[],
         write_fails: &[],
@@ -63,7 +96,7 @@ const NO_FAULTS: [Case; 6] = [
     },
     // A last line without a line feed, and a carriage return, which is part of its line.
     Case {
-        script: "order a#1 b#1\norder a#1 b#1\r\norder a#1 b#1",
+        script: b"order a#1 b#1\norder a#1 b#1\r\norder a#1 b#1",
         read_fails: &[],
         file_fails: &[],
         write_fails: &[],
@@ -71,7 +104,7 @@ const NO_FAULTS: [Case; 6] = [
         replies: "refused 28\nrefused 20\nrefused 28\n",
     },
     Case {
-        script: "add a a.csv\nadd b b.csv\ninterval a#1 b#1\norder a#1 b#1\nproblem\n",
+        script: b"add a a.csv\nadd b b.csv\ninterval a#1 b#1\norder a#1 b#1\nproblem\n",
         read_fails: &[],
         file_fails: &[],
         write_fails: &[],
@@ -80,7 +113,7 @@ const NO_FAULTS: [Case; 6] = [
     },
     // A file that is not there, and one whose first read fails.
     Case {
-        script: "add a nofile\nadd b b.csv\nproblem",
+        script: b"add a nofile\nadd b b.csv\nproblem",
         read_fails: &[],
         file_fails: &[],
         write_fails: &[],
@@ -88,7 +121,7 @@ const NO_FAULTS: [Case; 6] = [
         replies: "refused 22\nadded events 2 messages 0 withdrawn 0 pending 0 consistent\nproblem 1\nclock a 0 0 0 0\nclock b 0 0 0 0\nevent b#1 b 250\nevent b#2 b 300\nend\n",
     },
     Case {
-        script: "add a a.csv\nadd a a.csv\nadd b b.csv\norder b#2 a#2\n",
+        script: b"add a a.csv\nadd a a.csv\nadd b b.csv\norder b#2 a#2\n",
         read_fails: &[],
         file_fails: &[1],
         write_fails: &[],
@@ -108,9 +141,9 @@ fn scripts_are_answered(rt: HostRuntime) -> Result<(), Fail> {
 }
 
 // The script's 28 bytes come in pieces of 7, and each of the calls fails once. The first line ends with the second piece.
-const FAULTS: [Case; 7] = [
+const FAULTS: [Case<'static>; 7] = [
     Case {
-        script: "order a#1 b#1\norder a#1 b#1\n",
+        script: b"order a#1 b#1\norder a#1 b#1\n",
         read_fails: &[1],
         file_fails: &[],
         write_fails: &[],
@@ -118,7 +151,7 @@ const FAULTS: [Case; 7] = [
         replies: "",
     },
     Case {
-        script: "order a#1 b#1\norder a#1 b#1\n",
+        script: b"order a#1 b#1\norder a#1 b#1\n",
         read_fails: &[2],
         file_fails: &[],
         write_fails: &[],
@@ -126,7 +159,7 @@ const FAULTS: [Case; 7] = [
         replies: "",
     },
     Case {
-        script: "order a#1 b#1\norder a#1 b#1\n",
+        script: b"order a#1 b#1\norder a#1 b#1\n",
         read_fails: &[3],
         file_fails: &[],
         write_fails: &[],
@@ -134,7 +167,7 @@ const FAULTS: [Case; 7] = [
         replies: "refused 28\n",
     },
     Case {
-        script: "order a#1 b#1\norder a#1 b#1\n",
+        script: b"order a#1 b#1\norder a#1 b#1\n",
         read_fails: &[4],
         file_fails: &[],
         write_fails: &[],
@@ -142,7 +175,7 @@ const FAULTS: [Case; 7] = [
         replies: "refused 28\n",
     },
     Case {
-        script: "order a#1 b#1\norder a#1 b#1\n",
+        script: b"order a#1 b#1\norder a#1 b#1\n",
         read_fails: &[5],
         file_fails: &[],
         write_fails: &[],
@@ -151,7 +184,7 @@ const FAULTS: [Case; 7] = [
     },
     // No sixth call is made.
     Case {
-        script: "order a#1 b#1\norder a#1 b#1\n",
+        script: b"order a#1 b#1\norder a#1 b#1\n",
         read_fails: &[6],
         file_fails: &[],
         write_fails: &[],
@@ -160,7 +193,7 @@ const FAULTS: [Case; 7] = [
     },
     // A reply that is not written is the last one.
     Case {
-        script: "order a#1 b#1\norder a#1 b#1\norder a#1 b#1\n",
+        script: b"order a#1 b#1\norder a#1 b#1\norder a#1 b#1\n",
         read_fails: &[],
         file_fails: &[],
         write_fails: &[2],
@@ -177,25 +210,39 @@ fn faults_end_a_script(rt: HostRuntime) -> Result<(), Fail> {
     Ok(())
 }
 
-// Whether a line of so many bytes gets this reply, and the line behind it its own.
-fn replies_so(alloc: Global, size: u32, replies: &[u8]) -> Result<bool, AllocError> {
-    let mut files = logs(alloc, &[])?;
-    let mut script = Vec::from_slice(alloc, b"add a ")?;
-    for _ in 6..size {
+// Adds bytes of a path, so many.
+fn push_path(size: u32, script: &mut Vec<u8>) -> Result<(), AllocError> {
+    for _ in 0..size {
         script.push(b'x')?;
     }
-    script.extend_from_slice(b"\norder a#1 b#1\n")?;
-    let mut input = MemSource::new(alloc, &script, 5_000, &[])?;
-    let mut out = MemSink::new(alloc, 600, 200, &[])?;
-    let how = ended(alloc, &mut files, &mut input, &mut out);
-    Ok(how == Ended::Done && out.bytes() == replies)
+    Ok(())
 }
 
-// A line of 4,096 bytes names a path that is not there; one of more is refused unread.
+// Whether a line with a path of so many bytes gets these replies, the second of them for the line behind it.
+fn replies_so(alloc: Global, size: u32, replies: &str) -> Result<bool, AllocError> {
+    let mut script = Vec::from_slice(alloc, b"add a ")?;
+    push_path(size, &mut script)?;
+    script.extend_from_slice(b"\norder a#1 b#1\n")?;
+    let case = Case {
+        script: &script,
+        read_fails: &[],
+        file_fails: &[],
+        write_fails: &[],
+        ended: Ended::Done,
+        replies,
+    };
+    ends_so(alloc, &case, 5_000)
+}
+
+// A line of 4,096 bytes, six of them in front of its path, names a path that is not there; one of more is refused unread.
 #[test]
 fn long_lines_are_refused(rt: HostRuntime) -> Result<(), Fail> {
-    assert!(rt; replies_so(rt.alloc(), 4_096, b"refused 22\nrefused 28\n")?);
-    assert!(rt; replies_so(rt.alloc(), 4_097, b"refused 20\nrefused 28\n")?);
-    assert!(rt; replies_so(rt.alloc(), 9_000, b"refused 20\nrefused 28\n")?);
+    for (size, replies) in [
+        (4_090, "refused 22\nrefused 28\n"),
+        (4_091, "refused 20\nrefused 28\n"),
+        (9_000, "refused 20\nrefused 28\n"),
+    ] {
+        assert!(rt; replies_so(rt.alloc(), size, replies)?);
+    }
     Ok(())
 }

@@ -1,5 +1,5 @@
 -- From the parts of a session to what is said of it.
-use Rattle.std.proofs.Common.{◌≡◌, inl, inr, ℕ, ◌+◌, ◌-◌, ◌^◌, ◌<◌, ◌≤◌, List, [], ◌++◌, length, take, Option, Some, codes, sym, ◌∙◌, subst, arith, append-nil}
+use Rattle.std.proofs.Common.{◌≡◌, inl, inr, ℕ, ◌+◌, ◌^◌, ◌<◌, ◌≤◌, List, [], ◌++◌, length, take, Option, Some, codes, sym, ◌∙◌, subst, arith, append-nil}
 use Rattle.std.specs.List.{concat}
 use Rattle.ports.specs.Content.{Appends}
 use Rattle.ports.specs.Files.{Content}

@@ -5,7 +5,7 @@ use Rattle.problem_model.specs.Problem.{ProblemLists}
 use Rattle.tracesync.specs.Run.{Devices, SpellsProblem, RefusesProblem}
 use Rattle.tracesync.specs.Solve.{Solved, EndsSolved}
 use Rattle.problem.specs.Line.{HasEvent, IsUnknown}
-use Rattle.tracesync.specs.Ends.{Ended, EndsAnswered}
+use Rattle.tracesync.specs.Ends.{Ended, EndsAnswered, EndsNamed}
 use Rattle.tracesync.specs.Unread.{IsUnread}
 use Rattle.tracesync.specs.Endings.{Ends, EndsUnread}
 use Rattle.tracesync.specs.declared.status.Status.{Status}
@@ -30,9 +30,10 @@ module _ (problem : List ℕ) (files files' : Content) (rf rf' ab ab' wf wf' : �
       stopping.unread_ends (Solved problem before after) written written' wf wf' (λ rose. rose) tt u (codes "problem") statuses.BadProblem result ends
       (λ refusal same prints. (refusal, unread_as u _ same is, prints)) (λ same prints. (unread_as u _ same is, prints))
 
-  pub certified : (p : ProblemLists) (result : Status) → HasBytes files problem (SpellsProblem p) → EndsSolved written written' wf wf' p result → Solved problem before after result
-  certified p result has (inl ended) = stopping.so (Solved problem before after) written written' wf wf' (λ rose. rose) tt statuses.Done result ended.0 (let found = ended.1 in (p, found.0, has, found.1, found.2))
-  certified p result has (inr ended) = stopping.so (Solved problem before after) written written' wf wf' (λ rose. rose) tt statuses.WriteFault result ended.0 ended.1
+  pub certified : (p : ProblemLists) (result : Status) → HasBytes files problem (SpellsProblem p) → EndsSolved written written' wf wf' p result ⊎ (result ≡ statuses.Memory) → Solved problem before after result
+  certified p result has (inl (inl ended)) = stopping.so (Solved problem before after) written written' wf wf' (λ rose. rose) tt statuses.Done result ended.0 (let found = ended.1 in (p, found.0, has, found.1, found.2))
+  certified p result has (inl (inr ended)) = stopping.so (Solved problem before after) written written' wf wf' (λ rose. rose) tt statuses.WriteFault result ended.0 ended.1
+  certified p result has (inr none) = stopping.so (Solved problem before after) written written' wf wf' (λ rose. rose) tt statuses.Memory result none tt
 
   -- ---- ends
   module _ (first second : List ℕ) where
@@ -45,16 +46,17 @@ module _ (problem : List ℕ) (files files' : Content) (rf rf' ab ab' wf wf' : �
         stopping.unread_ends says written written' wf wf' (λ rose. rose) tt u (codes "problem") statuses.BadProblem result ends
         (λ refusal same prints. (refusal, unread_as u _ same is, prints)) (λ same prints. (unread_as u _ same is, prints))
 
-    pub unknown_ends : (p : ProblemLists) (result : Status) → HasBytes files problem (SpellsProblem p) → IsUnknown p first ⊎ IsUnknown p second
+    unknown_ends : (p : ProblemLists) (result : Status) → HasBytes files problem (SpellsProblem p) → IsUnknown p first ⊎ IsUnknown p second
         → Ends written written' wf wf' (codes "unknown event\n") statuses.UnknownEvent result → Ended problem first second before after result
     unknown_ends p result has unknown ends = stopping.printed says written written' wf wf' (λ rose. rose) tt (codes "unknown event\n") statuses.UnknownEvent result ends (λ prints. (p, has, unknown, prints))
 
-    pub answered_ends : (p : ProblemLists) (from to : ℕ) (result : Status) → HasBytes files problem (SpellsProblem p) → HasEvent p from first → HasEvent p to second
+    answered_ends : (p : ProblemLists) (from to : ℕ) (result : Status) → HasBytes files problem (SpellsProblem p) → HasEvent p from first → HasEvent p to second
         → EndsAnswered written written' wf wf' p from to result → Ended problem first second before after result
     answered_ends p from to result has named named' (inl ended) =
         stopping.so says written written' wf wf' (λ rose. rose) tt statuses.Done result ended.0 (let found = ended.1 in (p, from, to, found.0, has, named, named', found.1, found.2))
     answered_ends p from to result has named named' (inr (inl ended)) = stopping.so says written written' wf wf' (λ rose. rose) tt statuses.WriteFault result ended.0 ended.1
     answered_ends p from to result has named named' (inr (inr none)) = stopping.so says written written' wf wf' (λ rose. rose) tt statuses.Memory result none tt
 
-    pub memory_ends : (result : Status) → result ≡ statuses.Memory → Ended problem first second before after result
-    memory_ends result is = stopping.so says written written' wf wf' (λ rose. rose) tt statuses.Memory result is tt
+    pub named_ends : (p : ProblemLists) (result : Status) → HasBytes files problem (SpellsProblem p) → EndsNamed written written' wf wf' p first second result → Ended problem first second before after result
+    named_ends p result has (inl (from, to, named, named', ended)) = answered_ends p from to result has named named' ended
+    named_ends p result has (inr (unknown, ends)) = unknown_ends p result has unknown ends

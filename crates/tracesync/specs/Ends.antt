@@ -11,6 +11,7 @@ use Rattle.intervals.specs.declared.order.Order.{Order}
 use Rattle.intervals.specs.Executions.{difference, AreEndsOf, IsOrderOf}
 use Rattle.queries.specs.Words.{end_word, order_word}
 use Rattle.queries.specs.Replies.{IsContradictionText, AppendsSome}
+use Rattle.tracesync.specs.Endings as endings
 use Rattle.tracesync.specs.Refusal.{refusal_line}
 use Rattle.tracesync.specs.Run.{Devices, Prints, SpellsProblem, RefusesProblem}
 use Rattle.tracesync.specs.declared.refusal.Refusal.{Refusal}
@@ -38,6 +39,12 @@ EndsAnswered old new faults faults' p from to result =
     ((result ≡ Done) × AppendsSome (IsEndsText p from to) old new)
     ⊎ ((result ≡ WriteFault) × Rose faults faults')
     ⊎ (result ≡ Memory)
+
+-- the events of two names are asked for: such a text is printed, or that a name is no event's
+abbrev pub EndsNamed : Option (List ℕ) → Option (List ℕ) → ℕ → ℕ → ProblemLists → List ℕ → List ℕ → Status → Type 0
+EndsNamed old new faults faults' p first second result =
+    ((from : ℕ) × (to : ℕ) × HasEvent p from first × HasEvent p to second × EndsAnswered old new faults faults' p from to result)
+    ⊎ ((IsUnknown p first ⊎ IsUnknown p second) × endings.Ends old new faults faults' (codes "unknown event\n") UnknownEvent result)
 
 -- what `ends` prints, and when it ends with which status
 abbrev pub Ended : List ℕ → List ℕ → List ℕ → Devices → Devices → Status → Type 0

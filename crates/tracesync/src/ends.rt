@@ -6,7 +6,7 @@ ghost use Rattle.problem.specs.Line.{HasEvent, IsUnknown};
 ghost use Rattle.intervals.specs.Ends.{FitsPair};
 ghost use Rattle.intervals.specs.Executions.{IsPairOf};
 ghost use Rattle.solver.specs.Solution.{IsSolved, HasContradiction, IsSolution};
-ghost use Rattle.tracesync.specs.Ends.{EndsAnswered, Ended};
+ghost use Rattle.tracesync.specs.Ends.{EndsAnswered, EndsNamed, Ended};
 
 use crate::ending::{finish, stop};
 use crate::print::interval_line;
@@ -112,6 +112,19 @@ fn conclude<O: Sink>(
     }
 }
 
+// Prints what a problem says of the events of two names.
+fn between<O: Sink>(alloc: Global, p: &Problem, first: &str, second: &str, out: &mut O) -> Status
+    ensures { EndsNamed (O.written out.old) (O.written out.new) (O.faults out.old) (O.faults out.new) p.now first.now second.now result }
+{
+    let Some((from, to)) = events_of(p, first, second) else {
+        return finish(out, b"unknown event\n", Status::UnknownEvent);
+    };
+    match solver::solve(alloc, p) {
+        Ok(solution) => conclude(alloc, p, &solution, from, to, out),
+        Err(_) => Status::Memory,
+    }
+}
+
 /// The least and the greatest difference of the real times of two events of the problem in a file, over all
 /// executions, and their order; or a contradiction where there is no execution.
 pub fn ends<F: Files, O: Sink>(
@@ -128,15 +141,8 @@ pub fn ends<F: Files, O: Sink>(
         result }
     ensures same { F.content files.new ≡ F.content files.old }
 {
-    let p = match problem_in(alloc, files, problem) {
-        Ok(p) => p,
-        Err(unread) => return stop(alloc, out, unread, b"problem", Status::BadProblem),
-    };
-    let Some((from, to)) = events_of(&p, first, second) else {
-        return finish(out, b"unknown event\n", Status::UnknownEvent);
-    };
-    match solver::solve(alloc, &p) {
-        Ok(solution) => conclude(alloc, &p, &solution, from, to, out),
-        Err(_) => Status::Memory,
+    match problem_in(alloc, files, problem) {
+        Ok(p) => between(alloc, &p, first, second, out),
+        Err(unread) => stop(alloc, out, unread, b"problem", Status::BadProblem),
     }
 }

@@ -1,6 +1,6 @@
-use crate::running::{is_same, status_of};
+use crate::running::{Wanted, answers, prints, run_over};
 use crate::status::Status;
-use ports::{MemFiles, MemSink, MemSource};
+use ports::{MemFiles, MemSink};
 use std::alloc::{AllocError, Global};
 use std::test::Fail;
 
@@ -49,13 +49,22 @@ fn files_of(alloc: Global, decl: &str, log: &str, fails: &[u32]) -> Result<MemFi
     Ok(files)
 }
 
-// Whether a run ends as the case says. The script comes in pieces of 14 bytes.
+// Whether a run over these files ends as the case says.
+fn answers_so(alloc: Global, case: &Case, files: &mut MemFiles) -> Result<bool, AllocError> {
+    let wanted = Wanted {
+        words: &["session", "d"],
+        status: case.status,
+        printed: case.printed,
+    };
+    let script = case.script.as_bytes();
+    let mut out = MemSink::new(alloc, 900, 300, case.write_fails)?;
+    answers(alloc, &wanted, files, script, case.read_fails, &mut out)
+}
+
+// Whether a run ends as the case says.
 fn ends_so(alloc: Global, case: &Case) -> Result<bool, AllocError> {
     let mut files = files_of(alloc, case.decl, case.log, case.file_fails)?;
-    let mut input = MemSource::new(alloc, case.script.as_bytes(), 14, case.read_fails)?;
-    let mut out = MemSink::new(alloc, 900, 300, case.write_fails)?;
-    let status = status_of(alloc, &["session", "d"], &mut files, &mut input, &mut out)?;
-    Ok(is_same(status, case.status) && out.bytes() == case.printed.as_bytes())
+    answers_so(alloc, case, &mut files)
 }
 
 const SESSIONS: [Case; 8] = [
@@ -235,21 +244,23 @@ fn declarations_are_refused(rt: HostRuntime) -> Result<(), Fail> {
     Ok(())
 }
 
-// Whether a run with these words over a declaration of so many bytes ends so, and prints this.
-fn runs_so(
-    alloc: Global,
-    words: &[&str],
-    size: usize,
-    status: Status,
-    printed: &str,
-) -> Result<bool, AllocError> {
+// Puts a declaration of so many empty lines.
+fn put_lines(alloc: Global, size: usize, files: &mut MemFiles) -> Result<(), AllocError> {
     let decl = vec![in alloc; b'\n'; size]?;
-    let mut files = MemFiles::new(alloc, &[])?;
-    files.put("d", &decl)?;
-    let mut input = MemSource::new(alloc, b"problem\n", 14, &[])?;
+    files.put("d", &decl)
+}
+
+// Whether a run over these files and a script of one line comes to what is wanted.
+fn shows_so(alloc: Global, wanted: &Wanted<'_>, files: &mut MemFiles) -> Result<bool, AllocError> {
     let mut out = MemSink::new(alloc, 900, 300, &[])?;
-    let result = status_of(alloc, words, &mut files, &mut input, &mut out)?;
-    Ok(is_same(result, status) && out.bytes() == printed.as_bytes())
+    answers(alloc, wanted, files, b"problem\n", &[], &mut out)
+}
+
+// The same over a declaration of so many bytes.
+fn runs_so(alloc: Global, wanted: &Wanted<'_>, size: usize) -> Result<bool, AllocError> {
+    let mut files = MemFiles::new(alloc, &[])?;
+    put_lines(alloc, size, &mut files)?;
+    shows_so(alloc, wanted, &mut files)
 }
 
 // A declaration of 2^24 bytes is read, and one of more is refused; a path that is not there; too few words and too many.
@@ -274,43 +285,48 @@ fn words_of_sessions(rt: HostRuntime) -> Result<(), Fail> {
         (&["session"], 0, Status::Usage, usage),
         (&["session", "d", "d"], 0, Status::Usage, usage),
     ] {
-        assert!(rt; runs_so(rt.alloc(), words, size, status, printed)?);
+        let wanted = Wanted {
+            words,
+            status,
+            printed,
+        };
+        assert!(rt; runs_so(rt.alloc(), &wanted, size)?);
     }
     Ok(())
 }
 
-// Sessions over logs, each of which says how `a.csv` is, and what is to be proved.
-const PROOFS: [(&str, &str); 6] = [
-    (ON_TIME, "prove a#1 b#1"),
-    (ON_TIME, "prove b#2 a#1"),
-    (ON_TIME, "prove a#2 a#2"),
-    (LATE, "prove b#1 a#2"),
-    (TOO_LATE, "prove a#1 b#1"),
-    ("0,local,,\n", "prove a#1 b#1"),
+// Two additions, and a last line behind them.
+const ADDED: &[u8] = b"add a a.csv\nadd b b.csv\n";
+
+const SHOWN: &[u8] = b"add a a.csv\nadd b b.csv\nproblem";
+
+// Scripts over logs, each of which says how `a.csv` is, and what is to be proved.
+const PROOFS: [(&str, &[u8]); 6] = [
+    (ON_TIME, b"add a a.csv\nadd b b.csv\nprove a#1 b#1"),
+    (ON_TIME, b"add a a.csv\nadd b b.csv\nprove b#2 a#1"),
+    (ON_TIME, b"add a a.csv\nadd b b.csv\nprove a#2 a#2"),
+    (LATE, b"add a a.csv\nadd b b.csv\nprove b#1 a#2"),
+    (TOO_LATE, b"add a a.csv\nadd b b.csv\nprove a#1 b#1"),
+    ("0,local,,\n", b"add a a.csv\nadd b b.csv\nprove a#1 b#1"),
 ];
 
-// What a session over a log and `b.csv` prints behind its two additions, for a last line.
-fn last_reply(
+// Runs a session over a log and `b.csv`, with this script.
+fn run_session(
     alloc: Global,
     log: &str,
-    line: &str,
+    script: &[u8],
     out: &mut MemSink,
-) -> Result<usize, AllocError> {
+) -> Result<(), AllocError> {
     let mut files = files_of(alloc, TWO_LOGS, log, &[])?;
-    let mut script = Vec::from_slice(alloc, b"add a a.csv\nadd b b.csv\n")?;
-    let mut input = MemSource::new(alloc, &script, 14, &[])?;
-    let mut before = MemSink::new(alloc, 900, 300, &[])?;
-    status_of(
-        alloc,
-        &["session", "d"],
-        &mut files,
-        &mut input,
-        &mut before,
-    )?;
-    script.extend_from_slice(line.as_bytes())?;
-    let mut input = MemSource::new(alloc, &script, 14, &[])?;
-    status_of(alloc, &["session", "d"], &mut files, &mut input, out)?;
-    Ok(before.bytes().len())
+    run_over(alloc, &["session", "d"], &mut files, script, &[], out)?;
+    Ok(())
+}
+
+// How many bytes such a session prints for its two additions.
+fn length_of_additions(alloc: Global, log: &str) -> Result<usize, AllocError> {
+    let mut out = MemSink::new(alloc, 900, 300, &[])?;
+    run_session(alloc, log, ADDED, &mut out)?;
+    Ok(out.bytes().len())
 }
 
 // Whether `verify` accepts this certificate of this problem.
@@ -318,46 +334,66 @@ fn is_accepted(alloc: Global, problem: &[u8], proof: &[u8]) -> Result<bool, Allo
     let mut files = MemFiles::new(alloc, &[])?;
     files.put("p", problem)?;
     files.put("c", proof)?;
-    let mut input = MemSource::new(alloc, b"", 1, &[])?;
-    let mut out = MemSink::new(alloc, 100, 7, &[])?;
-    let words = ["verify", "p", "c"];
-    let status = status_of(alloc, &words, &mut files, &mut input, &mut out)?;
-    Ok(is_same(status, Status::Done) && out.bytes() == b"yes\n".as_slice())
+    let wanted = Wanted {
+        words: &["verify", "p", "c"],
+        status: Status::Done,
+        printed: "yes\n",
+    };
+    prints(alloc, &wanted, &mut files, &[])
 }
 
-// Whether what stands behind these places is a problem and a certificate of it that is accepted.
-fn are_accepted(
+// Whether what stands behind so many bytes is accepted as a certificate of this problem.
+fn is_accepted_behind(
     alloc: Global,
     problem: &[u8],
-    problem_begins: usize,
-    proof: &[u8],
-    proof_begins: usize,
+    all: &[u8],
+    begins: usize,
 ) -> Result<bool, AllocError> {
-    match (problem.get(problem_begins..), proof.get(proof_begins..)) {
-        (Some(problem), Some(proof)) => is_accepted(alloc, problem, proof),
-        _ => Ok(false),
+    match all.get(begins..) {
+        Some(proof) => is_accepted(alloc, problem, proof),
+        None => Ok(false),
+    }
+}
+
+// Whether what the last line of the script replies, behind so many bytes, is accepted as a certificate of this problem.
+fn proves(
+    alloc: Global,
+    log: &str,
+    script: &[u8],
+    begins: usize,
+    problem: &[u8],
+) -> Result<bool, AllocError> {
+    let mut out = MemSink::new(alloc, 2_000, 300, &[])?;
+    run_session(alloc, log, script, &mut out)?;
+    is_accepted_behind(alloc, problem, out.bytes(), begins)
+}
+
+// The same, where the problem stands behind so many bytes.
+fn proves_behind(
+    alloc: Global,
+    log: &str,
+    script: &[u8],
+    begins: usize,
+    all: &[u8],
+) -> Result<bool, AllocError> {
+    match all.get(begins..) {
+        Some(problem) => proves(alloc, log, script, begins, problem),
+        None => Ok(false),
     }
 }
 
 // Whether what `prove` replies is accepted as a certificate of what `problem` replies.
-fn proof_holds(alloc: Global, log: &str, line: &str) -> Result<bool, AllocError> {
-    let mut problem = MemSink::new(alloc, 2_000, 300, &[])?;
-    let mut proof = MemSink::new(alloc, 2_000, 300, &[])?;
-    let problem_begins = last_reply(alloc, log, "problem", &mut problem)?;
-    let proof_begins = last_reply(alloc, log, line, &mut proof)?;
-    are_accepted(
-        alloc,
-        problem.bytes(),
-        problem_begins,
-        proof.bytes(),
-        proof_begins,
-    )
+fn proof_holds(alloc: Global, log: &str, script: &[u8]) -> Result<bool, AllocError> {
+    let begins = length_of_additions(alloc, log)?;
+    let mut out = MemSink::new(alloc, 2_000, 300, &[])?;
+    run_session(alloc, log, SHOWN, &mut out)?;
+    proves_behind(alloc, log, script, begins, out.bytes())
 }
 
 #[test]
 fn proofs_hold(rt: HostRuntime) -> Result<(), Fail> {
-    for (log, line) in &PROOFS {
-        assert!(rt; proof_holds(rt.alloc(), log, line)?);
+    for (log, script) in &PROOFS {
+        assert!(rt; proof_holds(rt.alloc(), log, script)?);
     }
     Ok(())
 }

@@ -1,8 +1,9 @@
 // Finds the earliest execution of a problem, or a contradiction.
-ghost use Rattle.std.specs.Prelude.{◌≡◌, OnOk, OnErr};
+ghost use Rattle.std.specs.Prelude.{◌≡◌, ◌⊎◌, OnOk, OnErr};
 ghost use Rattle.ports.specs.Content.{Rose};
 ghost use Rattle.solver.specs.Solution.{IsSolved, IsSolution};
 ghost use Rattle.queries.specs.Replies.{AppendsSome};
+ghost use Rattle.tracesync.specs.declared.status.Status.TheVariants.{Memory};
 ghost use Rattle.tracesync.specs.Solve.{IsEarliestText, IsSolutionText, EndsSolved, Solved};
 
 use crate::ending::stop;
@@ -50,6 +51,16 @@ fn certify<O: Sink>(p: &Problem, solution: &Solution, out: &mut O) -> Status
     }
 }
 
+// Prints the certificate of a problem.
+fn answer<O: Sink>(alloc: Global, p: &Problem, out: &mut O) -> Status
+    ensures { EndsSolved (O.written out.old) (O.written out.new) (O.faults out.old) (O.faults out.new) p.now result ⊎ (result ≡ Memory) }
+{
+    match solver::solve(alloc, p) {
+        Ok(solution) => certify(p, &solution, out),
+        Err(_) => Status::Memory,
+    }
+}
+
 /// The earliest execution of the problem in a file, or a contradiction.
 pub fn solve<F: Files, O: Sink>(alloc: Global, files: &mut F, problem: &str, out: &mut O) -> Status
     ensures solved { Solved problem.now
@@ -58,12 +69,8 @@ pub fn solve<F: Files, O: Sink>(alloc: Global, files: &mut F, problem: &str, out
         result }
     ensures same { F.content files.new ≡ F.content files.old }
 {
-    let p = match problem_in(alloc, files, problem) {
-        Ok(p) => p,
-        Err(unread) => return stop(alloc, out, unread, b"problem", Status::BadProblem),
-    };
-    match solver::solve(alloc, &p) {
-        Ok(solution) => certify(&p, &solution, out),
-        Err(_) => Status::Memory,
+    match problem_in(alloc, files, problem) {
+        Ok(p) => answer(alloc, &p, out),
+        Err(unread) => stop(alloc, out, unread, b"problem", Status::BadProblem),
     }
 }

@@ -1,24 +1,9 @@
-use crate::running::{is_same, status_of};
+use crate::running::{Wanted, prints};
 use crate::status::Status;
 use atto::{NsText, write_decimal};
-use ports::{MemFiles, MemSink, MemSource};
+use ports::MemFiles;
 use std::alloc::{AllocError, Global};
 use std::test::Fail;
-
-// Whether a run with these words ends so, where these writes fail.
-fn ends_so(
-    alloc: Global,
-    words: &[&str],
-    files: &mut MemFiles,
-    fails: &[u32],
-    status: Status,
-    printed: &str,
-) -> Result<bool, AllocError> {
-    let mut input = MemSource::new(alloc, b"", 1, &[])?;
-    let mut out = MemSink::new(alloc, 600, 7, fails)?;
-    let result = status_of(alloc, words, files, &mut input, &mut out)?;
-    Ok(is_same(result, status) && out.bytes() == printed.as_bytes())
-}
 
 // Whether `obey` over these two texts ends so.
 fn obeys_so(
@@ -31,7 +16,12 @@ fn obeys_so(
     let mut files = MemFiles::new(alloc, &[])?;
     files.put("p", problem.as_bytes())?;
     files.put("e", exec.as_bytes())?;
-    ends_so(alloc, &["obey", "p", "e"], &mut files, &[], status, printed)
+    let wanted = Wanted {
+        words: &["obey", "p", "e"],
+        status,
+        printed,
+    };
+    prints(alloc, &wanted, &mut files, &[])
 }
 
 const ONE_EVENT: &str = "problem 1\nclock c 0 0 0 0\nevent p c 0\nend\n";
@@ -160,14 +150,20 @@ const JUDGED: [(&str, &str, Status, &str); 17] = [
     ),
 ];
 
+// How many rows, from the first on, come out as they say.
+fn rows_obeyed(alloc: Global, rows: &[(&str, &str, Status, &str)]) -> Result<usize, AllocError> {
+    for (place, (problem, exec, status, printed)) in rows.iter().enumerate() {
+        if !obeys_so(alloc, problem, exec, *status, printed)? {
+            return Ok(place);
+        }
+    }
+    Ok(rows.len())
+}
+
 #[test]
 fn executions_are_judged(rt: HostRuntime) -> Result<(), Fail> {
-    for (problem, exec, status, printed) in JUDGED {
-        assert!(rt;
-            obeys_so(rt.alloc(), problem, exec, status, printed)?,
-            "at {exec}"
-        );
-    }
+    let right = rows_obeyed(rt.alloc(), &JUDGED)?;
+    assert!(rt; right == JUDGED.len(), "at row {right}");
     Ok(())
 }
 
@@ -222,12 +218,8 @@ const REFUSED: [(&str, &str, Status, &str); 10] = [
 
 #[test]
 fn texts_are_refused(rt: HostRuntime) -> Result<(), Fail> {
-    for (problem, exec, status, printed) in REFUSED {
-        assert!(rt;
-            obeys_so(rt.alloc(), problem, exec, status, printed)?,
-            "at {problem}{exec}"
-        );
-    }
+    let right = rows_obeyed(rt.alloc(), &REFUSED)?;
+    assert!(rt; right == REFUSED.len(), "at row {right}");
     Ok(())
 }
 
@@ -235,14 +227,12 @@ fn texts_are_refused(rt: HostRuntime) -> Result<(), Fail> {
 fn solves_so(alloc: Global, problem: &str, printed: &str) -> Result<bool, AllocError> {
     let mut files = MemFiles::new(alloc, &[])?;
     files.put("p", problem.as_bytes())?;
-    ends_so(
-        alloc,
-        &["solve", "p"],
-        &mut files,
-        &[],
-        Status::Done,
+    let wanted = Wanted {
+        words: &["solve", "p"],
+        status: Status::Done,
         printed,
-    )
+    };
+    prints(alloc, &wanted, &mut files, &[])
 }
 
 // The sums of the cycles: 20 + 50 + 20 - 95 = -5 ns; 0 + 0 - 2, where the least delay is above the greatest; 39 - 4 * 10
@@ -294,8 +284,12 @@ fn ends_of_so(
 ) -> Result<bool, AllocError> {
     let mut files = MemFiles::new(alloc, &[])?;
     files.put("p", problem.as_bytes())?;
-    let words = ["ends", "p", first, second];
-    ends_so(alloc, &words, &mut files, &[], status, printed)
+    let wanted = Wanted {
+        words: &["ends", "p", first, second],
+        status,
+        printed,
+    };
+    prints(alloc, &wanted, &mut files, &[])
 }
 
 const RATE: &str = "problem 1\nclock c 100 100 0 0\nevent p c 0\nevent q c 1000000000\nend\n";
@@ -406,43 +400,61 @@ const INTERVALS: [(&str, &str, &str, Status, &str); 16] = [
     ("problem 2\n", "p", "q", Status::BadProblem, "problem 1 1\n"),
 ];
 
+// How many rows, from the first on, come out as they say.
+fn rows_ended(
+    alloc: Global,
+    rows: &[(&str, &str, &str, Status, &str)],
+) -> Result<usize, AllocError> {
+    for (place, (problem, first, second, status, printed)) in rows.iter().enumerate() {
+        if !ends_of_so(alloc, problem, first, second, *status, printed)? {
+            return Ok(place);
+        }
+    }
+    Ok(rows.len())
+}
+
 #[test]
 fn intervals_are_printed(rt: HostRuntime) -> Result<(), Fail> {
-    for (problem, first, second, status, printed) in INTERVALS {
-        assert!(rt;
-            ends_of_so(rt.alloc(), problem, first, second, status, printed)?,
-            "at {problem}{first} {second}"
-        );
-    }
+    let right = rows_ended(rt.alloc(), &INTERVALS)?;
+    assert!(rt; right == INTERVALS.len(), "at row {right}");
     Ok(())
 }
 
-// A text of as many clocks as a problem may have, and then these lines.
-fn many_clocks(alloc: Global, lines: &str) -> Result<Vec<u8>, AllocError> {
-    let mut text = Vec::from_slice(alloc, b"problem 1\n")?;
-    let mut number = NsText::new();
-    for k in 0..65_536 {
-        write_decimal(k, &mut number);
-        text.extend_from_slice(b"clock c")?;
-        text.extend_from_slice(number.as_slice())?;
-        text.extend_from_slice(b" 0 0 0 0\n")?;
+// Adds the line of a clock of this number.
+fn push_clock(number: u64, text: &mut Vec<u8>) -> Result<(), AllocError> {
+    let mut digits = NsText::new();
+    write_decimal(number, &mut digits);
+    text.extend_from_slice(b"clock c")?;
+    text.extend_from_slice(digits.as_slice())?;
+    text.extend_from_slice(b" 0 0 0 0\n")
+}
+
+// Adds as many clocks as a problem may have.
+fn push_clocks(text: &mut Vec<u8>) -> Result<(), AllocError> {
+    for number in 0..65_536 {
+        push_clock(number, text)?;
     }
-    text.extend_from_slice(lines.as_bytes())?;
-    Ok(text)
+    Ok(())
 }
 
 // Whether this text is refused so.
 fn refused_so(alloc: Global, text: &[u8], printed: &str) -> Result<bool, AllocError> {
     let mut files = MemFiles::new(alloc, &[])?;
     files.put("p", text)?;
-    ends_so(
-        alloc,
-        &["solve", "p"],
-        &mut files,
-        &[],
-        Status::BadProblem,
+    let wanted = Wanted {
+        words: &["solve", "p"],
+        status: Status::BadProblem,
         printed,
-    )
+    };
+    prints(alloc, &wanted, &mut files, &[])
+}
+
+// Whether a text of as many clocks as a problem may have, and then this line, is refused so.
+fn refused_behind_clocks(alloc: Global, line: &str, printed: &str) -> Result<bool, AllocError> {
+    let mut text = Vec::from_slice(alloc, b"problem 1\n")?;
+    push_clocks(&mut text)?;
+    text.extend_from_slice(line.as_bytes())?;
+    refused_so(alloc, &text, printed)
 }
 
 // Each line has two faults. Syntax counts before Name, Name before Range, Range before Limit.
@@ -473,20 +485,38 @@ const TWO_FAULTS: [(&str, &str); 6] = [
     ),
 ];
 
+// The same of the last line behind 65,536 clocks.
+const FAULTS_BEHIND_CLOCKS: [(&str, &str); 4] = [
+    ("clock d 0 0 0 0\n", "problem 4 65538\n"),
+    ("clock d 0 0 0\n", "problem 1 65538\n"),
+    ("clock c7 0 0 0 0\n", "problem 2 65538\n"),
+    ("clock d 1000000000 0 0 0\n", "problem 3 65538\n"),
+];
+
+// How many rows, from the first on, come out as they say.
+fn rows_refused(alloc: Global, rows: &[(&str, &str)]) -> Result<usize, AllocError> {
+    for (place, (text, printed)) in rows.iter().enumerate() {
+        if !refused_so(alloc, text.as_bytes(), printed)? {
+            return Ok(place);
+        }
+    }
+    Ok(rows.len())
+}
+
 #[test]
 fn the_first_of_two_faults(rt: HostRuntime) -> Result<(), Fail> {
-    let alloc = rt.alloc();
-    for (text, printed) in TWO_FAULTS {
-        assert!(rt; refused_so(alloc, text.as_bytes(), printed)?, "at {text}");
-    }
-    for (line, printed) in [
-        ("clock d 0 0 0 0\n", "problem 4 65538\n"),
-        ("clock d 0 0 0\n", "problem 1 65538\n"),
-        ("clock c7 0 0 0 0\n", "problem 2 65538\n"),
-        ("clock d 1000000000 0 0 0\n", "problem 3 65538\n"),
-    ] {
-        let text = many_clocks(alloc, line)?;
-        assert!(rt; refused_so(alloc, &text, printed)?, "at {line}");
+    let right = rows_refused(rt.alloc(), &TWO_FAULTS)?;
+    assert!(rt; right == TWO_FAULTS.len(), "at row {right}");
+    Ok(())
+}
+
+#[test]
+fn the_first_fault_behind_clocks(rt: HostRuntime) -> Result<(), Fail> {
+    for (line, printed) in FAULTS_BEHIND_CLOCKS {
+        assert!(rt;
+            refused_behind_clocks(rt.alloc(), line, printed)?,
+            "at {line}"
+        );
     }
     Ok(())
 }
@@ -496,79 +526,89 @@ const USAGE: &str =
 
 const OBEYING: &str = "execution 1\nevent p 0.000000000\nreading c 0 0.000000000\nend\n";
 
-// Files that are not there, reads and writes that fail, and words that are no command.
-#[test]
-fn devices_fail(rt: HostRuntime) -> Result<(), Fail> {
-    let alloc = rt.alloc();
+// Words, the writes that fail, and what is answered. Files are there or not, writes fail, one of them in the certificate,
+// and words are no command.
+const FAILING: [(&[&str], &[u32], Status, &str); 11] = [
+    (&["obey", "p", "e"], &[], Status::Done, "obeys\n"),
+    (&["obey", "q", "e"], &[], Status::ReadFault, "read fault\n"),
+    (&["obey", "p", "q"], &[], Status::ReadFault, "read fault\n"),
+    (
+        &["obey", "x", "q"],
+        &[],
+        Status::BadProblem,
+        "problem 1 1\n",
+    ),
+    (&["obey", "p", "e"], &[1], Status::WriteFault, ""),
+    (&["solve", "p", "e"], &[], Status::Usage, USAGE),
+    (&[], &[3], Status::WriteFault, "usage: tracesy"),
+    (&["solve", "q"], &[], Status::ReadFault, "read fault\n"),
+    (&["solve", "x"], &[], Status::BadProblem, "problem 1 1\n"),
+    (&["solve", "p"], &[3], Status::WriteFault, "certificate 1\n"),
+    (&["obey", "p"], &[], Status::Usage, USAGE),
+];
+
+// Whether a run over three files comes to what is wanted.
+fn comes_to(alloc: Global, wanted: &Wanted<'_>, fails: &[u32]) -> Result<bool, AllocError> {
     let mut files = MemFiles::new(alloc, &[])?;
     files.put("p", ONE_EVENT.as_bytes())?;
     files.put("e", OBEYING.as_bytes())?;
     files.put("x", b"no problem")?;
-    for (words, fails, status, printed) in [
-        (["obey", "p", "e"], [0], Status::Done, "obeys\n"),
-        (["obey", "q", "e"], [0], Status::ReadFault, "read fault\n"),
-        (["obey", "p", "q"], [0], Status::ReadFault, "read fault\n"),
-        (["obey", "x", "q"], [0], Status::BadProblem, "problem 1 1\n"),
-        (["obey", "p", "e"], [1], Status::WriteFault, ""),
-        (["solve", "p", "e"], [0], Status::Usage, USAGE),
-    ] {
-        assert!(rt;
-            ends_so(alloc, &words, &mut files, &fails, status, printed)?,
-            "at {printed}"
-        );
+    prints(alloc, wanted, &mut files, fails)
+}
+
+// How many rows, from the first on, come out as they say.
+fn rows_failed(
+    alloc: Global,
+    rows: &[(&[&str], &[u32], Status, &str)],
+) -> Result<usize, AllocError> {
+    for (place, (words, fails, status, printed)) in rows.iter().enumerate() {
+        let wanted = Wanted {
+            words: *words,
+            status: *status,
+            printed: *printed,
+        };
+        if !comes_to(alloc, &wanted, fails)? {
+            return Ok(place);
+        }
     }
-    assert!(rt;
-        ends_so(
-            alloc,
-            &[],
-            &mut files,
-            &[3],
-            Status::WriteFault,
-            &USAGE[..14]
-        )?
-    );
+    Ok(rows.len())
+}
+
+#[test]
+fn devices_fail(rt: HostRuntime) -> Result<(), Fail> {
+    let right = rows_failed(rt.alloc(), &FAILING)?;
+    assert!(rt; right == FAILING.len(), "at row {right}");
     Ok(())
 }
 
-// `solve` over files that are there or not, and over a sink that fails in the certificate.
-#[test]
-fn solving_fails(rt: HostRuntime) -> Result<(), Fail> {
-    let alloc = rt.alloc();
-    let mut files = MemFiles::new(alloc, &[])?;
-    files.put("p", ONE_EVENT.as_bytes())?;
-    files.put("x", b"no problem")?;
-    for (words, fails, status, printed) in [
-        (["solve", "q"], [0], Status::ReadFault, "read fault\n"),
-        (["solve", "x"], [0], Status::BadProblem, "problem 1 1\n"),
-        (["solve", "p"], [3], Status::WriteFault, "certificate 1\n"),
-        (["obey", "p"], [0], Status::Usage, USAGE),
-    ] {
-        assert!(rt;
-            ends_so(alloc, &words, &mut files, &fails, status, printed)?,
-            "at {printed}"
-        );
-    }
-    Ok(())
+// Whether `obey` over these files answers that a read failed, and the next time that the bounds are kept.
+fn fails_then_obeys(alloc: Global, files: &mut MemFiles) -> Result<bool, AllocError> {
+    let words: &[&str] = &["obey", "p", "e"];
+    let failed = Wanted {
+        words,
+        status: Status::ReadFault,
+        printed: "read fault\n",
+    };
+    let obeyed = Wanted {
+        words,
+        status: Status::Done,
+        printed: "obeys\n",
+    };
+    let first = prints(alloc, &failed, files, &[])?;
+    let second = prints(alloc, &obeyed, files, &[])?;
+    Ok(first && second)
 }
 
-// The second read fails, and the same words are answered afterwards.
-#[test]
-fn a_read_fails_once(rt: HostRuntime) -> Result<(), Fail> {
-    let alloc = rt.alloc();
+// The same over two files of which the second read fails.
+fn second_read_fails(alloc: Global) -> Result<bool, AllocError> {
     let mut files = MemFiles::new(alloc, &[2])?;
     files.put("p", ONE_EVENT.as_bytes())?;
     files.put("e", OBEYING.as_bytes())?;
-    let words = ["obey", "p", "e"];
-    assert!(rt;
-        ends_so(
-            alloc,
-            &words,
-            &mut files,
-            &[],
-            Status::ReadFault,
-            "read fault\n"
-        )?
-    );
-    assert!(rt; ends_so(alloc, &words, &mut files, &[], Status::Done, "obeys\n")?);
+    fails_then_obeys(alloc, &mut files)
+}
+
+#[test]
+fn a_read_fails_once(rt: HostRuntime) -> Result<(), Fail> {
+    assert!(rt; second_read_fails(rt.alloc())?);
     Ok(())
 }

@@ -60,8 +60,8 @@ pub(crate) const ACCEPTED: [(&str, &str, &str, &str, &str); 6] = [
     ),
 ];
 
-// Certificates with a change, and why they do not show what they should.
-pub(crate) const NOT_ACCEPTED: [(&str, &str, &str, &str, &str); 46] = [
+// Certificates of an interval with two ends, each with a change, and why they do not show what they should.
+pub(crate) const CHANGED_INTERVALS: [(&str, &str, &str, &str, &str); 20] = [
     (
         TWO_LOGS,
         PROVED,
@@ -202,6 +202,10 @@ pub(crate) const NOT_ACCEPTED: [(&str, &str, &str, &str, &str); 46] = [
         "-10.000000000\nstep early a#1 0.000000000\nevent",
         "no lower join 3\n",
     ),
+];
+
+// The same of executions and contradictions.
+pub(crate) const CHANGED_RUNS_AND_CYCLES: [(&str, &str, &str, &str, &str); 12] = [
     (
         TWO_LOGS,
         RUN,
@@ -286,6 +290,10 @@ pub(crate) const NOT_ACCEPTED: [(&str, &str, &str, &str, &str); 46] = [
         "span-most a 100 195 95",
         "no cycle join 6\n",
     ),
+];
+
+// The same of intervals with one end or none.
+pub(crate) const CHANGED_UNBOUNDED: [(&str, &str, &str, &str, &str); 14] = [
     (APART, UNLINKED, "inside a\n", "", "no upper home\n"),
     (
         APART,
@@ -368,21 +376,14 @@ pub(crate) const NOT_ACCEPTED: [(&str, &str, &str, &str, &str); 46] = [
     ),
 ];
 
-// Certificates with a change, and how their texts are refused.
-pub(crate) const REFUSED: [(&str, &str, &str, &str, &str); 29] = [
+// Certificates with a change, of which a line is of no form.
+pub(crate) const ILL_FORMED: [(&str, &str, &str, &str, &str); 13] = [
     (
         TWO_LOGS,
         PROVED,
         "certificate 1",
         "certificate 2",
         "certificate 1 1\n",
-    ),
-    (
-        TWO_LOGS,
-        PROVED,
-        "ends a#1 b#1",
-        "ends a#1 b#9",
-        "certificate 2 2\n",
     ),
     (
         TWO_LOGS,
@@ -409,16 +410,70 @@ pub(crate) const REFUSED: [(&str, &str, &str, &str, &str); 29] = [
     (
         TWO_LOGS,
         PROVED,
-        "delay-most a#1 b#1",
-        "delay-most b#1 a#1",
-        "certificate 2 4\n",
+        "step delay-most",
+        "step delay-some",
+        "certificate 1 4\n",
     ),
     (
         TWO_LOGS,
         PROVED,
-        "step delay-most",
-        "step delay-some",
+        "lower 10",
+        "upper 10",
+        "certificate 1 13\n",
+    ),
+    (TWO_LOGS, PROVED, "end\n", "", "certificate 1 23\n"),
+    (
+        TWO_LOGS,
+        PROVED,
+        "end\n",
+        "end\nend\n",
+        "certificate 1 24\n",
+    ),
+    (
+        TWO_LOGS,
+        PROVED,
+        "step delay-least",
+        "inside a\nstep delay-least",
+        "certificate 1 14\n",
+    ),
+    (
+        TWO_LOGS,
+        PROVED,
+        "reading b 300 60.000000000\nend",
+        "reading b 300 60.000000000\nevent a#1 0.000000000\nend",
+        "certificate 1 23\n",
+    ),
+    (
+        TWO_LOGS,
+        PROVED,
+        "step delay-most a#1 b#1 20.000000000",
+        "step late b#9 0",
         "certificate 1 4\n",
+    ),
+    (
+        OPEN,
+        TURNED,
+        "inside d\n",
+        "step late q 0.000000000\n",
+        "certificate 1 4\n",
+    ),
+];
+
+// The same, of which a line names what it should not, or has a number out of its range.
+pub(crate) const REFUSED: [(&str, &str, &str, &str, &str); 16] = [
+    (
+        TWO_LOGS,
+        PROVED,
+        "ends a#1 b#1",
+        "ends a#1 b#9",
+        "certificate 2 2\n",
+    ),
+    (
+        TWO_LOGS,
+        PROVED,
+        "delay-most a#1 b#1",
+        "delay-most b#1 a#1",
+        "certificate 2 4\n",
     ),
     (
         TWO_LOGS,
@@ -458,35 +513,6 @@ pub(crate) const REFUSED: [(&str, &str, &str, &str, &str); 29] = [
     (
         TWO_LOGS,
         PROVED,
-        "lower 10",
-        "upper 10",
-        "certificate 1 13\n",
-    ),
-    (TWO_LOGS, PROVED, "end\n", "", "certificate 1 23\n"),
-    (
-        TWO_LOGS,
-        PROVED,
-        "end\n",
-        "end\nend\n",
-        "certificate 1 24\n",
-    ),
-    (
-        TWO_LOGS,
-        PROVED,
-        "step delay-least",
-        "inside a\nstep delay-least",
-        "certificate 1 14\n",
-    ),
-    (
-        TWO_LOGS,
-        PROVED,
-        "reading b 300 60.000000000\nend",
-        "reading b 300 60.000000000\nevent a#1 0.000000000\nend",
-        "certificate 1 23\n",
-    ),
-    (
-        TWO_LOGS,
-        PROVED,
         "step delay-most a#1 b#1",
         "step span-most a 180 100",
         "certificate 2 4\n",
@@ -504,13 +530,6 @@ pub(crate) const REFUSED: [(&str, &str, &str, &str, &str); 29] = [
         "step delay-most a#1 b#1",
         "step span-most c 100 180",
         "certificate 2 4\n",
-    ),
-    (
-        TWO_LOGS,
-        PROVED,
-        "step delay-most a#1 b#1 20.000000000",
-        "step late b#9 0",
-        "certificate 1 4\n",
     ),
     (
         TWO_LOGS,
@@ -546,13 +565,6 @@ pub(crate) const REFUSED: [(&str, &str, &str, &str, &str); 29] = [
         "inside a\n",
         "inside c\n",
         "certificate 2 4\n",
-    ),
-    (
-        OPEN,
-        TURNED,
-        "inside d\n",
-        "step late q 0.000000000\n",
-        "certificate 1 4\n",
     ),
     (
         OPEN,

@@ -1,10 +1,11 @@
 // Certificates that are checked: lawful ones, and what is answered of each change.
-use crate::running::{is_same, status_of};
+use crate::running::{Wanted, prints, run_over};
 use crate::status::Status;
 use crate::verify_cases::{
-    ACCEPTED, APART, CONTRADICTING, NOT_ACCEPTED, ONE_WAY, OPEN, REFUSED, TWO_LOGS,
+    ACCEPTED, APART, CHANGED_INTERVALS, CHANGED_RUNS_AND_CYCLES, CHANGED_UNBOUNDED, CONTRADICTING,
+    ILL_FORMED, ONE_WAY, OPEN, REFUSED, TWO_LOGS,
 };
-use ports::{MemFiles, MemSink, MemSource};
+use ports::{MemFiles, MemSink};
 use std::alloc::{AllocError, Global};
 use std::test::Fail;
 
@@ -17,29 +18,16 @@ struct Change<'a> {
     new: &'a str,
 }
 
-// The certificate with its change.
-fn changed(alloc: Global, change: Change<'_>) -> Result<Vec<u8>, AllocError> {
-    let mut text = Vec::new(alloc);
+// Adds the certificate with its change.
+fn push_changed(change: Change<'_>, text: &mut Vec<u8>) -> Result<(), AllocError> {
     match change.cert.split_once(change.old) {
         Some((before, after)) => {
             text.extend_from_slice(before.as_bytes())?;
             text.extend_from_slice(change.new.as_bytes())?;
-            text.extend_from_slice(after.as_bytes())?;
+            text.extend_from_slice(after.as_bytes())
         }
-        None => {}
+        None => Ok(()),
     }
-    Ok(text)
-}
-
-// What a run with these words ends with.
-fn run_over(
-    alloc: Global,
-    words: &[&str],
-    files: &mut MemFiles,
-    out: &mut MemSink,
-) -> Result<Status, AllocError> {
-    let mut input = MemSource::new(alloc, b"", 1, &[])?;
-    status_of(alloc, words, files, &mut input, out)
 }
 
 // Whether `verify` over these two texts ends so.
@@ -53,9 +41,12 @@ fn ends_so(
     let mut files = MemFiles::new(alloc, &[])?;
     files.put("p", problem.as_bytes())?;
     files.put("c", cert)?;
-    let mut out = MemSink::new(alloc, 100, 7, &[])?;
-    let result = run_over(alloc, &["verify", "p", "c"], &mut files, &mut out)?;
-    Ok(is_same(result, status) && out.bytes() == printed.as_bytes())
+    let wanted = Wanted {
+        words: &["verify", "p", "c"],
+        status,
+        printed,
+    };
+    prints(alloc, &wanted, &mut files, &[])
 }
 
 // Whether `verify` over the problem and the changed certificate ends so.
@@ -65,58 +56,86 @@ fn verifies_so(
     status: Status,
     printed: &str,
 ) -> Result<bool, AllocError> {
-    let cert = changed(alloc, change)?;
+    let mut cert = Vec::new(alloc);
+    push_changed(change, &mut cert)?;
     ends_so(alloc, change.problem, &cert, status, printed)
+}
+
+// Prints what `solve` finds of a problem.
+fn solve_into(alloc: Global, problem: &str, out: &mut MemSink) -> Result<(), AllocError> {
+    let mut files = MemFiles::new(alloc, &[])?;
+    files.put("p", problem.as_bytes())?;
+    run_over(alloc, &["solve", "p"], &mut files, b"", &[], out)?;
+    Ok(())
 }
 
 // Whether what `solve` prints of a problem is accepted.
 fn solution_holds(alloc: Global, problem: &str) -> Result<bool, AllocError> {
-    let mut files = MemFiles::new(alloc, &[])?;
-    files.put("p", problem.as_bytes())?;
     let mut cert = MemSink::new(alloc, 600, 7, &[])?;
-    run_over(alloc, &["solve", "p"], &mut files, &mut cert)?;
+    solve_into(alloc, problem, &mut cert)?;
     ends_so(alloc, problem, cert.bytes(), Status::Done, "yes\n")
+}
+
+// How many rows, from the first on, come out as they say. A row has a problem, a certificate, what is changed in it, and
+// what is printed.
+fn rows_verified(
+    alloc: Global,
+    rows: &[(&str, &str, &str, &str, &str)],
+    status: Status,
+) -> Result<usize, AllocError> {
+    for (place, (problem, cert, old, new, printed)) in rows.iter().enumerate() {
+        let change = Change {
+            problem: *problem,
+            cert: *cert,
+            old: *old,
+            new: *new,
+        };
+        if !verifies_so(alloc, change, status, printed)? {
+            return Ok(place);
+        }
+    }
+    Ok(rows.len())
 }
 
 #[test]
 fn certificates_that_hold(rt: HostRuntime) -> Result<(), Fail> {
-    for (problem, cert, old, new, printed) in &ACCEPTED {
-        let change = Change {
-            problem: *problem,
-            cert: *cert,
-            old: *old,
-            new: *new,
-        };
-        assert!(rt; verifies_so(rt.alloc(), change, Status::Done, printed)?);
-    }
+    let right = rows_verified(rt.alloc(), &ACCEPTED, Status::Done)?;
+    assert!(rt; right == ACCEPTED.len(), "at row {right}");
     Ok(())
 }
 
 #[test]
-fn changed_certificates(rt: HostRuntime) -> Result<(), Fail> {
-    for (problem, cert, old, new, printed) in &NOT_ACCEPTED {
-        let change = Change {
-            problem: *problem,
-            cert: *cert,
-            old: *old,
-            new: *new,
-        };
-        assert!(rt; verifies_so(rt.alloc(), change, Status::No, printed)?);
-    }
+fn changed_intervals(rt: HostRuntime) -> Result<(), Fail> {
+    let right = rows_verified(rt.alloc(), &CHANGED_INTERVALS, Status::No)?;
+    assert!(rt; right == CHANGED_INTERVALS.len(), "at row {right}");
+    Ok(())
+}
+
+#[test]
+fn changed_runs_and_cycles(rt: HostRuntime) -> Result<(), Fail> {
+    let right = rows_verified(rt.alloc(), &CHANGED_RUNS_AND_CYCLES, Status::No)?;
+    assert!(rt; right == CHANGED_RUNS_AND_CYCLES.len(), "at row {right}");
+    Ok(())
+}
+
+#[test]
+fn changed_unbounded(rt: HostRuntime) -> Result<(), Fail> {
+    let right = rows_verified(rt.alloc(), &CHANGED_UNBOUNDED, Status::No)?;
+    assert!(rt; right == CHANGED_UNBOUNDED.len(), "at row {right}");
+    Ok(())
+}
+
+#[test]
+fn ill_formed_certificates(rt: HostRuntime) -> Result<(), Fail> {
+    let right = rows_verified(rt.alloc(), &ILL_FORMED, Status::BadCert)?;
+    assert!(rt; right == ILL_FORMED.len(), "at row {right}");
     Ok(())
 }
 
 #[test]
 fn refused_certificates(rt: HostRuntime) -> Result<(), Fail> {
-    for (problem, cert, old, new, printed) in &REFUSED {
-        let change = Change {
-            problem: *problem,
-            cert: *cert,
-            old: *old,
-            new: *new,
-        };
-        assert!(rt; verifies_so(rt.alloc(), change, Status::BadCert, printed)?);
-    }
+    let right = rows_verified(rt.alloc(), &REFUSED, Status::BadCert)?;
+    assert!(rt; right == REFUSED.len(), "at row {right}");
     Ok(())
 }
 

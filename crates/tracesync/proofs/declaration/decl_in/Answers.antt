@@ -1,4 +1,3 @@
-use Rattle.std.proofs.Common.{true, false}
 use Rattle.tracesync.proofs.Declaring.{declared_in, faulty_in, long_in}
 use Rattle.tracesync.proofs.declaration.decl_in.Goals as goal
 
