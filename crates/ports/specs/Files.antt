@@ -10,10 +10,31 @@ use Rattle.ports.specs.declared.files.FileFault.TheVariants as faults
 abbrev pub Content : Type 0
 Content = Option (List ℕ → Option (List ℕ))
 
+-- what files tell: the bytes at each path, if they tell them, how many reads have failed, and how many found no file
+pub record FilesTold : Type 0 where
+  pub content : Content
+  pub faults : ℕ
+  pub absences : ℕ
+
+-- files stay as they are, and their counts never fall
+pub record Keeps (old new : FilesTold) : Type 0 where
+  pub same : new.content ≡ old.content
+  pub faults : old.faults ≤ new.faults
+  pub absences : old.absences ≤ new.absences
+
 -- a path is not there, where the files tell it
 abbrev pub IsAbsent : Content → List ℕ → Type 0
 IsAbsent None path = Unit {0}
 IsAbsent (Some files) path = files path ≡ None
+
+-- the files tell that nothing is at a path
+abbrev pub TellsAbsent : Content → List ℕ → Type 0
+TellsAbsent None path = ⊥
+TellsAbsent (Some files) path = files path ≡ None
+
+-- a read at a path that the files do not have raised no count of faults
+abbrev pub RaisesNoFault : List ℕ → FilesTold → FilesTold → Type 0
+RaisesNoFault path old new = TellsAbsent old.content path → new.faults ≡ old.faults
 
 -- a path has these bytes, where the files tell it
 abbrev pub HasBytes : Content → List ℕ → (List ℕ → Type 0) → Type 0
@@ -25,9 +46,9 @@ abbrev pub ReadsAt : ℕ → ℕ → List ℕ → List ℕ → Type 0
 ReadsAt at n buf bytes = (take n buf ≡ take n (drop at bytes)) × (n ≤ length (drop at bytes)) × (n ≡ 0 → 0 < length buf → length bytes ≤ at)
 
 -- why a read of a file failed
-abbrev pub IsFailOf : Content → List ℕ → ℕ → ℕ → ℕ → ℕ → FileFail → Type 0
-IsFailOf files path faults faults' absences absences' Absent = Rose absences absences' × IsAbsent files path
-IsFailOf files path faults faults' absences absences' Failed = Rose faults faults'
+abbrev pub IsFailOf : List ℕ → FilesTold → FilesTold → FileFail → Type 0
+IsFailOf path old new Absent = Rose old.absences new.absences × IsAbsent old.content path
+IsFailOf path old new Failed = Rose old.faults new.faults
 
 -- the front of a file, and whether there is more
 abbrev pub IsFront : ℕ → List ℕ → Bool → List ℕ → Type 0
@@ -39,10 +60,10 @@ ReadSoFar None path front = Unit {0}
 ReadSoFar (Some files) path front = (bytes : List ℕ) → files path ≡ Some bytes → front ≡ take (length front) bytes
 
 -- why a file was not read
-abbrev pub IsFaultOf : Content → List ℕ → ℕ → ℕ → ℕ → ℕ → FileFault → Type 0
-IsFaultOf files path f f' a a' faults.Absent = Rose a a' × IsAbsent files path
-IsFaultOf files path f f' a a' faults.Read = Rose f f'
-IsFaultOf files path f f' a a' faults.Memory = Unit {0}
+abbrev pub IsFaultOf : List ℕ → FilesTold → FilesTold → FileFault → Type 0
+IsFaultOf path old new faults.Absent = Rose old.absences new.absences × IsAbsent old.content path
+IsFaultOf path old new faults.Read = Rose old.faults new.faults
+IsFaultOf path old new faults.Memory = Unit {0}
 
 -- the fault of reading a whole file, by that of one read
 abbrev pub fault_of : FileFail → FileFault

@@ -1,6 +1,7 @@
 -- Sources, sinks and files in memory, seen as values.
 use Rattle.std.specs.Prelude.{ℕ, ◌+◌, ◌-◌, ◌^◌, min, List, [], ◌∷◌, Option, Some, None, Contains, if◌then◌else◌}
 use Rattle.std.specs.Str.{bytes_eq}
+use Rattle.ports.specs.Files.{FilesTold}
 use Rattle.ports.specs.declared.files.FileFail.{FileFail}
 use Rattle.ports.specs.declared.files.FileFail.TheVariants.{Absent, Failed}
 
@@ -63,6 +64,10 @@ first_of_two None other = other
 abbrev pub bytes_of : List PutFile → List ℕ → Option (List ℕ)
 bytes_of [] path = None
 bytes_of (f ∷ fs) path = first_of_two (bytes_of fs path) (if bytes_eq f.path path then Some f.bytes else None)
+
+-- what such files tell
+abbrev pub told_of : FilesState → FilesTold
+told_of s = record { content = Some (bytes_of s.puts); faults = s.calls.failed; absences = s.absences }
 
 -- what files are after a read that failed so
 abbrev pub after_fail : FilesState → FileFail → FilesState

@@ -41,12 +41,19 @@ impl Calls {
         ensures err { OnErr result (self.new ≡ failed_call self.old) }
         ensures no_fall { self.old.failed ≤ self.new.failed }
     {
-        self.made = self.made.saturating_add(1);
+        self.pass();
         if is_numbered(&self.failing, self.made) {
             self.failed = self.failed.saturating_add(1);
             return Err(Failed);
         }
         Ok(())
+    }
+
+    /// Counts one more call, which does not fail.
+    pub fn pass(&mut self)
+        ensures { self.new ≡ next_call self.old }
+    {
+        self.made = self.made.saturating_add(1);
     }
 
     /// The present call fails for a reason of its own.

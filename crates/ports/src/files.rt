@@ -1,6 +1,6 @@
 // Files that are read by their paths.
-ghost use Rattle.std.specs.Prelude.{◌≡◌, ◌≤◌, ◌<◌, ◌+◌, ℕ, length, take, IsTrue, IfOk, OnOk, IfErr, vec_len};
-ghost use Rattle.ports.specs.Files.{Content, HasBytes, ReadsAt, IsFailOf, IsFront, IsFaultOf, ReadSoFar, fault_of};
+ghost use Rattle.std.specs.Prelude.{◌≡◌, ◌≤◌, ◌<◌, ◌+◌, length, IsTrue, IfOk, OnOk, IfErr, vec_len};
+ghost use Rattle.ports.specs.Files.{FilesTold, HasBytes, ReadsAt, IsFailOf, IsFront, IsFaultOf, RaisesNoFault, Keeps, ReadSoFar, fault_of};
 ghost use Rattle.ports.specs.declared.files.FileFault.TheVariants.{Memory};
 
 use crate::Failed;
@@ -29,28 +29,23 @@ impl From<Failed> for FileFail {
 
 /// Files that are read by their paths, at any place. A read changes no file.
 pub trait Files {
-    /// The bytes at each path that is there, where they are told.
-    ghost content: { Self → Content };
-
-    /// How many reads have failed. The count never falls.
-    ghost faults: { Self → ℕ };
-
-    /// How many reads found no file at their path. The count never falls.
-    ghost absences: { Self → ℕ };
+    /// The bytes at each path that is there, where they are told; how many reads have failed; and how many found no
+    /// file at their path. The counts never fall.
+    ghost told: { Self → FilesTold };
 
     /// Reads at most `buf.len()` bytes of the file from place `at` on, counted from 0, into the
     /// front of `buf`, and answers how many. At the end of the file, and behind it, a buffer
     /// with room gets `Ok(0)`.
     ///
     /// `Absent` raises the count of absences and, where the files are told, says that none is at the
-    /// path; such a path never gives `Ok`. `Failed` raises the count of faults. A count at its last
-    /// value stays there.
+    /// path; such a path never gives `Ok`. `Failed` raises the count of faults, and never at a path
+    /// that the files tell to be missing. A count at its last value stays there.
     fn read_at(&mut self, path: &str, at: u64, buf: &mut [u8]) -> Result<usize, FileFail>
         ensures count { IfOk result (λ n. n ≤ length buf.old) }
-        ensures read { IfOk result (λ n. HasBytes (content self.old) path.now (ReadsAt at n buf.new)) }
-        ensures cause { IfErr result (IsFailOf (content self.old) path.now (faults self.old) (faults self.new) (absences self.old) (absences self.new)) }
-        ensures same { content self.new ≡ content self.old }
-        ensures no_fall { (faults self.old ≤ faults self.new) × (absences self.old ≤ absences self.new) };
+        ensures read { IfOk result (λ n. HasBytes (told self.old).content path.now (ReadsAt at n buf.new)) }
+        ensures cause { IfErr result (IsFailOf path.now (told self.old) (told self.new)) }
+        ensures no_fault { RaisesNoFault path.now (told self.old) (told self.new) }
+        ensures keeps { Keeps (told self.old) (told self.new) };
 }
 
 /// The front of a file, and whether the file has a byte behind it.
@@ -108,15 +103,15 @@ fn read_more<F: Files>(
 ) -> Result<usize, FileFault>
     requires room { vec_len bytes.old < most }
     requires some { 0 < length piece.old }
-    requires front { ReadSoFar (F.content files.old) path.now bytes.old.items }
-    ensures front { ReadSoFar (F.content files.old) path.now bytes.new.items }
+    requires front { ReadSoFar (F.told files.old).content path.now bytes.old.items }
+    ensures front { ReadSoFar (F.told files.old).content path.now bytes.new.items }
     ensures len { IfOk result (λ n. vec_len bytes.new ≡ vec_len bytes.old + n) }
     ensures within { vec_len bytes.new ≤ most }
-    ensures end { IfOk result (λ n. n ≡ 0 → HasBytes (F.content files.old) path.now (λ all. length all ≤ vec_len bytes.old)) }
-    ensures there { OnOk result (HasBytes (F.content files.old) path.now (λ all. Unit {0})) }
-    ensures cause { IfErr result (IsFaultOf (F.content files.old) path.now (F.faults files.old) (F.faults files.new) (F.absences files.old) (F.absences files.new)) }
-    ensures same { F.content files.new ≡ F.content files.old }
-    ensures no_fall { (F.faults files.old ≤ F.faults files.new) × (F.absences files.old ≤ F.absences files.new) }
+    ensures end { IfOk result (λ n. n ≡ 0 → HasBytes (F.told files.old).content path.now (λ all. length all ≤ vec_len bytes.old)) }
+    ensures there { OnOk result (HasBytes (F.told files.old).content path.now (λ all. Unit {0})) }
+    ensures cause { IfErr result (IsFaultOf path.now (F.told files.old) (F.told files.new)) }
+    ensures no_fault { RaisesNoFault path.now (F.told files.old) (F.told files.new) }
+    ensures keeps { Keeps (F.told files.old) (F.told files.new) }
 {
     let left = most - bytes.len() as u64;
     let want = left.min(piece.len() as u64) as usize;
@@ -134,12 +129,12 @@ fn read_pieces<F: Files>(
     piece: &mut [u8],
 ) -> Result<FileBytes, FileFault>
     requires some { 0 < length piece.old }
-    ensures read { IfOk result (λ f. HasBytes (F.content files.old) path.now (IsFront most f.bytes.items f.more)) }
+    ensures read { IfOk result (λ f. HasBytes (F.told files.old).content path.now (IsFront most f.bytes.items f.more)) }
     ensures within { IfOk result (λ f. length f.bytes.items ≤ most) }
     ensures full { IfOk result (λ f. IsTrue f.more → length f.bytes.items ≡ most) }
-    ensures cause { IfErr result (IsFaultOf (F.content files.old) path.now (F.faults files.old) (F.faults files.new) (F.absences files.old) (F.absences files.new)) }
-    ensures same { F.content files.new ≡ F.content files.old }
-    ensures no_fall { (F.faults files.old ≤ F.faults files.new) × (F.absences files.old ≤ F.absences files.new) }
+    ensures cause { IfErr result (IsFaultOf path.now (F.told files.old) (F.told files.new)) }
+    ensures no_fault { RaisesNoFault path.now (F.told files.old) (F.told files.new) }
+    ensures keeps { Keeps (F.told files.old) (F.told files.new) }
 {
     let mut bytes = Vec::new(alloc);
     while (bytes.len() as u64) < most {
@@ -157,20 +152,20 @@ fn read_pieces<F: Files>(
 /// end takes at least one.
 ///
 /// `Absent` raises the count of absences and, where the files are told, says that none is at the
-/// path; such a path never gives `Ok`. `Read` raises the count of faults. `Memory` is answered for
-/// want of memory.
+/// path; such a path never gives `Ok`. `Read` raises the count of faults, and never at a path that
+/// the files tell to be missing. `Memory` is answered for want of memory.
 pub fn read_file<F: Files>(
     alloc: Global,
     files: &mut F,
     path: &str,
     most: u64,
 ) -> Result<FileBytes, FileFault>
-    ensures read { IfOk result (λ f. HasBytes (F.content files.old) path.now (IsFront most f.bytes.items f.more)) }
+    ensures read { IfOk result (λ f. HasBytes (F.told files.old).content path.now (IsFront most f.bytes.items f.more)) }
     ensures within { IfOk result (λ f. length f.bytes.items ≤ most) }
     ensures full { IfOk result (λ f. IsTrue f.more → length f.bytes.items ≡ most) }
-    ensures cause { IfErr result (IsFaultOf (F.content files.old) path.now (F.faults files.old) (F.faults files.new) (F.absences files.old) (F.absences files.new)) }
-    ensures same { F.content files.new ≡ F.content files.old }
-    ensures no_fall { (F.faults files.old ≤ F.faults files.new) × (F.absences files.old ≤ F.absences files.new) }
+    ensures cause { IfErr result (IsFaultOf path.now (F.told files.old) (F.told files.new)) }
+    ensures no_fault { RaisesNoFault path.now (F.told files.old) (F.told files.new) }
+    ensures keeps { Keeps (F.told files.old) (F.told files.new) }
 {
     let mut piece = vec![in alloc; 0; PIECE]?;
     read_pieces(alloc, files, path, most, &mut piece)

@@ -10,8 +10,6 @@ mod mem_source;
 mod real;
 mod sink;
 mod source;
-#[cfg(test)]
-mod tests;
 mod words;
 
 pub use failed::Failed;

@@ -1,8 +1,8 @@
 // Files in memory.
-ghost use Rattle.std.specs.Prelude.{◌≡◌, ◌↔◌, ◌≤◌, ◌<◌, ◌-◌, ℕ, List, [], Some, None, Ok, Err, IfOk, IfErr, IfSome, OnOk, OnErr, length, min, drop, map};
+ghost use Rattle.std.specs.Prelude.{◌≡◌, ◌≢◌, ◌↔◌, ◌≤◌, ◌<◌, ◌-◌, ℕ, List, [], Some, None, Ok, Err, IfOk, IfErr, IfSome, OnOk, OnErr, length, min, drop, map};
 ghost use Rattle.std.specs.Option.{option_copied};
-ghost use Rattle.ports.specs.Files.{HasBytes, ReadsAt, IsFailOf};
-ghost use Rattle.ports.specs.Memory.{CallFails, no_calls, next_call, bytes_of, after_fail};
+ghost use Rattle.ports.specs.Files.{HasBytes, ReadsAt, IsFailOf, RaisesNoFault, Keeps};
+ghost use Rattle.ports.specs.Memory.{CallFails, no_calls, next_call, bytes_of, after_fail, told_of};
 ghost use Rattle.ports.specs.Put.{put_of};
 
 use crate::calls::Calls;
@@ -38,7 +38,8 @@ impl Model for MemFiles {
 }
 
 impl MemFiles {
-    /// No files yet. Exactly the reads that `fails` lists by number, the first being 1, will fail.
+    /// No files yet. Of the reads at paths that were put, exactly those that `fails` lists by number will
+    /// fail; all reads are counted, the first being 1.
     pub fn new(alloc: Global, fails: &[u32]) -> Result<MemFiles, AllocError>
         ensures { IfOk result (λ m. m ≡ record { puts = []; calls = no_calls fails.now; absences = 0 }) }
     {
@@ -82,34 +83,31 @@ fn bytes_at<'a>(files: &'a [MemFile], path: &[u8]) -> Option<&'a [u8]>
 }
 
 impl Files for MemFiles {
-    ghost content = { λ m. Some (bytes_of m.puts) };
-
-    ghost faults = { λ m. m.calls.failed };
-
-    ghost absences = { λ m. m.absences };
+    ghost told = { told_of };
 
     fn read_at(&mut self, path: &str, at: u64, buf: &mut [u8]) -> Result<usize, FileFail>
         // As all files.
         ensures count { IfOk result (λ n. n ≤ length buf.old) }
-        ensures read { IfOk result (λ n. HasBytes (Some (bytes_of self.old.puts)) path.now (ReadsAt at n buf.new)) }
-        ensures cause { IfErr result (IsFailOf (Some (bytes_of self.old.puts)) path.now self.old.calls.failed self.new.calls.failed self.old.absences self.new.absences) }
-        ensures same { Some (bytes_of self.new.puts) ≡ Some (bytes_of self.old.puts) }
-        ensures no_fall { (self.old.calls.failed ≤ self.new.calls.failed) × (self.old.absences ≤ self.new.absences) }
+        ensures read { IfOk result (λ n. HasBytes (told_of self.old).content path.now (ReadsAt at n buf.new)) }
+        ensures cause { IfErr result (IsFailOf path.now (told_of self.old) (told_of self.new)) }
+        ensures no_fault { RaisesNoFault path.now (told_of self.old) (told_of self.new) }
+        ensures keeps { Keeps (told_of self.old) (told_of self.new) }
 
-        // They fail at the chosen calls alone, and else give what is there.
-        ensures failed { (result ≡ Err FileFail.Failed) ↔ CallFails self.old.calls }
-        ensures absent { (result ≡ Err FileFail.Absent) ↔ ((CallFails self.old.calls → ⊥) × (bytes_of self.old.puts path.now ≡ None)) }
+        // A path that was not put is absent. At all others they fail at the chosen calls alone, and else give what is there.
+        ensures absent { (result ≡ Err FileFail.Absent) ↔ (bytes_of self.old.puts path.now ≡ None) }
+        ensures failed { (result ≡ Err FileFail.Failed) ↔ (CallFails self.old.calls × (bytes_of self.old.puts path.now ≢ None)) }
         ensures given { IfOk result (λ n. IfSome (bytes_of self.old.puts path.now) (λ bytes. n ≡ min (length bytes - at) (length buf.old))) }
         ensures behind { IfOk result (λ n. drop n buf.new ≡ drop n buf.old) }
         ensures ok { OnOk result (self.new ≡ record { puts = self.old.puts; calls = next_call self.old.calls; absences = self.old.absences }) }
         ensures err { IfErr result (λ f. self.new ≡ after_fail self.old f) }
         ensures untouched { OnErr result (buf.new ≡ buf.old) }
     {
-        self.calls.next()?;
         let Some(bytes) = bytes_at(&self.files, path.as_bytes()) else {
+            self.calls.pass();
             self.absences = self.absences.saturating_add(1);
             return Err(FileFail::Absent);
         };
+        self.calls.next()?;
         Ok(copy_from(bytes, at, buf))
     }
 }

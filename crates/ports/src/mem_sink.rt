@@ -1,6 +1,6 @@
 // A sink in memory.
 ghost use Rattle.std.specs.Prelude.{◌≡◌, ◌↔◌, ◌⊎◌, ◌≤◌, ◌<◌, ◌+◌, ◌-◌, ◌++◌, [], Some, IsErr, IfOk, OnErr, length, min, take, vec_len, vec_capacity};
-ghost use Rattle.ports.specs.Content.{Rose, Appends};
+ghost use Rattle.ports.specs.Content.{WritesSome};
 ghost use Rattle.ports.specs.Memory.{CallFails, no_calls, next_call, failed_call};
 
 use crate::calls::Calls;
@@ -67,18 +67,11 @@ fn append(bytes: &mut Vec<u8>, piece: &[u8])
 }
 
 impl Sink for MemSink {
-    ghost written = { λ s. Some s.held };
-
-    ghost faults = { λ s. s.calls.failed };
+    ghost told = { λ s. record { written = Some s.held; faults = s.calls.failed } };
 
     fn write(&mut self, piece: &[u8]) -> Result<usize, Failed>
         // As every sink.
-        ensures count { IfOk result (λ n. n ≤ length piece.now) }
-        ensures some { IfOk result (λ n. 0 < length piece.now → 0 < n) }
-        ensures appended { IfOk result (λ n. Appends (Some self.old.held) (Some self.new.held) (take n piece.now)) }
-        ensures same { OnErr result (Some self.new.held ≡ Some self.old.held) }
-        ensures cause { OnErr result (Rose self.old.calls.failed self.new.calls.failed) }
-        ensures no_fall { self.old.calls.failed ≤ self.new.calls.failed }
+        ensures every { WritesSome piece.now (record { written = Some self.old.held; faults = self.old.calls.failed }) (record { written = Some self.new.held; faults = self.new.calls.failed }) result }
 
         // It fails at the chosen calls and without room alone, and takes what it can, up to its most.
         ensures fails { IsErr result ↔ (CallFails self.old.calls ⊎ ((0 < length piece.now) × (self.old.room ≤ length self.old.held))) }

@@ -1,6 +1,6 @@
 // A source in memory.
 ghost use Rattle.std.specs.Prelude.{◌≡◌, ◌↔◌, ◌≤◌, ◌<◌, Some, IsErr, IfOk, OnErr, length, min, take, drop};
-ghost use Rattle.ports.specs.Content.{Rose, Takes};
+ghost use Rattle.ports.specs.Content.{TakesSome};
 ghost use Rattle.ports.specs.Memory.{CallFails, no_calls, next_call, failed_call};
 
 use crate::calls::Calls;
@@ -51,17 +51,11 @@ impl MemSource {
 }
 
 impl Source for MemSource {
-    ghost left = { λ s. Some s.left };
-
-    ghost faults = { λ s. s.calls.failed };
+    ghost told = { λ s. record { left = Some s.left; faults = s.calls.failed } };
 
     fn read(&mut self, buf: &mut [u8]) -> Result<usize, Failed>
         // As every source.
-        ensures count { IfOk result (λ n. n ≤ length buf.old) }
-        ensures taken { IfOk result (λ n. Takes (Some self.old.left) (Some self.new.left) buf.new n) }
-        ensures same { OnErr result (Some self.new.left ≡ Some self.old.left) }
-        ensures cause { OnErr result (Rose self.old.calls.failed self.new.calls.failed) }
-        ensures no_fall { self.old.calls.failed ≤ self.new.calls.failed }
+        ensures every { TakesSome (record { left = Some self.old.left; faults = self.old.calls.failed }) (record { left = Some self.new.left; faults = self.new.calls.failed }) buf.old buf.new result }
 
         // It fails at the chosen calls alone, and gives what there is, up to its most.
         ensures fails { IsErr result ↔ CallFails self.old.calls }

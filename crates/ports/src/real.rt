@@ -18,8 +18,7 @@ pub struct DiskFiles<R: std::rt::Files + Drop> {
 impl<R: std::rt::Files + Drop> DiskFiles<R> {
     /// The files that `host` reaches: no read has failed, and none was absent.
     pub fn new(host: R) -> Self
-        ensures faults { ⟦<DiskFiles<R> as Files>⟧.faults result ≡ 0 }
-        ensures absences { ⟦<DiskFiles<R> as Files>⟧.absences result ≡ 0 }
+        ensures { ⟦<DiskFiles<R> as Files>⟧.told result ≡ record { content = None; faults = 0; absences = 0 } }
     {
         DiskFiles {
             host,
@@ -38,11 +37,7 @@ fn read_from<F: Read + Seek>(file: &mut F, at: u64, buf: &mut [u8]) -> io::Resul
 }
 
 impl<R: std::rt::Files + Drop> Files for DiskFiles<R> {
-    ghost content = { λ _. None };
-
-    ghost faults = { λ d. d.faults };
-
-    ghost absences = { λ d. d.absences };
+    ghost told = { λ d. record { content = None; faults = d.faults; absences = d.absences } };
 
     /// `Absent` is answered where the host cannot open the file because there is none (`ENOENT` of
     /// POSIX `open`). A folder, a path below a file, a file that may not be read, and a place from
@@ -76,16 +71,14 @@ pub struct StdSink<W: Write + Drop> {
 impl<W: Write + Drop> StdSink<W> {
     /// A sink over `writer`: no write has failed.
     pub fn new(writer: W) -> Self
-        ensures { ⟦<StdSink<W> as Sink>⟧.faults result ≡ 0 }
+        ensures { ⟦<StdSink<W> as Sink>⟧.told result ≡ record { written = None; faults = 0 } }
     {
         StdSink { writer, faults: 0 }
     }
 }
 
 impl<W: Write + Drop> Sink for StdSink<W> {
-    ghost written = { λ _. None };
-
-    ghost faults = { λ s. s.faults };
+    ghost told = { λ s. record { written = None; faults = s.faults } };
 
     fn write(&mut self, piece: &[u8]) -> Result<usize, Failed> {
         match self.writer.write(piece) {
@@ -108,16 +101,14 @@ pub struct StdSource<I: Read + Drop> {
 impl<I: Read + Drop> StdSource<I> {
     /// A source over `reader`: no read has failed.
     pub fn new(reader: I) -> Self
-        ensures { ⟦<StdSource<I> as Source>⟧.faults result ≡ 0 }
+        ensures { ⟦<StdSource<I> as Source>⟧.told result ≡ record { left = None; faults = 0 } }
     {
         StdSource { reader, faults: 0 }
     }
 }
 
 impl<I: Read + Drop> Source for StdSource<I> {
-    ghost left = { λ _. None };
-
-    ghost faults = { λ s. s.faults };
+    ghost told = { λ s. record { left = None; faults = s.faults } };
 
     fn read(&mut self, buf: &mut [u8]) -> Result<usize, Failed> {
         match self.reader.read(buf) {
