@@ -1,9 +1,10 @@
 -- No value of the earliest execution is above the number of nodes times the greatest weight.
-use Rattle.std.proofs.Common.{◌≡◌, ℕ, zero, suc, ◌+◌, ◌*◌, ◌<◌, ◌≤◌, true, false, cond, List, [], ◌∷◌, length, get_or, refl, ap, subst, arith, inl, inr, ◌⊎◌}
+use Rattle.std.proofs.Common.{◌≡◌, ℕ, zero, suc, ◌+◌, ◌*◌, ◌^◌, ◌<◌, ◌≤◌, true, false, cond, List, [], ◌∷◌, length, get_or, refl, ap, subst, arith, inl, inr, ◌⊎◌}
 use Rattle.std.specs.Prelude.{ℤ, pos, neg_ℤ, ◌+ℤ◌, ◌-ℤ◌, ◌≤ℤ◌, ◌<ℤ◌, All, int_lt, if◌then◌else◌}
 use Rattle.std.proofs.lemmas.Int.{ints}
 use Rattle.std.proofs.lemmas.Bool.{cases_Bool, cond-true, cond-false, cases_lt}
 use Rattle.std.proofs.lemmas.List.{get_or_past}
+use Rattle.problem_model.specs.Nodes.{most_nodes}
 use Rattle.difference_bounds.specs.Executions.{Arc, at, Obeys, IsExecution, AreWithin, values_by}
 use Rattle.difference_bounds.specs.Earliest.{IsNonNegative, IsEarliest}
 use Rattle.difference_bounds.proofs.Executions.{at-values_by, execution_by}
@@ -184,3 +185,8 @@ pub earliest_height : (nodes : ℕ) (arcs : List Arc) (xs : List ℤ) (height : 
 earliest_height nodes arcs xs height w lw e k l =
     let z : above (pos (nodes * height)) xs ≡ 0 = elim (levels nodes arcs xs height w lw e nodes) [ inl h ↦ omega arith | inr h ↦ h ] in
     from_none_above (pos (nodes * height)) xs z k (omega (arith, e.execution.one_each))
+
+-- ---- how high a height of a graph may be
+-- weights are below 2^93, so over at most so many nodes every sum of a simple path is at most 2^115
+pub height_low : (n : ℕ) → n ≤ most_nodes → n * 2 ^ 93 ≤ 2 ^ 115
+height_low n few = omega (arith, few)

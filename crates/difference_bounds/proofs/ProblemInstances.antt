@@ -1,5 +1,5 @@
 -- Small problems worked out: each definition on problems holds of one thing and fails of another.
-use Rattle.std.proofs.Common.{◌≡◌, ◌*◌, ℕ, zero, suc, List, [], ◌∷◌, slice_get, Some, refl, sym, ◌∙◌, ap, subst, arith}
+use Rattle.std.proofs.Common.{◌≡◌, ◌<◌, ◌*◌, ℕ, zero, suc, List, [], ◌∷◌, slice_get, Some, refl, sym, ◌∙◌, ap, subst, arith}
 use Rattle.std.specs.Prelude.{ℤ, pos, ◌+ℤ◌, Contains, codes}
 use Rattle.std.proofs.lemmas.Int.{ints}
 use Rattle.std.proofs.lemmas.List.Elements.{All-from_recursion}
@@ -7,6 +7,7 @@ use Rattle.problem_model.specs.declared.items.Clock.{Clock}
 use Rattle.problem_model.specs.declared.items.Event.{Event}
 use Rattle.problem_model.specs.declared.items.Node.TheVariants as nodes
 use Rattle.problem_model.specs.declared.items.Bound.{Bound}
+use Rattle.problem_model.specs.declared.items.Bound.TheVariants as bounds
 use Rattle.problem_model.specs.declared.items.Bound.TheVariants.{SpanMost, SpanLeast, Late, Early, DelayMost, DelayLeast}
 use Rattle.problem_model.specs.Problem.{ProblemLists, empty_problem}
 use Rattle.problem_model.specs.Bounds.{Constraint, Declares, Times, IsExecution}
@@ -22,7 +23,7 @@ abbrev pub one_event : Event
 one_event = record { name = codes "p"; clock = 0; stamp = 0 }
 
 abbrev pub one : ProblemLists
-one = record { clocks = one_clock ∷ []; events = one_event ∷ []; messages = [] }
+one = record { clocks = one_clock ∷ []; follows = []; events = one_event ∷ []; messages = [] }
 
 abbrev pub one_reading : List Reading
 one_reading = (0, 0) ∷ []
@@ -71,6 +72,10 @@ early_arc_of = record { tail = refl; head = refl; weighs = refl }
 -- both arcs stand for the problem
 stands : StandsFor one one_reading (late_arc ∷ early_arc ∷ [])
 stands = record {
+  chained = record {
+    follow_ends = λ k d inside. absurd (omega (arith, inside));
+    laters_differ = λ i j d below inside. absurd (omega (arith, inside));
+  };
   each = All-from_recursion (λ a. (b : Bound) × (c : Constraint) × Declares one b c × IsArcOf one one_reading c a) (late_arc ∷ early_arc ∷ []) (
     (Late 0, late_bound, (one_event, one_clock, refl, refl, refl), late_arc_of),
     ((Early 0, early_bound, (one_event, one_clock, refl, refl, refl), early_arc_of), tt),
@@ -100,6 +105,7 @@ nothing_declared (SpanMost clock s t) a d = let at = d.1 in absurd cc
 nothing_declared (SpanLeast clock s t) a d = let at = d.1 in absurd cc
 nothing_declared (Late e) a d = let at = d.2 in absurd cc
 nothing_declared (Early e) a d = let at = d.2 in absurd cc
+nothing_declared (bounds.Follow c s d' t) a d = absurd (omega (arith, d.1.1))
 nothing_declared (DelayMost send receive) a d = absurd (omega (arith, d.2.1))
 nothing_declared (DelayLeast send receive) a d = absurd (omega (arith, d.1.1))
 

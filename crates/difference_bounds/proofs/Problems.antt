@@ -41,7 +41,7 @@ module _ (p : ProblemLists) (readings : List Reading) (x : Times) (xs : List ℤ
 
   pub same_executions : (arcs : List Arc) → AreReadings p readings → StandsFor p readings arcs → IsExecution (length (nodes_of p readings)) arcs xs ↔ bounds.IsExecution p x
   same_executions arcs are stands = (
-    λ execution. (suffices p x readings are).0 (λ k d inside c declares.
+    λ execution. (suffices p x stands.chained readings are).0 (λ k d inside c declares.
         let found = stands.every k d inside c declares in
         obeyed_bound c found.0 found.2 (All-contains (Obeys (at xs)) arcs found.0 execution.obeys found.1)),
     λ execution. record {

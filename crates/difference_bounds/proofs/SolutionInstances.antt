@@ -5,6 +5,7 @@ use Rattle.std.proofs.lemmas.Int.{ints}
 use Rattle.problem_model.specs.declared.items.Event.{Event}
 use Rattle.problem_model.specs.declared.items.Message.{Message}
 use Rattle.problem_model.specs.declared.items.Node.TheVariants as nodes
+use Rattle.problem_model.specs.declared.items.Bound.TheVariants as bounds
 use Rattle.problem_model.specs.declared.items.Bound.TheVariants.{SpanMost, SpanLeast, Late, Early, DelayMost, DelayLeast}
 use Rattle.problem_model.specs.Problem.{ProblemLists}
 use Rattle.problem_model.specs.Bounds.{Constraint, Declares, IsReading, IsExecution, Obeys, Times}
@@ -46,6 +47,7 @@ zero_executes (SpanLeast clock s t) a (c, at, from, to, rises, is) =
     absurd (omega (arith, rises, low, high))
 zero_executes (Late e) a (v, c, at, on, is) = obeys_at_zero a (c.late * 1000000000) (ap (λ (k : Constraint). k.weight) is)
 zero_executes (Early e) a (v, c, at, on, is) = obeys_at_zero a (c.early * 1000000000) (ap (λ (k : Constraint). k.weight) is)
+zero_executes (bounds.Follow c s d' t) a d = let inside = d.1.1 in absurd (omega (arith, inside))
 zero_executes (DelayMost send receive) a d = let inside = d.2.1 in absurd (omega (arith, inside))
 zero_executes (DelayLeast send receive) a d = let inside = d.1.1 in absurd (omega (arith, inside))
 
@@ -69,6 +71,7 @@ not_from_zero low = let first : pos 0 ≤ℤ neg_ℤ (pos 1) = low (nodes.Event 
 abbrev crossed : ProblemLists
 crossed = record {
   clocks = one_clock ∷ [];
+  follows = [];
   events = one_event ∷ (let q : Event = record { name = codes "q"; clock = 0; stamp = 0 } in q) ∷ [];
   messages = (let m : Message = record { send = 0; receive = 1; least = 2; most = Some 1 } in m) ∷ [];
 }

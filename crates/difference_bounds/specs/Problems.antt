@@ -2,7 +2,7 @@
 use Rattle.std.specs.Prelude.{◌≡◌, ℕ, ℤ, ◌-ℤ◌, ◌≤ℤ◌, ◌<ℤ◌, List, slice_get, Some, All, Contains}
 use Rattle.problem_model.specs.declared.items.Node.{Node}
 use Rattle.problem_model.specs.declared.items.Bound.{Bound}
-use Rattle.problem_model.specs.Problem.{ProblemLists}
+use Rattle.problem_model.specs.Problem.{ProblemLists, IsChained}
 use Rattle.problem_model.specs.Bounds.{Constraint, Declares, Times, IsExecution}
 use Rattle.problem_model.specs.Nodes.{Reading, nodes_of}
 use Rattle.problem_model.specs.ShortList.{short_list}
@@ -18,8 +18,9 @@ pub record IsArcOf (p : ProblemLists) (readings : List Reading) (c : Constraint)
   pub head : IsNodeAt p readings a.to c.to
   pub weighs : a.weight ≡ c.weight
 
--- each arc is a declared bound, and each bound of the short list is one of the arcs
+-- follows make chains, each arc is a declared bound, and each bound of the short list is one of the arcs
 pub record StandsFor (p : ProblemLists) (readings : List Reading) (arcs : List Arc) : Type 0 where
+  pub chained : IsChained p
   pub each : All (λ a. (b : Bound) × (c : Constraint) × Declares p b c × IsArcOf p readings c a) arcs
   pub every : All (λ b. (c : Constraint) → Declares p b c → (a : Arc) × Contains arcs a × IsArcOf p readings c a) (short_list p readings)
 

@@ -1,7 +1,9 @@
 mod Names
 mod Worked
 pub mod Chains
+pub mod Following
 pub mod Sufficing
+pub mod NearestFollows
 pub mod OneList
 pub mod Places
 pub mod OneName

@@ -4,26 +4,39 @@ use Rattle.atto.specs.Decimal.{decimal_of}
 use Rattle.atto.specs.NsText.{ns_text}
 use Rattle.line_format.specs.Words.{line_of}
 use Rattle.problem_model.specs.declared.items.Bound.{Bound}
-use Rattle.problem_model.specs.declared.items.Bound.TheVariants.{SpanMost, SpanLeast, Late, Early, DelayMost, DelayLeast}
+use Rattle.problem_model.specs.declared.items.Bound.TheVariants.{SpanMost, SpanLeast, Late, Early, Follow, DelayMost, DelayLeast}
 use Rattle.problem_model.specs.Problem.{ProblemLists}
 use Rattle.problem_model.specs.ProblemText.{clock_name, event_name}
 
--- a bound over a span, by its kind
-abbrev pub span_words : List ℕ → ProblemLists → ℕ → ℕ → ℕ → List (List ℕ)
-span_words kind p clock s t = kind ∷ clock_name p.clocks clock ∷ decimal_of s ∷ decimal_of t ∷ []
+-- a bound over a span, by its kind and the name of the clock
+abbrev pub span_words : List ℕ → List ℕ → ℕ → ℕ → List (List ℕ)
+span_words kind clock s t = kind ∷ clock ∷ decimal_of s ∷ decimal_of t ∷ []
 
--- a bound on a message's delay, by its kind
-abbrev pub delay_words : List ℕ → ProblemLists → ℕ → ℕ → List (List ℕ)
-delay_words kind p send receive = kind ∷ event_name p.events send ∷ event_name p.events receive ∷ []
+-- a bound on an event's stamp, by its kind and the name of the event
+abbrev pub stamp_words : List ℕ → List ℕ → List (List ℕ)
+stamp_words kind event = kind ∷ event ∷ []
 
--- the words that name a bound
+-- a bound between clocks that follow each other, by their names
+abbrev pub follow_words : List ℕ → ℕ → List ℕ → ℕ → List (List ℕ)
+follow_words earlier s later t = codes "follow" ∷ earlier ∷ decimal_of s ∷ later ∷ decimal_of t ∷ []
+
+-- a bound on a message's delay, by its kind and the names of both events
+abbrev pub delay_words : List ℕ → List ℕ → List ℕ → List (List ℕ)
+delay_words kind send receive = kind ∷ send ∷ receive ∷ []
+
+-- the words that name a bound, where clocks and events have these names
+abbrev pub named_bound : (ℕ → List ℕ) → (ℕ → List ℕ) → Bound → List (List ℕ)
+named_bound clock event (SpanMost k s t) = span_words (codes "span-most") (clock k) s t
+named_bound clock event (SpanLeast k s t) = span_words (codes "span-least") (clock k) s t
+named_bound clock event (Late e) = stamp_words (codes "late") (event e)
+named_bound clock event (Early e) = stamp_words (codes "early") (event e)
+named_bound clock event (Follow c s d t) = follow_words (clock c) s (clock d) t
+named_bound clock event (DelayMost send receive) = delay_words (codes "delay-most") (event send) (event receive)
+named_bound clock event (DelayLeast send receive) = delay_words (codes "delay-least") (event send) (event receive)
+
+-- the words that name a bound of a problem
 abbrev pub bound_words : ProblemLists → Bound → List (List ℕ)
-bound_words p (SpanMost clock s t) = span_words (codes "span-most") p clock s t
-bound_words p (SpanLeast clock s t) = span_words (codes "span-least") p clock s t
-bound_words p (Late e) = codes "late" ∷ event_name p.events e ∷ []
-bound_words p (Early e) = codes "early" ∷ event_name p.events e ∷ []
-bound_words p (DelayMost send receive) = delay_words (codes "delay-most") p send receive
-bound_words p (DelayLeast send receive) = delay_words (codes "delay-least") p send receive
+bound_words p b = named_bound (clock_name p.clocks) (event_name p.events) b
 
 -- the line that names a broken bound, with its weight and the difference
 abbrev pub broken_line : ProblemLists → Bound → ℤ → ℤ → List ℕ

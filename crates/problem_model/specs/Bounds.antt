@@ -1,12 +1,14 @@
--- The bounds that a problem declares, over every two readings of a clock.
-use Rattle.std.specs.Prelude.{◌≡◌, ℕ, ◌-◌, ◌*◌, ◌<◌, slice_get, Some, ℤ, pos, neg_ℤ, ◌-ℤ◌, ◌≤ℤ◌, Contains}
+-- The bounds that a problem declares, over every two readings of a clock and of clocks that come after each other.
+use Rattle.std.specs.Prelude.{◌≡◌, ℕ, List, [], ◌∷◌, ◌-◌, ◌*◌, ◌<◌, slice_get, Some, ℤ, pos, neg_ℤ, ◌-ℤ◌, ◌≤ℤ◌, Contains}
 use Rattle.atto.specs.Span.{least_of, most_of}
 use Rattle.problem_model.specs.declared.items.Clock.{Clock}
+use Rattle.problem_model.specs.declared.items.Follow.{Follow}
 use Rattle.problem_model.specs.declared.items.Event.{Event}
 use Rattle.problem_model.specs.declared.items.Message.{Message}
 use Rattle.problem_model.specs.declared.items.Node.{Node}
 use Rattle.problem_model.specs.declared.items.Node.TheVariants as nodes
 use Rattle.problem_model.specs.declared.items.Bound.{Bound}
+use Rattle.problem_model.specs.declared.items.Bound.TheVariants as bounds
 use Rattle.problem_model.specs.declared.items.Bound.TheVariants.{SpanMost, SpanLeast, Late, Early, DelayMost, DelayLeast}
 use Rattle.problem_model.specs.Problem.{ProblemLists}
 
@@ -28,6 +30,15 @@ ClockAt p k c = slice_get p.clocks k ≡ Some c
 abbrev pub EventAt : ProblemLists → ℕ → Event → Type 0
 EventAt p k e = slice_get p.events k ≡ Some e
 
+-- follow lines of the problem lead from clock c to clock d, each line's LATER being the next one's EARLIER
+abbrev pub LinesLead : ProblemLists → ℕ → List Follow → ℕ → Type 0
+LinesLead p c [] d = c ≡ d
+LinesLead p c (f ∷ lines) d = Contains p.follows f × (f.earlier ≡ c) × LinesLead p f.later lines d
+
+-- clock d comes after clock c: one or more lines lead there
+abbrev pub ComesAfter : ProblemLists → ℕ → ℕ → Type 0
+ComesAfter p c d = (f : Follow) × (lines : List Follow) × LinesLead p c (f ∷ lines) d
+
 -- the problem declares the constraint a under the name b
 abbrev pub Declares : ProblemLists → Bound → Constraint → Type 0
 Declares p (SpanMost clock s t) a = (c : Clock) × ClockAt p clock c × IsReading p clock s × IsReading p clock t × (s < t)
@@ -38,6 +49,8 @@ Declares p (Late e) a = (v : Event) × (c : Clock) × EventAt p e v × ClockAt p
     × (a ≡ record { from = nodes.Reading v.clock v.stamp; to = nodes.Event e; weight = pos (c.late * 1000000000) })
 Declares p (Early e) a = (v : Event) × (c : Clock) × EventAt p e v × ClockAt p v.clock c
     × (a ≡ record { from = nodes.Event e; to = nodes.Reading v.clock v.stamp; weight = pos (c.early * 1000000000) })
+Declares p (bounds.Follow c s d t) a = (f : Follow) × Contains p.follows f × (f.later ≡ d) × ComesAfter p c d × IsReading p c s × IsReading p d t
+    × (a ≡ record { from = nodes.Reading d t; to = nodes.Reading c s; weight = neg_ℤ (pos (f.gap * 1000000000)) })
 Declares p (DelayMost send receive) a = (m : Message) × (most : ℕ) × Contains p.messages m × (m.send ≡ send) × (m.receive ≡ receive) × (m.most ≡ Some most)
     × (a ≡ record { from = nodes.Event send; to = nodes.Event receive; weight = pos (most * 1000000000) })
 Declares p (DelayLeast send receive) a = (m : Message) × Contains p.messages m × (m.send ≡ send) × (m.receive ≡ receive)

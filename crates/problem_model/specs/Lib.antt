@@ -4,6 +4,7 @@ pub mod Problem
 pub mod Bounds
 pub mod Nodes
 pub mod ShortList
+pub mod Nearest
 pub mod ProblemText
 pub mod ExecutionText
 pub mod BoundText

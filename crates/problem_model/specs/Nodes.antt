@@ -1,10 +1,14 @@
 -- The nodes of a problem in their order, and the real times as a list in that order.
-use Rattle.std.specs.Prelude.{◌≡◌, ℕ, ◌+◌, ◌<◌, ◌⊎◌, List, [], ◌∷◌, ◌++◌, map, AllPairs, Contains, ℤ}
+use Rattle.std.specs.Prelude.{◌≡◌, ℕ, ◌+◌, ◌<◌, ◌^◌, ◌⊎◌, List, [], ◌∷◌, ◌++◌, map, AllPairs, Contains, ℤ}
 use Rattle.problem_model.specs.declared.items.Node.{Node}
 use Rattle.problem_model.specs.declared.items.Node.TheVariants as nodes
 use Rattle.problem_model.specs.declared.items.Event.{Event}
 use Rattle.problem_model.specs.Problem.{ProblemLists}
 use Rattle.problem_model.specs.Bounds.{IsReading, Times}
+
+-- the most nodes of a graph or of a list of real times; a problem has at most half as many
+abbrev pub most_nodes : ℕ
+most_nodes = 2 ^ 22
 
 -- a clock and a stamp
 abbrev pub Reading : Type 0

@@ -1,6 +1,7 @@
 -- A problem and the rules that it meets.
-use Rattle.std.specs.Prelude.{◌≡◌, ◌≢◌, ◌^◌, ◌<◌, ◌≤◌, List, [], length, IfSome, AllPairs, All}
+use Rattle.std.specs.Prelude.{◌≡◌, ◌≢◌, ℕ, ◌^◌, ◌<◌, ◌≤◌, List, [], length, IfSome, AllPairs, All}
 use Rattle.problem_model.specs.declared.items.Clock.{Clock}
+use Rattle.problem_model.specs.declared.items.Follow.{Follow}
 use Rattle.problem_model.specs.declared.items.Event.{Event}
 use Rattle.problem_model.specs.declared.items.Message.{Message}
 use Rattle.problem_model.specs.Name.{IsEventName, IsClockName}
@@ -8,12 +9,13 @@ use Rattle.problem_model.specs.Name.{IsEventName, IsClockName}
 -- what a problem says
 pub record ProblemLists : Type 0 where
   pub clocks : List Clock
+  pub follows : List Follow
   pub events : List Event
   pub messages : List Message
 
 -- the problem that says nothing
 abbrev pub empty_problem : ProblemLists
-empty_problem = record { clocks = []; events = []; messages = [] }
+empty_problem = record { clocks = []; follows = []; events = []; messages = [] }
 
 -- the numbers of a clock are in their ranges
 abbrev pub ClockFits : Clock → Type 0
@@ -23,20 +25,49 @@ ClockFits c = (c.rate.short ≤ 999999999) × (c.rate.long ≤ 1000000000) × (c
 abbrev pub MessageFits : Message → Type 0
 MessageFits m = (m.least < 2 ^ 62) × IfSome m.most (λ most. most < 2 ^ 62)
 
--- names, places, ranges and limits are lawful; clocks, events and messages differ from each other
-pub record IsProblem (p : ProblemLists) : Type 0 where
+-- a follow leads from one clock to another that stands behind it
+abbrev pub LeadsOn : List Clock → Follow → Type 0
+LeadsOn clocks f = (f.earlier < f.later) × (f.later < length clocks)
+
+-- follows make chains: they lead on in the list of clocks, and no clock is the later of two
+pub record IsChained (p : ProblemLists) : Type 0 where
+  pub follow_ends : All (LeadsOn p.clocks) p.follows
+  pub laters_differ : AllPairs (λ a b. a.later ≢ b.later) p.follows
+
+-- the most clocks, events and messages of a problem
+abbrev pub most_clocks : ℕ
+most_clocks = 65536
+
+abbrev pub most_events : ℕ
+most_events = 2 ^ 20
+
+abbrev pub most_messages : ℕ
+most_messages = 2 ^ 20
+
+-- names are spelled as names and tell clocks and events apart, no clock follows another yet, each place is one of its list,
+-- and a message joins two events, no other one the same two in this order
+pub record IsWellFormed (p : ProblemLists) : Type 0 where
   pub clock_names : All (λ c. IsClockName c.name) p.clocks
   pub clocks_differ : AllPairs (λ a b. a.name ≢ b.name) p.clocks
-  pub clocks_fit : All ClockFits p.clocks
-  pub clock_limit : length p.clocks ≤ 65536
+  pub no_follows : p.follows ≡ []
   pub event_names : All (λ e. IsEventName e.name) p.events
   pub events_differ : AllPairs (λ a b. a.name ≢ b.name) p.events
   pub event_clocks : All (λ e. e.clock < length p.clocks) p.events
-  pub stamps_fit : All (λ e. e.stamp < 2 ^ 62) p.events
-  pub event_limit : length p.events ≤ 2 ^ 20
   pub sends : All (λ m. m.send < length p.events) p.messages
   pub receives : All (λ m. m.receive < length p.events) p.messages
   pub two_ends : All (λ m. m.send ≢ m.receive) p.messages
   pub messages_differ : AllPairs (λ a b. (a.send ≡ b.send) → (a.receive ≡ b.receive) → ⊥) p.messages
+
+-- numbers are in their ranges, and there are not too many clocks, events and messages
+pub record FitsLimits (p : ProblemLists) : Type 0 where
+  pub clocks_fit : All ClockFits p.clocks
+  pub clock_limit : length p.clocks ≤ most_clocks
+  pub stamps_fit : All (λ e. e.stamp < 2 ^ 62) p.events
+  pub event_limit : length p.events ≤ most_events
   pub messages_fit : All MessageFits p.messages
-  pub message_limit : length p.messages ≤ 2 ^ 20
+  pub message_limit : length p.messages ≤ most_messages
+
+-- a problem: what its names and places need, and its numbers and limits
+pub record IsProblem (p : ProblemLists) : Type 0 where
+  pub formed : IsWellFormed p
+  pub fits : FitsLimits p

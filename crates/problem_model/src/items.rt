@@ -40,6 +40,18 @@ pub struct Message {
     pub most: Option<Nano>,
 }
 
+/// Two clocks that follow each other: every reading of the earlier one, and of the clocks before it in its chain, comes
+/// before every reading of the later one, or at the same real time where the gap is 0.
+#[derive(Clone, Copy, Debug, PartialEq, Eq)]
+pub struct Follow {
+    /// The place of the earlier clock, from 0 on.
+    pub earlier: u32,
+    /// The place of the later clock; it stands behind the earlier one.
+    pub later: u32,
+    /// The least real time in ns from a reading of the earlier clock, or of one before it in its chain, to one of the later.
+    pub gap: Nano,
+}
+
 /// What has a real time.
 #[derive(Clone, Copy, Debug, PartialEq, Eq)]
 pub enum Node {
@@ -53,15 +65,36 @@ pub enum Node {
 #[derive(Clone, Copy, Debug, PartialEq, Eq)]
 pub enum Bound {
     /// The greatest real time from the reading `s` of a clock to its reading `t`.
-    SpanMost { clock: u32, s: Nano, t: Nano },
+    SpanMost {
+        clock: u32,
+        s: Nano,
+        t: Nano,
+    },
     /// The least real time from the reading `s` of a clock to its reading `t`.
-    SpanLeast { clock: u32, s: Nano, t: Nano },
+    SpanLeast {
+        clock: u32,
+        s: Nano,
+        t: Nano,
+    },
     /// How long an event may come behind the reading of its stamp.
     Late(u32),
     /// How long an event may come before the reading of its stamp.
     Early(u32),
+    /// The least real time from the reading `s` of a clock to the reading `t` of a clock that comes after it.
+    Follow {
+        earlier: u32,
+        s: Nano,
+        later: u32,
+        t: Nano,
+    },
     /// The greatest delay of a message.
-    DelayMost { send: u32, receive: u32 },
+    DelayMost {
+        send: u32,
+        receive: u32,
+    },
     /// The least delay of a message.
-    DelayLeast { send: u32, receive: u32 },
+    DelayLeast {
+        send: u32,
+        receive: u32,
+    },
 }

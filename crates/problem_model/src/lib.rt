@@ -8,6 +8,6 @@ mod items;
 mod law;
 mod name;
 
-pub use items::{Bound, Clock, Event, Message, Node};
-pub use law::{nodes_are_one_list, short_list_suffices};
+pub use items::{Bound, Clock, Event, Follow, Message, Node};
+pub use law::{follows_join_neighbours, nodes_are_one_list, short_list_suffices};
 pub use name::Name;

@@ -2,4 +2,4 @@ use Rattle.problem_model.proofs.Sufficing.{suffices}
 use Rattle.problem_model.proofs.law.short_list_suffices.Goals as goal
 
 pub returns : goal.returns
-returns c = λ p readings x are. suffices p x readings are
+returns c = λ p readings x chained are. suffices p x chained readings are
