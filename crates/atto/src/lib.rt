@@ -14,6 +14,3 @@ pub use text::{
     NsText, NumFault, read_decimal, read_ns, spellings_are_one, write_decimal, write_ns,
 };
 pub use units::Units;
-
-#[cfg(test)]
-mod tests;

@@ -6,3 +6,4 @@ pub mod Reaching
 pub mod OneAnswer
 pub mod Reading
 pub mod Lacking
+pub mod Lengths

@@ -8,6 +8,10 @@ use Rattle.line_format.specs.declared.fault.LineError.TheVariants as errors
 use Rattle.line_format.specs.declared.fault.Taken.{Taken}
 use Rattle.line_format.specs.declared.fault.Taken.TheVariants as taken
 
+-- the most bytes of a text that is read
+abbrev pub most_bytes : ℕ
+most_bytes = 2 ^ 30
+
 -- A format: a head, then lines that say what is so far said, then the end.
 -- A State is what the lines so far say; a Line has its numbers as large as they are written.
 pub record Format (State Line : Type 0) : Type 1 where
@@ -107,11 +111,11 @@ pub data Answer (State : Type 0) : Type 0 where
   Long : Answer State
 
 module _ {State Line : Type 0} (f : Format State Line) where
-  -- a text of at most 2 ^ 30 bytes says something or has a first faulty line; a longer one is too long
+  -- a text that is short enough says something or has a first faulty line; a longer one is too long
   abbrev pub Answers : List ℕ → Answer State → Type 0
-  Answers text (Found s) = (length text ≤ 2 ^ 30) × f.IsSound s × f.MayStand s f.end × (text ≡ whole_text f s)
-  Answers text (Faulty kind n) = (length text ≤ 2 ^ 30) × IsFirstFault f text kind n
-  Answers text Long = 2 ^ 30 < length text
+  Answers text (Found s) = (length text ≤ most_bytes) × f.IsSound s × f.MayStand s f.end × (text ≡ whole_text f s)
+  Answers text (Faulty kind n) = (length text ≤ most_bytes) × IsFirstFault f text kind n
+  Answers text Long = most_bytes < length text
 
   -- why a line of a form is refused
   abbrev pub Refuses : State → Line → FaultKind → Type 0

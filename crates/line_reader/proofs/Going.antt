@@ -1,11 +1,11 @@
 -- How far a call is, and what it answers.
-use Rattle.std.proofs.Common.{◌≡◌, ℕ, ◌+◌, ◌-◌, ◌^◌, ◌<◌, ◌≤◌, ◌⊎◌, ◌↔◌, inl, inr, List, [], ◌∷◌, ◌++◌, length, Bool, true, false, Option, Result, Ok, Err, IfOk, IsErrOf, refl, sym, ◌∙◌, ap, arith, length-append, append_assoc, append-nil}
+use Rattle.std.proofs.Common.{◌≡◌, ℕ, ◌+◌, ◌-◌, ◌<◌, ◌≤◌, ◌⊎◌, ◌↔◌, inl, inr, List, [], ◌∷◌, ◌++◌, length, Bool, true, false, Option, Result, Ok, Err, IfOk, IsErrOf, refl, sym, ◌∙◌, ap, arith, length-append, append_assoc, append-nil}
 use Rattle.line_reader.specs.declared.line.Line.{Line}
 use Rattle.line_reader.specs.declared.line.Line.TheVariants.{Text, TooLong, End}
 use Rattle.line_reader.specs.declared.line.LineFault.{LineFault}
 use Rattle.line_reader.specs.declared.line.LineFault.TheVariants.{Read, Limit}
 use Rattle.line_reader.specs.declared.reader.Piece.TheVariants.{Whole, Part}
-use Rattle.line_reader.specs.Lines.{NoFeed}
+use Rattle.line_reader.specs.Lines.{NoFeed, most_taken}
 use Rattle.line_reader.specs.Reader.{Reader, Came, IsFirst, Gives, IsNext, Answers, NeedsNoRead, is_final, room}
 use Rattle.line_reader.specs.Block.{IsKept, IsTold, TakesPiece, Refills, EndsLine}
 use Rattle.line_reader.proofs.Feeds.{none_append, none_front, none_contained}
@@ -20,7 +20,7 @@ pub record IsGoing (old now : Reader) (left mid : Option (List ℕ)) (line : Lis
   pub kept : IsKept front line long
   pub came : Came left mid bytes
   pub counted : now.taken ≡ old.taken + length bytes
-  pub within : now.taken ≤ 2 ^ 30
+  pub within : now.taken ≤ most_taken
   pub began : old.ended ≡ false
   pub going : now.ended ≡ false
   pub more : now.over ≡ false
@@ -28,11 +28,11 @@ pub record IsGoing (old now : Reader) (left mid : Option (List ℕ)) (line : Lis
 -- what each clause says of the reader
 pub record IsAnswered (old new : Reader) (left after : Option (List ℕ)) (line : List ℕ) (result : Result Line LineFault) : Type 0 where
   pub next : Answers old new left after line result
-  pub limit : IsErrOf result Limit ↔ (2 ^ 30 < new.taken)
+  pub limit : IsErrOf result Limit ↔ (most_taken < new.taken)
   pub over : new.over ≡ is_final result
   pub progress : IfOk result (λ found. (found ≡ End) ⊎ (room new < room old))
 
-pub going_first : (old : Reader) (left : Option (List ℕ)) (line : List ℕ) → old.ended ≡ false → old.over ≡ false → old.taken ≤ 2 ^ 30 → line ≡ [] →
+pub going_first : (old : Reader) (left : Option (List ℕ)) (line : List ℕ) → old.ended ≡ false → old.over ≡ false → old.taken ≤ most_taken → line ≡ [] →
     IsGoing old old left left line false
 going_first old left line ended over few none = record {
   front = [];
@@ -55,7 +55,7 @@ pub going_on : (old now mid next : Reader) (left before after : Option (List ℕ
 going_on old now mid next left before after line line' long long' going part same read =
     let taken : mid.taken ≡ now.taken = ap (λ (r : Reader). r.taken) same in
     let count : next.taken ≡ mid.taken + length next.held = ap (λ (r : Reader). r.taken) read.3 in
-    let most : mid.taken + length next.held ≤ 2 ^ 30 = read.2 in
+    let most : mid.taken + length next.held ≤ most_taken = read.2 in
     record {
       front = going.front ++ now.held;
       bytes = going.bytes ++ next.held;
@@ -104,8 +104,8 @@ falls_last most held held' taken taken' came front count few sum some none = ome
 not_past : (most taken : ℕ) → taken ≤ most → most < taken → ⊥
 not_past most taken few many = omega (arith, few, many)
 
-no_limit : (found : Line) (taken : ℕ) → taken ≤ 2 ^ 30 → IsErrOf {T = Line} {E = LineFault} (Ok found) Limit ↔ (2 ^ 30 < taken)
-no_limit found taken few = (λ is. absurd cc, λ many. absurd (not_past (2 ^ 30) taken few many))
+no_limit : (found : Line) (taken : ℕ) → taken ≤ most_taken → IsErrOf {T = Line} {E = LineFault} (Ok found) Limit ↔ (most_taken < taken)
+no_limit found taken few = (λ is. absurd cc, λ many. absurd (not_past (most_taken) taken few many))
 
 both_sizes : (held came front rest : List ℕ) → (held ++ came) ≡ front ++ 10 ∷ rest → length held + length came ≡ length front + (1 + length rest)
 both_sizes held came front rest is = omega (arith, ap length is, length-append held came, length-append front (10 ∷ rest))
@@ -119,7 +119,7 @@ whole_answered old now new left mid line line' long found going takes same =
     let taken : new.taken ≡ now.taken = ap (λ (r : Reader). r.taken) same in
     let ended : new.ended ≡ false = ap (λ (r : Reader). r.ended) same ∙ going.going in
     let counted : new.taken ≡ old.taken + length going.bytes = taken ∙ going.counted in
-    let within : new.taken ≤ 2 ^ 30 = rw taken going.within in
+    let within : new.taken ≤ most_taken = rw taken going.within in
     let gives : Gives old new left mid going.bytes (going.front ++ takes.0) = record {
       going = going.began;
       first = first_whole _ _ new.held new.ended ended (none_append going.front takes.0 going.no_feed takes.1) all;
@@ -134,7 +134,7 @@ whole_answered old now new left mid line line' long found going takes same =
       };
       limit = no_limit found new.taken within;
       over = ap (λ (r : Reader). r.over) same ∙ going.more ∙ sym (told_final _ line' found takes.3);
-      progress = inr (falls (2 ^ 30) _ _ _ _ _ _ counted within (both_sizes old.held going.bytes (going.front ++ takes.0) new.held all));
+      progress = inr (falls (most_taken) _ _ _ _ _ _ counted within (both_sizes old.held going.bytes (going.front ++ takes.0) new.held all));
     }
 
 empty_both : (xs ys : List ℕ) → (xs ++ ys) ≡ [] → (xs ≡ []) × (ys ≡ [])
@@ -150,7 +150,7 @@ pub record IsBehind (old now : Reader) (left mid : Option (List ℕ)) (front lin
   pub none : now.held ≡ []
   pub came : Came left mid bytes
   pub counted : now.taken ≡ old.taken + length bytes
-  pub within : now.taken ≤ 2 ^ 30
+  pub within : now.taken ≤ most_taken
   pub began : old.ended ≡ false
   pub going : now.ended ≡ false
   pub more : now.over ≡ false
@@ -184,7 +184,7 @@ last_answered old mid new left before after front line long found behind none so
     let taken : new.taken ≡ mid.taken = ap (λ (r : Reader). r.taken) is in
     let held : new.held ≡ [] = ap (λ (r : Reader). r.held) is ∙ behind.none in
     let counted : new.taken ≡ old.taken + length behind.bytes = taken ∙ behind.counted in
-    let within : new.taken ≤ 2 ^ 30 = rw taken behind.within in
+    let within : new.taken ≤ most_taken = rw taken behind.within in
     let sum : length old.held + length behind.bytes ≡ length front = sym (length-append old.held behind.bytes) ∙ ap length behind.parts in
     let gives : Gives old new left after behind.bytes front = record {
       going = behind.began;
@@ -200,7 +200,7 @@ last_answered old mid new left before after front line long found behind none so
       };
       limit = no_limit found new.taken within;
       over = ap (λ (r : Reader). r.over) is ∙ behind.more ∙ sym (told_final front line found told);
-      progress = inr (falls_last (2 ^ 30) _ _ _ _ _ _ counted within sum some (ap length held));
+      progress = inr (falls_last (most_taken) _ _ _ _ _ _ counted within sum some (ap length held));
     }
 
 -- the source has nothing left
@@ -226,7 +226,7 @@ end_answered old mid next new left before after front line long End behind none 
     }
 
 -- the last line was given before
-pub ended_answered : (old new : Reader) (left : Option (List ℕ)) (line : List ℕ) → old.held ≡ [] → old.ended ≡ true → old.taken ≤ 2 ^ 30 → new ≡ record old { over = true } →
+pub ended_answered : (old new : Reader) (left : Option (List ℕ)) (line : List ℕ) → old.held ≡ [] → old.ended ≡ true → old.taken ≤ most_taken → new ≡ record old { over = true } →
     IsAnswered old new left left line (Ok End)
 ended_answered old new left line none ended few is =
     let taken : new.taken ≡ old.taken = ap (λ (r : Reader). r.taken) is in
@@ -245,8 +245,8 @@ ended_answered old new left line none ended few is =
 broken_held : (mid new : Reader) → mid.held ≡ [] → new.held ≡ mid.held → NoFeed new.held
 broken_held mid new none same = let e : new.held ≡ [] = same ∙ none in rw e tt
 
-read_limit : (taken : ℕ) → taken ≤ 2 ^ 30 → IsErrOf {T = Line} {E = LineFault} (Err Read) Limit ↔ (2 ^ 30 < taken)
-read_limit taken few = (λ is. absurd cc, λ many. absurd (not_past (2 ^ 30) taken few many))
+read_limit : (taken : ℕ) → taken ≤ most_taken → IsErrOf {T = Line} {E = LineFault} (Err Read) Limit ↔ (most_taken < taken)
+read_limit taken few = (λ is. absurd cc, λ many. absurd (not_past (most_taken) taken few many))
 
 -- the source failed, or gave a byte too many
 pub fault_answered : (old mid new : Reader) (left before after : Option (List ℕ)) (front line : List ℕ) (long : Bool) (fault : LineFault) → IsBehind old mid left before front line long →
@@ -266,7 +266,7 @@ fault_answered old mid new left before after front line long Read behind fails =
     }
 fault_answered old mid new left before after front line long Limit behind past =
     let taken : new.taken ≡ mid.taken + 1 = ap (λ (r : Reader). r.taken) past.3 in
-    let most : mid.taken ≡ 2 ^ 30 = past.2 in
+    let most : mid.taken ≡ most_taken = past.2 in
     record {
       next = record {
         bytes = behind.bytes ++ past.0 ∷ [];

@@ -1,8 +1,8 @@
 -- What the answers of a reader say of a source that tells what it has left.
-use Rattle.std.proofs.Common.{◌≡◌, ℕ, ◌+◌, ◌^◌, ◌<◌, List, [], ◌∷◌, ◌++◌, length, false, Option, Some, Ok, Err, refl, sym, ◌∙◌, ap, arith, append_assoc, length-append}
+use Rattle.std.proofs.Common.{◌≡◌, ℕ, ◌+◌, ◌<◌, List, [], ◌∷◌, ◌++◌, length, false, Option, Some, Ok, Err, refl, sym, ◌∙◌, ap, arith, append_assoc, length-append}
 use Rattle.line_reader.specs.declared.line.Line.TheVariants.{Text, TooLong, End}
 use Rattle.line_reader.specs.declared.line.LineFault.TheVariants.{Read, Limit}
-use Rattle.line_reader.specs.Lines.{NoFeed, lines_of, whole_lines}
+use Rattle.line_reader.specs.Lines.{NoFeed, lines_of, whole_lines, most_line, most_taken}
 use Rattle.line_reader.specs.Reader.{Reader, Came, IsFirst, Gives, Answers}
 use Rattle.line_reader.proofs.LinesOf.{gives_first, lines_first, whole_lines_first, no_whole_line}
 
@@ -44,7 +44,7 @@ pub text_took : (old new : Reader) (left : List ℕ) (after : Option (List ℕ))
 text_took old new left after line answers = took old new left after answers.bytes line answers.came answers.counted answers.next.1
 
 pub long_took : (old new : Reader) (left : List ℕ) (after : Option (List ℕ)) (line : List ℕ) → Answers old new (Some left) after line (Ok TooLong) →
-    (long : List ℕ) × (4096 < length long) × TookLine old new left after long
+    (long : List ℕ) × (most_line < length long) × TookLine old new left after long
 long_took old new left after line answers =
     let next = answers.next in
     (next.0, next.1, took old new left after answers.bytes next.0 answers.came answers.counted next.2)
@@ -95,7 +95,7 @@ read_took old new left after line answers =
 
 -- 2^30 bytes were taken, and at least one was left
 pub limit_took : (old new : Reader) (left : List ℕ) (after : Option (List ℕ)) (line : List ℕ) → Answers old new (Some left) after line (Err Limit) →
-    (part : List ℕ) × (rest : List ℕ) × TookPart old left part rest × (0 < length rest) × (old.taken + length part ≡ 2 ^ 30)
+    (part : List ℕ) × (rest : List ℕ) × TookPart old left part rest × (0 < length rest) × (old.taken + length part ≡ most_taken)
 limit_took old new left after line answers =
     let gone = answers.came in
     let past = answers.next in

@@ -1,18 +1,18 @@
 -- The steps of a call: a piece is taken from the bytes held, and others are read.
-use Rattle.std.specs.Prelude.{◌≡◌, ℕ, ◌+◌, ◌^◌, ◌<◌, ◌≤◌, List, [], ◌∷◌, ◌++◌, length, Option, Bool, true, false, Result, Ok, Err}
+use Rattle.std.specs.Prelude.{◌≡◌, ℕ, ◌+◌, ◌<◌, ◌≤◌, List, [], ◌∷◌, ◌++◌, length, Option, Bool, true, false, Result, Ok, Err}
 use Rattle.line_reader.specs.declared.line.Line.{Line}
 use Rattle.line_reader.specs.declared.line.Line.TheVariants.{Text, TooLong, End}
 use Rattle.line_reader.specs.declared.line.LineFault.{LineFault}
 use Rattle.line_reader.specs.declared.line.LineFault.TheVariants.{Read, Limit}
 use Rattle.line_reader.specs.declared.reader.Piece.{Piece}
 use Rattle.line_reader.specs.declared.reader.Piece.TheVariants.{Whole, Part}
-use Rattle.line_reader.specs.Lines.{NoFeed}
+use Rattle.line_reader.specs.Lines.{NoFeed, most_line, most_taken}
 use Rattle.line_reader.specs.Reader.{Reader, Came, NoneLeft}
 
 -- what is kept of the front of a line: its bytes, or that they are too many
 abbrev pub IsKept : List ℕ → List ℕ → Bool → Type 0
-IsKept front line false = (line ≡ front) × (length front ≤ 4096)
-IsKept front line true = 4096 < length front
+IsKept front line false = (line ≡ front) × (length front ≤ most_line)
+IsKept front line true = most_line < length front
 
 -- what a line is told as
 abbrev pub found_as : Bool → Line
@@ -21,8 +21,8 @@ found_as true = TooLong
 
 -- a line is told as text or as too long
 abbrev pub IsTold : List ℕ → List ℕ → Line → Type 0
-IsTold whole line Text = (line ≡ whole) × (length whole ≤ 4096)
-IsTold whole line TooLong = 4096 < length whole
+IsTold whole line Text = (line ≡ whole) × (length whole ≤ most_line)
+IsTold whole line TooLong = most_line < length whole
 IsTold whole line End = ⊥
 
 -- the bytes held up to a line feed, or all of them, go on with a line
@@ -32,11 +32,11 @@ TakesPiece old new front line (Part long) = NoFeed old.held × (new.held ≡ [])
 
 -- bytes are read and held, or there are none, or none may be held
 abbrev pub Refills : Reader → Reader → Option (List ℕ) → Option (List ℕ) → Result Bool LineFault → Type 0
-Refills old new left after (Ok true) = Came left after new.held × (0 < length new.held) × (old.taken + length new.held ≤ 2 ^ 30)
+Refills old new left after (Ok true) = Came left after new.held × (0 < length new.held) × (old.taken + length new.held ≤ most_taken)
     × (new ≡ record old { held = new.held; taken = old.taken + length new.held })
 Refills old new left after (Ok false) = Came left after [] × NoneLeft left after × (new ≡ record old { ended = true })
 Refills old new left after (Err Read) = Came left after [] × (new ≡ record old { over = true })
-Refills old new left after (Err Limit) = (another : ℕ) × Came left after (another ∷ []) × (old.taken ≡ 2 ^ 30)
+Refills old new left after (Err Limit) = (another : ℕ) × Came left after (another ∷ []) × (old.taken ≡ most_taken)
     × (new ≡ record old { taken = old.taken + 1; over = true })
 
 -- what the end of the source answers behind the front of a line

@@ -1,6 +1,14 @@
 -- The lines of some bytes.
-use Rattle.std.specs.Prelude.{◌≢◌, ℕ, List, [], ◌∷◌, ◌==◌}
+use Rattle.std.specs.Prelude.{◌^◌, ◌≢◌, ℕ, List, [], ◌∷◌, ◌==◌}
 use Rattle.std.specs.List.{slice_split}
+
+-- the most bytes of a line that is given
+abbrev pub most_line : ℕ
+most_line = 4096
+
+-- the most bytes that a reader takes
+abbrev pub most_taken : ℕ
+most_taken = 2 ^ 30
 
 -- no byte is a line feed
 abbrev pub NoFeed : List ℕ → Type 0

@@ -1,10 +1,10 @@
 -- A reader of lines, and what a call of it answers.
-use Rattle.std.specs.Prelude.{◌≡◌, ℕ, ◌+◌, ◌-◌, ◌^◌, ◌<◌, ◌≤◌, ◌⊎◌, List, [], ◌∷◌, ◌++◌, length, Option, Some, None, Bool, true, false, Contains, Result, Ok, Err}
+use Rattle.std.specs.Prelude.{◌≡◌, ℕ, ◌+◌, ◌-◌, ◌<◌, ◌≤◌, ◌⊎◌, List, [], ◌∷◌, ◌++◌, length, Option, Some, None, Bool, true, false, Contains, Result, Ok, Err}
 use Rattle.line_reader.specs.declared.line.Line.{Line}
 use Rattle.line_reader.specs.declared.line.Line.TheVariants.{Text, TooLong, End}
 use Rattle.line_reader.specs.declared.line.LineFault.{LineFault}
 use Rattle.line_reader.specs.declared.line.LineFault.TheVariants.{Read, Limit}
-use Rattle.line_reader.specs.Lines.{NoFeed}
+use Rattle.line_reader.specs.Lines.{NoFeed, most_line, most_taken}
 
 -- the bytes read ahead, how many bytes were taken from sources, whether the end of a source was found, and whether a
 -- call answered the end or a fault
@@ -56,13 +56,13 @@ pub record GoesPast (old new : Reader) (came : List ℕ) : Type 0 where
   pub front : List ℕ
   pub another : ℕ
   pub came_is : came ≡ front ++ another ∷ []
-  pub most : old.taken + length front ≡ 2 ^ 30
+  pub most : old.taken + length front ≡ most_taken
   pub broken : BreaksOff old new front
 
 -- what a call answers by the bytes that came in it from a source
 abbrev pub IsNext : Reader → Reader → Option (List ℕ) → Option (List ℕ) → List ℕ → List ℕ → Result Line LineFault → Type 0
-IsNext old new left after came line (Ok Text) = (length line ≤ 4096) × Gives old new left after came line
-IsNext old new left after came line (Ok TooLong) = (long : List ℕ) × (4096 < length long) × Gives old new left after came long
+IsNext old new left after came line (Ok Text) = (length line ≤ most_line) × Gives old new left after came line
+IsNext old new left after came line (Ok TooLong) = (long : List ℕ) × (most_line < length long) × Gives old new left after came long
 IsNext old new left after came line (Ok End) = Ends old left after came
 IsNext old new left after came line (Err Read) = BreaksOff old new came
 IsNext old new left after came line (Err Limit) = GoesPast old new came
@@ -87,4 +87,4 @@ is_final (Err fault) = true
 
 -- how many bytes may still be given
 abbrev pub room : Reader → ℕ
-room r = 2 ^ 30 + length r.held - r.taken
+room r = most_taken + length r.held - r.taken

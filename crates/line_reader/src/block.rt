@@ -25,10 +25,10 @@ pub fn read_block<S: Source>(source: &mut S, block: &mut [u8], want: usize) -> R
     requires some { 0 < want }
     requires fits { want ≤ length block.old }
     ensures count { IfOk result (λ n. n ≤ want) }
-    ensures taken { IfOk result (λ n. Takes (S.left source.old) (S.left source.new) block.new n) }
-    ensures same { OnErr result (S.left source.new ≡ S.left source.old) }
-    ensures cause { OnErr result (Rose (S.faults source.old) (S.faults source.new)) }
-    ensures no_fall { S.faults source.old ≤ S.faults source.new }
+    ensures taken { IfOk result (λ n. Takes (S.told source.old).left (S.told source.new).left block.new n) }
+    ensures same { OnErr result ((S.told source.new).left ≡ (S.told source.old).left) }
+    ensures cause { OnErr result (Rose (S.told source.old).faults (S.told source.new).faults) }
+    ensures no_fall { (S.told source.old).faults ≤ (S.told source.new).faults }
 {
     source.read(&mut block[..want])
 }

@@ -7,6 +7,3 @@ mod reader;
 
 pub use line::{Line, LineFault, LineText};
 pub use reader::LineReader;
-
-#[cfg(test)]
-mod tests;

@@ -1,8 +1,11 @@
 // Lines, and why none is given.
 use arrayvec::ArrayVec;
 
+/// The most bytes of a line that is given: what names and paths need, in memory of a fixed size.
+pub const MOST_LINE: usize = 4_096;
+
 /// The bytes of a line without its line feed.
-pub type LineText = ArrayVec<u8, 4096>;
+pub type LineText = ArrayVec<u8, MOST_LINE>;
 
 /// What a call of `LineReader::next_line` found.
 #[derive(Clone, Copy, Debug, PartialEq, Eq)]

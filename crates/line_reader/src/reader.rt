@@ -3,6 +3,7 @@ ghost use Rattle.std.specs.Prelude.{◌≡◌, ◌<◌, ◌≤◌, ◌^◌, ◌�
 ghost use Rattle.ports.specs.Content.{Rose};
 ghost use Rattle.line_reader.specs.Reader.{Answers, NeedsNoRead, fresh, is_final, room};
 ghost use Rattle.line_reader.specs.Block.{EndsLine, IsKept, Refills, TakesPiece, found_as};
+ghost use Rattle.line_reader.specs.Lines.{most_taken};
 
 use crate::block::{feed_place, keep, read_block};
 use crate::{Line, LineFault, LineText};
@@ -12,7 +13,7 @@ use std::marker::Model;
 // How many bytes are read at a time, at most.
 const BLOCK: usize = 4096;
 
-// How many bytes a reader takes, at most.
+// How many bytes a reader takes, at most, so that a source that never ends is left.
 const MOST: u32 = 1 << 30;
 
 /// A reader of lines. It reads ahead at most 4,096 bytes, and takes no memory but its own. It is seen as the bytes that
@@ -30,13 +31,14 @@ pub struct LineReader {
 
 impl Model for LineReader {
     ghost use Rattle.std.specs.Prelude.{◌≡◌, ◌+◌, ◌^◌, ◌≤◌, false, slice_range, true};
+    ghost use Rattle.line_reader.specs.Lines.{most_taken};
     ghost use Rattle.line_reader.specs.Reader.{Reader};
 
     ghost Value = { Reader };
 
     ghost view = { λ r. record { held = slice_range r.block r.start r.end; taken = r.taken; ended = r.ended; over = r.over } };
 
-    ghost invariant = { λ r. (r.start ≤ r.end) × (r.end ≤ 4096) × (r.over ≡ false → r.taken ≤ 2 ^ 30) × (r.ended ≡ true → r.start ≡ r.end) };
+    ghost invariant = { λ r. (r.start ≤ r.end) × (r.end ≤ 4096) × (r.over ≡ false → r.taken ≤ most_taken) × (r.ended ≡ true → r.start ≡ r.end) };
 }
 
 // What the bytes held have of a line.
@@ -78,13 +80,13 @@ impl LineReader {
         line: &mut LineText,
     ) -> Result<Line, LineFault>
         requires { self.old.over ≡ false }
-        ensures next { Answers self.old self.new (S.left source.old) (S.left source.new) line.new.items result }
+        ensures next { Answers self.old self.new (S.told source.old).left (S.told source.new).left line.new.items result }
         ensures unread { NeedsNoRead self.old → (source.new ≡ source.old) × (self.new.taken ≡ self.old.taken) }
-        ensures limit { IsErrOf result LineFault.Limit ↔ (2 ^ 30 < self.new.taken) }
+        ensures limit { IsErrOf result LineFault.Limit ↔ (most_taken < self.new.taken) }
         ensures over { self.new.over ≡ is_final result }
         ensures progress { IfOk result (λ found. (found ≡ Line.End) ⊎ (room self.new < room self.old)) }
-        ensures cause { IsErrOf result LineFault.Read → Rose (S.faults source.old) (S.faults source.new) }
-        ensures no_fall { S.faults source.old ≤ S.faults source.new }
+        ensures cause { IsErrOf result LineFault.Read → Rose (S.told source.old).faults (S.told source.new).faults }
+        ensures no_fall { (S.told source.old).faults ≤ (S.told source.new).faults }
     {
         if self.is_ended() {
             self.close();
@@ -107,7 +109,7 @@ impl LineReader {
     fn is_ended(&self) -> bool
         ensures value { result ≡ self.now.ended }
         ensures none { self.now.ended ≡ true → self.now.held ≡ [] }
-        ensures within { self.now.over ≡ false → self.now.taken ≤ 2 ^ 30 }
+        ensures within { self.now.over ≡ false → self.now.taken ≤ most_taken }
     {
         self.ended
     }
@@ -146,9 +148,9 @@ impl LineReader {
         requires none { self.old.held ≡ [] }
         requires going { self.old.ended ≡ false }
         requires more { self.old.over ≡ false }
-        ensures read { Refills self.old self.new (S.left source.old) (S.left source.new) result }
-        ensures cause { IsErrOf result LineFault.Read → Rose (S.faults source.old) (S.faults source.new) }
-        ensures no_fall { S.faults source.old ≤ S.faults source.new }
+        ensures read { Refills self.old self.new (S.told source.old).left (S.told source.new).left result }
+        ensures cause { IsErrOf result LineFault.Read → Rose (S.told source.old).faults (S.told source.new).faults }
+        ensures no_fall { (S.told source.old).faults ≤ (S.told source.new).faults }
     {
         self.start = 0;
         self.end = 0;

@@ -1,10 +1,9 @@
-//! Lines that are composed word by word in memory of their own.
+//! Lines that are composed word by word: here in memory of their own, and in `line` in a buffer of a fixed size.
 //!
 //! A line is words with one space between any two. Each call says what it makes of any line of words.
 #![tactic(auto)]
 
-#[cfg(test)]
-mod tests;
+pub mod line;
 
 ghost use Rattle.std.specs.Prelude.{◌≡◌, ◌∷◌, [], ◌++◌, ℕ, ℤ, List, OnOk};
 ghost use Rattle.atto.specs.Decimal.{decimal_of};

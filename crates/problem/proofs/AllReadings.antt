@@ -201,7 +201,7 @@ module _ (p : ProblemLists) (rs : List Reading) (are : AreReadings p rs) where
   clock_named lawful n d inside at =
       let r = get_or rs n d in
       let reads = are.each r.0 r.1 (Contains-get_or rs n d inside) in
-      let known = lawful.event_clocks reads.1.0 reads.0 reads.1.1 in
+      let known = lawful.formed.event_clocks reads.1.0 reads.0 reads.1.1 in
       let of_event : (get_or p.events reads.1.0 reads.0).clock ≡ r.0 = ap (λ (e : Event). e.clock) reads.1.2 ∙ reads.2 in
       let same : d.0 ≡ r.0 = ap (λ (q : Reading). q.0) at in
       omega (arith, known, of_event, same, length-map p.clocks (λ c. c.name))

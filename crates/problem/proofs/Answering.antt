@@ -1,9 +1,9 @@
 -- What the reader answers, from what the text answers.
-use Rattle.std.proofs.Common.{◌≡◌, ◌≢◌, ◌≤◌, ◌+◌, ◌^◌, ℕ, List, [], ◌∷◌, ◌++◌, length, Some, None, Ok, Err, codes, refl, sym, ◌∙◌, arith, append_assoc}
+use Rattle.std.proofs.Common.{◌≡◌, ◌≢◌, ◌≤◌, ◌+◌, ℕ, List, [], ◌∷◌, ◌++◌, length, Some, None, Ok, Err, codes, refl, sym, ◌∙◌, arith, append_assoc}
 use Rattle.std.specs.List.{flat_map}
 use Rattle.line_format.specs.Words.{line_of}
 use Rattle.line_format.specs.Cut.{cut}
-use Rattle.line_format.specs.Format.{Answers, Takes, head_line, whole_text}
+use Rattle.line_format.specs.Format.{Answers, Takes, head_line, whole_text, most_bytes}
 use Rattle.line_format.specs.Format.Answer.{Found, Faulty}
 use Rattle.line_format.specs.declared.fault.FaultKind.{FaultKind}
 use Rattle.line_format.specs.declared.fault.FaultKind.TheVariants as kinds
@@ -56,10 +56,10 @@ pub more_reads : (text rest body after : List ℕ) (p q : ProblemLists) (n : ℕ
 more_reads text rest body after p q n stands parts r some = more_answers problem_format line_lacks text rest body after p q n stands parts r some
 
 pub lines_fit : (p : ProblemLists) → IsProblem p → open_lines p ≤ 3000000
-lines_fit p lawful = omega (arith, lawful.clock_limit, lawful.event_limit, lawful.message_limit)
+lines_fit p lawful = omega (arith, lawful.fits.clock_limit, lawful.fits.event_limit, lawful.fits.message_limit)
 
-pub head_reads : (text : List ℕ) → length text ≤ 2 ^ 30 → ((more : List ℕ) → text ≡ head_line problem_format ++ more → ⊥) → Reads text (Err (problems.Syntax 1))
+pub head_reads : (text : List ℕ) → length text ≤ most_bytes → ((more : List ℕ) → text ≡ head_line problem_format ++ more → ⊥) → Reads text (Err (problems.Syntax 1))
 head_reads text short none = head_answers problem_format line_lacks text short none
 
-pub starts : (rest : List ℕ) → length (head_line problem_format ++ rest) ≤ 2 ^ 30 → IsProblem empty_problem → StandsAt (head_line problem_format ++ rest) rest empty_problem 2
+pub starts : (rest : List ℕ) → length (head_line problem_format ++ rest) ≤ most_bytes → IsProblem empty_problem → StandsAt (head_line problem_format ++ rest) rest empty_problem 2
 starts rest short lawful = stands_first problem_format line_lacks (head_line problem_format ++ rest) rest empty_problem short refl refl refl lawful

@@ -49,59 +49,74 @@ pair_at_none ms s r all = at_none pair_of ms (s, r) (λ k d inside e. all k d in
 -- ---- the rules
 pub more_clock : (p : ProblemLists) (c : Clock) → IsProblem p → ClockFits c → IsNewClock p c → HasRoomForClock p → IsProblem (with_clock p c)
 more_clock p c lawful fits new room = record {
-  clock_names = All-push (λ x. IsClockName x.name) p.clocks c lawful.clock_names new.named;
-  clocks_differ = all_pairs_push (λ a b. a.name ≢ b.name) p.clocks c lawful.clocks_differ new.new;
-  clocks_fit = All-push ClockFits p.clocks c lawful.clocks_fit fits;
-  clock_limit = grind (arith, length-append, room);
-  event_names = lawful.event_names;
-  events_differ = lawful.events_differ;
-  event_clocks = λ k d inside. rw length-append (omega (arith, lawful.event_clocks k d inside));
-  stamps_fit = lawful.stamps_fit;
-  event_limit = lawful.event_limit;
-  sends = lawful.sends;
-  receives = lawful.receives;
-  two_ends = lawful.two_ends;
-  messages_differ = lawful.messages_differ;
-  messages_fit = lawful.messages_fit;
-  message_limit = lawful.message_limit;
+  formed = record {
+    clock_names = All-push (λ x. IsClockName x.name) p.clocks c lawful.formed.clock_names new.named;
+    clocks_differ = all_pairs_push (λ a b. a.name ≢ b.name) p.clocks c lawful.formed.clocks_differ new.new;
+    no_follows = lawful.formed.no_follows;
+    event_names = lawful.formed.event_names;
+    events_differ = lawful.formed.events_differ;
+    event_clocks = λ k d inside. rw length-append (omega (arith, lawful.formed.event_clocks k d inside));
+    sends = lawful.formed.sends;
+    receives = lawful.formed.receives;
+    two_ends = lawful.formed.two_ends;
+    messages_differ = lawful.formed.messages_differ;
+  };
+  fits = record {
+    clocks_fit = All-push ClockFits p.clocks c lawful.fits.clocks_fit fits;
+    clock_limit = grind (arith, length-append, room);
+    stamps_fit = lawful.fits.stamps_fit;
+    event_limit = lawful.fits.event_limit;
+    messages_fit = lawful.fits.messages_fit;
+    message_limit = lawful.fits.message_limit;
+  };
 }
 
 pub more_event : (p : ProblemLists) (e : Event) → IsProblem p → IsEventName e.name → e.stamp < 2 ^ 62 → IsNewEvent p e → HasRoomForEvent p → IsProblem (with_event p e)
 more_event p e lawful named fits new room = record {
-  clock_names = lawful.clock_names;
-  clocks_differ = lawful.clocks_differ;
-  clocks_fit = lawful.clocks_fit;
-  clock_limit = lawful.clock_limit;
-  event_names = All-push (λ x. IsEventName x.name) p.events e lawful.event_names named;
-  events_differ = all_pairs_push (λ a b. a.name ≢ b.name) p.events e lawful.events_differ new.new;
-  event_clocks = All-push (λ x. x.clock < length p.clocks) p.events e lawful.event_clocks new.clock;
-  stamps_fit = All-push (λ x. x.stamp < 2 ^ 62) p.events e lawful.stamps_fit fits;
-  event_limit = grind (arith, length-append, room);
-  sends = λ k d inside. rw length-append (omega (arith, lawful.sends k d inside));
-  receives = λ k d inside. rw length-append (omega (arith, lawful.receives k d inside));
-  two_ends = lawful.two_ends;
-  messages_differ = lawful.messages_differ;
-  messages_fit = lawful.messages_fit;
-  message_limit = lawful.message_limit;
+  formed = record {
+    clock_names = lawful.formed.clock_names;
+    clocks_differ = lawful.formed.clocks_differ;
+    no_follows = lawful.formed.no_follows;
+    event_names = All-push (λ x. IsEventName x.name) p.events e lawful.formed.event_names named;
+    events_differ = all_pairs_push (λ a b. a.name ≢ b.name) p.events e lawful.formed.events_differ new.new;
+    event_clocks = All-push (λ x. x.clock < length p.clocks) p.events e lawful.formed.event_clocks new.clock;
+    sends = λ k d inside. rw length-append (omega (arith, lawful.formed.sends k d inside));
+    receives = λ k d inside. rw length-append (omega (arith, lawful.formed.receives k d inside));
+    two_ends = lawful.formed.two_ends;
+    messages_differ = lawful.formed.messages_differ;
+  };
+  fits = record {
+    clocks_fit = lawful.fits.clocks_fit;
+    clock_limit = lawful.fits.clock_limit;
+    stamps_fit = All-push (λ x. x.stamp < 2 ^ 62) p.events e lawful.fits.stamps_fit fits;
+    event_limit = grind (arith, length-append, room);
+    messages_fit = lawful.fits.messages_fit;
+    message_limit = lawful.fits.message_limit;
+  };
 }
 
 pub more_message : (p : ProblemLists) (m : Message) → IsProblem p → MessageFits m → IsNewMessage p m → HasRoomForMessage p → IsProblem (with_message p m)
 more_message p m lawful fits new room = record {
-  clock_names = lawful.clock_names;
-  clocks_differ = lawful.clocks_differ;
-  clocks_fit = lawful.clocks_fit;
-  clock_limit = lawful.clock_limit;
-  event_names = lawful.event_names;
-  events_differ = lawful.events_differ;
-  event_clocks = lawful.event_clocks;
-  stamps_fit = lawful.stamps_fit;
-  event_limit = lawful.event_limit;
-  sends = All-push (λ x. x.send < length p.events) p.messages m lawful.sends new.sends;
-  receives = All-push (λ x. x.receive < length p.events) p.messages m lawful.receives new.receives;
-  two_ends = All-push (λ x. x.send ≢ x.receive) p.messages m lawful.two_ends new.two_ends;
-  messages_differ = all_pairs_push (λ a b. (a.send ≡ b.send) → (a.receive ≡ b.receive) → ⊥) p.messages m lawful.messages_differ new.new;
-  messages_fit = All-push MessageFits p.messages m lawful.messages_fit fits;
-  message_limit = grind (arith, length-append, room);
+  formed = record {
+    clock_names = lawful.formed.clock_names;
+    clocks_differ = lawful.formed.clocks_differ;
+    no_follows = lawful.formed.no_follows;
+    event_names = lawful.formed.event_names;
+    events_differ = lawful.formed.events_differ;
+    event_clocks = lawful.formed.event_clocks;
+    sends = All-push (λ x. x.send < length p.events) p.messages m lawful.formed.sends new.sends;
+    receives = All-push (λ x. x.receive < length p.events) p.messages m lawful.formed.receives new.receives;
+    two_ends = All-push (λ x. x.send ≢ x.receive) p.messages m lawful.formed.two_ends new.two_ends;
+    messages_differ = all_pairs_push (λ a b. (a.send ≡ b.send) → (a.receive ≡ b.receive) → ⊥) p.messages m lawful.formed.messages_differ new.new;
+  };
+  fits = record {
+    clocks_fit = lawful.fits.clocks_fit;
+    clock_limit = lawful.fits.clock_limit;
+    stamps_fit = lawful.fits.stamps_fit;
+    event_limit = lawful.fits.event_limit;
+    messages_fit = All-push MessageFits p.messages m lawful.fits.messages_fit fits;
+    message_limit = grind (arith, length-append, room);
+  };
 }
 
 -- ---- with the look-ups

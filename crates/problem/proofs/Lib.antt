@@ -8,4 +8,6 @@ pub mod OneLine
 pub mod Steps
 pub mod Answering
 pub mod AllReadings
+pub mod ListedNodes
 pub mod Searching
+pub mod Naming

@@ -5,6 +5,7 @@ use Rattle.std.proofs.lemmas.Bool.{cases_lt}
 use Rattle.line_format.specs.Format.{Grows}
 use Rattle.line_format.proofs.Readable.{IsReadable, IsStep}
 use Rattle.problem_model.specs.declared.items.Clock.{Clock}
+use Rattle.problem_model.specs.declared.items.Follow.{Follow}
 use Rattle.problem_model.specs.declared.items.Event.{Event}
 use Rattle.problem_model.specs.declared.items.Message.{Message}
 use Rattle.problem_model.specs.Name.{IsClockName, IsEventName}
@@ -38,9 +39,9 @@ one_clock p j k name sound at at' =
     let a = clock_at p.clocks j name d at in
     let b = clock_at p.clocks k name d at' in
     elim (cases_lt j k) [
-      | inl below ↦ absurd (sound.clocks_differ j k d below b.0 (a.1 ∙ sym b.1))
+      | inl below ↦ absurd (sound.formed.clocks_differ j k d below b.0 (a.1 ∙ sym b.1))
       | inr le ↦ elim (cases_lt k j) [
-        | inl below ↦ absurd (sound.clocks_differ k j d below a.0 (b.1 ∙ sym a.1))
+        | inl below ↦ absurd (sound.formed.clocks_differ k j d below a.0 (b.1 ∙ sym a.1))
         | inr le' ↦ omega (arith, le, le')
       ]
     ]
@@ -98,25 +99,30 @@ LastLine s n = (r : ProblemLists) × (line : Line) × (size r ≡ n) × IsStep p
 
 -- ---- clocks
 abbrev clocks_alone : List Clock → ProblemLists
-clocks_alone cs = record { clocks = cs; events = []; messages = [] }
+clocks_alone cs = record { clocks = cs; follows = []; events = []; messages = [] }
 
 less_clock : (ds : List Clock) (c : Clock) → IsProblem (clocks_alone (ds ++ c ∷ [])) → IsProblem (clocks_alone ds)
 less_clock ds c lawful = record {
-  clock_names = all_init (λ x. IsClockName x.name) ds c lawful.clock_names;
-  clocks_differ = pairs_init (λ a b. a.name ≢ b.name) ds c lawful.clocks_differ;
-  clocks_fit = all_init ClockFits ds c lawful.clocks_fit;
-  clock_limit = omega (arith, lawful.clock_limit, length-append ds (c ∷ []));
-  event_names = lawful.event_names;
-  events_differ = lawful.events_differ;
-  event_clocks = λ k d inside. absurd (omega (arith, inside));
-  stamps_fit = lawful.stamps_fit;
-  event_limit = lawful.event_limit;
-  sends = lawful.sends;
-  receives = lawful.receives;
-  two_ends = lawful.two_ends;
-  messages_differ = lawful.messages_differ;
-  messages_fit = lawful.messages_fit;
-  message_limit = lawful.message_limit;
+  formed = record {
+    clock_names = all_init (λ x. IsClockName x.name) ds c lawful.formed.clock_names;
+    clocks_differ = pairs_init (λ a b. a.name ≢ b.name) ds c lawful.formed.clocks_differ;
+    no_follows = refl;
+    event_names = lawful.formed.event_names;
+    events_differ = lawful.formed.events_differ;
+    event_clocks = λ k d inside. absurd (omega (arith, inside));
+    sends = lawful.formed.sends;
+    receives = lawful.formed.receives;
+    two_ends = lawful.formed.two_ends;
+    messages_differ = lawful.formed.messages_differ;
+  };
+  fits = record {
+    clocks_fit = all_init ClockFits ds c lawful.fits.clocks_fit;
+    clock_limit = omega (arith, lawful.fits.clock_limit, length-append ds (c ∷ []));
+    stamps_fit = lawful.fits.stamps_fit;
+    event_limit = lawful.fits.event_limit;
+    messages_fit = lawful.fits.messages_fit;
+    message_limit = lawful.fits.message_limit;
+  };
 }
 
 last_clock : (n : ℕ) (cs : List Clock) → Snoc cs → IsProblem (clocks_alone cs) → length cs ≡ suc n → LastLine (clocks_alone cs) n
@@ -130,10 +136,10 @@ last_clock n cs s lawful len =
       record {
         sound = less_clock s.front c all;
         may = (refl, refl);
-        spelled = all_last (λ x. IsClockName x.name) s.front c all.clock_names;
-        names = pairs_last (λ a b. a.name ≢ b.name) s.front c all.clocks_differ;
-        numbers = all_last ClockFits s.front c all.clocks_fit;
-        room = omega (arith, all.clock_limit, length-append s.front (c ∷ []));
+        spelled = all_last (λ x. IsClockName x.name) s.front c all.formed.clock_names;
+        names = pairs_last (λ a b. a.name ≢ b.name) s.front c all.formed.clocks_differ;
+        numbers = all_last ClockFits s.front c all.fits.clocks_fit;
+        room = omega (arith, all.fits.clock_limit, length-append s.front (c ∷ []));
         adds = is;
         grows = subst (λ (q : ProblemLists). Grows problem_format (clocks_alone s.front) q (clock_line c)) (sym is) (clock_grows (clocks_alone s.front) c refl refl);
       },
@@ -141,25 +147,30 @@ last_clock n cs s lawful len =
 
 -- ---- events
 abbrev events_on : List Clock → List Event → ProblemLists
-events_on cs es = record { clocks = cs; events = es; messages = [] }
+events_on cs es = record { clocks = cs; follows = []; events = es; messages = [] }
 
 less_event : (cs : List Clock) (ds : List Event) (e : Event) → IsProblem (events_on cs (ds ++ e ∷ [])) → IsProblem (events_on cs ds)
 less_event cs ds e lawful = record {
-  clock_names = lawful.clock_names;
-  clocks_differ = lawful.clocks_differ;
-  clocks_fit = lawful.clocks_fit;
-  clock_limit = lawful.clock_limit;
-  event_names = all_init (λ x. IsEventName x.name) ds e lawful.event_names;
-  events_differ = pairs_init (λ a b. a.name ≢ b.name) ds e lawful.events_differ;
-  event_clocks = all_init (λ x. x.clock < length cs) ds e lawful.event_clocks;
-  stamps_fit = all_init (λ x. x.stamp < 2 ^ 62) ds e lawful.stamps_fit;
-  event_limit = omega (arith, lawful.event_limit, length-append ds (e ∷ []));
-  sends = λ k d inside. absurd (omega (arith, inside));
-  receives = λ k d inside. absurd (omega (arith, inside));
-  two_ends = lawful.two_ends;
-  messages_differ = lawful.messages_differ;
-  messages_fit = lawful.messages_fit;
-  message_limit = lawful.message_limit;
+  formed = record {
+    clock_names = lawful.formed.clock_names;
+    clocks_differ = lawful.formed.clocks_differ;
+    no_follows = refl;
+    event_names = all_init (λ x. IsEventName x.name) ds e lawful.formed.event_names;
+    events_differ = pairs_init (λ a b. a.name ≢ b.name) ds e lawful.formed.events_differ;
+    event_clocks = all_init (λ x. x.clock < length cs) ds e lawful.formed.event_clocks;
+    sends = λ k d inside. absurd (omega (arith, inside));
+    receives = λ k d inside. absurd (omega (arith, inside));
+    two_ends = lawful.formed.two_ends;
+    messages_differ = lawful.formed.messages_differ;
+  };
+  fits = record {
+    clocks_fit = lawful.fits.clocks_fit;
+    clock_limit = lawful.fits.clock_limit;
+    stamps_fit = all_init (λ x. x.stamp < 2 ^ 62) ds e lawful.fits.stamps_fit;
+    event_limit = omega (arith, lawful.fits.event_limit, length-append ds (e ∷ []));
+    messages_fit = lawful.fits.messages_fit;
+    message_limit = lawful.fits.message_limit;
+  };
 }
 
 has_clock : (cs : List Clock) (k : ℕ) → k < length cs → slice_get (map (λ c. c.name) cs) k ≡ Some (clock_name cs k)
@@ -182,7 +193,7 @@ last_event n cs es s lawful len =
     let e = s.last in
     let all = subst (λ (ds : List Event). IsProblem (events_on cs ds)) s.is lawful in
     let is : events_on cs es ≡ with_event (events_on cs s.front) e = ap (events_on cs) s.is in
-    let known = all_last (λ x. x.clock < length cs) s.front e all.event_clocks in
+    let known = all_last (λ x. x.clock < length cs) s.front e all.formed.event_clocks in
     let at = has_clock cs e.clock known in (
       events_on cs s.front,
       EventLine e.name (clock_name cs e.clock) e.stamp,
@@ -190,10 +201,10 @@ last_event n cs es s lawful len =
       record {
         sound = less_event cs s.front e all;
         may = refl;
-        spelled = (all_last (λ x. IsEventName x.name) s.front e all.event_names, clock_named cs e.clock all.clock_names known);
-        names = (pairs_last (λ a b. a.name ≢ b.name) s.front e all.events_differ, (e.clock, at));
-        numbers = all_last (λ x. x.stamp < 2 ^ 62) s.front e all.stamps_fit;
-        room = omega (arith, all.event_limit, length-append s.front (e ∷ []));
+        spelled = (all_last (λ x. IsEventName x.name) s.front e all.formed.event_names, clock_named cs e.clock all.formed.clock_names known);
+        names = (pairs_last (λ a b. a.name ≢ b.name) s.front e all.formed.events_differ, (e.clock, at));
+        numbers = all_last (λ x. x.stamp < 2 ^ 62) s.front e all.fits.stamps_fit;
+        room = omega (arith, all.fits.event_limit, length-append s.front (e ∷ []));
         adds = (e.clock, at, is);
         grows = subst (λ (q : ProblemLists). Grows problem_format (events_on cs s.front) q (event_line cs e)) (sym is) (event_grows (events_on cs s.front) e refl);
       },
@@ -201,25 +212,30 @@ last_event n cs es s lawful len =
 
 -- ---- messages
 abbrev all_on : List Clock → List Event → List Message → ProblemLists
-all_on cs es ms = record { clocks = cs; events = es; messages = ms }
+all_on cs es ms = record { clocks = cs; follows = []; events = es; messages = ms }
 
 less_message : (cs : List Clock) (es : List Event) (ds : List Message) (m : Message) → IsProblem (all_on cs es (ds ++ m ∷ [])) → IsProblem (all_on cs es ds)
 less_message cs es ds m lawful = record {
-  clock_names = lawful.clock_names;
-  clocks_differ = lawful.clocks_differ;
-  clocks_fit = lawful.clocks_fit;
-  clock_limit = lawful.clock_limit;
-  event_names = lawful.event_names;
-  events_differ = lawful.events_differ;
-  event_clocks = lawful.event_clocks;
-  stamps_fit = lawful.stamps_fit;
-  event_limit = lawful.event_limit;
-  sends = all_init (λ x. x.send < length es) ds m lawful.sends;
-  receives = all_init (λ x. x.receive < length es) ds m lawful.receives;
-  two_ends = all_init (λ x. x.send ≢ x.receive) ds m lawful.two_ends;
-  messages_differ = pairs_init (λ a b. (a.send ≡ b.send) → (a.receive ≡ b.receive) → ⊥) ds m lawful.messages_differ;
-  messages_fit = all_init MessageFits ds m lawful.messages_fit;
-  message_limit = omega (arith, lawful.message_limit, length-append ds (m ∷ []));
+  formed = record {
+    clock_names = lawful.formed.clock_names;
+    clocks_differ = lawful.formed.clocks_differ;
+    no_follows = refl;
+    event_names = lawful.formed.event_names;
+    events_differ = lawful.formed.events_differ;
+    event_clocks = lawful.formed.event_clocks;
+    sends = all_init (λ x. x.send < length es) ds m lawful.formed.sends;
+    receives = all_init (λ x. x.receive < length es) ds m lawful.formed.receives;
+    two_ends = all_init (λ x. x.send ≢ x.receive) ds m lawful.formed.two_ends;
+    messages_differ = pairs_init (λ a b. (a.send ≡ b.send) → (a.receive ≡ b.receive) → ⊥) ds m lawful.formed.messages_differ;
+  };
+  fits = record {
+    clocks_fit = lawful.fits.clocks_fit;
+    clock_limit = lawful.fits.clock_limit;
+    stamps_fit = lawful.fits.stamps_fit;
+    event_limit = lawful.fits.event_limit;
+    messages_fit = all_init MessageFits ds m lawful.fits.messages_fit;
+    message_limit = omega (arith, lawful.fits.message_limit, length-append ds (m ∷ []));
+  };
 }
 
 has_event : (es : List Event) (k : ℕ) → k < length es → slice_get (map (λ e. e.name) es) k ≡ Some (event_name es k)
@@ -240,8 +256,8 @@ last_message n cs es ms s lawful len =
     let m = s.last in
     let all = subst (λ (ds : List Message). IsProblem (all_on cs es ds)) s.is lawful in
     let is : all_on cs es ms ≡ with_message (all_on cs es s.front) m = ap (all_on cs es) s.is in
-    let send = all_last (λ x. x.send < length es) s.front m all.sends in
-    let receive = all_last (λ x. x.receive < length es) s.front m all.receives in
+    let send = all_last (λ x. x.send < length es) s.front m all.formed.sends in
+    let receive = all_last (λ x. x.receive < length es) s.front m all.formed.receives in
     let at = has_event es m.send send in
     let at' = has_event es m.receive receive in (
       all_on cs es s.front,
@@ -250,34 +266,37 @@ last_message n cs es ms s lawful len =
       record {
         sound = less_message cs es s.front m all;
         may = tt;
-        spelled = (event_named es m.send all.event_names send, event_named es m.receive all.event_names receive);
-        names = (m.send, m.receive, at, at', all_last (λ x. x.send ≢ x.receive) s.front m all.two_ends, pairs_last (λ a b. (a.send ≡ b.send) → (a.receive ≡ b.receive) → ⊥) s.front m all.messages_differ);
-        numbers = all_last MessageFits s.front m all.messages_fit;
-        room = omega (arith, all.message_limit, length-append s.front (m ∷ []));
+        spelled = (event_named es m.send all.formed.event_names send, event_named es m.receive all.formed.event_names receive);
+        names = (m.send, m.receive, at, at', all_last (λ x. x.send ≢ x.receive) s.front m all.formed.two_ends, pairs_last (λ a b. (a.send ≡ b.send) → (a.receive ≡ b.receive) → ⊥) s.front m all.formed.messages_differ);
+        numbers = all_last MessageFits s.front m all.fits.messages_fit;
+        room = omega (arith, all.fits.message_limit, length-append s.front (m ∷ []));
         adds = (m.send, m.receive, at, at', is);
         grows = subst (λ (q : ProblemLists). Grows problem_format (all_on cs es s.front) q (message_line es m)) (sym is) (message_grows (all_on cs es s.front) m);
       },
     )
 
 -- ---- all
-no_messages_is : (p : ProblemLists) → p.messages ≡ [] → p ≡ events_on p.clocks p.events
-no_messages_is p none = ap (all_on p.clocks p.events) none
+all_is : (p : ProblemLists) → p.follows ≡ [] → p ≡ all_on p.clocks p.events p.messages
+all_is p alone = ap (λ (follows : List Follow). record p { follows = follows }) alone
 
-no_events_is : (p : ProblemLists) → p.messages ≡ [] → p.events ≡ [] → p ≡ clocks_alone p.clocks
-no_events_is p none none' = no_messages_is p none ∙ ap (events_on p.clocks) none'
+no_messages_is : (p : ProblemLists) → p.follows ≡ [] → p.messages ≡ [] → p ≡ events_on p.clocks p.events
+no_messages_is p alone none = all_is p alone ∙ ap (all_on p.clocks p.events) none
+
+no_events_is : (p : ProblemLists) → p.follows ≡ [] → p.messages ≡ [] → p.events ≡ [] → p ≡ clocks_alone p.clocks
+no_events_is p alone none none' = no_messages_is p alone none ∙ ap (events_on p.clocks) none'
 
 last_line : (p : ProblemLists) (n : ℕ) → IsProblem p → size p ≡ suc n → LastLine p n
 last_line p n lawful len =
     elim (ended p.messages) [
-      | inr s ↦ last_message n p.clocks p.events p.messages s lawful len
+      | inr s ↦ subst (λ (q : ProblemLists). LastLine q n) (sym (all_is p lawful.formed.no_follows)) (last_message n p.clocks p.events p.messages s (subst IsProblem (all_is p lawful.formed.no_follows) lawful) len)
       | inl none ↦
           let no_messages = ap length none in
-          let same = no_messages_is p none in
+          let same = no_messages_is p lawful.formed.no_follows none in
           elim (ended p.events) [
             | inr s ↦ subst (λ (q : ProblemLists). LastLine q n) (sym same) (last_event n p.clocks p.events s (subst IsProblem same lawful) (omega (arith, len, no_messages)))
             | inl none' ↦
                 let no_events = ap length none' in
-                let same' = no_events_is p none none' in
+                let same' = no_events_is p lawful.formed.no_follows none none' in
                 elim (ended p.clocks) [
                   | inr s ↦ subst (λ (q : ProblemLists). LastLine q n) (sym same') (last_clock n p.clocks s (subst IsProblem same' lawful) (omega (arith, len, no_messages, no_events)))
                   | inl none'' ↦ absurd (let no_clocks = ap length none'' in omega (arith, len, no_messages, no_events, no_clocks))
@@ -285,9 +304,9 @@ last_line p n lawful len =
           ]
     ]
 
-first_is : (p : ProblemLists) → size p ≡ 0 → p ≡ empty_problem
-first_is p len =
-    no_events_is p (nil p.messages (omega (arith, len))) (nil p.events (omega (arith, len))) ∙ ap clocks_alone (nil p.clocks (omega (arith, len)))
+first_is : (p : ProblemLists) → IsProblem p → size p ≡ 0 → p ≡ empty_problem
+first_is p lawful len =
+    no_events_is p lawful.formed.no_follows (nil p.messages (omega (arith, len))) (nil p.events (omega (arith, len))) ∙ ap clocks_alone (nil p.clocks (omega (arith, len)))
 
 pub problem_readable : IsReadable problem_format With empty_problem size
 problem_readable = record {
@@ -298,6 +317,6 @@ problem_readable = record {
   end_fits = λ s. (tt, tt, tt);
   end_adds = λ s t adds. adds;
   start_text = refl;
-  start_size = λ s lawful len. first_is s len;
+  start_size = λ s lawful len. first_is s lawful len;
   last_line = last_line;
 }

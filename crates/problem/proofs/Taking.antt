@@ -99,9 +99,9 @@ one_place p j k name sound at at' =
     let a = named_at p.events j name d at in
     let b = named_at p.events k name d at' in
     elim (cases_lt j k) [
-      | inl below ↦ absurd (sound.events_differ j k d below b.0 (a.1 ∙ sym b.1))
+      | inl below ↦ absurd (sound.formed.events_differ j k d below b.0 (a.1 ∙ sym b.1))
       | inr le ↦ elim (cases_lt k j) [
-        | inl below ↦ absurd (sound.events_differ k j d below a.0 (b.1 ∙ sym a.1))
+        | inl below ↦ absurd (sound.formed.events_differ k j d below a.0 (b.1 ∙ sym a.1))
         | inr le' ↦ omega (arith, le, le')
       ]
     ]

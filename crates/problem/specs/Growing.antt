@@ -1,10 +1,10 @@
 -- What may be added to a problem, and what it then is.
-use Rattle.std.specs.Prelude.{ℕ, ◌≡◌, ◌≢◌, ◌<◌, ◌^◌, ◌⊎◌, Contains, List, [], ◌∷◌, ◌++◌, All, length, Result, Ok, Err}
+use Rattle.std.specs.Prelude.{ℕ, ◌≡◌, ◌≢◌, ◌<◌, ◌⊎◌, Contains, List, [], ◌∷◌, ◌++◌, All, length, Result, Ok, Err}
 use Rattle.problem_model.specs.declared.items.Clock.{Clock}
 use Rattle.problem_model.specs.declared.items.Event.{Event}
 use Rattle.problem_model.specs.declared.items.Message.{Message}
 use Rattle.problem_model.specs.Name.{IsClockName}
-use Rattle.problem_model.specs.Problem.{ProblemLists}
+use Rattle.problem_model.specs.Problem.{ProblemLists, most_clocks, most_events, most_messages}
 use Rattle.problem_model.specs.Nodes.{Reading}
 use Rattle.problem.specs.declared.errors.PushError.{PushError}
 use Rattle.problem.specs.declared.errors.PushError.TheVariants as errors
@@ -32,13 +32,13 @@ IsNewMessage p m = IsNewPair p m.send m.receive
 
 -- there is room for one more
 abbrev pub HasRoomForClock : ProblemLists → Type 0
-HasRoomForClock p = length p.clocks < 65536
+HasRoomForClock p = length p.clocks < most_clocks
 
 abbrev pub HasRoomForEvent : ProblemLists → Type 0
-HasRoomForEvent p = length p.events < 2 ^ 20
+HasRoomForEvent p = length p.events < most_events
 
 abbrev pub HasRoomForMessage : ProblemLists → Type 0
-HasRoomForMessage p = length p.messages < 2 ^ 20
+HasRoomForMessage p = length p.messages < most_messages
 
 -- the problem with one clock, event or message more
 abbrev pub with_clock : ProblemLists → Clock → ProblemLists

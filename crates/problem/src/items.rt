@@ -11,6 +11,15 @@ use problem_model::{Clock, Event, Message, Name};
 use std::alloc::{AllocError, Global};
 use std::marker::Model;
 
+/// The most clocks of a problem.
+pub const MOST_CLOCKS: usize = 65_536;
+
+/// The most events of a problem: with its readings it then has at most 2^21 nodes, so that no sum of weights overflows.
+pub const MOST_EVENTS: usize = 1 << 20;
+
+/// The most messages of a problem.
+pub const MOST_MESSAGES: usize = 1 << 20;
+
 /// The lists of a problem, each with a look-up of its names or pairs.
 #[derive(Drop)]
 pub struct Items {
@@ -23,14 +32,15 @@ pub struct Items {
 }
 
 impl Model for Items {
+    ghost use Rattle.std.specs.Prelude.{[]};
     ghost use Rattle.problem_model.specs.Problem.{ProblemLists};
     ghost use Rattle.problem.specs.Inside.{AreItems};
 
     ghost Value = { ProblemLists };
 
-    ghost view = { λ i. record { clocks = i.clocks.items; events = i.events.items; messages = i.messages.items } };
+    ghost view = { λ i. record { clocks = i.clocks.items; follows = []; events = i.events.items; messages = i.messages.items } };
 
-    ghost invariant = { λ i. AreItems (record { clocks = i.clocks.items; events = i.events.items; messages = i.messages.items }) i.clock_names i.event_names i.pairs };
+    ghost invariant = { λ i. AreItems (record { clocks = i.clocks.items; follows = []; events = i.events.items; messages = i.messages.items }) i.clock_names i.event_names i.pairs };
 }
 
 impl Items {
@@ -118,7 +128,7 @@ impl Items {
         if !self.is_new_clock(c) {
             return Err(PushError::Name);
         }
-        if self.clocks.len() >= 65536 {
+        if self.clocks.len() >= MOST_CLOCKS {
             return Err(PushError::Limit);
         }
         Ok(())
@@ -153,7 +163,7 @@ impl Items {
         if !self.is_new_event(e) {
             return Err(PushError::Name);
         }
-        if self.events.len() >= 1 << 20 {
+        if self.events.len() >= MOST_EVENTS {
             return Err(PushError::Limit);
         }
         Ok(())
@@ -197,7 +207,7 @@ impl Items {
         if !self.is_new_pair(m.send, m.receive) {
             return Err(PushError::Name);
         }
-        if self.messages.len() >= 1 << 20 {
+        if self.messages.len() >= MOST_MESSAGES {
             return Err(PushError::Limit);
         }
         Ok(())

@@ -17,6 +17,3 @@ pub use listing::Listing;
 pub use problem::Problem;
 pub use problem_model::{Bound, Clock, Event, Message, Name, Node};
 pub use read::{problem_answers_are_one, read_problem};
-
-#[cfg(test)]
-mod tests;

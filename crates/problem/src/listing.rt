@@ -1,5 +1,7 @@
 // What is printed of a problem: its names, its events and its readings.
-ghost use Rattle.std.specs.Prelude.{◌≡◌, ◌<◌, ◌≤◌, ◌+◌, ◌^◌, ℕ, List, Some, length, slice_get};
+ghost use Rattle.std.specs.Prelude.{◌≡◌, ◌<◌, ◌≤◌, ◌+◌, ◌^◌, Some, length, slice_get};
+ghost use Rattle.problem.specs.Listing.{Listed};
+ghost use Rattle.problem_model.specs.Nodes.{most_nodes};
 
 use crate::problem::Problem;
 use atto::Nano;
@@ -8,61 +10,45 @@ use problem_model::Name;
 /// The names of clocks and events, and the events and readings by their places in the order in which they are printed.
 /// Places, numbers and nodes count from 0.
 pub trait Listing {
-    /// The names of the clocks by their places.
-    ghost clock_names: { Self → List (List ℕ) };
-
-    /// The names of the events by their numbers.
-    ghost event_names: { Self → List (List ℕ) };
-
-    /// The events by place: number and node.
-    ghost listed_events: { Self → List (ℕ × ℕ) };
-
-    /// The readings by place: clock, stamp in ns, and node.
-    ghost listed_readings: { Self → List (ℕ × ℕ × ℕ) };
+    /// What is listed.
+    ghost listed: { Self → Listed };
 
     /// How many events are listed.
     fn event_count(&self) -> u32
-        ensures { result ≡ length (listed_events self.now) };
+        ensures { result ≡ length (listed self.now).events };
 
-    /// How many readings are listed. Events and readings together are at most 2^21.
+    /// How many readings are listed. Events and readings together are at most 2^22.
     fn reading_count(&self) -> u32
-        ensures count { result ≡ length (listed_readings self.now) }
-        ensures few { length (listed_events self.now) + length (listed_readings self.now) ≤ 2 ^ 21 };
+        ensures count { result ≡ length (listed self.now).readings }
+        ensures few { length (listed self.now).events + length (listed self.now).readings ≤ most_nodes };
 
     /// The name of event `e`.
     fn event_name(&self, e: u32) -> Name
-        requires { e < length (event_names self.now) }
-        ensures { slice_get (event_names self.now) e ≡ Some result };
+        requires { e < length (listed self.now).event_names }
+        ensures { slice_get (listed self.now).event_names e ≡ Some result };
 
     /// The name of the clock at place `c`.
     fn clock_name(&self, c: u32) -> Name
-        requires { c < length (clock_names self.now) }
-        ensures { slice_get (clock_names self.now) c ≡ Some result };
+        requires { c < length (listed self.now).clock_names }
+        ensures { slice_get (listed self.now).clock_names c ≡ Some result };
 
     /// The number and the node of the event at a place. The number has a name.
     fn event_at(&self, place: u32) -> (u32, u32)
-        requires { place < length (listed_events self.now) }
-        ensures value { slice_get (listed_events self.now) place ≡ Some result }
-        ensures named { result.0 < length (event_names self.now) };
+        requires { place < length (listed self.now).events }
+        ensures value { slice_get (listed self.now).events place ≡ Some result }
+        ensures named { result.0 < length (listed self.now).event_names };
 
     /// The clock, the stamp and the node of the reading at a place. The clock has a name.
     fn reading_at(&self, place: u32) -> (u32, Nano, u32)
-        requires { place < length (listed_readings self.now) }
-        ensures value { slice_get (listed_readings self.now) place ≡ Some result }
-        ensures named { result.0 < length (clock_names self.now) };
+        requires { place < length (listed self.now).readings }
+        ensures value { slice_get (listed self.now).readings place ≡ Some result }
+        ensures named { result.0 < length (listed self.now).clock_names };
 }
 
 impl Listing for Problem {
-    ghost use Rattle.std.specs.Prelude.{map, length};
-    ghost use Rattle.problem.specs.Listing.{event_places, reading_places, all_readings};
+    ghost use Rattle.problem.specs.Listing.{listing_of};
 
-    ghost clock_names = { λ p. map (λ c. c.name) p.clocks };
-
-    ghost event_names = { λ p. map (λ e. e.name) p.events };
-
-    ghost listed_events = { λ p. event_places 0 p.events };
-
-    ghost listed_readings = { λ p. reading_places (length p.events) (all_readings p.events) };
+    ghost listed = { listing_of };
 
     fn event_count(&self) -> u32 {
         self.events().len() as u32

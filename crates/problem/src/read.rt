@@ -1,6 +1,6 @@
 // The text of a problem, line by line.
 ghost use Rattle.std.specs.Prelude.{◌≡◌, ◌≤◌, ◌^◌, ◌++◌, ◌↔◌, List, [], ℕ, length, IfSome, IfNone, IsTrue, Ok};
-ghost use Rattle.line_format.specs.Format.{Answers, Answer, head_line};
+ghost use Rattle.line_format.specs.Format.{Answers, Answer, head_line, most_bytes};
 ghost use Rattle.line_format.specs.Format.Answer.{Found};
 ghost use Rattle.problem_model.specs.Problem.{ProblemLists};
 ghost use Rattle.problem.specs.Line.{problem_format};
@@ -10,7 +10,7 @@ use crate::errors::{ProblemError, fault_at};
 use crate::items::Items;
 use crate::lines::take;
 use crate::problem::Problem;
-use line_format::{Taken, cut};
+use line_format::{MOST_BYTES, Taken, cut};
 use std::alloc::Global;
 
 fn is_end(rest: &[u8]) -> bool
@@ -32,7 +32,7 @@ fn after_head(text: &[u8]) -> Option<&[u8]>
 
 // The lines behind the head.
 fn read_lines(alloc: Global, lines: &[u8]) -> Result<Items, ProblemError>
-    requires { length (head_line problem_format ++ lines.now) ≤ 2 ^ 30 }
+    requires { length (head_line problem_format ++ lines.now) ≤ most_bytes }
     ensures { Reads (head_line problem_format ++ lines.now) result }
 {
     let mut items = Items::new(alloc);
@@ -59,7 +59,7 @@ fn read_lines(alloc: Global, lines: &[u8]) -> Result<Items, ProblemError>
 fn read_items(alloc: Global, text: &[u8]) -> Result<Items, ProblemError>
     ensures { Reads text.now result }
 {
-    if text.len() > 1 << 30 {
+    if text.len() > MOST_BYTES {
         return Err(ProblemError::Long);
     }
     match after_head(text) {

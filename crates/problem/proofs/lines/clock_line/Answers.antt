@@ -8,4 +8,4 @@ returns-in-Err c =
     let made = c.clock_of.ensures says.short says.long says.early says.late (says.short_is, says.long_is, says.early_is, says.late_is) in
     let no_events : c.args.items.now.events ≡ [] = search rules in
     let no_messages : c.args.items.now.messages ≡ [] = search rules in
-    clock_line_err _ _ _ _ says c.in-Err.fault no_events no_messages (c.in-Err.ensures says.short says.long says.early says.late made)
+    clock_line_err c.args.items.now _ _ _ says c.in-Err.fault no_events no_messages (c.in-Err.ensures says.short says.long says.early says.late made)

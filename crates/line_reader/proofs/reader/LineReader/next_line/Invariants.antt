@@ -1,12 +1,12 @@
-use Rattle.std.proofs.Common.{◌≡◌, ◌≤◌, ◌-◌, ◌^◌, ◌⊎◌}
-use Rattle.line_reader.specs.Lines.{NoFeed}
+use Rattle.std.proofs.Common.{◌≡◌, ◌≤◌, ◌-◌, ◌⊎◌}
+use Rattle.line_reader.specs.Lines.{NoFeed, most_taken}
 use Rattle.line_reader.proofs.Going.{IsGoing}
 use Rattle.line_reader.proofs.reader.LineReader.next_line.Given as goal
 
 abbrev pub invariant-pieces : goal.invariant-pieces
-invariant-pieces g l = IsGoing l.initial.self l.self (g.S.Source.left l.initial.source) (g.S.Source.left l.source) l.line.items l.long
-    × (g.S.Source.faults l.initial.source ≤ g.S.Source.faults l.source)
+invariant-pieces g l = IsGoing l.initial.self l.self (g.S.Source.told l.initial.source).left (g.S.Source.told l.source).left l.line.items l.long
+    × ((g.S.Source.told l.initial.source).faults ≤ (g.S.Source.told l.source).faults)
     × (NoFeed l.initial.self.held ⊎ ((l.source ≡ l.initial.source) × (l.self ≡ l.initial.self)))
 
 abbrev pub decreases-pieces : goal.decreases-pieces
-decreases-pieces g l = 2 ^ 30 - l.self.taken
+decreases-pieces g l = most_taken - l.self.taken

@@ -1,7 +1,8 @@
-use Rattle.std.proofs.Common.{◌≡◌, ◌≤◌, ◌<◌, ◌^◌, ◌∙◌, sym, ap, length, arith, rules, false, refl}
+use Rattle.std.proofs.Common.{◌≡◌, ◌≤◌, ◌<◌, ◌∙◌, sym, ap, length, arith, rules, false, refl}
 use Rattle.line_reader.specs.Reader.{Reader}
 use Rattle.line_reader.proofs.Pieces.{one_came}
 use Rattle.line_reader.proofs.reader.LineReader.refill.Goals as goal
+use Rattle.line_reader.specs.Lines.{most_taken}
 
 pub returns-in-Ok-clause-read : goal.returns-in-Ok-clause-read
 returns-in-Ok-clause-read g c =
@@ -12,6 +13,6 @@ returns-in-Ok-clause-read g c =
     let taken : c.args.self.now.taken ≡ inside.taken = sym (ap (λ (r : Reader). r.taken) c.self.view_is) in
     let ended : c.args.self.now.ended ≡ inside.ended = sym (ap (λ (r : Reader). r.ended) c.self.view_is) in
     let more : inside.over ≡ false = ap (λ (r : Reader). r.over) c.self.view_is ∙ c.requires.more in
-    let few : inside.taken ≤ 2 ^ 30 = c.self.invariant.2 more in
-    let most : c.args.self.now.taken ≡ 2 ^ 30 = omega (arith, taken, few, c.if-may-eq0.true) in
+    let few : inside.taken ≤ most_taken = c.self.invariant.2 more in
+    let most : c.args.self.now.taken ≡ most_taken = omega (arith, taken, few, c.if-may-eq0.true) in
     (byte.0, byte.1, most, rw (c.requires.none, taken, ended) refl)

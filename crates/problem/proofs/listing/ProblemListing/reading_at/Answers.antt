@@ -10,7 +10,7 @@ overflow_add-result c =
     let p = c.args.self.now in
     let rs = c.readings.result.now in
     let many = ap length c.events.ensures.value in
-    let small : length c.events.result.now + c.args.place < 2 ^ 32 = omega (arith, many, c.requires, length-listed p rs c.readings.ensures, few_readings p rs c.readings.ensures, c.events.ensures.lawful.event_limit) in
+    let small : length c.events.result.now + c.args.place < 2 ^ 32 = omega (arith, many, c.requires, length-listed p rs c.readings.ensures, few_readings p rs c.readings.ensures, c.events.ensures.lawful.fits.event_limit) in
     search rules
 
 pub returns-clause-value : goal.returns-clause-value

@@ -11,7 +11,7 @@ overflow_cast-result c =
     let rs : List Reading = c.deref.result.now in
     let mine : AreReadings p rs = rw c.deref.ensures.value c.self.invariant in
     let found : slice_get rs c.in-Some.place ≡ Some (c.args.clock, c.args.stamp) = c.in-Some.ensures.some in
-    let small : c.in-Some.place < 2 ^ 32 = omega (arith, few_readings p rs mine, c.events.ensures.lawful.event_limit, slice_get_within rs _ _ found) in
+    let small : c.in-Some.place < 2 ^ 32 = omega (arith, few_readings p rs mine, c.events.ensures.lawful.fits.event_limit, slice_get_within rs _ _ found) in
     search rules
 
 pub returns-in-Some-clause-some : goal.returns-in-Some-clause-some
