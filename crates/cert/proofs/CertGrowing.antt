@@ -20,6 +20,7 @@ use Rattle.problem_model.specs.ProblemText.{clock_name, event_name}
 use Rattle.problem_model.specs.BoundText.{bound_words}
 use Rattle.problem_model.specs.Nodes.{Reading, nodes_of}
 use Rattle.problem_model.specs.ExecutionText.{execution_head, value_lines}
+use Rattle.problem_model.proofs.Walking.{none_follows}
 use Rattle.problem.specs.Line.{HasClock, HasEvent}
 use Rattle.cert.specs.declared.chain.Step.{Step}
 use Rattle.cert.specs.declared.kinds.Extreme.TheVariants.{Most, Least}
@@ -95,10 +96,10 @@ clock_none : Clock
 clock_none = record { name = []; rate = record { short = 0; long = 0 }; early = 0; late = 0 }
 
 pub clock_one : (p : ProblemLists) → IsProblem p → (j k : ℕ) (name : List ℕ) → HasClock p j name → HasClock p k name → j ≡ k
-clock_one p lawful j k name at at' = place_one (λ c. c.name) p.clocks clock_none lawful.clocks_differ j k name at at'
+clock_one p lawful j k name at at' = place_one (λ c. c.name) p.clocks clock_none lawful.formed.clocks_differ j k name at at'
 
 pub event_one : (p : ProblemLists) → IsProblem p → (j k : ℕ) (name : List ℕ) → HasEvent p j name → HasEvent p k name → j ≡ k
-event_one p lawful j k name at at' = place_one (λ e. e.name) p.events event_none lawful.events_differ j k name at at'
+event_one p lawful j k name at at' = place_one (λ e. e.name) p.events event_none lawful.formed.events_differ j k name at at'
 
 -- ---- the words of a bound are those of its names
 pub names_words : (p : ProblemLists) (n : NamedBound) (b : Bound) → Names p n b → named_words n ≡ bound_words p b
@@ -131,15 +132,15 @@ abbrev pub Named : ProblemLists → Bound → Type 0
 Named p b = (n : NamedBound) × Names p n b × IsBoundSpelled n
 
 clock_spelled : (p : ProblemLists) → IsProblem p → (k : ℕ) → k < length p.clocks → IsClockName (clock_name p.clocks k)
-clock_spelled p lawful k inside = clock_named p.clocks k lawful.clock_names inside
+clock_spelled p lawful k inside = clock_named p.clocks k lawful.formed.clock_names inside
 
 event_spelled : (p : ProblemLists) → IsProblem p → (k : ℕ) → k < length p.events → IsEventName (event_name p.events k)
-event_spelled p lawful k inside = event_named p.events k lawful.event_names inside
+event_spelled p lawful k inside = event_named p.events k lawful.formed.event_names inside
 
 ends_known : (p : ProblemLists) → IsProblem p → (m : Message) (send receive : ℕ) → Contains p.messages m → m.send ≡ send → m.receive ≡ receive → (send < length p.events) × (receive < length p.events)
 ends_known p lawful m send receive has s r =
-    let sends : m.send < length p.events = subst (λ (x : Message). x.send < length p.events) has.2 (lawful.sends has.0 m has.1) in
-    let receives : m.receive < length p.events = subst (λ (x : Message). x.receive < length p.events) has.2 (lawful.receives has.0 m has.1) in
+    let sends : m.send < length p.events = subst (λ (x : Message). x.send < length p.events) has.2 (lawful.formed.sends has.0 m has.1) in
+    let receives : m.receive < length p.events = subst (λ (x : Message). x.receive < length p.events) has.2 (lawful.formed.receives has.0 m has.1) in
     (omega (arith, sends, s), omega (arith, receives, r))
 
 pub declared_named : (p : ProblemLists) → IsProblem p → (b : Bound) → IsDeclared p b → Named p b
@@ -155,6 +156,7 @@ declared_named p lawful (bounds.Late k) (c, d) =
 declared_named p lawful (bounds.Early k) (c, d) =
     let inside = slice_get_within p.events k d.0 d.2 in
     (Stamp Early (event_name p.events k), (k, event_has p.events k inside, refl), event_spelled p lawful k inside)
+declared_named p lawful (bounds.Follow c s d t) (k, declares) = absurd (none_follows p c s d t k lawful.formed.no_follows declares)
 declared_named p lawful (bounds.DelayMost j k) (c, d) =
     let inside = ends_known p lawful d.0 j k d.2 d.3 d.4 in
     (Delay Most (event_name p.events j) (event_name p.events k), (j, k, event_has p.events j inside.0, event_has p.events k inside.1, refl), (event_spelled p lawful j inside.0, event_spelled p lawful k inside.1))

@@ -273,7 +273,7 @@ module _ (p : ProblemLists) (readings : List Reading) (lawful : IsProblem p) (ar
           sound = (inside_init inside k cut, none_are);
           upper = λ a b. refl;
           lower = λ a b u. refl;
-          spelled = clock_named p.clocks k lawful.clock_names known;
+          spelled = clock_named p.clocks k lawful.formed.clock_names known;
           names = (k, at, λ i d within. pairs_last (λ i j. i < j) inside k cut.rising i d within);
           numbers = tt;
           room = tt;
@@ -373,7 +373,7 @@ module _ (p : ProblemLists) (readings : List Reading) (lawful : IsProblem p) (ar
         record {
           sound = tt;
           may = tt;
-          spelled = (event_named p.events a lawful.event_names known.0, event_named p.events b lawful.event_names known.1);
+          spelled = (event_named p.events a lawful.formed.event_names known.0, event_named p.events b lawful.formed.event_names known.1);
           names = (a, b, at, at');
           numbers = tt;
           room = tt;

@@ -1,39 +1,39 @@
 -- What is left of a certificate while its lines are written.
-use Rattle.std.proofs.Common.{◌≡◌, ◌<◌, ◌≤◌, ◌+◌, ℕ, zero, suc, List, [], ◌∷◌, length, map, drop, slice_get, get_or, All, Option, Some, ◌^◌, to_z, of_z, refl, sym, ◌∙◌, ap, subst, arith}
-use Rattle.std.specs.Prelude.{ℤ, unsigned_abs}
+use Rattle.std.proofs.Common.{◌≡◌, ◌<◌, ◌≤◌, ◌+◌, ℕ, zero, suc, List, [], ◌∷◌, length, map, drop, slice_get, get_or, All, Some, Result, Ok, Err, ◌^◌, to_z, of_z, refl, sym, ◌∙◌, ap, subst, arith}
+use Rattle.std.specs.Prelude.{ℤ, unsigned_abs, IsErr}
 use Rattle.std.specs.List.{flat_map, zip}
 use Rattle.std.proofs.lemmas.List.{length-map}
 use Rattle.std.proofs.lemmas.Int.{to_z-of_z, fits_signed_from_abs}
 use mir.Syntax.{w128}
 use Rattle.atto.specs.NsText.{ns_text}
 use Rattle.line_format.specs.Words.{line_of}
-use Rattle.ports.specs.Content.{Appends, AppendsPrefix}
+use Rattle.ports.specs.declared.failed.Failed.{Failed}
+use Rattle.ports.specs.Content.{SinkTold, Writes}
+use Rattle.ports.proofs.Writing.{writes_as, Leaves, leaves_as, leaves_less, leaves_cut, leaves_none}
 use Rattle.problem_model.specs.Problem.{ProblemLists, IsProblem}
 use Rattle.problem_model.specs.Nodes.{Reading, AreReadings, nodes_of}
 use Rattle.problem_model.specs.ExecutionText.{node_words, value_lines}
-use Rattle.problem.specs.Listing.{all_readings}
+use Rattle.problem.specs.Listing.{listing_of, all_readings}
 use Rattle.problem.proofs.AllReadings.{readings_are}
 use Rattle.cert.specs.declared.chain.Step.{Step}
-use Rattle.cert.specs.declared.certificate.Cert.{Cert}
-use Rattle.cert.specs.Listed.{IsNamed, listed_step, listed_words, timed_line}
-use Rattle.cert.specs.CertificateText.{listing_of, step_line, certificate_text, IsStepOf, HasOneEach}
+use Rattle.cert.specs.Listed.{IsNamed, listed_step, listed_words, words_at, timed_line}
+use Rattle.cert.specs.CertificateText.{step_line, IsStepOf, HasOneEach}
 use Rattle.cert.proofs.OwnListing.{is_named, step_is, words_are, lines_are}
-use Rattle.cert.proofs.Pieces.{Leaves, leaves_as, leaves_less, leaves_front, leaves_none, lines_more, lines_none}
+use Rattle.cert.proofs.Lines.{index_found}
+use Rattle.cert.proofs.Pieces.{lines_more, lines_none}
 
 -- ---- lines of a list
-pub line_written : {X : Type 0} (line : X → List ℕ) (xs : List X) (k : ℕ) (x : X) (old now mid : Option (List ℕ)) (all : List ℕ) → slice_get xs k ≡ Some x
-    → Leaves old now (flat_map line (drop k xs)) all → Appends now mid (line x) → Leaves old mid (flat_map line (drop (k + 1) xs)) all
-line_written line xs k x old now mid all at leaves first =
-    leaves_less old now mid (line x) (flat_map line (drop (k + 1) xs)) all (leaves_as old now _ _ all (lines_more line xs k x at) leaves) first
+pub line_written : {X A E : Type 0} {a : A} {old now mid : SinkTold} {all : List ℕ} (line : X → List ℕ) (xs : List X) (k : ℕ) (x : X) → slice_get xs k ≡ Some x
+    → Leaves old now (flat_map line (drop k xs)) all → Writes {A = A} {E = E} (line x) now mid (Ok a) → Leaves old mid (flat_map line (drop (k + 1) xs)) all
+line_written line xs k x at leaves first = leaves_less (leaves_as (lines_more line xs k x at) leaves) first
 
-pub line_cut : {X : Type 0} (line : X → List ℕ) (xs : List X) (k : ℕ) (x : X) (old now new : Option (List ℕ)) (all : List ℕ) → slice_get xs k ≡ Some x
-    → Leaves old now (flat_map line (drop k xs)) all → AppendsPrefix now new (line x) → AppendsPrefix old new all
-line_cut line xs k x old now new all at leaves front =
-    leaves_front old now new (line x) (flat_map line (drop (k + 1) xs)) all (leaves_as old now _ _ all (lines_more line xs k x at) leaves) front
+pub line_cut : {X A E : Type 0} {e : E} {r : Result (Unit {0}) Failed} {old now new : SinkTold} {all : List ℕ} (line : X → List ℕ) (xs : List X) (k : ℕ) (x : X) → slice_get xs k ≡ Some x
+    → Leaves old now (flat_map line (drop k xs)) all → IsErr r → Writes {A = A} {E = E} (line x) now new (Err e) → Writes all old new r
+line_cut line xs k x at leaves failed front = leaves_cut (flat_map line (drop (k + 1) xs)) (leaves_as (lines_more line xs k x at) leaves) failed front
 
-pub lines_written : {X : Type 0} (line : X → List ℕ) (xs : List X) (k : ℕ) (old now : Option (List ℕ)) (all : List ℕ) → length xs ≤ k
-    → Leaves old now (flat_map line (drop k xs)) all → Appends old now all
-lines_written line xs k old now all past leaves = leaves_none old now all (leaves_as old now _ _ all (lines_none line xs k past) leaves)
+pub lines_written : {X : Type 0} {old now : SinkTold} {all : List ℕ} (line : X → List ℕ) (xs : List X) (k : ℕ) → length xs ≤ k
+    → Leaves old now (flat_map line (drop k xs)) all → Writes {A = Unit {0}} {E = Failed} all old now (Ok tt)
+lines_written line xs k past leaves = leaves_none (leaves_as (lines_none line xs k past) leaves)
 
 -- ---- lines of steps
 -- units as they are held, read again
@@ -84,33 +84,33 @@ zip_length [] ys = omega arith
 zip_length (x ∷ xs) [] = omega arith
 zip_length (x ∷ xs) (y ∷ ys) = let rest = zip_length xs ys in omega (arith, rest)
 
-module _ (p : ProblemLists) (values : List ℤ) (lawful : HasOneEach p values) (old now new : Option (List ℕ)) (all : List ℕ) (k : ℕ) where
-  words_there : k < length values → (ws : List (List ℕ)) × (slice_get (listed_words (listing_of p)) k ≡ Some ws)
-  words_there inside = there_is (listed_words (listing_of p)) k (let same = one_each p values lawful in omega (arith, inside, same))
+words_there : (p : ProblemLists) (values : List ℤ) → HasOneEach p values → (k : ℕ) → k < length values → (ws : List (List ℕ)) × (slice_get (listed_words (listing_of p)) k ≡ Some ws)
+words_there p values lawful k inside = there_is (listed_words (listing_of p)) k (let same = one_each p values lawful in omega (arith, inside, same))
 
-  pub value_written : (v v' : ℤ) → v' ≡ v → k < length values → slice_get values k ≡ Some v → Leaves old now (flat_map timed_line (drop k (timed p values))) all
-      → ((ws : List (List ℕ)) → slice_get (listed_words (listing_of p)) k ≡ Some ws → Appends now new (timed_line (ws, v')))
-      → Leaves old new (flat_map timed_line (drop (k + 1) (timed p values))) all
+line_there : (p : ProblemLists) (k : ℕ) (ws : List (List ℕ)) (v v' : ℤ) → v' ≡ v → slice_get (listed_words (listing_of p)) k ≡ Some ws → timed_line (words_at (listing_of p) k, v') ≡ timed_line (ws, v)
+line_there p k ws v v' same at =
+    ap (λ (found : List (List ℕ)). timed_line (found, v')) (index_found (listed_words (listing_of p)) k ws [] at) ∙ ap (λ (w : ℤ). timed_line (ws, w)) same
+
+module _ (p : ProblemLists) (values : List ℤ) (lawful : HasOneEach p values) {old now : SinkTold} {all : List ℕ} (k : ℕ) where
+  pub value_written : {A E : Type 0} {a : A} {mid : SinkTold} (v v' : ℤ) → v' ≡ v → k < length values → slice_get values k ≡ Some v → Leaves old now (flat_map timed_line (drop k (timed p values))) all
+      → Writes {A = A} {E = E} (timed_line (words_at (listing_of p) k, v')) now mid (Ok a)
+      → Leaves old mid (flat_map timed_line (drop (k + 1) (timed p values))) all
   value_written v v' same inside at leaves line =
-      let ws = words_there inside in
-      line_written timed_line (timed p values) k (ws.0, v) old now new all (pair_at (listed_words (listing_of p)) values k ws.0 v ws.1 at) leaves (subst (λ (w : ℤ). Appends now new (timed_line (ws.0, w))) same (line ws.0 ws.1))
+      let ws = words_there p values lawful k inside in
+      line_written timed_line (timed p values) k (ws.0, v) (pair_at (listed_words (listing_of p)) values k ws.0 v ws.1 at) leaves (writes_as (line_there p k ws.0 v v' same ws.1) line)
 
-  pub value_cut : (v v' : ℤ) → v' ≡ v → k < length values → slice_get values k ≡ Some v → Leaves old now (flat_map timed_line (drop k (timed p values))) all
-      → ((ws : List (List ℕ)) → slice_get (listed_words (listing_of p)) k ≡ Some ws → AppendsPrefix now new (timed_line (ws, v')))
-      → AppendsPrefix old new all
-  value_cut v v' same inside at leaves line =
-      let ws = words_there inside in
-      line_cut timed_line (timed p values) k (ws.0, v) old now new all (pair_at (listed_words (listing_of p)) values k ws.0 v ws.1 at) leaves (subst (λ (w : ℤ). AppendsPrefix now new (timed_line (ws.0, w))) same (line ws.0 ws.1))
+  pub value_cut : {A E : Type 0} {e : E} {r : Result (Unit {0}) Failed} {new : SinkTold} (v v' : ℤ) → v' ≡ v → k < length values → slice_get values k ≡ Some v → Leaves old now (flat_map timed_line (drop k (timed p values))) all
+      → IsErr r → Writes {A = A} {E = E} (timed_line (words_at (listing_of p) k, v')) now new (Err e)
+      → Writes all old new r
+  value_cut v v' same inside at leaves failed line =
+      let ws = words_there p values lawful k inside in
+      line_cut timed_line (timed p values) k (ws.0, v) (pair_at (listed_words (listing_of p)) values k ws.0 v ws.1 at) leaves failed (writes_as (line_there p k ws.0 v v' same ws.1) line)
 
-  pub values_written : length values ≤ k → Leaves old now (flat_map timed_line (drop k (timed p values))) all → Appends old now all
+  pub values_written : length values ≤ k → Leaves old now (flat_map timed_line (drop k (timed p values))) all → Writes {A = Unit {0}} {E = Failed} all old now (Ok tt)
   values_written past leaves =
-      lines_written timed_line (timed p values) k old now all (let short = zip_length (listed_words (listing_of p)) values in omega (arith, short, past)) leaves
+      lines_written timed_line (timed p values) k (let short = zip_length (listed_words (listing_of p)) values in omega (arith, short, past)) leaves
 
 -- ---- the line of a limit
 pub limit_text : (part line : List ℕ) (v z : ℤ) → line ≡ line_of (part ∷ ns_text (to_z w128 (of_z w128 v)) ∷ []) → v ≡ z → unsigned_abs z ≤ 2 ^ 120
     → line ≡ line_of (part ∷ ns_text z ∷ [])
 limit_text part line v z is same small = is ∙ ap (λ (w : ℤ). line_of (part ∷ ns_text w ∷ [])) (units_back v z same small)
-
--- ---- the whole
-pub text_is : (p : ProblemLists) (readings : List Reading) (c : Cert) → AreReadings p readings → certificate_text p (nodes_of p (all_readings p.events)) c ≡ certificate_text p (nodes_of p readings) c
-text_is p readings c are = ap (λ (rs : List Reading). certificate_text p (nodes_of p rs) c) (sym (readings_are p readings are))

@@ -40,7 +40,7 @@ read_at p readings k m s are at = are.each k s (contained readings m (k, s) at)
     contained (x ∷ rs) (suc m) r at = let c = contained rs m r at in (suc c.0, omega (arith, c.1), c.2)
 
 pub reading_fits : (p : ProblemLists) (k s : ℕ) → IsProblem p → IsReading p k s → s < 2 ^ 62
-reading_fits p k s lawful (e, has, clock, stamp) = subst (λ (n : ℕ). n < 2 ^ 62) stamp (All-contains (λ (v : Event). v.stamp < 2 ^ 62) p.events e lawful.stamps_fit has)
+reading_fits p k s lawful (e, has, clock, stamp) = subst (λ (n : ℕ). n < 2 ^ 62) stamp (All-contains (λ (v : Event). v.stamp < 2 ^ 62) p.events e lawful.fits.stamps_fit has)
 
 pub stamp_is : (n : Option ℕ) (m x : ℕ) → n ≡ Some x → SomeIff n (m < 2 ^ 62) m → m ≡ x
 stamp_is None m x is held = absurd cc
@@ -72,7 +72,7 @@ module _ (p : ProblemLists) (lawful : IsProblem p) where
   pub stamp_declared : (kind : StampBound) (k : ℕ) → k < length p.events → IsDeclared p (stamp_bound kind k)
   stamp_declared kind k inside =
       let event = there_is p.events k inside in
-      let known : event.0.clock < length p.clocks = subst (λ (v : Event). v.clock < length p.clocks) (get_or_from_slice_get p.events k event.0 event.0 event.1) (lawful.event_clocks k event.0 inside) in
+      let known : event.0.clock < length p.clocks = subst (λ (v : Event). v.clock < length p.clocks) (get_or_from_slice_get p.events k event.0 event.0 event.1) (lawful.formed.event_clocks k event.0 inside) in
       let clock = there_is p.clocks event.0.clock known in
       both kind event.0 clock.0 event.1 clock.1
     where
@@ -117,9 +117,9 @@ module _ (p : ProblemLists) (lawful : IsProblem p) where
   pair_one : (i j : ℕ) (d : Message) → i < length p.messages → j < length p.messages → (get_or p.messages i d).send ≡ (get_or p.messages j d).send → (get_or p.messages i d).receive ≡ (get_or p.messages j d).receive → i ≡ j
   pair_one i j d a b send receive =
       elim (cases_lt i j) [
-        | inl lt ↦ absurd (lawful.messages_differ i j d lt b send receive)
+        | inl lt ↦ absurd (lawful.formed.messages_differ i j d lt b send receive)
         | inr le ↦ elim (cases_lt j i) [
-          | inl lt ↦ absurd (lawful.messages_differ j i d lt a (sym send) (sym receive))
+          | inl lt ↦ absurd (lawful.formed.messages_differ j i d lt a (sym send) (sym receive))
           | inr le' ↦ omega (arith, le, le')
         ]
       ]

@@ -1,36 +1,38 @@
 -- What stands at a place of two lists in a row.
-use Rattle.std.proofs.Common.{◌≡◌, ◌<◌, ◌+◌, List, [], ◌∷◌, ◌++◌, ℕ, zero, suc, length, map, slice_get, Some, Result, Ok, Err, refl, sym, ◌∙◌, ap, arith, append_assoc}
+use Rattle.std.proofs.Common.{◌≡◌, ◌+◌, List, [], ◌∷◌, ◌++◌, ℕ, zero, suc, length, map, slice_get, Some, Result, Ok, Err, ◌∙◌, ap, arith}
 use Rattle.std.specs.Prelude.{OnOk, OnErr}
 use Rattle.std.specs.List.{slice_index_or}
-
--- a name that is looked up is the name at that place
-pub name_found : (names : List (List ℕ)) (k : ℕ) (name : List ℕ) → slice_get names k ≡ Some name → name ≡ slice_index_or names k []
-name_found [] k name at = absurd cc
-name_found (x ∷ names) zero name at = cc
-name_found (x ∷ names) (suc k) name at = name_found names k name at
+pub use Rattle.problem.proofs.Naming.{name_found}
 
 -- what is looked up twice is the same
 pub found_once : {A : Type 0} (xs : List A) (k : ℕ) (a b : A) → slice_get xs k ≡ Some a → slice_get xs k ≡ Some b → a ≡ b
 found_once xs k a b one two = cc
 
--- b is what becomes of the item at place k
-abbrev pub IsMapped : {A B : Type 0} → (A → B) → List A → ℕ → B → Type 0
-IsMapped {A} f xs k b = (a : A) × (slice_get xs k ≡ Some a) × (b ≡ f a)
+-- what is looked up is what stands at that place
+pub index_found : {A : Type 0} (xs : List A) (k : ℕ) (x d : A) → slice_get xs k ≡ Some x → slice_index_or xs k d ≡ x
+index_found [] k x d at = absurd cc
+index_found (y ∷ xs) zero x d at = cc
+index_found (y ∷ xs) (suc k) x d at = index_found xs k x d at
 
-mapped : {A B : Type 0} (f : A → B) (xs : List A) (k : ℕ) (b : B) → slice_get (map f xs) k ≡ Some b → IsMapped f xs k b
-mapped f [] k b at = absurd cc
-mapped f (x ∷ xs) zero b at = (x, refl, cc)
-mapped f (x ∷ xs) (suc k) b at = mapped f xs k b at
+-- a list of what becomes of items, and more behind it
+pub found_in_front : {A B : Type 0} (f : A → B) (xs : List A) (more : List B) (k : ℕ) (x : A) (d : B) → slice_get xs k ≡ Some x → slice_index_or (map f xs ++ more) k d ≡ f x
+found_in_front f [] more k x d at = absurd cc
+found_in_front f (y ∷ xs) more zero x d at = let same : y ≡ x = cc in ap f same
+found_in_front f (y ∷ xs) more (suc k) x d at = found_in_front f xs more k x d at
 
-pub mapped_in_front : {A B : Type 0} (f : A → B) (xs : List A) (more : List B) (k : ℕ) (b : B) → k < length xs → slice_get (map f xs ++ more) k ≡ Some b → IsMapped f xs k b
-mapped_in_front f [] more k b inside at = absurd (omega (arith, inside))
-mapped_in_front f (x ∷ xs) more zero b inside at = (x, refl, cc)
-mapped_in_front f (x ∷ xs) more (suc k) b inside at = mapped_in_front f xs more k b (omega (arith, inside)) at
-
-pub mapped_behind : {A B C : Type 0} (f : A → B) (g : C → B) (xs : List A) (ys : List C) (k m : ℕ) (b : B) → k ≡ length xs + m → slice_get (map f xs ++ map g ys) k ≡ Some b → IsMapped g ys m b
-mapped_behind f g [] ys k m b is at = let same : k ≡ m = omega (arith, is) in mapped g ys m b (rw (← same) at)
-mapped_behind f g (x ∷ xs) ys zero m b is at = absurd (omega (arith, is))
-mapped_behind f g (x ∷ xs) ys (suc k) m b is at = mapped_behind f g xs ys k m b (omega (arith, is)) at
+pub found_behind : {A B C : Type 0} (f : A → B) (g : C → B) (xs : List A) (ys : List C) (k m : ℕ) (y : C) (d : B) → k ≡ length xs + m → slice_get ys m ≡ Some y
+    → slice_index_or (map f xs ++ map g ys) k d ≡ g y
+found_behind f g [] ys k m y d is at =
+    let same : k ≡ m = omega (arith, is) in
+    let there : slice_get (map g ys) m ≡ Some (g y) = mapped g ys m y at in
+    ap (λ (n : ℕ). slice_index_or (map g ys) n d) same ∙ index_found (map g ys) m (g y) d there
+  where
+    mapped : {A B : Type 0} (g : A → B) (ys : List A) (m : ℕ) (y : A) → slice_get ys m ≡ Some y → slice_get (map g ys) m ≡ Some (g y)
+    mapped g [] m y at = absurd cc
+    mapped g (x ∷ ys) zero y at = let same : x ≡ y = cc in ap (λ (z : _). Some (g z)) same
+    mapped g (x ∷ ys) (suc m) y at = mapped g ys m y at
+found_behind f g (x ∷ xs) ys zero m y d is at = absurd (omega (arith, is))
+found_behind f g (x ∷ xs) ys (suc k) m y d is at = found_behind f g xs ys k m y d (omega (arith, is)) at
 
 -- what is said of a good result goes on to what follows
 pub ok_more : {A E : Type 0} (r : Result A E) (P Q : Type 0) → (P → Q) → OnOk r P → OnOk r Q

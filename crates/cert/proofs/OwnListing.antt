@@ -1,7 +1,8 @@
 -- A problem listed in its own order names its bounds and gives its lines.
-use Rattle.std.proofs.Common.{◌≡◌, ◌<◌, ◌≤◌, ◌+◌, ℕ, zero, suc, List, [], ◌∷◌, ◌++◌, length, map, All, Contains, codes, refl, sym, ◌∙◌, ap, subst, arith, add-one, ℤ}
+use Rattle.std.proofs.Common.{◌≡◌, ◌<◌, ◌+◌, ℕ, zero, suc, List, [], ◌∷◌, ◌++◌, length, map, Contains, codes, refl, sym, ◌∙◌, ap, subst, arith, add-one, ℤ}
 use Rattle.std.specs.List.{flat_map, zip}
 use Rattle.std.proofs.lemmas.List.{length-map, map-append}
+use Rattle.std.proofs.lemmas.List.Elements.{All-contains}
 use Rattle.std.proofs.lemmas.Option.{slice_get_within}
 use Rattle.atto.specs.Decimal.{decimal_of}
 use Rattle.atto.specs.NsText.{ns_text}
@@ -12,43 +13,40 @@ use Rattle.problem_model.specs.declared.items.Message.{Message}
 use Rattle.problem_model.specs.declared.items.Node.{Node}
 use Rattle.problem_model.specs.declared.items.Node.TheVariants as nodes
 use Rattle.problem_model.specs.declared.items.Bound.{Bound}
-use Rattle.problem_model.specs.declared.items.Bound.TheVariants.{SpanMost, SpanLeast, Late, Early, DelayMost, DelayLeast}
+use Rattle.problem_model.specs.declared.items.Bound.TheVariants.{SpanMost, SpanLeast, Late, Early, Follow, DelayMost, DelayLeast}
 use Rattle.problem_model.specs.Problem.{ProblemLists, IsProblem}
 use Rattle.problem_model.specs.ProblemText.{clock_name, event_name}
-use Rattle.problem_model.specs.BoundText.{bound_words}
-use Rattle.problem_model.specs.Bounds.{Constraint, Declares, ClockAt}
+use Rattle.problem_model.specs.BoundText.{span_words, stamp_words, follow_words, delay_words, bound_words}
+use Rattle.problem_model.specs.Bounds.{Constraint, Declares, ClockAt, IsReading}
 use Rattle.problem_model.specs.Nodes.{Reading, AreReadings, nodes_of, event_nodes, reading_nodes}
 use Rattle.problem_model.specs.ExecutionText.{node_words, value_line, value_lines}
-use Rattle.problem.specs.Listing.{event_places, reading_places, all_readings}
+use Rattle.problem.specs.Listing.{listing_of, event_places, reading_places, all_readings}
+pub use Rattle.problem.proofs.Naming.{event_name_is, clock_name_is}
 use Rattle.problem.proofs.AllReadings.{readings_are}
+use Rattle.problem.proofs.ListedNodes.{counted, numbers_are}
+pub use Rattle.problem.proofs.ListedNodes.{length-numbers, numbers_below}
 use Rattle.cert.specs.declared.chain.Step.{Step}
 use Rattle.cert.specs.declared.certificate.Cert.TheVariants.{Cycle, Run}
 use Rattle.cert.specs.Listed.{IsNamed, value_at, name_at, certified, timed_line, listed_bound, listed_step, listed_event, listed_reading, listed_words, listed_nodes, listed_values, listed_cycle, listed_run}
-use Rattle.cert.specs.CertificateText.{listing_of, step_line, certificate_text}
-use Rattle.cert.proofs.Places.{length-nodes_of}
+use Rattle.cert.specs.CertificateText.{step_line, certificate_text}
 
 -- ---- names
-pub event_name_is : (es : List Event) (k : ℕ) → name_at (map (λ e. e.name) es) k ≡ event_name es k
-event_name_is [] k = refl
-event_name_is (e ∷ es) zero = refl
-event_name_is (e ∷ es) (suc k) = event_name_is es k
-
-pub clock_name_is : (cs : List Clock) (k : ℕ) → name_at (map (λ c. c.name) cs) k ≡ clock_name cs k
-clock_name_is [] k = refl
-clock_name_is (c ∷ cs) zero = refl
-clock_name_is (c ∷ cs) (suc k) = clock_name_is cs k
-
 clock_in : (p : ProblemLists) (k : ℕ) (c : Clock) → ClockAt p k c → k < length (listing_of p).clock_names
 clock_in p k c at = omega (arith, slice_get_within p.clocks k c at, length-map p.clocks (λ c. c.name))
 
 event_in : (p : ProblemLists) (k : ℕ) → k < length p.events → k < length (listing_of p).event_names
 event_in p k inside = omega (arith, inside, length-map p.events (λ e. e.name))
 
+reading_in : (p : ProblemLists) (k s : ℕ) → IsReading p k s → IsProblem p → k < length (listing_of p).clock_names
+reading_in p k s (e, has, clock, stamp) lawful =
+    let known = All-contains (λ (v : Event). v.clock < length p.clocks) p.events e lawful.formed.event_clocks has in
+    omega (arith, known, clock, length-map p.clocks (λ c. c.name))
+
 ends_in : (p : ProblemLists) (m : Message) (send receive : ℕ) → IsProblem p → Contains p.messages m → m.send ≡ send → m.receive ≡ receive →
     (send < length (listing_of p).event_names) × (receive < length (listing_of p).event_names)
 ends_in p m send receive lawful has s r =
-    let sends : m.send < length p.events = subst (λ (x : Message). x.send < length p.events) has.2 (lawful.sends has.0 m has.1) in
-    let receives : m.receive < length p.events = subst (λ (x : Message). x.receive < length p.events) has.2 (lawful.receives has.0 m has.1) in
+    let sends : m.send < length p.events = subst (λ (x : Message). x.send < length p.events) has.2 (lawful.formed.sends has.0 m has.1) in
+    let receives : m.receive < length p.events = subst (λ (x : Message). x.receive < length p.events) has.2 (lawful.formed.receives has.0 m has.1) in
     (event_in p send (omega (arith, sends, s)), event_in p receive (omega (arith, receives, r)))
 
 pub is_named : (p : ProblemLists) (b : Bound) (c : Constraint) → Declares p b c → IsProblem p → IsNamed (listing_of p) b
@@ -56,28 +54,25 @@ is_named p (SpanMost clock s t) c d lawful = clock_in p clock d.0 d.1
 is_named p (SpanLeast clock s t) c d lawful = clock_in p clock d.0 d.1
 is_named p (Late e) c d lawful = event_in p e (slice_get_within p.events e d.0 d.2)
 is_named p (Early e) c d lawful = event_in p e (slice_get_within p.events e d.0 d.2)
+is_named p (Follow k s l t) c d lawful = (reading_in p k s d.4 lawful, reading_in p l t d.5 lawful)
 is_named p (DelayMost send receive) c d lawful = ends_in p d.0 send receive lawful d.2 d.3 d.4
 is_named p (DelayLeast send receive) c d lawful = ends_in p d.0 send receive lawful d.1 d.2 d.3
 
 -- ---- steps
-span_is : (p : ProblemLists) (kind : List ℕ) (clock s t : ℕ) →
-    kind ∷ name_at (listing_of p).clock_names clock ∷ decimal_of s ∷ decimal_of t ∷ [] ≡ kind ∷ clock_name p.clocks clock ∷ decimal_of s ∷ decimal_of t ∷ []
-span_is p kind clock s t = ap (λ (name : List ℕ). kind ∷ name ∷ decimal_of s ∷ decimal_of t ∷ []) (clock_name_is p.clocks clock)
-
-stamp_is : (p : ProblemLists) (kind : List ℕ) (e : ℕ) → kind ∷ name_at (listing_of p).event_names e ∷ [] ≡ kind ∷ event_name p.events e ∷ []
-stamp_is p kind e = ap (λ (name : List ℕ). kind ∷ name ∷ []) (event_name_is p.events e)
-
 delay_is : (p : ProblemLists) (kind : List ℕ) (send receive : ℕ) →
-    kind ∷ name_at (listing_of p).event_names send ∷ name_at (listing_of p).event_names receive ∷ [] ≡ kind ∷ event_name p.events send ∷ event_name p.events receive ∷ []
+    delay_words kind (name_at (listing_of p).event_names send) (name_at (listing_of p).event_names receive) ≡ delay_words kind (event_name p.events send) (event_name p.events receive)
 delay_is p kind send receive =
-    ap (λ (name : List ℕ). kind ∷ name ∷ name_at (listing_of p).event_names receive ∷ []) (event_name_is p.events send)
-    ∙ ap (λ (name : List ℕ). kind ∷ event_name p.events send ∷ name ∷ []) (event_name_is p.events receive)
+    ap (λ (name : List ℕ). delay_words kind name (name_at (listing_of p).event_names receive)) (event_name_is p.events send)
+    ∙ ap (λ (name : List ℕ). delay_words kind (event_name p.events send) name) (event_name_is p.events receive)
 
-bound_is : (p : ProblemLists) (b : Bound) → listed_bound (listing_of p) b ≡ bound_words p b
-bound_is p (SpanMost clock s t) = span_is p (codes "span-most") clock s t
-bound_is p (SpanLeast clock s t) = span_is p (codes "span-least") clock s t
-bound_is p (Late e) = stamp_is p (codes "late") e
-bound_is p (Early e) = stamp_is p (codes "early") e
+pub bound_is : (p : ProblemLists) (b : Bound) → listed_bound (listing_of p) b ≡ bound_words p b
+bound_is p (SpanMost clock s t) = ap (λ (name : List ℕ). span_words (codes "span-most") name s t) (clock_name_is p.clocks clock)
+bound_is p (SpanLeast clock s t) = ap (λ (name : List ℕ). span_words (codes "span-least") name s t) (clock_name_is p.clocks clock)
+bound_is p (Late e) = ap (stamp_words (codes "late")) (event_name_is p.events e)
+bound_is p (Early e) = ap (stamp_words (codes "early")) (event_name_is p.events e)
+bound_is p (Follow c s d t) =
+    ap (λ (name : List ℕ). follow_words name s (name_at (listing_of p).clock_names d) t) (clock_name_is p.clocks c)
+    ∙ ap (λ (name : List ℕ). follow_words (clock_name p.clocks c) s name t) (clock_name_is p.clocks d)
 bound_is p (DelayMost send receive) = delay_is p (codes "delay-most") send receive
 bound_is p (DelayLeast send receive) = delay_is p (codes "delay-least") send receive
 
@@ -90,50 +85,6 @@ steps_are p [] = refl
 steps_are p (s ∷ steps) =
     ap (λ (text : List ℕ). listed_step (listing_of p) (s.bound, s.weight) ++ text) (steps_are p steps)
     ∙ ap (λ (line : List ℕ). line ++ flat_map (step_line p) steps) (step_is p s)
-
--- ---- numbers of nodes
--- n numbers from k on
-abbrev counted : ℕ → ℕ → List ℕ
-counted k zero = []
-counted k (suc n) = k ∷ counted (k + 1) n
-
-length-counted : (k n : ℕ) → length (counted k n) ≡ n
-length-counted k zero = refl
-length-counted k (suc n) = ap suc (length-counted (k + 1) n)
-
-counted_below : (k n m : ℕ) → k + n ≤ m → All (λ i. i < m) (counted k n)
-counted_below k zero m le i d inside = absurd (omega (arith, inside))
-counted_below k (suc n) m le zero d inside = omega (arith, le)
-counted_below k (suc n) m le (suc i) d inside = counted_below (k + 1) n m (omega (arith, le)) i d (omega (arith, inside))
-
-counted_on : (k j m n whole : ℕ) → j ≡ k + m → whole ≡ m + n → counted k m ++ counted j n ≡ counted k whole
-counted_on k j zero n whole at all = let a : j ≡ k = omega (arith, at) in let b : whole ≡ n = omega (arith, all) in rw (a, b) refl
-counted_on k j (suc m) n zero at all = absurd (omega (arith, all))
-counted_on k j (suc m) n (suc whole) at all = ap (λ (ns : List ℕ). k ∷ ns) (counted_on (k + 1) j m n whole (omega (arith, at)) (omega (arith, all)))
-
-event_numbers : (k : ℕ) (es : List Event) → map {A = ℕ × ℕ} {B = ℕ} (λ e. e.1) (event_places k es) ≡ counted k (length es)
-event_numbers k [] = refl
-event_numbers k (e ∷ es) = ap (λ (ns : List ℕ). k ∷ ns) (event_numbers (k + 1) es)
-
-reading_numbers : (k : ℕ) (rs : List Reading) → map {A = ℕ × ℕ × ℕ} {B = ℕ} (λ r. r.2) (reading_places k rs) ≡ counted k (length rs)
-reading_numbers k [] = refl
-reading_numbers k (r ∷ rs) = ap (λ (ns : List ℕ). k ∷ ns) (reading_numbers (k + 1) rs)
-
-numbers_are : (p : ProblemLists) (rs : List Reading) → AreReadings p rs → listed_nodes (listing_of p) ≡ counted 0 (length (nodes_of p rs))
-numbers_are p rs are =
-    let n = length p.events in
-    let places = reading_places n (all_readings p.events) in
-    ap (λ (ns : List ℕ). ns ++ map {A = ℕ × ℕ × ℕ} {B = ℕ} (λ r. r.2) places) (event_numbers 0 p.events)
-    ∙ ap (λ (ns : List ℕ). counted 0 n ++ ns) (reading_numbers n (all_readings p.events))
-    ∙ counted_on 0 n n (length (all_readings p.events)) (length (nodes_of p rs)) (omega arith) (omega (arith, length-nodes_of p rs, ap length (readings_are p rs are)))
-
-pub length-numbers : (p : ProblemLists) (rs : List Reading) → AreReadings p rs → length (listed_nodes (listing_of p)) ≡ length (nodes_of p rs)
-length-numbers p rs are = ap length (numbers_are p rs are) ∙ length-counted 0 (length (nodes_of p rs))
-
-pub numbers_below : (p : ProblemLists) (rs : List Reading) → AreReadings p rs → All (λ k. k < length (nodes_of p rs)) (listed_nodes (listing_of p))
-numbers_below p rs are =
-    let n = length (nodes_of p rs) in
-    subst (λ (ns : List ℕ). All (λ k. k < n) ns) (sym (numbers_are p rs are)) (counted_below 0 n n (omega arith))
 
 -- ---- real times
 next_values : (f : ℕ → ℤ) (k n : ℕ) → map f (counted (k + 1) n) ≡ map (λ i. f (i + 1)) (counted k n)

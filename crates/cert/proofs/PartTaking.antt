@@ -44,14 +44,14 @@ test_is a b m n x y = ((λ t. let e : a ≡ b = grind (arith, t) in sym x ∙ e 
 pub takes_over : (p q : ProblemLists) (a b : List Reading) (vs ws : List ℤ) (body : List ℕ) (r : Result Taken LineError) → q.clocks ≡ p.clocks → q.events ≡ p.events → a ≡ b →
     Takes (execution_format q a) vs body r ws → Takes (execution_format p b) vs body r ws
 takes_over p q a b vs ws body r clocks events same takes =
-    let first = subst (λ (cs : List Clock). Takes (execution_format (record { clocks = cs; events = q.events; messages = [] }) a) vs body r ws) clocks takes in
-    let second = subst (λ (es : List Event). Takes (execution_format (record { clocks = p.clocks; events = es; messages = [] }) a) vs body r ws) events first in
+    let first = subst (λ (cs : List Clock). Takes (execution_format (record { clocks = cs; follows = []; events = q.events; messages = [] }) a) vs body r ws) clocks takes in
+    let second = subst (λ (es : List Event). Takes (execution_format (record { clocks = p.clocks; follows = []; events = es; messages = [] }) a) vs body r ws) events first in
     subst (λ (rs : List Reading). Takes (execution_format p rs) vs body r ws) same second
 
 pub same_count : (p q : ProblemLists) (a b : List Reading) → q.events ≡ p.events → a ≡ b → length (nodes_of q a) ≡ length (nodes_of p b)
 same_count p q a b events same =
-    ap (λ (es : List Event). length (nodes_of (record { clocks = q.clocks; events = es; messages = [] }) a)) events
-    ∙ ap (λ (rs : List Reading). length (nodes_of (record { clocks = q.clocks; events = p.events; messages = [] }) rs)) same
+    ap (λ (es : List Event). length (nodes_of (record { clocks = q.clocks; follows = []; events = es; messages = [] }) a)) events
+    ∙ ap (λ (rs : List Reading). length (nodes_of (record { clocks = q.clocks; follows = []; events = p.events; messages = [] }) rs)) same
 
 -- ---- steps and clocks more
 pub steps_more : (p : ProblemLists) (old new : List Step) (n : NamedBound) (z : ℤ) → TakesStep p old n z (Ok tt) new → AreSteps p old → AreSteps p new

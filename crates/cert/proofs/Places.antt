@@ -1,5 +1,5 @@
 -- What stands at a place of the nodes.
-use Rattle.std.proofs.Common.{◌≡◌, ◌<◌, ◌≤◌, ◌+◌, ℕ, zero, suc, List, [], ◌∷◌, ◌++◌, length, slice_get, All, Some, refl, ◌∙◌, ap, subst, arith, length-append}
+use Rattle.std.proofs.Common.{◌≡◌, ◌<◌, ◌≤◌, ◌+◌, ℕ, zero, suc, List, [], ◌∷◌, ◌++◌, length, slice_get, All, Some, refl, ◌∙◌, ap, subst, arith}
 use Rattle.std.specs.List.{slice_index_or}
 use Rattle.std.proofs.lemmas.List.Elements.{Contains-get_or}
 use Rattle.problem_model.specs.declared.items.Clock.{Clock}
@@ -10,20 +10,11 @@ use Rattle.problem_model.specs.Name.{IsEventName, IsClockName}
 use Rattle.problem_model.specs.Problem.{ProblemLists, IsProblem}
 use Rattle.problem_model.specs.Nodes.{Reading, AreReadings, nodes_of, event_nodes, reading_nodes}
 use Rattle.problem_model.specs.ProblemText.{clock_name, event_name}
+use Rattle.problem.proofs.ListedNodes.{length-event_nodes}
+pub use Rattle.problem.proofs.ListedNodes.{length-nodes_of}
 use Rattle.cert.specs.NodeLists.{NodeLists, AreNamed, StandsAt}
 use Rattle.cert.specs.declared.nodes.NextNode.TheVariants as next
 use Rattle.cert.proofs.Readings.{readings_few}
-
-length-event_nodes : (k : ℕ) (events : List Event) → length (event_nodes k events) ≡ length events
-length-event_nodes k [] = refl
-length-event_nodes k (e ∷ events) = ap suc (length-event_nodes (k + 1) events)
-
-length-reading_nodes : (readings : List Reading) → length (reading_nodes readings) ≡ length readings
-length-reading_nodes [] = refl
-length-reading_nodes (r ∷ readings) = ap suc (length-reading_nodes readings)
-
-pub length-nodes_of : (p : ProblemLists) (readings : List Reading) → length (nodes_of p readings) ≡ length p.events + length readings
-length-nodes_of p readings = omega (arith, length-append (event_nodes 0 p.events) (reading_nodes readings), length-event_nodes 0 p.events, length-reading_nodes readings)
 
 event_at : (j k i : ℕ) (events : List Event) (more : List Node) → k < length events → i ≡ j + k → slice_get (event_nodes j events ++ more) k ≡ Some (nodes.Event i)
 event_at j k i [] more inside is = absurd (omega (arith, inside))
@@ -95,14 +86,14 @@ known_clock : (p : ProblemLists) (readings : List Reading) → IsProblem p → A
 known_clock p readings lawful are i d inside =
     let r = slice_index_or readings i d in
     let reads = are.each r.0 r.1 (Contains-get_or readings i d inside) in
-    let known = lawful.event_clocks reads.1.0 reads.0 reads.1.1 in
+    let known = lawful.formed.event_clocks reads.1.0 reads.0 reads.1.1 in
     let same : (slice_index_or p.events reads.1.0 reads.0).clock ≡ r.0 = ap (λ (e : Event). e.clock) reads.1.2 ∙ reads.2 in
     omega (arith, known, same)
 
 pub are_named : (p : ProblemLists) (readings : List Reading) → IsProblem p → AreReadings p readings → AreNamed (record { problem = p; readings = readings })
 are_named p readings lawful are = record {
-  clock_names = lawful.clock_names;
-  event_names = lawful.event_names;
+  clock_names = lawful.formed.clock_names;
+  event_names = lawful.formed.event_names;
   known = known_clock p readings lawful are;
-  few = omega (arith, lawful.event_limit, readings_few p readings are, length-nodes_of p readings);
+  few = omega (arith, lawful.fits.event_limit, readings_few p readings are, length-nodes_of p readings);
 }

@@ -1,8 +1,8 @@
 -- The text of a certificate is read as this certificate.
-use Rattle.std.proofs.Common.{◌≡◌, ◌<◌, ◌≤◌, ◌^◌, ℕ, List, [], ◌∷◌, ◌++◌, length, codes, All, Result, Ok, Err, refl, sym, ◌∙◌, ap, subst, arith, ℤ, append_assoc}
+use Rattle.std.proofs.Common.{◌≡◌, ◌<◌, ◌≤◌, ℕ, List, [], ◌∷◌, ◌++◌, length, codes, All, Result, Ok, Err, refl, sym, ◌∙◌, ap, subst, arith, ℤ, append_assoc}
 use Rattle.atto.specs.Number.{FitsUnits}
 use Rattle.line_format.specs.Words.{line_of}
-use Rattle.line_format.specs.Format.{Answers}
+use Rattle.line_format.specs.Format.{Answers, most_bytes}
 use Rattle.line_format.specs.Format.Answer.{Found, Faulty}
 use Rattle.line_format.specs.declared.fault.FaultKind.{FaultKind}
 use Rattle.line_format.specs.declared.fault.FaultKind.TheVariants as kinds
@@ -112,7 +112,7 @@ module _ (p : ProblemLists) (readings : List Reading) (are : AreReadings p readi
       ∙ ap (λ (t : List ℕ). said_lines p readings (EventsSaid a b) ++ side_lines p readings Upper upper ++ t) (lower_lines lower)
 
   ends_found : (a b : ℕ) (upper lower : EndLists) (text : List ℕ) → a < length p.events → b < length p.events → AreListsOf p upper → AreListsOf p lower → FitsEndLists upper → FitsEndLists lower
-      → length text ≤ 2 ^ 30 → text ≡ certified (ends_lines p (nodes_of p readings) a b upper lower) → IsFound text (EndsSaid a b upper lower)
+      → length text ≤ most_bytes → text ≡ certified (ends_lines p (nodes_of p readings) a b upper lower) → IsFound text (EndsSaid a b upper lower)
   ends_found a b upper lower text there there' of of' fits fits' short is =
       let above = end_sound upper of fits in
       let below = end_sound lower of' fits' in
@@ -137,26 +137,26 @@ module _ (p : ProblemLists) (readings : List Reading) (are : AreReadings p readi
     read_as text state found (Err errors.Long) reads = absurd (let short = found.0 in omega (arith, short, reads))
     read_as text state found (Err errors.Memory) reads = refl
 
-pub certificate_again : (p : ProblemLists) (readings : List Reading) (c : Cert) → IsProblem p → AreReadings p readings → IsCertOf p c → FitsCert c → length (certificate_text p (nodes_of p readings) c) ≤ 2 ^ 30
+pub certificate_again : (p : ProblemLists) (readings : List Reading) (c : Cert) → IsProblem p → AreReadings p readings → IsCertOf p c → FitsCert c → length (certificate_text p (nodes_of p readings) c) ≤ most_bytes
     → IsReadAs p readings (certificate_text p (nodes_of p readings) c) (said c)
 certificate_again p readings c lawful are of fits short =
     let text : List ℕ = certificate_text p (nodes_of p readings) c in
     read_as p readings are lawful text (said c) (cert_found p readings are c text (short, of, fits, refl))
 
 pub ends_again : (p : ProblemLists) (readings : List Reading) (a b : ℕ) (upper lower : EndLists) → IsProblem p → AreReadings p readings → a < length p.events → b < length p.events
-    → AreListsOf p upper → AreListsOf p lower → FitsEndLists upper → FitsEndLists lower → length (certified (ends_lines p (nodes_of p readings) a b upper lower)) ≤ 2 ^ 30
+    → AreListsOf p upper → AreListsOf p lower → FitsEndLists upper → FitsEndLists lower → length (certified (ends_lines p (nodes_of p readings) a b upper lower)) ≤ most_bytes
     → IsReadAs p readings (certified (ends_lines p (nodes_of p readings) a b upper lower)) (EndsSaid a b upper lower)
 ends_again p readings a b upper lower lawful are there there' of of' fits fits' short =
     let text : List ℕ = certified (ends_lines p (nodes_of p readings) a b upper lower) in
     read_as p readings are lawful text (EndsSaid a b upper lower) (ends_found p readings are a b upper lower text there there' of of' fits fits' short refl)
 
 -- ---- and shows what it should
-pub shown_again : (p : ProblemLists) (readings : List Reading) (c : Cert) → IsProblem p → AreReadings p readings → IsCertOf p c → FitsCert c → length (certificate_text p (nodes_of p readings) c) ≤ 2 ^ 30 → Shows p c
+pub shown_again : (p : ProblemLists) (readings : List Reading) (c : Cert) → IsProblem p → AreReadings p readings → IsCertOf p c → FitsCert c → length (certificate_text p (nodes_of p readings) c) ≤ most_bytes → Shows p c
     → IsAccepted p readings (certificate_text p (nodes_of p readings) c)
 shown_again p readings c lawful are of fits short shows result reads = one_shows p (said c) result (shown_said p c shows) (certificate_again p readings c lawful are of fits short result reads)
 
 pub ends_shown_again : (p : ProblemLists) (readings : List Reading) (a b : ℕ) (upper lower : EndLists) → IsProblem p → AreReadings p readings → a < length p.events → b < length p.events
-    → AreListsOf p upper → AreListsOf p lower → FitsEndLists upper → FitsEndLists lower → length (certified (ends_lines p (nodes_of p readings) a b upper lower)) ≤ 2 ^ 30 → IsUpperEnd p a b upper → IsLowerEnd p a b lower
+    → AreListsOf p upper → AreListsOf p lower → FitsEndLists upper → FitsEndLists lower → length (certified (ends_lines p (nodes_of p readings) a b upper lower)) ≤ most_bytes → IsUpperEnd p a b upper → IsLowerEnd p a b lower
     → IsAccepted p readings (certified (ends_lines p (nodes_of p readings) a b upper lower))
 ends_shown_again p readings a b upper lower lawful are there there' of of' fits fits' short above below result reads =
     one_shows p (EndsSaid a b upper lower) result (above, below) (ends_again p readings a b upper lower lawful are there there' of of' fits fits' short result reads)

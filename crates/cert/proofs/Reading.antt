@@ -1,9 +1,9 @@
 -- From the lines of a text to what the whole text answers.
-use Rattle.std.proofs.Common.{codes, ◌↔◌, ◌∷◌, ◌≡◌, ◌≤◌, ◌+◌, ◌^◌, ℕ, List, [], ◌++◌, length, Some, Ok, Err, Result, refl, sym, ◌∙◌, ap, subst, arith, ℤ, append_assoc}
+use Rattle.std.proofs.Common.{codes, ◌↔◌, ◌∷◌, ◌≡◌, ◌≤◌, ◌+◌, ℕ, List, [], ◌++◌, length, Some, Ok, Err, Result, refl, sym, ◌∙◌, ap, subst, arith, ℤ, append_assoc}
 use Rattle.std.proofs.lemmas.List.{append-nil}
 use Rattle.line_format.specs.Words.{line_of}
 use Rattle.line_format.specs.Cut.{cut}
-use Rattle.line_format.specs.Format.{Answers, Takes}
+use Rattle.line_format.specs.Format.{Answers, Takes, most_bytes}
 use Rattle.line_format.specs.Format.Answer.{Found}
 use Rattle.line_format.specs.declared.fault.FaultKind.{FaultKind}
 use Rattle.line_format.specs.declared.fault.FaultKind.TheVariants as kinds
@@ -26,7 +26,7 @@ module _ (p : ProblemLists) (readings : List Reading) where
   abbrev Is : List ℕ → List ℕ → List ℤ → ℕ → Type 0
   Is = Stands (execution_format p readings) line_lacks
 
-  pub first_stands : (lines : List ℕ) → length (line_of execution_head ++ lines) ≤ 2 ^ 30 → Is (line_of execution_head ++ lines) lines [] 2
+  pub first_stands : (lines : List ℕ) → length (line_of execution_head ++ lines) ≤ most_bytes → Is (line_of execution_head ++ lines) lines [] 2
   first_stands lines short =
       let head = ap (λ (t : List ℕ). line_of execution_head ++ t) (value_lines-nil p (nodes_of p readings)) ∙ append-nil (line_of execution_head) in
       stands_first (execution_format p readings) line_lacks (line_of execution_head ++ lines) lines [] short refl head refl (record { fit = λ k d inside. absurd (omega (arith, inside)); few = omega arith })
@@ -65,6 +65,6 @@ module _ (p : ProblemLists) (readings : List Reading) where
 -- only the names and the readings count, and there is one list of readings
 pub reads_over : (p q : ProblemLists) (a b : List Reading) (text : List ℕ) (r : Result (List ℤ) CertError) → q.clocks ≡ p.clocks → q.events ≡ p.events → a ≡ b → ReadsOver q a text r → ReadsOver p b text r
 reads_over p q a b text r clocks events same reads =
-    let first = subst (λ (cs : List Clock). ReadsOver (record { clocks = cs; events = q.events; messages = [] }) a text r) clocks reads in
-    let second = subst (λ (es : List Event). ReadsOver (record { clocks = p.clocks; events = es; messages = [] }) a text r) events first in
+    let first = subst (λ (cs : List Clock). ReadsOver (record { clocks = cs; follows = []; events = q.events; messages = [] }) a text r) clocks reads in
+    let second = subst (λ (es : List Event). ReadsOver (record { clocks = p.clocks; follows = []; events = es; messages = [] }) a text r) events first in
     subst (λ (rs : List Reading). ReadsOver p rs text r) same second

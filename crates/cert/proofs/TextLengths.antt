@@ -8,9 +8,10 @@ use Rattle.std.proofs.lemmas.List.Elements.{All-nil, All-cons, All-head, All-tai
 use Rattle.atto.specs.Decimal.{decimal_of}
 use Rattle.atto.specs.NsText.{ns_text, unsigned_ns_text, last_digits}
 use Rattle.atto.proofs.DecimalLemmas.{length-decimal_of-le, length-last_digits}
-use Rattle.line_format.specs.Words.{words, line_of}
+use Rattle.line_format.specs.Words.{line_of}
+pub use Rattle.line_format.proofs.Lengths.{line_size, lines_short}
 use Rattle.problem_model.specs.declared.items.Bound.{Bound}
-use Rattle.problem_model.specs.declared.items.Bound.TheVariants.{SpanMost, SpanLeast, Late, Early, DelayMost, DelayLeast}
+use Rattle.problem_model.specs.declared.items.Bound.TheVariants.{SpanMost, SpanLeast, Late, Early, Follow, DelayMost, DelayLeast}
 use Rattle.problem_model.specs.declared.items.Clock.{Clock}
 use Rattle.problem_model.specs.declared.items.Event.{Event}
 use Rattle.problem_model.specs.declared.items.Node.{Node}
@@ -42,35 +43,11 @@ ns_short : (k m : ℕ) (z : ℤ) → 0 < k → m < 10 ^ k * 1000000000 → neg_�
 ns_short k m (pos n) some small low high = let short = unsigned_short k n some (omega (arith, ints, small, high)) in omega (arith, short)
 ns_short k m (negsuc n) some small low high = let short = unsigned_short k (suc n) some (omega (arith, ints, small, low)) in omega (arith, short)
 
-pub value_short : (z : ℤ) → IsUpTo 116 z → length (ns_text z) ≤ 37
-value_short z small = ns_short 26 (2 ^ 116) z (omega arith) (omega arith) small.0 small.1
+pub value_short : (z : ℤ) → IsUpTo 117 z → length (ns_text z) ≤ 38
+value_short z small = ns_short 27 (2 ^ 117) z (omega arith) (omega arith) small.0 small.1
 
 pub weight_short : (z : ℤ) → IsUpTo 93 z → length (ns_text z) ≤ 30
 weight_short z small = ns_short 19 (2 ^ 93) z (omega arith) (omega arith) small.0 small.1
-
--- ---- lines
--- the bytes of these words, each with one behind it
-abbrev pub sized : List (List ℕ) → ℕ
-sized [] = 0
-sized (w ∷ ws) = length w + 1 + sized ws
-
-words_size : (w : List ℕ) (ws : List (List ℕ)) → length (words (w ∷ ws)) + 1 ≡ sized (w ∷ ws)
-words_size w [] = omega arith
-words_size w (v ∷ ws) = let rest = words_size v ws in omega (arith, rest, length-append w (32 ∷ words (v ∷ ws)))
-
-pub line_size : (w : List ℕ) (ws : List (List ℕ)) → length (line_of (w ∷ ws)) ≡ sized (w ∷ ws)
-line_size w ws = let rest = words_size w ws in omega (arith, rest, length-append (words (w ∷ ws)) (10 ∷ []))
-
-times_more : (n m : ℕ) → suc n * m ≡ m + n * m
-times_more n m = grind arith
-
-pub lines_short : {X : Type 0} (line : X → List ℕ) (m : ℕ) (xs : List X) → All (λ x. length (line x) ≤ m) xs → length (flat_map line xs) ≤ length xs * m
-lines_short line m [] all = omega arith
-lines_short {X = X} line m (x ∷ xs) all =
-    let here : length (line x) ≤ m = All-head (λ (y : X). length (line y) ≤ m) x xs all in
-    let rest = lines_short line m xs (All-tail (λ (y : X). length (line y) ≤ m) x xs all) in
-    let more = times_more (length xs) m in
-    omega (arith, here, rest, more, length-append (line x) (flat_map line xs))
 
 -- ---- names
 event_names_short : (es : List Event) → All (λ e. IsEventName e.name) es → (k : ℕ) → length (event_name es k) ≤ 48
@@ -98,10 +75,10 @@ inside_few limit xs below rising = let few = rising_few 0 limit xs (omega arith)
 
 module _ (p : ProblemLists) (lawful : IsProblem p) where
   event_short : (k : ℕ) → length (event_name p.events k) ≤ 48
-  event_short k = event_names_short p.events lawful.event_names k
+  event_short k = event_names_short p.events lawful.formed.event_names k
 
   clock_short : (k : ℕ) → length (clock_name p.clocks k) ≤ 32
-  clock_short k = clock_names_short p.clocks lawful.clock_names k
+  clock_short k = clock_names_short p.clocks lawful.formed.clock_names k
 
   -- ---- the events of an interval
   pub events_short : (j k : ℕ) → length (line_of (codes "ends" ∷ event_name p.events j ∷ event_name p.events k ∷ [])) ≤ 103
@@ -117,49 +94,54 @@ module _ (p : ProblemLists) (lawful : IsProblem p) where
 
   -- ---- steps
   span_short : (kind : List ℕ) (clock s t : ℕ) (w : ℤ) → length kind ≤ 11 → IsReading p clock s → IsReading p clock t → IsUpTo 93 w
-      → length (line_of (codes "step" ∷ kind ∷ clock_name p.clocks clock ∷ decimal_of s ∷ decimal_of t ∷ ns_text w ∷ [])) ≤ 146
+      → length (line_of (codes "step" ∷ kind ∷ clock_name p.clocks clock ∷ decimal_of s ∷ decimal_of t ∷ ns_text w ∷ [])) ≤ 149
   span_short kind clock s t w kind_short is is' small =
       let size : length (line_of (codes "step" ∷ kind ∷ clock_name p.clocks clock ∷ decimal_of s ∷ decimal_of t ∷ ns_text w ∷ []))
       ≡ 4 + 1 + (length kind + 1 + (length (clock_name p.clocks clock) + 1 + (length (decimal_of s) + 1 + (length (decimal_of t) + 1 + (length (ns_text w) + 1 + 0))))) =
       line_size (codes "step") (kind ∷ clock_name p.clocks clock ∷ decimal_of s ∷ decimal_of t ∷ ns_text w ∷ []) in
       omega (arith, size, kind_short, clock_short clock, decimal_short s (reading_fits p clock s lawful is), decimal_short t (reading_fits p clock t lawful is'), weight_short w small)
 
-  stamp_short : (kind : List ℕ) (e : ℕ) (w : ℤ) → length kind ≤ 11 → IsUpTo 93 w → length (line_of (codes "step" ∷ kind ∷ event_name p.events e ∷ ns_text w ∷ [])) ≤ 146
+  stamp_short : (kind : List ℕ) (e : ℕ) (w : ℤ) → length kind ≤ 11 → IsUpTo 93 w → length (line_of (codes "step" ∷ kind ∷ event_name p.events e ∷ ns_text w ∷ [])) ≤ 149
   stamp_short kind e w kind_short small =
       let size : length (line_of (codes "step" ∷ kind ∷ event_name p.events e ∷ ns_text w ∷ [])) ≡ 4 + 1 + (length kind + 1 + (length (event_name p.events e) + 1 + (length (ns_text w) + 1 + 0))) =
       line_size (codes "step") (kind ∷ event_name p.events e ∷ ns_text w ∷ []) in
       omega (arith, size, kind_short, event_short e, weight_short w small)
 
-  delay_short : (kind : List ℕ) (j k : ℕ) (w : ℤ) → length kind ≤ 11 → IsUpTo 93 w → length (line_of (codes "step" ∷ kind ∷ event_name p.events j ∷ event_name p.events k ∷ ns_text w ∷ [])) ≤ 146
+  delay_short : (kind : List ℕ) (j k : ℕ) (w : ℤ) → length kind ≤ 11 → IsUpTo 93 w → length (line_of (codes "step" ∷ kind ∷ event_name p.events j ∷ event_name p.events k ∷ ns_text w ∷ [])) ≤ 149
   delay_short kind j k w kind_short small =
       let size : length (line_of (codes "step" ∷ kind ∷ event_name p.events j ∷ event_name p.events k ∷ ns_text w ∷ []))
       ≡ 4 + 1 + (length kind + 1 + (length (event_name p.events j) + 1 + (length (event_name p.events k) + 1 + (length (ns_text w) + 1 + 0)))) =
       line_size (codes "step") (kind ∷ event_name p.events j ∷ event_name p.events k ∷ ns_text w ∷ []) in
       omega (arith, size, kind_short, event_short j, event_short k, weight_short w small)
 
-  bound_short : (b : Bound) (c : Constraint) (w : ℤ) → Declares p b c → IsUpTo 93 w → length (line_of (codes "step" ∷ bound_words p b ++ ns_text w ∷ [])) ≤ 146
+  bound_short : (b : Bound) (c : Constraint) (w : ℤ) → Declares p b c → IsUpTo 93 w → length (line_of (codes "step" ∷ bound_words p b ++ ns_text w ∷ [])) ≤ 149
   bound_short (SpanMost clock s t) c w declares small = span_short (codes "span-most") clock s t w (omega arith) declares.2 declares.3 small
   bound_short (SpanLeast clock s t) c w declares small = span_short (codes "span-least") clock s t w (omega arith) declares.2 declares.3 small
   bound_short (Late e) c w declares small = stamp_short (codes "late") e w (omega arith) small
   bound_short (Early e) c w declares small = stamp_short (codes "early") e w (omega arith) small
+  bound_short (Follow earlier s later t) c w declares small =
+      let size : length (line_of (codes "step" ∷ codes "follow" ∷ clock_name p.clocks earlier ∷ decimal_of s ∷ clock_name p.clocks later ∷ decimal_of t ∷ ns_text w ∷ []))
+      ≡ 4 + 1 + (6 + 1 + (length (clock_name p.clocks earlier) + 1 + (length (decimal_of s) + 1 + (length (clock_name p.clocks later) + 1 + (length (decimal_of t) + 1 + (length (ns_text w) + 1 + 0)))))) =
+      line_size (codes "step") (codes "follow" ∷ clock_name p.clocks earlier ∷ decimal_of s ∷ clock_name p.clocks later ∷ decimal_of t ∷ ns_text w ∷ []) in
+      omega (arith, size, clock_short earlier, clock_short later, decimal_short s (reading_fits p earlier s lawful declares.4), decimal_short t (reading_fits p later t lawful declares.5), weight_short w small)
   bound_short (DelayMost send receive) c w declares small = delay_short (codes "delay-most") send receive w (omega arith) small
   bound_short (DelayLeast send receive) c w declares small = delay_short (codes "delay-least") send receive w (omega arith) small
 
-  pub steps_short : (steps : List Step) → All (IsStepOf p) steps → All (λ s. IsUpTo 93 s.weight) steps → length (flat_map (step_line p) steps) ≤ length steps * 146
+  pub steps_short : (steps : List Step) → All (IsStepOf p) steps → All (λ s. IsUpTo 93 s.weight) steps → length (flat_map (step_line p) steps) ≤ length steps * 149
   steps_short steps declared small =
-      lines_short (step_line p) 146 steps (λ i d inside. (let of_p = declared i d inside in bound_short (get_or steps i d).bound of_p.0 (get_or steps i d).weight of_p.1 (small i d inside)))
+      lines_short (step_line p) 149 steps (λ i d inside. (let of_p = declared i d inside in bound_short (get_or steps i d).bound of_p.0 (get_or steps i d).weight of_p.1 (small i d inside)))
 
   -- ---- clocks inside a cut
   pub cut_short : (inside : List ℕ) → All (λ k. k < length p.clocks) inside → AllPairs (λ j k. j < k) inside → length (flat_map (inside_line p) inside) ≤ 2621440
   cut_short inside below rising =
       let few = inside_few (length p.clocks) inside below rising in
-      let limit = lawful.clock_limit in
+      let limit = lawful.fits.clock_limit in
       let lines = lines_short (inside_line p) 40 inside (λ i d within. clock_line_short (get_or inside i d)) in
       omega (arith, few, limit, lines)
 
   -- ---- real times
   abbrev IsShortAt : Node → Type 0
-  IsShortAt n = (z : ℤ) → IsUpTo 116 z → length (value_line p (n, z)) ≤ 99
+  IsShortAt n = (z : ℤ) → IsUpTo 117 z → length (value_line p (n, z)) ≤ 100
 
   at_event : (e : ℕ) → IsShortAt (nodes.Event e)
   at_event e z small =
@@ -182,13 +164,13 @@ module _ (p : ProblemLists) (lawful : IsProblem p) where
       (All-map IsShortAt (λ (r : Reading). nodes.Reading r.0 r.1) readings
       (λ i d inside. (let r : Reading = get_or readings i d in at_reading r.0 r.1 (reading_fits p r.0 r.1 lawful (are.each r.0 r.1 (Contains-get_or readings i d inside))))))
 
-  timed_short : (ns : List Node) (zs : List ℤ) → All IsShortAt ns → All (IsUpTo 116) zs → length (value_lines p ns zs) ≤ length ns * 99
+  timed_short : (ns : List Node) (zs : List ℤ) → All IsShortAt ns → All (IsUpTo 117) zs → length (value_lines p ns zs) ≤ length ns * 100
   timed_short [] zs short small = omega arith
   timed_short (n ∷ ns) [] short small = omega arith
   timed_short (n ∷ ns) (z ∷ zs) short small =
-      let here = All-head IsShortAt n ns short z (All-head (IsUpTo 116) z zs small) in
-      let rest = timed_short ns zs (All-tail IsShortAt n ns short) (All-tail (IsUpTo 116) z zs small) in
+      let here = All-head IsShortAt n ns short z (All-head (IsUpTo 117) z zs small) in
+      let rest = timed_short ns zs (All-tail IsShortAt n ns short) (All-tail (IsUpTo 117) z zs small) in
       omega (arith, here, rest, length-append (value_line p (n, z)) (value_lines p ns zs))
 
-  pub values_short : (readings : List Reading) (zs : List ℤ) → AreReadings p readings → All (IsUpTo 116) zs → length (value_lines p (nodes_of p readings) zs) ≤ length (nodes_of p readings) * 99
+  pub values_short : (readings : List Reading) (zs : List ℤ) → AreReadings p readings → All (IsUpTo 117) zs → length (value_lines p (nodes_of p readings) zs) ≤ length (nodes_of p readings) * 100
   values_short readings zs are small = timed_short (nodes_of p readings) zs (at_nodes readings are) small

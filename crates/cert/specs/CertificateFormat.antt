@@ -1,7 +1,6 @@
 -- The lines of a certificate's text, and when one may stand behind what is said so far.
-use Rattle.std.specs.Prelude.{◌≡◌, ℕ, ◌+◌, ◌<◌, ◌≤◌, ◌^◌, List, [], ◌∷◌, ◌++◌, length, codes, Option, Some, None, IfSome, ℤ, All, AllPairs}
+use Rattle.std.specs.Prelude.{◌≡◌, ℕ, ◌+◌, ◌<◌, ◌≤◌, List, [], ◌∷◌, ◌++◌, length, codes, Option, Some, None, IfSome, ℤ, All, AllPairs}
 use Rattle.std.specs.List.{flat_map}
-use Rattle.atto.specs.Decimal.{decimal_of}
 use Rattle.atto.specs.NsText.{ns_text}
 use Rattle.atto.specs.Number.{FitsUnits}
 use Rattle.line_format.specs.Words.{line_of}
@@ -11,10 +10,12 @@ use Rattle.problem_model.specs.declared.items.Bound.TheVariants.{SpanMost, SpanL
 use Rattle.problem_model.specs.Name.{IsEventName, IsClockName}
 use Rattle.problem_model.specs.Problem.{ProblemLists}
 use Rattle.problem_model.specs.ProblemText.{event_name}
+use Rattle.problem_model.specs.BoundText.{span_words, stamp_words, delay_words}
 use Rattle.problem_model.specs.Bounds.{Constraint, Declares}
 use Rattle.problem_model.specs.Nodes.{Reading, nodes_of}
 use Rattle.problem_model.specs.ExecutionText.{value_lines}
 use Rattle.problem.specs.Line.{HasClock, HasEvent}
+use Rattle.cert.specs.Sizes.{most_steps}
 use Rattle.cert.specs.declared.chain.Step.{Step}
 use Rattle.cert.specs.declared.certificate.Cert.{Cert}
 use Rattle.cert.specs.declared.certificate.Cert.TheVariants.{Cycle, Run, Ends}
@@ -55,9 +56,9 @@ delay_word Least = codes "delay-least"
 
 -- the words of a bound
 abbrev pub named_words : NamedBound → List (List ℕ)
-named_words (Span extreme clock s t) = span_word extreme ∷ clock ∷ decimal_of s ∷ decimal_of t ∷ []
-named_words (Stamp kind event) = stamp_word kind ∷ event ∷ []
-named_words (Delay extreme send receive) = delay_word extreme ∷ send ∷ receive ∷ []
+named_words (Span extreme clock s t) = span_words (span_word extreme) clock s t
+named_words (Stamp kind event) = stamp_words (stamp_word kind) event
+named_words (Delay extreme send receive) = delay_words (delay_word extreme) send receive
 
 -- each name is spelled as one of its kind
 abbrev pub IsBoundSpelled : NamedBound → Type 0
@@ -211,14 +212,14 @@ said_size (EndsSaid p q upper lower) = 1 + end_size upper + end_size lower
 
 -- there is room for one more step
 abbrev pub HasRoomIn : List Step → CertLine → Type 0
-HasRoomIn steps (StepLine bound weight) = length steps < 2 ^ 22
+HasRoomIn steps (StepLine bound weight) = length steps < most_steps
 HasRoomIn steps line = Unit {0}
 
 -- steps of the problem, not too many
 pub record AreSteps (p : ProblemLists) (steps : List Step) : Type 0 where
   pub declared : All (IsStepOf p) steps
   pub weights : All (λ s. FitsUnits s.weight) steps
-  pub few : length steps ≤ 2 ^ 22
+  pub few : length steps ≤ most_steps
 
 -- clocks of the problem, rising
 pub record AreInside (p : ProblemLists) (inside : List ℕ) : Type 0 where

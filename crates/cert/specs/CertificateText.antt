@@ -1,5 +1,5 @@
 -- Certificates of a problem and their text.
-use Rattle.std.specs.Prelude.{◌≡◌, ℕ, ◌<◌, List, [], ◌∷◌, ◌++◌, map, length, codes, ℤ, All, AllPairs}
+use Rattle.std.specs.Prelude.{◌≡◌, ℕ, ◌<◌, List, [], ◌∷◌, ◌++◌, length, codes, ℤ, All, AllPairs}
 use Rattle.std.specs.List.{flat_map}
 use Rattle.atto.specs.NsText.{ns_text}
 use Rattle.line_format.specs.Words.{line_of}
@@ -10,13 +10,12 @@ use Rattle.problem_model.specs.BoundText.{bound_words}
 use Rattle.problem_model.specs.Bounds.{Constraint, Declares}
 use Rattle.problem_model.specs.Nodes.{Reading, AreReadings, nodes_of}
 use Rattle.problem_model.specs.ExecutionText.{value_lines}
-use Rattle.problem.specs.Listing.{event_places, reading_places, all_readings}
 use Rattle.cert.specs.declared.chain.Step.{Step}
 use Rattle.cert.specs.declared.certificate.EndProof.{EndProof}
 use Rattle.cert.specs.declared.certificate.Cert.{Cert}
 use Rattle.cert.specs.declared.certificate.Cert.TheVariants.{Cycle, Run, Ends}
 use Rattle.cert.specs.EndLists.{EndLists, Limited, Unlimited, lists_of}
-use Rattle.cert.specs.Listed.{Listed, certified}
+use Rattle.cert.specs.Listed.{certified}
 
 -- ---- text
 -- the line of a step
@@ -52,16 +51,6 @@ certificate_lines problem nodes (Ends p q upper lower) = ends_lines problem node
 -- the only text of a certificate, over the nodes in their order
 abbrev pub certificate_text : ProblemLists → List Node → Cert → List ℕ
 certificate_text p nodes c = certified (certificate_lines p nodes c)
-
--- ---- listings
--- a problem listed in its own order
-abbrev pub listing_of : ProblemLists → Listed
-listing_of p = record {
-  clock_names = map (λ c. c.name) p.clocks;
-  event_names = map (λ e. e.name) p.events;
-  events = event_places 0 p.events;
-  readings = reading_places (length p.events) (all_readings p.events);
-}
 
 -- ---- certificates of a problem
 -- the problem declares the bound of the step, with whatever weight

@@ -1,3 +1,4 @@
+pub mod Sizes
 pub mod CertificateFormat
 pub mod CertificateText
 pub mod EndLists

@@ -1,52 +1,27 @@
 -- What a listing lists, and the words and lines that are written by it.
-use Rattle.std.specs.Prelude.{ℕ, ◌<◌, List, [], ◌∷◌, ◌++◌, map, length, slice_index_or, codes, ℤ, pos}
+use Rattle.std.specs.Prelude.{ℕ, ◌<◌, List, [], ◌∷◌, ◌++◌, map, length, slice_index_or, codes, ℤ}
 use Rattle.std.specs.List.{flat_map, zip}
 use Rattle.atto.specs.Decimal.{decimal_of}
 use Rattle.atto.specs.NsText.{ns_text}
 use Rattle.line_format.specs.Words.{line_of}
 use Rattle.problem_model.specs.declared.items.Bound.{Bound}
-use Rattle.problem_model.specs.declared.items.Bound.TheVariants.{SpanMost, SpanLeast, Late, Early, DelayMost, DelayLeast}
-
--- the names of clocks and of events by their numbers; the events by place, each with its number and node; the readings by
--- place, each with clock, stamp and node
-pub record Listed : Type 0 where
-  pub clock_names : List (List ℕ)
-  pub event_names : List (List ℕ)
-  pub events : List (ℕ × ℕ)
-  pub readings : List (ℕ × ℕ × ℕ)
-
--- the real time with a number
-abbrev pub value_at : List ℤ → ℕ → ℤ
-value_at xs k = slice_index_or xs k (pos 0)
-
--- the name with a number
-abbrev pub name_at : List (List ℕ) → ℕ → List ℕ
-name_at names k = slice_index_or names k []
+use Rattle.problem_model.specs.declared.items.Bound.TheVariants.{SpanMost, SpanLeast, Late, Early, Follow, DelayMost, DelayLeast}
+use Rattle.problem_model.specs.BoundText.{named_bound}
+use Rattle.problem.specs.Listing.{Listed}
+pub use Rattle.problem.specs.Listing.{value_at, name_at, listed_nodes}
 
 -- ---- bounds
--- a bound over a span, by its kind
-abbrev pub listed_span : List ℕ → Listed → ℕ → ℕ → ℕ → List (List ℕ)
-listed_span kind l clock s t = kind ∷ name_at l.clock_names clock ∷ decimal_of s ∷ decimal_of t ∷ []
-
--- a bound on a message's delay, by its kind
-abbrev pub listed_delay : List ℕ → Listed → ℕ → ℕ → List (List ℕ)
-listed_delay kind l send receive = kind ∷ name_at l.event_names send ∷ name_at l.event_names receive ∷ []
-
 -- the words that name a bound
 abbrev pub listed_bound : Listed → Bound → List (List ℕ)
-listed_bound l (SpanMost clock s t) = listed_span (codes "span-most") l clock s t
-listed_bound l (SpanLeast clock s t) = listed_span (codes "span-least") l clock s t
-listed_bound l (Late e) = codes "late" ∷ name_at l.event_names e ∷ []
-listed_bound l (Early e) = codes "early" ∷ name_at l.event_names e ∷ []
-listed_bound l (DelayMost send receive) = listed_delay (codes "delay-most") l send receive
-listed_bound l (DelayLeast send receive) = listed_delay (codes "delay-least") l send receive
+listed_bound l b = named_bound (name_at l.clock_names) (name_at l.event_names) b
 
--- the clock or the events of the bound have names
+-- the clocks or the events of the bound have names
 abbrev pub IsNamed : Listed → Bound → Type 0
 IsNamed l (SpanMost clock s t) = clock < length l.clock_names
 IsNamed l (SpanLeast clock s t) = clock < length l.clock_names
 IsNamed l (Late e) = e < length l.event_names
 IsNamed l (Early e) = e < length l.event_names
+IsNamed l (Follow c s d t) = (c < length l.clock_names) × (d < length l.clock_names)
 IsNamed l (DelayMost send receive) = (send < length l.event_names) × (receive < length l.event_names)
 IsNamed l (DelayLeast send receive) = (send < length l.event_names) × (receive < length l.event_names)
 
@@ -67,9 +42,9 @@ listed_reading l r = codes "reading" ∷ name_at l.clock_names r.0 ∷ decimal_o
 abbrev pub listed_words : Listed → List (List (List ℕ))
 listed_words l = map (listed_event l) l.events ++ map (listed_reading l) l.readings
 
--- the number of each node, by place
-abbrev pub listed_nodes : Listed → List ℕ
-listed_nodes l = map (λ e. e.1) l.events ++ map (λ r. r.2) l.readings
+-- the words that name the node at a place
+abbrev pub words_at : Listed → ℕ → List (List ℕ)
+words_at l place = slice_index_or (listed_words l) place []
 
 -- the line of a node with its real time
 abbrev pub timed_line : List (List ℕ) × ℤ → List ℕ

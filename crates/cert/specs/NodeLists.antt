@@ -1,9 +1,9 @@
 -- The nodes of a problem by the lists that name them.
-use Rattle.std.specs.Prelude.{◌≡◌, ◌<◌, ◌≤◌, ◌^◌, ℕ, List, length, All, slice_get, Some}
+use Rattle.std.specs.Prelude.{◌≡◌, ◌<◌, ◌≤◌, ℕ, List, length, All, slice_get, Some}
 use Rattle.problem_model.specs.declared.items.Node.TheVariants as nodes
 use Rattle.problem_model.specs.Name.{IsEventName, IsClockName}
 use Rattle.problem_model.specs.Problem.{ProblemLists}
-use Rattle.problem_model.specs.Nodes.{Reading, nodes_of}
+use Rattle.problem_model.specs.Nodes.{Reading, nodes_of, most_nodes}
 use Rattle.problem_model.specs.ProblemText.{clock_name, event_name}
 use Rattle.cert.specs.declared.nodes.NextNode.{NextNode}
 use Rattle.cert.specs.declared.nodes.NextNode.TheVariants as next
@@ -18,7 +18,7 @@ pub record AreNamed (n : NodeLists) : Type 0 where
   pub clock_names : All (λ c. IsClockName c.name) n.problem.clocks
   pub event_names : All (λ e. IsEventName e.name) n.problem.events
   pub known : All (λ r. r.0 < length n.problem.clocks) n.readings
-  pub few : length (nodes_of n.problem n.readings) ≤ 2 ^ 21
+  pub few : length (nodes_of n.problem n.readings) ≤ most_nodes
 
 -- what stands at place k of the nodes
 abbrev pub StandsAt : NodeLists → ℕ → NextNode → Type 0

@@ -1,11 +1,12 @@
 -- What reading a certificate answers.
-use Rattle.std.specs.Prelude.{◌≡◌, ℕ, ◌≤◌, ◌<◌, ◌^◌, List, length, All, Result, Ok, Err}
+use Rattle.std.specs.Prelude.{◌≡◌, ℕ, ◌≤◌, ◌<◌, List, length, All, Result, Ok, Err}
 use Rattle.atto.specs.Number.{FitsUnits}
-use Rattle.line_format.specs.Format.{Answers}
+use Rattle.line_format.specs.Format.{Answers, most_bytes}
 use Rattle.line_format.specs.Format.Answer.{Faulty}
 use Rattle.line_format.specs.declared.fault.FaultKind.TheVariants as kinds
 use Rattle.problem_model.specs.Problem.{ProblemLists}
 use Rattle.problem_model.specs.Nodes.{Reading, AreReadings, nodes_of}
+use Rattle.cert.specs.Sizes.{most_steps}
 use Rattle.cert.specs.declared.chain.Step.{Step}
 use Rattle.cert.specs.declared.certificate.EndProof.{EndProof}
 use Rattle.cert.specs.declared.certificate.Cert.{Cert}
@@ -18,7 +19,7 @@ use Rattle.cert.specs.CertificateText.{IsCertOf, certificate_text}
 
 -- the weights are in range, and the steps not too many
 abbrev pub FitsSteps : List Step → Type 0
-FitsSteps steps = All (λ s. FitsUnits s.weight) steps × (length steps ≤ 2 ^ 22)
+FitsSteps steps = All (λ s. FitsUnits s.weight) steps × (length steps ≤ most_steps)
 
 -- the limit and the real times are in range
 abbrev pub FitsEndLists : EndLists → Type 0
@@ -37,7 +38,7 @@ FitsCert (Ends p q upper lower) = FitsEnd upper × FitsEnd lower
 module _ (p : ProblemLists) (readings : List Reading) where
   -- the text is that of this certificate of the problem
   abbrev pub IsCertTextOf : Cert → List ℕ → Type 0
-  IsCertTextOf c text = (length text ≤ 2 ^ 30) × IsCertOf p c × FitsCert c × (text ≡ certificate_text p (nodes_of p readings) c)
+  IsCertTextOf c text = (length text ≤ most_bytes) × IsCertOf p c × FitsCert c × (text ≡ certificate_text p (nodes_of p readings) c)
 
   -- the certificate that the text spells, or its first fault
   abbrev pub ReadsCertOver : List ℕ → Result Cert CertError → Type 0
@@ -46,7 +47,7 @@ module _ (p : ProblemLists) (readings : List Reading) where
   ReadsCertOver text (Err (errors.Name line)) = Answers (certificate_format p readings) text (Faulty kinds.Name line)
   ReadsCertOver text (Err (errors.Range line)) = Answers (certificate_format p readings) text (Faulty kinds.Range line)
   ReadsCertOver text (Err (errors.Limit line)) = Answers (certificate_format p readings) text (Faulty kinds.Limit line)
-  ReadsCertOver text (Err errors.Long) = 2 ^ 30 < length text
+  ReadsCertOver text (Err errors.Long) = most_bytes < length text
   ReadsCertOver text (Err errors.Memory) = Unit {0}
 
 -- over the readings of p, of which there is one list

@@ -1,7 +1,7 @@
 -- What reading an execution answers.
-use Rattle.std.specs.Prelude.{◌≡◌, ℕ, ◌≤◌, ◌<◌, ◌^◌, List, length, All, ℤ, Result, Ok, Err}
+use Rattle.std.specs.Prelude.{◌≡◌, ℕ, ◌≤◌, ◌<◌, List, length, All, ℤ, Result, Ok, Err}
 use Rattle.atto.specs.Number.{FitsUnits}
-use Rattle.line_format.specs.Format.{Answers}
+use Rattle.line_format.specs.Format.{Answers, most_bytes}
 use Rattle.line_format.specs.Format.Answer.{Faulty}
 use Rattle.line_format.specs.declared.fault.FaultKind.{FaultKind}
 use Rattle.line_format.specs.declared.fault.FaultKind.TheVariants as kinds
@@ -29,7 +29,7 @@ error_at (Fault kind) line = kind_at kind line
 module _ (p : ProblemLists) (readings : List Reading) where
   -- the text is that of these values: one for each node, each in range
   abbrev pub IsTextOf : List ℤ → List ℕ → Type 0
-  IsTextOf values text = (length text ≤ 2 ^ 30) × (length values ≡ length (nodes_of p readings)) × All FitsUnits values × (text ≡ execution_text p (nodes_of p readings) values)
+  IsTextOf values text = (length text ≤ most_bytes) × (length values ≡ length (nodes_of p readings)) × All FitsUnits values × (text ≡ execution_text p (nodes_of p readings) values)
 
   -- the values that the text spells, or its first fault
   abbrev pub ReadsOver : List ℕ → Result (List ℤ) CertError → Type 0
@@ -38,7 +38,7 @@ module _ (p : ProblemLists) (readings : List Reading) where
   ReadsOver text (Err (errors.Name line)) = Answers (execution_format p readings) text (Faulty kinds.Name line)
   ReadsOver text (Err (errors.Range line)) = Answers (execution_format p readings) text (Faulty kinds.Range line)
   ReadsOver text (Err (errors.Limit line)) = ⊥
-  ReadsOver text (Err errors.Long) = 2 ^ 30 < length text
+  ReadsOver text (Err errors.Long) = most_bytes < length text
   ReadsOver text (Err errors.Memory) = Unit {0}
 
 -- over the readings of p, of which there is one list

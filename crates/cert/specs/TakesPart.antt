@@ -1,5 +1,5 @@
 -- What taking a line does to a list or an end of a certificate.
-use Rattle.std.specs.Prelude.{◌≡◌, ℕ, ◌+◌, ◌<◌, ◌^◌, List, [], ◌∷◌, ◌++◌, length, All, ℤ, codes, Option, Some, None, IfSome, Result, Ok, Err}
+use Rattle.std.specs.Prelude.{◌≡◌, ℕ, ◌+◌, ◌<◌, List, [], ◌∷◌, ◌++◌, length, All, ℤ, codes, Option, Some, None, IfSome, Result, Ok, Err}
 use Rattle.atto.specs.Number.{FitsUnits}
 use Rattle.line_format.specs.Words.{words}
 use Rattle.line_format.specs.Format.{Takes}
@@ -14,6 +14,7 @@ use Rattle.problem_model.specs.Problem.{ProblemLists}
 use Rattle.problem_model.specs.Nodes.{Reading}
 use Rattle.problem.specs.Line.{HasClock}
 use Rattle.problem.specs.Listing.{all_readings}
+use Rattle.cert.specs.Sizes.{most_steps}
 use Rattle.cert.specs.declared.chain.Step.{Step}
 use Rattle.problem_model.specs.declared.items.Message.{Message}
 use Rattle.cert.specs.declared.kinds.Extreme.{Extreme}
@@ -43,9 +44,9 @@ HasBound Least m = Unit {0}
 
 -- a step of these names and this weight behind the others, or why it is refused
 abbrev pub TakesStep : ProblemLists → List Step → NamedBound → ℤ → Result (Unit {0}) LineError → List Step → Type 0
-TakesStep p old n z (Ok _) new = (b : Bound) × Names p n b × IsDeclared p b × FitsUnits z × (length old < 2 ^ 22) × (new ≡ old ++ record { bound = b; weight = z } ∷ [])
+TakesStep p old n z (Ok _) new = (b : Bound) × Names p n b × IsDeclared p b × FitsUnits z × (length old < most_steps) × (new ≡ old ++ record { bound = b; weight = z } ∷ [])
 TakesStep p old n z (Err errors.Memory) new = Unit {0}
-TakesStep p old n z (Err (errors.Fault kind)) new = RefusedBy ((b : Bound) × Names p n b × IsDeclared p b) (FitsUnits z) (length old < 2 ^ 22) kind
+TakesStep p old n z (Err (errors.Fault kind)) new = RefusedBy ((b : Bound) × Names p n b × IsDeclared p b) (FitsUnits z) (length old < most_steps) kind
 
 -- the clock of this name behind the others, or why it is refused
 abbrev pub TakesInside : ProblemLists → List ℕ → List ℕ → Result (Unit {0}) LineError → List ℕ → Type 0

@@ -1,9 +1,9 @@
 // Certificates of a problem, written piece by piece.
-ghost use Rattle.std.specs.Prelude.{◌≡◌, ◌≤◌, ◌<◌, ◌∷◌, [], List, length, All, OnOk, OnErr, codes};
+ghost use Rattle.std.specs.Prelude.{◌≡◌, ◌≤◌, ◌<◌, ◌∷◌, [], List, length, All, codes};
 ghost use Rattle.std.specs.List.{flat_map};
 ghost use Rattle.atto.specs.NsText.{ns_text};
 ghost use Rattle.line_format.specs.Words.{line_of};
-ghost use Rattle.ports.specs.Content.{Rose, Appends, AppendsPrefix};
+ghost use Rattle.ports.specs.Content.{Writes};
 ghost use Rattle.problem_model.specs.ProblemText.{event_name};
 ghost use Rattle.problem_model.specs.Nodes.{Reading, AreReadings, nodes_of};
 ghost use Rattle.problem_model.specs.ExecutionText.{value_lines};
@@ -13,18 +13,15 @@ ghost use Rattle.cert.specs.CertificateText.{step_line, inside_line, end_lines, 
 use crate::certificate::{Cert, EndProof};
 use crate::chain::Step;
 use crate::execution::Execution;
-use crate::line::{Line, first_word, limit_line, unlimited_line};
 use crate::write::{push_clock, push_event, write_step, write_value};
+use line_words::line::{Line, first_word, limit_line, unlimited_line};
 use ports::{Failed, Sink, write_whole};
 use problem::Problem;
 
 // Writes the lines of steps.
 fn write_steps<O: Sink>(p: &Problem, steps: &[Step], out: &mut O) -> Result<(), Failed>
     requires { All (IsStepOf p.now) steps.now }
-    ensures ok { OnOk result (Appends (O.written out.old) (O.written out.new) (flat_map (step_line p.now) steps.now)) }
-    ensures err { OnErr result (AppendsPrefix (O.written out.old) (O.written out.new) (flat_map (step_line p.now) steps.now)) }
-    ensures cause { OnErr result (Rose (O.faults out.old) (O.faults out.new)) }
-    ensures no_fall { O.faults out.old ≤ O.faults out.new }
+    ensures { Writes (flat_map (step_line p.now) steps.now) (O.told out.old) (O.told out.new) result }
 {
     let _ = p.messages();
     for step in steps {
@@ -47,10 +44,7 @@ fn inside_line(p: &Problem, clock: u32) -> Line
 // Writes the lines of the clocks inside a cut.
 fn write_inside<O: Sink>(p: &Problem, inside: &[u32], out: &mut O) -> Result<(), Failed>
     requires { All (λ k. k < length p.now.clocks) inside.now }
-    ensures ok { OnOk result (Appends (O.written out.old) (O.written out.new) (flat_map (inside_line p.now) inside.now)) }
-    ensures err { OnErr result (AppendsPrefix (O.written out.old) (O.written out.new) (flat_map (inside_line p.now) inside.now)) }
-    ensures cause { OnErr result (Rose (O.faults out.old) (O.faults out.new)) }
-    ensures no_fall { O.faults out.old ≤ O.faults out.new }
+    ensures { Writes (flat_map (inside_line p.now) inside.now) (O.told out.old) (O.told out.new) result }
 {
     for clock in inside {
         let line = inside_line(p, *clock);
@@ -62,10 +56,7 @@ fn write_inside<O: Sink>(p: &Problem, inside: &[u32], out: &mut O) -> Result<(),
 // Writes the lines of an execution.
 fn write_values<O: Sink>(p: &Problem, execution: &Execution, out: &mut O) -> Result<(), Failed>
     requires { HasOneEach p.now execution.now }
-    ensures ok { OnOk result (Appends (O.written out.old) (O.written out.new) (value_lines p.now (nodes_of p.now (all_readings p.now.events)) execution.now)) }
-    ensures err { OnErr result (AppendsPrefix (O.written out.old) (O.written out.new) (value_lines p.now (nodes_of p.now (all_readings p.now.events)) execution.now)) }
-    ensures cause { OnErr result (Rose (O.faults out.old) (O.faults out.new)) }
-    ensures no_fall { O.faults out.old ≤ O.faults out.new }
+    ensures { Writes (value_lines p.now (nodes_of p.now (all_readings p.now.events)) execution.now) (O.told out.old) (O.told out.new) result }
 {
     for place in 0..execution.len() {
         write_value(p, place, execution.value(place).get(), out)?;
@@ -84,10 +75,7 @@ fn write_end<O: Sink>(
     requires part { length part.now ≤ 48 }
     requires unlimited { length unlimited.now ≤ 48 }
     requires lawful { IsEndOf p.now end.now }
-    ensures ok { OnOk result (Appends (O.written out.old) (O.written out.new) (end_lines p.now (nodes_of p.now (all_readings p.now.events)) part.now unlimited.now end.now)) }
-    ensures err { OnErr result (AppendsPrefix (O.written out.old) (O.written out.new) (end_lines p.now (nodes_of p.now (all_readings p.now.events)) part.now unlimited.now end.now)) }
-    ensures cause { OnErr result (Rose (O.faults out.old) (O.faults out.new)) }
-    ensures no_fall { O.faults out.old ≤ O.faults out.new }
+    ensures { Writes (end_lines p.now (nodes_of p.now (all_readings p.now.events)) part.now unlimited.now end.now) (O.told out.old) (O.told out.new) result }
 {
     match end {
         EndProof::At {
@@ -125,10 +113,7 @@ fn ends_line(p: &Problem, from: u32, to: u32) -> Line
 // Writes what stands between the first line of a certificate and its end.
 fn write_lines<O: Sink>(p: &Problem, c: &Cert, out: &mut O) -> Result<(), Failed>
     requires { IsCertOf p.now c.now }
-    ensures ok { OnOk result (Appends (O.written out.old) (O.written out.new) (certificate_lines p.now (nodes_of p.now (all_readings p.now.events)) c.now)) }
-    ensures err { OnErr result (AppendsPrefix (O.written out.old) (O.written out.new) (certificate_lines p.now (nodes_of p.now (all_readings p.now.events)) c.now)) }
-    ensures cause { OnErr result (Rose (O.faults out.old) (O.faults out.new)) }
-    ensures no_fall { O.faults out.old ≤ O.faults out.new }
+    ensures { Writes (certificate_lines p.now (nodes_of p.now (all_readings p.now.events)) c.now) (O.told out.old) (O.told out.new) result }
 {
     match c {
         Cert::Cycle(cycle) => {
@@ -157,11 +142,9 @@ fn write_lines<O: Sink>(p: &Problem, c: &Cert, out: &mut O) -> Result<(), Failed
 /// `Failed`, which comes only where the sink's count of faults rose, some front of the certificate is written.
 pub fn write_cert<O: Sink>(p: &Problem, c: &Cert, out: &mut O) -> Result<(), Failed>
     requires { IsCertOf p.now c.now }
-    ensures ok { OnOk result ((readings : List Reading) → AreReadings p.now readings → Appends (O.written out.old) (O.written out.new) (certificate_text p.now (nodes_of p.now readings) c.now)) }
-    ensures err { OnErr result ((readings : List Reading) → AreReadings p.now readings → AppendsPrefix (O.written out.old) (O.written out.new) (certificate_text p.now (nodes_of p.now readings) c.now)) }
-    ensures cause { OnErr result (Rose (O.faults out.old) (O.faults out.new)) }
-    ensures no_fall { O.faults out.old ≤ O.faults out.new }
+    ensures { (readings : List Reading) × AreReadings p.now readings × Writes (certificate_text p.now (nodes_of p.now readings) c.now) (O.told out.old) (O.told out.new) result }
 {
+    let _ = p.readings();
     write_whole(out, b"certificate 1\n")?;
     write_lines(p, c, out)?;
     write_whole(out, b"end\n")

@@ -1,5 +1,6 @@
 // Steps of a certificate: bounds with their weights.
 ghost use Rattle.std.specs.Prelude.{◌≡◌, ◌<◌, ◌≤◌, ◌^◌, ◌↔◌, ◌++◌, ◌∷◌, [], length, IsTrue, OnOk, OnErr};
+ghost use Rattle.cert.specs.Sizes.{most_steps};
 
 use atto::Units;
 use problem::Bound;
@@ -15,6 +16,9 @@ pub struct Step {
     pub weight: Units,
 }
 
+/// The most steps of a chain, so that a sum of the weights of so many bounds is below 2^115 in absolute value.
+pub const MOST_STEPS: usize = 1 << 22;
+
 /// At most 2^22 steps, one after another: a cycle or a path of difference constraints.
 #[derive(Drop)]
 pub struct Chain {
@@ -23,13 +27,14 @@ pub struct Chain {
 
 impl Model for Chain {
     ghost use Rattle.std.specs.Prelude.{List, ◌≤◌, ◌^◌, length};
+    ghost use Rattle.cert.specs.Sizes.{most_steps};
     ghost use Rattle.cert.specs.declared.chain.Step.{Step};
 
     ghost Value = { List Step };
 
     ghost view = { λ c. c.held.items };
 
-    ghost invariant = { λ c. length c.held.items ≤ 2 ^ 22 };
+    ghost invariant = { λ c. length c.held.items ≤ most_steps };
 }
 
 impl Chain {
@@ -44,7 +49,7 @@ impl Chain {
 
     /// Appends a step. All is as before where memory runs out.
     pub fn push(&mut self, s: Step) -> Result<(), AllocError>
-        requires { length self.old < 2 ^ 22 }
+        requires { length self.old < most_steps }
         ensures ok { OnOk result (self.new ≡ self.old ++ s ∷ []) }
         ensures err { OnErr result (self.new ≡ self.old) }
     {
@@ -67,7 +72,7 @@ impl Chain {
     /// The number of steps.
     pub fn len(&self) -> u32
         ensures count { result ≡ length self.now }
-        ensures limit { result ≤ 2 ^ 22 }
+        ensures limit { result ≤ most_steps }
     {
         self.held.len() as u32
     }

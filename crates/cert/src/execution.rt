@@ -1,5 +1,6 @@
 // The real times of the nodes of a problem.
 ghost use Rattle.std.specs.Prelude.{◌≡◌, ◌≤◌, ◌<◌, ◌^◌, ◌++◌, ◌∷◌, [], length, slice_get, Some, IsTrue, ◌↔◌, OnOk, OnErr, unsigned_abs};
+ghost use Rattle.problem_model.specs.Nodes.{most_nodes};
 
 use atto::Units;
 use std::alloc::{AllocError, Global};
@@ -14,12 +15,13 @@ pub struct Execution {
 
 impl Model for Execution {
     ghost use Rattle.std.specs.Prelude.{ℤ, List, ◌≤◌, ◌^◌, length};
+    ghost use Rattle.problem_model.specs.Nodes.{most_nodes};
 
     ghost Value = { List ℤ };
 
     ghost view = { λ e. e.values.items };
 
-    ghost invariant = { λ e. length e.values.items ≤ 2 ^ 22 };
+    ghost invariant = { λ e. length e.values.items ≤ most_nodes };
 }
 
 impl Execution {
@@ -34,7 +36,7 @@ impl Execution {
 
     /// Appends a value. All is as before where memory runs out.
     pub fn push(&mut self, v: Units) -> Result<(), AllocError>
-        requires { length self.old < 2 ^ 22 }
+        requires { length self.old < most_nodes }
         ensures ok { OnOk result (self.new ≡ self.old ++ v ∷ []) }
         ensures err { OnErr result (self.new ≡ self.old) }
     {
@@ -46,7 +48,7 @@ impl Execution {
     /// The number of values.
     pub fn len(&self) -> u32
         ensures count { result ≡ length self.now }
-        ensures limit { result ≤ 2 ^ 22 }
+        ensures limit { result ≤ most_nodes }
     {
         self.values.len() as u32
     }

@@ -5,17 +5,19 @@ ghost use Rattle.problem_model.specs.Problem.{ProblemLists, IsProblem};
 ghost use Rattle.problem_model.specs.Bounds.{Constraint, Declares};
 ghost use Rattle.problem_model.specs.Nodes.{Reading, AreReadings, nodes_of};
 ghost use Rattle.problem_model.specs.ExecutionText.{value_lines};
+ghost use Rattle.problem.specs.Listing.{listing_of};
 ghost use Rattle.cert.specs.declared.chain.Step.{Step};
 ghost use Rattle.cert.specs.declared.certificate.Cert.{Cert};
 ghost use Rattle.cert.specs.declared.certificate.Cert.TheVariants.{Cycle, Run};
 ghost use Rattle.cert.specs.EndLists.{EndLists};
 ghost use Rattle.cert.specs.Listed.{IsNamed, value_at, listed_step, listed_nodes, listed_values, listed_cycle, listed_run, certified};
-ghost use Rattle.cert.specs.CertificateText.{listing_of, step_line, certificate_text, ends_lines, AreListsOf, IsCertOf};
+ghost use Rattle.cert.specs.CertificateText.{step_line, certificate_text, ends_lines, AreListsOf, IsCertOf};
 ghost use Rattle.cert.specs.CertificateFormat.{said};
 ghost use Rattle.cert.specs.CertificateFormat.Said.{CycleSaid, RunSaid, EndsSaid};
 ghost use Rattle.cert.specs.ReadsCert.{FitsEndLists, FitsCert};
 ghost use Rattle.cert.specs.ReadAgain.{IsReadAs, IsAccepted};
 ghost use Rattle.cert.specs.Shows.{Shows};
+ghost use Rattle.line_format.specs.Format.{most_bytes};
 
 /// A law, which does nothing when it runs. By a problem's own listing each declared bound is named, and the lines that are
 /// written are those of the problem's certificates.
@@ -37,16 +39,16 @@ pub fn listings()
 /// decided by what it says, so one that shows what it should is accepted.
 pub fn read_again()
     ensures certificate { (p : ProblemLists) (readings : List Reading) (c : Cert) → IsProblem p → AreReadings p readings
-        → IsCertOf p c → FitsCert c → length (certificate_text p (nodes_of p readings) c) ≤ 2 ^ 30
+        → IsCertOf p c → FitsCert c → length (certificate_text p (nodes_of p readings) c) ≤ most_bytes
         → IsReadAs p readings (certificate_text p (nodes_of p readings) c) (said c) }
     ensures ends { (problem : ProblemLists) (readings : List Reading) (p q : ℕ) (upper lower : EndLists) → IsProblem problem → AreReadings problem readings
         → p < length problem.events → q < length problem.events → AreListsOf problem upper → AreListsOf problem lower → FitsEndLists upper → FitsEndLists lower
-        → length (certified (ends_lines problem (nodes_of problem readings) p q upper lower)) ≤ 2 ^ 30
+        → length (certified (ends_lines problem (nodes_of problem readings) p q upper lower)) ≤ most_bytes
         → IsReadAs problem readings (certified (ends_lines problem (nodes_of problem readings) p q upper lower)) (EndsSaid p q upper lower) }
     ensures cycle { (steps : List Step) (d : Cert) → said d ≡ CycleSaid steps → d ≡ Cycle steps }
     ensures run { (execution : List ℤ) (d : Cert) → said d ≡ RunSaid execution → d ≡ Run execution }
     ensures shown { (p : ProblemLists) (readings : List Reading) (c : Cert) → IsProblem p → AreReadings p readings
-        → IsCertOf p c → FitsCert c → length (certificate_text p (nodes_of p readings) c) ≤ 2 ^ 30 → Shows p c
+        → IsCertOf p c → FitsCert c → length (certificate_text p (nodes_of p readings) c) ≤ most_bytes → Shows p c
         → IsAccepted p readings (certificate_text p (nodes_of p readings) c) }
     ensures same_shows { (p : ProblemLists) (c d : Cert) → said c ≡ said d → Shows p c → Shows p d }
 {}

@@ -10,13 +10,12 @@ mod execution;
 mod heads;
 mod kinds;
 mod laws;
-pub mod line;
 mod nodes;
 mod parts;
 mod read;
 mod read_certificate;
-mod steps;
-mod take_part;
+pub mod steps;
+pub mod take_part;
 mod words;
 mod write;
 
@@ -25,14 +24,8 @@ pub use certify::write_cert;
 pub use chain::{Chain, Step};
 pub use error::CertError;
 pub use execution::Execution;
+pub use kinds::{Extreme, StampBound};
 pub use laws::{listings, read_again};
 pub use read::{execution_answers_are_one, read_execution};
 pub use read_certificate::{certificate_answers_are_one, read_cert};
-pub use write::{push_clock, push_event, write_step, write_value};
-
-#[cfg(test)]
-mod certify_tests;
-#[cfg(test)]
-mod read_tests;
-#[cfg(test)]
-mod tests;
+pub use write::{push_bound, push_clock, push_event, write_step, write_value};

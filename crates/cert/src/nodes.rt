@@ -1,6 +1,6 @@
 // The nodes of a problem, by their names.
 ghost use Rattle.std.specs.Prelude.{◌≡◌, ◌≤◌, ◌^◌, length};
-ghost use Rattle.problem_model.specs.Nodes.{AreReadings, nodes_of};
+ghost use Rattle.problem_model.specs.Nodes.{AreReadings, nodes_of, most_nodes};
 ghost use Rattle.cert.specs.NodeLists.{StandsAt};
 
 use atto::Nano;
@@ -21,9 +21,9 @@ impl<'a> Model for Nodes<'a> {
 
     ghost Value = { NodeLists };
 
-    ghost view = { λ n. record { problem = record { clocks = n.clocks.now; events = n.events.now; messages = [] }; readings = n.readings.now } };
+    ghost view = { λ n. record { problem = record { clocks = n.clocks.now; follows = []; events = n.events.now; messages = [] }; readings = n.readings.now } };
 
-    ghost invariant = { λ n. AreNamed (record { problem = record { clocks = n.clocks.now; events = n.events.now; messages = [] }; readings = n.readings.now }) };
+    ghost invariant = { λ n. AreNamed (record { problem = record { clocks = n.clocks.now; follows = []; events = n.events.now; messages = [] }; readings = n.readings.now }) };
 }
 
 /// What stands at a place of the nodes.
@@ -53,7 +53,7 @@ impl<'a> Nodes<'a> {
     /// What stands at place `k`, from 0 on.
     pub fn at(&self, k: u32) -> NextNode
         ensures stands { StandsAt self.now k result }
-        ensures few { length (nodes_of self.now.problem self.now.readings) ≤ 2 ^ 21 }
+        ensures few { length (nodes_of self.now.problem self.now.readings) ≤ most_nodes }
     {
         let k = k as usize;
         if k < self.events.len() {

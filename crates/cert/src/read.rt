@@ -1,10 +1,10 @@
 // The text of an execution, line by line.
 ghost use Rattle.std.specs.Prelude.{◌≡◌, ◌↔◌, ◌<◌, ◌≤◌, ◌^◌, ◌++◌, ℕ, List, length, IfSome, IfNone, codes, ℤ};
 ghost use Rattle.line_format.specs.Words.{line_of};
-ghost use Rattle.line_format.specs.Format.{Takes, Answers, Answer};
+ghost use Rattle.line_format.specs.Format.{Takes, Answers, Answer, most_bytes};
 ghost use Rattle.line_format.specs.Format.Answer.{Found};
 ghost use Rattle.problem_model.specs.Problem.{ProblemLists, IsProblem};
-ghost use Rattle.problem_model.specs.Nodes.{Reading, AreReadings, nodes_of};
+ghost use Rattle.problem_model.specs.Nodes.{Reading, AreReadings, nodes_of, most_nodes};
 ghost use Rattle.problem_model.specs.ExecutionText.{execution_head};
 ghost use Rattle.cert.specs.ExecutionFormat.{execution_format, AreValues};
 ghost use Rattle.cert.specs.NodeLists.{NodeLists, StandsAt};
@@ -16,13 +16,13 @@ use crate::execution::Execution;
 use crate::nodes::{NextNode, Nodes};
 use crate::words::{event_words, reading_words};
 use atto::{Nano, Units};
-use line_format::{FaultKind, LineError, Taken, cut};
+use line_format::{FaultKind, LineError, MOST_BYTES, Taken, cut};
 use problem::{Name, Problem};
 use std::alloc::Global;
 
 // The line of the event of this name.
 fn take_event(values: &mut Execution, name: &Name, body: &[u8]) -> Result<Taken, LineError>
-    requires { length values.old < 2 ^ 22 }
+    requires { length values.old < most_nodes }
     ensures takes { (n : NodeLists) → StandsAt n (length values.old) (next.Event name.now) → Takes (execution_format n.problem n.readings) values.old body.now result values.new }
     ensures sound { (n : NodeLists) → StandsAt n (length values.old) (next.Event name.now) → AreValues (length (nodes_of n.problem n.readings)) values.old → AreValues (length (nodes_of n.problem n.readings)) values.new }
 {
@@ -46,7 +46,7 @@ fn take_reading(
     stamp: Nano,
     body: &[u8],
 ) -> Result<Taken, LineError>
-    requires { length values.old < 2 ^ 22 }
+    requires { length values.old < most_nodes }
     ensures takes { (n : NodeLists) → StandsAt n (length values.old) (next.Reading clock.now stamp) → Takes (execution_format n.problem n.readings) values.old body.now result values.new }
     ensures sound { (n : NodeLists) → StandsAt n (length values.old) (next.Reading clock.now stamp) → AreValues (length (nodes_of n.problem n.readings)) values.old → AreValues (length (nodes_of n.problem n.readings)) values.new }
 {
@@ -103,7 +103,7 @@ fn after_head(text: &[u8]) -> Option<&[u8]>
 
 // The lines behind the head, which is line 1.
 fn read_lines(alloc: Global, nodes: &Nodes<'_>, lines: &[u8]) -> Result<Execution, CertError>
-    requires { length (line_of execution_head ++ lines.now) ≤ 2 ^ 30 }
+    requires { length (line_of execution_head ++ lines.now) ≤ most_bytes }
     ensures { ReadsOver nodes.now.problem nodes.now.readings (line_of execution_head ++ lines.now) result }
 {
     let mut values = Execution::new(alloc);
@@ -128,7 +128,7 @@ fn read_lines(alloc: Global, nodes: &Nodes<'_>, lines: &[u8]) -> Result<Executio
 fn read_text(alloc: Global, nodes: &Nodes<'_>, text: &[u8]) -> Result<Execution, CertError>
     ensures { ReadsOver nodes.now.problem nodes.now.readings text.now result }
 {
-    if text.len() > 1 << 30 {
+    if text.len() > MOST_BYTES {
         return Err(CertError::Long);
     }
     match after_head(text) {

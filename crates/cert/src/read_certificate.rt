@@ -1,7 +1,7 @@
 // The text of a certificate, line by line.
 ghost use Rattle.std.specs.Prelude.{◌≡◌, ◌↔◌, ◌≤◌, ◌^◌, ◌++◌, ◌⊎◌, ℕ, List, length, IfSome, IfNone, Result, Ok, Err};
 ghost use Rattle.line_format.specs.Words.{line_of};
-ghost use Rattle.line_format.specs.Format.{Answers, Answer};
+ghost use Rattle.line_format.specs.Format.{Answers, Answer, most_bytes};
 ghost use Rattle.line_format.specs.Format.Answer.{Found};
 ghost use Rattle.problem_model.specs.Problem.{ProblemLists, IsProblem};
 ghost use Rattle.problem_model.specs.Nodes.{Reading, AreReadings, nodes_of};
@@ -25,7 +25,7 @@ use crate::kinds::Side;
 use crate::parts::{Next, Parts};
 use crate::steps::step_words;
 use crate::take_part::{is_whole, push_step, take_in_end, take_value};
-use line_format::{FaultKind, LineError, Taken, cut};
+use line_format::{FaultKind, LineError, MOST_BYTES, Taken, cut};
 use problem::Problem;
 use std::alloc::Global;
 
@@ -183,7 +183,7 @@ fn after_head(text: &[u8]) -> Option<&[u8]>
 
 // The lines behind the head, which is line 1.
 fn read_lines(alloc: Global, p: &Problem, lines: &[u8]) -> Result<Cert, CertError>
-    requires { length (line_of certificate_head ++ lines.now) ≤ 2 ^ 30 }
+    requires { length (line_of certificate_head ++ lines.now) ≤ most_bytes }
     ensures { ReadsCertOver p.now (all_readings p.now.events) (line_of certificate_head ++ lines.now) result }
 {
     let _ = p.readings();
@@ -210,7 +210,7 @@ fn read_lines(alloc: Global, p: &Problem, lines: &[u8]) -> Result<Cert, CertErro
 fn read_text(alloc: Global, p: &Problem, text: &[u8]) -> Result<Cert, CertError>
     ensures { ReadsCertOver p.now (all_readings p.now.events) text.now result }
 {
-    if text.len() > 1 << 30 {
+    if text.len() > MOST_BYTES {
         return Err(CertError::Long);
     }
     match after_head(text) {
@@ -232,6 +232,6 @@ pub fn read_cert(alloc: Global, p: &Problem, text: &[u8]) -> Result<Cert, CertEr
 pub fn certificate_answers_are_one()
     ensures one { (p : ProblemLists) (readings : List Reading) (text : List ℕ) (a : Answer Said) (b : Answer Said) → IsProblem p → AreReadings p readings → Answers (certificate_format p readings) text a → Answers (certificate_format p readings) text b → a ≡ b }
     ensures found { (p : ProblemLists) (readings : List Reading) (text : List ℕ) (c : Cert) → AreReadings p readings → (IsCertTextOf p readings c text ↔ Answers (certificate_format p readings) text (Found (said c))) }
-    ensures read_again { (p : ProblemLists) (readings : List Reading) (c : Cert) (result : Result Cert CertError) → IsProblem p → AreReadings p readings → IsCertOf p c → FitsCert c → length (certificate_text p (nodes_of p readings) c) ≤ 2 ^ 30
+    ensures read_again { (p : ProblemLists) (readings : List Reading) (c : Cert) (result : Result Cert CertError) → IsProblem p → AreReadings p readings → IsCertOf p c → FitsCert c → length (certificate_text p (nodes_of p readings) c) ≤ most_bytes
         → ReadsCertOver p readings (certificate_text p (nodes_of p readings) c) result → ((d : Cert) × (result ≡ Ok d) × (said d ≡ said c)) ⊎ (result ≡ Err errors.Memory) }
 {}

@@ -17,32 +17,44 @@ use problem::Name;
 /// A bound over a span with a weight. A stamp of 2^64 or more is None, and a weight out of range.
 #[derive(Clone, Copy)]
 pub struct SpanWords {
+    /// The name of the clock.
     pub clock: Name,
+    /// The lower stamp, in ns.
     pub s: Option<u64>,
+    /// The higher stamp, in ns.
     pub t: Option<u64>,
+    /// In units of 1e-9 ns.
     pub weight: Option<Units>,
 }
 
 /// A bound on an event's stamp with a weight. A weight out of range is None.
 #[derive(Clone, Copy)]
 pub struct StampWords {
+    /// The name of the event.
     pub event: Name,
+    /// In units of 1e-9 ns.
     pub weight: Option<Units>,
 }
 
 /// A bound on a message's delay with a weight. A weight out of range is None.
 #[derive(Clone, Copy)]
 pub struct DelayWords {
+    /// The name of the event that sends.
     pub send: Name,
+    /// The name of the event that receives.
     pub receive: Name,
+    /// In units of 1e-9 ns.
     pub weight: Option<Units>,
 }
 
-/// What a step's line says.
+/// What a step's line says: the kind of its bound, and the names, stamps and weight behind it.
 #[derive(Clone, Copy)]
 pub enum StepWords {
+    /// `span-most` or `span-least`.
     Span(Extreme, SpanWords),
+    /// `late` or `early`.
     Stamp(StampBound, StampWords),
+    /// `delay-most` or `delay-least`.
     Delay(Extreme, DelayWords),
 }
 
@@ -180,7 +192,8 @@ fn step_of(kind: &[u8], rest: &[u8]) -> Option<StepWords>
     None
 }
 
-/// The bound and the weight of a line `step BOUND WEIGHT`.
+/// The bound and the weight of a line `step BOUND WEIGHT`. A line that is spelled otherwise is None. Whether a problem
+/// declares the bound is not looked at.
 pub fn step_words(body: &[u8]) -> Option<StepWords>
     ensures some { IfSome result (λ w. SaysStep body.now w) }
     ensures none { IfNone result (NoStep body.now) }

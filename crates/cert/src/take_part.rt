@@ -12,7 +12,7 @@ ghost use Rattle.cert.specs.TakesPart.{TakesStep, TakesInside, TakesInEnd};
 
 use crate::bounds::bound_of;
 use crate::certificate::EndProof;
-use crate::chain::{Chain, Step};
+use crate::chain::{Chain, MOST_STEPS, Step};
 use crate::execution::Execution;
 use crate::nodes::Nodes;
 use crate::read::take_line;
@@ -49,7 +49,8 @@ fn weight_of(words: &StepWords) -> Option<Units>
     }
 }
 
-/// Puts the step of a line behind the others.
+/// Puts the step of a line behind the others. `Name` comes where the problem declares no such bound, else `Range` where the
+/// weight is out of range, else `Limit` behind 2^22 steps; `Memory` where memory runs out.
 pub fn push_step(p: &Problem, steps: &mut Chain, words: &StepWords) -> Result<(), LineError>
     ensures { (n : NamedBound) (z : ℤ) → HoldsStep words.now n z → TakesStep p.now steps.old n z result steps.new }
 {
@@ -59,7 +60,7 @@ pub fn push_step(p: &Problem, steps: &mut Chain, words: &StepWords) -> Result<()
     let Some(weight) = weight_of(words) else {
         return Err(LineError::Fault(FaultKind::Range));
     };
-    if steps.steps().len() >= 1 << 22 {
+    if steps.steps().len() >= MOST_STEPS {
         return Err(LineError::Fault(FaultKind::Limit));
     }
     steps.push(Step { bound, weight })?;
@@ -93,7 +94,8 @@ fn push_inside(p: &Problem, inside: &mut Vec<u32>, name: &Name) -> Result<(), Li
     Ok(())
 }
 
-/// The line of the node whose turn it is, or the end behind the last node.
+/// Takes the line of the node whose turn it is, or the end of the text behind the last node: says which it was, or why it
+/// was not taken, by the format of executions. `Memory` comes only where memory runs out.
 pub fn take_value(p: &Problem, values: &mut Execution, body: &[u8]) -> Result<Taken, LineError>
     requires { AreValues (length (nodes_of p.now (all_readings p.now.events))) values.old }
     ensures takes { Takes (execution_format p.now (all_readings p.now.events)) values.old body.now result values.new }
@@ -153,7 +155,8 @@ fn take_in_cut(
     }
 }
 
-/// Takes a line of the part of an end: says whether it was the end of the text, or why it was not taken.
+/// Takes a line of the part of an end: says whether it was the end of the text, or why it was not taken, by the format of
+/// certificates. `Memory` comes only where memory runs out.
 pub fn take_in_end(p: &Problem, end: &mut EndProof, body: &[u8]) -> Result<Taken, LineError>
     requires { IsSoundEnd p.now (all_readings p.now.events) (lists_of end.old) }
     ensures takes { TakesInEnd p.now (all_readings p.now.events) (lists_of end.old) body.now result (lists_of end.new) }

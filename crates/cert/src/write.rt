@@ -1,20 +1,22 @@
 // The lines of steps and of executions, written one by one.
-ghost use Rattle.std.specs.Prelude.{◌≡◌, ◌≤◌, ◌<◌, ◌+◌, ◌++◌, ◌∷◌, [], ℕ, List, length, slice_get, Some, OnOk, OnErr, codes};
+ghost use Rattle.std.specs.Prelude.{◌≡◌, ◌≤◌, ◌<◌, ◌+◌, ◌++◌, ◌∷◌, [], ℕ, List, length, slice_get, Some, codes};
 ghost use Rattle.atto.specs.Decimal.{decimal_of};
 ghost use Rattle.line_format.specs.Words.{words};
-ghost use Rattle.ports.specs.Content.{Rose, Appends, AppendsPrefix};
-ghost use Rattle.cert.specs.Listed.{name_at, listed_bound, listed_step, listed_words, timed_line, IsNamed};
+ghost use Rattle.ports.specs.Content.{Writes};
+ghost use Rattle.cert.specs.Listed.{name_at, listed_bound, listed_step, listed_words, words_at, timed_line, IsNamed};
+ghost use Rattle.line_words.specs.Room.{HasRoom};
+ghost use Rattle.problem_model.specs.BoundText.{span_words, stamp_words, follow_words, delay_words};
 
-use crate::line::{Line, first_word, push_decimal, push_ns, push_word};
 use atto::Nano;
+use line_words::line::{Line, first_word, push_decimal, push_ns, push_word};
 use ports::{Failed, Sink, write_whole};
 use problem::{Bound, Listing};
 
 /// Appends the name of an event behind a space.
 pub fn push_event<N: Listing>(line: &mut Line, names: &N, event: u32)
-    requires named { event < length (N.event_names names.now) }
-    requires room { length line.old.items + 49 ≤ 256 }
-    ensures appended { (first : List ℕ) (ws : List (List ℕ)) → line.old.items ≡ words (first ∷ ws) → line.new.items ≡ words (first ∷ ws ++ name_at (N.event_names names.now) event ∷ []) }
+    requires named { event < length (N.listed names.now).event_names }
+    requires room { HasRoom line.old.items 49 }
+    ensures appended { (first : List ℕ) (ws : List (List ℕ)) → line.old.items ≡ words (first ∷ ws) → line.new.items ≡ words (first ∷ ws ++ name_at (N.listed names.now).event_names event ∷ []) }
     ensures grown { length line.new.items ≤ length line.old.items + 49 }
 {
     let name = names.event_name(event);
@@ -23,9 +25,9 @@ pub fn push_event<N: Listing>(line: &mut Line, names: &N, event: u32)
 
 /// Appends the name of a clock behind a space.
 pub fn push_clock<N: Listing>(line: &mut Line, names: &N, clock: u32)
-    requires named { clock < length (N.clock_names names.now) }
-    requires room { length line.old.items + 49 ≤ 256 }
-    ensures appended { (first : List ℕ) (ws : List (List ℕ)) → line.old.items ≡ words (first ∷ ws) → line.new.items ≡ words (first ∷ ws ++ name_at (N.clock_names names.now) clock ∷ []) }
+    requires named { clock < length (N.listed names.now).clock_names }
+    requires room { HasRoom line.old.items 49 }
+    ensures appended { (first : List ℕ) (ws : List (List ℕ)) → line.old.items ≡ words (first ∷ ws) → line.new.items ≡ words (first ∷ ws ++ name_at (N.listed names.now).clock_names clock ∷ []) }
     ensures grown { length line.new.items ≤ length line.old.items + 49 }
 {
     let name = names.clock_name(clock);
@@ -35,10 +37,10 @@ pub fn push_clock<N: Listing>(line: &mut Line, names: &N, clock: u32)
 // Appends the words of a bound over a span.
 fn push_span<N: Listing>(line: &mut Line, names: &N, kind: &[u8], clock: u32, s: Nano, t: Nano)
     requires kind { length kind.now ≤ 48 }
-    requires named { clock < length (N.clock_names names.now) }
-    requires room { length line.old.items + 196 ≤ 256 }
-    ensures appended { (first : List ℕ) (ws : List (List ℕ)) → line.old.items ≡ words (first ∷ ws) → line.new.items ≡ words (first ∷ ws ++ kind.now ∷ name_at (N.clock_names names.now) clock ∷ decimal_of s ∷ decimal_of t ∷ []) }
-    ensures grown { length line.new.items ≤ length line.old.items + 196 }
+    requires named { clock < length (N.listed names.now).clock_names }
+    requires room { HasRoom line.old.items 245 }
+    ensures appended { (first : List ℕ) (ws : List (List ℕ)) → line.old.items ≡ words (first ∷ ws) → line.new.items ≡ words (first ∷ ws ++ span_words kind.now (name_at (N.listed names.now).clock_names clock) s t) }
+    ensures grown { length line.new.items ≤ length line.old.items + 245 }
 {
     push_word(line, kind);
     push_clock(line, names, clock);
@@ -49,10 +51,10 @@ fn push_span<N: Listing>(line: &mut Line, names: &N, kind: &[u8], clock: u32, s:
 // Appends the words of a bound on the stamp of an event.
 fn push_stamp<N: Listing>(line: &mut Line, names: &N, kind: &[u8], event: u32)
     requires kind { length kind.now ≤ 48 }
-    requires named { event < length (N.event_names names.now) }
-    requires room { length line.old.items + 196 ≤ 256 }
-    ensures appended { (first : List ℕ) (ws : List (List ℕ)) → line.old.items ≡ words (first ∷ ws) → line.new.items ≡ words (first ∷ ws ++ kind.now ∷ name_at (N.event_names names.now) event ∷ []) }
-    ensures grown { length line.new.items ≤ length line.old.items + 196 }
+    requires named { event < length (N.listed names.now).event_names }
+    requires room { HasRoom line.old.items 245 }
+    ensures appended { (first : List ℕ) (ws : List (List ℕ)) → line.old.items ≡ words (first ∷ ws) → line.new.items ≡ words (first ∷ ws ++ stamp_words kind.now (name_at (N.listed names.now).event_names event)) }
+    ensures grown { length line.new.items ≤ length line.old.items + 245 }
 {
     push_word(line, kind);
     push_event(line, names, event);
@@ -61,30 +63,50 @@ fn push_stamp<N: Listing>(line: &mut Line, names: &N, kind: &[u8], event: u32)
 // Appends the words of a bound on the delay of a message.
 fn push_delay<N: Listing>(line: &mut Line, names: &N, kind: &[u8], send: u32, receive: u32)
     requires kind { length kind.now ≤ 48 }
-    requires send { send < length (N.event_names names.now) }
-    requires receive { receive < length (N.event_names names.now) }
-    requires room { length line.old.items + 196 ≤ 256 }
-    ensures appended { (first : List ℕ) (ws : List (List ℕ)) → line.old.items ≡ words (first ∷ ws) → line.new.items ≡ words (first ∷ ws ++ kind.now ∷ name_at (N.event_names names.now) send ∷ name_at (N.event_names names.now) receive ∷ []) }
-    ensures grown { length line.new.items ≤ length line.old.items + 196 }
+    requires send { send < length (N.listed names.now).event_names }
+    requires receive { receive < length (N.listed names.now).event_names }
+    requires room { HasRoom line.old.items 245 }
+    ensures appended { (first : List ℕ) (ws : List (List ℕ)) → line.old.items ≡ words (first ∷ ws) → line.new.items ≡ words (first ∷ ws ++ delay_words kind.now (name_at (N.listed names.now).event_names send) (name_at (N.listed names.now).event_names receive)) }
+    ensures grown { length line.new.items ≤ length line.old.items + 245 }
 {
     push_word(line, kind);
     push_event(line, names, send);
     push_event(line, names, receive);
 }
 
-// Appends the words of a bound.
-fn push_bound<N: Listing>(line: &mut Line, names: &N, bound: &Bound)
-    requires named { IsNamed (record { clock_names = N.clock_names names.now; event_names = N.event_names names.now; events = N.listed_events names.now; readings = N.listed_readings names.now }) bound.now }
-    requires room { length line.old.items + 196 ≤ 256 }
-    ensures appended { (first : List ℕ) (ws : List (List ℕ)) → line.old.items ≡ words (first ∷ ws) → line.new.items ≡ words (first ∷ ws
-        ++ listed_bound (record { clock_names = N.clock_names names.now; event_names = N.event_names names.now; events = N.listed_events names.now; readings = N.listed_readings names.now }) bound.now) }
-    ensures grown { length line.new.items ≤ length line.old.items + 196 }
+// Appends the words of a bound between clocks that follow each other.
+fn push_follow<N: Listing>(line: &mut Line, names: &N, earlier: u32, s: Nano, later: u32, t: Nano)
+    requires earlier { earlier < length (N.listed names.now).clock_names }
+    requires later { later < length (N.listed names.now).clock_names }
+    requires room { HasRoom line.old.items 245 }
+    ensures appended { (first : List ℕ) (ws : List (List ℕ)) → line.old.items ≡ words (first ∷ ws) → line.new.items ≡ words (first ∷ ws ++ follow_words (name_at (N.listed names.now).clock_names earlier) s (name_at (N.listed names.now).clock_names later) t) }
+    ensures grown { length line.new.items ≤ length line.old.items + 245 }
+{
+    push_word(line, b"follow");
+    push_clock(line, names, earlier);
+    push_decimal(line, s.get());
+    push_clock(line, names, later);
+    push_decimal(line, t.get());
+}
+
+/// Appends the words that name a bound, each behind a space. Its clocks or events have names.
+pub fn push_bound<N: Listing>(line: &mut Line, names: &N, bound: &Bound)
+    requires named { IsNamed (N.listed names.now) bound.now }
+    requires room { HasRoom line.old.items 245 }
+    ensures appended { (first : List ℕ) (ws : List (List ℕ)) → line.old.items ≡ words (first ∷ ws) → line.new.items ≡ words (first ∷ ws ++ listed_bound (N.listed names.now) bound.now) }
+    ensures grown { length line.new.items ≤ length line.old.items + 245 }
 {
     match *bound {
         Bound::SpanMost { clock, s, t } => push_span(line, names, b"span-most", clock, s, t),
         Bound::SpanLeast { clock, s, t } => push_span(line, names, b"span-least", clock, s, t),
         Bound::Late(event) => push_stamp(line, names, b"late", event),
         Bound::Early(event) => push_stamp(line, names, b"early", event),
+        Bound::Follow {
+            earlier,
+            s,
+            later,
+            t,
+        } => push_follow(line, names, earlier, s, later, t),
         Bound::DelayMost { send, receive } => push_delay(line, names, b"delay-most", send, receive),
         Bound::DelayLeast { send, receive } => push_delay(
             line,
@@ -98,8 +120,8 @@ fn push_bound<N: Listing>(line: &mut Line, names: &N, bound: &Bound)
 
 // The line of a step.
 fn step_line<N: Listing>(names: &N, bound: &Bound, weight: i128) -> Line
-    requires { IsNamed (record { clock_names = N.clock_names names.now; event_names = N.event_names names.now; events = N.listed_events names.now; readings = N.listed_readings names.now }) bound.now }
-    ensures { result.items ≡ listed_step (record { clock_names = N.clock_names names.now; event_names = N.event_names names.now; events = N.listed_events names.now; readings = N.listed_readings names.now }) (bound.now, weight) }
+    requires { IsNamed (N.listed names.now) bound.now }
+    ensures { result.items ≡ listed_step (N.listed names.now) (bound.now, weight) }
 {
     let mut line = first_word(b"step");
     push_bound(&mut line, names, bound);
@@ -117,13 +139,8 @@ pub fn write_step<N: Listing, O: Sink>(
     weight: i128,
     out: &mut O,
 ) -> Result<(), Failed>
-    requires { IsNamed (record { clock_names = N.clock_names names.now; event_names = N.event_names names.now; events = N.listed_events names.now; readings = N.listed_readings names.now }) bound.now }
-    ensures ok { OnOk result (Appends (O.written out.old) (O.written out.new)
-        (listed_step (record { clock_names = N.clock_names names.now; event_names = N.event_names names.now; events = N.listed_events names.now; readings = N.listed_readings names.now }) (bound.now, weight))) }
-    ensures err { OnErr result (AppendsPrefix (O.written out.old) (O.written out.new)
-        (listed_step (record { clock_names = N.clock_names names.now; event_names = N.event_names names.now; events = N.listed_events names.now; readings = N.listed_readings names.now }) (bound.now, weight))) }
-    ensures cause { OnErr result (Rose (O.faults out.old) (O.faults out.new)) }
-    ensures no_fall { O.faults out.old ≤ O.faults out.new }
+    requires { IsNamed (N.listed names.now) bound.now }
+    ensures { Writes (listed_step (N.listed names.now) (bound.now, weight)) (O.told out.old) (O.told out.new) result }
 {
     let line = step_line(names, bound, weight);
     write_whole(out, line.as_slice())
@@ -131,8 +148,8 @@ pub fn write_step<N: Listing, O: Sink>(
 
 // The line of the event at a place.
 fn event_line<N: Listing>(names: &N, place: u32, value: i128) -> Line
-    requires { place < length (N.listed_events names.now) }
-    ensures { (e : ℕ × ℕ) → slice_get (N.listed_events names.now) place ≡ Some e → result.items ≡ timed_line (codes "event" ∷ name_at (N.event_names names.now) e.0 ∷ [], value) }
+    requires { place < length (N.listed names.now).events }
+    ensures { result.items ≡ timed_line (words_at (N.listed names.now) place, value) }
 {
     let (event, _) = names.event_at(place);
     let mut line = first_word(b"event");
@@ -144,8 +161,8 @@ fn event_line<N: Listing>(names: &N, place: u32, value: i128) -> Line
 
 // The line of the reading at a place among the readings.
 fn reading_line<N: Listing>(names: &N, place: u32, value: i128) -> Line
-    requires { place < length (N.listed_readings names.now) }
-    ensures { (r : ℕ × ℕ × ℕ) → slice_get (N.listed_readings names.now) place ≡ Some r → result.items ≡ timed_line (codes "reading" ∷ name_at (N.clock_names names.now) r.0 ∷ decimal_of r.1 ∷ [], value) }
+    requires { place < length (N.listed names.now).readings }
+    ensures { result.items ≡ timed_line (words_at (N.listed names.now) (length (N.listed names.now).events + place), value) }
 {
     let (clock, stamp, _) = names.reading_at(place);
     let mut line = first_word(b"reading");
@@ -158,8 +175,8 @@ fn reading_line<N: Listing>(names: &N, place: u32, value: i128) -> Line
 
 // The line of the node at a place.
 fn value_line<N: Listing>(names: &N, place: u32, value: i128) -> Line
-    requires { place < length (listed_words (record { clock_names = N.clock_names names.now; event_names = N.event_names names.now; events = N.listed_events names.now; readings = N.listed_readings names.now })) }
-    ensures { (ws : List (List ℕ)) → slice_get (listed_words (record { clock_names = N.clock_names names.now; event_names = N.event_names names.now; events = N.listed_events names.now; readings = N.listed_readings names.now })) place ≡ Some ws → result.items ≡ timed_line (ws, value) }
+    requires { place < length (listed_words (N.listed names.now)) }
+    ensures { result.items ≡ timed_line (words_at (N.listed names.now) place, value) }
 {
     let events = names.event_count();
     if place < events {
@@ -178,13 +195,8 @@ pub fn write_value<N: Listing, O: Sink>(
     value: i128,
     out: &mut O,
 ) -> Result<(), Failed>
-    requires { place < length (listed_words (record { clock_names = N.clock_names names.now; event_names = N.event_names names.now; events = N.listed_events names.now; readings = N.listed_readings names.now })) }
-    ensures ok { OnOk result ((ws : List (List ℕ)) → slice_get (listed_words (record { clock_names = N.clock_names names.now; event_names = N.event_names names.now; events = N.listed_events names.now; readings = N.listed_readings names.now })) place ≡ Some ws
-        → Appends (O.written out.old) (O.written out.new) (timed_line (ws, value))) }
-    ensures err { OnErr result ((ws : List (List ℕ)) → slice_get (listed_words (record { clock_names = N.clock_names names.now; event_names = N.event_names names.now; events = N.listed_events names.now; readings = N.listed_readings names.now })) place ≡ Some ws
-        → AppendsPrefix (O.written out.old) (O.written out.new) (timed_line (ws, value))) }
-    ensures cause { OnErr result (Rose (O.faults out.old) (O.faults out.new)) }
-    ensures no_fall { O.faults out.old ≤ O.faults out.new }
+    requires { place < length (listed_words (N.listed names.now)) }
+    ensures { Writes (timed_line (words_at (N.listed names.now) place, value)) (O.told out.old) (O.told out.new) result }
 {
     let line = value_line(names, place, value);
     write_whole(out, line.as_slice())

@@ -9,8 +9,8 @@ use Rattle.problem_model.specs.declared.items.Message.{Message}
 use Rattle.problem_model.specs.declared.items.Node.{Node}
 use Rattle.problem_model.specs.declared.items.Node.TheVariants as nodes
 use Rattle.problem_model.specs.declared.items.Bound.{Bound}
-use Rattle.problem_model.specs.declared.items.Bound.TheVariants.{SpanMost, SpanLeast, Late, Early, DelayMost, DelayLeast}
-use Rattle.problem_model.specs.Problem.{ProblemLists, IsProblem}
+use Rattle.problem_model.specs.declared.items.Bound.TheVariants.{SpanMost, SpanLeast, Late, Early, Follow, DelayMost, DelayLeast}
+use Rattle.problem_model.specs.Problem.{ProblemLists, IsWellFormed}
 use Rattle.problem_model.specs.Bounds.{Constraint, Declares, EventAt, IsReading, Times, IsExecution}
 use Rattle.problem_model.specs.Nodes.{Reading, AreReadings, nodes_of}
 use Rattle.problem_model.specs.Nodes as lists
@@ -36,12 +36,13 @@ stamp_there p k v at = (v, event_there p k v at, refl, refl)
 Both : ProblemLists → Constraint → Type 0
 Both p c = IsNodeOf p c.from × IsNodeOf p c.to
 
-pub declared_ends : (p : ProblemLists) (b : Bound) (c : Constraint) → IsProblem p → Declares p b c → IsNodeOf p c.from × IsNodeOf p c.to
+pub declared_ends : (p : ProblemLists) (b : Bound) (c : Constraint) → IsWellFormed p → Declares p b c → IsNodeOf p c.from × IsNodeOf p c.to
 unfolding Both
 declared_ends p (SpanMost clock s t) c lawful d = subst (Both p) (sym d.5) (d.2, d.3)
 declared_ends p (SpanLeast clock s t) c lawful d = subst (Both p) (sym d.5) (d.3, d.2)
 declared_ends p (Late e) c lawful d = subst (Both p) (sym d.4) (stamp_there p e d.0 d.2, slice_get_within p.events e d.0 d.2)
 declared_ends p (Early e) c lawful d = subst (Both p) (sym d.4) (slice_get_within p.events e d.0 d.2, stamp_there p e d.0 d.2)
+declared_ends p (Follow k s l t) c lawful d = subst (Both p) (sym d.6) (d.5, d.4)
 declared_ends p (DelayMost send receive) c lawful d =
     let from : d.0.send < length p.events = All-contains (λ (m : Message). m.send < length p.events) p.messages d.0 lawful.sends d.2 in
     let to : d.0.receive < length p.events = All-contains (λ (m : Message). m.receive < length p.events) p.messages d.0 lawful.receives d.2 in
@@ -61,7 +62,7 @@ module _ (p : ProblemLists) (x y : Times) (values : List ℤ) (lists_x : lists.L
       let place = place_of p readings lists_x.1 n inside in
       sym (time_at p readings x values lists_x.2 place.0 n place.1) ∙ time_at p readings y values listed place.0 n place.1
 
-  pub execution_agrees : IsProblem p → IsExecution p x → IsExecution p y
+  pub execution_agrees : IsWellFormed p → IsExecution p x → IsExecution p y
   execution_agrees lawful execution b c declares =
       let ends = declared_ends p b c lawful declares in
       let from : x c.from ≡ y c.from = agree c.from ends.0 in
@@ -70,7 +71,7 @@ module _ (p : ProblemLists) (x y : Times) (values : List ℤ) (lists_x : lists.L
       omega (arith, ints)
 
 -- ---- executions have no fault
-pub execution_sound : (p : ProblemLists) (values : List ℤ) → IsProblem p → IsExecutionOf p values → (r : Reason) → IsBrokenBy p values r → ⊥
+pub execution_sound : (p : ProblemLists) (values : List ℤ) → IsWellFormed p → IsExecutionOf p values → (r : Reason) → IsBrokenBy p values r → ⊥
 execution_sound p values lawful (x, listed, execution) = broken_cases p values (λ r. ⊥) (λ b w d so.
     let y = so.0 in
     let first = so.2.2 in

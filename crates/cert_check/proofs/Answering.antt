@@ -3,7 +3,7 @@ use Rattle.std.proofs.Common.{◌≡◌, ◌≢◌, ◌<◌, ℕ, List, [], ◌�
 use Rattle.std.specs.Prelude.{ℤ}
 use Rattle.problem_model.specs.declared.items.Node.{Node}
 use Rattle.problem_model.specs.declared.items.Node.TheVariants as nodes
-use Rattle.problem_model.specs.Problem.{ProblemLists, IsProblem}
+use Rattle.problem_model.specs.Problem.{ProblemLists, IsWellFormed}
 use Rattle.difference_bounds.specs.Solutions.{WeighedBound, Leads, IsContradictionOf}
 use Rattle.cert.specs.declared.chain.Step.{Step}
 use Rattle.cert.specs.declared.certificate.EndProof.{EndProof}
@@ -59,7 +59,7 @@ lower_back p first second (At value path execution) shown = (goes_along p (nodes
 lower_back p first second (Unbounded inside execution) shown = shown
 
 -- ---- what is shown has no fault
-module _ (p : ProblemLists) (lawful : IsProblem p) where
+module _ (p : ProblemLists) (lawful : IsWellFormed p) where
   pub end_sound : (part : Part) (first second : ℕ) (end : EndProof) → part ≢ Cycle → first < length p.events → second < length p.events → IsEndOf p end → ShowsEnd p part first second end → (r : Reason) → EndIs p part first second end r → ⊥
   end_sound part first second (At value path execution) is_path within within' of shown r (inl so) = path_sound p part first second value path lawful is_path of.0 shown.0 shown.1 r so
   end_sound part first second (At value path execution) is_path within within' of shown r (inr (inl so)) = execution_sound p execution lawful (shown.2.0, shown.2.1, shown.2.2) r so

@@ -2,7 +2,7 @@
 use Rattle.std.proofs.Common.{◌≡◌, ◌≢◌, ◌⊎◌, ℕ, List, Option, Some, None, refl}
 use Rattle.std.specs.Prelude.{ℤ, ◌-ℤ◌, All}
 use Rattle.problem_model.specs.declared.items.Node.TheVariants as nodes
-use Rattle.problem_model.specs.Problem.{ProblemLists, IsProblem}
+use Rattle.problem_model.specs.Problem.{ProblemLists, IsWellFormed}
 use Rattle.problem_model.specs.Bounds.{Times}
 use Rattle.problem_model.specs.Nodes as lists
 use Rattle.difference_bounds.specs.Solutions.{weight_of}
@@ -23,7 +23,7 @@ use Rattle.cert_check.proofs.Paths.{path_sound}
 
 -- ---- the bounds, then the difference
 module _ (p : ProblemLists) (part : Part) (first second : ℕ) (value : ℤ) (values : List ℤ) (o : Option Reason) where
-  pub both_found : IsProblem p → IsExecutionOf p values → FindsFault part (DifferenceIs p first second value values) ((x : Times) → lists.Lists p x values → (x (nodes.Event second) -ℤ x (nodes.Event first)) ≡ value) o
+  pub both_found : IsWellFormed p → IsExecutionOf p values → FindsFault part (DifferenceIs p first second value values) ((x : Times) → lists.Lists p x values → (x (nodes.Event second) -ℤ x (nodes.Event first)) ≡ value) o
       → FindsFault part (λ r. IsBrokenBy p values r ⊎ DifferenceIs p first second value values r) (Attains p first second value values) o
   both_found lawful execution found = elim o as (λ o. FindsFault part (DifferenceIs p first second value values) ((x : Times) → lists.Lists p x values → (x (nodes.Event second) -ℤ x (nodes.Event first)) ≡ value) o
       → FindsFault part (λ r. IsBrokenBy p values r ⊎ DifferenceIs p first second value values r) (Attains p first second value values) o) [
@@ -40,7 +40,7 @@ module _ (p : ProblemLists) (part : Part) (first second : ℕ) (value : ℤ) (va
 
 -- ---- the two kinds of ends
 module _ (p : ProblemLists) (part : Part) (first second : ℕ) where
-  pub path_then : (value : ℤ) (path : List Step) (execution : List ℤ) (o : Option Reason) → IsProblem p → part ≢ Cycle → All (IsStepOf p) path
+  pub path_then : (value : ℤ) (path : List Step) (execution : List ℤ) (o : Option Reason) → IsWellFormed p → part ≢ Cycle → All (IsStepOf p) path
       → Goes p part (nodes.Event second) (weighed_bounds path) (nodes.Event first) × (weight_of (weighed_bounds path) ≡ sum_for part value)
       → FindsFault part (λ r. IsBrokenBy p execution r ⊎ DifferenceIs p first second value execution r) (Attains p first second value execution) o
       → FindsFault part (EndIs p part first second (At value path execution)) (ShowsEnd p part first second (At value path execution)) o
@@ -55,7 +55,7 @@ module _ (p : ProblemLists) (part : Part) (first second : ℕ) where
   path_found value path execution (Some r) some found =
       first_early part (PathIs p part first second value path) (λ r. IsBrokenBy p execution r ⊎ DifferenceIs p first second value execution r) 3 (path_early p part first second value path) (times_late p first second value execution) r found
 
-  pub cut_then : (inside : List ℕ) (execution : List ℤ) (o : Option Reason) → IsProblem p → Parts p inside (home_of part first second) (away_of part first second)
+  pub cut_then : (inside : List ℕ) (execution : List ℤ) (o : Option Reason) → IsWellFormed p → Parts p inside (home_of part first second) (away_of part first second)
       → FindsFault part (IsBrokenBy p execution) (IsExecutionOf p execution) o → FindsFault part (λ r. CutIs p part first second inside r ⊎ IsBrokenBy p execution r) (Parts p inside (home_of part first second) (away_of part first second) × IsExecutionOf p execution) o
   cut_then inside execution None lawful shown found = (shown, found)
   cut_then inside execution (Some r) lawful shown found = first_late part (CutIs p part first second inside) (IsBrokenBy p execution) (cut_sound p part first second inside shown) r found

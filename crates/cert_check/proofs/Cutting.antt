@@ -8,12 +8,13 @@ use Rattle.problem_model.specs.declared.items.Message.{Message}
 use Rattle.problem_model.specs.declared.items.Node.{Node}
 use Rattle.problem_model.specs.declared.items.Node.TheVariants as nodes
 use Rattle.problem_model.specs.declared.items.Bound.{Bound}
-use Rattle.problem_model.specs.declared.items.Bound.TheVariants.{SpanMost, SpanLeast, Late, Early, DelayMost, DelayLeast}
-use Rattle.problem_model.specs.Problem.{ProblemLists, IsProblem}
+use Rattle.problem_model.specs.declared.items.Bound.TheVariants.{SpanMost, SpanLeast, Late, Early, Follow, DelayMost, DelayLeast}
+use Rattle.problem_model.specs.Problem.{ProblemLists, IsWellFormed}
 use Rattle.problem_model.specs.Bounds.{Constraint, Declares, EventAt}
 use Rattle.problem_model.specs.ShortList.{most_bound, message_bounds}
 use Rattle.problem_model.proofs.OneName.{declared_one}
 use Rattle.cert.specs.Shows.{IsOnClock, IsInside, IsCutOf, Parts}
+use Rattle.problem_model.proofs.Walking.{none_follows}
 use Rattle.cert_check.specs.declared.answer.Part.{Part}
 use Rattle.cert_check.specs.declared.answer.Reason.{Reason}
 use Rattle.cert_check.specs.declared.answer.Reason.TheVariants.{Home, Away, Leaves}
@@ -41,7 +42,7 @@ none_leave : (p : ProblemLists) (inside : List ℕ) (bounds : List Bound) → Al
 none_leave p inside bounds all k d within = stays_not p inside (get_or bounds k d) (all k d within)
 
 module _ (p : ProblemLists) (inside : List ℕ) where
-  pub one_stays : (b : Bound) (c : Constraint) → IsProblem p → Declares p b c → (IsInside p inside c.from → IsInside p inside c.to) → FindsLeaving p inside (b ∷ []) None
+  pub one_stays : (b : Bound) (c : Constraint) → IsWellFormed p → Declares p b c → (IsInside p inside c.from → IsInside p inside c.to) → FindsLeaving p inside (b ∷ []) None
   one_stays b c lawful declares stays =
       All-cons (StaysInside p inside) b [] (λ c' declares' from. subst (λ (d : Constraint). IsInside p inside d.to) (declared_one p lawful b c c' declares declares')
       (stays (subst (λ (d : Constraint). IsInside p inside d.from) (declared_one p lawful b c' c declares' declares) from))) (All-nil (StaysInside p inside))
@@ -102,12 +103,13 @@ module _ (p : ProblemLists) (inside : List ℕ) where
   at_place (n ∷ ms) (suc k) m within is every = at_place ms k m (omega (arith, within)) is (back (message_bounds n) (flat_map message_bounds ms) every)
 
   -- no bound of a message leaves, so none at all does
-  pub cut_is : IsProblem p → All (StaysInside p inside) (flat_map message_bounds p.messages) → IsCutOf p inside
+  pub cut_is : IsWellFormed p → All (StaysInside p inside) (flat_map message_bounds p.messages) → IsCutOf p inside
   cut_is lawful every (SpanMost clock s t) c d = subst Kept (sym d.5) (on_one_clock (nodes.Reading clock s) (nodes.Reading clock t) (λ k on. on))
   cut_is lawful every (SpanLeast clock s t) c d = subst Kept (sym d.5) (on_one_clock (nodes.Reading clock t) (nodes.Reading clock s) (λ k on. on))
   cut_is lawful every (Late e) c d = subst Kept (sym d.4) (on_one_clock (nodes.Reading d.0.clock d.0.stamp) (nodes.Event e) (λ k on. (d.0, d.2, on)))
   cut_is lawful every (Early e) c d =
       subst Kept (sym d.4) (on_one_clock (nodes.Event e) (nodes.Reading d.0.clock d.0.stamp) (λ k on. ap (λ (u : Event). u.clock) (some_same d.0 on.0 (sym d.2 ∙ on.1)) ∙ on.2))
+  cut_is lawful every (Follow k s l t) c d = absurd (none_follows p k s l t c lawful.no_follows d)
   cut_is lawful every (DelayMost send receive) c d =
       let m : Message = d.0 in
       let bounds : All (StaysInside p inside) (message_bounds m) = at_place p.messages d.2.0 m d.2.1 d.2.2 every in

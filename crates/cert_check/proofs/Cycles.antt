@@ -5,7 +5,7 @@ use Rattle.std.proofs.lemmas.Int.{ints}
 use Rattle.std.proofs.lemmas.Bool.{cases_lt}
 use Rattle.std.proofs.lemmas.Option.{slice_get_within}
 use Rattle.problem_model.specs.declared.items.Node.{Node}
-use Rattle.problem_model.specs.Problem.{ProblemLists, IsProblem}
+use Rattle.problem_model.specs.Problem.{ProblemLists, IsWellFormed}
 use Rattle.problem_model.specs.Bounds.{Constraint, Declares}
 use Rattle.problem_model.proofs.OneName.{declared_one}
 use Rattle.difference_bounds.specs.Solutions.{WeighedBound, Leads, weight_of, IsContradictionOf}
@@ -45,7 +45,7 @@ empty_first p steps none = record {
       (λ sum is so. earlier_kind Cycle Empty (Sum sum) (omega arith));
 }
 
-module _ (p : ProblemLists) (lawful : IsProblem p) (steps : List Step) (each : All (IsStepOf p) steps) (m : Node) where
+module _ (p : ProblemLists) (lawful : IsWellFormed p) (steps : List Step) (each : All (IsStepOf p) steps) (m : Node) where
   -- ---- after the first steps
   module _ (n : Node) (j : ℕ) (goes : Goes p Cycle m (weighed_bounds (take j steps)) n) (short : j ≤ length steps) where
     no_loose_before : (l : ℕ) → l < j → IsLooseAt p steps l → ⊥
@@ -194,7 +194,7 @@ module _ (p : ProblemLists) (lawful : IsProblem p) (steps : List Step) (each : A
     }
 
 -- a contradiction has no fault
-pub cycle_sound : (p : ProblemLists) (steps : List Step) → IsProblem p → All (IsStepOf p) steps → IsContradictionOf p (weighed_bounds steps) → (r : Reason) → CycleIs p steps r → ⊥
+pub cycle_sound : (p : ProblemLists) (steps : List Step) → IsWellFormed p → All (IsStepOf p) steps → IsContradictionOf p (weighed_bounds steps) → (r : Reason) → CycleIs p steps r → ⊥
 cycle_sound p steps lawful each is =
     let m = is.closed.0 in
     let goes = goes_of p m m (weighed_bounds steps) is.closed.1 in

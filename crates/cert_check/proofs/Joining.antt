@@ -4,7 +4,7 @@ use Rattle.std.specs.Prelude.{All}
 use Rattle.std.proofs.lemmas.Option.{slice_get_within, slice_get-get_or}
 use Rattle.problem_model.specs.declared.items.Node.{Node}
 use Rattle.problem_model.specs.declared.items.Node.TheVariants as nodes
-use Rattle.problem_model.specs.Problem.{ProblemLists, IsProblem}
+use Rattle.problem_model.specs.Problem.{ProblemLists, IsWellFormed}
 use Rattle.problem_model.specs.Bounds.{Constraint, Declares}
 use Rattle.problem_model.proofs.OneName.{declared_one}
 use Rattle.cert.specs.declared.chain.Step.{Step}
@@ -30,7 +30,7 @@ take_long [] (suc j) short = absurd (omega (arith, short))
 take_long (x ∷ xs) zero short = refl
 take_long (x ∷ xs) (suc j) short = ap suc (take_long xs j (omega (arith, short)))
 
-module _ (p : ProblemLists) (lawful : IsProblem p) (part : Part) where
+module _ (p : ProblemLists) (lawful : IsWellFormed p) (part : Part) where
   same_bound : (s t : Step) (c d : Constraint) → s ≡ t → Declares p s.bound c → Declares p t.bound d → c ≡ d
   same_bound s t c d same declares declares' = declared_one p lawful t.bound c d (subst (λ (u : Step). Declares p u.bound c) same declares) declares'
 
@@ -88,7 +88,7 @@ step_there p (t ∷ steps) k each inside =
     (s, slice_get-get_or (t ∷ steps) k t inside, each k t inside)
 
 -- ---- paths, which begin at an event
-module _ (p : ProblemLists) (lawful : IsProblem p) (part : Part) (first q : ℕ) (n : Node) (steps : List Step) (j : ℕ) (goes : Goes p part (nodes.Event q) (weighed_bounds (take j steps)) n) where
+module _ (p : ProblemLists) (lawful : IsWellFormed p) (part : Part) (first q : ℕ) (n : Node) (steps : List Step) (j : ℕ) (goes : Goes p part (nodes.Event q) (weighed_bounds (take j steps)) n) where
   pub come_one : (m : Node) → HasComeTo p part q steps j m → m ≡ n
   come_one m (inl (none, is)) = is ∙ stays_there p lawful part (nodes.Event q) n steps j goes none
   come_one m (inr (s, c, (i, next, at), declares, is)) = is ∙ comes_there p lawful part (nodes.Event q) n steps j goes i s c (omega (arith, next)) at declares

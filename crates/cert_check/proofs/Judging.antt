@@ -4,7 +4,7 @@ use Rattle.std.specs.Prelude.{All, ℤ, ◌-ℤ◌, ◌≤ℤ◌, ◌<ℤ◌}
 use Rattle.std.proofs.lemmas.List.Elements.{All-append, All-nil, All-cons}
 use Rattle.problem_model.specs.declared.items.Bound.{Bound}
 use Rattle.problem_model.specs.declared.items.Bound.TheVariants.{SpanMost, SpanLeast}
-use Rattle.problem_model.specs.Problem.{ProblemLists, IsProblem}
+use Rattle.problem_model.specs.Problem.{ProblemLists, IsWellFormed}
 use Rattle.problem_model.specs.Bounds.{Constraint, Declares, Obeys, Times}
 use Rattle.problem_model.proofs.OneName.{declared_one}
 use Rattle.problem_model.specs.ShortList.{ObeysNamed, IsFirstBrokenOf, neighbour_bounds}
@@ -14,7 +14,7 @@ use Rattle.cert_check.specs.Verdict.{Judges}
 
 -- ---- one bound
 module _ (p : ProblemLists) (x : Times) where
-  pub one_obeyed : (b : Bound) (a : Constraint) → IsProblem p → Declares p b a → (x a.to -ℤ x a.from) ≤ℤ a.weight → Judges p x (b ∷ []) verdicts.Obeys
+  pub one_obeyed : (b : Bound) (a : Constraint) → IsWellFormed p → Declares p b a → (x a.to -ℤ x a.from) ≤ℤ a.weight → Judges p x (b ∷ []) verdicts.Obeys
   one_obeyed b a lawful declares obeys =
       All-cons (ObeysNamed p x) b [] (λ a' declares'. subst (λ (v : Constraint). Obeys x v) (declared_one p lawful b a a' declares declares') obeys) (All-nil (ObeysNamed p x))
 

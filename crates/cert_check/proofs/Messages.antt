@@ -4,7 +4,7 @@ use Rattle.std.specs.Prelude.{Contains}
 use Rattle.std.proofs.lemmas.Bool.{cases_lt}
 use Rattle.std.proofs.lemmas.Option.{slice_get_read, slice_get_within, get_or_from_slice_get}
 use Rattle.problem_model.specs.declared.items.Message.{Message}
-use Rattle.problem_model.specs.Problem.{ProblemLists, IsProblem}
+use Rattle.problem_model.specs.Problem.{ProblemLists, IsWellFormed}
 use Rattle.problem.specs.Line.{HasMessage}
 use Rattle.cert_check.specs.Walks.{HasMessageBetween}
 
@@ -23,7 +23,7 @@ has_place p send receive (m, (k, inside, is), from, to) =
     (k, pair_at p.messages k m at ∙ (let same : m.send ≡ send = from in let same' : m.receive ≡ receive = to in rw (same, same') refl))
 
 -- ---- messages of the same ends are one
-module _ (p : ProblemLists) (lawful : IsProblem p) where
+module _ (p : ProblemLists) (lawful : IsWellFormed p) where
   apart : (i j : ℕ) (m n : Message) → i < j → j < length p.messages → get_or p.messages i m ≡ m → get_or p.messages j m ≡ n → m.send ≡ n.send → m.receive ≡ n.receive → ⊥
   apart i j m n below inside at at' from to =
       lawful.messages_differ i j m below inside (ap (λ (v : Message). v.send) at ∙ from ∙ sym (ap (λ (v : Message). v.send) at')) (ap (λ (v : Message). v.receive) at ∙ to ∙ sym (ap (λ (v : Message). v.receive) at'))

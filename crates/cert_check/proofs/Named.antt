@@ -7,7 +7,7 @@ use Rattle.problem_model.specs.declared.items.Clock.{Clock}
 use Rattle.problem_model.specs.declared.items.Event.{Event}
 use Rattle.problem_model.specs.declared.items.Node.TheVariants as nodes
 use Rattle.problem_model.specs.declared.items.Bound.TheVariants.{SpanMost, SpanLeast, Late, Early}
-use Rattle.problem_model.specs.Problem.{ProblemLists, IsProblem}
+use Rattle.problem_model.specs.Problem.{ProblemLists, IsWellFormed}
 use Rattle.problem_model.specs.Bounds.{Constraint, Declares, IsReading}
 use Rattle.problem_model.proofs.Walking.{clock_there}
 
@@ -19,7 +19,7 @@ pub on_ok : {A E : Type 0} (r : Result A E) (P : Type 0) → OnOk r P → true �
 on_ok (Ok a) P p is = p
 on_ok (Err e) P p is = absurd cc
 
-module _ (p : ProblemLists) (lawful : IsProblem p) where
+module _ (p : ProblemLists) (lawful : IsWellFormed p) where
   clock_of : (e : ℕ) (v : Event) → slice_get p.events e ≡ Some v → (c : Clock) × (slice_get p.clocks v.clock ≡ Some c)
   clock_of e v at = there_is p.clocks v.clock (clock_there p v.clock v.stamp lawful (v, (e, slice_get_within p.events e v at, get_or_from_slice_get p.events e v v at), refl, refl))
 

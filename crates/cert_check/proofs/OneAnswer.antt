@@ -5,7 +5,7 @@ use Rattle.std.proofs.lemmas.Int.{ints}
 use Rattle.std.proofs.lemmas.List.Elements.{All-head, All-tail}
 use Rattle.problem_model.specs.declared.items.Node.TheVariants as nodes
 use Rattle.problem_model.specs.declared.items.Bound.{Bound}
-use Rattle.problem_model.specs.Problem.{ProblemLists, IsProblem}
+use Rattle.problem_model.specs.Problem.{ProblemLists, IsWellFormed}
 use Rattle.problem_model.specs.Bounds.{Constraint, Declares, Times}
 use Rattle.problem_model.specs.Nodes.{Reading}
 use Rattle.problem_model.specs.Nodes as lists
@@ -39,7 +39,7 @@ first_one Good (c ∷ front) (d ∷ front') back back' b b' good good' bad bad' 
     first_one Good front front' back back' b b' (All-tail Good c front good) (All-tail Good d front' good') bad bad' rest
 
 -- ---- what an execution breaks first
-module _ (p : ProblemLists) (lawful : IsProblem p) (values : List ℤ) where
+module _ (p : ProblemLists) (lawful : IsWellFormed p) (values : List ℤ) where
   obeyed_too : (x y : Times) → lists.Lists p x values → lists.Lists p y values → (b : Bound) → ObeysNamed p y b → ObeysNamed p x b
   obeyed_too x y listed listed' b obeys c declares =
       let ends = declared_ends p b c lawful declares in
@@ -111,7 +111,7 @@ cut_one p part first second inside r o so so' = cut_cases p part first second in
     (λ b leaves' kinds turns. ap Leaves (first_one (λ c. IsLeaving p inside c → ⊥) leaves.front leaves'.front leaves.back leaves'.back a b leaves.within leaves'.within (λ not. not leaves.leaves) (λ not. not leaves'.leaves) (sym leaves.place ∙ leaves'.place))))
     r so o so'
 
-run_one : (p : ProblemLists) (lawful : IsProblem p) (part : Part) (values : List ℤ) (r o : Reason) → IsBrokenBy p values r → IsBrokenBy p values o → Same part r o
+run_one : (p : ProblemLists) (lawful : IsWellFormed p) (part : Part) (values : List ℤ) (r o : Reason) → IsBrokenBy p values r → IsBrokenBy p values o → Same part r o
 unfolding Same
 run_one p lawful part values r o so so' = broken_cases p values (λ r. (o : Reason) → IsBrokenBy p values o → Same part r o)
     (λ b w d is. broken_cases p values (Same part (Broken b w d)) (λ b' w' d' is' kinds turns. broken_one p lawful values b b' w w' d d' is is'))
@@ -130,7 +130,7 @@ difference_one p part first second value values within within' r o so so' = diff
     ap Difference (omega (arith, ints))))
     r so o so'
 
-module _ (p : ProblemLists) (lawful : IsProblem p) (part : Part) (is_path : part ≢ Cycle) (first second : ℕ) (within : first < length p.events) (within' : second < length p.events) where
+module _ (p : ProblemLists) (lawful : IsWellFormed p) (part : Part) (is_path : part ≢ Cycle) (first second : ℕ) (within : first < length p.events) (within' : second < length p.events) where
   end_one : (end : EndProof) (r o : Reason) → EndIs p part first second end r → EndIs p part first second end o → Same part r o
   unfolding Same
   end_one (At value path execution) r o (inl so) (inl so') kinds turns = path_one p part first second value path is_path r o so so' kinds turns
@@ -155,7 +155,7 @@ module _ (p : ProblemLists) (lawful : IsProblem p) (part : Part) (is_path : part
 SameAnswer : Part → Reason → Part → Reason → Type 0
 SameAnswer part r part' o = part_turn part ≡ part_turn part' → kind_turn r ≡ kind_turn o → step_turn part r ≡ step_turn part' o → No part r ≡ No part' o
 
-so_one : (p : ProblemLists) (lawful : IsProblem p) (c : Cert) (part part' : Part) (r o : Reason) → IsCertOf p c → IsSo p c part r → IsSo p c part' o → SameAnswer part r part' o
+so_one : (p : ProblemLists) (lawful : IsWellFormed p) (c : Cert) (part part' : Part) (r o : Reason) → IsCertOf p c → IsSo p c part r → IsSo p c part' o → SameAnswer part r part' o
 unfolding SameAnswer Same
 so_one p lawful (certs.Cycle steps) Cycle Cycle r o of so so' parts kinds turns = ap (No Cycle) (cycle_one p steps r o so so' kinds turns)
 so_one p lawful (certs.Cycle steps) Cycle Run r o of so so' parts kinds turns = absurd so'
@@ -192,7 +192,7 @@ at_once part part' r o (inr (same, inl before)) (inr (same', inr (kind, after)))
 at_once part part' r o (inr (same, inr (kind, before))) (inr (same', inl after)) = absurd (omega (arith, after, kind))
 at_once part part' r o (inr (same, inr (kind, before))) (inr (same', inr (kind', after))) = (same, kind, omega (arith, before, after))
 
-pub answer_one : (p : ProblemLists) (lawful : IsProblem p) (c : Cert) (a b : Answer) → IsCertOf p c → IsAnswer p c a → IsAnswer p c b → a ≡ b
+pub answer_one : (p : ProblemLists) (lawful : IsWellFormed p) (c : Cert) (a b : Answer) → IsCertOf p c → IsAnswer p c a → IsAnswer p c b → a ≡ b
 unfolding SameAnswer
 answer_one p lawful c Yes Yes of is is' = refl
 answer_one p lawful c Yes (No part o) of is is' = absurd (no_reason p lawful c part o of is'.is_so is)

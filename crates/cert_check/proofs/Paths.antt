@@ -5,7 +5,7 @@ use Rattle.std.proofs.lemmas.Bool.{cases_lt}
 use Rattle.std.proofs.lemmas.Option.{slice_get_within}
 use Rattle.problem_model.specs.declared.items.Node.{Node}
 use Rattle.problem_model.specs.declared.items.Node.TheVariants as nodes
-use Rattle.problem_model.specs.Problem.{ProblemLists, IsProblem}
+use Rattle.problem_model.specs.Problem.{ProblemLists, IsWellFormed}
 use Rattle.problem_model.specs.Bounds.{Constraint, Declares}
 use Rattle.problem_model.proofs.OneName.{declared_one}
 use Rattle.difference_bounds.specs.Solutions.{weight_of}
@@ -27,14 +27,14 @@ some_same : {X : Type 0} (a b : X) → Some a ≡ Some b → a ≡ b
 some_same a b e = cc
 
 -- where a step that is there should be entered
-should_there : (p : ProblemLists) (lawful : IsProblem p) (part : Part) (first : ℕ) (steps : List Step) (j : ℕ) (s : Step) (c : Constraint) (o : Node) → slice_get steps j ≡ Some s → Declares p s.bound c → ShouldBeAt p part first steps j o → o ≡ entry_of part c
+should_there : (p : ProblemLists) (lawful : IsWellFormed p) (part : Part) (first : ℕ) (steps : List Step) (j : ℕ) (s : Step) (c : Constraint) (o : Node) → slice_get steps j ≡ Some s → Declares p s.bound c → ShouldBeAt p part first steps j o → o ≡ entry_of part c
 should_there p lawful part first steps j s c o at declares (inl (end, is)) = let inside = slice_get_within steps j s at in absurd (omega (arith, end, inside))
 should_there p lawful part first steps j s c o at declares (inr (t, d, (k, next, at'), declares', is)) =
     let here : k ≡ j = omega (arith, next) in
     let same : t ≡ s = some_same t s (sym at' ∙ ap (slice_get steps) here ∙ at) in
     is ∙ ap (entry_of part) (declared_one p lawful s.bound d c (subst (λ (u : Step). Declares p u.bound d) same declares') declares)
 
-module _ (p : ProblemLists) (lawful : IsProblem p) (part : Part) (is_path : part ≢ Cycle) (first q : ℕ) (value : ℤ) (steps : List Step) (each : All (IsStepOf p) steps) where
+module _ (p : ProblemLists) (lawful : IsWellFormed p) (part : Part) (is_path : part ≢ Cycle) (first q : ℕ) (value : ℤ) (steps : List Step) (each : All (IsStepOf p) steps) where
   -- ---- a step astray
   module _ (k j : ℕ) (n : Node) (s : Step) (c : Constraint) (next : k ≡ j + 1) (goes : Goes p part (nodes.Event q) (weighed_bounds (take j steps)) n) (at : slice_get steps j ≡ Some s) (declares : Declares p s.bound c) where
     short : j ≤ length steps
@@ -139,7 +139,7 @@ module _ (p : ProblemLists) (lawful : IsProblem p) (part : Part) (is_path : part
     }
 
 -- a path that leads there with that sum has no fault
-pub path_sound : (p : ProblemLists) (part : Part) (first q : ℕ) (value : ℤ) (steps : List Step) → IsProblem p → part ≢ Cycle → All (IsStepOf p) steps → Goes p part (nodes.Event q) (weighed_bounds steps) (nodes.Event first)
+pub path_sound : (p : ProblemLists) (part : Part) (first q : ℕ) (value : ℤ) (steps : List Step) → IsWellFormed p → part ≢ Cycle → All (IsStepOf p) steps → Goes p part (nodes.Event q) (weighed_bounds steps) (nodes.Event first)
     → weight_of (weighed_bounds steps) ≡ sum_for part value → (r : Reason) → PathIs p part first q value steps r → ⊥
 path_sound p part first q value steps lawful is_path each goes sums = path_cases p part first q value steps (λ r. ⊥)
     (no_join p lawful part is_path first q value steps each (nodes.Event first) goes refl)

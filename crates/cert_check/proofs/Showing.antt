@@ -6,7 +6,7 @@ use Rattle.std.proofs.lemmas.Bool.{cases_eq}
 use Rattle.problem_model.specs.declared.items.Event.{Event}
 use Rattle.problem_model.specs.declared.items.Node.{Node}
 use Rattle.problem_model.specs.declared.items.Node.TheVariants as nodes
-use Rattle.problem_model.specs.Problem.{ProblemLists, IsProblem}
+use Rattle.problem_model.specs.Problem.{ProblemLists, IsWellFormed}
 use Rattle.problem_model.specs.Bounds.{Constraint, Times, IsExecution}
 use Rattle.problem_model.specs.Nodes as lists
 use Rattle.difference_bounds.specs.Solutions.{WeighedBound, Leads, weight_of}
@@ -18,7 +18,7 @@ use Rattle.cert_check.specs.Ends.{IsUpperOfAll, IsLowerOfAll}
 use Rattle.cert_check.proofs.Agreeing.{execution_agrees}
 use Rattle.cert_check.proofs.Cutting.{inside_by, inside_clock}
 
-pub run_is : (p : ProblemLists) (values : List ℤ) (x : Times) → IsProblem p → IsExecutionOf p values → lists.Lists p x values → IsExecution p x
+pub run_is : (p : ProblemLists) (values : List ℤ) (x : Times) → IsWellFormed p → IsExecutionOf p values → lists.Lists p x values → IsExecution p x
 run_is p values x lawful (y, listed, execution) listed' = execution_agrees p y x values listed listed' lawful execution
 
 -- ---- paths bound differences

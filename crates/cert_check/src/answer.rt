@@ -27,7 +27,8 @@ pub enum Reason {
     /// The sum of the steps' weights, which is not negative in a cycle, or not what the end of the interval asks for. It
     /// is below 2^115 in absolute value.
     Sum(i128),
-    /// The first bound of the short list that the execution breaks, its weight, and what `x_to - x_from` is.
+    /// The first bound of the short list that the execution breaks, its weight, which is below 2^93 in absolute value,
+    /// and what `x_to - x_from` is, at most 2^121.
     Broken {
         bound: Bound,
         weight: i128,

@@ -8,6 +8,8 @@ ghost use Rattle.cert.specs.Shows.{IsExecutionOf, Attains};
 ghost use Rattle.cert_check.specs.Reasons.{IsBrokenBy, DifferenceIs};
 ghost use Rattle.cert_check.specs.Faults.{FindsFault};
 ghost use Rattle.cert_check.specs.declared.answer.Part.{Part};
+ghost use Rattle.cert_check.specs.Sizes.{IsSmallReason};
+ghost use Rattle.std.specs.Prelude.{IfSome};
 
 use crate::answer::Reason;
 use crate::verdict::{Verdict, difference, event_time, obeys};
@@ -18,7 +20,8 @@ use problem::Problem;
 /// The first bound that an execution breaks.
 pub fn run_fault(p: &Problem, execution: &Execution) -> Option<Reason>
     requires { HasOneEach p.now execution.now }
-    ensures { (part : Part) → FindsFault part (IsBrokenBy p.now execution.now) (IsExecutionOf p.now execution.now) result }
+    ensures found { (part : Part) → FindsFault part (IsBrokenBy p.now execution.now) (IsExecutionOf p.now execution.now) result }
+    ensures small { IfSome result IsSmallReason }
 {
     match obeys(p, execution) {
         Verdict::Obeys => None,
@@ -45,8 +48,9 @@ fn difference_fault(
     requires each { HasOneEach p.now execution.now }
     requires first { first < length p.now.events }
     requires second { second < length p.now.events }
-    ensures { (part : Part) → FindsFault part (DifferenceIs p.now first second value execution.now)
+    ensures found { (part : Part) → FindsFault part (DifferenceIs p.now first second value execution.now)
         ((x : Times) → Lists p.now x execution.now → (x (nodes.Event second) -ℤ x (nodes.Event first)) ≡ value) result }
+    ensures small { IfSome result IsSmallReason }
 {
     let from = event_time(p, execution, first);
     let to = event_time(p, execution, second);
@@ -70,8 +74,9 @@ pub fn attained_fault(
     requires each { HasOneEach p.now execution.now }
     requires first { first < length p.now.events }
     requires second { second < length p.now.events }
-    ensures { (part : Part) → FindsFault part (λ r. IsBrokenBy p.now execution.now r ⊎ DifferenceIs p.now first second value execution.now r)
+    ensures found { (part : Part) → FindsFault part (λ r. IsBrokenBy p.now execution.now r ⊎ DifferenceIs p.now first second value execution.now r)
         (Attains p.now first second value execution.now) result }
+    ensures small { IfSome result IsSmallReason }
 {
     let _ = p.events();
     match run_fault(p, execution) {

@@ -7,6 +7,8 @@ ghost use Rattle.cert_check.specs.declared.answer.Part.TheVariants as parts;
 ghost use Rattle.cert_check.specs.declared.answer.Answer.TheVariants as answers;
 ghost use Rattle.cert_check.specs.Reasons.{EndIs, IsAnswer};
 ghost use Rattle.cert_check.specs.Faults.{FindsFault, ShowsEnd, answer_of};
+ghost use Rattle.cert_check.specs.Sizes.{IsSmallReason, IsSmallAnswer};
+ghost use Rattle.std.specs.Prelude.{IfSome};
 
 use crate::answer::{Answer, Part, Reason};
 use crate::attained::{attained_fault, run_fault};
@@ -22,7 +24,8 @@ fn end_fault(p: &Problem, part: Part, first: u32, second: u32, end: &EndProof) -
     requires first { first < length p.now.events }
     requires second { second < length p.now.events }
     requires lawful { IsEndOf p.now end.now }
-    ensures { FindsFault part (EndIs p.now part first second end.now) (ShowsEnd p.now part first second end.now) result }
+    ensures found { FindsFault part (EndIs p.now part first second end.now) (ShowsEnd p.now part first second end.now) result }
+    ensures small { IfSome result IsSmallReason }
 {
     let _ = p.events();
     match end {
@@ -56,7 +59,8 @@ fn answer(part: Part, fault: Option<Reason>) -> Answer
 // The answer of both ends of an interval, the upper one first.
 fn ends_answer(p: &Problem, first: u32, second: u32, upper: &EndProof, lower: &EndProof) -> Answer
     requires { IsCertOf p.now (certs.Ends first second upper.now lower.now) }
-    ensures { IsAnswer p.now (certs.Ends first second upper.now lower.now) result }
+    ensures answer { IsAnswer p.now (certs.Ends first second upper.now lower.now) result }
+    ensures small { IsSmallAnswer result }
 {
     let _ = p.events();
     match end_fault(p, Part::Upper, first, second, upper) {
@@ -68,12 +72,13 @@ fn ends_answer(p: &Problem, first: u32, second: u32, upper: &EndProof, lower: &E
 /// Whether a certificate of `p` shows what it should, or the first reason why it does not: in a cycle no steps, then for
 /// each step its weight and its join, then the sum; of an execution the first bound of the short list that it breaks; of
 /// the end of an interval, the upper one first, for each step its join and its weight, then the last join, the sum, the
-/// execution and its difference, or the clocks of the two events, the bounds that leave the cut, and the execution. It
-/// takes no memory.
+/// execution and its difference, or the clocks of the two events, the bounds that leave the cut, and the execution.
+/// Sums that it tells are below 2^115 in absolute value, weights below 2^93, differences at most 2^121. It takes no memory.
 pub fn check(p: &Problem, c: &Cert) -> Answer
     requires { IsCertOf p.now c.now }
     ensures answer { IsAnswer p.now c.now result }
     ensures exact { Shows p.now c.now → result ≡ answers.Yes }
+    ensures small { IsSmallAnswer result }
 {
     let _ = p.events();
     match c {

@@ -2,12 +2,14 @@
 ghost use Rattle.std.specs.Prelude.{◌≡◌, ◌↔◌, ◌<◌, ℕ, List, [], ◌∷◌, Contains, AllPairs, IsTrue, length};
 ghost use Rattle.std.specs.List.{flat_map};
 ghost use Rattle.problem_model.specs.declared.items.Node.TheVariants as nodes;
-ghost use Rattle.problem_model.specs.Problem.{ProblemLists, IsProblem};
+ghost use Rattle.problem_model.specs.Problem.{ProblemLists, IsWellFormed};
 ghost use Rattle.problem_model.specs.Bounds.{Constraint, Declares};
 ghost use Rattle.problem_model.specs.ShortList.{most_bound, message_bounds};
 ghost use Rattle.cert.specs.Shows.{IsInside, Parts};
 ghost use Rattle.cert_check.specs.Reasons.{home_of, away_of, CutIs};
 ghost use Rattle.cert_check.specs.Faults.{FindsFault, FindsLeaving};
+ghost use Rattle.cert_check.specs.Sizes.{IsSmallReason};
+ghost use Rattle.std.specs.Prelude.{IfSome};
 
 use crate::answer::{Part, Reason};
 use problem::{Bound, Message, Problem};
@@ -31,7 +33,7 @@ fn is_inside(p: &Problem, inside: &[u32], event: u32) -> bool
 
 // The bound, where it leads from a node inside to one outside.
 fn crossing(bound: Bound, from: bool, to: bool) -> Option<Bound>
-    ensures { (p : ProblemLists) (inside : List ℕ) (c : Constraint) → IsProblem p → Declares p bound c → (IsTrue from ↔ IsInside p inside c.from) → (IsTrue to ↔ IsInside p inside c.to)
+    ensures { (p : ProblemLists) (inside : List ℕ) (c : Constraint) → IsWellFormed p → Declares p bound c → (IsTrue from ↔ IsInside p inside c.from) → (IsTrue to ↔ IsInside p inside c.to)
         → FindsLeaving p inside (bound ∷ []) result }
 {
     if from && !to { Some(bound) } else { None }
@@ -39,7 +41,7 @@ fn crossing(bound: Bound, from: bool, to: bool) -> Option<Bound>
 
 // The bound on the greatest delay of a message, where there is one and it leads out.
 fn leaving_most(message: &Message, send: bool, receive: bool) -> Option<Bound>
-    ensures { (p : ProblemLists) (inside : List ℕ) → IsProblem p → Contains p.messages message.now → (IsTrue send ↔ IsInside p inside (nodes.Event message.now.send)) → (IsTrue receive ↔ IsInside p inside (nodes.Event message.now.receive))
+    ensures { (p : ProblemLists) (inside : List ℕ) → IsWellFormed p → Contains p.messages message.now → (IsTrue send ↔ IsInside p inside (nodes.Event message.now.send)) → (IsTrue receive ↔ IsInside p inside (nodes.Event message.now.receive))
         → FindsLeaving p inside (most_bound message.now message.now.most) result }
 {
     match message.most {
@@ -56,7 +58,7 @@ fn leaving_most(message: &Message, send: bool, receive: bool) -> Option<Bound>
 
 // The first bound of a message that leads out.
 fn leaving_bound(message: &Message, send: bool, receive: bool) -> Option<Bound>
-    ensures { (p : ProblemLists) (inside : List ℕ) → IsProblem p → Contains p.messages message.now → (IsTrue send ↔ IsInside p inside (nodes.Event message.now.send)) → (IsTrue receive ↔ IsInside p inside (nodes.Event message.now.receive))
+    ensures { (p : ProblemLists) (inside : List ℕ) → IsWellFormed p → Contains p.messages message.now → (IsTrue send ↔ IsInside p inside (nodes.Event message.now.send)) → (IsTrue receive ↔ IsInside p inside (nodes.Event message.now.receive))
         → FindsLeaving p inside (message_bounds message.now) result }
 {
     match leaving_most(message, send, receive) {
@@ -112,7 +114,8 @@ pub fn cut_fault(p: &Problem, part: Part, first: u32, second: u32, inside: &[u32
     requires rising { AllPairs (λ j k. j < k) inside.now }
     requires first { first < length p.now.events }
     requires second { second < length p.now.events }
-    ensures { FindsFault part (CutIs p.now part first second inside.now) (Parts p.now inside.now (home_of part first second) (away_of part first second)) result }
+    ensures found { FindsFault part (CutIs p.now part first second inside.now) (Parts p.now inside.now (home_of part first second) (away_of part first second)) result }
+    ensures small { IfSome result IsSmallReason }
 {
     let _ = p.events();
     if !is_inside(p, inside, home_of(part, first, second)) {

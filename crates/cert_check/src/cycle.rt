@@ -1,6 +1,6 @@
 // What is wrong with a cycle.
-ghost use Rattle.std.specs.Prelude.{◌≡◌, ◌<◌, List, All, length, slice_get, Some};
-ghost use Rattle.problem_model.specs.Problem.{ProblemLists, IsProblem};
+ghost use Rattle.std.specs.Prelude.{◌≡◌, ◌<◌, ◌^◌, unsigned_abs, List, All, length, slice_get, Some};
+ghost use Rattle.problem_model.specs.Problem.{ProblemLists, IsWellFormed};
 ghost use Rattle.problem_model.specs.Bounds.{Constraint, Declares};
 ghost use Rattle.difference_bounds.specs.Solutions.{IsContradictionOf};
 ghost use Rattle.cert.specs.declared.chain.Step.{Step};
@@ -11,6 +11,8 @@ ghost use Rattle.cert_check.specs.declared.walk.Walk.TheVariants as walks;
 ghost use Rattle.cert_check.specs.Walks.{IsWalk};
 ghost use Rattle.cert_check.specs.Reasons.{CycleIs};
 ghost use Rattle.cert_check.specs.Faults.{FindsFault};
+ghost use Rattle.cert_check.specs.Sizes.{IsSmallReason};
+ghost use Rattle.std.specs.Prelude.{IfSome};
 
 use crate::answer::{Part, Reason};
 use crate::declared::declared;
@@ -20,8 +22,10 @@ use problem::{Node, Problem};
 
 // What is wrong with a cycle whose walk from where the first step comes from went over all so many steps.
 fn closing_fault(start: &Node, held: Held, count: u32) -> Option<Reason>
-    ensures { (p : ProblemLists) (steps : List Step) (f : Step) (a : Constraint) → IsProblem p → All (IsStepOf p) steps → count ≡ length steps → slice_get steps 0 ≡ Some f → Declares p f.bound a → a.from ≡ start.now
+    requires { unsigned_abs held.sum < 2 ^ 115 }
+    ensures found { (p : ProblemLists) (steps : List Step) (f : Step) (a : Constraint) → IsWellFormed p → All (IsStepOf p) steps → count ≡ length steps → slice_get steps 0 ≡ Some f → Declares p f.bound a → a.from ≡ start.now
         → IsWalk p parts.Cycle start.now steps (walks.Arrived held) → FindsFault parts.Cycle (CycleIs p steps) (IsContradictionOf p (weighed_bounds steps)) result }
+    ensures small { IfSome result IsSmallReason }
 {
     if held.node != *start {
         return Some(Reason::Join(count));
@@ -46,7 +50,8 @@ fn start_of(p: &Problem, chain: &Chain) -> Node
 /// What is wrong with a cycle.
 pub fn cycle_fault(p: &Problem, chain: &Chain) -> Option<Reason>
     requires { All (IsStepOf p.now) chain.now }
-    ensures { FindsFault parts.Cycle (CycleIs p.now chain.now) (IsContradictionOf p.now (weighed_bounds chain.now)) result }
+    ensures found { FindsFault parts.Cycle (CycleIs p.now chain.now) (IsContradictionOf p.now (weighed_bounds chain.now)) result }
+    ensures small { IfSome result IsSmallReason }
 {
     let _ = p.events();
     if chain.is_empty() {

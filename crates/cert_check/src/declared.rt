@@ -1,7 +1,7 @@
 // What a problem declares under the name of a bound.
 ghost use Rattle.std.specs.Prelude.{◌≡◌, ◌<◌, ◌^◌, ℕ, Some, length, Contains, unsigned_abs};
 ghost use Rattle.problem_model.specs.declared.items.Bound.TheVariants as bounds;
-ghost use Rattle.problem_model.specs.Problem.{ProblemLists, IsProblem};
+ghost use Rattle.problem_model.specs.Problem.{ProblemLists, IsWellFormed};
 ghost use Rattle.problem_model.specs.Bounds.{Constraint, Declares, ClockAt, EventAt, IsReading};
 ghost use Rattle.problem.specs.Line.{HasMessage};
 ghost use Rattle.cert_check.specs.Walks.{constraint, HasMessageBetween};
@@ -126,7 +126,7 @@ fn message_between(p: &Problem, send: u32, receive: u32) -> &Message
     ensures message { Contains p.now.messages result.now }
     ensures send { result.now.send ≡ send }
     ensures receive { result.now.receive ≡ receive }
-    ensures lawful { IsProblem p.now }
+    ensures formed { IsWellFormed p.now }
 {
     &p.messages()[message_place(p, send, receive) as usize]
 }
@@ -141,6 +141,20 @@ fn slowest_between(p: &Problem, send: u32, receive: u32) -> Declaration
     match message.most {
         Some(most) => slowest(message, most),
         None => quickest(message),
+    }
+}
+
+// Clocks of a problem do not follow each other, so it declares no such bound.
+fn no_follow(p: &Problem, earlier: u32, s: Nano, later: u32, t: Nano) -> Declaration
+    requires { (c : Constraint) × Declares p.now (bounds.Follow earlier s later t) c }
+    ensures declares { Declares p.now (bounds.Follow earlier s later t) (constraint result) }
+    ensures below { unsigned_abs result.weight < 2 ^ 93 }
+{
+    let _ = p.events();
+    Declaration {
+        from: Node::Reading(later, t),
+        to: Node::Reading(earlier, s),
+        weight: 0,
     }
 }
 
@@ -161,6 +175,12 @@ pub fn declared(p: &Problem, bound: &Bound) -> Declaration
             let event = event_at(p, place);
             earliest(place, event, clock_at(p, event.clock))
         }
+        Bound::Follow {
+            earlier,
+            s,
+            later,
+            t,
+        } => no_follow(p, earlier, s, later, t),
         Bound::DelayMost { send, receive } => slowest_between(p, send, receive),
         Bound::DelayLeast { send, receive } => quickest(message_between(p, send, receive)),
     }

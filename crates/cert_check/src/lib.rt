@@ -9,13 +9,12 @@ mod cycle;
 mod declared;
 mod laws;
 mod path;
+mod text;
 mod verdict;
 mod walk;
 
 pub use answer::{Answer, Part, Reason};
 pub use checking::check;
 pub use laws::{reasons, soundness};
+pub use text::check_text;
 pub use verdict::{Verdict, obeys};
-
-#[cfg(test)]
-mod tests;

@@ -1,7 +1,7 @@
 // What is wrong with the path that shows the end of an interval.
-ghost use Rattle.std.specs.Prelude.{◌≡◌, ◌≢◌, ◌≤◌, ◌^◌, ℕ, List, All, length};
+ghost use Rattle.std.specs.Prelude.{◌≡◌, ◌≢◌, ◌≤◌, ◌<◌, ◌^◌, unsigned_abs, ℕ, List, All, length};
 ghost use Rattle.problem_model.specs.declared.items.Node.TheVariants as nodes;
-ghost use Rattle.problem_model.specs.Problem.{ProblemLists, IsProblem};
+ghost use Rattle.problem_model.specs.Problem.{ProblemLists, IsWellFormed};
 ghost use Rattle.difference_bounds.specs.Solutions.{weight_of};
 ghost use Rattle.cert.specs.declared.chain.Step.{Step};
 ghost use Rattle.cert.specs.CertificateText.{IsStepOf};
@@ -11,6 +11,9 @@ ghost use Rattle.cert_check.specs.declared.walk.Walk.TheVariants as walks;
 ghost use Rattle.cert_check.specs.Walks.{Goes, IsWalk};
 ghost use Rattle.cert_check.specs.Reasons.{sum_for, PathIs};
 ghost use Rattle.cert_check.specs.Faults.{FindsFault};
+ghost use Rattle.cert_check.specs.Sizes.{IsSmallReason};
+ghost use Rattle.std.specs.Prelude.{IfSome};
+ghost use Rattle.cert.specs.Sizes.{most_steps};
 
 use crate::answer::{Part, Reason};
 use crate::walk::{Held, Walk, walk_over};
@@ -30,10 +33,12 @@ fn sum_for(part: Part, value: Units) -> i128
 
 // What is wrong with a path that went over so many steps.
 fn arrival_fault(part: Part, held: Held, first: u32, value: Units, count: u32) -> Option<Reason>
-    requires { count ≤ 2 ^ 22 }
-    ensures { (p : ProblemLists) (second : ℕ) (steps : List Step) → IsProblem p → part ≢ parts.Cycle → All (IsStepOf p) steps → count ≡ length steps → IsWalk p part (nodes.Event second) steps (walks.Arrived held)
+    requires few { count ≤ most_steps }
+    requires low { unsigned_abs held.sum < 2 ^ 115 }
+    ensures found { (p : ProblemLists) (second : ℕ) (steps : List Step) → IsWellFormed p → part ≢ parts.Cycle → All (IsStepOf p) steps → count ≡ length steps → IsWalk p part (nodes.Event second) steps (walks.Arrived held)
         → FindsFault part (PathIs p part first second value steps)
         (Goes p part (nodes.Event second) (weighed_bounds steps) (nodes.Event first) × (weight_of (weighed_bounds steps) ≡ sum_for part value)) result }
+    ensures small { IfSome result IsSmallReason }
 {
     if held.node != Node::Event(first) {
         return Some(Reason::Join(count + 1));
@@ -56,8 +61,9 @@ pub fn path_fault(
 ) -> Option<Reason>
     requires part { part ≢ parts.Cycle }
     requires steps { All (IsStepOf p.now) path.now }
-    ensures { FindsFault part (PathIs p.now part first second value path.now)
+    ensures found { FindsFault part (PathIs p.now part first second value path.now)
         (Goes p.now part (nodes.Event second) (weighed_bounds path.now) (nodes.Event first) × (weight_of (weighed_bounds path.now) ≡ sum_for part value)) result }
+    ensures small { IfSome result IsSmallReason }
 {
     let _ = p.events();
     match walk_over(p, part, &Node::Event(second), path) {

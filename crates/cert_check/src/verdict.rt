@@ -1,6 +1,6 @@
 // Judges an execution by the bounds of a problem.
 ghost use Rattle.std.specs.Prelude.{◌≡◌, ◌<◌, ◌+◌, ℕ, List, [], ◌∷◌, length, slice_get, Some, Contains, ◌-ℤ◌, ◌≤◌, ◌^◌, unsigned_abs};
-ghost use Rattle.problem_model.specs.Problem.{IsProblem, ProblemLists};
+ghost use Rattle.problem_model.specs.Problem.{IsWellFormed, ProblemLists};
 ghost use Rattle.problem_model.specs.Bounds.{Constraint, Declares, Times, ClockAt, EventAt, IsReading};
 ghost use Rattle.problem_model.specs.Nodes.{Reading, AreReadings, Lists};
 ghost use Rattle.problem_model.specs.ShortList.{neighbour_bounds, span_bounds, event_bounds, message_bounds, most_bound};
@@ -9,6 +9,7 @@ ghost use Rattle.problem_model.specs.declared.items.Node.TheVariants as nodes;
 ghost use Rattle.problem_model.specs.declared.items.Bound.TheVariants.{Late, Early};
 ghost use Rattle.cert.specs.CertificateText.{HasOneEach};
 ghost use Rattle.cert_check.specs.Verdict.{Judges, IsVerdict, AreTimes};
+ghost use Rattle.cert_check.specs.Sizes.{IsSmallVerdict};
 
 use atto::{Nano, Units, delay_units, span_least, span_most};
 use cert::Execution;
@@ -37,7 +38,9 @@ pub(crate) fn difference(from: Units, to: Units) -> i128
 
 // Judges one bound by the real times of its ends.
 fn judge(bound: Bound, weight: i128, from: Units, to: Units) -> Verdict
-    ensures { (p : ProblemLists) (x : Times) (a : Constraint) → IsProblem p → Declares p bound a → a.weight ≡ weight → x a.from ≡ from → x a.to ≡ to → Judges p x (bound ∷ []) result }
+    requires { unsigned_abs weight < 2 ^ 93 }
+    ensures verdict { (p : ProblemLists) (x : Times) (a : Constraint) → IsWellFormed p → Declares p bound a → a.weight ≡ weight → x a.from ≡ from → x a.to ≡ to → Judges p x (bound ∷ []) result }
+    ensures small { IsSmallVerdict result }
 {
     let difference = difference(from, to);
     if difference <= weight {
@@ -54,8 +57,9 @@ fn judge(bound: Bound, weight: i128, from: Units, to: Units) -> Verdict
 // Judges the two bounds over the span of neighbouring readings of one clock.
 fn judge_span(place: u32, clock: &Clock, s: Nano, t: Nano, from: Units, to: Units) -> Verdict
     requires { s < t }
-    ensures { (p : ProblemLists) (x : Times) → IsProblem p → ClockAt p place clock.now → IsReading p place s → IsReading p place t → x (nodes.Reading place s) ≡ from → x (nodes.Reading place t) ≡ to
+    ensures verdict { (p : ProblemLists) (x : Times) → IsWellFormed p → ClockAt p place clock.now → IsReading p place s → IsReading p place t → x (nodes.Reading place s) ≡ from → x (nodes.Reading place t) ≡ to
         → Judges p x (neighbour_bounds (place, s) (place, t)) result }
+    ensures small { IsSmallVerdict result }
 {
     let most = Bound::SpanMost { clock: place, s, t };
     match judge(most, span_most(clock.rate, s, t), from, to) {
@@ -69,8 +73,9 @@ fn judge_span(place: u32, clock: &Clock, s: Nano, t: Nano, from: Units, to: Unit
 
 // Judges the two bounds on the stamp of an event.
 fn judge_stamp(place: u32, event: &Event, clock: &Clock, reading: Units, time: Units) -> Verdict
-    ensures { (p : ProblemLists) (x : Times) → IsProblem p → EventAt p place event.now → ClockAt p event.now.clock clock.now → x (nodes.Reading event.now.clock event.now.stamp) ≡ reading → x (nodes.Event place) ≡ time
+    ensures verdict { (p : ProblemLists) (x : Times) → IsWellFormed p → EventAt p place event.now → ClockAt p event.now.clock clock.now → x (nodes.Reading event.now.clock event.now.stamp) ≡ reading → x (nodes.Event place) ≡ time
         → Judges p x (Late place ∷ Early place ∷ []) result }
+    ensures small { IsSmallVerdict result }
 {
     match judge(Bound::Late(place), delay_units(clock.late), reading, time) {
         Verdict::Obeys => judge(Bound::Early(place), delay_units(clock.early), time, reading),
@@ -80,8 +85,9 @@ fn judge_stamp(place: u32, event: &Event, clock: &Clock, reading: Units, time: U
 
 // Judges the bound on the greatest delay of a message, where there is one.
 fn judge_most(message: &Message, send: Units, receive: Units) -> Verdict
-    ensures { (p : ProblemLists) (x : Times) → IsProblem p → Contains p.messages message.now → x (nodes.Event message.now.send) ≡ send → x (nodes.Event message.now.receive) ≡ receive
+    ensures verdict { (p : ProblemLists) (x : Times) → IsWellFormed p → Contains p.messages message.now → x (nodes.Event message.now.send) ≡ send → x (nodes.Event message.now.receive) ≡ receive
         → Judges p x (most_bound message.now message.now.most) result }
+    ensures small { IsSmallVerdict result }
 {
     match message.most {
         Some(most) => {
@@ -97,8 +103,9 @@ fn judge_most(message: &Message, send: Units, receive: Units) -> Verdict
 
 // Judges the bounds on the delay of a message.
 fn judge_message(message: &Message, send: Units, receive: Units) -> Verdict
-    ensures { (p : ProblemLists) (x : Times) → IsProblem p → Contains p.messages message.now → x (nodes.Event message.now.send) ≡ send → x (nodes.Event message.now.receive) ≡ receive
+    ensures verdict { (p : ProblemLists) (x : Times) → IsWellFormed p → Contains p.messages message.now → x (nodes.Event message.now.send) ≡ send → x (nodes.Event message.now.receive) ≡ receive
         → Judges p x (message_bounds message.now) result }
+    ensures small { IsSmallVerdict result }
 {
     match judge_most(message, send, receive) {
         Verdict::Obeys => {
@@ -133,8 +140,9 @@ fn judge_neighbours(
 ) -> Verdict
     requires clock { a.0 < length clocks.now }
     requires rising { a.0 ≡ b.0 → a.1 < b.1 }
-    ensures { (p : ProblemLists) (x : Times) → IsProblem p → clocks.now ≡ p.clocks → IsReading p a.0 a.1 → IsReading p b.0 b.1 → x (nodes.Reading a.0 a.1) ≡ from → x (nodes.Reading b.0 b.1) ≡ to
+    ensures verdict { (p : ProblemLists) (x : Times) → IsWellFormed p → clocks.now ≡ p.clocks → IsReading p a.0 a.1 → IsReading p b.0 b.1 → x (nodes.Reading a.0 a.1) ≡ from → x (nodes.Reading b.0 b.1) ≡ to
         → Judges p x (neighbour_bounds a b) result }
+    ensures small { IsSmallVerdict result }
 {
     if a.0 != b.0 {
         return Verdict::Obeys;
@@ -163,7 +171,8 @@ pub(crate) fn event_time(p: &Problem, e: &Execution, place: u32) -> Units
 // Judges the bounds over the spans of neighbouring readings.
 fn judge_spans(p: &Problem, e: &Execution) -> Verdict
     requires { HasOneEach p.now e.now }
-    ensures { (x : Times) (readings : List Reading) → AreTimes p.now x readings e.now → Judges p.now x (span_bounds readings) result }
+    ensures verdict { (x : Times) (readings : List Reading) → AreTimes p.now x readings e.now → Judges p.now x (span_bounds readings) result }
+    ensures small { IsSmallVerdict result }
 {
     let clocks = p.clocks();
     let readings = p.readings();
@@ -182,7 +191,8 @@ fn judge_spans(p: &Problem, e: &Execution) -> Verdict
 // Judges the bounds on the stamps of events.
 fn judge_stamps(p: &Problem, e: &Execution) -> Verdict
     requires { HasOneEach p.now e.now }
-    ensures { (x : Times) (readings : List Reading) → AreTimes p.now x readings e.now → Judges p.now x (event_bounds 0 p.now.events) result }
+    ensures verdict { (x : Times) (readings : List Reading) → AreTimes p.now x readings e.now → Judges p.now x (event_bounds 0 p.now.events) result }
+    ensures small { IsSmallVerdict result }
 {
     let clocks = p.clocks();
     for (place, event) in p.events().iter().enumerate() {
@@ -200,7 +210,8 @@ fn judge_stamps(p: &Problem, e: &Execution) -> Verdict
 // Judges the bounds on the delays of messages.
 fn judge_messages(p: &Problem, e: &Execution) -> Verdict
     requires { HasOneEach p.now e.now }
-    ensures { (x : Times) (readings : List Reading) → AreTimes p.now x readings e.now → Judges p.now x (flat_map message_bounds p.now.messages) result }
+    ensures verdict { (x : Times) (readings : List Reading) → AreTimes p.now x readings e.now → Judges p.now x (flat_map message_bounds p.now.messages) result }
+    ensures small { IsSmallVerdict result }
 {
     for message in p.messages() {
         let send = event_time(p, e, message.send);
@@ -214,11 +225,14 @@ fn judge_messages(p: &Problem, e: &Execution) -> Verdict
 }
 
 /// Whether an execution of `p` obeys every bound that `p` declares, between every two readings of a clock; else the
-/// first bound of the short list that it breaks. It takes no memory.
+/// first bound of the short list that it breaks. Its weight is then below 2^93 in absolute value, and the difference at
+/// most 2^121. It takes no memory.
 pub fn obeys(p: &Problem, e: &Execution) -> Verdict
     requires { HasOneEach p.now e.now }
-    ensures { (x : Times) → Lists p.now x e.now → IsVerdict p.now x result }
+    ensures verdict { (x : Times) → Lists p.now x e.now → IsVerdict p.now x result }
+    ensures small { IsSmallVerdict result }
 {
+    let _ = p.events();
     match judge_spans(p, e) {
         Verdict::Obeys => match judge_stamps(p, e) {
             Verdict::Obeys => judge_messages(p, e),

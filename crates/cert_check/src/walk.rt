@@ -1,7 +1,9 @@
 // Walks over the steps of a certificate.
-ghost use Rattle.std.specs.Prelude.{◌≡◌, ◌<◌, ◌≤◌, ◌^◌, ◌*◌, ◌+◌, ◌+ℤ◌, All, unsigned_abs};
+ghost use Rattle.std.specs.Prelude.{◌≡◌, ◌<◌, ◌≤◌, ◌^◌, ◌*◌, ◌+◌, ◌-◌, ◌+ℤ◌, All, unsigned_abs};
 ghost use Rattle.cert_check.specs.Walks.{constraint, entry_of, exit_of, IsWalk};
 ghost use Rattle.cert.specs.CertificateText.{IsStepOf};
+ghost use Rattle.cert_check.specs.Sizes.{IsSmallWalk};
+ghost use Rattle.cert.specs.Sizes.{most_steps};
 
 use crate::answer::Part;
 use crate::declared::{Declaration, declared};
@@ -48,12 +50,12 @@ pub struct Held {
 
 // Takes one step more, after so many.
 fn onward(part: Part, held: Held, bound: &Declaration, taken: usize) -> Held
-    requires small { unsigned_abs held.sum ≤ taken * 2 ^ 93 }
-    requires few { taken < 2 ^ 22 }
+    requires small { unsigned_abs held.sum ≤ taken * (2 ^ 93 - 1) }
+    requires few { taken < most_steps }
     requires below { unsigned_abs bound.now.weight < 2 ^ 93 }
     ensures node { result.node ≡ exit_of part (constraint bound.now) }
     ensures sum { result.sum ≡ held.sum +ℤ bound.now.weight }
-    ensures small { unsigned_abs result.sum ≤ (taken + 1) * 2 ^ 93 }
+    ensures small { unsigned_abs result.sum ≤ (taken + 1) * (2 ^ 93 - 1) }
 {
     Held {
         node: exit(part, bound),
@@ -62,10 +64,12 @@ fn onward(part: Part, held: Held, bound: &Declaration, taken: usize) -> Held
 }
 
 /// Walks over the steps from a node, in an upper part against their bounds and elsewhere along them. Each step must be
-/// entered where the walk has come to, and have the weight of its bound. It takes no memory.
+/// entered where the walk has come to, and have the weight of its bound. The sum of all is below 2^115 in absolute value.
+/// It takes no memory.
 pub fn walk_over(p: &Problem, part: Part, start: &Node, chain: &Chain) -> Walk
     requires { All (IsStepOf p.now) chain.now }
-    ensures { IsWalk p.now part start.now chain.now result }
+    ensures walk { IsWalk p.now part start.now chain.now result }
+    ensures small { IsSmallWalk result }
 {
     let count = chain.len();
     let steps = chain.steps();

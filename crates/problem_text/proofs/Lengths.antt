@@ -12,7 +12,8 @@ use Rattle.problem_model.specs.declared.items.Message.{Message}
 use Rattle.problem_model.specs.Name.{IsEventName, IsClockName}
 use Rattle.problem_model.specs.Problem.{ProblemLists, IsProblem, ClockFits, MessageFits}
 use Rattle.problem_model.specs.ProblemText.{problem_head, problem_text, clock_line, event_line, message_line, clock_name, event_name, most_word}
-use Rattle.cert.proofs.TextLengths.{line_size, lines_short}
+use Rattle.line_format.proofs.Lengths.{line_size, lines_short}
+use Rattle.line_format.specs.Format.{most_bytes}
 
 -- ---- words
 nano_short : (n : ℕ) → n < 2 ^ 62 → length (decimal_of n) ≤ 19
@@ -57,11 +58,11 @@ message_short es m events fits =
 added : (a b c d e : List ℕ) → length (a ++ b ++ c ++ d ++ e) ≡ length a + length b + length c + length d + length e
 added a b c d e = omega (arith, length-append (a ++ b ++ c ++ d) e, length-append (a ++ b ++ c) d, length-append (a ++ b) c, length-append a b)
 
-pub text_short : (p : ProblemLists) → IsProblem p → length (problem_text p) ≤ 2 ^ 30
+pub text_short : (p : ProblemLists) → IsProblem p → length (problem_text p) ≤ most_bytes
 text_short p lawful =
-    let clocks = lines_short clock_line 100 p.clocks (λ i d inside. clock_short (get_or p.clocks i d) (lawful.clock_names i d inside) (lawful.clocks_fit i d inside)) in
-    let events = lines_short (event_line p.clocks) 108 p.events (λ i d inside. event_short p.clocks (get_or p.events i d) lawful.clock_names (lawful.event_names i d inside) (lawful.stamps_fit i d inside)) in
-    let messages = lines_short (message_line p.events) 146 p.messages (λ i d inside. message_short p.events (get_or p.messages i d) lawful.event_names (lawful.messages_fit i d inside)) in
+    let clocks = lines_short clock_line 100 p.clocks (λ i d inside. clock_short (get_or p.clocks i d) (lawful.formed.clock_names i d inside) (lawful.fits.clocks_fit i d inside)) in
+    let events = lines_short (event_line p.clocks) 108 p.events (λ i d inside. event_short p.clocks (get_or p.events i d) lawful.formed.clock_names (lawful.formed.event_names i d inside) (lawful.fits.stamps_fit i d inside)) in
+    let messages = lines_short (message_line p.events) 146 p.messages (λ i d inside. message_short p.events (get_or p.messages i d) lawful.formed.event_names (lawful.fits.messages_fit i d inside)) in
     let sum : length (problem_text p) ≡ 10 + length (flat_map clock_line p.clocks) + length (flat_map (event_line p.clocks) p.events) + length (flat_map (message_line p.events) p.messages) + 4 =
     added (line_of problem_head) (flat_map clock_line p.clocks) (flat_map (event_line p.clocks) p.events) (flat_map (message_line p.events) p.messages) (line_of (codes "end" ∷ [])) in
-    omega (arith, sum, clocks, events, messages, lawful.clock_limit, lawful.event_limit, lawful.message_limit)
+    omega (arith, sum, clocks, events, messages, lawful.fits.clock_limit, lawful.fits.event_limit, lawful.fits.message_limit)

@@ -1,4 +1,3 @@
 pub mod Lengths
 pub mod ListedLines
 pub mod OneProblem
-pub mod Whole

@@ -5,8 +5,6 @@
 
 mod laws;
 mod lines;
-#[cfg(test)]
-mod tests;
 mod words;
 mod write;
 

@@ -1,7 +1,6 @@
 // The lines of a problem's text, each written in one piece.
-ghost use Rattle.std.specs.Prelude.{◌≤◌, OnOk, OnErr};
 ghost use Rattle.line_format.specs.Words.{line_of};
-ghost use Rattle.ports.specs.Content.{Rose, Appends, AppendsPrefix};
+ghost use Rattle.ports.specs.Content.{Writes};
 ghost use Rattle.problem_model.specs.ProblemText.{problem_head, clock_line};
 ghost use Rattle.problem.specs.Line.{line_words};
 ghost use Rattle.problem.specs.Line.Line.{EventLine, MessageLine, EndLine};
@@ -14,10 +13,7 @@ use problem::{Clock, Name};
 /// Writes the first line of the text of a problem, which names its version: `problem 1`. It takes no memory. After
 /// `Failed`, which comes only where the sink's count of faults rose, some front of the line is written.
 pub fn write_head<O: Sink>(out: &mut O) -> Result<(), Failed>
-    ensures ok { OnOk result (Appends (O.written out.old) (O.written out.new) (line_of problem_head)) }
-    ensures err { OnErr result (AppendsPrefix (O.written out.old) (O.written out.new) (line_of problem_head)) }
-    ensures cause { OnErr result (Rose (O.faults out.old) (O.faults out.new)) }
-    ensures no_fall { O.faults out.old ≤ O.faults out.new }
+    ensures { Writes (line_of problem_head) (O.told out.old) (O.told out.new) result }
 {
     write_whole(out, b"problem 1\n")
 }
@@ -26,10 +22,7 @@ pub fn write_head<O: Sink>(out: &mut O) -> Result<(), Failed>
 /// event may come early and late. It takes no memory. After `Failed`, which comes only where the sink's count of faults
 /// rose, some front of the line is written.
 pub fn write_clock<O: Sink>(c: &Clock, out: &mut O) -> Result<(), Failed>
-    ensures ok { OnOk result (Appends (O.written out.old) (O.written out.new) (clock_line c.now)) }
-    ensures err { OnErr result (AppendsPrefix (O.written out.old) (O.written out.new) (clock_line c.now)) }
-    ensures cause { OnErr result (Rose (O.faults out.old) (O.faults out.new)) }
-    ensures no_fall { O.faults out.old ≤ O.faults out.new }
+    ensures { Writes (clock_line c.now) (O.told out.old) (O.told out.new) result }
 {
     let line = clock_line(c);
     write_whole(out, line.as_slice())
@@ -43,10 +36,7 @@ pub fn write_event<O: Sink>(
     stamp: Nano,
     out: &mut O,
 ) -> Result<(), Failed>
-    ensures ok { OnOk result (Appends (O.written out.old) (O.written out.new) (line_of (line_words (EventLine name.now clock.now stamp)))) }
-    ensures err { OnErr result (AppendsPrefix (O.written out.old) (O.written out.new) (line_of (line_words (EventLine name.now clock.now stamp)))) }
-    ensures cause { OnErr result (Rose (O.faults out.old) (O.faults out.new)) }
-    ensures no_fall { O.faults out.old ≤ O.faults out.new }
+    ensures { Writes (line_of (line_words (EventLine name.now clock.now stamp))) (O.told out.old) (O.told out.new) result }
 {
     let line = event_line(name, clock, stamp);
     write_whole(out, line.as_slice())
@@ -62,10 +52,7 @@ pub fn write_message<O: Sink>(
     most: Option<Nano>,
     out: &mut O,
 ) -> Result<(), Failed>
-    ensures ok { OnOk result (Appends (O.written out.old) (O.written out.new) (line_of (line_words (MessageLine send.now receive.now least most)))) }
-    ensures err { OnErr result (AppendsPrefix (O.written out.old) (O.written out.new) (line_of (line_words (MessageLine send.now receive.now least most)))) }
-    ensures cause { OnErr result (Rose (O.faults out.old) (O.faults out.new)) }
-    ensures no_fall { O.faults out.old ≤ O.faults out.new }
+    ensures { Writes (line_of (line_words (MessageLine send.now receive.now least most))) (O.told out.old) (O.told out.new) result }
 {
     let line = message_line(send, receive, least, most);
     write_whole(out, line.as_slice())
@@ -74,10 +61,7 @@ pub fn write_message<O: Sink>(
 /// Writes the last line of the text of a problem: `end`. It takes no memory. After `Failed`, which comes only where the
 /// sink's count of faults rose, some front of the line is written.
 pub fn write_end<O: Sink>(out: &mut O) -> Result<(), Failed>
-    ensures ok { OnOk result (Appends (O.written out.old) (O.written out.new) (line_of (line_words EndLine))) }
-    ensures err { OnErr result (AppendsPrefix (O.written out.old) (O.written out.new) (line_of (line_words EndLine))) }
-    ensures cause { OnErr result (Rose (O.faults out.old) (O.faults out.new)) }
-    ensures no_fall { O.faults out.old ≤ O.faults out.new }
+    ensures { Writes (line_of (line_words EndLine)) (O.told out.old) (O.told out.new) result }
 {
     write_whole(out, b"end\n")
 }

@@ -6,7 +6,7 @@ ghost use Rattle.problem.specs.Line.{line_words};
 ghost use Rattle.problem.specs.Line.Line.{EventLine, MessageLine};
 
 use atto::Nano;
-use cert::line::{Line, first_word, push_decimal, push_word};
+use line_words::line::{Line, first_word, push_decimal, push_word};
 use problem::{Clock, Name};
 
 // Appends a name behind a space.

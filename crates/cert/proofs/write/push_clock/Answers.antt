@@ -8,4 +8,4 @@ push_word-requires-clause-short g c = omega (arith, c.bytes.ensures.named.short,
 
 pub returns-clause-appended : goal.returns-clause-appended
 returns-clause-appended g c = λ first ws is.
-    c.push_word.ensures.appended first ws is ∙ ap (λ (w : List ℕ). words (first ∷ ws ++ w ∷ [])) (c.bytes.ensures.value ∙ name_found (g.N.Listing.clock_names c.args.names.now) c.args.clock _ c.clock_name-name.ensures)
+    c.push_word.ensures.appended first ws is ∙ ap (λ (w : List ℕ). words (first ∷ ws ++ w ∷ [])) (c.bytes.ensures.value ∙ name_found (g.N.Listing.listed c.args.names.now).clock_names c.args.clock _ c.clock_name-name.ensures)

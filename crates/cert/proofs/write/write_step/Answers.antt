@@ -3,12 +3,7 @@ use mir.Syntax.{w128}
 use mir.Val.{SFits}
 use Rattle.cert.proofs.write.write_step.Goals as goal
 
-pub returns-clause-ok : goal.returns-clause-ok
-returns-clause-ok g c =
+pub returns : goal.returns
+returns g c =
     let fits : SFits w128 c.args.weight = c.ranges.weight in
-    rw (simp to_z-of_z at c.step_line-line.ensures) at (rw c.as_slice.ensures.value at c.write_whole.ensures.ok)
-
-pub returns-clause-err : goal.returns-clause-err
-returns-clause-err g c =
-    let fits : SFits w128 c.args.weight = c.ranges.weight in
-    rw (simp to_z-of_z at c.step_line-line.ensures) at (rw c.as_slice.ensures.value at c.write_whole.ensures.err)
+    rw (simp to_z-of_z at c.step_line-line.ensures) at (rw c.as_slice.ensures.value at c.write_whole.ensures)

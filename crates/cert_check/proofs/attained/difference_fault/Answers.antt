@@ -9,8 +9,8 @@ use Rattle.cert_check.specs.Verdict.{AreTimes}
 use Rattle.cert_check.proofs.Agreeing.{difference_first}
 use Rattle.cert_check.proofs.attained.difference_fault.Goals as goal
 
-pub returns-then-difference-get : goal.returns-then-difference-get
-returns-then-difference-get c = λ part x lists.
+pub returns-then-difference-get-clause-found : goal.returns-then-difference-get-clause-found
+returns-then-difference-get-clause-found c = λ part x lists.
     let times : AreTimes c.args.p.now x lists.0 c.args.execution.now = record { are_readings = lists.1; listed = lists.2 } in
     let from : x (nodes.Event c.args.first) ≡ c.event_time-from.result = c.event_time-from.ensures x lists.0 times in
     let to : x (nodes.Event c.args.second) ≡ c.event_time-to.result = c.event_time-to.ensures x lists.0 times in
@@ -19,8 +19,8 @@ returns-then-difference-get c = λ part x lists.
     let value : c.get.result ≡ c.args.value = c.get.ensures.value in
     omega (arith, ints)
 
-pub returns-else-difference-get : goal.returns-else-difference-get
-returns-else-difference-get c = λ part.
+pub returns-else-difference-get-clause-found : goal.returns-else-difference-get-clause-found
+returns-else-difference-get-clause-found c = λ part.
     let some = listed c.args.p.now c.requires.each.0 c.args.execution.now c.requires.each.1 c.requires.each.2 in
     let x = some.0 in
     let lists = some.1 in

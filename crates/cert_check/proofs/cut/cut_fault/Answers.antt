@@ -6,8 +6,8 @@ use Rattle.cert_check.specs.Reasons.{away_of}
 use Rattle.cert_check.proofs.Cutting.{leaves_first, cut_is}
 use Rattle.cert_check.proofs.cut.cut_fault.Goals as goal
 
-pub returns-in-Some : goal.returns-in-Some
-returns-in-Some c =
+pub returns-in-Some-clause-found : goal.returns-in-Some-clause-found
+returns-in-Some-clause-found c =
     let p = c.args.p.now in
     let inside = c.args.inside.now in
     let yes : IsTrue c.is_inside.result = search rules in
@@ -16,8 +16,8 @@ returns-in-Some c =
     let away = λ (there : IsInside p inside (nodes.Event (away_of c.args.part c.args.first c.args.second))). no (c.is_inside-2.ensures.1 (subst (λ (e : ℕ). IsInside p inside (nodes.Event e)) (sym c.away_of.ensures) there)) in
     leaves_first p c.args.part c.args.first c.args.second inside c.in-Some.bound home away (rw c.in-Some.is at c.first_leaving.ensures)
 
-pub returns-in-None : goal.returns-in-None
-returns-in-None c =
+pub returns-in-None-clause-found : goal.returns-in-None-clause-found
+returns-in-None-clause-found c =
     let p = c.args.p.now in
     let inside = c.args.inside.now in
     let yes : IsTrue c.is_inside.result = search rules in
@@ -25,5 +25,5 @@ returns-in-None c =
     record {
       home = subst (λ (e : ℕ). IsInside p inside (nodes.Event e)) c.home_of.ensures (c.is_inside.ensures.0 yes);
       away = λ there. no (c.is_inside-2.ensures.1 (subst (λ (e : ℕ). IsInside p inside (nodes.Event e)) (sym c.away_of.ensures) there));
-      cut = cut_is p inside c.events.ensures.lawful (rw c.in-None.is at c.first_leaving.ensures);
+      cut = cut_is p inside c.events.ensures.lawful.formed (rw c.in-None.is at c.first_leaving.ensures);
     }

@@ -18,7 +18,7 @@ returns-in_default c =
     let held : Contains p.messages m = subst (λ (ms : List Message). Contains ms m) is (k, c.loop-message-test.true, sym c.message-item.is) in
     stop p c.args.inside.now (flat_map message_bounds p.messages) (flat_map message_bounds (drop k p.messages)) c.loop-message.invariant
     (message_bounds m) (flat_map message_bounds (drop (k + 1) p.messages)) (delays_more p.messages k m there) c.leaving_bound.result c.in_default.not-None
-    (c.leaving_bound.ensures p c.args.inside.now c.messages-message-items.ensures.lawful held c.is_inside-send.ensures c.is_inside-receive.ensures)
+    (c.leaving_bound.ensures p c.args.inside.now c.messages-message-items.ensures.lawful.formed held c.is_inside-send.ensures c.is_inside-receive.ensures)
 
 pub loop-message-preserved : goal.loop-message-preserved
 loop-message-preserved c =
@@ -30,7 +30,7 @@ loop-message-preserved c =
     let held : Contains p.messages m = subst (λ (ms : List Message). Contains ms m) is (k, c.loop-message-test.true, sym c.message-item.is) in
     past p c.args.inside.now (flat_map message_bounds p.messages) (flat_map message_bounds (drop k p.messages)) c.loop-message.invariant
     (message_bounds m) (flat_map message_bounds (drop (k + 1) p.messages)) (delays_more p.messages k m there)
-    (rw c.in-None.is at (c.leaving_bound.ensures p c.args.inside.now c.messages-message-items.ensures.lawful held c.is_inside-send.ensures c.is_inside-receive.ensures))
+    (rw c.in-None.is at (c.leaving_bound.ensures p c.args.inside.now c.messages-message-items.ensures.lawful.formed held c.is_inside-send.ensures c.is_inside-receive.ensures))
 
 pub returns : goal.returns
 returns c =

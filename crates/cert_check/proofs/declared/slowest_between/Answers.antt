@@ -19,7 +19,7 @@ returns-in-None-clause-declares c =
     let m : Message = c.message_between-message.result.now in
     let d = c.requires.1 in
     let ends = c.message_between-message.ensures in
-    let same : d.0 ≡ m = message_one p ends.lawful d.0 m d.2 ends.message (d.3 ∙ sym ends.send) (d.4 ∙ sym ends.receive) in
+    let same : d.0 ≡ m = message_one p ends.formed d.0 m d.2 ends.message (d.3 ∙ sym ends.send) (d.4 ∙ sym ends.receive) in
     let most : m.most ≡ Some d.1 = ap (λ (v : Message). v.most) (sym same) ∙ d.5 in
     let none : m.most ≡ None = c.in-None.is in
     absurd cc

@@ -12,21 +12,21 @@ use Rattle.cert_check.specs.Faults.{IsFirstOf}
 use Rattle.cert_check.proofs.Paths.{end_first, sum_first}
 use Rattle.cert_check.proofs.path.arrival_fault.Goals as goal
 
-pub returns-then-ne : goal.returns-then-ne
-returns-then-ne c = λ p second steps lawful is_path each count walked.
+pub returns-then-ne-clause-found : goal.returns-then-ne-clause-found
+returns-then-ne-clause-found c = λ p second steps lawful is_path each count walked.
     let apart : c.args.held.node ≢ nodes.Event c.args.first = search rules in
     subst (λ (k : ℕ). IsFirstOf c.args.part (PathIs p c.args.part c.args.first second c.args.value steps) (Join (k + 1))) (sym count)
     (end_first p lawful c.args.part is_path c.args.first second c.args.value steps each c.args.held.node walked.0 apart)
 
-pub returns-then-held-sum_for : goal.returns-then-held-sum_for
-returns-then-held-sum_for c = λ p second steps lawful is_path each count walked.
+pub returns-then-held-sum_for-clause-found : goal.returns-then-held-sum_for-clause-found
+returns-then-held-sum_for-clause-found c = λ p second steps lawful is_path each count walked.
     let arrives : c.args.held.node ≡ nodes.Event c.args.first = search rules in
     let differs : c.args.held.sum ≢ c.sum_for.result = search rules in
     let fits : SFits w128 c.args.held.sum = search rules in
     simp to_z-of_z (sum_first p lawful c.args.part is_path c.args.first second c.args.value steps each c.args.held.node walked.0 arrives c.args.held.sum walked.1 (λ e. differs (e ∙ sym c.sum_for.ensures)))
 
-pub returns : goal.returns
-returns c = λ p second steps lawful is_path each count walked.
+pub returns-clause-found : goal.returns-clause-found
+returns-clause-found c = λ p second steps lawful is_path each count walked.
     let arrives : c.args.held.node ≡ nodes.Event c.args.first = search rules in
     let same : c.args.held.sum ≡ c.sum_for.result = search rules in
     (subst (λ (n : Node). Goes p c.args.part (nodes.Event second) (weighed_bounds steps) n) arrives walked.0, sym walked.1 ∙ same ∙ c.sum_for.ensures)

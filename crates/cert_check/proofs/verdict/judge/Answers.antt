@@ -6,14 +6,14 @@ use mir.Val.{SFits}
 use Rattle.cert_check.proofs.Judging.{one_obeyed, one_broken}
 use Rattle.cert_check.proofs.verdict.judge.Goals as goal
 
-pub returns-then-difference-weight : goal.returns-then-difference-weight
-returns-then-difference-weight c = λ p x a lawful declares weighs from to.
+pub returns-then-difference-weight-clause-verdict : goal.returns-then-difference-weight-clause-verdict
+returns-then-difference-weight-clause-verdict c = λ p x a lawful declares weighs from to.
     let is : c.difference-difference.result ≡ (c.args.to -ℤ c.args.from) = c.difference-difference.ensures.exact in
     let obeyed : c.difference-difference.result ≤ℤ c.args.weight = omega (arith, ints) in
     one_obeyed p x c.args.bound a lawful declares (omega (arith, ints, weighs, from, to, is, obeyed))
 
-pub returns-else-difference-weight : goal.returns-else-difference-weight
-returns-else-difference-weight c = λ p x a lawful declares weighs from to.
+pub returns-else-difference-weight-clause-verdict : goal.returns-else-difference-weight-clause-verdict
+returns-else-difference-weight-clause-verdict c = λ p x a lawful declares weighs from to.
     let is : c.difference-difference.result ≡ (c.args.to -ℤ c.args.from) = c.difference-difference.ensures.exact in
     let broken : c.args.weight <ℤ c.difference-difference.result = omega (arith, ints) in
     let weight_fits : SFits w128 c.args.weight = c.ranges.weight in

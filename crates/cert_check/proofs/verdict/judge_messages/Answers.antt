@@ -8,8 +8,8 @@ use Rattle.problem_model.proofs.Walking.{delays_more, delays_all}
 use Rattle.cert_check.proofs.Loops.{on, out, done}
 use Rattle.cert_check.proofs.verdict.judge_messages.Goals as goal
 
-pub returns-in_default : goal.returns-in_default
-returns-in_default c = λ x readings times.
+pub returns-in_default-clause-verdict : goal.returns-in_default-clause-verdict
+returns-in_default-clause-verdict c = λ x readings times.
     let p = c.args.p.now in
     let k = c.loop-message.message-index in
     let m = c.message-item.result in
@@ -18,7 +18,7 @@ returns-in_default c = λ x readings times.
     let held : Contains p.messages m = subst (λ (ms : List Message). Contains ms m) is (k, c.loop-message-test.true, sym c.message-item.is) in
     out p x (flat_map message_bounds p.messages) (flat_map message_bounds (drop k p.messages)) (c.loop-message.invariant x readings times)
     (message_bounds m) (flat_map message_bounds (drop (k + 1) p.messages)) (delays_more p.messages k m there) c.judge_message.result c.in_default.not-Obeys
-    (c.judge_message.ensures p x c.messages-message-items.ensures.lawful held (c.event_time-send.ensures x readings times) (c.event_time-receive.ensures x readings times))
+    (c.judge_message.ensures.verdict p x c.messages-message-items.ensures.lawful.formed held (c.event_time-send.ensures x readings times) (c.event_time-receive.ensures x readings times))
 
 pub loop-message-preserved : goal.loop-message-preserved
 loop-message-preserved c = λ x readings times.
@@ -30,10 +30,10 @@ loop-message-preserved c = λ x readings times.
     let held : Contains p.messages m = subst (λ (ms : List Message). Contains ms m) is (k, c.loop-message-test.true, sym c.message-item.is) in
     on p x (flat_map message_bounds p.messages) (flat_map message_bounds (drop k p.messages)) (c.loop-message.invariant x readings times)
     (message_bounds m) (flat_map message_bounds (drop (k + 1) p.messages)) (delays_more p.messages k m there)
-    (rw c.in-Obeys.is at (c.judge_message.ensures p x c.messages-message-items.ensures.lawful held (c.event_time-send.ensures x readings times) (c.event_time-receive.ensures x readings times)))
+    (rw c.in-Obeys.is at (c.judge_message.ensures.verdict p x c.messages-message-items.ensures.lawful.formed held (c.event_time-send.ensures x readings times) (c.event_time-receive.ensures x readings times)))
 
-pub returns : goal.returns
-returns c = λ x readings times.
+pub returns-clause-verdict : goal.returns-clause-verdict
+returns-clause-verdict c = λ x readings times.
     let p = c.args.p.now in
     let k = c.loop-message.message-index in
     done p x (flat_map message_bounds p.messages) (flat_map message_bounds (drop k p.messages)) (c.loop-message.invariant x readings times)

@@ -5,8 +5,8 @@ use Rattle.problem_model.specs.declared.items.Node.TheVariants as nodes
 use Rattle.problem_model.specs.Bounds.{Constraint}
 use Rattle.cert_check.proofs.verdict.judge_most.Goals as goal
 
-pub returns-in-Some : goal.returns-in-Some
-returns-in-Some c = λ p x lawful at send receive.
+pub returns-in-Some-clause-verdict : goal.returns-in-Some-clause-verdict
+returns-in-Some-clause-verdict c = λ p x lawful at send receive.
     let m = c.args.message.now in
     let a : Constraint = record { from = nodes.Event m.send; to = nodes.Event m.receive; weight = pos (c.in-Some.most * 1000000000) } in
-    rw c.in-Some.is (c.judge.ensures p x a lawful (m, c.in-Some.most, at, refl, refl, c.in-Some.is, refl) (omega (arith, ints, c.delay_units.ensures.exact)) send receive)
+    rw c.in-Some.is (c.judge.ensures.verdict p x a lawful (m, c.in-Some.most, at, refl, refl, c.in-Some.is, refl) (omega (arith, ints, c.delay_units.ensures.exact)) send receive)

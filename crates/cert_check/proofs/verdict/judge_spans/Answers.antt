@@ -23,12 +23,12 @@ pub judge_neighbours-requires-clause-clock : goal.judge_neighbours-requires-clau
 judge_neighbours-requires-clause-clock c =
     let r = c.index-readings-place.result in
     let there = reading_there c.args.p.now c.readings-readings.result.now c.loop-place.place r c.readings-readings.ensures (omega (arith, c.loop-place-test.true, c.saturating_sub-last.ensures)) c.index-readings-place.is in
-    let inside = clock_there c.args.p.now r.0 r.1 c.clocks-clocks.ensures.lawful there in
+    let inside = clock_there c.args.p.now r.0 r.1 c.clocks-clocks.ensures.lawful.formed there in
     let same = ap length c.clocks-clocks.ensures.value in
     omega (arith, inside, same)
 
-pub returns-in_default : goal.returns-in_default
-returns-in_default c = λ x readings times.
+pub returns-in_default-clause-verdict : goal.returns-in_default-clause-verdict
+returns-in_default-clause-verdict c = λ x readings times.
     let p = c.args.p.now in
     let rs = c.readings-readings.result.now in
     let k = c.loop-place.place in
@@ -40,7 +40,7 @@ returns-in_default c = λ x readings times.
     let at' : slice_get {X = Reading} rs (k + 1) ≡ Some b = slice_get_read rs (length rs) (k + 1) b refl (omega (arith, c.loop-place-test.true, c.saturating_sub-last.ensures)) c.index-readings-place-in-loop-place.is in
     let there = reading_there p rs k a c.readings-readings.ensures (omega (arith, c.loop-place-test.true, c.saturating_sub-last.ensures)) c.index-readings-place.is in
     let there' = reading_there p rs (k + 1) b c.readings-readings.ensures (omega (arith, c.loop-place-test.true, c.saturating_sub-last.ensures)) c.index-readings-place-in-loop-place.is in
-    let judged = c.judge_neighbours.ensures p x c.clocks-clocks.ensures.lawful c.clocks-clocks.ensures.value there there' (c.reading_time-from.ensures x rs a times' at) (c.reading_time-to.ensures x rs b times' at') in
+    let judged = c.judge_neighbours.ensures.verdict p x c.clocks-clocks.ensures.lawful.formed c.clocks-clocks.ensures.value there there' (c.reading_time-from.ensures x rs a times' at) (c.reading_time-to.ensures x rs b times' at') in
     let all : Judges p x (span_bounds rs) c.judge_neighbours.result = out p x (span_bounds rs) (span_bounds (drop k rs)) (c.loop-place.invariant x times') (neighbour_bounds a b) (span_bounds (drop (k + 1) rs)) (spans_more rs k a b at at') c.judge_neighbours.result c.in_default.not-Obeys judged in
     subst (λ (l : List Reading). Judges p x (span_bounds l) c.judge_neighbours.result) same all
 
@@ -55,11 +55,11 @@ loop-place-preserved c = λ x times'.
     let at' : slice_get {X = Reading} rs (k + 1) ≡ Some b = slice_get_read rs (length rs) (k + 1) b refl (omega (arith, c.loop-place-test.true, c.saturating_sub-last.ensures)) c.index-readings-place-in-loop-place.is in
     let there = reading_there p rs k a c.readings-readings.ensures (omega (arith, c.loop-place-test.true, c.saturating_sub-last.ensures)) c.index-readings-place.is in
     let there' = reading_there p rs (k + 1) b c.readings-readings.ensures (omega (arith, c.loop-place-test.true, c.saturating_sub-last.ensures)) c.index-readings-place-in-loop-place.is in
-    let judged = c.judge_neighbours.ensures p x c.clocks-clocks.ensures.lawful c.clocks-clocks.ensures.value there there' (c.reading_time-from.ensures x rs a times' at) (c.reading_time-to.ensures x rs b times' at') in
+    let judged = c.judge_neighbours.ensures.verdict p x c.clocks-clocks.ensures.lawful.formed c.clocks-clocks.ensures.value there there' (c.reading_time-from.ensures x rs a times' at) (c.reading_time-to.ensures x rs b times' at') in
     on p x (span_bounds rs) (span_bounds (drop k rs)) (c.loop-place.invariant x times') (neighbour_bounds a b) (span_bounds (drop (k + 1) rs)) (spans_more rs k a b at at') (rw c.in-Obeys.is at judged)
 
-pub returns : goal.returns
-returns c = λ x readings times.
+pub returns-clause-verdict : goal.returns-clause-verdict
+returns-clause-verdict c = λ x readings times.
     let p = c.args.p.now in
     let rs = c.readings-readings.result.now in
     let k = c.loop-place.place in

@@ -7,36 +7,36 @@ use Rattle.cert_check.proofs.Judging.{judges_on, judges_first}
 use Rattle.cert_check.proofs.Loops.{whole_verdict}
 use Rattle.cert_check.proofs.verdict.obeys.Goals as goal
 
-pub returns-in-Obeys-judge_stamps : goal.returns-in-Obeys-judge_stamps
-returns-in-Obeys-judge_stamps c = λ x lists.
+pub returns-in-Obeys-judge_stamps-clause-verdict : goal.returns-in-Obeys-judge_stamps-clause-verdict
+returns-in-Obeys-judge_stamps-clause-verdict c = λ x lists.
     let p = c.args.p.now in
     let readings = lists.0 in
     let times : AreTimes p x readings c.args.e.now = record { are_readings = lists.1; listed = lists.2 } in
     let spans = span_bounds readings in
     let stamps = event_bounds 0 p.events in
-    whole_verdict p x readings c.judge_messages.result lists.1
+    whole_verdict p x readings c.judge_messages.result c.events.ensures.lawful.formed lists.1
     (judges_on p x (spans ++ stamps) (flat_map message_bounds p.messages) c.judge_messages.result
-    (judges_on p x spans stamps verdicts.Obeys (rw c.in-Obeys.is at (c.judge_spans.ensures x readings times)) (rw c.in-Obeys-judge_stamps.is at (c.judge_stamps.ensures x readings times)))
-    (c.judge_messages.ensures x readings times))
+    (judges_on p x spans stamps verdicts.Obeys (rw c.in-Obeys.is at (c.judge_spans.ensures.verdict x readings times)) (rw c.in-Obeys-judge_stamps.is at (c.judge_stamps.ensures.verdict x readings times)))
+    (c.judge_messages.ensures.verdict x readings times))
 
-pub returns-in_default-judge_stamps : goal.returns-in_default-judge_stamps
-returns-in_default-judge_stamps c = λ x lists.
+pub returns-in_default-judge_stamps-clause-verdict : goal.returns-in_default-judge_stamps-clause-verdict
+returns-in_default-judge_stamps-clause-verdict c = λ x lists.
     let p = c.args.p.now in
     let readings = lists.0 in
     let times : AreTimes p x readings c.args.e.now = record { are_readings = lists.1; listed = lists.2 } in
     let spans = span_bounds readings in
     let stamps = event_bounds 0 p.events in
-    whole_verdict p x readings c.judge_stamps.result lists.1
+    whole_verdict p x readings c.judge_stamps.result c.events.ensures.lawful.formed lists.1
     (judges_first p x (spans ++ stamps) (flat_map message_bounds p.messages) c.judge_stamps.result c.in_default-judge_stamps.not-Obeys
-    (judges_on p x spans stamps c.judge_stamps.result (rw c.in-Obeys.is at (c.judge_spans.ensures x readings times)) (c.judge_stamps.ensures x readings times)))
+    (judges_on p x spans stamps c.judge_stamps.result (rw c.in-Obeys.is at (c.judge_spans.ensures.verdict x readings times)) (c.judge_stamps.ensures.verdict x readings times)))
 
-pub returns-in_default : goal.returns-in_default
-returns-in_default c = λ x lists.
+pub returns-in_default-clause-verdict : goal.returns-in_default-clause-verdict
+returns-in_default-clause-verdict c = λ x lists.
     let p = c.args.p.now in
     let readings = lists.0 in
     let times : AreTimes p x readings c.args.e.now = record { are_readings = lists.1; listed = lists.2 } in
     let spans = span_bounds readings in
     let stamps = event_bounds 0 p.events in
-    whole_verdict p x readings c.judge_spans.result lists.1
+    whole_verdict p x readings c.judge_spans.result c.events.ensures.lawful.formed lists.1
     (judges_first p x (spans ++ stamps) (flat_map message_bounds p.messages) c.judge_spans.result c.in_default.not-Obeys
-    (judges_first p x spans stamps c.judge_spans.result c.in_default.not-Obeys (c.judge_spans.ensures x readings times)))
+    (judges_first p x spans stamps c.judge_spans.result c.in_default.not-Obeys (c.judge_spans.ensures.verdict x readings times)))

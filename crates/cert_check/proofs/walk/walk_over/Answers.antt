@@ -8,15 +8,15 @@ use Rattle.cert_check.proofs.Walking.{goes_on, sum_on, step_at, step_of, all_tak
 use Rattle.cert_check.proofs.walk.walk_over.Goals as goal
 
 pub loop-k-init : goal.loop-k-init
-loop-k-init c = (refl, refl, omega arith)
+loop-k-init c = (refl, refl, omega arith, omega arith)
 
 pub declared-bound-requires : goal.declared-bound-requires
 declared-bound-requires c =
     let inside : c.loop-k.k < length c.args.chain.now = omega (arith, c.loop-k-test.true, c.len-count.ensures.count) in
     step_of c.args.p.now c.steps-steps.result.now c.args.chain.now c.loop-k.k c.index-steps-k.result c.steps-steps.ensures inside c.index-steps-k.is c.requires
 
-pub returns-then-ne : goal.returns-then-ne
-returns-then-ne c =
+pub returns-then-ne-clause-walk : goal.returns-then-ne-clause-walk
+returns-then-ne-clause-walk c =
     let p = c.args.p.now in
     let k = c.loop-k.k in
     let chain : List Step = c.args.chain.now in
@@ -34,8 +34,8 @@ returns-then-ne c =
       λ same. apart (c.entry.ensures ∙ same),
     )
 
-pub returns-then-get-bound : goal.returns-then-get-bound
-returns-then-get-bound c =
+pub returns-then-get-bound-clause-walk : goal.returns-then-get-bound-clause-walk
+returns-then-get-bound-clause-walk c =
     let p = c.args.p.now in
     let k = c.loop-k.k in
     let chain : List Step = c.args.chain.now in
@@ -75,9 +75,13 @@ loop-k-preserved c =
           (goes_on p c.args.part c.args.start.now c.loop-k.held.node steps k s (constraint c.declared-bound.result) c.loop-k.invariant.0 at c.declared-bound.ensures.declares weighs (sym c.entry.ensures ∙ joins)),
       sum_on steps k s c.loop-k.held.sum c.onward-held.result.sum at c.loop-k.invariant.1 next,
       c.onward-held.ensures.small,
+      omega (arith, c.loop-k-test.true),
     )
 
-pub returns : goal.returns
-returns c =
+pub returns-clause-walk : goal.returns-clause-walk
+returns-clause-walk c =
     let past = c.loop-k-test.false in
     all_taken c.args.p.now c.args.part c.args.start.now c.loop-k.held.node c.steps-steps.result.now c.args.chain.now c.loop-k.k c.loop-k.held.sum c.steps-steps.ensures (omega (arith, past, c.len-count.ensures.count)) c.loop-k.invariant.0 c.loop-k.invariant.1
+
+pub returns-clause-small : goal.returns-clause-small
+returns-clause-small c = omega (arith, c.loop-k.invariant.2, c.loop-k.invariant.3, c.len-count.ensures.limit)
