@@ -7,3 +7,8 @@ pub mod Rooms
 pub mod Numbering
 pub mod Ends
 pub mod Nearest
+pub mod InForce
+pub mod BoundEnds
+pub mod NodeNumbers
+pub mod ListedExecutions
+pub mod OwnStanding

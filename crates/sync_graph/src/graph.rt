@@ -2,7 +2,7 @@
 ghost use Rattle.std.specs.Prelude.{◌≡◌, ℕ, ◌<◌, ◌^◌, ◌++◌, ◌∷◌, [], length, true, slice_get, slice_set, Some, IfSome, IfNone, OnOk, OnErr, IfOk};
 ghost use Rattle.sync_graph.specs.Lists.{list_at};
 ghost use Rattle.sync_graph.specs.Neighbours.{IsNearestBelow, IsNearestAbove};
-ghost use Rattle.sync_graph.specs.Graph.{GraphLists, IsGraph, IsSound, arc_at, no_graph, with_node, with_arc};
+ghost use Rattle.sync_graph.specs.Graph.{GraphLists, IsGraph, IsSound, most_nodes, most_arcs, arc_at, no_graph, with_node, with_arc};
 
 use crate::arc::Arc;
 use crate::lists::Lists;
@@ -79,7 +79,8 @@ fn grow_all(
     arriving: &mut Lists,
     n: Node,
 ) -> Result<(), AllocError>
-    requires { (k : ℕ) → slice_get numbers.old k ≡ Some n → ⊥ }
+    requires new { (k : ℕ) → slice_get numbers.old k ≡ Some n → ⊥ }
+    requires room { length numbers.old < most_nodes }
     ensures numbers { OnOk result (numbers.new ≡ numbers.old ++ n ∷ []) }
     ensures leaving { OnOk result (leaving.new ≡ leaving.old ++ [] ∷ []) }
     ensures arriving { OnOk result (arriving.new ≡ arriving.old ++ [] ∷ []) }
@@ -108,14 +109,14 @@ impl Graph {
         }
     }
 
-    /// How many nodes there are, at most 2^21.
+    /// How many nodes there are, at most 2^22.
     pub fn nodes(&self) -> u32
         ensures { result ≡ length self.now.nodes }
     {
         self.leaving.len() as u32
     }
 
-    /// How many arcs there are, in force or not, at most 2^24.
+    /// How many arcs there are, in force or not, at most 2^25.
     pub fn arcs(&self) -> u32
         ensures { result ≡ length self.now.arcs }
     {
@@ -133,7 +134,7 @@ impl Graph {
     /// Appends a node without arcs, and answers its number. All stays as it was where memory runs out.
     pub fn push_node(&mut self, n: Node) -> Result<u32, AllocError>
         requires new { (k : ℕ) → slice_get self.old.nodes k ≡ Some n → ⊥ }
-        requires room { length self.old.nodes < 2 ^ 21 }
+        requires room { length self.old.nodes < most_nodes }
         ensures number { IfOk result (λ node. node ≡ length self.old.nodes) }
         ensures ok { OnOk result (self.new ≡ with_node self.old n) }
         ensures err { OnErr result (self.new ≡ self.old) }
@@ -148,7 +149,7 @@ impl Graph {
     /// Appends an arc, in force, and answers its number. All stays as it was where memory runs out.
     pub fn push_arc(&mut self, a: Arc) -> Result<u32, AllocError>
         requires sound { IsSound (length self.old.nodes) a }
-        requires room { length self.old.arcs < 2 ^ 24 }
+        requires room { length self.old.arcs < most_arcs }
         ensures number { IfOk result (λ k. k ≡ length self.old.arcs) }
         ensures ok { OnOk result (self.new ≡ with_arc self.old a) }
         ensures err { OnErr result (self.new ≡ self.old) }
@@ -183,8 +184,7 @@ impl Graph {
         ensures some { IfSome result (λ k. slice_get self.now.nodes k ≡ Some n) }
         ensures none { IfNone result ((k : ℕ) → slice_get self.now.nodes k ≡ Some n → ⊥) }
     {
-        let number = self.numbers.number(n)?;
-        Some(number as u32)
+        self.numbers.number(&n)
     }
 
     /// The nodes of the nearest readings of a clock strictly below and strictly above a stamp, each None exactly where there
@@ -199,15 +199,13 @@ impl Graph {
     fn below(&self, clock: u32, stamp: Nano) -> Option<u32>
         ensures { IsNearestBelow self.now.nodes clock stamp result }
     {
-        let number = self.numbers.below(clock, stamp)?;
-        Some(number as u32)
+        self.numbers.below(clock, stamp)
     }
 
     fn above(&self, clock: u32, stamp: Nano) -> Option<u32>
         ensures { IsNearestAbove self.now.nodes clock stamp result }
     {
-        let number = self.numbers.above(clock, stamp)?;
-        Some(number as u32)
+        self.numbers.above(clock, stamp)
     }
 
     /// The number of one of the arcs in force that leave a node, the `k`-th of its list from 0 on; None exactly behind
