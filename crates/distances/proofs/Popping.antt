@@ -11,6 +11,7 @@ use Rattle.difference_bounds.specs.Sums.{done_sum}
 use Rattle.difference_bounds.specs.Tables.{ArcTable, ObeysAll}
 use Rattle.difference_bounds.proofs.RowsUnderWay.{under_way_step, under_way_fewer, under_way_row, under_way_bounds}
 use Rattle.frontier.specs.Keys.{IsEmpty, IsLeastEntry}
+use Rattle.difference_bounds.proofs.Heights.{height_low}
 use Rattle.sync_graph.specs.Graph.{GraphLists, IsGraph}
 use Rattle.row_pool.specs.Row.{cell_at, cells_of, nothing_known}
 use Rattle.distances.specs.Facing.{facing, potential}
@@ -30,15 +31,12 @@ with_node table node c c' waits waits1 waits' s w = record {
   met = s.met;
 }
 
-height_low : (n : ℕ) → n ≤ 2 ^ 21 → n * 2 ^ 93 ≤ 2 ^ 114
-height_low n h = omega arith
-
-between_small : (v a b : ℤ) (n : ℕ) → IsUpTo 114 a → IsUpTo 114 b → (a -ℤ b) ≤ℤ v → v ≤ℤ pos (0 + n) → n ≤ 2 ^ 114 → IsUpTo 118 v
+between_small : (v a b : ℤ) (n : ℕ) → IsUpTo 115 a → IsUpTo 115 b → (a -ℤ b) ≤ℤ v → v ≤ℤ pos (0 + n) → n ≤ 2 ^ 115 → IsUpTo 118 v
 between_small v a b n ua ub l h m = (omega (arith, ints, ua.0, ub.1), omega (arith, ints))
 
 module _ (outward : Bool) (g : GraphLists) (values : List ℤ) (p : ℕ) (row : List Cell) (front : List (Option ℤ)) (node : ℕ) (key : ℤ)
     (is : IsGraph g)
-    (small : All (IsUpTo 114) values)
+    (small : All (IsUpTo 115) values)
     (x : ObeysAll (facing outward g) (potential outward values))
     (u : IsUnderWay (length g.nodes) (facing outward g) p (potential outward values) 0 (2 ^ 93) nothing_known (cells_of row) (waits_of front))
     (keyed : AreKeyed (potential outward values) front row)

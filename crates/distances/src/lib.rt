@@ -8,7 +8,5 @@
 mod relax;
 mod row;
 mod settle;
-#[cfg(test)]
-mod tests;
 
 pub use row::{row_from, row_to};

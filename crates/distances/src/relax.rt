@@ -39,7 +39,7 @@ fn next_arc(g: &Graph, outward: bool, node: u32, k: u32) -> Option<u32>
 pub fn key_of(e: &Earliest, outward: bool, node: u32, distance: i128) -> i128
     requires solved { e.now.is_solved ≡ true }
     requires node { node < length e.now.values }
-    requires small { IsUpTo 114 (at e.now.values node) }
+    requires small { IsUpTo 115 (at e.now.values node) }
     requires distance { IsUpTo 119 distance }
     ensures { result ≡ distance -ℤ potential outward e.now.values node }
 {
@@ -102,7 +102,7 @@ fn relax_arc(
     requires in_force { (facing outward g.now).in_force arc ≡ true }
     requires solved { e.now.is_solved ≡ true }
     requires values { length e.now.values ≡ length g.now.nodes }
-    requires small { All (IsUpTo 114) e.now.values }
+    requires small { All (IsUpTo 115) e.now.values }
     requires base { IsUpTo 118 base }
     requires cells { length g.now.nodes ≤ length row.old }
     requires room { length g.now.nodes ≤ length front.old }
@@ -134,7 +134,7 @@ pub fn relax_arcs(
     requires node { node < length g.now.nodes }
     requires solved { e.now.is_solved ≡ true }
     requires values { length e.now.values ≡ length g.now.nodes }
-    requires small { All (IsUpTo 114) e.now.values }
+    requires small { All (IsUpTo 115) e.now.values }
     requires distance { IsUpTo 118 (cell_at row.old node).value }
     requires taken { waits_of front.old node ≡ false }
     requires cells { length g.now.nodes ≤ length row.old }

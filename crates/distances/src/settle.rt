@@ -28,7 +28,7 @@ pub fn settle(
     requires node { p < length g.now.nodes }
     requires solved { e.now.is_solved ≡ true }
     requires values { length e.now.values ≡ length g.now.nodes }
-    requires small { All (IsUpTo 114) e.now.values }
+    requires small { All (IsUpTo 115) e.now.values }
     requires obeyed { ObeysAll (facing outward g.now) (potential outward e.now.values) }
     requires first { IsUnderWay (length g.now.nodes) (facing outward g.now) p (potential outward e.now.values) 0 (2 ^ 93) nothing_known (cells_of row.old) (waits_of front.old) }
     requires keyed { AreKeyed (potential outward e.now.values) front.old row.old }

@@ -10,7 +10,7 @@ use Rattle.difference_bounds.specs.Executions.{Arc, at, AreWithin}
 use Rattle.difference_bounds.specs.Numbers.{IsUpTo}
 use Rattle.difference_bounds.specs.Tables.{Lists, without}
 use Rattle.difference_bounds.specs.Insertions.{IsFirstRaise}
-use Rattle.difference_bounds.proofs.Heights.{earliest_height}
+use Rattle.difference_bounds.proofs.Heights.{earliest_height, height_low}
 use Rattle.difference_bounds.proofs.Insertions.{obeyed_elsewhere, kept_earliest, first_raising, first_chains}
 use Rattle.difference_bounds.proofs.Tables.{lists_listed, without_force}
 use Rattle.frontier.specs.Keys.{IsEmpty}
@@ -23,13 +23,10 @@ use Rattle.earliest.proofs.Bounds.{no_arc}
 pos_le : (a b : ℕ) → a ≤ b → pos a ≤ℤ pos b
 pos_le a b h = omega (arith, ints)
 
-height_low : (n : ℕ) → n ≤ 2 ^ 21 → n * 2 ^ 93 ≤ 2 ^ 114
-height_low n h = omega arith
-
 weight_low : (w : ℤ) → neg_ℤ (pos (2 ^ 93)) <ℤ w → neg_ℤ (pos (2 ^ 93)) ≤ℤ w
 weight_low w h = omega (arith, ints)
 
-value_low : (x y : ℤ) → x ≤ℤ y → y ≤ℤ pos (2 ^ 114) → x ≤ℤ pos (2 ^ 115)
+value_low : (x y : ℤ) → x ≤ℤ y → y ≤ℤ pos (2 ^ 115) → x ≤ℤ pos (2 ^ 115)
 value_low x y a b = omega (arith, ints)
 
 first_low : (a b w r : ℤ) → a ≤ℤ pos (2 ^ 115) → pos 0 ≤ℤ b → neg_ℤ (pos (2 ^ 93)) <ℤ w → r ≡ a -ℤ w -ℤ b → r ≤ℤ pos (2 ^ 116)
@@ -74,7 +71,7 @@ module _ (g : GraphLists) (is : IsGraph g) (arc : ℕ) (olds : List ℤ)
     olds_low k = elim (cases_lt k (length g.nodes)) [
       | inl l ↦ value_low (at olds k) (pos (length g.nodes * 2 ^ 93))
           (earliest_height (length g.nodes) (arcs_but g arc) olds (2 ^ 93) within (each_sound (λ a. neg_ℤ (pos (2 ^ 93)) ≤ℤ a.weight) (λ j s. weight_low (arc_at g.arcs j).weight s.low)) e k l)
-          (pos_le (length g.nodes * 2 ^ 93) (2 ^ 114) (height_low (length g.nodes) is.node_limit))
+          (pos_le (length g.nodes * 2 ^ 93) (2 ^ 115) (height_low (length g.nodes) is.node_limit))
       | inr l ↦ zero_low (at olds k) (get_or_past olds k (pos 0) (omega (arith, l, e.execution.one_each)))
     ]
 

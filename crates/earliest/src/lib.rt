@@ -13,8 +13,6 @@ pub mod laws;
 mod raises;
 mod rebuild;
 mod settle;
-#[cfg(test)]
-mod tests;
 
 pub use inserted::Inserted;
 pub use kept::Earliest;

@@ -3,8 +3,6 @@
 
 mod heap;
 mod order;
-#[cfg(test)]
-mod tests;
 
 ghost use Rattle.std.specs.Prelude.{◌≡◌, ◌+◌, ◌-◌, ◌<◌, ◌≤◌, ◌^◌, [], ◌++◌, length, replicate, IfNone, IfSome, IfOk, OnOk, OnErr, List, ℤ, ◌≤ℤ◌, slice_set, slice_index_or, Option, Some, None};
 ghost use Rattle.frontier.specs.Keys.{Waits, IsFree, IsEmpty, IsLeastEntry};

@@ -4,7 +4,7 @@ use Rattle.std.specs.Prelude.{ℤ, pos, neg_ℤ, ◌+ℤ◌, ◌≤ℤ◌, ◌<�
 use Rattle.std.proofs.lemmas.Int.{ints}
 use Rattle.problem_model.specs.declared.items.Node.TheVariants as nodes
 use Rattle.problem_model.specs.declared.items.Bound.{Bound}
-use Rattle.problem_model.specs.declared.items.Bound.TheVariants.{SpanMost, SpanLeast, Late, Early, DelayMost, DelayLeast}
+use Rattle.problem_model.specs.declared.items.Bound.TheVariants.{SpanMost, SpanLeast, Late, Early, Follow, DelayMost, DelayLeast}
 use Rattle.problem_model.specs.Problem.{empty_problem}
 use Rattle.problem_model.specs.Bounds.{Constraint, Declares, Times, IsExecution}
 use Rattle.row_pool.specs.declared.cell.Reach.TheVariants as reaches
@@ -60,6 +60,7 @@ nothing_declared (SpanMost clock s t) a d = let at = d.1 in absurd cc
 nothing_declared (SpanLeast clock s t) a d = let at = d.1 in absurd cc
 nothing_declared (Late e) a d = let at = d.2 in absurd cc
 nothing_declared (Early e) a d = let at = d.2 in absurd cc
+nothing_declared (Follow earlier s later t) a d = absurd (omega (arith, d.1.1))
 nothing_declared (DelayMost send receive) a d = absurd (omega (arith, d.2.1))
 nothing_declared (DelayLeast send receive) a d = absurd (omega (arith, d.1.1))
 

@@ -8,6 +8,3 @@ mod order;
 
 pub use ends::{End, Ends, ends_from, source_time};
 pub use order::{Order, order_of};
-
-#[cfg(test)]
-mod tests;

@@ -21,7 +21,8 @@ use Rattle.difference_bounds.proofs.Parents.{row_path, row_greatest, row_unbound
 use Rattle.difference_bounds.proofs.Problems.{within, same_executions, same_greatest, same_unbounded}
 use Rattle.difference_bounds.proofs.SimplePaths.{short_sum}
 use Rattle.sync_graph.specs.declared.arc.Arc as graphs
-use Rattle.sync_graph.specs.Graph.{GraphLists, IsGraph, IsSound, table_of, unnamed}
+use Rattle.sync_graph.specs.Graph.{GraphLists, IsGraph, IsSound, most_nodes, table_of, unnamed}
+use Rattle.difference_bounds.proofs.Heights.{height_low}
 use Rattle.earliest.specs.Values.{Values}
 use Rattle.intervals.specs.Ends.{IsSmall, FitsReach}
 use Rattle.intervals.specs.Executions.{IsReachOf}
@@ -29,12 +30,9 @@ use Rattle.solver.specs.Solution.{IsGraphOf, IsSolved}
 use Rattle.row_pool.specs.Reach.{known_reach, reach_of}
 
 -- ---- sizes
-times_low : (n h : ℕ) → n ≤ 2097152 → n * h ≤ 2097152 * h
-times_low n h le = grind (arith, le)
-
-small_sum : (n : ℕ) (z : ℤ) → n ≤ 2097152 → neg_ℤ (pos (n * 2 ^ 93)) ≤ℤ z → z ≤ℤ pos (n * 2 ^ 93) → IsSmall z
+small_sum : (n : ℕ) (z : ℤ) → n ≤ most_nodes → neg_ℤ (pos (n * 2 ^ 93)) ≤ℤ z → z ≤ℤ pos (n * 2 ^ 93) → IsSmall z
 small_sum n z few low high =
-    let most : n * 2 ^ 93 ≤ 2 ^ 114 = times_low n (2 ^ 93) few in
+    let most : n * 2 ^ 93 ≤ 2 ^ 115 = height_low n few in
     (omega (arith, ints, most, low, high), omega (arith, ints, most, low, high))
 
 light : (n : ℕ) (a : graphs.Arc) → IsSound n a → (neg_ℤ (pos (2 ^ 93)) ≤ℤ (unnamed a).weight) × ((unnamed a).weight ≤ℤ pos (2 ^ 93))

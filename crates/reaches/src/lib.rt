@@ -6,8 +6,6 @@ mod pair;
 mod reading;
 mod room;
 mod rows;
-#[cfg(test)]
-mod tests;
 
 pub use pair::pair_of;
 pub use reading::pair_of_reading;

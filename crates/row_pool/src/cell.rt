@@ -3,13 +3,16 @@ ghost use Rattle.std.specs.Prelude.{◌≡◌};
 ghost use Rattle.row_pool.specs.Row.{unknown};
 ghost use Rattle.row_pool.specs.Reach.{known_reach};
 
+/// What stands for the number of an arc where there is none: a graph has far fewer arcs.
+pub const NO_PARENT: u32 = u32::MAX;
+
 /// The distance of one node in a row.
 #[derive(Clone, Copy, Debug, PartialEq, Eq)]
 pub struct Cell {
     /// In units of 1e-9 ns, where it is known.
     pub value: i128,
-    /// The number of the arc between this node and its parent in the tree of shortest paths; `u32::MAX` at the root and
-    /// where there is no path.
+    /// The number of the arc between this node and its parent in the tree of shortest paths; `NO_PARENT` at the root
+    /// and where there is no path.
     pub parent: u32,
     /// Whether there is a path.
     pub known: bool,
@@ -22,7 +25,7 @@ impl Cell {
     {
         Cell {
             value: 0,
-            parent: u32::MAX,
+            parent: NO_PARENT,
             known: false,
         }
     }

@@ -2,7 +2,5 @@
 #![tactic(auto)]
 
 mod cell;
-#[cfg(test)]
-mod tests;
 
-pub use cell::{Cell, Pair, Reach};
+pub use cell::{Cell, NO_PARENT, Pair, Reach};

@@ -12,8 +12,9 @@ mod ranks;
 mod solution;
 mod solving;
 
-pub use solution::Solution;
-pub use solving::solve;
+pub use order::insertion_order;
+pub use solution::{GraphSolution, Solution};
+pub use solving::{solve, solve_graph};
 
 #[cfg(test)]
 mod tests;

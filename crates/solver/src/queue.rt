@@ -1,10 +1,13 @@
 // Events that are brought in one after another.
+ghost use Rattle.std.specs.Prelude.{◌≡◌, ◌+◌, ◌<◌, ◌≤◌, ◌^◌, length, All, IfOk, IfSome, IfNone};
+ghost use Rattle.solver.specs.Queues.{AreSuccessions};
+
+use frontier::Frontier;
 use std::alloc::{AllocError, Global};
-use std::cmp::Reverse;
-use std::collections::BinaryHeap;
+use std::marker::Model;
 
 /// An event that comes next behind another: on its clock, or as the receive of a message behind its send.
-#[derive(Clone, Copy, PartialEq, Eq, PartialOrd, Ord)]
+#[derive(Clone, Copy)]
 pub struct Succession {
     /// The place of the event before.
     pub before: u32,
@@ -12,111 +15,124 @@ pub struct Succession {
     pub after: u32,
 }
 
-/// An event behind its time.
-#[derive(Clone, Copy, PartialEq, Eq, PartialOrd, Ord)]
-pub struct Timed {
-    /// In ns, by whatever clock all events are compared by.
-    pub time: i128,
-    /// Its place.
-    pub event: u32,
-}
-
-/// The events that wait for no other, by time, and how many each of the others waits for.
+/// The events that are ready, by time, and how many each of the others waits for.
+///
+/// Each event is queued once and taken out once. It is seen as how many events there are, and how many of them have not
+/// been taken out. A call names an event below their number, so no look-up misses.
 #[derive(Drop)]
 pub struct Queue {
-    ready: BinaryHeap<Reverse<Timed>>,
+    // Of each event, in ns, by whatever clock all events are compared by.
     times: Vec<i128>,
+    ready: Frontier,
     queued: Vec<bool>,
     waiting: Vec<u32>,
-    // Of the events by time, those before this place have been queued.
-    passed: usize,
+}
+
+impl Model for Queue {
+    ghost use Rattle.std.specs.Prelude.{◌+◌, length};
+    ghost use Rattle.solver.specs.Turns.{Turns};
+    ghost use Rattle.solver.specs.Queues.{IsQueue, not_queued, are_ready};
+
+    ghost Value = { Turns };
+
+    ghost view = { λ q. record { all = length q.queued.items; left = not_queued q.queued.items + are_ready q.ready } };
+
+    ghost invariant = { λ q. IsQueue q.times.items q.ready q.queued.items q.waiting.items };
+}
+
+// How many others each event waits for.
+fn waits(alloc: Global, events: usize, successions: &[Succession]) -> Result<Vec<u32>, AllocError>
+    requires { AreSuccessions events successions.now }
+    ensures { IfOk result (λ counts. length counts.items ≡ events) }
+{
+    let mut counts: Vec<u32> = Vec::new(alloc);
+    counts.resize(events, 0)?;
+    for pair in successions {
+        let count = counts[pair.after as usize];
+        counts[pair.after as usize] = count.saturating_add(1);
+    }
+    Ok(counts)
 }
 
 impl Queue {
-    /// No event is ready, and none waits.
-    pub fn new(alloc: Global, timed: &[Timed]) -> Result<Queue, AllocError> {
-        let mut times = vec![in alloc; 0; timed.len()]?;
-        for entry in timed {
-            if let Some(time) = times.get_mut(entry.event as usize) {
-                *time = entry.time;
-            }
-        }
+    /// Each event, by these times, waits for those that it comes next behind, and none is queued.
+    pub fn new(
+        alloc: Global,
+        times: Vec<i128>,
+        successions: &[Succession],
+    ) -> Result<Queue, AllocError>
+        requires few { length times.items < 2 ^ 32 }
+        requires successions { AreSuccessions (length times.items) successions.now }
+        ensures all { IfOk result (λ queue. queue.all ≡ length times.items) }
+        ensures left { IfOk result (λ queue. queue.left ≡ length times.items) }
+    {
+        let events = times.len();
+        let waiting = waits(alloc, events, successions)?;
+        let ready = Frontier::with_room(alloc, events as u32)?;
+        let queued = vec![in alloc; false; events]?;
         Ok(Queue {
-            ready: BinaryHeap::new(alloc),
             times,
-            queued: vec![in alloc; false; timed.len()]?,
-            waiting: vec![in alloc; 0; timed.len()]?,
-            passed: 0,
+            ready,
+            queued,
+            waiting,
         })
     }
 
-    /// Each of these events waits for those that it comes next behind, and those that wait for none are ready.
-    pub fn begin(&mut self, timed: &[Timed], successions: &[Succession]) -> Result<(), AllocError> {
-        for pair in successions {
-            if let Some(count) = self.waiting.get_mut(pair.after as usize) {
-                *count = count.saturating_add(1);
-            }
+    /// Queues an event, unless it has been queued.
+    pub fn push(&mut self, event: u32)
+        requires { event < self.old.all }
+        ensures { self.new ≡ self.old }
+    {
+        if self.queued[event as usize] {
+            return;
         }
-        for entry in timed {
-            self.push_ready(entry.event)?;
-        }
-        Ok(())
+        self.ready.put(event, self.times[event as usize]);
+        self.queued[event as usize] = true;
     }
 
-    /// Takes out the earliest event that is ready. Where none is, it is the earliest of these that has not been queued.
-    pub fn event(&mut self, timed: &[Timed]) -> Result<Option<u32>, AllocError> {
-        if self.ready.is_empty() {
-            self.push_first(timed)?;
+    /// Queues an event that waits for no other, unless it has been queued.
+    pub fn push_ready(&mut self, event: u32)
+        requires { event < self.old.all }
+        ensures { self.new ≡ self.old }
+    {
+        if self.waiting[event as usize] == 0 {
+            self.push(event);
         }
-        Ok(self.ready.pop().map(|entry| entry.0.event))
     }
 
-    /// Those that come next behind an event wait for it no longer.
-    pub fn release(&mut self, event: u32, successions: &[Succession]) -> Result<(), AllocError> {
+    /// Takes out the earliest event that is ready; None where none is.
+    pub fn take(&mut self) -> Option<u32>
+        ensures all { self.new.all ≡ self.old.all }
+        ensures event { IfSome result (λ event. event < self.old.all) }
+        ensures left { IfSome result (λ event. self.new.left + 1 ≡ self.old.left) }
+        ensures none { IfNone result (self.new ≡ self.old) }
+    {
+        let (event, _) = self.ready.pop()?;
+        Some(event)
+    }
+
+    // An event waits for one other less.
+    fn lessen(&mut self, event: u32)
+        requires { event < self.old.all }
+        ensures { self.new ≡ self.old }
+    {
+        let count = self.waiting[event as usize];
+        self.waiting[event as usize] = count.saturating_sub(1);
+        self.push_ready(event);
+    }
+
+    /// Those that come next behind an event wait for it no longer, and are queued where they wait for no other.
+    pub fn release(&mut self, event: u32, successions: &[Succession])
+        requires { AreSuccessions self.old.all successions.now }
+        ensures { self.new ≡ self.old }
+    {
         let first = successions.partition_point(|pair| pair.before < event);
-        for pair in &successions[first..] {
+        for place in first..successions.len() {
+            let pair = successions[place];
             if pair.before != event {
                 break;
             }
-            if let Some(count) = self.waiting.get_mut(pair.after as usize) {
-                *count = count.saturating_sub(1);
-            }
-            self.push_ready(pair.after)?;
+            self.lessen(pair.after);
         }
-        Ok(())
-    }
-
-    // Queues an event that waits for none.
-    fn push_ready(&mut self, event: u32) -> Result<(), AllocError> {
-        if self.waiting.get(event as usize).copied() == Some(0) {
-            self.push(event)?;
-        }
-        Ok(())
-    }
-
-    // Queues the first of these events that has not been.
-    fn push_first(&mut self, timed: &[Timed]) -> Result<(), AllocError> {
-        for place in self.passed..timed.len() {
-            self.passed = place;
-            let event = timed[place].event;
-            if self.queued.get(event as usize).copied() == Some(false) {
-                return self.push(event);
-            }
-        }
-        Ok(())
-    }
-
-    // Queues an event that has not been.
-    fn push(&mut self, event: u32) -> Result<(), AllocError> {
-        let Some(time) = self.times.get(event as usize).copied() else {
-            return Ok(());
-        };
-        if let Some(queued) = self.queued.get_mut(event as usize) {
-            if !*queued {
-                *queued = true;
-                self.ready.push(Reverse(Timed { time, event }))?;
-            }
-        }
-        Ok(())
     }
 }

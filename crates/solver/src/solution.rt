@@ -1,4 +1,4 @@
-// What solving a problem found.
+// What solving found.
 use earliest::Earliest;
 use sync_graph::{Arc, Graph};
 
@@ -8,5 +8,14 @@ pub enum Solution {
     /// There is an execution: the graph of the problem's bounds, and its earliest execution, one value for each node.
     Execution(Graph, Earliest),
     /// There is none: a closed chain of declared bounds with a negative sum, at most as many as there are nodes.
+    Contradiction(Vec<Arc>),
+}
+
+/// What solving a graph found.
+#[derive(Drop)]
+pub enum GraphSolution {
+    /// There is an execution, and this is the earliest one, one value for each node.
+    Execution(Earliest),
+    /// There is none: a closed chain of arcs in force with a negative sum, at most as many as there are nodes.
     Contradiction(Vec<Arc>),
 }

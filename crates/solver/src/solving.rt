@@ -1,15 +1,18 @@
 // The solving of a problem.
-ghost use Rattle.std.specs.Prelude.{◌≡◌, ◌+◌, ◌≤◌, length, IfOk, OnOk};
-ghost use Rattle.frontier.specs.Keys.{IsEmpty};
-ghost use Rattle.solver.specs.Solution.{IsSolution};
+ghost use Rattle.std.specs.Prelude.{◌≡◌, ◌+◌, length, IfOk, OnOk};
+ghost use Rattle.sync_graph.specs.Graph.{GraphLists};
+ghost use Rattle.earliest.specs.Inserted.{IsInserted};
+ghost use Rattle.solver.specs.Order.{AreAllArcs, AreAllInForce};
+ghost use Rattle.solver.specs.Solution.{IsGraphOf, IsSolution};
+ghost use Rattle.solver.specs.GraphSolution.{IsGraphSolution};
 
 use crate::order::insertion_order;
-use crate::solution::Solution;
+use crate::solution::{GraphSolution, Solution};
 use earliest::{Earliest, Inserted};
 use frontier::Frontier;
 use problem::Problem;
 use std::alloc::{AllocError, Global};
-use sync_graph::graph_of;
+use sync_graph::{Graph, graph_of};
 
 // So many more nodes have the value 0.
 fn push_zeros(e: &mut Earliest, nodes: u32) -> Result<(), AllocError>
@@ -30,20 +33,76 @@ fn zeros(alloc: Global, nodes: u32) -> Result<Earliest, AllocError>
     Ok(e)
 }
 
+// Brings in the arcs of a graph one by one, over values that are 0.
+fn bring_in(
+    alloc: Global,
+    g: &Graph,
+    order: &[u32],
+    e: &mut Earliest,
+) -> Result<Inserted, AllocError>
+    requires order { AreAllArcs g.now order.now }
+    requires in_force { AreAllInForce g.now }
+    requires one_each { length e.old.values ≡ length g.now.nodes }
+    ensures { IfOk result (λ found. IsInserted g.now e.new found) }
+{
+    g.exact();
+    let mut front = Frontier::with_room(alloc, g.nodes())?;
+    e.rebuild_in_order(g, order, &mut front)
+}
+
+// The values that were kept, or the cycle that was found.
+fn kept_or_cycle(e: Earliest, found: Inserted) -> GraphSolution
+    ensures { (g : GraphLists) → IsInserted g e found → IsGraphSolution g result }
+{
+    match found {
+        Inserted::Kept => GraphSolution::Execution(e),
+        Inserted::Negative(steps) => GraphSolution::Contradiction(steps),
+    }
+}
+
+/// Finds the earliest execution of a graph whose arcs are all in force, or a contradiction where it has none. The arcs
+/// are brought in in the order in which their numbers stand, which decides what it costs, and which contradiction is
+/// found where there are several. It answers an error only where memory runs out.
+pub fn solve_graph(alloc: Global, g: &Graph, order: &[u32]) -> Result<GraphSolution, AllocError>
+    requires order { AreAllArcs g.now order.now }
+    requires in_force { AreAllInForce g.now }
+    ensures { IfOk result (λ solution. IsGraphSolution g.now solution) }
+{
+    let mut e = zeros(alloc, g.nodes())?;
+    let found = bring_in(alloc, g, order, &mut e)?;
+    Ok(kept_or_cycle(e, found))
+}
+
+// Solves the graph of a problem, in the order of the problem.
+fn solve_in_order(alloc: Global, p: &Problem, g: &Graph) -> Result<GraphSolution, AllocError>
+    requires { IsGraphOf p.now g.now }
+    ensures { IfOk result (λ solution. IsGraphSolution g.now solution) }
+{
+    let _ = p.readings();
+    let order = insertion_order(alloc, p, g)?;
+    solve_graph(alloc, g, &order)
+}
+
+// What was found of the graph of a problem says the same of the problem.
+fn of_problem(p: &Problem, g: Graph, found: GraphSolution) -> Solution
+    requires graph { IsGraphOf p.now g }
+    requires found { IsGraphSolution g found }
+    ensures { IsSolution p.now result }
+{
+    let _ = p.readings();
+    g.exact();
+    match found {
+        GraphSolution::Execution(e) => Solution::Execution(g, e),
+        GraphSolution::Contradiction(steps) => Solution::Contradiction(steps),
+    }
+}
+
 /// Finds the earliest execution of a problem, or a contradiction where it has none. It answers an error only where
 /// memory runs out.
 pub fn solve(alloc: Global, p: &Problem) -> Result<Solution, AllocError>
     ensures { IfOk result (λ solution. IsSolution p.now solution) }
 {
-    // It tells what the readings are.
-    let _ = p.readings();
     let g = graph_of(alloc, p)?;
-    g.exact();
-    let order = insertion_order(alloc, p, &g)?;
-    let mut e = zeros(alloc, g.nodes())?;
-    let mut front = Frontier::with_room(alloc, g.nodes())?;
-    match e.rebuild_in_order(&g, &order, &mut front)? {
-        Inserted::Kept => Ok(Solution::Execution(g, e)),
-        Inserted::Negative(steps) => Ok(Solution::Contradiction(steps)),
-    }
+    let found = solve_in_order(alloc, p, &g)?;
+    Ok(of_problem(p, g, found))
 }

@@ -1,9 +1,5 @@
-ghost use Rattle.std.specs.Prelude.{◌≡◌, ◌≤◌, true, length};
-
-use super::*;
 use crate::order::insertion_order;
 use crate::ranks::node_ranks;
-use earliest::Earliest;
 use problem::{Problem, read_problem};
 use std::alloc::Global;
 use std::test::*;
@@ -61,51 +57,6 @@ fn has_order(alloc: Global, text: &str, want: &[u32]) -> Option<bool> {
     graph_has_order(alloc, &p, want)
 }
 
-// Whether the first values are these, in units.
-fn begins_with(e: &Earliest, nodes: u32, want: &[i128]) -> bool
-    requires solved { e.now.is_solved ≡ true }
-    requires nodes { nodes ≤ length e.now.values }
-{
-    for (k, value) in want.iter().enumerate() {
-        if nodes as usize <= k {
-            return false;
-        }
-        if e.value(k as u32) != *value {
-            return false;
-        }
-    }
-    true
-}
-
-// Whether a problem has an execution, and its earliest one begins with these values, in units.
-fn values_begin(alloc: Global, p: &Problem, want: &[i128]) -> Option<bool> {
-    match solve(alloc, p) {
-        Ok(Solution::Execution(g, e)) => Some(begins_with(&e, g.nodes(), want)),
-        Ok(Solution::Contradiction(_)) => Some(false),
-        Err(_) => None,
-    }
-}
-
-// The same of a problem by its text.
-fn has_values(alloc: Global, text: &str, want: &[i128]) -> Option<bool> {
-    let p = read_problem(alloc, text.as_bytes()).ok()?;
-    values_begin(alloc, &p, want)
-}
-
-// How many bounds the contradiction of a problem has, where it has one.
-fn bounds_of_contradiction(alloc: Global, p: &Problem) -> Option<usize> {
-    match solve(alloc, p) {
-        Ok(Solution::Contradiction(steps)) => Some(steps.len()),
-        _ => None,
-    }
-}
-
-// The same of a problem by its text.
-fn contradiction_size(alloc: Global, text: &str) -> Option<usize> {
-    let p = read_problem(alloc, text.as_bytes()).ok()?;
-    bounds_of_contradiction(alloc, &p)
-}
-
 #[test]
 fn a_send_comes_before_its_receive(rt: HostRuntime) {
     let alloc = rt.alloc();
@@ -124,13 +75,4 @@ fn a_send_comes_before_its_receive(rt: HostRuntime) {
 fn arcs_come_with_the_later_end(rt: HostRuntime) {
     let want = [4, 5, 8, 9, 12, 13, 2, 3, 10, 11, 0, 1, 6, 7, 14, 15];
     assert!(rt; has_order(rt.alloc(), TWO_LOGS, &want) == Some(true));
-}
-
-#[test]
-fn problems_are_solved(rt: HostRuntime) {
-    let alloc = rt.alloc();
-    let want = [0, 80_000_000_000, 10_000_000_000, 60_000_000_000];
-    assert!(rt; has_values(alloc, TWO_LOGS, &want) == Some(true));
-    assert!(rt; has_values(alloc, "problem 1\nend\n", &[]) == Some(true));
-    assert!(rt; contradiction_size(alloc, CIRCLE) == Some(8));
 }
