@@ -5,14 +5,13 @@ use Rattle.std.proofs.lemmas.Int.{ints}
 use Rattle.atto.specs.Number.{FitsUnits}
 use Rattle.problem_model.specs.Problem.{ProblemLists, IsProblem}
 use Rattle.problem_model.specs.Nodes.{Reading, AreReadings, nodes_of}
-use Rattle.difference_bounds.specs.Numbers.{IsUpTo}
-use Rattle.sync_graph.proofs.Rooms.{few_nodes}
+use Rattle.problem.proofs.ListedNodes.{few_nodes}
 use Rattle.cert.specs.EndLists.{EndLists, Limited, Unlimited}
 use Rattle.cert.specs.declared.chain.Step.{Step}
 use Rattle.cert.specs.ReadsCert.{FitsEndLists}
 use Rattle.cert.specs.ReadAgain.{IsAccepted}
 use Rattle.cert.proofs.ReadAgain.{ends_shown_again}
-use Rattle.attain.specs.Tight.{IsUpperAs, IsLowerAs, IsSmallEnd, AreTight, IsTightText}
+use Rattle.attain.specs.Tight.{IsUnder, IsUpperAs, IsLowerAs, IsSmallEnd, AreTight, IsTightText}
 use Rattle.attain.proofs.EndLengths.{text_short}
 
 -- ---- ranges
@@ -20,16 +19,16 @@ units_below : (m : ℕ) (z : ℤ) → m ≤ 2 ^ 120 → neg_ℤ (pos m) ≤ℤ z
 units_below m (pos n) few low high = omega (arith, ints, few, high)
 units_below m (negsuc n) few low high = omega (arith, ints, few, low)
 
-value_fits : (z : ℤ) → IsUpTo 116 z → FitsUnits z
-value_fits z small = units_below (2 ^ 116) z (omega arith) small.0 small.1
+value_fits : (z : ℤ) → IsUnder 116 z → FitsUnits z
+value_fits z (low, high) = units_below (2 ^ 116) z (omega arith) (omega (arith, ints, low)) (omega (arith, ints, high))
 
-weight_fits : (z : ℤ) → IsUpTo 93 z → FitsUnits z
-weight_fits z small = units_below (2 ^ 93) z (omega arith) small.0 small.1
+weight_fits : (z : ℤ) → IsUnder 93 z → FitsUnits z
+weight_fits z (low, high) = units_below (2 ^ 93) z (omega arith) (omega (arith, ints, low)) (omega (arith, ints, high))
 
-pub values_fit : (xs : List ℤ) → All (IsUpTo 116) xs → All FitsUnits xs
+pub values_fit : (xs : List ℤ) → All (IsUnder 116) xs → All FitsUnits xs
 values_fit xs small i d inside = value_fits (get_or xs i d) (small i d inside)
 
-pub weights_fit : (path : List Step) → All (λ s. IsUpTo 93 s.weight) path → All (λ s. FitsUnits s.weight) path
+pub weights_fit : (path : List Step) → All (λ s. IsUnder 93 s.weight) path → All (λ s. FitsUnits s.weight) path
 weights_fit path small i d inside = weight_fits (get_or path i d).weight (small i d inside)
 
 module _ (p : ProblemLists) (readings : List Reading) (lawful : IsProblem p) (are : AreReadings p readings) (first : ℕ) where

@@ -13,12 +13,12 @@ use Rattle.difference_bounds.specs.Executions.{at, IsExecution, values_by}
 use Rattle.difference_bounds.specs.Problems.{IsGreatestOf, IsUnboundedOf}
 use Rattle.difference_bounds.proofs.Executions.{at-values_by}
 use Rattle.sync_graph.specs.Graph.{GraphLists, IsGraph}
-use Rattle.earliest.specs.Values.{arcs_of}
+use Rattle.sync_graph.specs.InForce.{arcs_of}
 use Rattle.cert.specs.CertificateText.{HasOneEach}
-use Rattle.cert.specs.Listed.{Listed, listed_nodes}
-use Rattle.attain.specs.Standing.{IsNodeBy, StandsForListed}
-use Rattle.attain.proofs.ListedExecutions.{times_of}
-use Rattle.attain.proofs.NodeNumbers.{number_below, nodes_listed, time_by}
+use Rattle.problem.specs.Listing.{Listed, listed_nodes}
+use Rattle.sync_graph.specs.ListedStanding.{IsNodeBy, StandsForListed}
+use Rattle.sync_graph.proofs.ListedExecutions.{times_of}
+use Rattle.sync_graph.proofs.NodeNumbers.{number_below, nodes_listed, time_by}
 
 -- ---- one number, or none
 pub one_greatest_of : (p : ProblemLists) (m n : Node) (g h : ℤ) → IsGreatestOf p m n g → IsGreatestOf p m n h → g ≡ h

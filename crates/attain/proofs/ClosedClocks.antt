@@ -4,15 +4,14 @@ use Rattle.std.specs.Prelude.{ℤ, pos, neg_ℤ, ◌-ℤ◌, ◌≤ℤ◌, ◌<�
 use Rattle.std.proofs.lemmas.Int.{ints}
 use Rattle.std.proofs.lemmas.Bool.{cases_Bool, cases_lt}
 use Rattle.std.proofs.lemmas.List.Elements.{All-contains, Contains-get_or}
-use Rattle.std.proofs.lemmas.Option.{same_Some, slice_get_within, slice_get_read, slice_get-get_or, get_or_from_slice_get}
+use Rattle.std.proofs.lemmas.Option.{same_Some, slice_get_within, slice_get_read, slice_get-get_or}
 use Rattle.atto.specs.Span.{least_of, most_of}
 use Rattle.problem_model.specs.declared.items.Clock.{Clock}
 use Rattle.problem_model.specs.declared.items.Event.{Event}
-use Rattle.problem_model.specs.declared.items.Message.{Message}
 use Rattle.problem_model.specs.declared.items.Node.{Node}
 use Rattle.problem_model.specs.declared.items.Node.TheVariants as nodes
 use Rattle.problem_model.specs.declared.items.Bound.{Bound}
-use Rattle.problem_model.specs.declared.items.Bound.TheVariants.{SpanMost, SpanLeast, Late, Early, DelayMost, DelayLeast}
+use Rattle.problem_model.specs.declared.items.Bound.TheVariants.{SpanMost, SpanLeast, Late, Early}
 use Rattle.problem_model.specs.Problem.{ProblemLists, IsProblem}
 use Rattle.problem_model.specs.Bounds.{Constraint, Declares, ClockAt, EventAt, IsReading}
 use Rattle.problem_model.specs.Nodes.{Reading}
@@ -22,37 +21,15 @@ use Rattle.difference_bounds.specs.Problems.{IsUnboundedOf}
 use Rattle.difference_bounds.specs.Solutions.{IsNodeOf, WeighedBound, Leads}
 use Rattle.difference_bounds.proofs.Cuts.{cut_unbounded}
 use Rattle.sync_graph.specs.Graph.{GraphLists, IsGraph, table_of}
-use Rattle.earliest.specs.Values.{arcs_of}
-use Rattle.cert.specs.Listed.{Listed}
+use Rattle.sync_graph.specs.InForce.{arcs_of}
+use Rattle.sync_graph.specs.ListedStanding.{IsNodeBy, StandsForListed}
+use Rattle.sync_graph.proofs.BoundEnds.{event_of, contains_at, reading_of, ends_are}
+use Rattle.sync_graph.proofs.InForce.{arcs_listed, arcs_within}
+use Rattle.sync_graph.proofs.ListedExecutions.{unbounded_of}
+use Rattle.sync_graph.proofs.NodeNumbers.{number_below, is_node, number_of, one_number, stamps_at, listed_by, readings_count}
+use Rattle.problem.proofs.ListedNodes.{stamp_of}
+use Rattle.problem.specs.Listing.{Listed}
 use Rattle.cert.specs.Shows.{IsOnClock, IsCutOf, Parts}
-use Rattle.attain.specs.Standing.{IsNodeBy, StandsForListed}
-use Rattle.attain.proofs.ListedExecutions.{arcs_listed, arcs_within, unbounded_of}
-use Rattle.attain.proofs.NamedBounds.{stamp_of}
-use Rattle.attain.proofs.NodeNumbers.{number_below, is_node, number_of, one_number, stamps_at, listed_by, readings_count}
-
--- ---- the ends of declared bounds are nodes
-event_of : (p : ProblemLists) (k : ℕ) → k < length p.events → (v : Event) × EventAt p k v
-event_of p k inside = (get_or p.events k (record { name = []; clock = 0; stamp = 0 }), slice_get-get_or p.events k (record { name = []; clock = 0; stamp = 0 }) inside)
-
-contains_at : (p : ProblemLists) (k : ℕ) (v : Event) → EventAt p k v → Contains p.events v
-contains_at p k v at = (k, slice_get_within p.events k v at, get_or_from_slice_get p.events k v v at)
-
-reading_of : (p : ProblemLists) (k : ℕ) (v : Event) → EventAt p k v → IsReading p v.clock v.stamp
-reading_of p k v at = (v, contains_at p k v at, refl, refl)
-
-pub ends_are : (p : ProblemLists) (b : Bound) (c : Constraint) → IsProblem p → Declares p b c → IsNodeOf p c.from × IsNodeOf p c.to
-ends_are p (SpanMost clock s t) c lawful d = subst (λ (v : Constraint). IsNodeOf p v.from × IsNodeOf p v.to) (sym d.5) (d.2, d.3)
-ends_are p (SpanLeast clock s t) c lawful d = subst (λ (v : Constraint). IsNodeOf p v.from × IsNodeOf p v.to) (sym d.5) (d.3, d.2)
-ends_are p (Late e) c lawful d = subst (λ (v : Constraint). IsNodeOf p v.from × IsNodeOf p v.to) (sym d.4) (reading_of p e d.0 d.2, slice_get_within p.events e d.0 d.2)
-ends_are p (Early e) c lawful d = subst (λ (v : Constraint). IsNodeOf p v.from × IsNodeOf p v.to) (sym d.4) (slice_get_within p.events e d.0 d.2, reading_of p e d.0 d.2)
-ends_are p (DelayMost send receive) c lawful d =
-    let s : send < length p.events = subst (λ (k : ℕ). k < length p.events) d.3 (All-contains (λ (m : Message). m.send < length p.events) p.messages d.0 lawful.sends d.2) in
-    let r : receive < length p.events = subst (λ (k : ℕ). k < length p.events) d.4 (All-contains (λ (m : Message). m.receive < length p.events) p.messages d.0 lawful.receives d.2) in
-    subst (λ (v : Constraint). IsNodeOf p v.from × IsNodeOf p v.to) (sym d.6) (s, r)
-ends_are p (DelayLeast send receive) c lawful d =
-    let s : send < length p.events = subst (λ (k : ℕ). k < length p.events) d.2 (All-contains (λ (m : Message). m.send < length p.events) p.messages d.0 lawful.sends d.1) in
-    let r : receive < length p.events = subst (λ (k : ℕ). k < length p.events) d.3 (All-contains (λ (m : Message). m.receive < length p.events) p.messages d.0 lawful.receives d.1) in
-    subst (λ (v : Constraint). IsNodeOf p v.from × IsNodeOf p v.to) (sym d.4) (r, s)
 
 -- ---- nodes on clocks
 -- the node has this clock and stamp
@@ -74,7 +51,7 @@ some_clock p (nodes.Reading place s) reading = (place, refl)
 
 clock_of : (p : ProblemLists) (clock stamp : ℕ) → IsProblem p → IsReading p clock stamp → (c : Clock) × ClockAt p clock c
 clock_of p clock stamp lawful (v, has, on, is) =
-    let known : v.clock < length p.clocks = All-contains (λ (e : Event). e.clock < length p.clocks) p.events v lawful.event_clocks has in
+    let known : v.clock < length p.clocks = All-contains (λ (e : Event). e.clock < length p.clocks) p.events v lawful.formed.event_clocks has in
     let none : Clock = record { name = []; rate = record { short = 0; long = 0 }; early = 0; late = 0 } in
     (get_or p.clocks clock none, slice_get-get_or p.clocks clock none (subst (λ (k : ℕ). k < length p.clocks) on known))
 

@@ -5,7 +5,7 @@ use Rattle.std.specs.List.{flat_map}
 use Rattle.std.proofs.lemmas.List.Kept.{AllPairs-cons}
 use Rattle.problem_model.proofs.Walking.{drop_more, drop_all}
 use Rattle.difference_bounds.specs.Parents.{Cells}
-use Rattle.cert.specs.Listed.{Listed}
+use Rattle.problem.specs.Listing.{Listed}
 use Rattle.attain.specs.Written.{written_inside, AreClocksOf}
 use Rattle.attain.specs.Cuts.{is_another, is_first, clock_if, last_behind}
 

@@ -12,33 +12,35 @@ use Rattle.problem_model.specs.declared.items.Clock.{Clock}
 use Rattle.problem_model.specs.declared.items.Event.{Event}
 use Rattle.problem_model.specs.declared.items.Message.{Message}
 use Rattle.problem_model.specs.declared.items.Bound.{Bound}
-use Rattle.problem_model.specs.declared.items.Bound.TheVariants.{SpanMost, SpanLeast, Late, Early, DelayMost, DelayLeast}
+use Rattle.problem_model.specs.declared.items.Bound.TheVariants.{SpanMost, SpanLeast, Late, Early, Follow, DelayMost, DelayLeast}
 use Rattle.problem_model.specs.Problem.{ProblemLists, IsProblem, ClockFits, MessageFits}
 use Rattle.problem_model.specs.Bounds.{Constraint, Declares, IsReading, ClockAt}
 use Rattle.problem_model.specs.Nodes.{Reading, AreReadings, ComesBefore}
 use Rattle.problem_model.specs.ShortList.{short_list, neighbour_bounds, span_bounds, event_bounds, most_bound, message_bounds}
+use Rattle.problem_model.proofs.Following.{chained_by}
+use Rattle.problem_model.proofs.Walking.{none_follows, short_without}
 use Rattle.problem_model.proofs.OneName.{declared_one}
 use Rattle.difference_bounds.specs.Executions.{Arc}
-use Rattle.difference_bounds.specs.Numbers.{IsUpTo}
 use Rattle.difference_bounds.specs.Problems.{IsArcOf, StandsFor}
 use Rattle.difference_bounds.proofs.Solutions.{place_of}
 use Rattle.cert.proofs.Declaring.{reading_fits}
-use Rattle.attain.proofs.ClosedClocks.{ends_are}
+use Rattle.sync_graph.proofs.BoundEnds.{ends_are}
+use Rattle.attain.specs.Tight.{IsUnder}
 
 -- ---- weights
-up_to : (n : ℕ) → n ≤ 2 ^ 93 → IsUpTo 93 (pos n)
+up_to : (n : ℕ) → n < 2 ^ 93 → IsUnder 93 (pos n)
 up_to n few = (omega (arith, ints, few), omega (arith, ints, few))
 
-down_to : (n : ℕ) → n ≤ 2 ^ 93 → IsUpTo 93 (neg_ℤ (pos n))
+down_to : (n : ℕ) → n < 2 ^ 93 → IsUnder 93 (neg_ℤ (pos n))
 down_to n few = (omega (arith, ints, few), omega (arith, ints, few))
 
-span_few : (d rate : ℕ) → d < 2 ^ 62 → rate ≤ 2000000000 → d * rate ≤ 2 ^ 93
+span_few : (d rate : ℕ) → d < 2 ^ 62 → rate ≤ 2000000000 → d * rate < 2 ^ 93
 span_few d rate small slow =
     let most : d * rate ≤ 2 ^ 62 * 2000000000 = mul-le d rate (2 ^ 62) 2000000000 (omega (arith, small)) slow in
-    let limit : 2 ^ 62 * 2000000000 ≤ 2 ^ 93 = omega arith in
+    let limit : 2 ^ 62 * 2000000000 < 2 ^ 93 = omega arith in
     omega (arith, most, limit)
 
-delay_few : (d : ℕ) → d < 2 ^ 62 → d * 1000000000 ≤ 2 ^ 93
+delay_few : (d : ℕ) → d < 2 ^ 62 → d * 1000000000 < 2 ^ 93
 delay_few d small = span_few d 1000000000 small (omega arith)
 
 holds_at : {A : Type 0} (P : A → Type 0) (xs : List A) (k : ℕ) (a : A) → All P xs → slice_get xs k ≡ Some a → P a
@@ -48,29 +50,30 @@ most_fits : (o : Option ℕ) (most : ℕ) → IfSome o (λ n. n < 2 ^ 62) → o 
 most_fits o most fits is = subst (λ (v : Option ℕ). IfSome v (λ n. n < 2 ^ 62)) is fits
 
 module _ (p : ProblemLists) (lawful : IsProblem p) where
-  weight_small : (b : Bound) (c : Constraint) → Declares p b c → IsUpTo 93 c.weight
+  weight_small : (b : Bound) (c : Constraint) → Declares p b c → IsUnder 93 c.weight
   weight_small (SpanMost clock s t) c (k, at, is, is', before, same) =
-      let fits = holds_at ClockFits p.clocks clock k lawful.clocks_fit at in
+      let fits = holds_at ClockFits p.clocks clock k lawful.fits.clocks_fit at in
       let long : k.rate.long ≤ 1000000000 = fits.1 in
       let last : t < 2 ^ 62 = reading_fits p clock t lawful is' in
-      subst (IsUpTo 93) (sym (ap (λ (v : Constraint). v.weight) same)) (up_to (most_of k.rate (t - s)) (span_few (t - s) (1000000000 + k.rate.long) (omega (arith, last)) (omega (arith, long))))
+      subst (IsUnder 93) (sym (ap (λ (v : Constraint). v.weight) same)) (up_to (most_of k.rate (t - s)) (span_few (t - s) (1000000000 + k.rate.long) (omega (arith, last)) (omega (arith, long))))
   weight_small (SpanLeast clock s t) c (k, at, is, is', before, same) =
       let last : t < 2 ^ 62 = reading_fits p clock t lawful is' in
-      subst (IsUpTo 93) (sym (ap (λ (v : Constraint). v.weight) same)) (down_to (least_of k.rate (t - s)) (span_few (t - s) (1000000000 - k.rate.short) (omega (arith, last)) (omega arith)))
+      subst (IsUnder 93) (sym (ap (λ (v : Constraint). v.weight) same)) (down_to (least_of k.rate (t - s)) (span_few (t - s) (1000000000 - k.rate.short) (omega (arith, last)) (omega arith)))
   weight_small (Late e) c (v, k, at, at', same) =
-      let fits = holds_at ClockFits p.clocks v.clock k lawful.clocks_fit at' in
-      subst (IsUpTo 93) (sym (ap (λ (v : Constraint). v.weight) same)) (up_to (k.late * 1000000000) (delay_few k.late fits.3))
+      let fits = holds_at ClockFits p.clocks v.clock k lawful.fits.clocks_fit at' in
+      subst (IsUnder 93) (sym (ap (λ (v : Constraint). v.weight) same)) (up_to (k.late * 1000000000) (delay_few k.late fits.3))
   weight_small (Early e) c (v, k, at, at', same) =
-      let fits = holds_at ClockFits p.clocks v.clock k lawful.clocks_fit at' in
-      subst (IsUpTo 93) (sym (ap (λ (v : Constraint). v.weight) same)) (up_to (k.early * 1000000000) (delay_few k.early fits.2))
+      let fits = holds_at ClockFits p.clocks v.clock k lawful.fits.clocks_fit at' in
+      subst (IsUnder 93) (sym (ap (λ (v : Constraint). v.weight) same)) (up_to (k.early * 1000000000) (delay_few k.early fits.2))
+  weight_small (Follow b s e t) c declares = absurd (none_follows p b s e t c lawful.formed.no_follows declares)
   weight_small (DelayMost send receive) c (m, most, has, is, is', is_most, same) =
-      let fits = All-contains MessageFits p.messages m lawful.messages_fit has in
-      subst (IsUpTo 93) (sym (ap (λ (v : Constraint). v.weight) same)) (up_to (most * 1000000000) (delay_few most (most_fits m.most most fits.1 is_most)))
+      let fits = All-contains MessageFits p.messages m lawful.fits.messages_fit has in
+      subst (IsUnder 93) (sym (ap (λ (v : Constraint). v.weight) same)) (up_to (most * 1000000000) (delay_few most (most_fits m.most most fits.1 is_most)))
   weight_small (DelayLeast send receive) c (m, has, is, is', same) =
-      let fits = All-contains MessageFits p.messages m lawful.messages_fit has in
-      subst (IsUpTo 93) (sym (ap (λ (v : Constraint). v.weight) same)) (down_to (m.least * 1000000000) (delay_few m.least fits.0))
+      let fits = All-contains MessageFits p.messages m lawful.fits.messages_fit has in
+      subst (IsUnder 93) (sym (ap (λ (v : Constraint). v.weight) same)) (down_to (m.least * 1000000000) (delay_few m.least fits.0))
 
-pub declared_small : (p : ProblemLists) → IsProblem p → (b : Bound) (c : Constraint) → Declares p b c → IsUpTo 93 c.weight
+pub declared_small : (p : ProblemLists) → IsProblem p → (b : Bound) (c : Constraint) → Declares p b c → IsUnder 93 c.weight
 declared_small p lawful b c declares = weight_small p lawful b c declares
 
 -- ---- the short list is declared
@@ -84,7 +87,7 @@ module _ (p : ProblemLists) (lawful : IsProblem p) where
   IsOf b = (c : Constraint) × Declares p b c
 
   clock_of : (clock stamp : ℕ) → IsReading p clock stamp → (k : Clock) × ClockAt p clock k
-  clock_of clock stamp (e, has, is, is') = some_at p.clocks clock (subst (λ (n : ℕ). n < length p.clocks) is (All-contains (λ (e : Event). e.clock < length p.clocks) p.events e lawful.event_clocks has))
+  clock_of clock stamp (e, has, is, is') = some_at p.clocks clock (subst (λ (n : ℕ). n < length p.clocks) is (All-contains (λ (e : Event). e.clock < length p.clocks) p.events e lawful.formed.event_clocks has))
 
   later : (a b : Reading) → ComesBefore a b → a.0 ≡ b.0 → a.1 < b.1
   later a b (inl less) same = absurd (omega (arith, less, same))
@@ -114,7 +117,7 @@ module _ (p : ProblemLists) (lawful : IsProblem p) where
   stamps k [] same = All-nil IsOf
   stamps k (e ∷ es) same =
       let here : slice_get p.events k ≡ Some e = subst (λ (i : ℕ). slice_get p.events i ≡ Some e) (let none : k + 0 ≡ k = omega arith in none) (same 0 e refl) in
-      let c = some_at p.clocks e.clock (holds_at (λ (v : Event). v.clock < length p.clocks) p.events k e lawful.event_clocks here) in
+      let c = some_at p.clocks e.clock (holds_at (λ (v : Event). v.clock < length p.clocks) p.events k e lawful.formed.event_clocks here) in
       All-cons IsOf (Late k) (Early k ∷ event_bounds (k + 1) es) (_, (e, c.0, here, c.1, refl))
       (All-cons IsOf (Early k) (event_bounds (k + 1) es) (_, (e, c.0, here, c.1, refl))
       (stamps (k + 1) es (λ i v at. subst (λ (n : ℕ). slice_get p.events n ≡ Some v) (let next : k + suc i ≡ k + 1 + i = omega arith in next) (same (suc i) v at))))
@@ -134,12 +137,12 @@ module _ (p : ProblemLists) (lawful : IsProblem p) where
 
   module _ (readings : List Reading) (are : AreReadings p readings) where
     short_declared : All IsOf (short_list p readings)
-    short_declared =
+    short_declared = subst (All IsOf) (sym (short_without p readings lawful.formed.no_follows)) (
         All-append IsOf (span_bounds readings ++ event_bounds 0 p.events) (flat_map message_bounds p.messages)
         (All-append IsOf (span_bounds readings) (event_bounds 0 p.events)
         (spans readings (λ i d inside. are.each (get_or readings i d).0 (get_or readings i d).1 (Contains-get_or readings i d inside)) are.rising)
         (stamps 0 p.events (λ i e at. subst (λ (n : ℕ). slice_get p.events n ≡ Some e) (let same : i ≡ 0 + i = omega arith in same) at)))
-        (delays p.messages (All-contains_itself p.messages))
+        (delays p.messages (All-contains_itself p.messages)))
 
     -- ---- arcs
     abbrev IsSome : Arc → Type 0
@@ -167,9 +170,9 @@ module _ (p : ProblemLists) (lawful : IsProblem p) where
           a ∷ rest.0,
           All-cons IsSome a rest.0 (b, here.0, here.1, is) rest.1,
           All-cons (IsAmong (a ∷ rest.0)) b bs
-              (λ c declares. (a, (0, omega arith, refl), subst (λ (d : Constraint). IsArcOf p readings d a) (declared_one p lawful b here.0 c here.1 declares) is))
+              (λ c declares. (a, (0, omega arith, refl), subst (λ (d : Constraint). IsArcOf p readings d a) (declared_one p lawful.formed b here.0 c here.1 declares) is))
               (λ i d inside. among_more a rest.0 (get_or bs i d) (rest.2 i d inside)),
         )
 
     pub arcs_stand : (arcs : List Arc) × StandsFor p readings arcs
-    arcs_stand = let some = arcs_for (short_list p readings) short_declared in (some.0, record { each = some.1; every = some.2 })
+    arcs_stand = let some = arcs_for (short_list p readings) short_declared in (some.0, record { chained = chained_by p lawful.formed; each = some.1; every = some.2 })

@@ -8,9 +8,11 @@ use Rattle.problem_model.specs.ProblemText.{event_name}
 use Rattle.problem_model.specs.Nodes.{Reading, nodes_of}
 use Rattle.cert.specs.declared.chain.Step.{Step}
 use Rattle.cert.specs.EndLists.{EndLists, Limited, Unlimited}
-use Rattle.cert.specs.Listed.{Listed, name_at, listed_nodes, listed_values, certified}
+use Rattle.problem.specs.Listing.{Listed, name_at, listed_nodes}
+use Rattle.cert.specs.Listed.{listed_values, certified}
 use Rattle.cert.specs.CertificateText.{step_line, inside_line, end_text, ends_lines}
-use Rattle.attain.specs.ListedProblem.{IsListedBy, StandsAt, AreCarried}
+use Rattle.sync_graph.specs.ListedProblem.{IsListedBy, StandsAt}
+use Rattle.attain.specs.ListedProblem.{AreCarried}
 use Rattle.attain.specs.Written.{WrittenEnd, Limit, NoLimit, written_inside, written_end, written_ends}
 use Rattle.attain.proofs.ListedProblems.{clock_listed, event_listed, steps_carried, values_listed}
 

@@ -3,9 +3,9 @@ use Rattle.std.proofs.Common.{◌≡◌, ◌<◌, ◌≤◌, ◌+◌, ℕ, List,
 use Rattle.std.specs.Prelude.{All}
 use Rattle.std.proofs.lemmas.Option.{slice_get_within, get_or_from_slice_get}
 use borrow.Author.Count.{below_more}
-use Rattle.cert.specs.Listed.{Listed, listed_nodes}
+use Rattle.problem.specs.Listing.{Listed, listed_nodes}
 use Rattle.attain.specs.Intervals.{IsEventOn}
-use Rattle.attain.proofs.Lines.{event_node}
+use Rattle.problem.proofs.ListedNodes.{event_node}
 
 -- no event at one of the first so many places is the node
 abbrev pub NoneIs : List (ℕ × ℕ) → ℕ → ℕ → Type 0

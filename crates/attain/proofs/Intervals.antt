@@ -5,7 +5,7 @@ use Rattle.line_format.specs.Words.{line_of}
 use Rattle.difference_bounds.specs.Parents.{Cells, IsRow}
 use Rattle.difference_bounds.specs.Tables.{reversed_table}
 use Rattle.sync_graph.specs.Graph.{GraphLists, table_of}
-use Rattle.cert.specs.Listed.{Listed, name_at}
+use Rattle.problem.specs.Listing.{Listed, name_at}
 use Rattle.attain.specs.declared.side.Side.TheVariants.{Upper, Lower}
 use Rattle.attain.specs.Written.{written_end}
 use Rattle.attain.specs.Intervals.{IsEventOn, IsEndText, IsInterval}

@@ -1,4 +1,3 @@
-pub mod Answers
 pub mod Cutting
 pub mod Events
 pub mod Intervals
@@ -8,8 +7,6 @@ pub mod ListedProblems
 pub mod Parts
 pub mod Paths
 pub mod NamedBounds
-pub mod NodeNumbers
-pub mod ListedExecutions
 pub mod Sizes
 pub mod SmallEnds
 pub mod ClosedClocks
@@ -24,4 +21,3 @@ pub mod EndLengths
 pub mod Accepted
 pub mod DeclaredBounds
 pub mod SolvedTexts
-pub mod OwnStanding

@@ -8,7 +8,7 @@ use Rattle.line_format.specs.Words.{line_of}
 use Rattle.problem_model.specs.declared.items.Event.{Event}
 use Rattle.problem_model.specs.declared.items.Node.TheVariants as nodes
 use Rattle.problem_model.specs.declared.items.Bound.{Bound}
-use Rattle.problem_model.specs.declared.items.Bound.TheVariants.{SpanMost, SpanLeast, Late, Early, DelayMost, DelayLeast}
+use Rattle.problem_model.specs.declared.items.Bound.TheVariants.{SpanMost, SpanLeast, Late, Early, Follow, DelayMost, DelayLeast}
 use Rattle.problem_model.specs.Problem.{ProblemLists}
 use Rattle.problem_model.specs.ProblemText.{clock_name, event_name}
 use Rattle.problem_model.specs.BoundText.{bound_words}
@@ -16,11 +16,13 @@ use Rattle.problem_model.specs.Nodes.{Reading, event_nodes, reading_nodes, nodes
 use Rattle.problem_model.specs.ExecutionText.{node_words, value_lines}
 use Rattle.cert.specs.declared.chain.Step.{Step}
 use Rattle.cert.specs.declared.certificate.Cert.TheVariants.{Cycle, Run}
-use Rattle.cert.specs.Listed.{Listed, name_at, certified, timed_line, listed_bound, listed_step, listed_event, listed_reading, listed_words, listed_nodes, listed_values, listed_cycle, listed_run}
+use Rattle.problem.specs.Listing.{Listed, name_at, listed_nodes}
+use Rattle.cert.specs.Listed.{certified, timed_line, listed_bound, listed_step, listed_event, listed_reading, listed_words, listed_values, listed_cycle, listed_run}
 use Rattle.cert.specs.CertificateText.{step_line, certificate_text}
 use Rattle.cert.proofs.OwnListing.{clock_name_is, lines_are}
-use Rattle.attain.specs.ListedProblem.{IsListedBy, StandsAt, IsCarried, AreCarried}
-use Rattle.attain.proofs.Lines.{map_at}
+use Rattle.sync_graph.specs.ListedProblem.{IsListedBy, StandsAt, IsCarried}
+use Rattle.attain.specs.ListedProblem.{AreCarried}
+use Rattle.problem.proofs.ListedNodes.{map_at}
 
 -- ---- names
 name_there : (es : List Event) (k : ℕ) (name : List ℕ) → slice_get (map (λ (e : Event). e.name) es) k ≡ Some name → event_name es k ≡ name
@@ -51,11 +53,18 @@ module _ (l : Listed) (p : ProblemLists) (readings : List Reading) (is : IsListe
       ap (λ (name : List ℕ). kind ∷ name ∷ name_at l.event_names receive ∷ []) (event_listed send j at)
       ∙ ap (λ (name : List ℕ). kind ∷ event_name p.events j ∷ name ∷ []) (event_listed receive k at')
 
+  follow_carried : (earlier s later t : ℕ) → codes "follow" ∷ name_at l.clock_names earlier ∷ decimal_of s ∷ name_at l.clock_names later ∷ decimal_of t ∷ []
+      ≡ codes "follow" ∷ clock_name p.clocks earlier ∷ decimal_of s ∷ clock_name p.clocks later ∷ decimal_of t ∷ []
+  follow_carried earlier s later t =
+      ap (λ (name : List ℕ). codes "follow" ∷ name ∷ decimal_of s ∷ name_at l.clock_names later ∷ decimal_of t ∷ []) (clock_listed earlier)
+      ∙ ap (λ (name : List ℕ). codes "follow" ∷ clock_name p.clocks earlier ∷ decimal_of s ∷ name ∷ decimal_of t ∷ []) (clock_listed later)
+
   bound_carried : (b c : Bound) → IsCarried l b c → listed_bound l b ≡ bound_words p c
   bound_carried (SpanMost clock s t) c carried = span_carried (codes "span-most") clock s t ∙ ap (bound_words p) (sym carried)
   bound_carried (SpanLeast clock s t) c carried = span_carried (codes "span-least") clock s t ∙ ap (bound_words p) (sym carried)
   bound_carried (Late e) c (place, at, carried) = stamp_carried (codes "late") e place at ∙ ap (bound_words p) (sym carried)
   bound_carried (Early e) c (place, at, carried) = stamp_carried (codes "early") e place at ∙ ap (bound_words p) (sym carried)
+  bound_carried (Follow earlier s later t) c carried = follow_carried earlier s later t ∙ ap (bound_words p) (sym carried)
   bound_carried (DelayMost send receive) c (j, k, at, at', carried) = delay_carried (codes "delay-most") send receive j k at at' ∙ ap (bound_words p) (sym carried)
   bound_carried (DelayLeast send receive) c (j, k, at, at', carried) = delay_carried (codes "delay-least") send receive j k at at' ∙ ap (bound_words p) (sym carried)
 

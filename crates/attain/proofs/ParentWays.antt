@@ -1,5 +1,5 @@
 -- Parents of a row lead along declared bounds, from its node or towards it.
-use Rattle.std.proofs.Common.{◌≡◌, ◌≢◌, ◌<◌, ◌≤◌, ◌^◌, ℕ, zero, suc, true, false, List, [], ◌∷◌, ◌++◌, length, refl, sym, ◌∙◌, ap, subst, arith, inl, inr}
+use Rattle.std.proofs.Common.{◌≡◌, ◌≢◌, ◌<◌, ◌≤◌, ℕ, zero, suc, true, false, List, [], ◌∷◌, ◌++◌, length, refl, sym, ◌∙◌, ap, subst, arith, inl, inr}
 use Rattle.std.specs.Prelude.{ℤ, ◌+ℤ◌, All}
 use Rattle.std.proofs.lemmas.Int.{ints}
 use Rattle.std.proofs.lemmas.Bool.{cases_eq}
@@ -13,18 +13,19 @@ use Rattle.difference_bounds.specs.Parents.{Cells, no_parent, IsTight, LeadsBack
 use Rattle.difference_bounds.specs.Solutions.{WeighedBound, Leads, weight_of}
 use Rattle.difference_bounds.specs.Tables.{ArcTable, reversed_table}
 use Rattle.sync_graph.specs.declared.arc.Arc.{Arc}
-use Rattle.sync_graph.specs.Graph.{GraphLists, IsGraph, arc_at, table_of}
-use Rattle.earliest.proofs.Waiting.{in_force_below}
+use Rattle.sync_graph.specs.Graph.{GraphLists, IsGraph, most_arcs, arc_at, table_of}
+use Rattle.sync_graph.proofs.InForce.{in_force_below}
 use Rattle.cert.specs.declared.chain.Step.{Step}
 use Rattle.cert.specs.CertificateText.{IsStepOf}
-use Rattle.cert.specs.Listed.{Listed}
+use Rattle.problem.specs.Listing.{Listed}
 use Rattle.cert.specs.Shows.{weighed_bounds, LeadsAgainst}
-use Rattle.attain.specs.ListedProblem.{IsCarried, AreCarried}
-use Rattle.attain.specs.Standing.{IsNodeBy, StandsForListed}
+use Rattle.sync_graph.specs.ListedProblem.{IsCarried}
+use Rattle.attain.specs.ListedProblem.{AreCarried}
+use Rattle.sync_graph.specs.ListedStanding.{IsNodeBy, StandsForListed}
 use Rattle.attain.specs.Tight.{HasPath}
 use Rattle.attain.specs.Written.{FollowsParents}
-use Rattle.attain.proofs.ListedExecutions.{bound_of}
-use Rattle.attain.proofs.NodeNumbers.{one_node}
+use Rattle.sync_graph.proofs.ListedExecutions.{bound_of}
+use Rattle.sync_graph.proofs.NodeNumbers.{one_node}
 
 -- ---- a path with one bound more
 leads_more : (p : ProblemLists) (m n : Node) (steps : List WeighedBound) (b : Bound) (c : Constraint) → Leads p m steps n → Declares p b c → c.from ≡ n → Leads p m (steps ++ (b, c.weight) ∷ []) c.to
@@ -39,7 +40,7 @@ path_before p m n b c (steps, leads) declares begins = ((b, c.weight) ∷ steps,
 
 -- ---- parents
 -- the number that stands for no arc is not that of one
-no_arc_there : (arcs j : ℕ) → arcs ≤ 2 ^ 24 → j ≡ no_parent → j < arcs → ⊥
+no_arc_there : (arcs j : ℕ) → arcs ≤ most_arcs → j ≡ no_parent → j < arcs → ⊥
 no_arc_there arcs j few is below = omega (arith, few, is, below)
 
 -- a known node whose parent is in force is tight

@@ -1,15 +1,19 @@
 -- One end of an interval, as it is written.
 use Rattle.std.proofs.Common.{◌≡◌, ◌<◌, ◌≤◌, ◌+◌, ◌++◌, ◌∷◌, [], ℕ, zero, suc, true, false, List, length, None, inl, inr, ◌⊎◌, refl, subst, arith}
 use Rattle.std.specs.Prelude.{ℤ, pos, neg_ℤ, ◌-ℤ◌, All, AllPairs, map}
+use Rattle.std.specs.List.{flat_map}
 use Rattle.std.proofs.lemmas.Int.{ints, by_lt_z}
 use Rattle.std.proofs.lemmas.Bool.{cases_Bool}
 use borrow.Author.Count.{below_more}
+use Rattle.atto.specs.NsText.{ns_text}
+use Rattle.line_format.specs.Words.{line_of}
 use Rattle.problem_model.specs.declared.items.Bound.{Bound}
 use Rattle.difference_bounds.specs.Executions.{at}
 use Rattle.difference_bounds.specs.Parents.{Cells, IsRow}
 use Rattle.difference_bounds.specs.Rows.{attaining}
 use Rattle.sync_graph.specs.Graph.{GraphLists}
-use Rattle.cert.specs.Listed.{Listed, listed_nodes}
+use Rattle.problem.specs.Listing.{Listed, listed_nodes}
+use Rattle.cert.specs.Listed.{listed_step, listed_values}
 use Rattle.attain.specs.declared.side.Side.{Side}
 use Rattle.attain.specs.declared.side.Side.TheVariants.{Upper, Lower}
 use Rattle.attain.specs.Written.{Limit, NoLimit, FollowsParents, AreClocksOf, written_end}
@@ -32,6 +36,11 @@ module _ (l : Listed) (g : GraphLists) (values : List ℤ) (c : Cells) (p q : �
   pub no_limit_is : (side : Side) (inside : List ℕ) → c.known q ≡ false → AreClocksOf l c (is_upper side) inside → IsEndWritten side l g values c p q (NoLimit inside (at values))
   no_limit_is Upper inside unknown clocks = (unknown, clocks, refl)
   no_limit_is Lower inside unknown clocks = (unknown, clocks, refl)
+
+  -- the lines of such an end, one behind another
+  pub limit_text : (side : Side) (K : ℤ) (steps : List (Bound × ℤ)) → c.known q ≡ true → IsLeadOf side (length g.nodes) c values K → FollowsParents (is_upper side) g c p q steps → length steps < length g.nodes
+      → IsEndText side l g values c p q (line_of (part side ∷ ns_text (differences side c q) ∷ []) ++ flat_map (listed_step l) steps ++ listed_values l (attaining c.known (differences side c) values K))
+  limit_text side K steps known is_lead follows short = (Limit (differences side c q) steps (attaining c.known (differences side c) values K), limit_is side K steps known is_lead follows short, refl)
 
 -- ---- some node is the farthest
 as_far_cases : (side : Side) (a b : ℤ) → IsAsFar side a b ⊎ IsAsFar side b a

@@ -1,15 +1,17 @@
 -- Paths along parents, as they are written step by step.
-use Rattle.std.proofs.Common.{◌≡◌, ◌<◌, ◌≤◌, ◌+◌, ℕ, zero, suc, Bool, true, false, List, [], ◌∷◌, length, Option, slice_index_or, inl, inr, refl, ap, sym, ◌∙◌, subst, arith}
-use Rattle.std.specs.Prelude.{ℤ}
+use Rattle.std.proofs.Common.{◌≡◌, ◌<◌, ◌≤◌, ◌+◌, ℕ, zero, suc, Bool, true, false, List, [], ◌∷◌, length, Result, Ok, Err, slice_index_or, inl, inr, refl, ap, sym, ◌∙◌, subst, arith}
+use Rattle.std.specs.Prelude.{ℤ, IsErr}
 use Rattle.std.specs.List.{flat_map}
 use Rattle.std.proofs.lemmas.Bool.{cases_lt}
 use Rattle.problem_model.specs.declared.items.Bound.{Bound}
-use Rattle.ports.specs.Content.{Appends, AppendsPrefix}
+use Rattle.ports.specs.Content.{SinkTold, Writes}
+use Rattle.ports.specs.declared.failed.Failed.{Failed}
+use Rattle.ports.proofs.Writing.{Leaves, leaves_all, leaves_less, leaves_cut, leaves_none}
 use Rattle.difference_bounds.specs.Parents.{Cells, LeadsBack, IsRow}
 use Rattle.sync_graph.specs.declared.arc.Arc.{Arc}
 use Rattle.sync_graph.specs.Graph.{GraphLists, arc_at}
-use Rattle.cert.specs.Listed.{Listed, listed_step}
-use Rattle.cert.proofs.Pieces.{Leaves, leaves_all, leaves_less, leaves_front, leaves_none}
+use Rattle.problem.specs.Listing.{Listed}
+use Rattle.cert.specs.Listed.{listed_step}
 use Rattle.attain.specs.declared.side.Side.{Side}
 use Rattle.attain.specs.declared.side.Side.TheVariants.{Upper, Lower}
 use Rattle.attain.specs.Written.{next_node, FollowsParents}
@@ -61,7 +63,7 @@ module _ (side : Side) (g : GraphLists) (p : ℕ) (c : Cells) where
       (chain (is_upper side) g c back.0 q, chain_follows back.0 q back.2, omega (arith, same, few))
 
 -- the steps so far are written, and those from this node on are left
-pub record IsOnPath (l : Listed) (side : Side) (g : GraphLists) (c : Cells) (p q : ℕ) (old : Option (List ℕ)) (node count : ℕ) (now : Option (List ℕ)) : Type 0 where
+pub record IsOnPath (l : Listed) (side : Side) (g : GraphLists) (c : Cells) (p q : ℕ) (old : SinkTold) (node count : ℕ) (now : SinkTold) : Type 0 where
   pub total : ℕ
   pub whole : LeadsBack (facing side g) p c total q
   pub short : total < length g.nodes
@@ -71,7 +73,7 @@ pub record IsOnPath (l : Listed) (side : Side) (g : GraphLists) (c : Cells) (p q
   pub known : c.known node ≡ true
   pub leaves : Leaves old now (flat_map (listed_step l) (chain (is_upper side) g c left node)) (flat_map (listed_step l) (chain (is_upper side) g c total q))
 
-module _ (l : Listed) (side : Side) (g : GraphLists) (c : Cells) (p q : ℕ) (old : Option (List ℕ)) where
+module _ (l : Listed) (side : Side) (g : GraphLists) (c : Cells) (p q : ℕ) (old : SinkTold) where
   pub path_starts : IsRow (length g.nodes) (facing side g) p c → c.known q ≡ true → IsOnPath l side g c p q old q 0 old
   path_starts row known =
       let back = row.back q known in
@@ -86,43 +88,40 @@ module _ (l : Listed) (side : Side) (g : GraphLists) (c : Cells) (p q : ℕ) (ol
         leaves = leaves_all old (flat_map (listed_step l) (chain (is_upper side) g c back.0 q));
       }
 
-  -- all steps of the path
-  whole_path : (node count : ℕ) (now : Option (List ℕ)) → IsOnPath l side g c p q old node count now → List (Bound × ℤ)
-  whole_path node count now on = chain (is_upper side) g c on.total q
+  -- some steps follow parents all the way, and this became of their lines
+  abbrev pub HasPathWritten : SinkTold → Result (Unit {0}) Failed → Type 0
+  HasPathWritten new r = (steps : List (Bound × ℤ)) × FollowsParents (is_upper side) g c p q steps × (length steps < length g.nodes) × Writes (flat_map (listed_step l) steps) old new r
 
-  -- some steps follow parents all the way, and these bytes are theirs
-  abbrev pub HasPathWritten : (List ℕ → Type 0) → Type 0
-  HasPathWritten Written = (steps : List (Bound × ℤ)) × FollowsParents (is_upper side) g c p q steps × (length steps < length g.nodes) × Written (flat_map (listed_step l) steps)
-
-  pub whole_written : (total : ℕ) (Written : List ℕ → Type 0) → LeadsBack (facing side g) p c total q → total < length g.nodes → Written (flat_map (listed_step l) (chain (is_upper side) g c total q)) → HasPathWritten Written
-  whole_written total Written whole short written = (
+  whole_written : (total : ℕ) (new : SinkTold) (r : Result (Unit {0}) Failed) → LeadsBack (facing side g) p c total q → total < length g.nodes
+      → Writes (flat_map (listed_step l) (chain (is_upper side) g c total q)) old new r → HasPathWritten new r
+  whole_written total new r whole short written = (
     chain (is_upper side) g c total q,
     chain_follows side g p c total q whole,
     let same = chain_length side g p c total q in omega (arith, same, short),
     written,
   )
 
-  pub path_ends : (node count : ℕ) (now : Option (List ℕ)) → IsOnPath l side g c p q old node count now → node ≡ p → HasPathWritten (Appends old now)
-  path_ends node count now on home = whole_written on.total (Appends old now) on.whole on.short (none_left on.left on.back on.leaves)
+  pub path_ends : (node count : ℕ) (now : SinkTold) → IsOnPath l side g c p q old node count now → node ≡ p → HasPathWritten now (Ok tt)
+  path_ends node count now on home = whole_written on.total now (Ok tt) on.whole on.short (none_left on.left on.back on.leaves)
     where
       none_left : (left : ℕ) → LeadsBack (facing side g) p c left node → Leaves old now (flat_map (listed_step l) (chain (is_upper side) g c left node)) (flat_map (listed_step l) (chain (is_upper side) g c on.total q))
-          → Appends old now (flat_map (listed_step l) (chain (is_upper side) g c on.total q))
-      none_left zero back leaves = leaves_none old now (flat_map (listed_step l) (chain (is_upper side) g c on.total q)) leaves
+          → Writes {A = Unit {0}} {E = Failed} (flat_map (listed_step l) (chain (is_upper side) g c on.total q)) old now (Ok tt)
+      none_left zero back leaves = leaves_none leaves
       none_left (suc left) (away, tight, rest) leaves = absurd (away home)
 
-  pub path_past : (node count : ℕ) (now : Option (List ℕ)) → IsOnPath l side g c p q old node count now → length g.nodes ≤ count → ⊥
+  pub path_past : (node count : ℕ) (now : SinkTold) → IsOnPath l side g c p q old node count now → length g.nodes ≤ count → ⊥
   path_past node count now on past =
       let short = on.short in
       let counted = on.counted in
       omega (arith, short, counted, past)
 
   -- the step from a node that is not the last one
-  pub record IsStepFrom (node count : ℕ) (now : Option (List ℕ)) (a : Arc) : Type 0 where
+  pub record IsStepFrom (node count : ℕ) (now : SinkTold) (a : Arc) : Type 0 where
     pub in_force : slice_index_or g.in_force (c.parent node) false ≡ true
-    pub on : (mid : Option (List ℕ)) → Appends now mid (listed_step l (a.name, a.weight)) → IsOnPath l side g c p q old (next_node (is_upper side) a) (count + 1) mid
-    pub cut : (mid : Option (List ℕ)) → AppendsPrefix now mid (listed_step l (a.name, a.weight)) → HasPathWritten (AppendsPrefix old mid)
+    pub on : (mid : SinkTold) (v : Unit {0}) → Writes {A = Unit {0}} {E = Failed} (listed_step l (a.name, a.weight)) now mid (Ok v) → IsOnPath l side g c p q old (next_node (is_upper side) a) (count + 1) mid
+    pub cut : (new : SinkTold) (e : Failed) (r : Result (Unit {0}) Failed) → IsErr r → Writes {A = Unit {0}} {E = Failed} (listed_step l (a.name, a.weight)) now new (Err e) → HasPathWritten new r
 
-  pub step_from : (node count : ℕ) (now : Option (List ℕ)) → IsOnPath l side g c p q old node count now → (node ≡ p → ⊥) → IsStepFrom node count now (arc_at g.arcs (c.parent node))
+  pub step_from : (node count : ℕ) (now : SinkTold) → IsOnPath l side g c p q old node count now → (node ≡ p → ⊥) → IsStepFrom node count now (arc_at g.arcs (c.parent node))
   step_from node count now on away = by_left on.left on.back on.counted on.leaves
     where
       by_left : (left : ℕ) → LeadsBack (facing side g) p c left node → left + count ≡ on.total
@@ -133,10 +132,9 @@ module _ (l : Listed) (side : Side) (g : GraphLists) (c : Cells) (p q : ℕ) (ol
           let a = arc_at g.arcs (c.parent node) in
           let first = back_first side g p c left node back in
           let rest = flat_map (listed_step l) (chain (is_upper side) g c left (next_node (is_upper side) a)) in
-          let all = flat_map (listed_step l) (chain (is_upper side) g c on.total q) in
           record {
             in_force = first.0;
-            on = λ mid written. record {
+            on = λ mid v written. record {
               total = on.total;
               whole = on.whole;
               short = on.short;
@@ -144,7 +142,7 @@ module _ (l : Listed) (side : Side) (g : GraphLists) (c : Cells) (p q : ℕ) (ol
               back = first.2;
               counted = omega (arith, counted);
               known = first.1;
-              leaves = leaves_less old now mid (listed_step l (a.name, a.weight)) rest all leaves written;
+              leaves = leaves_less leaves written;
             };
-            cut = λ mid written. whole_written on.total (AppendsPrefix old mid) on.whole on.short (leaves_front old now mid (listed_step l (a.name, a.weight)) rest all leaves written);
+            cut = λ new e r failed written. whole_written on.total new r on.whole on.short (leaves_cut rest leaves failed written);
           }

@@ -14,12 +14,11 @@ use Rattle.problem_model.specs.Nodes.{Reading, AreReadings, nodes_of}
 use Rattle.difference_bounds.specs.Executions as bounds
 use Rattle.difference_bounds.specs.Executions.{at}
 use Rattle.difference_bounds.specs.Earliest.{IsEarliest}
-use Rattle.difference_bounds.specs.Numbers.{IsUpTo}
 use Rattle.difference_bounds.specs.Solutions.{IsEarliestExecution, Leads, IsContradictionOf}
 use Rattle.difference_bounds.proofs.Heights.{earliest_height}
 use Rattle.difference_bounds.proofs.Problems.{within}
 use Rattle.difference_bounds.proofs.Solutions.{same_earliest}
-use Rattle.sync_graph.proofs.Rooms.{few_nodes}
+use Rattle.problem.proofs.ListedNodes.{few_nodes}
 use Rattle.cert.specs.declared.chain.Step.{Step}
 use Rattle.cert.specs.declared.certificate.Cert.TheVariants.{Cycle, Run}
 use Rattle.cert.specs.Listed.{certificate_head}
@@ -28,13 +27,28 @@ use Rattle.cert.specs.ReadAgain.{IsAccepted}
 use Rattle.cert.specs.Shows.{weighed_bounds}
 use Rattle.cert.proofs.ReadAgain.{shown_again}
 use Rattle.cert.proofs.TextLengths.{line_size, steps_short, values_short}
+use Rattle.attain.specs.Tight.{IsUnder}
 use Rattle.attain.proofs.Accepted.{weights_fit, values_fit}
 use Rattle.attain.proofs.DeclaredBounds.{declared_small, arcs_stand}
-use Rattle.attain.proofs.EndLengths.{three}
+use Rattle.attain.proofs.EndLengths.{values_up_to, weights_up_to, three}
+
+-- ---- steps of a contradiction
+module _ (p : ProblemLists) (lawful : IsProblem p) where
+  led_steps : (steps : List Step) (m n : Node) → Leads p m (weighed_bounds steps) n → All (IsStepOf p) steps
+  led_steps [] m n leads = All-nil (IsStepOf p)
+  led_steps (s ∷ steps) m n (c, declares, weighs, begins, rest) = All-cons (IsStepOf p) s steps (c, declares) (led_steps steps c.to n rest)
+
+  led_small : (steps : List Step) (m n : Node) → Leads p m (weighed_bounds steps) n → All (λ s. IsUnder 93 s.weight) steps
+  led_small [] m n leads = All-nil (λ (s : Step). IsUnder 93 s.weight)
+  led_small (s ∷ steps) m n (c, declares, weighs, begins, rest) =
+      All-cons (λ (s : Step). IsUnder 93 s.weight) s steps (subst (IsUnder 93) weighs (declared_small p lawful s.bound c declares)) (led_small steps c.to n rest)
+
+  pub cycle_small : (steps : List Step) → IsContradictionOf p (weighed_bounds steps) → All (λ s. IsUnder 93 s.weight) steps
+  cycle_small steps contradiction = let n = contradiction.closed.0 in led_small steps n n contradiction.closed.1
 
 module _ (p : ProblemLists) (readings : List Reading) (lawful : IsProblem p) (are : AreReadings p readings) where
   -- what is said between the head and the end
-  framed_short : (kind lines : List ℕ) → length kind ≤ 5 → length lines ≤ 513802284
+  framed_short : (kind lines : List ℕ) → length kind ≤ 5 → length lines ≤ 522190893
       → length (line_of certificate_head ++ (line_of (kind ∷ []) ++ lines) ++ line_of (codes "end" ∷ [])) < 2 ^ 30
   framed_short kind lines word short =
       let head : length (line_of certificate_head) ≡ 14 = line_size (codes "certificate") (codes "1" ∷ []) in
@@ -45,20 +59,11 @@ module _ (p : ProblemLists) (readings : List Reading) (lawful : IsProblem p) (ar
       omega (arith, word, short, head, end, first, both, whole)
 
   -- ---- contradictions
-  led_steps : (steps : List Step) (m n : Node) → Leads p m (weighed_bounds steps) n → All (IsStepOf p) steps
-  led_steps [] m n leads = All-nil (IsStepOf p)
-  led_steps (s ∷ steps) m n (c, declares, weighs, begins, rest) = All-cons (IsStepOf p) s steps (c, declares) (led_steps steps c.to n rest)
-
-  led_small : (steps : List Step) (m n : Node) → Leads p m (weighed_bounds steps) n → All (λ s. IsUpTo 93 s.weight) steps
-  led_small [] m n leads = All-nil (λ (s : Step). IsUpTo 93 s.weight)
-  led_small (s ∷ steps) m n (c, declares, weighs, begins, rest) =
-      All-cons (λ (s : Step). IsUpTo 93 s.weight) s steps (subst (IsUpTo 93) weighs (declared_small p lawful s.bound c declares)) (led_small steps c.to n rest)
-
   pub cycle_short : (steps : List Step) → IsContradictionOf p (weighed_bounds steps) → length steps ≤ length (nodes_of p readings) → length (certificate_text p (nodes_of p readings) (Cycle steps)) < 2 ^ 30
   cycle_short steps contradiction short =
       let n = contradiction.closed.0 in
       let few = few_nodes p readings lawful are in
-      let lines = steps_short p lawful steps (led_steps steps n n contradiction.closed.1) (led_small steps n n contradiction.closed.1) in
+      let lines = steps_short p lawful steps (led_steps p lawful steps n n contradiction.closed.1) (weights_up_to steps (led_small p lawful steps n n contradiction.closed.1)) in
       framed_short (codes "cycle") (flat_map (step_line p) steps) (omega arith) (omega (arith, short, few, lines))
 
   below : (m n : ℕ) → m < n → m ≤ n
@@ -67,8 +72,8 @@ module _ (p : ProblemLists) (readings : List Reading) (lawful : IsProblem p) (ar
   pub cycle_accepted : (steps : List Step) → IsContradictionOf p (weighed_bounds steps) → length steps ≤ length (nodes_of p readings) → IsAccepted p readings (certificate_text p (nodes_of p readings) (Cycle steps))
   cycle_accepted steps contradiction short =
       let n = contradiction.closed.0 in
-      let declared = led_steps steps n n contradiction.closed.1 in
-      let small = led_small steps n n contradiction.closed.1 in
+      let declared = led_steps p lawful steps n n contradiction.closed.1 in
+      let small = led_small p lawful steps n n contradiction.closed.1 in
       let few = few_nodes p readings lawful are in
       shown_again p readings (Cycle steps) lawful are declared (weights_fit steps small, omega (arith, short, few))
       (below (length (certificate_text p (nodes_of p readings) (Cycle steps))) (2 ^ 30) (cycle_short steps contradiction short)) contradiction
@@ -87,9 +92,10 @@ module _ (p : ProblemLists) (readings : List Reading) (lawful : IsProblem p) (ar
     low_weights : All (λ a. neg_ℤ (pos (2 ^ 93)) ≤ℤ a.weight) own_arcs
     low_weights i d inside =
         let arc = (arcs_stand p lawful readings are).1.each i d inside in
-        subst (λ (w : ℤ). neg_ℤ (pos (2 ^ 93)) ≤ℤ w) (sym arc.3.weighs) (declared_small p lawful arc.0 arc.1 arc.2).0
+        let low = (declared_small p lawful arc.0 arc.1 arc.2).0 in
+        subst (λ (w : ℤ). neg_ℤ (pos (2 ^ 93)) ≤ℤ w) (sym arc.3.weighs) (omega (arith, ints, low))
 
-    limit_is : (n : ℕ) (z : ℤ) → n ≤ 2 ^ 21 → pos 0 ≤ℤ z → z ≤ℤ pos (n * 2 ^ 93) → IsUpTo 116 z
+    limit_is : (n : ℕ) (z : ℤ) → n ≤ 2 ^ 21 → pos 0 ≤ℤ z → z ≤ℤ pos (n * 2 ^ 93) → IsUnder 116 z
     limit_is n z few low high =
         let most : n * 2 ^ 93 ≤ 2 ^ 114 = omega (arith, few) in
         (omega (arith, ints, most, low, high), omega (arith, ints, most, low, high))
@@ -97,17 +103,17 @@ module _ (p : ProblemLists) (readings : List Reading) (lawful : IsProblem p) (ar
     values_long : length values ≡ length (nodes_of p readings)
     values_long = length-map (nodes_of p readings) x
 
-    values_small : All (IsUpTo 116) values
+    pub values_small : All (IsUnder 116) values
     values_small i d inside =
         let here : at values i ≡ get_or values i d = get_or_default values i (pos 0) d inside in
-        subst (IsUpTo 116) here
+        subst (IsUnder 116) here
         (limit_is (length (nodes_of p readings)) (at values i) (few_nodes p readings lawful are) (earliest_is.non_negative i)
         (earliest_height (length (nodes_of p readings)) own_arcs values (2 ^ 93) (within p readings own_arcs are (arcs_stand p lawful readings are).1) low_weights earliest_is i (omega (arith, inside, values_long))))
 
     pub run_short : length (certificate_text p (nodes_of p readings) (Run values)) < 2 ^ 30
     run_short =
         let few = few_nodes p readings lawful are in
-        let lines = values_short p lawful readings values are values_small in
+        let lines = values_short p lawful readings values are (values_up_to values values_small) in
         framed_short (codes "run") (value_lines p (nodes_of p readings) values) (omega arith) (omega (arith, few, lines))
 
     pub run_accepted : IsAccepted p readings (certificate_text p (nodes_of p readings) (Run values))

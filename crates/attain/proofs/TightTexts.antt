@@ -8,12 +8,13 @@ use Rattle.problem_model.specs.Nodes.{Reading}
 use Rattle.difference_bounds.specs.Parents.{Cells, IsRow}
 use Rattle.difference_bounds.specs.Tables.{reversed_table}
 use Rattle.sync_graph.specs.Graph.{GraphLists, IsGraph, table_of}
-use Rattle.earliest.specs.Values.{IsEarliestOf}
-use Rattle.cert.specs.Listed.{Listed, listed_nodes, certified}
-use Rattle.attain.specs.Standing.{StandsForListed, IsEventAt}
+use Rattle.sync_graph.specs.InForce.{IsEarliestOf}
+use Rattle.problem.specs.Listing.{Listed, listed_nodes}
+use Rattle.cert.specs.Listed.{certified}
+use Rattle.sync_graph.specs.ListedStanding.{StandsForListed, IsEventAt}
 use Rattle.attain.specs.Tight.{IsTightText}
 use Rattle.attain.specs.Intervals.{IsEventOn, IsIntervalText}
-use Rattle.attain.proofs.Lines.{event_node}
+use Rattle.problem.proofs.ListedNodes.{event_node}
 use Rattle.attain.proofs.Tightness.{tight}
 
 -- ---- an event by its node

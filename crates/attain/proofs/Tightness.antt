@@ -7,15 +7,15 @@ use Rattle.problem_model.specs.Nodes.{Reading}
 use Rattle.difference_bounds.specs.Parents.{Cells, IsRow}
 use Rattle.difference_bounds.specs.Tables.{reversed_table}
 use Rattle.sync_graph.specs.Graph.{GraphLists, IsGraph, table_of}
-use Rattle.earliest.specs.Values.{IsEarliestOf}
-use Rattle.cert.specs.Listed.{Listed}
-use Rattle.attain.specs.Standing.{StandsForListed}
+use Rattle.sync_graph.specs.InForce.{IsEarliestOf}
+use Rattle.problem.specs.Listing.{Listed}
+use Rattle.sync_graph.specs.ListedStanding.{StandsForListed}
 use Rattle.attain.specs.Tight.{IsTightText}
 use Rattle.attain.specs.Written.{WrittenEnd, written_ends, IsUpperWritten, IsLowerWritten}
 use Rattle.attain.proofs.EndTexts.{ends_listed}
 use Rattle.attain.proofs.LowerTightness.{lower_shown}
-use Rattle.attain.proofs.NodeNumbers.{events_count, event_by}
-use Rattle.attain.proofs.Sizes.{sizes, sizes_towards}
+use Rattle.sync_graph.proofs.NodeNumbers.{events_count, event_by}
+use Rattle.attain.proofs.Sizes.{heights, heights_towards}
 use Rattle.attain.proofs.SmallEnds.{upper_small, lower_small}
 use Rattle.attain.proofs.UpperTightness.{upper_shown}
 
@@ -41,8 +41,8 @@ module _ (l : Listed) (p : ProblemLists) (readings : List Reading) (g : GraphLis
           lower_shown = below.3;
           upper_as = above.4;
           lower_as = below.4;
-          upper_small = upper_small l p readings g stands is values outward (sizes g is values e from outward row) from to upper above.0 above.1 is_upper;
-          lower_small = lower_small l p readings g stands is values towards (sizes_towards g is values e from towards back) from to lower below.0 below.1 is_lower;
+          upper_small = upper_small l p readings g stands is values outward (heights g is values e from outward row) from to upper above.0 above.1 is_upper;
+          lower_small = lower_small l p readings g stands is values towards (heights_towards g is values e from towards back) from to lower below.0 below.1 is_lower;
         },
         ends_listed l p readings stands.listed j k first second (from, here) (to, here') upper lower above.0 below.0 above.1 below.1,
       )

@@ -1,10 +1,10 @@
 -- The certificate of the interval between two events, as it is written by the rows of the first one.
-use Rattle.std.specs.Prelude.{◌≡◌, ℕ, List, [], ◌∷◌, ◌++◌, slice_get, Some, codes, ℤ, Option}
+use Rattle.std.specs.Prelude.{◌≡◌, ℕ, List, [], ◌∷◌, ◌++◌, slice_get, Some, codes, ℤ}
 use Rattle.line_format.specs.Words.{line_of}
-use Rattle.ports.specs.Content.{Appends, AppendsPrefix}
 use Rattle.difference_bounds.specs.Parents.{Cells}
 use Rattle.sync_graph.specs.Graph.{GraphLists}
-use Rattle.cert.specs.Listed.{Listed, name_at, certified}
+use Rattle.problem.specs.Listing.{Listed, name_at}
+use Rattle.cert.specs.Listed.{certified}
 use Rattle.attain.specs.declared.side.Side.{Side}
 use Rattle.attain.specs.Written.{WrittenEnd, written_end, IsUpperWritten, IsLowerWritten}
 use Rattle.attain.specs.Sides.{part, unlimited, IsEndWritten}
@@ -34,11 +34,3 @@ pub record IsInterval (l : Listed) (g : GraphLists) (values : List ℤ) (from to
 -- the text is the certificate with such lines
 abbrev pub IsIntervalText : Listed → GraphLists → List ℤ → Cells → Cells → ℕ → ℕ → List ℕ → Type 0
 IsIntervalText l g values from to p q text = (lines : List ℕ) × IsInterval l g values from to p q lines × (text ≡ certified lines)
-
--- such a text is appended
-abbrev pub AppendsSuch : (List ℕ → Type 0) → Option (List ℕ) → Option (List ℕ) → Type 0
-AppendsSuch Such old new = (text : List ℕ) × Such text × Appends old new text
-
--- a front of such a text is appended
-abbrev pub AppendsFrontOfSuch : (List ℕ → Type 0) → Option (List ℕ) → Option (List ℕ) → Type 0
-AppendsFrontOfSuch Such old new = (text : List ℕ) × Such text × AppendsPrefix old new text

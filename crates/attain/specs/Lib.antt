@@ -1,7 +1,7 @@
 pub mod Cuts
+pub mod Ends
 pub mod Intervals
 pub mod ListedProblem
 pub mod Sides
-pub mod Standing
 pub mod Tight
 pub mod Written

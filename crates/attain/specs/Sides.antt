@@ -5,7 +5,7 @@ use Rattle.difference_bounds.specs.Rows.{IsGreatestLead, IsLeastLead, least_diff
 use Rattle.difference_bounds.specs.Tables.{ArcTable, reversed_table}
 use Rattle.difference_bounds.specs.Parents.{Cells}
 use Rattle.sync_graph.specs.Graph.{GraphLists, table_of}
-use Rattle.cert.specs.Listed.{Listed}
+use Rattle.problem.specs.Listing.{Listed}
 use Rattle.attain.specs.declared.side.Side.{Side}
 use Rattle.attain.specs.declared.side.Side.TheVariants.{Upper, Lower}
 use Rattle.attain.specs.Written.{WrittenEnd, IsUpperWritten, IsLowerWritten}

@@ -1,11 +1,10 @@
 -- The certificate of an interval that is written: the executions and cuts that show its ends.
-use Rattle.std.specs.Prelude.{◌≡◌, ℕ, ◌<◌, ◌↔◌, List, length, map, Contains, ℤ, neg_ℤ, ◌+ℤ◌, ◌-ℤ◌, ◌≤ℤ◌, All}
+use Rattle.std.specs.Prelude.{◌≡◌, ℕ, ◌<◌, ◌^◌, ◌↔◌, List, length, map, Contains, ℤ, pos, neg_ℤ, ◌+ℤ◌, ◌-ℤ◌, ◌≤ℤ◌, ◌<ℤ◌, All}
 use Rattle.problem_model.specs.declared.items.Node.{Node}
 use Rattle.problem_model.specs.declared.items.Node.TheVariants as nodes
 use Rattle.problem_model.specs.Problem.{ProblemLists}
 use Rattle.problem_model.specs.Bounds.{Times}
 use Rattle.problem_model.specs.Nodes.{Reading, nodes_of}
-use Rattle.difference_bounds.specs.Numbers.{IsUpTo}
 use Rattle.difference_bounds.specs.Problems.{IsGreatestOf, IsUnboundedOf}
 use Rattle.difference_bounds.specs.Solutions.{IsNodeOf, IsEarliestExecution, WeighedBound, Leads}
 use Rattle.cert.specs.EndLists.{EndLists, Limited, Unlimited}
@@ -49,10 +48,14 @@ abbrev pub IsLowerCut : ProblemLists → Node → List ℕ → Type 0
 IsLowerCut p first inside = (clock : ℕ) → Contains inside clock ↔ ((n : Node) × IsNodeOf p n × IsOnClock p n clock × (HasPath p n first → ⊥))
 
 -- ---- sizes
--- the limit and the real times are at most 2^116 in absolute value, the weights at most 2^93
+-- below a power of two in absolute value
+abbrev pub IsUnder : ℕ → ℤ → Type 0
+IsUnder bits x = (neg_ℤ (pos (2 ^ bits)) <ℤ x) × (x <ℤ pos (2 ^ bits))
+
+-- the limit and the real times are below 2^116 in absolute value, the weights below 2^93
 abbrev pub IsSmallEnd : EndLists → Type 0
-IsSmallEnd (Limited value path execution) = IsUpTo 116 value × All (λ s. IsUpTo 93 s.weight) path × All (IsUpTo 116) execution
-IsSmallEnd (Unlimited inside execution) = All (IsUpTo 116) execution
+IsSmallEnd (Limited value path execution) = IsUnder 116 value × All (λ s. IsUnder 93 s.weight) path × All (IsUnder 116) execution
+IsSmallEnd (Unlimited inside execution) = All (IsUnder 116) execution
 
 -- ---- ends
 -- at a limit the latest execution, with a path of fewer steps than there are nodes; else the earliest execution and the cut

@@ -1,15 +1,17 @@
 -- What is written of the ends of an interval, by a graph, the rows of one of its nodes, and a listing.
-use Rattle.std.specs.Prelude.{◌≡◌, ℕ, ◌<◌, ◌^◌, ◌↔◌, Bool, true, false, List, [], ◌∷◌, ◌++◌, length, slice_index_or, AllPairs, Contains, codes, ℤ, pos, neg_ℤ, ◌≤ℤ◌}
+use Rattle.std.specs.Prelude.{◌≡◌, ℕ, ◌<◌, ◌↔◌, Bool, true, false, List, [], ◌∷◌, ◌++◌, length, slice_index_or, AllPairs, Contains, codes, ℤ, neg_ℤ}
 use Rattle.std.specs.List.{flat_map}
 use Rattle.atto.specs.NsText.{ns_text}
 use Rattle.line_format.specs.Words.{line_of}
 use Rattle.problem_model.specs.declared.items.Bound.{Bound}
 use Rattle.difference_bounds.specs.Executions.{at}
+use Rattle.difference_bounds.specs.Numbers.{IsUpTo}
 use Rattle.difference_bounds.specs.Rows.{IsGreatestLead, IsLeastLead, attaining, least_differences}
 use Rattle.difference_bounds.specs.Parents.{Cells}
 use Rattle.sync_graph.specs.declared.arc.Arc.{Arc}
 use Rattle.sync_graph.specs.Graph.{GraphLists, arc_at}
-use Rattle.cert.specs.Listed.{Listed, name_at, listed_step, listed_values, certified}
+use Rattle.problem.specs.Listing.{Listed, name_at}
+use Rattle.cert.specs.Listed.{IsNamed, listed_step, listed_values, certified}
 
 -- ---- text
 -- one end: where it is, the steps of a path, and a real time for the number of each node; or the clocks inside a cut, and
@@ -73,12 +75,13 @@ IsLowerWritten l g values c p q (Limit value steps x) = (K : ℤ) × (c.known q 
     × ((k : ℕ) → k < length g.nodes → x k ≡ attaining c.known (least_differences c.value) values K k)
 IsLowerWritten l g values c p q (NoLimit inside x) = (c.known q ≡ false) × AreClocksOf l c false inside × (x ≡ at values)
 
--- ---- sizes
--- at most 2^114 in absolute value
-abbrev pub IsMiddling : ℤ → Type 0
-IsMiddling h = (neg_ℤ (pos (2 ^ 114)) ≤ℤ h) × (h ≤ℤ pos (2 ^ 114))
+-- ---- arcs
+-- the bound of each arc in force is over clocks or events that have names
+abbrev pub NamesArcs : Listed → GraphLists → Type 0
+NamesArcs l g = (j : ℕ) → slice_index_or g.in_force j false ≡ true → IsNamed l (arc_at g.arcs j).name
 
--- values and known distances are of such a size
+-- ---- sizes
+-- values and known distances are at most 2^115 in absolute value
 pub record AreMiddling (nodes : ℕ) (values : List ℤ) (c : Cells) : Type 0 where
-  pub at_nodes : (k : ℕ) → k < nodes → IsMiddling (at values k)
-  pub distances : (k : ℕ) → c.known k ≡ true → IsMiddling (c.value k)
+  pub at_nodes : (k : ℕ) → k < nodes → IsUpTo 115 (at values k)
+  pub distances : (k : ℕ) → c.known k ≡ true → IsUpTo 115 (c.value k)

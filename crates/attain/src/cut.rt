@@ -1,17 +1,15 @@
 // The cut where there is no limit: the clocks inside it.
-ghost use Rattle.std.specs.Prelude.{◌≡◌, ◌<◌, ◌≤◌, ◌∷◌, [], ℕ, List, length, codes, All, AllPairs, OnOk, OnErr, IfOk};
+ghost use Rattle.std.specs.Prelude.{◌≡◌, ◌<◌, ◌≤◌, ℕ, List, length, All, AllPairs, IfOk};
 ghost use Rattle.std.specs.List.{flat_map};
-ghost use Rattle.line_format.specs.Words.{line_of};
-ghost use Rattle.ports.specs.Content.{Rose, Appends, AppendsPrefix};
-ghost use Rattle.cert.specs.Listed.{name_at};
+ghost use Rattle.ports.specs.Content.{Writes};
 ghost use Rattle.row_pool.specs.Row.{cells_of};
 ghost use Rattle.attain.specs.Written.{written_inside, AreClocksOf};
 ghost use Rattle.attain.specs.Sides.{is_upper};
 ghost use Rattle.attain.specs.Cuts.{is_another, is_first, clock_if, last_behind};
 
 use crate::side::Side;
-use cert::line::{Line, first_word};
 use cert::push_clock;
+use line_words::line::{Line, first_word};
 use ports::{Failed, Sink, write_whole};
 use problem::Listing;
 use row_pool::Cell;
@@ -38,8 +36,8 @@ fn is_first(side: Side, known: bool, last: Option<u32>, clock: u32) -> bool
 
 // The line of a clock inside the cut.
 fn inside_line<N: Listing>(names: &N, clock: u32) -> Line
-    requires { clock < length (N.clock_names names.now) }
-    ensures { result.items ≡ written_inside (record { clock_names = N.clock_names names.now; event_names = N.event_names names.now; events = N.listed_events names.now; readings = N.listed_readings names.now }) clock }
+    requires { clock < length (N.listed names.now).clock_names }
+    ensures { result.items ≡ written_inside (N.listed names.now) clock }
 {
     let mut line = first_word(b"inside");
     push_clock(&mut line, names, clock);
@@ -55,12 +53,9 @@ fn write_first<N: Listing, O: Sink>(
     last: Option<u32>,
     out: &mut O,
 ) -> Result<Option<u32>, Failed>
-    requires { clock < length (N.clock_names names.now) }
-    ensures ok { OnOk result (Appends (O.written out.old) (O.written out.new) (flat_map (written_inside (record { clock_names = N.clock_names names.now; event_names = N.event_names names.now; events = N.listed_events names.now; readings = N.listed_readings names.now })) (clock_if first clock))) }
+    requires { clock < length (N.listed names.now).clock_names }
+    ensures written { Writes (flat_map (written_inside (N.listed names.now)) (clock_if first clock)) (O.told out.old) (O.told out.new) result }
     ensures last { IfOk result (λ next. next ≡ last_behind first last clock) }
-    ensures err { OnErr result (AppendsPrefix (O.written out.old) (O.written out.new) (flat_map (written_inside (record { clock_names = N.clock_names names.now; event_names = N.event_names names.now; events = N.listed_events names.now; readings = N.listed_readings names.now })) (clock_if first clock))) }
-    ensures cause { OnErr result (Rose (O.faults out.old) (O.faults out.new)) }
-    ensures no_fall { O.faults out.old ≤ O.faults out.new }
 {
     if !first {
         return Ok(last);
@@ -78,14 +73,10 @@ pub fn write_cut<N: Listing, O: Sink>(
     cells: &[Cell],
     out: &mut O,
 ) -> Result<(), Failed>
-    requires nodes { All (λ r. r.2 < length cells.now) (N.listed_readings names.now) }
-    requires rising { AllPairs (λ r s. r.0 ≤ s.0) (N.listed_readings names.now) }
-    ensures ok { OnOk result ((inside : List ℕ) × AreClocksOf (record { clock_names = N.clock_names names.now; event_names = N.event_names names.now; events = N.listed_events names.now; readings = N.listed_readings names.now }) (cells_of cells.now) (is_upper side) inside
-        × Appends (O.written out.old) (O.written out.new) (flat_map (written_inside (record { clock_names = N.clock_names names.now; event_names = N.event_names names.now; events = N.listed_events names.now; readings = N.listed_readings names.now })) inside)) }
-    ensures err { OnErr result ((inside : List ℕ) × AreClocksOf (record { clock_names = N.clock_names names.now; event_names = N.event_names names.now; events = N.listed_events names.now; readings = N.listed_readings names.now }) (cells_of cells.now) (is_upper side) inside
-        × AppendsPrefix (O.written out.old) (O.written out.new) (flat_map (written_inside (record { clock_names = N.clock_names names.now; event_names = N.event_names names.now; events = N.listed_events names.now; readings = N.listed_readings names.now })) inside)) }
-    ensures cause { OnErr result (Rose (O.faults out.old) (O.faults out.new)) }
-    ensures no_fall { O.faults out.old ≤ O.faults out.new }
+    requires nodes { All (λ r. r.2 < length cells.now) (N.listed names.now).readings }
+    requires rising { AllPairs (λ r s. r.0 ≤ s.0) (N.listed names.now).readings }
+    ensures { (inside : List ℕ) × AreClocksOf (N.listed names.now) (cells_of cells.now) (is_upper side) inside
+        × Writes (flat_map (written_inside (N.listed names.now)) inside) (O.told out.old) (O.told out.new) result }
 {
     let mut last = None;
     for place in 0..names.reading_count() {

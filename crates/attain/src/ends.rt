@@ -1,15 +1,8 @@
 // The certificate of both ends of an interval.
-ghost use Rattle.std.specs.Prelude.{◌≡◌, ◌≤◌, ℕ, List, true, length, OnOk, OnErr};
-ghost use Rattle.problem_model.specs.Problem.{ProblemLists};
-ghost use Rattle.problem_model.specs.Nodes.{Reading};
-ghost use Rattle.difference_bounds.specs.Parents.{IsRow};
-ghost use Rattle.difference_bounds.specs.Tables.{reversed_table};
-ghost use Rattle.ports.specs.Content.{Rose, Appends, AppendsPrefix};
-ghost use Rattle.sync_graph.specs.Graph.{table_of};
-ghost use Rattle.earliest.specs.Values.{IsEarliestOf};
-ghost use Rattle.row_pool.specs.Row.{cells_of};
-ghost use Rattle.attain.specs.Standing.{StandsForListed, IsEventAt};
-ghost use Rattle.attain.specs.Tight.{IsTightText};
+ghost use Rattle.std.specs.Prelude.{◌≡◌, ℕ, List, true};
+ghost use Rattle.ports.specs.Content.{Writes};
+ghost use Rattle.sync_graph.specs.InForce.{IsEarliestOf};
+ghost use Rattle.attain.specs.Ends.{AreRowsOf, StandsForSome, AreEventNodes, IsEndsText};
 
 use crate::interval::write_interval;
 use earliest::Earliest;
@@ -35,20 +28,10 @@ pub fn write_ends<N: Listing, O: Sink>(
 ) -> Result<(), Failed>
     requires solved { e.now.is_solved ≡ true }
     requires earliest { IsEarliestOf g.now e.now.values }
-    requires from { IsRow (length g.now.nodes) (table_of g.now) p (cells_of from.now) }
-    requires to { IsRow (length g.now.nodes) (reversed_table (table_of g.now)) p (cells_of to.now) }
-    requires cells_from { length g.now.nodes ≤ length from.now }
-    requires cells_to { length g.now.nodes ≤ length to.now }
-    requires stands { (problem : ProblemLists) × (readings : List Reading) × StandsForListed (record { clock_names = N.clock_names names.now; event_names = N.event_names names.now; events = N.listed_events names.now; readings = N.listed_readings names.now }) problem readings g.now }
-    requires events { (j : ℕ) × (k : ℕ) × IsEventAt (record { clock_names = N.clock_names names.now; event_names = N.event_names names.now; events = N.listed_events names.now; readings = N.listed_readings names.now }) j p × IsEventAt (record { clock_names = N.clock_names names.now; event_names = N.event_names names.now; events = N.listed_events names.now; readings = N.listed_readings names.now }) k q }
-    ensures ok { OnOk result ((problem : ProblemLists) (readings : List Reading) (first second : ℕ) → StandsForListed (record { clock_names = N.clock_names names.now; event_names = N.event_names names.now; events = N.listed_events names.now; readings = N.listed_readings names.now }) problem readings g.now
-        → IsEventAt (record { clock_names = N.clock_names names.now; event_names = N.event_names names.now; events = N.listed_events names.now; readings = N.listed_readings names.now }) first p → IsEventAt (record { clock_names = N.clock_names names.now; event_names = N.event_names names.now; events = N.listed_events names.now; readings = N.listed_readings names.now }) second q
-        → (text : List ℕ) × IsTightText problem readings first second text × Appends (O.written out.old) (O.written out.new) text) }
-    ensures err { OnErr result ((problem : ProblemLists) (readings : List Reading) (first second : ℕ) → StandsForListed (record { clock_names = N.clock_names names.now; event_names = N.event_names names.now; events = N.listed_events names.now; readings = N.listed_readings names.now }) problem readings g.now
-        → IsEventAt (record { clock_names = N.clock_names names.now; event_names = N.event_names names.now; events = N.listed_events names.now; readings = N.listed_readings names.now }) first p → IsEventAt (record { clock_names = N.clock_names names.now; event_names = N.event_names names.now; events = N.listed_events names.now; readings = N.listed_readings names.now }) second q
-        → (text : List ℕ) × IsTightText problem readings first second text × AppendsPrefix (O.written out.old) (O.written out.new) text) }
-    ensures cause { OnErr result (Rose (O.faults out.old) (O.faults out.new)) }
-    ensures no_fall { O.faults out.old ≤ O.faults out.new }
+    requires rows { AreRowsOf g.now p from.now to.now }
+    requires stands { StandsForSome (N.listed names.now) g.now }
+    requires events { AreEventNodes (N.listed names.now) p q }
+    ensures { (text : List ℕ) × IsEndsText (N.listed names.now) g.now p q text × Writes text (O.told out.old) (O.told out.new) result }
 {
     g.exact();
     write_interval(names, g, e, from, to, p, q, out)

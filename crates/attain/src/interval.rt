@@ -1,20 +1,20 @@
 // The certificate of the interval between two events, by the rows of the first one.
-ghost use Rattle.std.specs.Prelude.{◌≡◌, ◌<◌, ◌≤◌, ◌∷◌, [], ℕ, true, false, length, slice_index_or, codes, All, AllPairs, OnOk, OnErr};
+ghost use Rattle.std.specs.Prelude.{◌≡◌, ◌<◌, ◌≤◌, ◌∷◌, [], ℕ, true, length, codes, All, AllPairs, List};
 ghost use Rattle.line_format.specs.Words.{line_of};
 ghost use Rattle.difference_bounds.specs.Parents.{IsRow};
 ghost use Rattle.difference_bounds.specs.Tables.{reversed_table};
-ghost use Rattle.ports.specs.Content.{Rose};
-ghost use Rattle.sync_graph.specs.Graph.{arc_at, table_of};
-ghost use Rattle.cert.specs.Listed.{IsNamed, name_at, listed_nodes};
+ghost use Rattle.ports.specs.Content.{Writes};
+ghost use Rattle.sync_graph.specs.Graph.{table_of};
+ghost use Rattle.problem.specs.Listing.{name_at, listed_nodes};
 ghost use Rattle.row_pool.specs.Row.{cells_of};
-ghost use Rattle.attain.specs.Written.{AreMiddling};
-ghost use Rattle.attain.specs.Intervals.{IsEventOn, IsInterval, IsIntervalText, AppendsSuch, AppendsFrontOfSuch};
+ghost use Rattle.attain.specs.Written.{AreMiddling, NamesArcs};
+ghost use Rattle.attain.specs.Intervals.{IsEventOn, IsInterval, IsIntervalText};
 
 use crate::part::write_end;
 use crate::side::Side;
-use cert::line::{Line, first_word};
 use cert::push_event;
 use earliest::Earliest;
+use line_words::line::{Line, first_word};
 use ports::{Failed, Sink, write_whole};
 use problem::Listing;
 use row_pool::Cell;
@@ -22,9 +22,9 @@ use sync_graph::Graph;
 
 // The number of the event that is a node.
 fn event_of<N: Listing>(names: &N, node: u32) -> u32
-    requires { (event : ℕ) × IsEventOn (record { clock_names = N.clock_names names.now; event_names = N.event_names names.now; events = N.listed_events names.now; readings = N.listed_readings names.now }) event node }
-    ensures event { IsEventOn (record { clock_names = N.clock_names names.now; event_names = N.event_names names.now; events = N.listed_events names.now; readings = N.listed_readings names.now }) result node }
-    ensures named { result < length (N.event_names names.now) }
+    requires { (event : ℕ) × IsEventOn (N.listed names.now) event node }
+    ensures event { IsEventOn (N.listed names.now) result node }
+    ensures named { result < length (N.listed names.now).event_names }
 {
     for place in 0..names.event_count() {
         let (event, own) = names.event_at(place);
@@ -38,9 +38,9 @@ fn event_of<N: Listing>(names: &N, node: u32) -> u32
 
 // The line that names two events.
 fn ends_line<N: Listing>(names: &N, first: u32, second: u32) -> Line
-    requires first { first < length (N.event_names names.now) }
-    requires second { second < length (N.event_names names.now) }
-    ensures { result.items ≡ line_of (codes "ends" ∷ name_at (N.event_names names.now) first ∷ name_at (N.event_names names.now) second ∷ []) }
+    requires first { first < length (N.listed names.now).event_names }
+    requires second { second < length (N.listed names.now).event_names }
+    ensures { result.items ≡ line_of (codes "ends" ∷ name_at (N.listed names.now).event_names first ∷ name_at (N.listed names.now).event_names second ∷ []) }
 {
     let mut line = first_word(b"ends");
     push_event(&mut line, names, first);
@@ -68,15 +68,12 @@ fn write_ends_lines<N: Listing, O: Sink>(
     requires cells_to { length g.now.nodes ≤ length to.now }
     requires sizes_from { AreMiddling (length e.now.values) e.now.values (cells_of from.now) }
     requires sizes_to { AreMiddling (length e.now.values) e.now.values (cells_of to.now) }
-    requires named { (j : ℕ) → slice_index_or g.now.in_force j false ≡ true → IsNamed (record { clock_names = N.clock_names names.now; event_names = N.event_names names.now; events = N.listed_events names.now; readings = N.listed_readings names.now }) (arc_at g.now.arcs j).name }
-    requires one_each { All (λ k. k < length e.now.values) (listed_nodes (record { clock_names = N.clock_names names.now; event_names = N.event_names names.now; events = N.listed_events names.now; readings = N.listed_readings names.now })) }
-    requires rising { AllPairs (λ r s. r.0 ≤ s.0) (N.listed_readings names.now) }
-    requires first { (event : ℕ) × IsEventOn (record { clock_names = N.clock_names names.now; event_names = N.event_names names.now; events = N.listed_events names.now; readings = N.listed_readings names.now }) event p }
-    requires second { (event : ℕ) × IsEventOn (record { clock_names = N.clock_names names.now; event_names = N.event_names names.now; events = N.listed_events names.now; readings = N.listed_readings names.now }) event q }
-    ensures ok { OnOk result (AppendsSuch (IsInterval (record { clock_names = N.clock_names names.now; event_names = N.event_names names.now; events = N.listed_events names.now; readings = N.listed_readings names.now }) g.now e.now.values (cells_of from.now) (cells_of to.now) p q) (O.written out.old) (O.written out.new)) }
-    ensures err { OnErr result (AppendsFrontOfSuch (IsInterval (record { clock_names = N.clock_names names.now; event_names = N.event_names names.now; events = N.listed_events names.now; readings = N.listed_readings names.now }) g.now e.now.values (cells_of from.now) (cells_of to.now) p q) (O.written out.old) (O.written out.new)) }
-    ensures cause { OnErr result (Rose (O.faults out.old) (O.faults out.new)) }
-    ensures no_fall { O.faults out.old ≤ O.faults out.new }
+    requires named { NamesArcs (N.listed names.now) g.now }
+    requires one_each { All (λ k. k < length e.now.values) (listed_nodes (N.listed names.now)) }
+    requires rising { AllPairs (λ r s. r.0 ≤ s.0) (N.listed names.now).readings }
+    requires first { (event : ℕ) × IsEventOn (N.listed names.now) event p }
+    requires second { (event : ℕ) × IsEventOn (N.listed names.now) event q }
+    ensures { (text : List ℕ) × IsInterval (N.listed names.now) g.now e.now.values (cells_of from.now) (cells_of to.now) p q text × Writes text (O.told out.old) (O.told out.new) result }
 {
     let line = ends_line(names, event_of(names, p), event_of(names, q));
     write_whole(out, line.as_slice())?;
@@ -103,15 +100,12 @@ pub fn write_interval<N: Listing, O: Sink>(
     requires cells_to { length g.now.nodes ≤ length to.now }
     requires sizes_from { AreMiddling (length e.now.values) e.now.values (cells_of from.now) }
     requires sizes_to { AreMiddling (length e.now.values) e.now.values (cells_of to.now) }
-    requires named { (j : ℕ) → slice_index_or g.now.in_force j false ≡ true → IsNamed (record { clock_names = N.clock_names names.now; event_names = N.event_names names.now; events = N.listed_events names.now; readings = N.listed_readings names.now }) (arc_at g.now.arcs j).name }
-    requires one_each { All (λ k. k < length e.now.values) (listed_nodes (record { clock_names = N.clock_names names.now; event_names = N.event_names names.now; events = N.listed_events names.now; readings = N.listed_readings names.now })) }
-    requires rising { AllPairs (λ r s. r.0 ≤ s.0) (N.listed_readings names.now) }
-    requires first { (event : ℕ) × IsEventOn (record { clock_names = N.clock_names names.now; event_names = N.event_names names.now; events = N.listed_events names.now; readings = N.listed_readings names.now }) event p }
-    requires second { (event : ℕ) × IsEventOn (record { clock_names = N.clock_names names.now; event_names = N.event_names names.now; events = N.listed_events names.now; readings = N.listed_readings names.now }) event q }
-    ensures ok { OnOk result (AppendsSuch (IsIntervalText (record { clock_names = N.clock_names names.now; event_names = N.event_names names.now; events = N.listed_events names.now; readings = N.listed_readings names.now }) g.now e.now.values (cells_of from.now) (cells_of to.now) p q) (O.written out.old) (O.written out.new)) }
-    ensures err { OnErr result (AppendsFrontOfSuch (IsIntervalText (record { clock_names = N.clock_names names.now; event_names = N.event_names names.now; events = N.listed_events names.now; readings = N.listed_readings names.now }) g.now e.now.values (cells_of from.now) (cells_of to.now) p q) (O.written out.old) (O.written out.new)) }
-    ensures cause { OnErr result (Rose (O.faults out.old) (O.faults out.new)) }
-    ensures no_fall { O.faults out.old ≤ O.faults out.new }
+    requires named { NamesArcs (N.listed names.now) g.now }
+    requires one_each { All (λ k. k < length e.now.values) (listed_nodes (N.listed names.now)) }
+    requires rising { AllPairs (λ r s. r.0 ≤ s.0) (N.listed names.now).readings }
+    requires first { (event : ℕ) × IsEventOn (N.listed names.now) event p }
+    requires second { (event : ℕ) × IsEventOn (N.listed names.now) event q }
+    ensures { (text : List ℕ) × IsIntervalText (N.listed names.now) g.now e.now.values (cells_of from.now) (cells_of to.now) p q text × Writes text (O.told out.old) (O.told out.new) result }
 {
     write_whole(out, b"certificate 1\n")?;
     write_ends_lines(names, g, e, from, to, p, q, out)?;

@@ -1,6 +1,6 @@
 //! What the written certificates are to the problem that a listing lists, that they are accepted, and which graphs stand for
 //! the problem. The functions do nothing.
-ghost use Rattle.std.specs.Prelude.{◌≡◌, ◌<◌, ◌≤◌, ◌^◌, ℕ, ℤ, List, length, map};
+ghost use Rattle.std.specs.Prelude.{◌≡◌, ◌<◌, ◌≤◌, ◌^◌, ℕ, ℤ, List, length, map, All};
 ghost use Rattle.problem_model.specs.declared.items.Bound.{Bound};
 ghost use Rattle.problem_model.specs.Problem.{ProblemLists, IsProblem};
 ghost use Rattle.problem_model.specs.Bounds.{Times};
@@ -12,14 +12,16 @@ ghost use Rattle.sync_graph.specs.Standing.{HasBounds};
 ghost use Rattle.cert.specs.declared.chain.Step.{Step};
 ghost use Rattle.cert.specs.declared.certificate.Cert.TheVariants.{Cycle, Run};
 ghost use Rattle.cert.specs.EndLists.{EndLists};
-ghost use Rattle.cert.specs.Listed.{Listed, listed_nodes, listed_cycle, listed_run};
-ghost use Rattle.cert.specs.CertificateText.{certificate_text, listing_of};
+ghost use Rattle.problem.specs.Listing.{Listed, listing_of, listed_nodes};
+ghost use Rattle.cert.specs.Listed.{listed_cycle, listed_run};
+ghost use Rattle.cert.specs.CertificateText.{certificate_text};
 ghost use Rattle.cert.specs.ReadsCert.{FitsEndLists};
 ghost use Rattle.cert.specs.ReadAgain.{IsAccepted};
 ghost use Rattle.cert.specs.Shows.{weighed_bounds};
-ghost use Rattle.attain.specs.ListedProblem.{IsListedBy, AreCarried};
-ghost use Rattle.attain.specs.Standing.{StandsForListed};
-ghost use Rattle.attain.specs.Tight.{AreTight, IsTightText};
+ghost use Rattle.sync_graph.specs.ListedProblem.{IsListedBy};
+ghost use Rattle.attain.specs.ListedProblem.{AreCarried};
+ghost use Rattle.sync_graph.specs.ListedStanding.{StandsForListed};
+ghost use Rattle.attain.specs.Tight.{IsUnder, AreTight, IsTightText};
 
 /// Where a problem is listed, what is written by the listing is the text of a certificate of the problem: that of the
 /// same steps, with events by their places, or that of the values at the listed nodes.
@@ -34,7 +36,8 @@ pub fn listed_problems()
 
 /// What is written is read again as a certificate that shows what it should, and is refused for want of memory alone: of
 /// the ends of an interval, of a contradiction with no more bounds than there are nodes, of the earliest execution. Its
-/// numbers are in range, and its text is not too long. So checking it answers yes.
+/// numbers are in range, its weights below 2^93 and its real times below 2^116 in absolute value, and its text is not too
+/// long. So checking it answers yes.
 pub fn accepted()
     ensures fits { (p : ProblemLists) (readings : List Reading) (first second : ℕ) (upper lower : EndLists) → AreTight p readings first second upper lower
         → IsProblem p → AreReadings p readings → FitsEndLists upper × FitsEndLists lower }
@@ -51,6 +54,10 @@ pub fn accepted()
         → length (certificate_text p (nodes_of p readings) (Cycle steps)) < 2 ^ 30 }
     ensures run { (p : ProblemLists) (readings : List Reading) (x : Times) → IsEarliestExecution p x → IsProblem p → AreReadings p readings
         → IsAccepted p readings (certificate_text p (nodes_of p readings) (Run (map x (nodes_of p readings)))) }
+    ensures cycle_small { (p : ProblemLists) (steps : List Step) → IsContradictionOf p (weighed_bounds steps) → IsProblem p
+        → All (λ s. IsUnder 93 s.weight) steps }
+    ensures run_small { (p : ProblemLists) (readings : List Reading) (x : Times) → IsEarliestExecution p x → IsProblem p → AreReadings p readings
+        → All (IsUnder 116) (map x (nodes_of p readings)) }
     ensures run_short { (p : ProblemLists) (readings : List Reading) (x : Times) → IsEarliestExecution p x → IsProblem p → AreReadings p readings
         → length (certificate_text p (nodes_of p readings) (Run (map x (nodes_of p readings)))) < 2 ^ 30 }
 {}

@@ -1,9 +1,10 @@
 // The execution at a limit: known nodes at their differences, the others at their earliest values and one lead more.
-ghost use Rattle.std.specs.Prelude.{◌≡◌, ◌<◌, ◌≤◌, ℤ, true, length, All, OnOk, OnErr};
+ghost use Rattle.std.specs.Prelude.{◌≡◌, ◌<◌, ◌≤◌, true, length, All};
 ghost use Rattle.difference_bounds.specs.Numbers.{IsUpTo};
 ghost use Rattle.difference_bounds.specs.Rows.{attaining};
-ghost use Rattle.ports.specs.Content.{Rose, Appends, AppendsPrefix};
-ghost use Rattle.cert.specs.Listed.{listed_nodes, listed_values};
+ghost use Rattle.ports.specs.Content.{Writes};
+ghost use Rattle.problem.specs.Listing.{listed_nodes};
+ghost use Rattle.cert.specs.Listed.{listed_values};
 ghost use Rattle.row_pool.specs.Row.{cells_of};
 ghost use Rattle.attain.specs.Written.{AreMiddling};
 ghost use Rattle.attain.specs.Sides.{differences, lead, IsAsFar, IsLeadOf};
@@ -24,7 +25,7 @@ fn lead_at(side: Side, e: &Earliest, cells: &[Cell], node: u32) -> i128
     requires sizes { AreMiddling (length e.now.values) e.now.values (cells_of cells.now) }
     requires known { (cells_of cells.now).known node ≡ true }
     ensures lead { result ≡ lead side (cells_of cells.now) e.now.values node }
-    ensures small { IsUpTo 116 result }
+    ensures small { IsUpTo 117 result }
 {
     side.difference(&cells[node as usize]) - e.value(node)
 }
@@ -63,7 +64,7 @@ pub fn lead_of(side: Side, e: &Earliest, cells: &[Cell], nodes: u32, p: u32) -> 
     requires node { p < nodes }
     requires known { (cells_of cells.now).known p ≡ true }
     ensures lead { IsLeadOf side nodes (cells_of cells.now) e.now.values result }
-    ensures small { IsUpTo 116 result }
+    ensures small { IsUpTo 117 result }
 {
     let mut farthest = p;
     for node in 0..nodes {
@@ -78,7 +79,7 @@ pub fn real_time(side: Side, e: &Earliest, cells: &[Cell], lead: i128, node: u32
     requires node { node < length e.now.values }
     requires cells { length e.now.values ≤ length cells.now }
     requires sizes { AreMiddling (length e.now.values) e.now.values (cells_of cells.now) }
-    requires small { IsUpTo 116 lead }
+    requires small { IsUpTo 117 lead }
     ensures { result ≡ attaining (cells_of cells.now).known (differences side (cells_of cells.now)) e.now.values lead node }
 {
     let cell = &cells[node as usize];
@@ -98,16 +99,11 @@ pub fn write_times<N: Listing, O: Sink>(
     out: &mut O,
 ) -> Result<(), Failed>
     requires solved { e.now.is_solved ≡ true }
-    requires one_each { All (λ k. k < length e.now.values) (listed_nodes (record { clock_names = N.clock_names names.now; event_names = N.event_names names.now; events = N.listed_events names.now; readings = N.listed_readings names.now })) }
+    requires one_each { All (λ k. k < length e.now.values) (listed_nodes (N.listed names.now)) }
     requires cells { length e.now.values ≤ length cells.now }
     requires sizes { AreMiddling (length e.now.values) e.now.values (cells_of cells.now) }
-    requires small { IsUpTo 116 lead }
-    ensures ok { OnOk result (Appends (O.written out.old) (O.written out.new)
-        (listed_values (record { clock_names = N.clock_names names.now; event_names = N.event_names names.now; events = N.listed_events names.now; readings = N.listed_readings names.now }) (attaining (cells_of cells.now).known (differences side (cells_of cells.now)) e.now.values lead))) }
-    ensures err { OnErr result (AppendsPrefix (O.written out.old) (O.written out.new)
-        (listed_values (record { clock_names = N.clock_names names.now; event_names = N.event_names names.now; events = N.listed_events names.now; readings = N.listed_readings names.now }) (attaining (cells_of cells.now).known (differences side (cells_of cells.now)) e.now.values lead))) }
-    ensures cause { OnErr result (Rose (O.faults out.old) (O.faults out.new)) }
-    ensures no_fall { O.faults out.old ≤ O.faults out.new }
+    requires small { IsUpTo 117 lead }
+    ensures { Writes (listed_values (N.listed names.now) (attaining (cells_of cells.now).known (differences side (cells_of cells.now)) e.now.values lead)) (O.told out.old) (O.told out.new) result }
 {
     for place in 0..node_count(names) {
         let time = real_time(side, e, cells, lead, node_at(names, place));

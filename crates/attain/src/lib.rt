@@ -5,8 +5,6 @@
 mod cut;
 mod cycle;
 mod ends;
-#[cfg(test)]
-mod ends_tests;
 mod interval;
 pub mod laws;
 mod lead;
@@ -14,8 +12,6 @@ mod part;
 mod path;
 mod run;
 mod side;
-#[cfg(test)]
-mod tests;
 
 pub use cycle::write_cycle;
 pub use ends::write_ends;

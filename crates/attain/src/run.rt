@@ -1,8 +1,9 @@
 // The certificate of an execution.
-ghost use Rattle.std.specs.Prelude.{◌≡◌, ◌<◌, ◌≤◌, true, All, length, slice_get, Some, OnOk, OnErr};
-ghost use Rattle.ports.specs.Content.{Rose, Appends, AppendsPrefix};
+ghost use Rattle.std.specs.Prelude.{◌≡◌, ◌<◌, true, All, length, slice_get, Some};
+ghost use Rattle.ports.specs.Content.{Writes};
 ghost use Rattle.difference_bounds.specs.Executions.{at};
-ghost use Rattle.cert.specs.Listed.{listed_nodes, listed_values, listed_run};
+ghost use Rattle.problem.specs.Listing.{listed_nodes};
+ghost use Rattle.cert.specs.Listed.{listed_values, listed_run};
 
 use cert::write_value;
 use earliest::Earliest;
@@ -11,8 +12,8 @@ use problem::Listing;
 
 // The number of the node at a place: the events in their order, then the readings.
 pub(crate) fn node_at<N: Listing>(names: &N, place: u32) -> u32
-    requires { place < length (listed_nodes (record { clock_names = N.clock_names names.now; event_names = N.event_names names.now; events = N.listed_events names.now; readings = N.listed_readings names.now })) }
-    ensures { slice_get (listed_nodes (record { clock_names = N.clock_names names.now; event_names = N.event_names names.now; events = N.listed_events names.now; readings = N.listed_readings names.now })) place ≡ Some result }
+    requires { place < length (listed_nodes (N.listed names.now)) }
+    ensures { slice_get (listed_nodes (N.listed names.now)) place ≡ Some result }
 {
     let events = names.event_count();
     if place < events {
@@ -23,7 +24,7 @@ pub(crate) fn node_at<N: Listing>(names: &N, place: u32) -> u32
 
 // How many nodes are listed.
 pub(crate) fn node_count<N: Listing>(names: &N) -> u32
-    ensures { result ≡ length (listed_nodes (record { clock_names = N.clock_names names.now; event_names = N.event_names names.now; events = N.listed_events names.now; readings = N.listed_readings names.now })) }
+    ensures { result ≡ length (listed_nodes (N.listed names.now)) }
 {
     names.event_count() + names.reading_count()
 }
@@ -35,13 +36,8 @@ pub(crate) fn write_values<N: Listing, O: Sink>(
     out: &mut O,
 ) -> Result<(), Failed>
     requires solved { e.now.is_solved ≡ true }
-    requires one_each { All (λ k. k < length e.now.values) (listed_nodes (record { clock_names = N.clock_names names.now; event_names = N.event_names names.now; events = N.listed_events names.now; readings = N.listed_readings names.now })) }
-    ensures ok { OnOk result (Appends (O.written out.old) (O.written out.new)
-        (listed_values (record { clock_names = N.clock_names names.now; event_names = N.event_names names.now; events = N.listed_events names.now; readings = N.listed_readings names.now }) (at e.now.values))) }
-    ensures err { OnErr result (AppendsPrefix (O.written out.old) (O.written out.new)
-        (listed_values (record { clock_names = N.clock_names names.now; event_names = N.event_names names.now; events = N.listed_events names.now; readings = N.listed_readings names.now }) (at e.now.values))) }
-    ensures cause { OnErr result (Rose (O.faults out.old) (O.faults out.new)) }
-    ensures no_fall { O.faults out.old ≤ O.faults out.new }
+    requires one_each { All (λ k. k < length e.now.values) (listed_nodes (N.listed names.now)) }
+    ensures { Writes (listed_values (N.listed names.now) (at e.now.values)) (O.told out.old) (O.told out.new) result }
 {
     for place in 0..node_count(names) {
         let value = e.value(node_at(names, place));
@@ -55,13 +51,8 @@ pub(crate) fn write_values<N: Listing, O: Sink>(
 /// written.
 pub fn write_run<N: Listing, O: Sink>(names: &N, e: &Earliest, out: &mut O) -> Result<(), Failed>
     requires solved { e.now.is_solved ≡ true }
-    requires one_each { All (λ k. k < length e.now.values) (listed_nodes (record { clock_names = N.clock_names names.now; event_names = N.event_names names.now; events = N.listed_events names.now; readings = N.listed_readings names.now })) }
-    ensures ok { OnOk result (Appends (O.written out.old) (O.written out.new)
-        (listed_run (record { clock_names = N.clock_names names.now; event_names = N.event_names names.now; events = N.listed_events names.now; readings = N.listed_readings names.now }) (at e.now.values))) }
-    ensures err { OnErr result (AppendsPrefix (O.written out.old) (O.written out.new)
-        (listed_run (record { clock_names = N.clock_names names.now; event_names = N.event_names names.now; events = N.listed_events names.now; readings = N.listed_readings names.now }) (at e.now.values))) }
-    ensures cause { OnErr result (Rose (O.faults out.old) (O.faults out.new)) }
-    ensures no_fall { O.faults out.old ≤ O.faults out.new }
+    requires one_each { All (λ k. k < length e.now.values) (listed_nodes (N.listed names.now)) }
+    ensures { Writes (listed_run (N.listed names.now) (at e.now.values)) (O.told out.old) (O.told out.new) result }
 {
     write_whole(out, b"certificate 1\nrun\n")?;
     write_values(names, e, out)?;

@@ -2,10 +2,11 @@
 ghost use Rattle.std.specs.Prelude.{◌≡◌, ◌∷◌, [], true, false};
 ghost use Rattle.atto.specs.NsText.{ns_text};
 ghost use Rattle.line_format.specs.Words.{line_of};
-ghost use Rattle.attain.specs.Written.{next_node, IsMiddling};
+ghost use Rattle.difference_bounds.specs.Numbers.{IsUpTo};
+ghost use Rattle.attain.specs.Written.{next_node};
 ghost use Rattle.attain.specs.Sides.{is_upper, part, unlimited, signed, IsAsFar};
 
-use cert::line::{Line, limit_line, unlimited_line};
+use line_words::line::{Line, limit_line, unlimited_line};
 use row_pool::Cell;
 use sync_graph::Arc;
 
@@ -31,7 +32,7 @@ impl Side {
 
     // The greatest or least difference that the distance in a cell is.
     pub fn difference(self, cell: &Cell) -> i128
-        requires { IsMiddling cell.now.value }
+        requires { IsUpTo 115 cell.now.value }
         ensures { result ≡ signed self cell.now.value }
     {
         match self {

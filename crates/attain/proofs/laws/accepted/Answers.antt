@@ -1,6 +1,6 @@
 use Rattle.attain.proofs.Accepted.{ends_fit, ends_accepted}
 use Rattle.attain.proofs.EndLengths.{text_short}
-use Rattle.attain.proofs.SolvedTexts.{cycle_accepted, cycle_short, run_accepted, run_short}
+use Rattle.attain.proofs.SolvedTexts.{cycle_accepted, cycle_short, cycle_small, run_accepted, run_short, values_small}
 use Rattle.attain.proofs.laws.accepted.Goals as goal
 
 pub returns-clause-fits : goal.returns-clause-fits
@@ -23,3 +23,9 @@ returns-clause-cycle_short c = λ p readings steps contradiction short lawful ar
 
 pub returns-clause-run_short : goal.returns-clause-run_short
 returns-clause-run_short c = λ p readings x e lawful are. run_short p readings lawful are x e
+
+pub returns-clause-cycle_small : goal.returns-clause-cycle_small
+returns-clause-cycle_small c = λ p steps contradiction lawful. cycle_small p lawful steps contradiction
+
+pub returns-clause-run_small : goal.returns-clause-run_small
+returns-clause-run_small c = λ p readings x e lawful are. values_small p readings lawful are x e

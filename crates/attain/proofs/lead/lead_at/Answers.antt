@@ -16,4 +16,4 @@ returns-clause-lead c =
     (to_z-of_z w128 c.value.result (record { sfits = c.value.type_inv }) ∙ c.value.ensures)
 
 pub returns-clause-small : goal.returns-clause-small
-returns-clause-small c = subst (IsUpTo 116) (sym (returns-clause-lead c)) (lead_small c.args.side c.args.e.now.values (cells_of c.args.cells.now) c.args.node c.requires.sizes c.requires.node c.requires.known)
+returns-clause-small c = subst (IsUpTo 117) (sym (returns-clause-lead c)) (lead_small c.args.side c.args.e.now.values (cells_of c.args.cells.now) c.args.node c.requires.sizes c.requires.node c.requires.known)

@@ -1,26 +1,23 @@
-use Rattle.std.proofs.Common.{◌≡◌, ◌<◌, ◌∷◌, [], ◌∙◌, ℕ, ℤ, length, get_or, refl, sym, ap, subst, arith, to_z, of_z}
+use Rattle.std.proofs.Common.{◌≡◌, ◌<◌, ◌∷◌, [], ◌++◌, ◌∙◌, ℕ, ℤ, length, get_or, sym, ap, subst, arith, to_z, of_z}
 use Rattle.std.specs.List.{flat_map}
 use Rattle.std.proofs.lemmas.Int.{to_z-of_z}
 use mir.Syntax.{w128}
 use Rattle.atto.specs.NsText.{ns_text}
 use Rattle.line_format.specs.Words.{line_of}
 use Rattle.difference_bounds.specs.Rows.{attaining}
-use Rattle.cert.specs.Listed.{Listed, listed_step, listed_values}
-use Rattle.cert.proofs.Lines.{on_err, ok_more, err_more}
-use Rattle.cert.proofs.Pieces.{appends_as, prefix_as, first_cut, second_cut, third_cut, three_pieces}
+use Rattle.ports.proofs.Writing.{writes_as, writes_then, writes_front, writes_failed}
+use Rattle.cert.specs.Listed.{listed_step, listed_values}
 use Rattle.row_pool.specs.declared.cell.Cell.{Cell}
 use Rattle.row_pool.specs.Row.{cells_of}
-use Rattle.attain.specs.Written.{Limit, written_end}
-use Rattle.attain.specs.Sides.{part, unlimited, signed, differences, IsLeadOf}
-use Rattle.attain.specs.Intervals.{IsEndText}
+use Rattle.attain.specs.Sides.{part, signed, differences, IsLeadOf}
 use Rattle.attain.proofs.Leads.{no_cell, cell_read}
-use Rattle.attain.proofs.Parts.{limit_is}
+use Rattle.attain.proofs.Parts.{limit_text}
 use Rattle.attain.proofs.Paths.{known_within, path_of}
 use Rattle.attain.proofs.part.write_limit.Goals as goal
 
-pub returns-in_err-write_whole-clause-err : goal.returns-in_err-write_whole-clause-err
-returns-in_err-write_whole-clause-err g c =
-    let l : Listed = record { clock_names = g.N.Listing.clock_names c.args.names.now; event_names = g.N.Listing.event_names c.args.names.now; events = g.N.Listing.listed_events c.args.names.now; readings = g.N.Listing.listed_readings c.args.names.now } in
+pub returns-in_err-write_whole : goal.returns-in_err-write_whole
+returns-in_err-write_whole g c =
+    let l = g.N.Listing.listed c.args.names.now in
     let cells = cells_of c.args.cells.now in
     let side = c.args.side in
     let values = c.args.e.now.values in
@@ -38,13 +35,12 @@ returns-in_err-write_whole-clause-err g c =
     let line : c.as_slice.result.now ≡ x = c.as_slice.ensures.value ∙ c.limit_line-line.ensures ∙ ap (λ (n : ℤ). line_of (part side ∷ ns_text n ∷ [])) value in
     let path = path_of side c.args.g.now c.args.p cells q c.requires.row c.requires.known in
     let y = flat_map (listed_step l) path.0 in
-    let end = Limit v path.0 times in
-    let such : IsEndText side l c.args.g.now values cells c.args.p q (written_end l (part side) (unlimited side) end) = (end, limit_is l c.args.g.now values cells c.args.p q side K path.0 c.requires.known is_lead path.1 path.2, refl) in
-    on_err c.from_residual.result _ (written_end l (part side) (unlimited side) end, such, first_cut _ _ x y z (prefix_as _ _ _ _ line c.in_err-write_whole.ensures.err))
+    let such = limit_text l c.args.g.now values cells c.args.p q side K path.0 c.requires.known is_lead path.1 path.2 in
+    (x ++ y ++ z, such, writes_failed c.from_residual.ensures.0 (writes_front z (writes_front y (writes_as line c.in_err-write_whole.ensures))))
 
-pub returns-in_err-write_path-clause-err : goal.returns-in_err-write_path-clause-err
-returns-in_err-write_path-clause-err g c =
-    let l : Listed = record { clock_names = g.N.Listing.clock_names c.args.names.now; event_names = g.N.Listing.event_names c.args.names.now; events = g.N.Listing.listed_events c.args.names.now; readings = g.N.Listing.listed_readings c.args.names.now } in
+pub returns-in_err-write_path : goal.returns-in_err-write_path
+returns-in_err-write_path g c =
+    let l = g.N.Listing.listed c.args.names.now in
     let cells = cells_of c.args.cells.now in
     let side = c.args.side in
     let values = c.args.e.now.values in
@@ -60,15 +56,14 @@ returns-in_err-write_path-clause-err g c =
     let times : ℕ → ℤ = attaining cells.known (differences side cells) values K in
     let z = listed_values l times in
     let line : c.as_slice.result.now ≡ x = c.as_slice.ensures.value ∙ c.limit_line-line.ensures ∙ ap (λ (n : ℤ). line_of (part side ∷ ns_text n ∷ [])) value in
-    let path = c.in_err-write_path.ensures.err in
+    let path = c.in_err-write_path.ensures in
     let y = flat_map (listed_step l) path.0 in
-    let end = Limit v path.0 times in
-    let such : IsEndText side l c.args.g.now values cells c.args.p q (written_end l (part side) (unlimited side) end) = (end, limit_is l c.args.g.now values cells c.args.p q side K path.0 c.requires.known is_lead path.1 path.2, refl) in
-    on_err c.from_residual-in_err-write_path.result _ (written_end l (part side) (unlimited side) end, such, second_cut _ _ _ x y z (appends_as _ _ _ _ line c.in_ok-write_whole.ensures.ok) path.3)
+    let such = limit_text l c.args.g.now values cells c.args.p q side K path.0 c.requires.known is_lead path.1 path.2 in
+    (x ++ y ++ z, such, writes_failed c.from_residual-in_err-write_path.ensures.0 (writes_front z (writes_then (writes_as line c.in_ok-write_whole.ensures) path.3)))
 
-pub returns-clause-ok : goal.returns-clause-ok
-returns-clause-ok g c =
-    let l : Listed = record { clock_names = g.N.Listing.clock_names c.args.names.now; event_names = g.N.Listing.event_names c.args.names.now; events = g.N.Listing.listed_events c.args.names.now; readings = g.N.Listing.listed_readings c.args.names.now } in
+pub returns : goal.returns
+returns g c =
+    let l = g.N.Listing.listed c.args.names.now in
     let cells = cells_of c.args.cells.now in
     let side = c.args.side in
     let values = c.args.e.now.values in
@@ -84,32 +79,7 @@ returns-clause-ok g c =
     let times : ℕ → ℤ = attaining cells.known (differences side cells) values K in
     let z = listed_values l times in
     let line : c.as_slice.result.now ≡ x = c.as_slice.ensures.value ∙ c.limit_line-line.ensures ∙ ap (λ (n : ℤ). line_of (part side ∷ ns_text n ∷ [])) value in
-    let path = c.in_ok-write_path.ensures.ok in
+    let path = c.in_ok-write_path.ensures in
     let y = flat_map (listed_step l) path.0 in
-    let end = Limit v path.0 times in
-    let such : IsEndText side l c.args.g.now values cells c.args.p q (written_end l (part side) (unlimited side) end) = (end, limit_is l c.args.g.now values cells c.args.p q side K path.0 c.requires.known is_lead path.1 path.2, refl) in
-    ok_more c.write_times.result _ _ (λ written. (written_end l (part side) (unlimited side) end, such, three_pieces _ _ _ _ x y z (appends_as _ _ _ _ line c.in_ok-write_whole.ensures.ok) path.3 written)) c.write_times.ensures.ok
-
-pub returns-clause-err : goal.returns-clause-err
-returns-clause-err g c =
-    let l : Listed = record { clock_names = g.N.Listing.clock_names c.args.names.now; event_names = g.N.Listing.event_names c.args.names.now; events = g.N.Listing.listed_events c.args.names.now; readings = g.N.Listing.listed_readings c.args.names.now } in
-    let cells = cells_of c.args.cells.now in
-    let side = c.args.side in
-    let values = c.args.e.now.values in
-    let q = c.args.q in
-    let K = to_z w128 (of_z w128 c.lead_of-lead.result) in
-    let is_lead : IsLeadOf side (length c.args.g.now.nodes) cells values K =
-    subst (λ (n : ℕ). IsLeadOf side n cells values K) c.nodes.ensures (subst (IsLeadOf side c.nodes.result cells values) (sym (to_z-of_z w128 c.lead_of-lead.result (record { sfits = c.lead_of-lead.type_inv }))) c.lead_of-lead.ensures.lead) in
-    let v = differences side cells q in
-    let within : q < length c.args.g.now.nodes = known_within side c.args.g.now c.args.p cells q c.requires.row c.requires.known in
-    let there : get_or c.args.cells.now q no_cell ≡ _ = cell_read c.args.cells.now q (omega (arith, c.requires.cells, within)) in
-    let value : to_z w128 (of_z w128 c.difference.result) ≡ v = to_z-of_z w128 c.difference.result (record { sfits = c.difference.type_inv }) ∙ c.difference.ensures ∙ ap (λ (x : Cell). signed side x.value) there in
-    let x = line_of (part side ∷ ns_text v ∷ []) in
-    let times : ℕ → ℤ = attaining cells.known (differences side cells) values K in
-    let z = listed_values l times in
-    let line : c.as_slice.result.now ≡ x = c.as_slice.ensures.value ∙ c.limit_line-line.ensures ∙ ap (λ (n : ℤ). line_of (part side ∷ ns_text n ∷ [])) value in
-    let path = c.in_ok-write_path.ensures.ok in
-    let y = flat_map (listed_step l) path.0 in
-    let end = Limit v path.0 times in
-    let such : IsEndText side l c.args.g.now values cells c.args.p q (written_end l (part side) (unlimited side) end) = (end, limit_is l c.args.g.now values cells c.args.p q side K path.0 c.requires.known is_lead path.1 path.2, refl) in
-    err_more c.write_times.result _ _ (λ written. (written_end l (part side) (unlimited side) end, such, third_cut _ _ _ _ x y z (appends_as _ _ _ _ line c.in_ok-write_whole.ensures.ok) path.3 written)) c.write_times.ensures.err
+    let such = limit_text l c.args.g.now values cells c.args.p q side K path.0 c.requires.known is_lead path.1 path.2 in
+    (x ++ y ++ z, such, writes_then (writes_then (writes_as line c.in_ok-write_whole.ensures) path.3) c.write_times.ensures)

@@ -1,20 +1,16 @@
 use Rattle.std.specs.Prelude.{codes}
 use Rattle.difference_bounds.specs.Executions.{at}
-use Rattle.cert.specs.Listed.{Listed, listed_values}
-use Rattle.attain.proofs.Answers.{head_cut, body_cut, end_cut}
+use Rattle.ports.proofs.Writing.{writes_then, writes_front, writes_failed}
+use Rattle.cert.specs.Listed.{listed_values}
 use Rattle.attain.proofs.run.write_run.Goals as goal
 
-pub returns-in_err-write_whole-clause-err : goal.returns-in_err-write_whole-clause-err
-returns-in_err-write_whole-clause-err g c =
-    let l : Listed = record { clock_names = g.N.Listing.clock_names c.args.names.now; event_names = g.N.Listing.event_names c.args.names.now; events = g.N.Listing.listed_events c.args.names.now; readings = g.N.Listing.listed_readings c.args.names.now } in
-    head_cut c.from_residual.result _ (codes "certificate 1\nrun\n") (listed_values l (at c.args.e.now.values)) (codes "end\n") _ c.in_err-write_whole.ensures.err
+pub returns-in_err-write_whole : goal.returns-in_err-write_whole
+returns-in_err-write_whole g c =
+    let y = listed_values (g.N.Listing.listed c.args.names.now) (at c.args.e.now.values) in
+    writes_failed c.from_residual.ensures.0 (writes_front (codes "end\n") (writes_front y c.in_err-write_whole.ensures))
 
-pub returns-in_err-write_values-clause-err : goal.returns-in_err-write_values-clause-err
-returns-in_err-write_values-clause-err g c =
-    let l : Listed = record { clock_names = g.N.Listing.clock_names c.args.names.now; event_names = g.N.Listing.event_names c.args.names.now; events = g.N.Listing.listed_events c.args.names.now; readings = g.N.Listing.listed_readings c.args.names.now } in
-    body_cut c.from_residual-in_err-write_values.result _ (codes "certificate 1\nrun\n") (listed_values l (at c.args.e.now.values)) (codes "end\n") _ _ c.in_ok-write_whole.ensures.ok c.in_err-write_values.ensures.err
+pub returns-in_err-write_values : goal.returns-in_err-write_values
+returns-in_err-write_values g c = writes_failed c.from_residual-in_err-write_values.ensures.0 (writes_front (codes "end\n") (writes_then c.in_ok-write_whole.ensures c.in_err-write_values.ensures))
 
-pub returns-clause-err : goal.returns-clause-err
-returns-clause-err g c =
-    let l : Listed = record { clock_names = g.N.Listing.clock_names c.args.names.now; event_names = g.N.Listing.event_names c.args.names.now; events = g.N.Listing.listed_events c.args.names.now; readings = g.N.Listing.listed_readings c.args.names.now } in
-    end_cut c.write_whole-2.result _ (codes "certificate 1\nrun\n") (listed_values l (at c.args.e.now.values)) (codes "end\n") _ _ _ c.in_ok-write_whole.ensures.ok c.in_ok-write_values.ensures.ok c.write_whole-2.ensures.err
+pub returns : goal.returns
+returns g c = writes_then (writes_then c.in_ok-write_whole.ensures c.in_ok-write_values.ensures) c.write_whole-2.ensures

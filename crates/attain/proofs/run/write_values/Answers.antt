@@ -1,41 +1,26 @@
-use Rattle.std.proofs.Common.{◌≡◌, ◌+◌, ◌++◌, ℤ, sym, ap, ◌∙◌, arith, to_z, of_z}
+use Rattle.std.proofs.Common.{◌≡◌, ◌<◌, ◌∙◌, length, arith, to_z, of_z}
 use Rattle.std.proofs.lemmas.Int.{to_z-of_z}
 use mir.Syntax.{w128}
 use Rattle.difference_bounds.specs.Executions.{at}
-use Rattle.cert.specs.Listed.{Listed, timed_line}
-use Rattle.cert.proofs.Pieces.{leaves_less, leaves_none, leaves_as}
-use Rattle.attain.proofs.Answers.{left_cut}
-use Rattle.attain.proofs.Lines.{values_from, values_more, values_none, words_there, words_count, nodes_count}
+use Rattle.problem.specs.Listing.{listed_nodes}
+use Rattle.attain.proofs.Lines.{value_written, value_cut, values_written}
 use Rattle.attain.proofs.run.write_values.Goals as goal
 
 pub loop-place-preserved : goal.loop-place-preserved
 loop-place-preserved g c =
-    let l : Listed = record { clock_names = g.N.Listing.clock_names c.args.names.now; event_names = g.N.Listing.event_names c.args.names.now; events = g.N.Listing.listed_events c.args.names.now; readings = g.N.Listing.listed_readings c.args.names.now } in
-    let x = at c.args.e.now.values in
+    let l = g.N.Listing.listed c.args.names.now in
     let k = c.loop-place.place in
-    let node = c.node_at.result in
-    let some = words_there l k (let inside = c.loop-place-test.true in omega (arith, inside, c.node_count-place-end.ensures, words_count l, nodes_count l)) in
-    let is : to_z w128 (of_z w128 c.value-value.result) ≡ x node = to_z-of_z w128 c.value-value.result (record { sfits = c.value-value.type_inv }) ∙ c.value-value.ensures in
-    let more = values_more l x k node some.0 some.1 c.node_at.ensures ∙ ap (λ (v : ℤ). timed_line (some.0, v) ++ values_from l x (k + 1)) (sym is) in (
-      leaves_less _ _ _ (timed_line (some.0, to_z w128 (of_z w128 c.value-value.result))) (values_from l x _) _
-          (leaves_as _ _ _ _ _ more c.loop-place.invariant.0) (c.in_ok-write_value.ensures.ok some.0 some.1),
-      omega (arith, c.loop-place.invariant.1, c.write_value.ensures.no_fall),
-    )
+    let inside : k < length (listed_nodes l) = omega (arith, c.loop-place-test.true, c.node_count-place-end.ensures) in
+    let is : to_z w128 (of_z w128 c.value-value.result) ≡ at c.args.e.now.values c.node_at.result = to_z-of_z w128 c.value-value.result (record { sfits = c.value-value.type_inv }) ∙ c.value-value.ensures in
+    value_written l (at c.args.e.now.values) k c.node_at.result (to_z w128 (of_z w128 c.value-value.result)) is inside c.node_at.ensures c.loop-place.invariant _ c.in_ok-write_value.ensures
 
-pub returns-in_err-write_value-clause-err : goal.returns-in_err-write_value-clause-err
-returns-in_err-write_value-clause-err g c =
-    let l : Listed = record { clock_names = g.N.Listing.clock_names c.args.names.now; event_names = g.N.Listing.event_names c.args.names.now; events = g.N.Listing.listed_events c.args.names.now; readings = g.N.Listing.listed_readings c.args.names.now } in
-    let x = at c.args.e.now.values in
+pub returns-in_err-write_value : goal.returns-in_err-write_value
+returns-in_err-write_value g c =
+    let l = g.N.Listing.listed c.args.names.now in
     let k = c.loop-place.place in
-    let node = c.node_at.result in
-    let some = words_there l k (let inside = c.loop-place-test.true in omega (arith, inside, c.node_count-place-end.ensures, words_count l, nodes_count l)) in
-    let is : to_z w128 (of_z w128 c.value-value.result) ≡ x node = to_z-of_z w128 c.value-value.result (record { sfits = c.value-value.type_inv }) ∙ c.value-value.ensures in
-    let more = values_more l x k node some.0 some.1 c.node_at.ensures ∙ ap (λ (v : ℤ). timed_line (some.0, v) ++ values_from l x (k + 1)) (sym is) in
-    left_cut c.from_residual.result _ _ _ (timed_line (some.0, to_z w128 (of_z w128 c.value-value.result))) (values_from l x (k + 1)) (values_from l x 0)
-    (leaves_as _ _ _ _ _ more c.loop-place.invariant.0) (c.in_err-write_value.ensures.err some.0 some.1)
+    let inside : k < length (listed_nodes l) = omega (arith, c.loop-place-test.true, c.node_count-place-end.ensures) in
+    let is : to_z w128 (of_z w128 c.value-value.result) ≡ at c.args.e.now.values c.node_at.result = to_z-of_z w128 c.value-value.result (record { sfits = c.value-value.type_inv }) ∙ c.value-value.ensures in
+    value_cut l (at c.args.e.now.values) k c.node_at.result (to_z w128 (of_z w128 c.value-value.result)) is inside c.node_at.ensures c.loop-place.invariant _ c.from_residual.result c.from_residual.ensures.0 c.in_err-write_value.ensures
 
-pub returns-clause-ok : goal.returns-clause-ok
-returns-clause-ok g c =
-    let l : Listed = record { clock_names = g.N.Listing.clock_names c.args.names.now; event_names = g.N.Listing.event_names c.args.names.now; events = g.N.Listing.listed_events c.args.names.now; readings = g.N.Listing.listed_readings c.args.names.now } in
-    let past = c.loop-place-test.false in
-    leaves_none _ _ _ (leaves_as _ _ _ _ _ (values_none l (at c.args.e.now.values) c.loop-place.place (omega (arith, past, c.node_count-place-end.ensures))) c.loop-place.invariant.0)
+pub returns : goal.returns
+returns g c = values_written (g.N.Listing.listed c.args.names.now) (at c.args.e.now.values) c.loop-place.place (omega (arith, c.loop-place-test.false, c.node_count-place-end.ensures)) c.loop-place.invariant

@@ -1,13 +1,8 @@
-use Rattle.std.proofs.Common.{◌≤◌}
 use Rattle.difference_bounds.specs.Executions.{at}
-use Rattle.cert.proofs.Pieces.{Leaves}
+use Rattle.ports.proofs.Writing.{Leaves}
 use Rattle.attain.proofs.Lines.{values_from}
 use Rattle.attain.proofs.run.write_values.Given as goal
 
 -- the nodes from this place on are what is left of all
 abbrev pub invariant-loop-place : goal.invariant-loop-place
-invariant-loop-place g l =
-    Leaves (g.O.Sink.written l.initial.out) (g.O.Sink.written l.out)
-    (values_from (record { clock_names = g.N.Listing.clock_names l.names; event_names = g.N.Listing.event_names l.names; events = g.N.Listing.listed_events l.names; readings = g.N.Listing.listed_readings l.names }) (at l.e.values) l.place)
-    (values_from (record { clock_names = g.N.Listing.clock_names l.names; event_names = g.N.Listing.event_names l.names; events = g.N.Listing.listed_events l.names; readings = g.N.Listing.listed_readings l.names }) (at l.e.values) 0)
-    × (g.O.Sink.faults l.initial.out ≤ g.O.Sink.faults l.out)
+invariant-loop-place g l = Leaves (g.O.Sink.told l.initial.out) (g.O.Sink.told l.out) (values_from (g.N.Listing.listed l.names) (at l.e.values) l.place) (values_from (g.N.Listing.listed l.names) (at l.e.values) 0)
