@@ -1,5 +1,5 @@
 -- Hosts one by one, as the code reads them.
-use Rattle.std.proofs.Common.{◌≡◌, ℕ, ◌+◌, ◌-◌, ◌≤◌, ◌^◌, Bool, true, false, not, ◌||◌, if◌then◌else◌, nat_lt, List, [], ◌∷◌, ◌++◌, Option, Some, None, String, Global, string_bytes, codes, refl, sym, ap, ◌∙◌, subst, arith, append_assoc}
+use Rattle.std.proofs.Common.{◌≡◌, ℕ, ◌+◌, ◌-◌, ◌≤◌, ◌^◌, Bool, true, false, not, ◌||◌, if◌then◌else◌, nat_lt, List, [], ◌∷◌, ◌++◌, length, Option, Some, None, String, Global, string_bytes, codes, refl, sym, ap, ◌∙◌, subst, arith, append_assoc}
 use Rattle.std.specs.Prelude.{All}
 use Rattle.std.specs.List.{AllByRecursion}
 use Rattle.std.specs.List.Sorted.{IsStrictlySortedBy}
@@ -16,8 +16,8 @@ use Rattle.atto.specs.Span.{RateParts}
 use Rattle.problem_model.specs.declared.items.Clock.{Clock}
 use Rattle.decl.specs.Addresses.{at_host, numbers_of}
 use Rattle.decl.specs.Causes.{at, when, first, error_at, IsFirstOf}
-use Rattle.decl.specs.Declaration.{Precedes}
-use Rattle.decl.specs.Hosts.{is_clock_name, has_wild_rate, has_wild_number, rate_of, clock_of, clock_causes, host_causes, hosts_faults, entry_of, addresses_in, clocks_of, addresses_from, is_one_too_many}
+use Rattle.decl.specs.Declaration.{Precedes, one_clock_each}
+use Rattle.decl.specs.Hosts.{is_clock_name, has_wild_rate, has_wild_number, rate_of, clock_of, clock_causes, host_causes, hosts_faults, entry_of, addresses_in, hosts_of, clocks_of, addresses_from, is_one_too_many}
 use Rattle.decl.specs.Keys.{table_causes}
 use Rattle.decl.specs.Values.{whole_or_zero, number_at, is_up_to}
 use Rattle.decl.specs.declared.cause.Cause.{Cause}
@@ -26,6 +26,7 @@ use Rattle.decl.specs.declared.errors.DeclError.{DeclError}
 use Rattle.decl.specs.declared.errors.Section.TheVariants.{Hosts}
 use Rattle.decl.proofs.Faults.{few_index, neither_of, second_of, no_parts, not_so, neither, some_if, some_unless, none_unless, first_front, fault_front, fault_at, none_at}
 use Rattle.decl.specs.declared.items.Address.{Address}
+use Rattle.decl.specs.declared.items.Owner.{Owner}
 use Rattle.decl.proofs.Searching.{Rise}
 
 three : {V : Type 0} (w a b : Bool) (made right : V) → w ≡ false → a ≡ true → b ≡ true → made ≡ right → Some made ≡ (if (w || not a) || not b then None else Some right)
@@ -125,12 +126,34 @@ addresses_on all place same book new entries rest name value is next e added =
     ∙ sym (append_assoc book (at_host place (addresses_in (view value))) (addresses_from (place + 1) (members_view rest)))
     ∙ ap (λ (front : List Address). front ++ addresses_from (place + 1) (members_view rest)) (sym (added ∙ ap (λ (p : ℕ). book ++ at_host p (addresses_in (view value))) e))
 
--- the clocks of a table stand in the byte order of their names
-clocks_behind : (key : String Global) (entries : List Entry) → AllByRecursion (λ k. string_cmp key k ≡ Less) (keys_of entries) → All (λ (c : Clock). Precedes (string_bytes key) c.name) (clocks_of (members_view entries))
-clocks_behind key [] h = All-nil (λ (c : Clock). Precedes (string_bytes key) c.name)
-clocks_behind key (e ∷ entries) h = All-cons (λ (c : Clock). Precedes (string_bytes key) c.name) _ _ h.0 (clocks_behind key entries h.1)
+pub names_on : (all : List (List ℕ)) (names : List (List ℕ)) (clock : Clock) (entries rest : List Entry) (name : String Global) (value : Value) → all ≡ names ++ hosts_of (members_view entries)
+    → entries ≡ (name, value) ∷ rest → clock ≡ clock_of (string_bytes name) (entry_of (view value)) → all ≡ (names ++ clock.name ∷ []) ++ hosts_of (members_view rest)
+names_on all names clock entries rest name value is next made =
+    is ∙ ap (λ (es : List Entry). names ++ hosts_of (members_view es)) next
+    ∙ ap (λ (c : Clock). names ++ c.name ∷ hosts_of (members_view rest)) (sym made)
+    ∙ sym (append_assoc names (clock.name ∷ []) (hosts_of (members_view rest)))
 
-pub clocks_rise : (entries : List Entry) → IsStrictlySortedBy string_cmp (keys_of entries) → Rise (clocks_of (members_view entries))
+one_clock_more : (k : ℕ) (hosts : List (List ℕ)) (host : List ℕ) → one_clock_each k (hosts ++ host ∷ []) ≡ one_clock_each k hosts ++ (record { host = k + length hosts; gap = 0 }) ∷ []
+one_clock_more k [] host = ap (λ (n : ℕ). let o : Owner = record { host = n; gap = 0 } in o ∷ []) (omega arith)
+one_clock_more k (first ∷ hosts) host =
+    ap (λ (owners : List Owner). (record { host = k; gap = 0 }) ∷ owners)
+    (one_clock_more (k + 1) hosts host ∙ ap (λ (n : ℕ). let o : Owner = record { host = n; gap = 0 } in one_clock_each (k + 1) hosts ++ o ∷ []) (omega arith))
+
+-- one owner more
+pub owned_more : (k : ℕ) (names more : List (List ℕ)) (name : List ℕ) (owners all : List Owner) (owner : Owner) → k ≡ length names → more ≡ names ++ name ∷ [] → all ≡ owners ++ owner ∷ []
+    → owner ≡ (let o : Owner = record { host = k; gap = 0 } in o) → one_clock_each 0 names ≡ owners → one_clock_each 0 more ≡ all
+owned_more k names more name owners all owner counted named owned own before =
+    ap (one_clock_each 0) named ∙ one_clock_more 0 names name
+    ∙ ap (λ (n : ℕ). let o : Owner = record { host = n; gap = 0 } in one_clock_each 0 names ++ o ∷ []) (omega (arith, counted))
+    ∙ ap (λ (o : Owner). one_clock_each 0 names ++ o ∷ []) (sym own)
+    ∙ ap (λ (os : List Owner). os ++ owner ∷ []) before ∙ sym owned
+
+-- the hosts of a table stand in the byte order of their names
+hosts_behind : (key : String Global) (entries : List Entry) → AllByRecursion (λ k. string_cmp key k ≡ Less) (keys_of entries) → All (λ (host : List ℕ). Precedes (string_bytes key) host) (hosts_of (members_view entries))
+hosts_behind key [] h = All-nil (λ (host : List ℕ). Precedes (string_bytes key) host)
+hosts_behind key (e ∷ entries) h = All-cons (λ (host : List ℕ). Precedes (string_bytes key) host) _ _ h.0 (hosts_behind key entries h.1)
+
+pub hosts_rise : (entries : List Entry) → IsStrictlySortedBy string_cmp (keys_of entries) → Rise (hosts_of (members_view entries))
 unfolding IsStrictlySortedBy
-clocks_rise [] h = λ i j d below inside. absurd (omega (arith, inside))
-clocks_rise (e ∷ entries) h = AllPairs-cons (λ (a b : Clock). Precedes a.name b.name) _ _ (clocks_behind e.0 entries h.0) (clocks_rise entries h.1)
+hosts_rise [] h = λ i j d below inside. absurd (omega (arith, inside))
+hosts_rise (e ∷ entries) h = AllPairs-cons (λ (a b : List ℕ). Precedes a b) _ _ (hosts_behind e.0 entries h.0) (hosts_rise entries h.1)

@@ -12,7 +12,6 @@ use Rattle.toml.proofs.Views.{Entry}
 use Rattle.toml.specs.Data.{as_table, Members}
 use Rattle.toml.specs.View.{view, members_view}
 use Rattle.toml.specs.declared.value.Value.{Value}
-use Rattle.problem_model.specs.declared.items.Clock.{Clock}
 use Rattle.decl.specs.Causes.{at, when, first, error_at, IsFirstOf}
 use Rattle.decl.specs.Declaration.{Precedes}
 use Rattle.decl.specs.Hosts.{is_clock_name, entry_of}
@@ -32,57 +31,57 @@ made_of : {V : Type 0} (n : Bool) (h : Option ℕ) (k : Option TraceKind) (host 
 made_of n h k host kind made right p q r e = rw (p, ← q, ← r) (ap Some e)
 
 same_label : (name name' : List ℕ) (host host' : ℕ) (kind kind' : TraceKind) → name ≡ name' → host ≡ host' → kind ≡ kind'
-    → (let a : Label = record { name = name; host = host; kind = kind } in a) ≡ (let b : Label = record { name = name'; host = host'; kind = kind' } in b)
+    → (let a : Label = record { name = name; host = host; clock = host; kind = kind } in a) ≡ (let b : Label = record { name = name'; host = host'; clock = host'; kind = kind' } in b)
 same_label name name' host host' kind kind' p q r = rw (p, q, r) refl
 
 -- the label of lawful names
-pub label_made : (clocks : List Clock) (name given : List ℕ) (ms : Members) (host : ℕ) (kind : TraceKind) → Some given ≡ (if is_clock_name name then Some name else None)
-    → Some host ≡ host_at_key clocks (codes "host") ms → Some kind ≡ kind_at ms
-    → Some (let l : Label = record { name = given; host = host; kind = kind } in l) ≡ (if is_misnamed clocks name ms then None else Some (label_of clocks name ms))
-label_made clocks name given ms host kind named placed kinded =
+pub label_made : (hosts : List (List ℕ)) (name given : List ℕ) (ms : Members) (host : ℕ) (kind : TraceKind) → Some given ≡ (if is_clock_name name then Some name else None)
+    → Some host ≡ host_at_key hosts (codes "host") ms → Some kind ≡ kind_at ms
+    → Some (let l : Label = record { name = given; host = host; clock = host; kind = kind } in l) ≡ (if is_misnamed hosts name ms then None else Some (label_of hosts name ms))
+label_made hosts name given ms host kind named placed kinded =
     let (is_name, name_is) = some_if (is_clock_name name) given name named in
     made_of _ _ _ host kind _ _ is_name placed kinded
     (same_label _ _ _ _ _ _ name_is (ap (λ (o : Option ℕ). unwrap_or o 0) placed) (ap (λ (o : Option TraceKind). unwrap_or o Capture) kinded))
 
 -- a label without a fault has an index that may be
-pub label_few : (clocks : List Clock) (index : ℕ) (name : List ℕ) (o : Option Members) → entry_causes (label_causes clocks index name) o ≡ [] → index ≤ 65536
-label_few clocks index name None e = cc
-label_few clocks index name (Some ms) e =
-    let last = (no_parts (table_causes Labels ms ++ when (is_misnamed clocks name ms) Name) _ e).1 in
+pub label_few : (hosts : List (List ℕ)) (index : ℕ) (name : List ℕ) (o : Option Members) → entry_causes (label_causes hosts index name) o ≡ [] → index ≤ 65536
+label_few hosts index name None e = cc
+label_few hosts index name (Some ms) e =
+    let last = (no_parts (table_causes Labels ms ++ when (is_misnamed hosts name ms) Name) _ e).1 in
     let many : nat_lt 65536 index ≡ false = not_so _ Number last in
     grind (arith, many)
 
 -- the first fault of the next label
-pub label_first : (all : List DeclError) (clocks : List Clock) (index : ℕ) (entries rest : List Entry) (name : String Global) (value : Value) (cause : Cause) (e : DeclError)
-    → all ≡ labels_faults clocks index (members_view entries) → entries ≡ (name, value) ∷ rest
-    → first (entry_causes (label_causes clocks index (string_bytes name)) (as_table (view value))) ≡ Some cause → e ≡ error_at Labels index cause → IsFirstOf all e
-label_first all clocks index entries rest name value cause e is next h placed =
-    subst (λ (fs : List DeclError). IsFirstOf fs e) (sym (is ∙ ap (λ (es : List Entry). labels_faults clocks index (members_view es)) next))
-    (fault_front (at Labels index (entry_causes (label_causes clocks index (string_bytes name)) (as_table (view value)))) _ e (fault_at Labels index _ cause e h placed))
+pub label_first : (all : List DeclError) (hosts : List (List ℕ)) (index : ℕ) (entries rest : List Entry) (name : String Global) (value : Value) (cause : Cause) (e : DeclError)
+    → all ≡ labels_faults hosts index (members_view entries) → entries ≡ (name, value) ∷ rest
+    → first (entry_causes (label_causes hosts index (string_bytes name)) (as_table (view value))) ≡ Some cause → e ≡ error_at Labels index cause → IsFirstOf all e
+label_first all hosts index entries rest name value cause e is next h placed =
+    subst (λ (fs : List DeclError). IsFirstOf fs e) (sym (is ∙ ap (λ (es : List Entry). labels_faults hosts index (members_view es)) next))
+    (fault_front (at Labels index (entry_causes (label_causes hosts index (string_bytes name)) (as_table (view value)))) _ e (fault_at Labels index _ cause e h placed))
 
 -- behind a label without a fault
-pub labels_on : (all : List DeclError) (clocks : List Clock) (index : ℕ) (entries rest : List Entry) (name : String Global) (value : Value) → all ≡ labels_faults clocks index (members_view entries)
-    → entries ≡ (name, value) ∷ rest → entry_causes (label_causes clocks index (string_bytes name)) (as_table (view value)) ≡ [] → all ≡ labels_faults clocks (index + 1) (members_view rest)
-labels_on all clocks index entries rest name value is next none =
-    is ∙ ap (λ (es : List Entry). labels_faults clocks index (members_view es)) next ∙ none_at Labels index _ (labels_faults clocks (index + 1) (members_view rest)) none
+pub labels_on : (all : List DeclError) (hosts : List (List ℕ)) (index : ℕ) (entries rest : List Entry) (name : String Global) (value : Value) → all ≡ labels_faults hosts index (members_view entries)
+    → entries ≡ (name, value) ∷ rest → entry_causes (label_causes hosts index (string_bytes name)) (as_table (view value)) ≡ [] → all ≡ labels_faults hosts (index + 1) (members_view rest)
+labels_on all hosts index entries rest name value is next none =
+    is ∙ ap (λ (es : List Entry). labels_faults hosts index (members_view es)) next ∙ none_at Labels index _ (labels_faults hosts (index + 1) (members_view rest)) none
 
-pub labels_more : (all labels : List Label) (clocks : List Clock) (label : Label) (entries rest : List Entry) (name : String Global) (value : Value) → all ≡ labels ++ labels_of clocks (members_view entries)
-    → entries ≡ (name, value) ∷ rest → label ≡ label_of clocks (string_bytes name) (entry_of (view value)) → all ≡ (labels ++ label ∷ []) ++ labels_of clocks (members_view rest)
-labels_more all labels clocks label entries rest name value is next made =
-    is ∙ ap (λ (es : List Entry). labels ++ labels_of clocks (members_view es)) next
-    ∙ ap (λ (l : Label). labels ++ l ∷ labels_of clocks (members_view rest)) (sym made)
-    ∙ sym (append_assoc labels (label ∷ []) (labels_of clocks (members_view rest)))
+pub labels_more : (all labels : List Label) (hosts : List (List ℕ)) (label : Label) (entries rest : List Entry) (name : String Global) (value : Value) → all ≡ labels ++ labels_of hosts (members_view entries)
+    → entries ≡ (name, value) ∷ rest → label ≡ label_of hosts (string_bytes name) (entry_of (view value)) → all ≡ (labels ++ label ∷ []) ++ labels_of hosts (members_view rest)
+labels_more all labels hosts label entries rest name value is next made =
+    is ∙ ap (λ (es : List Entry). labels ++ labels_of hosts (members_view es)) next
+    ∙ ap (λ (l : Label). labels ++ l ∷ labels_of hosts (members_view rest)) (sym made)
+    ∙ sym (append_assoc labels (label ∷ []) (labels_of hosts (members_view rest)))
 
 abbrev pub RiseLabels : List Label → Type 0
 RiseLabels labels = AllPairs (λ (a b : Label). Precedes a.name b.name) labels
 
 -- the labels of a table stand in the byte order of their names
-labels_behind : (clocks : List Clock) (key : String Global) (entries : List Entry) → AllByRecursion (λ k. string_cmp key k ≡ Less) (keys_of entries)
-    → All (λ (l : Label). Precedes (string_bytes key) l.name) (labels_of clocks (members_view entries))
-labels_behind clocks key [] h = All-nil (λ (l : Label). Precedes (string_bytes key) l.name)
-labels_behind clocks key (e ∷ entries) h = All-cons (λ (l : Label). Precedes (string_bytes key) l.name) _ _ h.0 (labels_behind clocks key entries h.1)
+labels_behind : (hosts : List (List ℕ)) (key : String Global) (entries : List Entry) → AllByRecursion (λ k. string_cmp key k ≡ Less) (keys_of entries)
+    → All (λ (l : Label). Precedes (string_bytes key) l.name) (labels_of hosts (members_view entries))
+labels_behind hosts key [] h = All-nil (λ (l : Label). Precedes (string_bytes key) l.name)
+labels_behind hosts key (e ∷ entries) h = All-cons (λ (l : Label). Precedes (string_bytes key) l.name) _ _ h.0 (labels_behind hosts key entries h.1)
 
-pub labels_rise : (clocks : List Clock) (entries : List Entry) → IsStrictlySortedBy string_cmp (keys_of entries) → RiseLabels (labels_of clocks (members_view entries))
+pub labels_rise : (hosts : List (List ℕ)) (entries : List Entry) → IsStrictlySortedBy string_cmp (keys_of entries) → RiseLabels (labels_of hosts (members_view entries))
 unfolding IsStrictlySortedBy
-labels_rise clocks [] h = λ i j d below inside. absurd (omega (arith, inside))
-labels_rise clocks (e ∷ entries) h = AllPairs-cons (λ (a b : Label). Precedes a.name b.name) _ _ (labels_behind clocks e.0 entries h.0) (labels_rise clocks entries h.1)
+labels_rise hosts [] h = λ i j d below inside. absurd (omega (arith, inside))
+labels_rise hosts (e ∷ entries) h = AllPairs-cons (λ (a b : Label). Precedes a.name b.name) _ _ (labels_behind hosts e.0 entries h.0) (labels_rise hosts entries h.1)

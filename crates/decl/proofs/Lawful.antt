@@ -1,10 +1,10 @@
 -- What a document without a fault declares is lawful.
-use Rattle.std.proofs.Common.{◌≡◌, ◌≢◌, ℕ, suc, ◌+◌, ◌-◌, ◌^◌, ◌<◌, ◌≤◌, ◌==◌, ◌&&◌, Bool, true, false, not, ◌||◌, is_none, nat_abs, unwrap_or, option_to_list, option_map, List, [], ◌∷◌, ◌++◌, length, get_or, slice_get, Option, Some, None, ℤ, pos, codes, eq-eqb, eqb-true, refl, sym, ap, ◌∙◌, subst, arith}
+use Rattle.std.proofs.Common.{◌≡◌, ◌≢◌, ℕ, zero, suc, ◌+◌, ◌-◌, ◌^◌, ◌<◌, ◌≤◌, ◌==◌, ◌&&◌, Bool, true, false, not, ◌||◌, is_none, nat_abs, unwrap_or, option_to_list, option_map, List, [], ◌∷◌, ◌++◌, length, map, get_or, slice_get, Option, Some, None, ℤ, pos, codes, eq-eqb, eqb-true, refl, sym, ap, ◌∙◌, subst, arith}
 use Rattle.std.specs.Prelude.{All, AllPairs, IfSome, option_and_then}
 use Rattle.std.specs.List.{position_from}
 use Rattle.std.specs.Int.{from_be_bytes, w32}
 use Rattle.std.proofs.lemmas.List.Elements.{All-cons, All-nil, All-append}
-use Rattle.std.proofs.lemmas.List.{get_or-map}
+use Rattle.std.proofs.lemmas.List.{get_or-map, length-map}
 use Rattle.std.proofs.lemmas.Option.{none-some, same_Some}
 use Rattle.problem_model.specs.Name.{IsClockName}
 use Rattle.problem_model.specs.Problem.{ClockFits}
@@ -12,18 +12,19 @@ use Rattle.problem_model.specs.declared.items.Clock.{Clock}
 use Rattle.toml.specs.Data.{Data, as_table, Items, no_items, item, Members, no_members, member}
 use Rattle.decl.specs.Addresses.{address_of, at_host, has_bad_address, is_bad_address, numbers_of, written}
 use Rattle.decl.specs.Causes.{at, when}
-use Rattle.decl.specs.Declaration.{IsDeclaration, IsSource, LinkFits}
-use Rattle.decl.specs.Hosts.{address_texts, addresses_from, addresses_in, clock_causes, clock_of, clocks_of, entry_of, has_wild_number, has_wild_rate, host_causes, hosts_faults, is_clock_name, is_one_too_many}
+use Rattle.decl.specs.Declaration.{IsDeclaration, IsSource, IsClockOf, LinkFits, one_clock_each}
+use Rattle.decl.specs.Hosts.{address_texts, addresses_from, addresses_in, clock_causes, clock_of, clocks_of, entry_of, hosts_of, has_wild_number, has_wild_rate, host_causes, hosts_faults, is_clock_name, is_one_too_many}
 use Rattle.decl.specs.Keys.{table_causes}
 use Rattle.decl.specs.Labels.{entry_causes, host_at_key, is_misnamed, label_causes, label_of, labels_faults, labels_of}
 use Rattle.decl.specs.Links.{has_link, is_astray, link_causes, link_of, links_faults, links_of}
-use Rattle.decl.specs.Places.{place_of}
+use Rattle.decl.specs.Places.{place_of, clock_place}
 use Rattle.decl.specs.Values.{is_up_to, text_at, whole_at, whole_or_zero}
 use Rattle.decl.specs.Walk.{declared, faults, hosts_in, is_true_at, labels_in, links_in, shows_true, source_causes, top_causes}
 use Rattle.decl.specs.declared.cause.Cause.TheVariants as cause
 use Rattle.decl.specs.declared.errors.Section.TheVariants.{Top, Hosts, Labels, Links}
 use Rattle.decl.specs.declared.items.Address.{Address}
 use Rattle.decl.specs.declared.items.Label.{Label}
+use Rattle.decl.specs.declared.items.Owner.{Owner}
 use Rattle.decl.specs.declared.items.Link.{Link}
 use Rattle.decl.proofs.ClockNames.{clock_name_is}
 use Rattle.decl.proofs.Dotted.{address_found}
@@ -32,7 +33,7 @@ use Rattle.decl.proofs.Fresh.{IsFresh, all_apart, fresh_append}
 use Rattle.decl.proofs.HostTurns.{host_few, numbers_at_host, numbers_more}
 use Rattle.decl.proofs.LabelTurns.{RiseLabels, label_few}
 use Rattle.decl.proofs.LinkTurns.{link_few}
-use Rattle.decl.proofs.Searching.{Rise}
+use Rattle.decl.proofs.Searching.{Rise, precedes_differ}
 
 -- ---- numbers
 
@@ -103,6 +104,34 @@ hosts_few index before (member name d ms) le e =
     let here = host_few index before name (as_table d) (host_here index before name d ms e) in
     let more = hosts_few (index + 1) (before ++ addresses_in d) ms (omega (arith, here)) (hosts_behind index before name d ms e) in
     omega (arith, more)
+
+hosts_are_named : (index : ℕ) (before : List ℕ) (ms : Members) → hosts_faults index before ms ≡ [] → All IsClockName (hosts_of ms)
+hosts_are_named index before no_members e = All-nil IsClockName
+hosts_are_named index before (member name d ms) e =
+    All-cons IsClockName _ _ (good_host index before name (as_table d) (host_here index before name d ms e)).named
+    (hosts_are_named (index + 1) (before ++ addresses_in d) ms (hosts_behind index before name d ms e))
+
+-- each clock has its host's name
+pub own_names : (ms : Members) → map (λ (c : Clock). c.name) (clocks_of ms) ≡ hosts_of ms
+own_names no_members = refl
+own_names (member name d ms) = ap (λ (names : List (List ℕ)). name ∷ names) (own_names ms)
+
+-- so names of clocks differ where those of hosts rise
+clocks_differ : (clocks : List Clock) (hosts : List (List ℕ)) → map (λ (c : Clock). c.name) clocks ≡ hosts → Rise hosts → AllPairs (λ (a b : Clock). a.name ≢ b.name) clocks
+clocks_differ clocks hosts own rise i j d below inside =
+    let first : get_or hosts i [] ≡ (get_or clocks i d).name = ap (λ (names : List (List ℕ)). get_or names i []) (sym own) ∙ get_or-map (λ (c : Clock). c.name) clocks i d [] (omega (arith, below, inside)) in
+    let second : get_or hosts j [] ≡ (get_or clocks j d).name = ap (λ (names : List (List ℕ)). get_or names j []) (sym own) ∙ get_or-map (λ (c : Clock). c.name) clocks j d [] inside in
+    let long : length hosts ≡ length clocks = sym (ap length own) ∙ length-map clocks (λ (c : Clock). c.name) in
+    let apart : get_or hosts i [] ≢ get_or hosts j [] = precedes_differ _ _ (rise i j [] below (omega (arith, inside, long))) in
+    λ same. apart (first ∙ same ∙ sym second)
+
+owners_counted : (k : ℕ) (ms : Members) → length (one_clock_each k (hosts_of ms)) ≡ length (clocks_of ms)
+owners_counted k no_members = refl
+owners_counted k (member name d ms) = ap suc (owners_counted (k + 1) ms)
+
+hosts_counted : (ms : Members) → length (hosts_of ms) ≡ length (clocks_of ms)
+hosts_counted no_members = refl
+hosts_counted (member name d ms) = ap suc (hosts_counted ms)
 
 -- ---- addresses
 
@@ -182,67 +211,83 @@ is_given : {A : Type 0} (o : Option A) → is_none o ≡ false → (a : A) × (o
 is_given None e = cc
 is_given (Some a) e = (a, refl)
 
-position_below : (t : Clock → Bool) (i : ℕ) (clocks : List Clock) (k : ℕ) → position_from t i clocks ≡ Some k → k < i + length clocks
+position_below : (t : List ℕ → Bool) (i : ℕ) (hosts : List (List ℕ)) (k : ℕ) → position_from t i hosts ≡ Some k → k < i + length hosts
 position_below t i [] k e = absurd (none-some k e)
-position_below t i (c ∷ clocks) k e = go (t c) refl (position_below t (i + 1) clocks k)
+position_below t i (c ∷ hosts) k e = go (t c) refl (position_below t (i + 1) hosts k)
   where
-    go : (b : Bool) → t c ≡ b → (position_from t (i + 1) clocks ≡ Some k → k < i + 1 + length clocks) → k < i + length (c ∷ clocks)
+    go : (b : Bool) → t c ≡ b → (position_from t (i + 1) hosts ≡ Some k → k < i + 1 + length hosts) → k < i + length (c ∷ hosts)
     go true is more = let same : i ≡ k = same_Some i k (rw is at e) in omega (arith, same)
     go false is more = omega (arith, more (rw is at e))
 
-place_below : (clocks : List Clock) (name : List ℕ) (k : ℕ) → place_of clocks name ≡ Some k → k < length clocks
-place_below clocks name k e = omega (arith, position_below _ 0 clocks k e)
+place_below : (hosts : List (List ℕ)) (name : List ℕ) (k : ℕ) → place_of hosts name ≡ Some k → k < length hosts
+place_below hosts name k e = omega (arith, position_below _ 0 hosts k e)
 
-module _ (clocks : List Clock) where
-  -- a host that is known has a place among the clocks
-  known_below : (key : List ℕ) (ms : Members) → is_none (host_at_key clocks key ms) ≡ false → unwrap_or (host_at_key clocks key ms) 0 < length clocks
+-- a host owns the clock at its place
+owned_from : (k : ℕ) (hosts : List (List ℕ)) (host : ℕ) → host < length hosts → (o : Owner) × (slice_get (one_clock_each k hosts) host ≡ Some o) × (o.host ≡ k + host)
+owned_from k [] host inside = absurd (omega (arith, inside))
+owned_from k (first ∷ hosts) zero inside = (record { host = k; gap = 0 }, refl, omega arith)
+owned_from k (first ∷ hosts) (suc host) inside =
+    let (o, at, is) = owned_from (k + 1) hosts host (omega (arith, inside)) in (o, at, is ∙ omega arith)
+
+own_clock : (hosts : List (List ℕ)) (host : ℕ) → host < length hosts → IsClockOf (one_clock_each 0 hosts) host host
+own_clock hosts host inside = let (o, at, is) = owned_from 0 hosts host inside in (o, at, is ∙ omega arith)
+
+module _ (hosts : List (List ℕ)) where
+  -- a host that is known has a place
+  known_below : (key : List ℕ) (ms : Members) → is_none (host_at_key hosts key ms) ≡ false → unwrap_or (host_at_key hosts key ms) 0 < length hosts
   known_below key ms e =
-      let (k, is) = is_given (host_at_key clocks key ms) e in
-      rw is (place_below clocks _ k is)
+      let (k, is) = is_given (host_at_key hosts key ms) e in
+      rw is (place_below hosts _ k is)
 
   record GoodLabel (name : List ℕ) (ms : Members) : Type 0 where
     named : IsClockName name
-    placed : (label_of clocks name ms).host < length clocks
+    placed : (label_of hosts name ms).host < length hosts
 
-  good_label : (index : ℕ) (name : List ℕ) (o : Option Members) → entry_causes (label_causes clocks index name) o ≡ [] → GoodLabel name (unwrap_or o no_members)
+  good_label : (index : ℕ) (name : List ℕ) (o : Option Members) → entry_causes (label_causes hosts index name) o ≡ [] → GoodLabel name (unwrap_or o no_members)
   good_label index name None e = cc
   good_label index name (Some ms) e =
-      let (front, _) = no_parts (table_causes Labels ms ++ when (is_misnamed clocks name ms) cause.Name) _ e in
+      let (front, _) = no_parts (table_causes Labels ms ++ when (is_misnamed hosts name ms) cause.Name) _ e in
       let (_, names) = no_parts (table_causes Labels ms) _ front in
-      let (name_host, kind) = neither (not (is_clock_name name) || is_none (host_at_key clocks (codes "host") ms)) _ (not_so _ cause.Name names) in
+      let (name_host, kind) = neither (not (is_clock_name name) || is_none (host_at_key hosts (codes "host") ms)) _ (not_so _ cause.Name names) in
       let (named, host) = neither (not (is_clock_name name)) _ name_host in
       record { named = clock_name_is name (not_false _ named); placed = known_below (codes "host") ms host }
 
-  label_here : (index : ℕ) (name : List ℕ) (d : Data) (ms : Members) → labels_faults clocks index (member name d ms) ≡ [] → entry_causes (label_causes clocks index name) (as_table d) ≡ []
-  label_here index name d ms e = no_causes Labels index _ (no_parts (at Labels index (entry_causes (label_causes clocks index name) (as_table d))) _ e).0
+  label_here : (index : ℕ) (name : List ℕ) (d : Data) (ms : Members) → labels_faults hosts index (member name d ms) ≡ [] → entry_causes (label_causes hosts index name) (as_table d) ≡ []
+  label_here index name d ms e = no_causes Labels index _ (no_parts (at Labels index (entry_causes (label_causes hosts index name) (as_table d))) _ e).0
 
-  labels_behind : (index : ℕ) (name : List ℕ) (d : Data) (ms : Members) → labels_faults clocks index (member name d ms) ≡ [] → labels_faults clocks (index + 1) ms ≡ []
-  labels_behind index name d ms e = (no_parts (at Labels index (entry_causes (label_causes clocks index name) (as_table d))) _ e).1
+  labels_behind : (index : ℕ) (name : List ℕ) (d : Data) (ms : Members) → labels_faults hosts index (member name d ms) ≡ [] → labels_faults hosts (index + 1) ms ≡ []
+  labels_behind index name d ms e = (no_parts (at Labels index (entry_causes (label_causes hosts index name) (as_table d))) _ e).1
 
-  labels_named : (index : ℕ) (ms : Members) → labels_faults clocks index ms ≡ [] → All (λ (l : Label). IsClockName l.name) (labels_of clocks ms)
+  labels_named : (index : ℕ) (ms : Members) → labels_faults hosts index ms ≡ [] → All (λ (l : Label). IsClockName l.name) (labels_of hosts ms)
   labels_named index no_members e = All-nil (λ (l : Label). IsClockName l.name)
   labels_named index (member name d ms) e =
       All-cons (λ (l : Label). IsClockName l.name) _ _ (good_label index name (as_table d) (label_here index name d ms e)).named (labels_named (index + 1) ms (labels_behind index name d ms e))
 
-  labels_placed : (index : ℕ) (ms : Members) → labels_faults clocks index ms ≡ [] → All (λ (l : Label). l.host < length clocks) (labels_of clocks ms)
-  labels_placed index no_members e = All-nil (λ (l : Label). l.host < length clocks)
+  labels_placed : (index : ℕ) (ms : Members) → labels_faults hosts index ms ≡ [] → All (λ (l : Label). l.host < length hosts) (labels_of hosts ms)
+  labels_placed index no_members e = All-nil (λ (l : Label). l.host < length hosts)
   labels_placed index (member name d ms) e =
-      All-cons (λ (l : Label). l.host < length clocks) _ _ (good_label index name (as_table d) (label_here index name d ms e)).placed (labels_placed (index + 1) ms (labels_behind index name d ms e))
+      All-cons (λ (l : Label). l.host < length hosts) _ _ (good_label index name (as_table d) (label_here index name d ms e)).placed (labels_placed (index + 1) ms (labels_behind index name d ms e))
 
-  labels_few : (index : ℕ) (ms : Members) → index ≤ 65537 → labels_faults clocks index ms ≡ [] → index + length (labels_of clocks ms) ≤ 65537
+  labels_owned : (index : ℕ) (ms : Members) → labels_faults hosts index ms ≡ [] → All (λ (l : Label). IsClockOf (one_clock_each 0 hosts) l.host l.clock) (labels_of hosts ms)
+  labels_owned index no_members e = All-nil (λ (l : Label). IsClockOf (one_clock_each 0 hosts) l.host l.clock)
+  labels_owned index (member name d ms) e =
+      let good = good_label index name (as_table d) (label_here index name d ms e) in
+      All-cons (λ (l : Label). IsClockOf (one_clock_each 0 hosts) l.host l.clock) (label_of hosts name (entry_of d)) (labels_of hosts ms) (own_clock hosts (label_of hosts name (entry_of d)).host good.placed) (labels_owned (index + 1) ms (labels_behind index name d ms e))
+
+  labels_few : (index : ℕ) (ms : Members) → index ≤ 65537 → labels_faults hosts index ms ≡ [] → index + length (labels_of hosts ms) ≤ 65537
   labels_few index no_members le e = omega (arith, le)
   labels_few index (member name d ms) le e =
-      let here = label_few clocks index name (as_table d) (label_here index name d ms e) in
+      let here = label_few hosts index name (as_table d) (label_here index name d ms e) in
       let more = labels_few (index + 1) ms (omega (arith, here)) (labels_behind index name d ms e) in
       omega (arith, more)
 
   -- ---- links
 
   record GoodLink (before : List Link) (ms : Members) : Type 0 where
-    start : (link_of clocks ms).from < length clocks
-    end : (link_of clocks ms).to < length clocks
-    fresh : has_link before (link_of clocks ms).from (link_of clocks ms).to ≡ false
-    fits : LinkFits (link_of clocks ms)
+    start : (link_of hosts ms).from < length hosts
+    end : (link_of hosts ms).to < length hosts
+    fresh : has_link before (link_of hosts ms).from (link_of hosts ms).to ≡ false
+    fits : LinkFits (link_of hosts ms)
 
   astray : (before : List Link) (from to : Option ℕ) → is_astray before from to ≡ false → (is_none from ≡ false) × (is_none to ≡ false) × (has_link before (unwrap_or from 0) (unwrap_or to 0) ≡ false)
   astray before None to e = cc
@@ -253,12 +298,12 @@ module _ (clocks : List Clock) where
   most_fits None e = tt
   most_fits (Some z) e = below_62 z e
 
-  good_link : (index : ℕ) (before : List Link) (o : Option Members) → entry_causes (link_causes clocks index before) o ≡ [] → GoodLink before (unwrap_or o no_members)
+  good_link : (index : ℕ) (before : List Link) (o : Option Members) → entry_causes (link_causes hosts index before) o ≡ [] → GoodLink before (unwrap_or o no_members)
   good_link index before None e = cc
   good_link index before (Some ms) e =
-      let (front, numbers) = no_parts (table_causes Links ms ++ when (is_astray before (host_at_key clocks (codes "from") ms) (host_at_key clocks (codes "to") ms)) cause.Name) _ e in
+      let (front, numbers) = no_parts (table_causes Links ms ++ when (is_astray before (host_at_key hosts (codes "from") ms) (host_at_key hosts (codes "to") ms)) cause.Name) _ e in
       let (_, names) = no_parts (table_causes Links ms) _ front in
-      let (from, to, fresh) = astray before (host_at_key clocks (codes "from") ms) (host_at_key clocks (codes "to") ms) (not_so _ cause.Name names) in
+      let (from, to, fresh) = astray before (host_at_key hosts (codes "from") ms) (host_at_key hosts (codes "to") ms) (not_so _ cause.Name names) in
       let (_, tame) = neither (is_one_too_many index) _ (not_so _ cause.Number numbers) in
       let (least, most) = wild (is_up_to (2 ^ 62 - 1) (whole_or_zero (codes "least") ms)) (is_up_to (2 ^ 62 - 1) (whole_or_zero (codes "most") ms)) tame in
       record {
@@ -268,34 +313,34 @@ module _ (clocks : List Clock) where
         fits = (below_62 (whole_or_zero (codes "least") ms) least, most_fits (whole_at (codes "most") ms) most);
       }
 
-  link_here : (index : ℕ) (before : List Link) (d : Data) (ds : Items) → links_faults clocks index before (item d ds) ≡ [] → entry_causes (link_causes clocks index before) (as_table d) ≡ []
-  link_here index before d ds e = no_causes Links index _ (no_parts (at Links index (entry_causes (link_causes clocks index before) (as_table d))) _ e).0
+  link_here : (index : ℕ) (before : List Link) (d : Data) (ds : Items) → links_faults hosts index before (item d ds) ≡ [] → entry_causes (link_causes hosts index before) (as_table d) ≡ []
+  link_here index before d ds e = no_causes Links index _ (no_parts (at Links index (entry_causes (link_causes hosts index before) (as_table d))) _ e).0
 
-  links_behind : (index : ℕ) (before : List Link) (d : Data) (ds : Items) → links_faults clocks index before (item d ds) ≡ []
-      → links_faults clocks (index + 1) (before ++ link_of clocks (entry_of d) ∷ []) ds ≡ []
-  links_behind index before d ds e = (no_parts (at Links index (entry_causes (link_causes clocks index before) (as_table d))) _ e).1
+  links_behind : (index : ℕ) (before : List Link) (d : Data) (ds : Items) → links_faults hosts index before (item d ds) ≡ []
+      → links_faults hosts (index + 1) (before ++ link_of hosts (entry_of d) ∷ []) ds ≡ []
+  links_behind index before d ds e = (no_parts (at Links index (entry_causes (link_causes hosts index before) (as_table d))) _ e).1
 
-  links_all : (P : Link → Type 0) → ((before : List Link) (ms : Members) → GoodLink before ms → P (link_of clocks ms)) → (index : ℕ) (before : List Link) (ds : Items) → links_faults clocks index before ds ≡ []
-      → All P (links_of clocks ds)
+  links_all : (P : Link → Type 0) → ((before : List Link) (ms : Members) → GoodLink before ms → P (link_of hosts ms)) → (index : ℕ) (before : List Link) (ds : Items) → links_faults hosts index before ds ≡ []
+      → All P (links_of hosts ds)
   links_all P good index before no_items e = All-nil P
   links_all P good index before (item d ds) e =
       All-cons P _ _ (good before (entry_of d) (good_link index before (as_table d) (link_here index before d ds e)))
-      (links_all P good (index + 1) (before ++ link_of clocks (entry_of d) ∷ []) ds (links_behind index before d ds e))
+      (links_all P good (index + 1) (before ++ link_of hosts (entry_of d) ∷ []) ds (links_behind index before d ds e))
 
-  links_few : (index : ℕ) (before : List Link) (ds : Items) → index ≤ 65537 → links_faults clocks index before ds ≡ [] → index + length (links_of clocks ds) ≤ 65537
+  links_few : (index : ℕ) (before : List Link) (ds : Items) → index ≤ 65537 → links_faults hosts index before ds ≡ [] → index + length (links_of hosts ds) ≤ 65537
   links_few index before no_items le e = omega (arith, le)
   links_few index before (item d ds) le e =
-      let here = link_few clocks index before (as_table d) (link_here index before d ds e) in
-      let more = links_few (index + 1) (before ++ link_of clocks (entry_of d) ∷ []) ds (omega (arith, here)) (links_behind index before d ds e) in
+      let here = link_few hosts index before (as_table d) (link_here index before d ds e) in
+      let more = links_few (index + 1) (before ++ link_of hosts (entry_of d) ∷ []) ds (omega (arith, here)) (links_behind index before d ds e) in
       omega (arith, more)
 
 abbrev same_ends : Link → Link → Bool
 same_ends b l = b.from == l.from && b.to == l.to
 
-links_fresh : (clocks : List Clock) (index : ℕ) (before : List Link) (ds : Items) → links_faults clocks index before ds ≡ [] → IsFresh same_ends before (links_of clocks ds)
-links_fresh clocks index before no_items e = tt
-links_fresh clocks index before (item d ds) e =
-    ((good_link clocks index before (as_table d) (link_here clocks index before d ds e)).fresh, links_fresh clocks (index + 1) (before ++ link_of clocks (entry_of d) ∷ []) ds (links_behind clocks index before d ds e))
+links_fresh : (hosts : List (List ℕ)) (index : ℕ) (before : List Link) (ds : Items) → links_faults hosts index before ds ≡ [] → IsFresh same_ends before (links_of hosts ds)
+links_fresh hosts index before no_items e = tt
+links_fresh hosts index before (item d ds) e =
+    ((good_link hosts index before (as_table d) (link_here hosts index before d ds e)).fresh, links_fresh hosts (index + 1) (before ++ link_of hosts (entry_of d) ∷ []) ds (links_behind hosts index before d ds e))
 
 ends_apart : (a b : Link) → same_ends a b ≡ false → a.from ≡ b.from → a.to ≡ b.to → ⊥
 ends_apart a b other from to = both_false (a.from == b.from) (a.to == b.to) (eq-eqb a.from b.from from) (eq-eqb a.to b.to to) other
@@ -324,37 +369,47 @@ true_source : (clocks : List Clock) (o : Option ℕ) → is_true_at clocks o ≡
 true_source clocks None e = tt
 true_source clocks (Some place) e = true_clock (slice_get clocks place) e
 
-source_true : (clocks : List Clock) (name : Option (List ℕ)) → source_causes clocks name ≡ [] → IfSome (option_and_then (place_of clocks) name) (IsSource clocks)
+source_true : (clocks : List Clock) (name : Option (List ℕ)) → source_causes clocks name ≡ [] → IfSome (option_and_then (clock_place clocks) name) (IsSource clocks)
 source_true clocks None e = tt
-source_true clocks (Some name) e = true_source clocks (place_of clocks name) (not_false _ (not_so _ cause.Source e))
+source_true clocks (Some name) e = true_source clocks (clock_place clocks name) (not_false _ (not_so _ cause.Source e))
 
 -- ---- all together
 
-pub lawful : (ms : Members) → Rise (clocks_of (hosts_in ms)) → RiseLabels (labels_of (clocks_of (hosts_in ms)) (labels_in ms)) → faults ms ≡ [] → IsDeclaration (declared ms)
+pub lawful : (ms : Members) → Rise (hosts_of (hosts_in ms)) → RiseLabels (labels_of (hosts_of (hosts_in ms)) (labels_in ms)) → faults ms ≡ [] → IsDeclaration (declared ms)
 lawful ms rise labels_rise e =
+    let names = hosts_of (hosts_in ms) in
     let clocks = clocks_of (hosts_in ms) in
     let (top, behind_top) = no_parts (at Top 0 (top_causes ms)) _ e in
     let (hosts, behind_hosts) = no_parts (hosts_faults 1 [] (hosts_in ms)) _ behind_top in
-    let (labels, behind_labels) = no_parts (labels_faults clocks 1 (labels_in ms)) _ behind_hosts in
-    let (links, source) = no_parts (links_faults clocks 1 [] (links_in ms)) _ behind_labels in
+    let (labels, behind_labels) = no_parts (labels_faults names 1 (labels_in ms)) _ behind_hosts in
+    let (links, source) = no_parts (links_faults names 1 [] (links_in ms)) _ behind_labels in
     let payload = (no_parts (table_causes Top ms) _ (no_causes Top 0 (top_causes ms) top)).1 in
+    let few : 1 + length clocks ≤ 65537 = hosts_few 1 [] (hosts_in ms) (omega arith) hosts in
+    let counted : length names ≡ length clocks = hosts_counted (hosts_in ms) in
     record {
-      host_names = hosts_named 1 [] (hosts_in ms) hosts;
+      host_names = hosts_are_named 1 [] (hosts_in ms) hosts;
       hosts_rise = rise;
-      hosts_fit = hosts_fit 1 [] (hosts_in ms) hosts;
-      host_limit = omega (arith, hosts_few 1 [] (hosts_in ms) (omega arith) hosts);
-      address_hosts = addresses_placed 0 (hosts_in ms) (length clocks) (omega arith);
+      host_limit = omega (arith, few, counted);
+      clock_names = hosts_named 1 [] (hosts_in ms) hosts;
+      clocks_differ = clocks_differ clocks names (own_names (hosts_in ms)) rise;
+      clocks_fit = hosts_fit 1 [] (hosts_in ms) hosts;
+      clock_limit = omega (arith, few);
+      clocks_owned = owners_counted 0 (hosts_in ms);
+      own_names = own_names (hosts_in ms);
+      own_clocks = refl;
+      address_hosts = addresses_placed 0 (hosts_in ms) (length names) (omega (arith, counted));
       addresses_fit = addresses_fit 0 (hosts_in ms);
       addresses_differ = addresses_differ (addresses_from 0 (hosts_in ms)) (all_apart same_number [] _ (addresses_fresh 1 0 [] (hosts_in ms) hosts));
-      label_names = labels_named clocks 1 (labels_in ms) labels;
+      label_names = labels_named names 1 (labels_in ms) labels;
       labels_rise = labels_rise;
-      label_hosts = labels_placed clocks 1 (labels_in ms) labels;
-      label_limit = omega (arith, labels_few clocks 1 (labels_in ms) (omega arith) labels);
-      link_starts = links_all clocks (λ (l : Link). l.from < length clocks) (λ before m good. good.start) 1 [] (links_in ms) links;
-      link_ends = links_all clocks (λ (l : Link). l.to < length clocks) (λ before m good. good.end) 1 [] (links_in ms) links;
-      links_differ = links_differ (links_of clocks (links_in ms)) (all_apart same_ends [] _ (links_fresh clocks 1 [] (links_in ms) links));
-      links_fit = links_all clocks LinkFits (λ before m good. good.fits) 1 [] (links_in ms) links;
-      link_limit = omega (arith, links_few clocks 1 [] (links_in ms) (omega arith) links);
+      label_hosts = labels_placed names 1 (labels_in ms) labels;
+      label_clocks = labels_owned names 1 (labels_in ms) labels;
+      label_limit = omega (arith, labels_few names 1 (labels_in ms) (omega arith) labels);
+      link_starts = links_all names (λ (l : Link). l.from < length names) (λ before m good. good.start) 1 [] (links_in ms) links;
+      link_ends = links_all names (λ (l : Link). l.to < length names) (λ before m good. good.end) 1 [] (links_in ms) links;
+      links_differ = links_differ (links_of names (links_in ms)) (all_apart same_ends [] _ (links_fresh names 1 [] (links_in ms) links));
+      links_fit = links_all names LinkFits (λ before m good. good.fits) 1 [] (links_in ms) links;
+      link_limit = omega (arith, links_few names 1 [] (links_in ms) (omega arith) links);
       payload_limit = up_to_le 64 (whole_or_zero (codes "payload_bytes") ms) (not_false _ (not_so _ cause.Number payload));
       source_true = source_true clocks (text_at (codes "source") ms) (no_causes Top 0 _ source);
     }

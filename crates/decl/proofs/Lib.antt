@@ -1,6 +1,6 @@
 mod ClockNames
 mod Dotted
-mod Searching
+pub mod Searching
 mod Faults
 mod HostTurns
 mod LabelTurns

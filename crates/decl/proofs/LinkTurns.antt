@@ -7,7 +7,6 @@ use Rattle.toml.proofs.Views.{items_view-drop}
 use Rattle.toml.specs.Data.{as_table, Items, item, Members}
 use Rattle.toml.specs.View.{view, items_view}
 use Rattle.toml.specs.declared.value.Value.{Value}
-use Rattle.problem_model.specs.declared.items.Clock.{Clock}
 use Rattle.decl.specs.Causes.{at, when, first, error_at, IsFirstOf}
 use Rattle.decl.specs.Hosts.{entry_of, is_one_too_many}
 use Rattle.decl.specs.Keys.{table_causes}
@@ -53,14 +52,14 @@ same_link : (from from' to to' least least' : ℕ) (most most' : Option ℕ) →
     → (let a : Link = record { from = from; to = to; least = least; most = most } in a) ≡ (let b : Link = record { from = from'; to = to'; least = least'; most = most' } in b)
 same_link from from' to to' least least' most most' p q r s = rw (p, q, r, s) refl
 
-module _ (clocks : List Clock) (index : ℕ) (before : List Link) (ms : Members) (from to : ℕ) (table : table_causes Links ms ≡ [])
-    (ends : ◌≡◌ {A = Option (ℕ × ℕ)} (Some (from, to)) (if is_astray before (host_at_key clocks (codes "from") ms) (host_at_key clocks (codes "to") ms) then None
-    else Some (unwrap_or (host_at_key clocks (codes "from") ms) 0, unwrap_or (host_at_key clocks (codes "to") ms) 0))) where
-  known : is_astray before (host_at_key clocks (codes "from") ms) (host_at_key clocks (codes "to") ms) ≡ false
-  known = (some_unless (is_astray before (host_at_key clocks (codes "from") ms) (host_at_key clocks (codes "to") ms)) (from, to) _ ends).0
+module _ (hosts : List (List ℕ)) (index : ℕ) (before : List Link) (ms : Members) (from to : ℕ) (table : table_causes Links ms ≡ [])
+    (ends : ◌≡◌ {A = Option (ℕ × ℕ)} (Some (from, to)) (if is_astray before (host_at_key hosts (codes "from") ms) (host_at_key hosts (codes "to") ms) then None
+    else Some (unwrap_or (host_at_key hosts (codes "from") ms) 0, unwrap_or (host_at_key hosts (codes "to") ms) 0))) where
+  known : is_astray before (host_at_key hosts (codes "from") ms) (host_at_key hosts (codes "to") ms) ≡ false
+  known = (some_unless (is_astray before (host_at_key hosts (codes "from") ms) (host_at_key hosts (codes "to") ms)) (from, to) _ ends).0
 
-  ends_are : ◌≡◌ {A = ℕ × ℕ} (from, to) (unwrap_or (host_at_key clocks (codes "from") ms) 0, unwrap_or (host_at_key clocks (codes "to") ms) 0)
-  ends_are = (some_unless (is_astray before (host_at_key clocks (codes "from") ms) (host_at_key clocks (codes "to") ms)) (from, to) _ ends).1
+  ends_are : ◌≡◌ {A = ℕ × ℕ} (from, to) (unwrap_or (host_at_key hosts (codes "from") ms) 0, unwrap_or (host_at_key hosts (codes "to") ms) 0)
+  ends_are = (some_unless (is_astray before (host_at_key hosts (codes "from") ms) (host_at_key hosts (codes "to") ms)) (from, to) _ ends).1
 
   tame_of : (a b : Bool) → a ≡ true → b ≡ true → (not a || not b) ≡ false
   tame_of a b p q = rw (p, q) refl
@@ -75,7 +74,7 @@ module _ (clocks : List Clock) (index : ℕ) (before : List Link) (ms : Members)
   pub link_sound : (least : ℕ) (most : Option ℕ) → index ≤ 65536
       → Some least ≡ (if is_up_to (2 ^ 62 - 1) (whole_or_zero (codes "least") ms) then Some (number_at (codes "least") ms) else None)
       → ◌≡◌ {A = Option (Option ℕ)} (Some most) (if is_up_to (2 ^ 62 - 1) (whole_or_zero (codes "most") ms) then Some (most_at ms) else None)
-      → (link_causes clocks index before ms ≡ []) × ((let l : Link = record { from = from; to = to; least = least; most = most } in l) ≡ link_of clocks ms)
+      → (link_causes hosts index before ms ≡ []) × ((let l : Link = record { from = from; to = to; least = least; most = most } in l) ≡ link_of hosts ms)
   link_sound least most few p q =
       let (first, least_is) = some_if (is_up_to (2 ^ 62 - 1) (whole_or_zero (codes "least") ms)) least (number_at (codes "least") ms) p in
       let (second, most_is) = some_if (is_up_to (2 ^ 62 - 1) (whole_or_zero (codes "most") ms)) most (most_at ms) q in (
@@ -83,46 +82,46 @@ module _ (clocks : List Clock) (index : ℕ) (before : List Link) (ms : Members)
         same_link _ _ _ _ _ _ _ _ (ap (λ (p : ℕ × ℕ). p.0) ends_are) (ap (λ (p : ℕ × ℕ). p.1) ends_are) least_is most_is,
       )
 
-  pub least_wild : None ≡ (if is_up_to (2 ^ 62 - 1) (whole_or_zero (codes "least") ms) then Some (number_at (codes "least") ms) else None) → first (link_causes clocks index before ms) ≡ Some Number
+  pub least_wild : None ≡ (if is_up_to (2 ^ 62 - 1) (whole_or_zero (codes "least") ms) then Some (number_at (codes "least") ms) else None) → first (link_causes hosts index before ms) ≡ Some Number
   least_wild p =
       number_wrong _ _ _ table known (second_of (is_one_too_many index) _ (wild_first _ (is_up_to (2 ^ 62 - 1) (whole_or_zero (codes "most") ms)) (none_if (is_up_to (2 ^ 62 - 1) (whole_or_zero (codes "least") ms)) (number_at (codes "least") ms) p)))
 
-  pub most_wild : ◌≡◌ {A = Option (Option ℕ)} None (if is_up_to (2 ^ 62 - 1) (whole_or_zero (codes "most") ms) then Some (most_at ms) else None) → first (link_causes clocks index before ms) ≡ Some Number
+  pub most_wild : ◌≡◌ {A = Option (Option ℕ)} None (if is_up_to (2 ^ 62 - 1) (whole_or_zero (codes "most") ms) then Some (most_at ms) else None) → first (link_causes hosts index before ms) ≡ Some Number
   most_wild p =
       number_wrong _ _ _ table known (second_of (is_one_too_many index) _ (wild_second (is_up_to (2 ^ 62 - 1) (whole_or_zero (codes "least") ms)) _ (none_if (is_up_to (2 ^ 62 - 1) (whole_or_zero (codes "most") ms)) (most_at ms) p)))
 
 -- a link without a fault has an index that may be
-pub link_few : (clocks : List Clock) (index : ℕ) (before : List Link) (o : Option Members) → entry_causes (link_causes clocks index before) o ≡ [] → index ≤ 65536
-link_few clocks index before None e = cc
-link_few clocks index before (Some ms) e =
-    let last = (no_parts (table_causes Links ms ++ when (is_astray before (host_at_key clocks (codes "from") ms) (host_at_key clocks (codes "to") ms)) Name) _ e).1 in
+pub link_few : (hosts : List (List ℕ)) (index : ℕ) (before : List Link) (o : Option Members) → entry_causes (link_causes hosts index before) o ≡ [] → index ≤ 65536
+link_few hosts index before None e = cc
+link_few hosts index before (Some ms) e =
+    let last = (no_parts (table_causes Links ms ++ when (is_astray before (host_at_key hosts (codes "from") ms) (host_at_key hosts (codes "to") ms)) Name) _ e).1 in
     let many : nat_lt 65536 index ≡ false = (neither _ _ (not_so _ Number last)).0 in
     grind (arith, many)
 
-module _ (all : List DeclError) (clocks : List Clock) (index : ℕ) (before : List Link) (items : List Value) (i : ℕ) (d : Value) (within : i < length items)
-    (is : all ≡ links_faults clocks index before (items_view (drop i items))) where
-  next : all ≡ links_faults clocks index before (item (view (get_or items i d)) (items_view (drop (i + 1) items)))
-  next = is ∙ ap (λ (ds : Items). links_faults clocks index before ds) (items_view-drop items i d within)
+module _ (all : List DeclError) (hosts : List (List ℕ)) (index : ℕ) (before : List Link) (items : List Value) (i : ℕ) (d : Value) (within : i < length items)
+    (is : all ≡ links_faults hosts index before (items_view (drop i items))) where
+  next : all ≡ links_faults hosts index before (item (view (get_or items i d)) (items_view (drop (i + 1) items)))
+  next = is ∙ ap (λ (ds : Items). links_faults hosts index before ds) (items_view-drop items i d within)
 
   -- the first fault of the next link
-  pub link_first : (cause : Cause) (e : DeclError) → first (entry_causes (link_causes clocks index before) (as_table (view (get_or items i d)))) ≡ Some cause → e ≡ error_at Links index cause → IsFirstOf all e
+  pub link_first : (cause : Cause) (e : DeclError) → first (entry_causes (link_causes hosts index before) (as_table (view (get_or items i d)))) ≡ Some cause → e ≡ error_at Links index cause → IsFirstOf all e
   link_first cause e h placed =
-      subst (λ (fs : List DeclError). IsFirstOf fs e) (sym next) (fault_front (at Links index (entry_causes (link_causes clocks index before) (as_table (view (get_or items i d))))) _ e (fault_at Links index _ cause e h placed))
+      subst (λ (fs : List DeclError). IsFirstOf fs e) (sym next) (fault_front (at Links index (entry_causes (link_causes hosts index before) (as_table (view (get_or items i d))))) _ e (fault_at Links index _ cause e h placed))
 
   -- behind a link without a fault
-  pub links_on : (link : Link) (new : List Link) → entry_causes (link_causes clocks index before) (as_table (view (get_or items i d))) ≡ [] → link ≡ link_of clocks (entry_of (view (get_or items i d)))
-      → new ≡ before ++ link ∷ [] → all ≡ links_faults clocks (index + 1) new (items_view (drop (i + 1) items))
+  pub links_on : (link : Link) (new : List Link) → entry_causes (link_causes hosts index before) (as_table (view (get_or items i d))) ≡ [] → link ≡ link_of hosts (entry_of (view (get_or items i d)))
+      → new ≡ before ++ link ∷ [] → all ≡ links_faults hosts (index + 1) new (items_view (drop (i + 1) items))
   links_on link new none made added =
-      next ∙ none_at Links index _ (links_faults clocks (index + 1) (before ++ link_of clocks (entry_of (view (get_or items i d))) ∷ []) (items_view (drop (i + 1) items))) none
-      ∙ ap (λ (b : List Link). links_faults clocks (index + 1) b (items_view (drop (i + 1) items))) (ap (λ (l : Link). before ++ l ∷ []) (sym made) ∙ sym added)
+      next ∙ none_at Links index _ (links_faults hosts (index + 1) (before ++ link_of hosts (entry_of (view (get_or items i d))) ∷ []) (items_view (drop (i + 1) items))) none
+      ∙ ap (λ (b : List Link). links_faults hosts (index + 1) b (items_view (drop (i + 1) items))) (ap (λ (l : Link). before ++ l ∷ []) (sym made) ∙ sym added)
 
-pub links_more : (all before new : List Link) (clocks : List Clock) (link : Link) (items : List Value) (i : ℕ) (d : Value) → i < length items → all ≡ before ++ links_of clocks (items_view (drop i items))
-    → link ≡ link_of clocks (entry_of (view (get_or items i d))) → new ≡ before ++ link ∷ [] → all ≡ new ++ links_of clocks (items_view (drop (i + 1) items))
-links_more all before new clocks link items i d within is made added =
-    is ∙ ap (λ (ds : Items). before ++ links_of clocks ds) (items_view-drop items i d within)
-    ∙ ap (λ (l : Link). before ++ l ∷ links_of clocks (items_view (drop (i + 1) items))) (sym made)
-    ∙ sym (append_assoc before (link ∷ []) (links_of clocks (items_view (drop (i + 1) items))))
-    ∙ ap (λ (front : List Link). front ++ links_of clocks (items_view (drop (i + 1) items))) (sym added)
+pub links_more : (all before new : List Link) (hosts : List (List ℕ)) (link : Link) (items : List Value) (i : ℕ) (d : Value) → i < length items → all ≡ before ++ links_of hosts (items_view (drop i items))
+    → link ≡ link_of hosts (entry_of (view (get_or items i d))) → new ≡ before ++ link ∷ [] → all ≡ new ++ links_of hosts (items_view (drop (i + 1) items))
+links_more all before new hosts link items i d within is made added =
+    is ∙ ap (λ (ds : Items). before ++ links_of hosts ds) (items_view-drop items i d within)
+    ∙ ap (λ (l : Link). before ++ l ∷ links_of hosts (items_view (drop (i + 1) items))) (sym made)
+    ∙ sym (append_assoc before (link ∷ []) (links_of hosts (items_view (drop (i + 1) items))))
+    ∙ ap (λ (front : List Link). front ++ links_of hosts (items_view (drop (i + 1) items))) (sym added)
 
 same_ends : (a b c d : ℕ) → is_eq (ordering_then (nat_cmp a c) (nat_cmp b d)) ≡ (a == c && b == d)
 same_ends a b c d = grind arith

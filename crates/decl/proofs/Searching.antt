@@ -1,5 +1,5 @@
 -- A search among names in byte order finds the place.
-use Rattle.std.proofs.Common.{◌≡◌, ℕ, zero, suc, ◌+◌, ◌<◌, ◌≤◌, Bool, true, false, List, [], ◌∷◌, get_or, length, Some, None, refl, sym, ap, ◌∙◌, subst, arith, inl, inr}
+use Rattle.std.proofs.Common.{◌≡◌, ◌≢◌, ℕ, zero, suc, ◌+◌, ◌<◌, ◌≤◌, Bool, true, false, List, [], ◌∷◌, get_or, length, map, Some, None, refl, sym, ap, ◌∙◌, subst, arith, inl, inr}
 use Rattle.std.specs.Prelude.{AllPairs}
 use Rattle.std.specs.List.{position_from}
 use Rattle.std.specs.List.Sorted.{IsNonDecreasingBy, IsPartitionPoint}
@@ -13,13 +13,13 @@ use Rattle.std.proofs.lemmas.Cmp.{nat_list_cmp_total}
 use Rattle.std.proofs.lemmas.Map.Text.{is_eq-slice_cmp}
 use Rattle.problem_model.specs.declared.items.Clock.{Clock}
 use Rattle.decl.specs.Declaration.{Precedes}
-use Rattle.decl.specs.Places.{place_of}
+use Rattle.decl.specs.Places.{place_of, clock_place}
 
-abbrev pub name_cmp : List ℕ → Clock → Ordering
-name_cmp name c = slice_cmp nat_cmp c.name name
+abbrev pub name_cmp : List ℕ → List ℕ → Ordering
+name_cmp name c = slice_cmp nat_cmp c name
 
-abbrev pub Rise : List Clock → Type 0
-Rise clocks = AllPairs (λ (a b : Clock). Precedes a.name b.name) clocks
+abbrev pub Rise : List (List ℕ) → Type 0
+Rise hosts = AllPairs (λ (a b : List ℕ). Precedes a b) hosts
 
 -- the other way round
 flipped : (a b : List ℕ) (o : Ordering) → slice_cmp nat_cmp a b ≡ o → slice_cmp nat_cmp b a ≡ ordering_reverse o
@@ -38,54 +38,76 @@ later a b name before = go (slice_cmp nat_cmp a name) refl
         let ahead : slice_cmp nat_cmp name b ≡ Less = nat_list_cmp_total.trans name a b (flipped a name Greater e) before in
         rw (e, flipped name b Less ahead) (omega arith)
 
-rising_index : (clocks : List Clock) (name : List ℕ) → Rise clocks → IsNonDecreasingBy (λ c. ordering_index (name_cmp name c)) clocks
-rising_index clocks name rising i j d le inside =
+rising_index : (hosts : List (List ℕ)) (name : List ℕ) → Rise hosts → IsNonDecreasingBy (λ c. ordering_index (name_cmp name c)) hosts
+rising_index hosts name rising i j d le inside =
     elim (cases_lt i j) [
-      | inl below ↦ later (get_or clocks i d).name (get_or clocks j d).name name (rising i j d below inside)
+      | inl below ↦ later (get_or hosts i d) (get_or hosts j d) name (rising i j d below inside)
       | inr le' ↦
           let same : i ≡ j = omega (arith, le, le') in
-          subst (λ (k : ℕ). ordering_index (name_cmp name (get_or clocks i d)) ≤ ordering_index (name_cmp name (get_or clocks k d))) same (omega arith)
+          subst (λ (k : ℕ). ordering_index (name_cmp name (get_or hosts i d)) ≤ ordering_index (name_cmp name (get_or hosts k d))) same (omega arith)
     ]
 
 -- the test by which a place is found
-abbrev is_named : List ℕ → Clock → Bool
-is_named name c = bytes_eq c.name name
+abbrev is_named : List ℕ → List ℕ → Bool
+is_named name c = bytes_eq c name
 
-tested : (name : List ℕ) (c : Clock) (o : Ordering) → name_cmp name c ≡ o → is_named name c ≡ is_eq o
-tested name c o e = sym (is_eq-slice_cmp c.name name) ∙ ap is_eq e
+tested : (name : List ℕ) (c : List ℕ) (o : Ordering) → name_cmp name c ≡ o → is_named name c ≡ is_eq o
+tested name c o e = sym (is_eq-slice_cmp c name) ∙ ap is_eq e
 
-position_found : (t : Clock → Bool) (i : ℕ) (clocks : List Clock) (k : ℕ) (d : Clock) → k < length clocks → ((j : ℕ) → j < k → t (get_or clocks j d) ≡ false) → t (get_or clocks k d) ≡ true
-    → position_from t i clocks ≡ Some (i + k)
+position_found : (t : List ℕ → Bool) (i : ℕ) (hosts : List (List ℕ)) (k : ℕ) (d : List ℕ) → k < length hosts → ((j : ℕ) → j < k → t (get_or hosts j d) ≡ false) → t (get_or hosts k d) ≡ true
+    → position_from t i hosts ≡ Some (i + k)
 position_found t i [] k d inside before here = absurd (omega (arith, inside))
-position_found t i (c ∷ clocks) zero d inside before here = rw here (ap Some (omega arith))
-position_found t i (c ∷ clocks) (suc k) d inside before here =
+position_found t i (c ∷ hosts) zero d inside before here = rw here (ap Some (omega arith))
+position_found t i (c ∷ hosts) (suc k) d inside before here =
     let first : t c ≡ false = before 0 (omega arith) in
-    let more = position_found t (i + 1) clocks k d (omega (arith, inside)) (λ j below. before (suc j) (omega (arith, below))) here in
+    let more = position_found t (i + 1) hosts k d (omega (arith, inside)) (λ j below. before (suc j) (omega (arith, below))) here in
     rw first (more ∙ ap Some (omega arith))
 
-position_none : (t : Clock → Bool) (i : ℕ) (clocks : List Clock) → ((j : ℕ) (d : Clock) → j < length clocks → t (get_or clocks j d) ≡ false) → position_from t i clocks ≡ None
+position_none : (t : List ℕ → Bool) (i : ℕ) (hosts : List (List ℕ)) → ((j : ℕ) (d : List ℕ) → j < length hosts → t (get_or hosts j d) ≡ false) → position_from t i hosts ≡ None
 position_none t i [] none = refl
-position_none t i (c ∷ clocks) none =
+position_none t i (c ∷ hosts) none =
     let first : t c ≡ false = none 0 c (omega arith) in
-    rw first (position_none t (i + 1) clocks (λ j d below. none (suc j) d (omega (arith, below))))
+    rw first (position_none t (i + 1) hosts (λ j d below. none (suc j) d (omega (arith, below))))
 
-pub place_found : (clocks : List Clock) (name : List ℕ) (place : ℕ) → Rise clocks → place < length clocks → ((d : Clock) → name_cmp name (get_or clocks place d) ≡ Equal) → Some place ≡ place_of clocks name
+pub place_found : (hosts : List (List ℕ)) (name : List ℕ) (place : ℕ) → Rise hosts → place < length hosts → ((d : List ℕ) → name_cmp name (get_or hosts place d) ≡ Equal) → Some place ≡ place_of hosts name
 place_found [] name place rising inside is = absurd (omega (arith, inside))
-place_found (c ∷ clocks) name place rising inside is =
-    let here : is_named name (get_or (c ∷ clocks) place c) ≡ true = tested name (get_or (c ∷ clocks) place c) Equal (is c) in
-    let before : (j : ℕ) → j < place → is_named name (get_or (c ∷ clocks) j c) ≡ false =
-    λ j below. tested name (get_or (c ∷ clocks) j c) Less (earlier (get_or (c ∷ clocks) j c).name (get_or (c ∷ clocks) place c).name (rising j place c below inside) (is c)) in
-    sym (position_found (is_named name) 0 (c ∷ clocks) place c inside before here ∙ ap Some (omega arith))
+place_found (c ∷ hosts) name place rising inside is =
+    let here : is_named name (get_or (c ∷ hosts) place c) ≡ true = tested name (get_or (c ∷ hosts) place c) Equal (is c) in
+    let before : (j : ℕ) → j < place → is_named name (get_or (c ∷ hosts) j c) ≡ false =
+    λ j below. tested name (get_or (c ∷ hosts) j c) Less (earlier (get_or (c ∷ hosts) j c) (get_or (c ∷ hosts) place c) (rising j place c below inside) (is c)) in
+    sym (position_found (is_named name) 0 (c ∷ hosts) place c inside before here ∙ ap Some (omega arith))
   where
     earlier : (a b : List ℕ) → Precedes a b → slice_cmp nat_cmp b name ≡ Equal → slice_cmp nat_cmp a name ≡ Less
     earlier a b less same = flipped name a Greater (sym (nat_list_cmp_total.congr b name a same) ∙ flipped a b Less less)
 
-pub place_none : (clocks : List Clock) (name : List ℕ) (place : ℕ) → Rise clocks
-    → (IsNonDecreasingBy (λ c. ordering_index (name_cmp name c)) clocks → IsPartitionPoint (λ c. name_cmp name c ≡ Less) (λ c. name_cmp name c ≡ Greater) clocks place)
-    → None ≡ place_of clocks name
-place_none clocks name place rising parted =
-    let point = parted (rising_index clocks name rising) in
-    sym (position_none (is_named name) 0 clocks (λ j d inside. elim (cases_lt j place) [
-      | inl below ↦ tested name (get_or clocks j d) Less (point.0 j d (omega arith) below)
-      | inr le ↦ tested name (get_or clocks j d) Greater (point.1 j d le inside)
+pub place_none : (hosts : List (List ℕ)) (name : List ℕ) (place : ℕ) → Rise hosts
+    → (IsNonDecreasingBy (λ c. ordering_index (name_cmp name c)) hosts → IsPartitionPoint (λ c. name_cmp name c ≡ Less) (λ c. name_cmp name c ≡ Greater) hosts place)
+    → None ≡ place_of hosts name
+place_none hosts name place rising parted =
+    let point = parted (rising_index hosts name rising) in
+    sym (position_none (is_named name) 0 hosts (λ j d inside. elim (cases_lt j place) [
+      | inl below ↦ tested name (get_or hosts j d) Less (point.0 j d (omega arith) below)
+      | inr le ↦ tested name (get_or hosts j d) Greater (point.1 j d le inside)
     ]))
+
+-- the place of a host is that of its clock, which has its name
+position_same : (name : List ℕ) (i : ℕ) (clocks : List Clock) → position_from (λ host. bytes_eq host name) i (map (λ (c : Clock). c.name) clocks) ≡ position_from (λ (c : Clock). bytes_eq c.name name) i clocks
+position_same name i [] = refl
+position_same name i (c ∷ clocks) = go (bytes_eq c.name name) refl (position_same name (i + 1) clocks)
+  where
+    go : (b : Bool) → bytes_eq c.name name ≡ b
+        → position_from (λ host. bytes_eq host name) (i + 1) (map (λ (c : Clock). c.name) clocks) ≡ position_from (λ (c : Clock). bytes_eq c.name name) (i + 1) clocks
+        → position_from (λ host. bytes_eq host name) i (map (λ (c : Clock). c.name) (c ∷ clocks)) ≡ position_from (λ (c : Clock). bytes_eq c.name name) i (c ∷ clocks)
+    go true is more = rw is refl
+    go false is more = rw is more
+
+pub same_place : (hosts : List (List ℕ)) (clocks : List Clock) (name : List ℕ) → map (λ (c : Clock). c.name) clocks ≡ hosts → place_of hosts name ≡ clock_place clocks name
+same_place hosts clocks name own = ap (λ (names : List (List ℕ)). place_of names name) (sym own) ∙ position_same name 0 clocks
+
+-- a name that comes before another is not the same
+pub precedes_differ : (a b : List ℕ) → Precedes a b → a ≢ b
+precedes_differ a b less e =
+    let own : slice_cmp nat_cmp a a ≡ Less = subst (λ x. slice_cmp nat_cmp a x ≡ Less) (sym e) less in
+    let turned : slice_cmp nat_cmp a a ≡ ordering_reverse (slice_cmp nat_cmp a a) = nat_list_cmp_total.antisymm a a in
+    let both : Less ≡ ordering_reverse Less = rw own at turned in
+    absurd (cc)

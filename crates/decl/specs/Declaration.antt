@@ -1,5 +1,5 @@
 -- What a declaration says, and the rules that it meets.
-use Rattle.std.specs.Prelude.{◌≡◌, ◌≢◌, ℕ, ◌^◌, ◌<◌, ◌≤◌, ◌==◌, ◌&&◌, if◌then◌else◌, List, [], ◌∷◌, length, slice_get, Option, Some, None, IfSome, All, AllPairs}
+use Rattle.std.specs.Prelude.{◌≡◌, ◌≢◌, ℕ, ◌+◌, ◌^◌, ◌<◌, ◌≤◌, ◌==◌, ◌&&◌, if◌then◌else◌, List, [], ◌∷◌, length, map, slice_get, Option, Some, None, IfSome, All, AllPairs}
 use Rattle.std.specs.Ordering.{nat_cmp}
 use Rattle.std.specs.declared.cmp.Ordering.TheVariants.{Less}
 use Rattle.std.specs.Cmp.Lexicographic.{slice_cmp}
@@ -7,13 +7,17 @@ use Rattle.problem_model.specs.declared.items.Clock.{Clock}
 use Rattle.problem_model.specs.Name.{IsClockName}
 use Rattle.problem_model.specs.Problem.{ClockFits}
 use Rattle.decl.specs.declared.items.Decl.{Decl}
+use Rattle.decl.specs.declared.items.Owner.{Owner}
 use Rattle.decl.specs.declared.items.Address.{Address}
 use Rattle.decl.specs.declared.items.Label.{Label}
 use Rattle.decl.specs.declared.items.Link.{Link}
 
--- what a declaration says; a host goes by the place of its clock
+-- what a declaration says: the names of the hosts, their clocks, and whose each of these is; the rest goes by the places
+-- of hosts, and the source by that of a clock
 pub record Declaration : Type 0 where
+  pub hosts : List (List ℕ)
   pub clocks : List Clock
+  pub owners : List Owner
   pub addresses : List Address
   pub labels : List Label
   pub links : List Link
@@ -22,7 +26,7 @@ pub record Declaration : Type 0 where
 
 -- what the code's own declaration says
 abbrev pub declaration_of : Decl → Declaration
-declaration_of d = record { clocks = d.clocks.items; addresses = d.addresses.items; labels = d.labels.items; links = d.links.items; payload_bytes = d.payload_bytes; source = d.source }
+declaration_of d = record { hosts = d.hosts.items; clocks = d.clocks.items; owners = d.owners.items; addresses = d.addresses.items; labels = d.labels.items; links = d.links.items; payload_bytes = d.payload_bytes; source = d.source }
 
 -- a name comes before another in byte order
 abbrev pub Precedes : List ℕ → List ℕ → Type 0
@@ -32,25 +36,43 @@ Precedes a b = slice_cmp nat_cmp a b ≡ Less
 abbrev pub LinkFits : Link → Type 0
 LinkFits l = (l.least < 2 ^ 62) × IfSome l.most (λ most. most < 2 ^ 62)
 
--- the host at this place has a clock that is never short or long
+-- the clock at this place is never short or long
 abbrev pub IsSource : List Clock → ℕ → Type 0
-IsSource clocks host = (c : Clock) × (slice_get clocks host ≡ Some c) × (c.rate.short ≡ 0) × (c.rate.long ≡ 0)
+IsSource clocks place = (c : Clock) × (slice_get clocks place ≡ Some c) × (c.rate.short ≡ 0) × (c.rate.long ≡ 0)
 
--- names, places, ranges and limits are lawful; hosts and labels rise, and addresses and links differ from each other
+-- the clock at this place is one of the host at that place
+abbrev pub IsClockOf : List Owner → ℕ → ℕ → Type 0
+IsClockOf owners host clock = (o : Owner) × (slice_get owners clock ≡ Some o) × (o.host ≡ host)
+
+-- each of these hosts, whose places count from k on, owns one clock, without a gap before it
+abbrev pub one_clock_each : ℕ → List (List ℕ) → List Owner
+one_clock_each k [] = []
+one_clock_each k (host ∷ hosts) = (record { host = k; gap = 0 }) ∷ one_clock_each (k + 1) hosts
+
+-- names, places, ranges and limits are lawful; hosts and labels rise, and clocks, addresses and links differ from each
+-- other; a label's clock is one of its host; each host has one clock, of its own name. What is said of clocks beside
+-- that follows from it, and is what users of a declaration ask of clocks
 pub record IsDeclaration (d : Declaration) : Type 0 where
-  pub host_names : All (λ c. IsClockName c.name) d.clocks
-  pub hosts_rise : AllPairs (λ a b. Precedes a.name b.name) d.clocks
-  pub hosts_fit : All ClockFits d.clocks
-  pub host_limit : length d.clocks ≤ 65536
-  pub address_hosts : All (λ a. a.host < length d.clocks) d.addresses
+  pub host_names : All IsClockName d.hosts
+  pub hosts_rise : AllPairs Precedes d.hosts
+  pub host_limit : length d.hosts ≤ 65536
+  pub clock_names : All (λ c. IsClockName c.name) d.clocks
+  pub clocks_differ : AllPairs (λ a b. a.name ≢ b.name) d.clocks
+  pub clocks_fit : All ClockFits d.clocks
+  pub clock_limit : length d.clocks ≤ 65536
+  pub clocks_owned : length d.owners ≡ length d.clocks
+  pub own_names : map (λ c. c.name) d.clocks ≡ d.hosts
+  pub own_clocks : d.owners ≡ one_clock_each 0 d.hosts
+  pub address_hosts : All (λ a. a.host < length d.hosts) d.addresses
   pub addresses_fit : All (λ a. a.address < 2 ^ 32) d.addresses
   pub addresses_differ : AllPairs (λ a b. a.address ≢ b.address) d.addresses
   pub label_names : All (λ l. IsClockName l.name) d.labels
   pub labels_rise : AllPairs (λ a b. Precedes a.name b.name) d.labels
-  pub label_hosts : All (λ l. l.host < length d.clocks) d.labels
+  pub label_hosts : All (λ l. l.host < length d.hosts) d.labels
+  pub label_clocks : All (λ l. IsClockOf d.owners l.host l.clock) d.labels
   pub label_limit : length d.labels ≤ 65536
-  pub link_starts : All (λ l. l.from < length d.clocks) d.links
-  pub link_ends : All (λ l. l.to < length d.clocks) d.links
+  pub link_starts : All (λ l. l.from < length d.hosts) d.links
+  pub link_ends : All (λ l. l.to < length d.hosts) d.links
   pub links_differ : AllPairs (λ a b. (a.from ≡ b.from) → (a.to ≡ b.to) → ⊥) d.links
   pub links_fit : All LinkFits d.links
   pub link_limit : length d.links ≤ 65536

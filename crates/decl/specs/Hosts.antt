@@ -70,6 +70,11 @@ abbrev pub hosts_faults : ℕ → List ℕ → Members → List DeclError
 hosts_faults index before no_members = []
 hosts_faults index before (member name d ms) = at Hosts index (host_causes index before name (as_table d)) ++ hosts_faults (index + 1) (before ++ addresses_in d) ms
 
+-- the names of hosts
+abbrev pub hosts_of : Members → List (List ℕ)
+hosts_of no_members = []
+hosts_of (member name d ms) = name ∷ hosts_of ms
+
 -- the clocks of hosts
 abbrev pub clocks_of : Members → List Clock
 clocks_of no_members = []

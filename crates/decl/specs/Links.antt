@@ -1,7 +1,6 @@
 -- What is wrong with links, and what they declare.
 use Rattle.std.specs.Prelude.{ℕ, ◌+◌, ◌-◌, ◌^◌, Bool, true, not, ◌&&◌, ◌||◌, ◌==◌, List, [], ◌∷◌, ◌++◌, codes, Option, Some, None, unwrap_or, option_map, nat_abs}
 use Rattle.std.specs.List.{list_any}
-use Rattle.problem_model.specs.declared.items.Clock.{Clock}
 use Rattle.toml.specs.Data.{as_table, Items, no_items, item, Members}
 use Rattle.decl.specs.Causes.{when, at}
 use Rattle.decl.specs.Hosts.{entry_of, is_one_too_many}
@@ -29,9 +28,9 @@ abbrev pub has_wild_delay : Members → Bool
 has_wild_delay ms = not (is_up_to (2 ^ 62 - 1) (whole_or_zero (codes "least") ms)) || not (is_up_to (2 ^ 62 - 1) (whole_or_zero (codes "most") ms))
 
 -- what is wrong with the table of a link, behind these links
-abbrev pub link_causes : List Clock → ℕ → List Link → Members → List Cause
-link_causes clocks index before ms = table_causes Links ms
-    ++ when (is_astray before (host_at_key clocks (codes "from") ms) (host_at_key clocks (codes "to") ms)) Name
+abbrev pub link_causes : List (List ℕ) → ℕ → List Link → Members → List Cause
+link_causes hosts index before ms = table_causes Links ms
+    ++ when (is_astray before (host_at_key hosts (codes "from") ms) (host_at_key hosts (codes "to") ms)) Name
     ++ when (is_one_too_many index || has_wild_delay ms) Number
 
 -- the greatest delay of a link, if it has one
@@ -39,21 +38,21 @@ abbrev pub most_at : Members → Option ℕ
 most_at ms = option_map nat_abs (whole_at (codes "most") ms)
 
 -- the link of a table
-abbrev pub link_of : List Clock → Members → Link
-link_of clocks ms = record {
-  from = unwrap_or (host_at_key clocks (codes "from") ms) 0;
-  to = unwrap_or (host_at_key clocks (codes "to") ms) 0;
+abbrev pub link_of : List (List ℕ) → Members → Link
+link_of hosts ms = record {
+  from = unwrap_or (host_at_key hosts (codes "from") ms) 0;
+  to = unwrap_or (host_at_key hosts (codes "to") ms) 0;
   least = number_at (codes "least") ms;
   most = most_at ms;
 }
 
 -- what is wrong with links from an index on, behind these links
-abbrev pub links_faults : List Clock → ℕ → List Link → Items → List DeclError
-links_faults clocks index before no_items = []
-links_faults clocks index before (item d ds) = at Links index (entry_causes (link_causes clocks index before) (as_table d))
-    ++ links_faults clocks (index + 1) (before ++ link_of clocks (entry_of d) ∷ []) ds
+abbrev pub links_faults : List (List ℕ) → ℕ → List Link → Items → List DeclError
+links_faults hosts index before no_items = []
+links_faults hosts index before (item d ds) = at Links index (entry_causes (link_causes hosts index before) (as_table d))
+    ++ links_faults hosts (index + 1) (before ++ link_of hosts (entry_of d) ∷ []) ds
 
 -- the links of these items
-abbrev pub links_of : List Clock → Items → List Link
-links_of clocks no_items = []
-links_of clocks (item d ds) = link_of clocks (entry_of d) ∷ links_of clocks ds
+abbrev pub links_of : List (List ℕ) → Items → List Link
+links_of hosts no_items = []
+links_of hosts (item d ds) = link_of hosts (entry_of d) ∷ links_of hosts ds

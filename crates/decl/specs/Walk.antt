@@ -5,12 +5,12 @@ use Rattle.problem_model.specs.declared.items.Clock.{Clock}
 use Rattle.toml.specs.Data.{Items, Members}
 use Rattle.toml.specs.Parse.{parse_document}
 use Rattle.decl.specs.Causes.{when, at, error_at, IsFirstOf}
-use Rattle.decl.specs.Declaration.{Declaration}
-use Rattle.decl.specs.Hosts.{clocks_of, addresses_from, hosts_faults}
+use Rattle.decl.specs.Declaration.{Declaration, one_clock_each}
+use Rattle.decl.specs.Hosts.{hosts_of, clocks_of, addresses_from, hosts_faults}
 use Rattle.decl.specs.Keys.{table_causes}
 use Rattle.decl.specs.Labels.{labels_of, labels_faults}
 use Rattle.decl.specs.Links.{links_of, links_faults}
-use Rattle.decl.specs.Places.{place_of}
+use Rattle.decl.specs.Places.{clock_place}
 use Rattle.decl.specs.Values.{whole_or_zero, number_at, is_up_to, text_at, table_or_empty, items_or_none}
 use Rattle.decl.specs.declared.cause.Cause.{Cause}
 use Rattle.decl.specs.declared.cause.Cause.TheVariants.{Document, Number, Source, Size}
@@ -34,7 +34,7 @@ abbrev pub shows_true : Option Clock → Bool
 shows_true None = false
 shows_true (Some c) = c.rate.short == 0 && c.rate.long == 0
 
--- the place is that of a host whose clock shows true time
+-- the place is that of a clock that shows true time
 abbrev pub is_true_at : List Clock → Option ℕ → Bool
 is_true_at clocks None = false
 is_true_at clocks (Some place) = shows_true (slice_get clocks place)
@@ -42,7 +42,7 @@ is_true_at clocks (Some place) = shows_true (slice_get clocks place)
 -- what is wrong with the source, if one is named
 abbrev pub source_causes : List Clock → Option (List ℕ) → List Cause
 source_causes clocks None = []
-source_causes clocks (Some name) = when (not (is_true_at clocks (place_of clocks name))) Source
+source_causes clocks (Some name) = when (not (is_true_at clocks (clock_place clocks name))) Source
 
 -- what is wrong with the document's own keys
 abbrev pub top_causes : Members → List Cause
@@ -52,19 +52,21 @@ top_causes ms = table_causes Top ms ++ when (not (is_up_to 64 (whole_or_zero (co
 abbrev pub faults : Members → List DeclError
 faults ms = at Top 0 (top_causes ms)
     ++ (hosts_faults 1 [] (hosts_in ms)
-    ++ (labels_faults (clocks_of (hosts_in ms)) 1 (labels_in ms)
-    ++ (links_faults (clocks_of (hosts_in ms)) 1 [] (links_in ms)
+    ++ (labels_faults (hosts_of (hosts_in ms)) 1 (labels_in ms)
+    ++ (links_faults (hosts_of (hosts_in ms)) 1 [] (links_in ms)
     ++ at Top 0 (source_causes (clocks_of (hosts_in ms)) (text_at (codes "source") ms)))))
 
 -- what a document declares
 abbrev pub declared : Members → Declaration
 declared ms = record {
+  hosts = hosts_of (hosts_in ms);
   clocks = clocks_of (hosts_in ms);
+  owners = one_clock_each 0 (hosts_of (hosts_in ms));
   addresses = addresses_from 0 (hosts_in ms);
-  labels = labels_of (clocks_of (hosts_in ms)) (labels_in ms);
-  links = links_of (clocks_of (hosts_in ms)) (links_in ms);
+  labels = labels_of (hosts_of (hosts_in ms)) (labels_in ms);
+  links = links_of (hosts_of (hosts_in ms)) (links_in ms);
   payload_bytes = number_at (codes "payload_bytes") ms;
-  source = option_and_then (place_of (clocks_of (hosts_in ms))) (text_at (codes "source") ms);
+  source = option_and_then (clock_place (clocks_of (hosts_in ms))) (text_at (codes "source") ms);
 }
 
 -- the document in these bytes, as `toml` reads it, if they are one

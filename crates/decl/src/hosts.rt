@@ -4,15 +4,15 @@ ghost use Rattle.toml.specs.Data.{as_table};
 ghost use Rattle.toml.specs.View.{view, table_view};
 ghost use Rattle.decl.specs.Addresses.{numbers_of, at_host};
 ghost use Rattle.decl.specs.Causes.{Tells, IsFirstOf, at};
-ghost use Rattle.decl.specs.Declaration.{Precedes};
-ghost use Rattle.decl.specs.Hosts.{is_clock_name, has_wild_rate, has_wild_number, rate_of, clock_of, clock_causes, host_causes, hosts_faults, entry_of, addresses_in, clocks_of, addresses_from};
+ghost use Rattle.decl.specs.Declaration.{Precedes, one_clock_each};
+ghost use Rattle.decl.specs.Hosts.{is_clock_name, has_wild_rate, has_wild_number, rate_of, clock_of, clock_causes, host_causes, hosts_faults, entry_of, addresses_in, hosts_of, clocks_of, addresses_from};
 
 use crate::addresses::AddressBook;
 use crate::cause::Cause;
 use crate::keys::check_table;
 use crate::values::{items_or_none, nano_at, number_up_to};
-use crate::{Address, DeclError, Section};
-use atto::Rate;
+use crate::{Address, DeclError, Owner, Section};
+use atto::{Nano, Rate};
 use problem_model::{Clock, Name};
 use std::alloc::Global;
 use toml::{Table, Value};
@@ -20,10 +20,12 @@ use toml::{Table, Value};
 // How many entries of a kind there may be.
 pub(crate) const LIMIT: u32 = 65_536;
 
-// The hosts of a declaration: their clocks, in the byte order of their names, and their addresses.
+// The hosts of a declaration, in the byte order of their names: their names, their clocks, and their addresses.
 #[derive(Debug, Drop)]
 pub(crate) struct Hosts {
+    pub(crate) names: Vec<Name>,
     pub(crate) clocks: Vec<Clock>,
+    pub(crate) owners: Vec<Owner>,
     pub(crate) addresses: Vec<Address>,
 }
 
@@ -114,16 +116,30 @@ fn read_host(
     Ok(clock)
 }
 
+// Whose the clock of the host at this place is.
+fn own_clock(host: u32) -> Owner
+    ensures { result ≡ record { host = host; gap = 0 } }
+{
+    Owner {
+        host,
+        gap: Nano::new(0).unwrap(),
+    }
+}
+
 // The hosts of this table.
 pub(crate) fn read_hosts(alloc: Global, table: &Table) -> Result<Hosts, DeclError>
     ensures fault { IfErr result (λ e. IsFirstOf (hosts_faults 1 [] (table_view table.now)) e) }
     ensures sound { OnOk result (hosts_faults 1 [] (table_view table.now) ≡ []) }
+    ensures names { IfOk result (λ hosts. hosts.names.items ≡ hosts_of (table_view table.now)) }
     ensures clocks { IfOk result (λ hosts. hosts.clocks.items ≡ clocks_of (table_view table.now)) }
+    ensures owners { IfOk result (λ hosts. hosts.owners.items ≡ one_clock_each 0 (hosts_of (table_view table.now))) }
     ensures addresses { IfOk result (λ hosts. hosts.addresses.items ≡ addresses_from 0 (table_view table.now)) }
-    ensures rising { IfOk result (λ hosts. AllPairs (λ a b. Precedes a.name b.name) hosts.clocks.items) }
-    ensures few { IfOk result (λ hosts. length hosts.clocks.items ≤ 65536) }
+    ensures rising { IfOk result (λ hosts. AllPairs Precedes hosts.names.items) }
+    ensures few { IfOk result (λ hosts. length hosts.names.items ≤ 65536) }
 {
+    let mut names = Vec::new(alloc);
     let mut clocks = Vec::new(alloc);
+    let mut owners = Vec::new(alloc);
     let mut book = AddressBook::new(alloc);
     let mut index: u32 = 0;
     for (name, value) in table {
@@ -132,10 +148,14 @@ pub(crate) fn read_hosts(alloc: Global, table: &Table) -> Result<Hosts, DeclErro
             Ok(clock) => clock,
             Err(e) => return Err(e),
         };
+        names.push(clock.name)?;
         clocks.push(clock)?;
+        owners.push(own_clock(index - 1))?;
     }
     Ok(Hosts {
+        names,
         clocks,
+        owners,
         addresses: book.into_list(),
     })
 }

@@ -5,11 +5,16 @@ use problem_model::{Clock, Name};
 /// A declaration: the hosts with their clocks and addresses, the traces that were taken at them, and what is known of
 /// the delay from one host to another.
 ///
-/// A host goes by the place of its clock. Hosts and labels stand in the byte order of their names.
+/// Hosts and labels stand in the byte order of their names. Each host has one clock, of its own name, which stands at the
+/// host's place.
 #[derive(Debug, Drop)]
 pub struct Decl {
-    /// The clock of each host, of the host's name.
+    /// The names of the hosts.
+    pub hosts: Vec<Name>,
+    /// Their clocks.
     pub clocks: Vec<Clock>,
+    /// Whose each clock is, by its place.
+    pub owners: Vec<Owner>,
     /// The addresses of the hosts, by host, and those of one host as they were written.
     pub addresses: Vec<Address>,
     /// The traces.
@@ -18,8 +23,18 @@ pub struct Decl {
     pub links: Vec<Link>,
     /// How much of a payload belongs to the key of a packet, in bytes: at most 64.
     pub payload_bytes: u8,
-    /// The host that shows true time, if one is said to: its clock is never short or long.
+    /// The place of the clock that shows true time, if one is said to: it is never short or long.
     pub source: Option<u32>,
+}
+
+/// Whose a clock is.
+#[derive(Clone, Copy, Debug, PartialEq, Eq)]
+pub struct Owner {
+    /// The place of its host, from 0 on.
+    pub host: u32,
+    /// The least real time in ns from a reading of the clock before it of the same host to one of this clock; it has no
+    /// effect at a host's first clock.
+    pub gap: Nano,
 }
 
 /// An address of a host.
@@ -38,6 +53,8 @@ pub struct Label {
     pub name: Name,
     /// The place of its host, from 0 on.
     pub host: u32,
+    /// The place of the clock that its stamps were taken from, which is one of its host.
+    pub clock: u32,
     /// What the trace is.
     pub kind: TraceKind,
 }

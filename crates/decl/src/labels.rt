@@ -13,7 +13,7 @@ use crate::keys::check_table;
 use crate::places::place_of;
 use crate::values::text_or_empty;
 use crate::{DeclError, Label, Section, TraceKind};
-use problem_model::Clock;
+use problem_model::Name;
 use std::alloc::Global;
 use toml::{Table, Value};
 
@@ -28,40 +28,47 @@ fn read_kind(word: &str) -> Option<TraceKind>
 }
 
 // The place of the host that a table names at a key.
-pub(crate) fn host_at_key(clocks: &[Clock], key: &str, table: &Table) -> Option<u32>
-    requires rising { AllPairs (λ a b. Precedes a.name b.name) clocks.now }
-    requires few { length clocks.now ≤ 65536 }
-    ensures { result ≡ host_at_key clocks.now key.now (table_view table.now) }
+pub(crate) fn host_at_key(hosts: &[Name], key: &str, table: &Table) -> Option<u32>
+    requires rising { AllPairs Precedes hosts.now }
+    requires few { length hosts.now ≤ 65536 }
+    ensures { result ≡ host_at_key hosts.now key.now (table_view table.now) }
 {
-    place_of(clocks, text_or_empty(table, key).as_bytes())
+    place_of(hosts, text_or_empty(table, key).as_bytes())
 }
 
 // The label of this name, if all its names are lawful.
-fn read_names(clocks: &[Clock], name: &str, table: &Table) -> Option<Label>
-    requires rising { AllPairs (λ a b. Precedes a.name b.name) clocks.now }
-    requires few { length clocks.now ≤ 65536 }
-    ensures { result ≡ (if is_misnamed clocks.now name.now (table_view table.now) then None else Some (label_of clocks.now name.now (table_view table.now))) }
+fn read_names(hosts: &[Name], name: &str, table: &Table) -> Option<Label>
+    requires rising { AllPairs Precedes hosts.now }
+    requires few { length hosts.now ≤ 65536 }
+    ensures { result ≡ (if is_misnamed hosts.now name.now (table_view table.now) then None else Some (label_of hosts.now name.now (table_view table.now))) }
 {
     let Some(name) = read_clock_name(name.as_bytes()) else {
         return None;
     };
-    let Some(host) = host_at_key(clocks, "host", table) else {
+    let Some(host) = host_at_key(hosts, "host", table) else {
         return None;
     };
     let Some(kind) = read_kind(text_or_empty(table, "kind")) else {
         return None;
     };
-    Some(Label { name, host, kind })
+    // Each host has one clock, which stands at its place.
+    let clock = host;
+    Some(Label {
+        name,
+        host,
+        clock,
+        kind,
+    })
 }
 
 // The label with this index and name.
-fn read_label(clocks: &[Clock], index: u32, name: &str, table: &Table) -> Result<Label, Cause>
-    requires rising { AllPairs (λ a b. Precedes a.name b.name) clocks.now }
-    requires few { length clocks.now ≤ 65536 }
-    ensures { Tells (label_causes clocks.now index name.now (table_view table.now)) (label_of clocks.now name.now (table_view table.now)) result }
+fn read_label(hosts: &[Name], index: u32, name: &str, table: &Table) -> Result<Label, Cause>
+    requires rising { AllPairs Precedes hosts.now }
+    requires few { length hosts.now ≤ 65536 }
+    ensures { Tells (label_causes hosts.now index name.now (table_view table.now)) (label_of hosts.now name.now (table_view table.now)) result }
 {
     check_table(Section::Labels, table)?;
-    let Some(label) = read_names(clocks, name, table) else {
+    let Some(label) = read_names(hosts, name, table) else {
         return Err(Cause::Name);
     };
     if index > LIMIT {
@@ -71,13 +78,13 @@ fn read_label(clocks: &[Clock], index: u32, name: &str, table: &Table) -> Result
 }
 
 // The label with this index and name, if its value is a table.
-fn read_entry(clocks: &[Clock], index: u32, name: &str, value: &Value) -> Result<Label, Cause>
-    requires rising { AllPairs (λ a b. Precedes a.name b.name) clocks.now }
-    requires few { length clocks.now ≤ 65536 }
-    ensures { Tells (entry_causes (label_causes clocks.now index name.now) (as_table (view value.now))) (label_of clocks.now name.now (entry_of (view value.now))) result }
+fn read_entry(hosts: &[Name], index: u32, name: &str, value: &Value) -> Result<Label, Cause>
+    requires rising { AllPairs Precedes hosts.now }
+    requires few { length hosts.now ≤ 65536 }
+    ensures { Tells (entry_causes (label_causes hosts.now index name.now) (as_table (view value.now))) (label_of hosts.now name.now (entry_of (view value.now))) result }
 {
     match value.as_table() {
-        Some(table) => read_label(clocks, index, name, table),
+        Some(table) => read_label(hosts, index, name, table),
         None => Err(Cause::Shape),
     }
 }
@@ -85,21 +92,21 @@ fn read_entry(clocks: &[Clock], index: u32, name: &str, value: &Value) -> Result
 // The labels of this table.
 pub(crate) fn read_labels(
     alloc: Global,
-    clocks: &[Clock],
+    hosts: &[Name],
     table: &Table,
 ) -> Result<Vec<Label>, DeclError>
-    requires rising { AllPairs (λ a b. Precedes a.name b.name) clocks.now }
-    requires few { length clocks.now ≤ 65536 }
-    ensures fault { IfErr result (λ e. IsFirstOf (labels_faults clocks.now 1 (table_view table.now)) e) }
-    ensures sound { OnOk result (labels_faults clocks.now 1 (table_view table.now) ≡ []) }
-    ensures labels { IfOk result (λ labels. labels.items ≡ labels_of clocks.now (table_view table.now)) }
+    requires rising { AllPairs Precedes hosts.now }
+    requires few { length hosts.now ≤ 65536 }
+    ensures fault { IfErr result (λ e. IsFirstOf (labels_faults hosts.now 1 (table_view table.now)) e) }
+    ensures sound { OnOk result (labels_faults hosts.now 1 (table_view table.now) ≡ []) }
+    ensures labels { IfOk result (λ labels. labels.items ≡ labels_of hosts.now (table_view table.now)) }
     ensures rising { IfOk result (λ labels. AllPairs (λ a b. Precedes a.name b.name) labels.items) }
 {
     let mut labels = Vec::new(alloc);
     let mut index: u32 = 0;
     for (name, value) in table {
         index += 1;
-        let label = match read_entry(clocks, index, name, value) {
+        let label = match read_entry(hosts, index, name, value) {
             Ok(label) => label,
             Err(cause) => return Err(cause.at(Section::Labels, index)),
         };

@@ -40,8 +40,5 @@ mod values;
 
 pub use addresses::addresses_are_dotted;
 pub use errors::{DeclError, Section};
-pub use items::{Address, Decl, Label, Link, TraceKind};
+pub use items::{Address, Decl, Label, Link, Owner, TraceKind};
 pub use read::read_decl;
-
-#[cfg(test)]
-mod tests;

@@ -16,7 +16,7 @@ use crate::labels::host_at_key;
 use crate::values::{nano_at, whole_at};
 use crate::{DeclError, Link, Section};
 use atto::Nano;
-use problem_model::Clock;
+use problem_model::Name;
 use std::alloc::{AllocError, Global};
 use std::collections::BTreeSet;
 use std::marker::Model;
@@ -84,17 +84,17 @@ impl LinkBook {
 }
 
 // The places of the hosts of a link, if it names two and goes otherwise than the links in the book.
-fn read_ends(clocks: &[Clock], book: &LinkBook, table: &Table) -> Option<(u32, u32)>
-    requires rising { AllPairs (λ a b. Precedes a.name b.name) clocks.now }
-    requires few { length clocks.now ≤ 65536 }
-    ensures { let from = host_at_key clocks.now (codes "from") (table_view table.now) in
-        let to = host_at_key clocks.now (codes "to") (table_view table.now) in
+fn read_ends(hosts: &[Name], book: &LinkBook, table: &Table) -> Option<(u32, u32)>
+    requires rising { AllPairs Precedes hosts.now }
+    requires few { length hosts.now ≤ 65536 }
+    ensures { let from = host_at_key hosts.now (codes "from") (table_view table.now) in
+        let to = host_at_key hosts.now (codes "to") (table_view table.now) in
         result ≡ (if is_astray book.now from to then None else Some (unwrap_or from 0, unwrap_or to 0)) }
 {
-    let Some(from) = host_at_key(clocks, "from", table) else {
+    let Some(from) = host_at_key(hosts, "from", table) else {
         return None;
     };
-    let Some(to) = host_at_key(clocks, "to", table) else {
+    let Some(to) = host_at_key(hosts, "to", table) else {
         return None;
     };
     if book.has(from, to) {
@@ -117,13 +117,13 @@ fn read_most(table: &Table) -> Option<Option<Nano>>
 }
 
 // The link with this index.
-fn read_link(clocks: &[Clock], book: &LinkBook, index: u32, table: &Table) -> Result<Link, Cause>
-    requires rising { AllPairs (λ a b. Precedes a.name b.name) clocks.now }
-    requires few { length clocks.now ≤ 65536 }
-    ensures { Tells (link_causes clocks.now index book.now (table_view table.now)) (link_of clocks.now (table_view table.now)) result }
+fn read_link(hosts: &[Name], book: &LinkBook, index: u32, table: &Table) -> Result<Link, Cause>
+    requires rising { AllPairs Precedes hosts.now }
+    requires few { length hosts.now ≤ 65536 }
+    ensures { Tells (link_causes hosts.now index book.now (table_view table.now)) (link_of hosts.now (table_view table.now)) result }
 {
     check_table(Section::Links, table)?;
-    let Some((from, to)) = read_ends(clocks, book, table) else {
+    let Some((from, to)) = read_ends(hosts, book, table) else {
         return Err(Cause::Name);
     };
     if index > LIMIT {
@@ -144,13 +144,13 @@ fn read_link(clocks: &[Clock], book: &LinkBook, index: u32, table: &Table) -> Re
 }
 
 // The link with this index, if it is a table.
-fn read_entry(clocks: &[Clock], book: &LinkBook, index: u32, value: &Value) -> Result<Link, Cause>
-    requires rising { AllPairs (λ a b. Precedes a.name b.name) clocks.now }
-    requires few { length clocks.now ≤ 65536 }
-    ensures { Tells (entry_causes (link_causes clocks.now index book.now) (as_table (view value.now))) (link_of clocks.now (entry_of (view value.now))) result }
+fn read_entry(hosts: &[Name], book: &LinkBook, index: u32, value: &Value) -> Result<Link, Cause>
+    requires rising { AllPairs Precedes hosts.now }
+    requires few { length hosts.now ≤ 65536 }
+    ensures { Tells (entry_causes (link_causes hosts.now index book.now) (as_table (view value.now))) (link_of hosts.now (entry_of (view value.now))) result }
 {
     match value.as_table() {
-        Some(table) => read_link(clocks, book, index, table),
+        Some(table) => read_link(hosts, book, index, table),
         None => Err(Cause::Shape),
     }
 }
@@ -158,20 +158,20 @@ fn read_entry(clocks: &[Clock], book: &LinkBook, index: u32, value: &Value) -> R
 // The links of these items.
 pub(crate) fn read_links(
     alloc: Global,
-    clocks: &[Clock],
+    hosts: &[Name],
     items: &[Value],
 ) -> Result<Vec<Link>, DeclError>
-    requires rising { AllPairs (λ a b. Precedes a.name b.name) clocks.now }
-    requires few { length clocks.now ≤ 65536 }
-    ensures fault { IfErr result (λ e. IsFirstOf (links_faults clocks.now 1 [] (items_view items.now)) e) }
-    ensures sound { OnOk result (links_faults clocks.now 1 [] (items_view items.now) ≡ []) }
-    ensures links { IfOk result (λ links. links.items ≡ links_of clocks.now (items_view items.now)) }
+    requires rising { AllPairs Precedes hosts.now }
+    requires few { length hosts.now ≤ 65536 }
+    ensures fault { IfErr result (λ e. IsFirstOf (links_faults hosts.now 1 [] (items_view items.now)) e) }
+    ensures sound { OnOk result (links_faults hosts.now 1 [] (items_view items.now) ≡ []) }
+    ensures links { IfOk result (λ links. links.items ≡ links_of hosts.now (items_view items.now)) }
 {
     let mut book = LinkBook::new(alloc);
     let mut index: u32 = 0;
     for item in items {
         index += 1;
-        let link = match read_entry(clocks, &book, index, item) {
+        let link = match read_entry(hosts, &book, index, item) {
             Ok(link) => link,
             Err(cause) => return Err(cause.at(Section::Links, index)),
         };

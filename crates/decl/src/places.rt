@@ -1,28 +1,39 @@
 // The places of hosts.
-ghost use Rattle.std.specs.Prelude.{◌≡◌, ◌≤◌, length, AllPairs};
+ghost use Rattle.std.specs.Prelude.{◌≡◌, ◌≤◌, length, map, AllPairs};
 ghost use Rattle.std.specs.Ordering.{nat_cmp};
 ghost use Rattle.std.specs.Cmp.Lexicographic.{slice_cmp};
 ghost use Rattle.decl.specs.Declaration.{Precedes};
-ghost use Rattle.decl.specs.Places.{place_of};
+ghost use Rattle.decl.specs.Places.{place_of, clock_place};
 
-use problem_model::Clock;
+use problem_model::{Clock, Name};
 use std::cmp::Ordering;
 
 // How a host's name stands to a name, in byte order.
-fn compare(clock: &Clock, name: &[u8]) -> Ordering
-    ensures { result ≡ slice_cmp nat_cmp clock.now.name name.now }
+fn compare(host: &Name, name: &[u8]) -> Ordering
+    ensures { result ≡ slice_cmp nat_cmp host.now name.now }
 {
-    clock.name.bytes().cmp(name)
+    host.bytes().cmp(name)
 }
 
 // The place of the host of this name, if there is one.
-pub(crate) fn place_of(clocks: &[Clock], name: &[u8]) -> Option<u32>
-    requires rising { AllPairs (λ a b. Precedes a.name b.name) clocks.now }
-    requires few { length clocks.now ≤ 65536 }
-    ensures { result ≡ place_of clocks.now name.now }
+pub(crate) fn place_of(hosts: &[Name], name: &[u8]) -> Option<u32>
+    requires rising { AllPairs Precedes hosts.now }
+    requires few { length hosts.now ≤ 65536 }
+    ensures { result ≡ place_of hosts.now name.now }
 {
-    match clocks.binary_search_by(|clock| compare(clock, name)) {
+    match hosts.binary_search_by(|host| compare(host, name)) {
         Ok(place) => Some(place as u32),
         Err(_) => None,
     }
+}
+
+/// The place of the clock of this name, if there is one. Each clock has the name of the host at its place.
+pub(crate) fn clock_place(hosts: &[Name], clocks: &[Clock], name: &[u8]) -> Option<u32>
+    requires rising { AllPairs Precedes hosts.now }
+    requires few { length hosts.now ≤ 65536 }
+    requires own_names { map (λ c. c.name) clocks.now ≡ hosts.now }
+    ensures { result ≡ clock_place clocks.now name.now }
+{
+    let _clocks = clocks;
+    place_of(hosts, name)
 }

@@ -1,9 +1,9 @@
 // A declaration as a whole.
-ghost use Rattle.std.specs.Prelude.{◌≡◌, ◌≤◌, [], Some, None, option_and_then, length, codes, AllPairs, IfOk, IfErr, OnOk};
+ghost use Rattle.std.specs.Prelude.{◌≡◌, ◌≤◌, [], Some, None, option_and_then, length, map, codes, AllPairs, IfOk, IfErr, OnOk};
 ghost use Rattle.toml.specs.View.{table_view};
 ghost use Rattle.decl.specs.Causes.{Tells, IsFirstOf};
 ghost use Rattle.decl.specs.Declaration.{Precedes, declaration_of, IsDeclaration};
-ghost use Rattle.decl.specs.Places.{place_of};
+ghost use Rattle.decl.specs.Places.{clock_place};
 ghost use Rattle.decl.specs.Values.{number_at, text_at};
 ghost use Rattle.decl.specs.Walk.{Declares, IsFirstFault, declared, faults, is_true_at, shows_true, source_causes, top_causes};
 
@@ -12,10 +12,10 @@ use crate::hosts::read_hosts;
 use crate::keys::check_table;
 use crate::labels::read_labels;
 use crate::links::read_links;
-use crate::places::place_of;
+use crate::places::clock_place;
 use crate::values::{items_or_none, number_up_to, table_or_empty, text_at};
 use crate::{Decl, DeclError, Section};
-use problem_model::Clock;
+use problem_model::{Clock, Name};
 use std::alloc::Global;
 use toml::Table;
 
@@ -39,7 +39,7 @@ fn shows_true(clock: &Clock) -> bool
     clock.rate.short() == 0 && clock.rate.long() == 0
 }
 
-// Whether this is the place of a host whose clock is never short or long.
+// Whether this is the place of a clock that is never short or long.
 fn is_true_at(clocks: &[Clock], place: Option<u32>) -> bool
     ensures { result ≡ is_true_at clocks.now place }
 {
@@ -53,16 +53,17 @@ fn is_true_at(clocks: &[Clock], place: Option<u32>) -> bool
 }
 
 // The place of the source, if one is named.
-fn read_source(clocks: &[Clock], table: &Table) -> Result<Option<u32>, Cause>
-    requires rising { AllPairs (λ a b. Precedes a.name b.name) clocks.now }
-    requires few { length clocks.now ≤ 65536 }
+fn read_source(hosts: &[Name], clocks: &[Clock], table: &Table) -> Result<Option<u32>, Cause>
+    requires rising { AllPairs Precedes hosts.now }
+    requires few { length hosts.now ≤ 65536 }
+    requires own_names { map (λ c. c.name) clocks.now ≡ hosts.now }
     ensures { let name = text_at (codes "source") (table_view table.now) in
-        Tells (source_causes clocks.now name) (option_and_then (place_of clocks.now) name) result }
+        Tells (source_causes clocks.now name) (option_and_then (clock_place clocks.now) name) result }
 {
     let Some(name) = text_at(table, "source") else {
         return Ok(None);
     };
-    let place = place_of(clocks, name.as_bytes());
+    let place = clock_place(hosts, clocks, name.as_bytes());
     if !is_true_at(clocks, place) {
         return Err(Cause::Source);
     }
@@ -85,24 +86,22 @@ fn read_document(alloc: Global, table: &Table) -> Result<Decl, DeclError>
         Ok(hosts) => hosts,
         Err(e) => return Err(e),
     };
-    let labels = match read_labels(
-        alloc,
-        &hosts.clocks,
-        table_or_empty(table, "labels", &empty),
-    ) {
+    let labels = match read_labels(alloc, &hosts.names, table_or_empty(table, "labels", &empty)) {
         Ok(labels) => labels,
         Err(e) => return Err(e),
     };
-    let links = match read_links(alloc, &hosts.clocks, items_or_none(table, "links")) {
+    let links = match read_links(alloc, &hosts.names, items_or_none(table, "links")) {
         Ok(links) => links,
         Err(e) => return Err(e),
     };
-    let source = match read_source(&hosts.clocks, table) {
+    let source = match read_source(&hosts.names, &hosts.clocks, table) {
         Ok(source) => source,
         Err(cause) => return Err(cause.at(Section::Top, 0)),
     };
     Ok(Decl {
+        hosts: hosts.names,
         clocks: hosts.clocks,
+        owners: hosts.owners,
         addresses: hosts.addresses,
         labels,
         links,

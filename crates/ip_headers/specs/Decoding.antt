@@ -1,24 +1,20 @@
 -- What a frame is known by.
-use Rattle.std.specs.Prelude.{ℕ, ◌==◌, if◌then◌else◌, List, ◌++◌, Option, Some, None}
+use Rattle.std.specs.Prelude.{ℕ, List, ◌++◌, Option, Some, None}
 use Rattle.ip_headers.specs.declared.key.Reason.{Reason}
 use Rattle.ip_headers.specs.declared.transport.Transport.{Transport}
 use Rattle.ip_headers.specs.Checks.{Check, first_reason}
 use Rattle.ip_headers.specs.Datagram.{source, target, protocol, identification, carried_length, carried, datagram_checks}
 use Rattle.ip_headers.specs.Frame.{datagram_in, link_checks}
 use Rattle.ip_headers.specs.Keys.{Answer, Keyed, Unkeyed, KeyFields}
-use Rattle.ip_headers.specs.Transport.{tcp_checks, tcp_part, udp_checks, udp_part}
+use Rattle.ip_headers.specs.Transport.{carried_checks, carried_part}
 
--- why what a datagram carries has no key: it is TCP, or else UDP
+-- why what a datagram carries has no key
 abbrev pub transport_checks : List ℕ → ℕ → List Check
-transport_checks datagram payload_bytes =
-    if protocol datagram == 6 then tcp_checks (carried_length datagram) (carried datagram) payload_bytes
-    else udp_checks (carried_length datagram) (carried datagram) payload_bytes
+transport_checks datagram payload_bytes = carried_checks (protocol datagram) (carried_length datagram) (carried datagram) payload_bytes
 
 -- what the key has of what a datagram carries
 abbrev pub transport_part : List ℕ → ℕ → Transport
-transport_part datagram payload_bytes =
-    if protocol datagram == 6 then tcp_part (carried_length datagram) (carried datagram) payload_bytes
-    else udp_part (carried datagram) payload_bytes
+transport_part datagram payload_bytes = carried_part (protocol datagram) (carried_length datagram) (carried datagram) payload_bytes
 
 -- the key of a datagram, with this of what it carries
 abbrev pub key_with : List ℕ → Transport → KeyFields

@@ -1,5 +1,5 @@
 -- The datagram in a frame, by the type of its link: Ethernet II with tags of IEEE 802.1Q, or raw IP.
-use Rattle.std.specs.Prelude.{ℕ, Bool, true, not, ◌||◌, ◌==◌, if◌then◌else◌, nat_lt, List, [], ◌∷◌, length, drop}
+use Rattle.std.specs.Prelude.{ℕ, Bool, true, not, ◌||◌, ◌==◌, if◌then◌else◌, nat_lt, List, [], ◌∷◌, ◌++◌, length, drop}
 use Rattle.ip_headers.specs.declared.key.Reason.TheVariants.{Link, Other, Short}
 use Rattle.ip_headers.specs.Bytes.{half_at}
 use Rattle.ip_headers.specs.Checks.{Check, refuse}
@@ -22,13 +22,16 @@ is_cut typed = nat_lt (length typed) 2 || is_tag (half_at 0 typed)
 abbrev pub typed_part : List ℕ → List ℕ
 typed_part frame = untagged (drop 12 frame)
 
--- why an Ethernet frame has no key, whatever its datagram is
-abbrev pub ethernet_checks : List ℕ → List Check
-ethernet_checks frame =
+-- why an Ethernet frame has no type behind its tags
+abbrev pub tag_checks : List ℕ → List Check
+tag_checks frame =
     refuse (nat_lt (length frame) 14) Short
     ∷ refuse (is_cut (typed_part frame)) Short
-    ∷ refuse (not (half_at 0 (typed_part frame) == 0x0800)) Other
     ∷ []
+
+-- why an Ethernet frame has no key, whatever its datagram is
+abbrev pub ethernet_checks : List ℕ → List Check
+ethernet_checks frame = tag_checks frame ++ refuse (not (half_at 0 (typed_part frame) == 0x0800)) Other ∷ []
 
 -- why raw IP has no key, whatever its datagram is
 abbrev pub raw_checks : List ℕ → List Check

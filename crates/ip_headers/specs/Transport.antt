@@ -1,6 +1,6 @@
 -- What a datagram carries: a TCP segment (RFC 9293) or a UDP datagram (RFC 768). The header below says how long it is;
 -- the bytes are those that were captured.
-use Rattle.std.specs.Prelude.{ℕ, ◌+◌, ◌*◌, ◌-◌, ◌/◌, ◌||◌, nat_lt, min, List, [], ◌∷◌, length, take, drop}
+use Rattle.std.specs.Prelude.{ℕ, ◌+◌, ◌*◌, ◌-◌, ◌/◌, ◌||◌, ◌==◌, if◌then◌else◌, nat_lt, min, List, [], ◌∷◌, length, take, drop}
 use Rattle.ip_headers.specs.declared.key.Reason.TheVariants.{Short, Header, Length}
 use Rattle.ip_headers.specs.declared.transport.Transport.{Transport}
 use Rattle.ip_headers.specs.Bytes.{byte_at, half_at, word_at}
@@ -66,3 +66,16 @@ udp_part datagram payload_bytes = record {
   length = udp_length datagram;
   payload = record { items = take (udp_taken datagram payload_bytes) (drop 8 datagram) };
 }
+
+-- ---- either
+-- why what a datagram of this protocol carries has no key: it is TCP, or else UDP
+abbrev pub carried_checks : ℕ → ℕ → List ℕ → ℕ → List Check
+carried_checks protocol whole carried payload_bytes =
+    if protocol == 6 then tcp_checks whole carried payload_bytes
+    else udp_checks whole carried payload_bytes
+
+-- what the key has of it
+abbrev pub carried_part : ℕ → ℕ → List ℕ → ℕ → Transport
+carried_part protocol whole carried payload_bytes =
+    if protocol == 6 then tcp_part whole carried payload_bytes
+    else udp_part carried payload_bytes

@@ -2,7 +2,7 @@
 ghost use Rattle.std.specs.Prelude.{◌≡◌, ◌≤◌, true, false, length, drop, Some, None, IfOk, IfErr, OnOk};
 ghost use Rattle.ip_headers.specs.Bytes.{half_at};
 ghost use Rattle.ip_headers.specs.Checks.{first_reason};
-ghost use Rattle.ip_headers.specs.Frame.{is_tag, untagged, is_cut, typed_part, ethernet_checks};
+ghost use Rattle.ip_headers.specs.Frame.{is_tag, untagged, is_cut, typed_part, tag_checks, ethernet_checks};
 ghost use Rattle.ip_headers.specs.declared.key.Reason.TheVariants.{Short};
 
 use crate::Reason;
@@ -50,16 +50,29 @@ fn skip_tags(typed: &[u8]) -> Result<&[u8], Reason>
     Ok(rest)
 }
 
+/// An Ethernet II frame from its type on: what stands behind the two addresses and behind the tags of IEEE 802.1Q, of
+/// which there may be any number. The first two bytes are the type. It takes no memory.
+///
+/// `Short` comes exactly where fewer than 14 bytes were captured, or the captured bytes end before a type that is no tag.
+pub fn typed_part(frame: &[u8]) -> Result<&[u8], Reason>
+    ensures lawful { OnOk result (first_reason (tag_checks frame.now) ≡ None) }
+    ensures found { IfOk result (λ typed. typed.now ≡ typed_part frame.now) }
+    ensures whole { IfOk result (λ typed. 2 ≤ length typed.now) }
+    ensures refused { IfErr result (λ reason. first_reason (tag_checks frame.now) ≡ Some reason) }
+{
+    if frame.len() < HEADER {
+        return Err(Reason::Short);
+    }
+    skip_tags(behind(frame, ADDRESSES))
+}
+
 // The datagram in a frame.
 pub(crate) fn datagram_in(frame: &[u8]) -> Result<&[u8], Reason>
     ensures lawful { OnOk result (first_reason (ethernet_checks frame.now) ≡ None) }
     ensures found { IfOk result (λ datagram. datagram.now ≡ drop 2 (typed_part frame.now)) }
     ensures refused { IfErr result (λ reason. first_reason (ethernet_checks frame.now) ≡ Some reason) }
 {
-    if frame.len() < HEADER {
-        return Err(Reason::Short);
-    }
-    let typed = skip_tags(behind(frame, ADDRESSES))?;
+    let typed = typed_part(frame)?;
     if half_at(typed, 0) != IPV4 {
         return Err(Reason::Other);
     }

@@ -7,10 +7,10 @@ ghost use Rattle.ip_headers.specs.Frame.{datagram_in};
 ghost use Rattle.ip_headers.specs.Inside.{IsRead};
 ghost use Rattle.ip_headers.specs.Keys.{answer_of, fields_of};
 
-use crate::ipv4::{Datagram, Protocol, read_datagram};
+use crate::ipv4::{Datagram, read_datagram};
 use crate::link::datagram_in;
-use crate::transport::Transport;
-use crate::{Decoded, PacketKey, Reason, tcp, udp};
+use crate::transport::{Transport, transport_of};
+use crate::{Decoded, PacketKey, Reason};
 
 // What the header above IPv4 gives to the key.
 fn read_transport(datagram: &Datagram<'_>, payload_bytes: u8) -> Result<Transport, Reason>
@@ -19,18 +19,12 @@ fn read_transport(datagram: &Datagram<'_>, payload_bytes: u8) -> Result<Transpor
     ensures read { (bytes : List ℕ) → IsRead bytes datagram.now → IfOk result (λ part. part ≡ transport_part bytes payload_bytes) }
     ensures refused { (bytes : List ℕ) → IsRead bytes datagram.now → IfErr result (λ reason. first_reason (transport_checks bytes payload_bytes) ≡ Some reason) }
 {
-    match datagram.protocol {
-        Protocol::Tcp => tcp::read_segment(
-            datagram.carried_length,
-            datagram.carried,
-            payload_bytes,
-        ),
-        Protocol::Udp => udp::read_datagram(
-            datagram.carried_length,
-            datagram.carried,
-            payload_bytes,
-        ),
-    }
+    transport_of(
+        datagram.protocol,
+        datagram.carried_length,
+        datagram.carried,
+        payload_bytes,
+    )
 }
 
 // The key of a datagram, with what the header above IPv4 gives to it.

@@ -32,16 +32,18 @@ const MORE_FRAGMENTS: u16 = 0x2000;
 // The bits of the same field that give its place in the whole.
 const OFFSET: u16 = 0x1fff;
 
-// A protocol whose packets have keys.
+/// A protocol whose packets have keys.
 #[derive(Clone, Copy)]
-pub(crate) enum Protocol {
+pub enum Protocol {
+    /// Number 6 of IANA's list.
     Tcp,
+    /// Number 17 of that list.
     Udp,
 }
 
 impl Protocol {
-    // The protocol with this number in IANA's list.
-    fn of_number(number: u8) -> Option<Protocol>
+    /// The protocol with this number in IANA's list; None exactly where it is neither.
+    pub fn of_number(number: u8) -> Option<Protocol>
         ensures known { IfSome result (λ protocol. number_of protocol ≡ number) }
         ensures other { IfNone result ((number == 6 || number == 17) ≡ false) }
     {
@@ -52,7 +54,8 @@ impl Protocol {
         }
     }
 
-    pub(crate) fn number(self) -> u8
+    /// The number of the protocol in that list.
+    pub fn number(self) -> u8
         ensures { result ≡ number_of self }
     {
         match self {

@@ -12,8 +12,8 @@ mod tcp;
 mod transport;
 mod udp;
 
+pub use ethernet::typed_part;
 pub use frame::decode;
+pub use ipv4::Protocol;
 pub use key::{Decoded, PacketKey, Reason};
-
-#[cfg(test)]
-mod tests;
+pub use transport::{Transport, transport_of};

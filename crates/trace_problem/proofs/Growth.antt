@@ -13,16 +13,16 @@ use Rattle.problem.specs.Line.{HasEvent}
 use Rattle.problem.specs.Growing.{IsNewClock, IsNewEvent, IsNewMessage, HasRoomForClock, HasRoomForEvent, HasRoomForMessage, with_clock, with_event, with_message}
 use Rattle.decl.specs.declared.items.Label.{Label}
 use Rattle.decl.specs.declared.items.Link.{Link}
-use Rattle.decl.specs.Declaration.{Declaration, IsDeclaration, LinkFits, bounds_among, link_bounds}
+use Rattle.decl.specs.Declaration.{Declaration, IsDeclaration, IsClockOf, LinkFits, bounds_among, link_bounds}
 use Rattle.traces.specs.declared.event.EventId.{EventId}
 use Rattle.traces.specs.declared.event.Couple.{Couple}
 use Rattle.traces.specs.declared.event.PlacedEvent.{PlacedEvent}
-use Rattle.traces.specs.Traces.{Placed, name_of, host_of}
+use Rattle.traces.specs.Traces.{Placed, name_of, host_of, clock_of}
 use Rattle.traces.specs.Held.{placed_in, placed_of}
 use Rattle.traces.specs.Messages.{event_with, linked, place_of}
 use Rattle.trace_problem.specs.Making.{problem_by, IsOneOf, AreEvents, AreMessages}
 use Rattle.trace_problem.proofs.Lists.{got, all_at, pairs_map, pairs_before, take_next, map_next}
-use Rattle.trace_problem.proofs.Names.{named, name_at, names_differ, rising_differ}
+use Rattle.trace_problem.proofs.Names.{named, name_at, names_differ}
 use Rattle.trace_problem.proofs.Places.{place_one, place_within, the_place}
 
 taken_less : {X : Type 0} (xs : List X) (k : ℕ) (x : X) (n : ℕ) → slice_get xs k ≡ Some x → length xs ≤ n → length (take k xs) < n
@@ -31,26 +31,27 @@ taken_less xs k x n at most = omega (arith, length-take k xs, slice_get_within x
 -- ---- clocks
 -- the problem that has these clocks alone
 abbrev pub clocks_alone : List Clock → ProblemLists
-clocks_alone clocks = record { clocks = clocks; events = []; messages = [] }
+clocks_alone clocks = record { clocks = clocks; follows = []; events = []; messages = [] }
 
 module _ (d : Declaration) (lawful : IsDeclaration d) where
   pub clock_new : (k : ℕ) (c : Clock) → slice_get d.clocks k ≡ Some c → IsNewClock (clocks_alone (take k d.clocks)) c
   clock_new k c at = record {
-    named = all_at (λ (c : Clock). IsClockName c.name) d.clocks k c lawful.host_names at;
-    new = pairs_before (λ (a b : Clock). a.name ≢ b.name) d.clocks k c (rising_differ (λ (c : Clock). c.name) d.clocks lawful.hosts_rise) at;
+    named = all_at (λ (c : Clock). IsClockName c.name) d.clocks k c lawful.clock_names at;
+    new = pairs_before (λ (a b : Clock). a.name ≢ b.name) d.clocks k c lawful.clocks_differ at;
   }
 
   pub clock_room : (k : ℕ) (c : Clock) → slice_get d.clocks k ≡ Some c → HasRoomForClock (clocks_alone (take k d.clocks))
-  clock_room k c at = taken_less d.clocks k c 65536 at lawful.host_limit
+  clock_room k c at = taken_less d.clocks k c 65536 at lawful.clock_limit
 
 pub clock_more : (clocks : List Clock) (k : ℕ) (c : Clock) → slice_get clocks k ≡ Some c → with_clock (clocks_alone (take k clocks)) c ≡ clocks_alone (take (k + 1) clocks)
 clock_more clocks k c at = ap clocks_alone (sym (take_next clocks k c at))
 
 -- ---- events
-host_there : (d : Declaration) (id : EventId) → IsDeclaration d → id.label < length d.labels → host_of d id < length d.clocks
-host_there d id lawful within =
+clock_there : (d : Declaration) (id : EventId) → IsDeclaration d → id.label < length d.labels → clock_of d id < length d.clocks
+clock_there d id lawful within =
     let l : (l : Label) × (slice_get d.labels id.label ≡ Some l) = got d.labels id.label within in
-    rw l.1 (all_at (λ (l : Label). l.host < length d.clocks) d.labels id.label l.0 lawful.label_hosts l.1)
+    let own : IsClockOf d.owners l.0.host l.0.clock = all_at (λ (l : Label). IsClockOf d.owners l.host l.clock) d.labels id.label l.0 lawful.label_clocks l.1 in
+    rw l.1 (omega (arith, slice_get_within d.owners l.0.clock own.0 own.1, lawful.clocks_owned))
 
 event_named : (d : Declaration) (id : EventId) → IsDeclaration d → id.label < length d.labels → id.number ≤ 2 ^ 20 → IsEventName (name_of d id)
 event_named d id lawful within small =
@@ -66,7 +67,7 @@ module _ (d : Declaration) (lawful : IsDeclaration d) (events : List Placed) (ar
   event_new k e at = record {
     new = All-map (λ (x : Event). x.name ≢ name_of d e.id) (event_with d) (take k events)
         (pairs_before (λ (a b : Placed). name_of d a.id ≢ name_of d b.id) events k e all_names_differ at);
-    clock = host_there d e.id lawful (all_at (λ (x : Placed). x.id.label < length d.labels) events k e are.labels at);
+    clock = clock_there d e.id lawful (all_at (λ (x : Placed). x.id.label < length d.labels) events k e are.labels at);
   }
 
   pub event_room : (k : ℕ) (e : Placed) → slice_get events k ≡ Some e → HasRoomForEvent (problem_by d (take k events) [])
@@ -74,7 +75,7 @@ module _ (d : Declaration) (lawful : IsDeclaration d) (events : List Placed) (ar
 
 pub event_more : (d : Declaration) (events : List Placed) (k : ℕ) (e : Placed) → slice_get events k ≡ Some e →
     with_event (problem_by d (take k events) []) (event_with d e) ≡ problem_by d (take (k + 1) events) []
-event_more d events k e at = ap (λ (es : List Event). let p : ProblemLists = record { clocks = d.clocks; events = es; messages = [] } in p) (sym (map_next (event_with d) events k e at))
+event_more d events k e at = ap (λ (es : List Event). let p : ProblemLists = record { clocks = d.clocks; follows = []; events = es; messages = [] } in p) (sym (map_next (event_with d) events k e at))
 
 -- ---- messages
 module _ (d : Declaration) (events : List Placed) (couples : List Couple) (are : AreEvents d events) (messages : AreMessages events couples) where
@@ -110,7 +111,7 @@ module _ (d : Declaration) (events : List Placed) (couples : List Couple) (are :
 pub message_more : (d : Declaration) (events : List Placed) (couples : List Couple) (k : ℕ) (m : Couple) → slice_get couples k ≡ Some m →
     with_message (problem_by d events (take k couples)) (linked d events m) ≡ problem_by d events (take (k + 1) couples)
 message_more d events couples k m at =
-    ap (λ (ms : List Message). let p : ProblemLists = record { clocks = d.clocks; events = map (event_with d) events; messages = ms } in p) (sym (map_next (linked d events) couples k m at))
+    ap (λ (ms : List Message). let p : ProblemLists = record { clocks = d.clocks; follows = []; events = map (event_with d) events; messages = ms } in p) (sym (map_next (linked d events) couples k m at))
 
 -- ---- the whole problem is lawful
 -- the bounds of a link are in their ranges
@@ -129,24 +130,29 @@ bounds_fit (l ∷ more) from to all =
 module _ (d : Declaration) (lawful : IsDeclaration d) (events : List Placed) (couples : List Couple) (are : AreEvents d events) (messages : AreMessages events couples) where
   pub is_problem : All (λ (e : Placed). e.seen.stamp < 2 ^ 62) events → IsProblem (problem_by d events couples)
   is_problem stamps = record {
-    clock_names = lawful.host_names;
-    clocks_differ = rising_differ (λ (c : Clock). c.name) d.clocks lawful.hosts_rise;
-    clocks_fit = lawful.hosts_fit;
-    clock_limit = lawful.host_limit;
-    event_names = All-map (λ (e : Event). IsEventName e.name) (event_with d) events (λ k x within. event_named d (get_or events k x).id lawful (are.labels k x within) (are.numbers k x within));
-    events_differ = pairs_map (λ (a b : Event). a.name ≢ b.name) (event_with d) events (all_names_differ d lawful events are);
-    event_clocks = All-map (λ (e : Event). e.clock < length d.clocks) (event_with d) events (λ k x within. host_there d (get_or events k x).id lawful (are.labels k x within));
-    stamps_fit = All-map (λ (e : Event). e.stamp < 2 ^ 62) (event_with d) events stamps;
-    event_limit = rw length-map are.limit;
-    sends = All-map (λ (m : Message). m.send < length (map (event_with d) events)) (linked d events) couples
-        (λ k x within. rw length-map (place_within events _ are.differ (messages.sends k x within)));
-    receives = All-map (λ (m : Message). m.receive < length (map (event_with d) events)) (linked d events) couples
-        (λ k x within. rw length-map (place_within events _ are.differ (messages.receives k x within)));
-    two_ends = All-map (λ (m : Message). m.send ≢ m.receive) (linked d events) couples
-        (λ k x within. ends_apart d events couples are messages _ (messages.sends k x within) (messages.receives k x within) (messages.two_ends k x within));
-    messages_differ = pairs_map (λ (a b : Message). (a.send ≡ b.send) → (a.receive ≡ b.receive) → ⊥) (linked d events) couples (apart d events couples are messages);
-    messages_fit = All-map MessageFits (linked d events) couples (λ k x within. bounds_fit d.links _ _ lawful.links_fit);
-    message_limit = rw length-map messages.limit;
+    formed = record {
+      clock_names = lawful.clock_names;
+      clocks_differ = lawful.clocks_differ;
+      no_follows = refl;
+      event_names = All-map (λ (e : Event). IsEventName e.name) (event_with d) events (λ k x within. event_named d (get_or events k x).id lawful (are.labels k x within) (are.numbers k x within));
+      events_differ = pairs_map (λ (a b : Event). a.name ≢ b.name) (event_with d) events (all_names_differ d lawful events are);
+      event_clocks = All-map (λ (e : Event). e.clock < length d.clocks) (event_with d) events (λ k x within. clock_there d (get_or events k x).id lawful (are.labels k x within));
+      sends = All-map (λ (m : Message). m.send < length (map (event_with d) events)) (linked d events) couples
+          (λ k x within. rw length-map (place_within events _ are.differ (messages.sends k x within)));
+      receives = All-map (λ (m : Message). m.receive < length (map (event_with d) events)) (linked d events) couples
+          (λ k x within. rw length-map (place_within events _ are.differ (messages.receives k x within)));
+      two_ends = All-map (λ (m : Message). m.send ≢ m.receive) (linked d events) couples
+          (λ k x within. ends_apart d events couples are messages _ (messages.sends k x within) (messages.receives k x within) (messages.two_ends k x within));
+      messages_differ = pairs_map (λ (a b : Message). (a.send ≡ b.send) → (a.receive ≡ b.receive) → ⊥) (linked d events) couples (apart d events couples are messages);
+    };
+    fits = record {
+      clocks_fit = lawful.clocks_fit;
+      clock_limit = lawful.clock_limit;
+      stamps_fit = All-map (λ (e : Event). e.stamp < 2 ^ 62) (event_with d) events stamps;
+      event_limit = rw length-map are.limit;
+      messages_fit = All-map MessageFits (linked d events) couples (λ k x within. bounds_fit d.links _ _ lawful.links_fit);
+      message_limit = rw length-map messages.limit;
+    };
   }
 
 -- ---- what the code makes of one event and of one message

@@ -16,6 +16,7 @@ use Rattle.atto.proofs.OneSpelling.{decimal_of_injective}
 use Rattle.problem_model.specs.Name.{is_clock_byte, is_event_byte, IsClockName, IsEventName}
 use Rattle.decl.specs.declared.items.Label.{Label}
 use Rattle.decl.specs.Declaration.{Declaration, Precedes}
+use Rattle.decl.proofs.Searching.{precedes_differ}
 use Rattle.traces.specs.declared.event.EventId.{EventId}
 use Rattle.traces.specs.Traces.{name_of}
 use Rattle.trace_problem.proofs.Lists.{got, all_at, pair_at}
@@ -66,13 +67,6 @@ cut (x ∷ xs) (y ∷ ys) us vs p q e =
     let rest : (xs ≡ ys) × (us ≡ vs) = cut xs ys us vs p.1 q.1 (cc) in
     (rw (head, rest.0) refl, rest.1)
 
-precedes_differ : (a b : List ℕ) → Precedes a b → a ≢ b
-precedes_differ a b less e =
-    let own : slice_cmp nat_cmp a a ≡ Less = subst (λ x. slice_cmp nat_cmp a x ≡ Less) (sym e) less in
-    let turned : slice_cmp nat_cmp a a ≡ ordering_reverse (slice_cmp nat_cmp a a) = nat_list_cmp_total.antisymm a a in
-    let both : Less ≡ ordering_reverse Less = rw own at turned in
-    absurd (cc)
-
 same_parts : (l m n o : ℕ) → l ≡ m → n ≡ o → (let a : EventId = record { label = l; number = n } in a) ≡ (let b : EventId = record { label = m; number = o } in b)
 same_parts l m n o e f = rw (e, f) refl
 
@@ -87,9 +81,6 @@ one_place name xs i j x y rise at there same = elim (cases_order i j) [
   | inr (inl less) ↦ absurd (precedes_differ (name x) (name y) (pair_at (λ a b. Precedes (name a) (name b)) xs i j x y rise less at there) same)
   | inr (inr more) ↦ absurd (precedes_differ (name y) (name x) (pair_at (λ a b. Precedes (name a) (name b)) xs j i y x rise more there at) (sym same))
 ]
-
-pub rising_differ : {X : Type 0} (name : X → List ℕ) (xs : List X) → AllPairs (λ a b. Precedes (name a) (name b)) xs → AllPairs (λ a b. name a ≢ name b) xs
-rising_differ name xs rise i j d less within = precedes_differ _ _ (rise i j d less within)
 
 pub name_at : (d : Declaration) (id : EventId) (l : Label) → slice_get d.labels id.label ≡ Some l → name_of d id ≡ l.name ++ 35 ∷ decimal_of id.number
 name_at d id l at = rw at refl

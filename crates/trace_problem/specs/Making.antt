@@ -1,5 +1,5 @@
 -- The problem that events and messages under a declaration make.
-use Rattle.std.specs.Prelude.{◌≡◌, ◌≢◌, ℕ, ◌^◌, ◌<◌, ◌≤◌, List, map, length, All, AllPairs, Contains}
+use Rattle.std.specs.Prelude.{◌≡◌, ◌≢◌, ℕ, ◌^◌, ◌<◌, ◌≤◌, List, [], map, length, All, AllPairs, Contains}
 use Rattle.problem_model.specs.Problem.{ProblemLists}
 use Rattle.problem.specs.Line.{HasEvent}
 use Rattle.decl.specs.Declaration.{Declaration}
@@ -9,9 +9,9 @@ use Rattle.trace_event.specs.Seen.{Seen}
 use Rattle.traces.specs.Traces.{Placed, name_of}
 use Rattle.traces.specs.Messages.{event_with, linked}
 
--- the clocks of all hosts, these events and these messages
+-- the clocks of all hosts, of which none follows another, these events and these messages
 abbrev pub problem_by : Declaration → List Placed → List Couple → ProblemLists
-problem_by d events couples = record { clocks = d.clocks; events = map (event_with d) events; messages = map (linked d events) couples }
+problem_by d events couples = record { clocks = d.clocks; follows = []; events = map (event_with d) events; messages = map (linked d events) couples }
 
 -- one of these events goes by this id
 abbrev pub IsOneOf : List Placed → EventId → Type 0

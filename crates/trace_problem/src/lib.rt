@@ -10,6 +10,3 @@ mod parts;
 pub use law::lawful;
 pub use making::problem_of;
 pub use naming::event_name;
-
-#[cfg(test)]
-mod tests;

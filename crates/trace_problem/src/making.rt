@@ -41,7 +41,7 @@ fn problem_by(
 }
 
 /// The problem of a declaration and of what was accepted under each of its labels: the clocks of all hosts, the events of
-/// all labels on the clocks of their hosts, and their messages, which are given in the order of their sends, with the bounds
+/// all labels on the clocks of their labels, and their messages, which are given in the order of their sends, with the bounds
 /// of the links between the hosts. An error where memory runs out.
 pub fn problem_of(
     alloc: Global,

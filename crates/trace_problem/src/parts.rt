@@ -3,7 +3,7 @@ ghost use Rattle.std.specs.Prelude.{◌≡◌, ◌<◌, ℕ, length};
 ghost use Rattle.decl.specs.Declaration.{IsDeclaration, declaration_of, link_bounds};
 ghost use Rattle.problem.specs.Line.{HasEvent};
 ghost use Rattle.trace_problem.specs.Making.{IsKnown};
-ghost use Rattle.traces.specs.Traces.{name_of, host_of};
+ghost use Rattle.traces.specs.Traces.{name_of, host_of, clock_of};
 ghost use Rattle.traces.specs.Messages.{event_with};
 ghost use Rattle.traces.specs.Held.{placed_of};
 
@@ -21,6 +21,14 @@ fn host_of(decl: &Decl, id: EventId) -> u32
     decl.labels[id.label as usize].host
 }
 
+// The clock that an event was stamped by.
+fn clock_of(decl: &Decl, id: EventId) -> u32
+    requires label { id.label < length decl.now.labels.items }
+    ensures { result ≡ clock_of (declaration_of decl.now) id }
+{
+    decl.labels[id.label as usize].clock
+}
+
 // The name of an event.
 fn name_of(decl: &Decl, id: EventId) -> Name
     requires lawful { IsDeclaration (declaration_of decl.now) }
@@ -31,7 +39,7 @@ fn name_of(decl: &Decl, id: EventId) -> Name
     event_name(&label.name, id.number)
 }
 
-/// An event with its name, on the clock of its host.
+/// An event with its name, on the clock of its label.
 pub fn event_of(decl: &Decl, e: &PlacedEvent) -> Event
     requires lawful { IsDeclaration (declaration_of decl.now) }
     requires label { e.now.id.label < length decl.now.labels.items }
@@ -39,7 +47,7 @@ pub fn event_of(decl: &Decl, e: &PlacedEvent) -> Event
 {
     Event {
         name: name_of(decl, e.id),
-        clock: host_of(decl, e.id),
+        clock: clock_of(decl, e.id),
         stamp: e.event.stamp,
     }
 }

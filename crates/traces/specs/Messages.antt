@@ -10,7 +10,7 @@ use Rattle.trace_event.specs.declared.event.Side.TheVariants.{Send, Receive}
 use Rattle.trace_event.specs.Seen.{EventKey, SeenMark, Keyed, Unkeyed, Seen, is_mark}
 use Rattle.traces.specs.declared.event.EventId.{EventId}
 use Rattle.traces.specs.declared.event.Couple.{Couple}
-use Rattle.traces.specs.Traces.{Traces, Placed, seen_by, events_of, is_same, name_of, host_of}
+use Rattle.traces.specs.Traces.{Traces, Placed, seen_by, events_of, is_same, name_of, host_of, clock_of}
 
 -- ---- messages
 -- all events with this key and this side
@@ -46,9 +46,9 @@ missing xs ys = length (filter (λ (x : Couple). not (list_any (λ (y : Couple).
 abbrev pub place_of : List Placed → EventId → ℕ
 place_of events id = unwrap_or (position (λ (e : Placed). is_same e.id id) events) 0
 
--- an event with its name, on the clock of its host
+-- an event with its name, on the clock of its label
 abbrev pub event_with : Declaration → Placed → Event
-event_with d e = record { name = name_of d e.id; clock = host_of d e.id; stamp = e.seen.stamp }
+event_with d e = record { name = name_of d e.id; clock = clock_of d e.id; stamp = e.seen.stamp }
 
 -- a message with the bounds of a link
 abbrev pub message_with : List Placed → Couple → ℕ × Option ℕ → Message
@@ -58,11 +58,11 @@ message_with events m bounds = record { send = place_of events m.send; receive =
 abbrev pub linked : Declaration → List Placed → Couple → Message
 linked d events m = message_with events m (link_bounds d (host_of d m.send) (host_of d m.receive))
 
--- the clocks of all hosts, the events of all labels and their messages
+-- the clocks of all hosts, of which none follows another, the events of all labels and their messages
 abbrev pub problem_of_seen : Declaration → List (List Seen) → ProblemLists
 problem_of_seen d seen =
     let events = events_of seen in
-    record { clocks = d.clocks; events = map (event_with d) events; messages = map (linked d events) (messages_of events) }
+    record { clocks = d.clocks; follows = []; events = map (event_with d) events; messages = map (linked d events) (messages_of events) }
 
 -- the problem of a declaration and traces
 abbrev pub problem_of : Declaration → Traces → ProblemLists

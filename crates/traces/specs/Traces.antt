@@ -99,3 +99,12 @@ host_by (Some label) = label.host
 -- the host that an event happened at
 abbrev pub host_of : Declaration → EventId → ℕ
 host_of d id = host_by (slice_get d.labels id.label)
+
+-- the clock of a label
+abbrev pub clock_by : Option Label → ℕ
+clock_by None = 0
+clock_by (Some label) = label.clock
+
+-- the clock that an event was stamped by
+abbrev pub clock_of : Declaration → EventId → ℕ
+clock_of d id = clock_by (slice_get d.labels id.label)

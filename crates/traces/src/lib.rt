@@ -14,6 +14,3 @@ pub use laws::messages_are_pairs;
 pub use pairing::{messages, messages_in};
 pub use placing::{event_count, events};
 pub use withdrawn::missing;
-
-#[cfg(test)]
-mod tests;

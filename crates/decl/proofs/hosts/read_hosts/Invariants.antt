@@ -1,14 +1,17 @@
 use Rattle.std.proofs.Common.{◌≡◌, ◌≤◌, ◌+◌, ◌++◌, [], length}
 use Rattle.toml.specs.View.{members_view}
 use Rattle.decl.specs.Addresses.{numbers_of}
-use Rattle.decl.specs.Hosts.{hosts_faults, clocks_of, addresses_from}
+use Rattle.decl.specs.Declaration.{one_clock_each}
+use Rattle.decl.specs.Hosts.{hosts_faults, hosts_of, clocks_of, addresses_from}
 use Rattle.decl.proofs.hosts.read_hosts.Given as goal
 
 abbrev pub invariant-loop-name : goal.invariant-loop-name
 invariant-loop-name l = record {
   walked : hosts_faults 1 [] (members_view l.table.entries) ≡ hosts_faults (l.index + 1) (numbers_of l.book) (members_view l.name-iterator);
+  named : hosts_of (members_view l.table.entries) ≡ l.names.items ++ hosts_of (members_view l.name-iterator);
   clocked : clocks_of (members_view l.table.entries) ≡ l.clocks.items ++ clocks_of (members_view l.name-iterator);
   booked : addresses_from 0 (members_view l.table.entries) ≡ l.book ++ addresses_from l.index (members_view l.name-iterator);
-  counted : l.index ≡ length l.clocks.items;
+  owned : one_clock_each 0 l.names.items ≡ l.owners.items;
+  counted : l.index ≡ length l.names.items;
   few : l.index ≤ 65536;
 }

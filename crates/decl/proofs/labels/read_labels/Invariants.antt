@@ -5,7 +5,7 @@ use Rattle.decl.proofs.labels.read_labels.Given as goal
 
 abbrev pub invariant-loop-name : goal.invariant-loop-name
 invariant-loop-name l = record {
-  walked : labels_faults l.clocks 1 (members_view l.table.entries) ≡ labels_faults l.clocks (l.index + 1) (members_view l.name-iterator);
-  labelled : labels_of l.clocks (members_view l.table.entries) ≡ l.labels.items ++ labels_of l.clocks (members_view l.name-iterator);
+  walked : labels_faults l.hosts 1 (members_view l.table.entries) ≡ labels_faults l.hosts (l.index + 1) (members_view l.name-iterator);
+  labelled : labels_of l.hosts (members_view l.table.entries) ≡ l.labels.items ++ labels_of l.hosts (members_view l.name-iterator);
   few : l.index ≤ 65536;
 }

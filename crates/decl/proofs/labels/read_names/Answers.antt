@@ -9,4 +9,4 @@ pub returns : goal.returns
 returns c =
     let named : Some c.in-Some.name ≡ (if is_clock_name c.args.name.now then Some c.args.name.now else None) = search rules in
     let kinded : Some c.in-Some-read_kind.kind ≡ kind_at (table_view c.args.table.now) = search rules in
-    label_made c.args.clocks.now c.args.name.now c.in-Some.name (table_view c.args.table.now) c.in-Some-host_at_key.host c.in-Some-read_kind.kind named c.in-Some-host_at_key.ensures kinded
+    label_made c.args.hosts.now c.args.name.now c.in-Some.name (table_view c.args.table.now) c.in-Some-host_at_key.host c.in-Some-read_kind.kind named c.in-Some-host_at_key.ensures kinded

@@ -5,7 +5,7 @@ use Rattle.decl.proofs.links.read_links.Given as goal
 
 abbrev pub invariant-loop-item : goal.invariant-loop-item
 invariant-loop-item l = record {
-  walked : links_faults l.clocks 1 [] (items_view l.items) ≡ links_faults l.clocks (l.index + 1) l.book (items_view (drop l.item-index l.items));
-  linked : links_of l.clocks (items_view l.items) ≡ l.book ++ links_of l.clocks (items_view (drop l.item-index l.items));
+  walked : links_faults l.hosts 1 [] (items_view l.items) ≡ links_faults l.hosts (l.index + 1) l.book (items_view (drop l.item-index l.items));
+  linked : links_of l.hosts (items_view l.items) ≡ l.book ++ links_of l.hosts (items_view (drop l.item-index l.items));
   few : l.index ≤ 65536;
 }
