@@ -1,4 +1,3 @@
 mod OneOrder
 mod Agreeing
-mod Shown
 mod Texts

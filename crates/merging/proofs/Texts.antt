@@ -1,5 +1,5 @@
 -- A problem that is solved has one merge.
-use Rattle.std.proofs.Common.{◌≡◌, ◌≤◌, ◌+◌, ◌++◌, ℕ, suc, List, [], ◌∷◌, length, ℤ, pos, ◌≤ℤ◌, Option, slice_get, Result, Ok, Err, OnOk, option_map, refl, sym, ◌∙◌, ap, subst, arith, length-append, inl}
+use Rattle.std.proofs.Common.{◌≡◌, ◌≤◌, ◌+◌, ◌++◌, ℕ, suc, List, [], ◌∷◌, length, ℤ, pos, ◌≤ℤ◌, slice_get, option_map, refl, sym, ◌∙◌, ap, subst, arith, length-append, inl}
 use Rattle.std.proofs.lemmas.Int.{ints}
 use Rattle.std.proofs.lemmas.List.{length-map}
 use Rattle.std.proofs.lemmas.Option.{get_or_from_slice_get, slice_get-map}
@@ -20,8 +20,7 @@ use Rattle.report.specs.Merging.{IsMergeOrder}
 use Rattle.sync_graph.specs.Graph.{GraphLists}
 use Rattle.earliest.specs.Values.{Values}
 use Rattle.solver.specs.Solution.{IsSolved}
-use Rattle.queries.specs.declared.stop.Stop.{Stop}
-use Rattle.queries.specs.Replies.{AppendsSome, Replies}
+use Rattle.queries.specs.Replies.{Replies}
 use Rattle.merging.specs.Merged.{keys_from, IsMergeText}
 use Rattle.merging.specs.Writing.{IsTextBy, count_line, lines_of, times_by}
 use Rattle.merging.proofs.Agreeing.{Agree, keys_agree, lines_agree}
@@ -90,8 +89,3 @@ module _ (d : Declaration) (seen : List (List Seen)) (p : ProblemLists) (problem
           is = by.2 ∙ ap (λ (lines : List ℕ). count_line (length events) ++ lines) (lines_agree d (times_by e.values) x events by.0 agree);
         },
       )
-
--- what is written is of another kind too
-pub shown_as : (r : Result (Unit {0}) Stop) (A B : List ℕ → Type 0) (old new : Option (List ℕ)) → ((text : List ℕ) → A text → B text) → OnOk r (AppendsSome A old new) → OnOk r (AppendsSome B old new)
-shown_as (Ok v) A B old new f shown = (shown.0, f shown.0 shown.1, shown.2)
-shown_as (Err e) A B old new f shown = tt

@@ -8,6 +8,3 @@ mod merge;
 
 pub use laws::merges_are_one;
 pub use merge::write_merge;
-
-#[cfg(test)]
-mod tests;

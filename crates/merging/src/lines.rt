@@ -1,6 +1,6 @@
 // The lines of merged events.
-ghost use Rattle.std.specs.Prelude.{◌≡◌, ◌<◌, ◌≤◌, ◌++◌, true, All, length, OnOk, OnErr};
-ghost use Rattle.ports.specs.Content.{Rose, Appends};
+ghost use Rattle.std.specs.Prelude.{◌≡◌, ◌<◌, ◌≤◌, ◌++◌, true, All, length};
+ghost use Rattle.ports.specs.Content.{Writes};
 ghost use Rattle.decl.specs.Declaration.{IsDeclaration, declaration_of};
 ghost use Rattle.trace_event.specs.Seen.{seen_event};
 ghost use Rattle.traces.specs.Traces.{name_of};
@@ -10,9 +10,9 @@ ghost use Rattle.trace_problem.specs.Making.{AreEvents};
 ghost use Rattle.merging.specs.Merged.{line_at};
 ghost use Rattle.merging.specs.Writing.{count_line, lines_of, times_by};
 
-use cert::line::{Line, first_word, push_decimal};
 use decl::Decl;
 use earliest::Earliest;
+use line_words::line::{Line, first_word, push_decimal};
 use ports::{Failed, Sink, write_whole};
 use problem_model::Name;
 use report::write_merge_line;
@@ -49,9 +49,7 @@ fn write_event<O: Sink>(
 ) -> Result<(), Failed>
     requires declared { IsDeclaration (declaration_of decl.now) }
     requires label { event.now.id.label < length decl.now.labels.items }
-    ensures ok { OnOk result (Appends (O.written out.old) (O.written out.new) (merge_line value (name_of (declaration_of decl.now) event.now.id) (seen_event event.now.event.now).text)) }
-    ensures cause { OnErr result (Rose (O.faults out.old) (O.faults out.new)) }
-    ensures no_fall { O.faults out.old ≤ O.faults out.new }
+    ensures { Writes (merge_line value (name_of (declaration_of decl.now) event.now.id) (seen_event event.now.event.now).text) (O.told out.old) (O.told out.new) result }
 {
     let name = name_of(decl, event.id);
     write_merge_line(value, &name, text_of(event.event), out)
@@ -70,9 +68,7 @@ fn write_line_at<O: Sink>(
     requires solved { e.now.is_solved ≡ true }
     requires values { length events.now ≤ length e.now.values }
     requires inside { place < length events.now }
-    ensures ok { OnOk result (Appends (O.written out.old) (O.written out.new) (line_at (declaration_of decl.now) (times_by e.now.values) (placed_in events.now) place)) }
-    ensures cause { OnErr result (Rose (O.faults out.old) (O.faults out.new)) }
-    ensures no_fall { O.faults out.old ≤ O.faults out.new }
+    ensures { Writes (line_at (declaration_of decl.now) (times_by e.now.values) (placed_in events.now) place) (O.told out.old) (O.told out.new) result }
 {
     let event = &events[place as usize];
     write_event(decl, event, e.value(place), out)
@@ -91,9 +87,7 @@ fn write_lines<O: Sink>(
     requires solved { e.now.is_solved ≡ true }
     requires values { length events.now ≤ length e.now.values }
     requires inside { All (λ place. place < length events.now) order.now }
-    ensures ok { OnOk result (Appends (O.written out.old) (O.written out.new) (lines_of (declaration_of decl.now) (times_by e.now.values) (placed_in events.now) order.now)) }
-    ensures cause { OnErr result (Rose (O.faults out.old) (O.faults out.new)) }
-    ensures no_fall { O.faults out.old ≤ O.faults out.new }
+    ensures { Writes (lines_of (declaration_of decl.now) (times_by e.now.values) (placed_in events.now) order.now) (O.told out.old) (O.told out.new) result }
 {
     for place in order {
         write_line_at(decl, events, e, *place, out)?;
@@ -112,7 +106,8 @@ fn count_line(count: u64) -> Line
 }
 
 /// Writes how many events there are, and then the lines of the events at these places, with their real times by values that
-/// begin with theirs. It takes no memory, and fails only where the sink's count of faults rose, or stands at its last value.
+/// begin with theirs. It takes no memory. After `Failed`, which comes only where the sink's count of faults rose, or stands at
+/// its last value, some front of them is written.
 pub(crate) fn write_ordered<O: Sink>(
     decl: &Decl,
     events: &[PlacedEvent],
@@ -125,9 +120,7 @@ pub(crate) fn write_ordered<O: Sink>(
     requires solved { e.now.is_solved ≡ true }
     requires values { length events.now ≤ length e.now.values }
     requires inside { All (λ place. place < length events.now) order.now }
-    ensures ok { OnOk result (Appends (O.written out.old) (O.written out.new) (count_line (length events.now) ++ lines_of (declaration_of decl.now) (times_by e.now.values) (placed_in events.now) order.now)) }
-    ensures cause { OnErr result (Rose (O.faults out.old) (O.faults out.new)) }
-    ensures no_fall { O.faults out.old ≤ O.faults out.new }
+    ensures { Writes (count_line (length events.now) ++ lines_of (declaration_of decl.now) (times_by e.now.values) (placed_in events.now) order.now) (O.told out.old) (O.told out.new) result }
 {
     let line = count_line(events.len() as u64);
     write_whole(out, line.as_slice())?;

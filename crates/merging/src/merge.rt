@@ -1,6 +1,6 @@
 // All events, merged.
-ghost use Rattle.std.specs.Prelude.{◌≡◌, ◌≤◌, ◌^◌, true, length, OnOk, IsErrOf};
-ghost use Rattle.ports.specs.Content.{Rose};
+ghost use Rattle.std.specs.Prelude.{◌≡◌, ◌≤◌, ◌^◌, true, length};
+ghost use Rattle.ports.specs.Content.{WritesSuch};
 ghost use Rattle.solver.specs.Solution.{IsSolved, IsSolution};
 ghost use Rattle.decl.specs.Declaration.{IsDeclaration, declaration_of};
 ghost use Rattle.traces.specs.Traces.{event_count};
@@ -8,7 +8,7 @@ ghost use Rattle.traces.specs.Held.{placed_in, seen_in};
 ghost use Rattle.traces.specs.Messages.{problem_of_seen};
 ghost use Rattle.trace_problem.specs.Making.{AreEvents};
 ghost use Rattle.queries.specs.declared.stop.Stop.TheVariants as stops;
-ghost use Rattle.queries.specs.Replies.{Replies, AppendsSome};
+ghost use Rattle.queries.specs.Replies.{Replies};
 ghost use Rattle.merging.specs.Merged.{IsMergeText};
 ghost use Rattle.merging.specs.Writing.{IsTextBy, times_by};
 
@@ -37,9 +37,7 @@ fn write_merged<O: Sink>(
     requires events { AreEvents (declaration_of decl.now) (placed_in events.now) }
     requires solved { e.now.is_solved ≡ true }
     requires values { length events.now ≤ length e.now.values }
-    ensures merged { OnOk result (AppendsSome (IsTextBy (declaration_of decl.now) (times_by e.now.values) (placed_in events.now)) (O.written out.old) (O.written out.new)) }
-    ensures cause { IsErrOf result stops.WriteFault → Rose (O.faults out.old) (O.faults out.new) }
-    ensures no_fall { O.faults out.old ≤ O.faults out.new }
+    ensures { WritesSuch (IsTextBy (declaration_of decl.now) (times_by e.now.values) (placed_in events.now)) stops.WriteFault (O.told out.old) (O.told out.new) result }
 {
     let keys = keys_of(alloc, events, e)?;
     let order = merge_order(alloc, &keys)?;
@@ -62,9 +60,7 @@ fn write_events<O: Sink>(
     requires few { event_count (seen_in accepted.now) ≤ 2 ^ 20 }
     requires problem { p.now ≡ problem_of_seen (declaration_of decl.now) (seen_in accepted.now) }
     requires solved { IsSolved p.now g.now e.now }
-    ensures reply { OnOk result (AppendsSome (Replies p.now (IsMergeText (declaration_of decl.now) (seen_in accepted.now))) (O.written out.old) (O.written out.new)) }
-    ensures cause { IsErrOf result stops.WriteFault → Rose (O.faults out.old) (O.faults out.new) }
-    ensures no_fall { O.faults out.old ≤ O.faults out.new }
+    ensures { WritesSuch (Replies p.now (IsMergeText (declaration_of decl.now) (seen_in accepted.now))) stops.WriteFault (O.told out.old) (O.told out.new) result }
 {
     // It tells that the earliest execution is one.
     let _ = p.readings();
@@ -86,9 +82,7 @@ fn write_solution<O: Sink>(
     requires few { event_count (seen_in accepted.now) ≤ 2 ^ 20 }
     requires problem { p.now ≡ problem_of_seen (declaration_of decl.now) (seen_in accepted.now) }
     requires solution { IsSolution p.now solution.now }
-    ensures reply { OnOk result (AppendsSome (Replies p.now (IsMergeText (declaration_of decl.now) (seen_in accepted.now))) (O.written out.old) (O.written out.new)) }
-    ensures cause { IsErrOf result stops.WriteFault → Rose (O.faults out.old) (O.faults out.new) }
-    ensures no_fall { O.faults out.old ≤ O.faults out.new }
+    ensures { WritesSuch (Replies p.now (IsMergeText (declaration_of decl.now) (seen_in accepted.now))) stops.WriteFault (O.told out.old) (O.told out.new) result }
 {
     match solution {
         Solution::Execution(g, e) => write_events(alloc, decl, accepted, p, g, e, out),
@@ -104,7 +98,7 @@ fn write_solution<O: Sink>(
 /// the problem has no execution, it writes the certificate of a contradiction.
 ///
 /// `Memory` is answered for want of memory. `WriteFault` is answered only where the sink's count of faults rose, or stands at
-/// its last value; some front of the reply may then be written.
+/// its last value; a front of such a reply is then written.
 pub fn write_merge<O: Sink>(
     alloc: Global,
     decl: &Decl,
@@ -116,9 +110,7 @@ pub fn write_merge<O: Sink>(
     requires labels { length accepted.now ≡ length decl.now.labels.items }
     requires few { event_count (seen_in accepted.now) ≤ 2 ^ 20 }
     requires problem { p.now ≡ problem_of_seen (declaration_of decl.now) (seen_in accepted.now) }
-    ensures reply { OnOk result (AppendsSome (Replies p.now (IsMergeText (declaration_of decl.now) (seen_in accepted.now))) (O.written out.old) (O.written out.new)) }
-    ensures cause { IsErrOf result stops.WriteFault → Rose (O.faults out.old) (O.faults out.new) }
-    ensures no_fall { O.faults out.old ≤ O.faults out.new }
+    ensures { WritesSuch (Replies p.now (IsMergeText (declaration_of decl.now) (seen_in accepted.now))) stops.WriteFault (O.told out.old) (O.told out.new) result }
 {
     let solution = solve(alloc, p)?;
     write_solution(alloc, decl, accepted, p, &solution, out)

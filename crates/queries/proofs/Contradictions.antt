@@ -1,8 +1,6 @@
 -- The certificate of a contradiction shows it.
 use Rattle.std.proofs.Common.{◌≡◌, List, [], ◌∷◌, map, refl, sym, ◌∙◌, ap, subst, arith}
-use Rattle.std.specs.Prelude.{All, ℕ, Option, Result, Ok, Err, OnOk}
-use Rattle.ports.specs.Content.{Appends}
-use Rattle.ports.specs.declared.failed.Failed.{Failed}
+use Rattle.std.specs.Prelude.{All}
 use Rattle.std.proofs.lemmas.List.{length-map}
 use Rattle.std.proofs.lemmas.List.Elements.{All-nil, All-cons}
 use Rattle.problem_model.specs.declared.items.Node.{Node}
@@ -12,10 +10,10 @@ use Rattle.difference_bounds.specs.Solutions.{Leads, IsContradictionOf}
 use Rattle.sync_graph.specs.declared.arc.Arc.{Arc}
 use Rattle.cert.specs.declared.chain.Step.{Step}
 use Rattle.cert.specs.Listed.{IsNamed, listed_cycle}
-use Rattle.cert.specs.CertificateText.{listing_of}
+use Rattle.problem.specs.Listing.{listing_of}
 use Rattle.cert.proofs.OwnListing.{is_named, cycle_is}
 use Rattle.solver.specs.Solution.{steps_of, HasContradiction}
-use Rattle.queries.specs.Replies.{IsContradictionText, AppendsSome}
+use Rattle.queries.specs.Replies.{IsContradictionText}
 
 abbrev as_step : Arc → Step
 as_step a = record { bound = a.name; weight = a.weight }
@@ -44,8 +42,3 @@ module _ (p : ProblemLists) (readings : List Reading) (are : AreReadings p readi
     (let short = has.short readings are in omega (arith, short, length-map arcs as_step)),
     ap (listed_cycle (listing_of p)) (sym (as_weighed arcs)) ∙ cycle_is p readings (map as_step arcs),
   )
-
--- the text that was written is of this kind
-pub shown : (r : Result (Unit {0}) Failed) (Shows : List ℕ → Type 0) (old new : Option (List ℕ)) (text : List ℕ) → Shows text → OnOk r (Appends old new text) → OnOk r (AppendsSome Shows old new)
-shown (Ok v) Shows old new text shows appended = (text, shows, appended)
-shown (Err e) Shows old new text shows appended = tt

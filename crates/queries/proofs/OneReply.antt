@@ -27,23 +27,23 @@ not_same_turned : (a b : ℤ) → b <ℤ a → a ≡ b → ⊥
 not_same_turned a b gt same = omega (arith, ints)
 
 -- ---- orders
-pub one_order : (p : ProblemLists) (from to : Node) (x : Times) → IsExecution p x → (a b : Order) → IsOrderOf p from to a → IsOrderOf p from to b → a ≡ b
-one_order p from to x e Before Before one two = refl
-one_order p from to x e Before After one two = absurd (apart (x from) (x to) (one x e) (two x e))
-one_order p from to x e Before Same one two = absurd (not_same (x from) (x to) (one x e) (two x e))
-one_order p from to x e Before Undecided one two = absurd (two.0 one)
-one_order p from to x e After Before one two = absurd (apart (x from) (x to) (two x e) (one x e))
-one_order p from to x e After After one two = refl
-one_order p from to x e After Same one two = absurd (not_same_turned (x from) (x to) (one x e) (two x e))
-one_order p from to x e After Undecided one two = absurd (two.1 one)
-one_order p from to x e Same Before one two = absurd (not_same (x from) (x to) (two x e) (one x e))
-one_order p from to x e Same After one two = absurd (not_same_turned (x from) (x to) (two x e) (one x e))
-one_order p from to x e Same Same one two = refl
-one_order p from to x e Same Undecided one two = absurd (two.2 one)
-one_order p from to x e Undecided Before one two = absurd (one.0 two)
-one_order p from to x e Undecided After one two = absurd (one.1 two)
-one_order p from to x e Undecided Same one two = absurd (one.2 two)
-one_order p from to x e Undecided Undecided one two = refl
+pub one_order : (p : ProblemLists) (first second : Node) (x : Times) → IsExecution p x → (a b : Order) → IsOrderOf p first second a → IsOrderOf p first second b → a ≡ b
+one_order p first second x e Before Before one two = refl
+one_order p first second x e Before After one two = absurd (apart (x first) (x second) (one x e) (two x e))
+one_order p first second x e Before Same one two = absurd (not_same (x first) (x second) (one x e) (two x e))
+one_order p first second x e Before Undecided one two = absurd (two.0 one)
+one_order p first second x e After Before one two = absurd (apart (x first) (x second) (two x e) (one x e))
+one_order p first second x e After After one two = refl
+one_order p first second x e After Same one two = absurd (not_same_turned (x first) (x second) (one x e) (two x e))
+one_order p first second x e After Undecided one two = absurd (two.1 one)
+one_order p first second x e Same Before one two = absurd (not_same (x first) (x second) (two x e) (one x e))
+one_order p first second x e Same After one two = absurd (not_same_turned (x first) (x second) (two x e) (one x e))
+one_order p first second x e Same Same one two = refl
+one_order p first second x e Same Undecided one two = absurd (two.2 one)
+one_order p first second x e Undecided Before one two = absurd (one.0 two)
+one_order p first second x e Undecided After one two = absurd (one.1 two)
+one_order p first second x e Undecided Same one two = absurd (one.2 two)
+one_order p first second x e Undecided Undecided one two = refl
 
 -- ---- lines
 abbrev ends_words : List ℕ → End → End → List ℕ
@@ -56,17 +56,17 @@ one_line p time first e f are are' =
     let greatest : e.greatest ≡ f.greatest = one_greatest p time e.greatest f.greatest are.above are'.above in
     ap (λ (end : End). ends_words first end e.greatest) least ∙ ap (ends_words first f.least) greatest
 
-pub one_interval : (p : ProblemLists) (from to : ℕ) (a b : List ℕ) → IsIntervalLine p from to a → IsIntervalLine p from to b → a ≡ b
-one_interval p from to a b (e, are, is) (f, are', is') =
-    is ∙ one_line p (difference (nodes.Event from) (nodes.Event to)) (codes "interval") e f are are' ∙ sym is'
+pub one_interval : (p : ProblemLists) (first second : ℕ) (a b : List ℕ) → IsIntervalLine p first second a → IsIntervalLine p first second b → a ≡ b
+one_interval p first second a b (e, are, is) (f, are', is') =
+    is ∙ one_line p (difference (nodes.Event first) (nodes.Event second)) (codes "interval") e f are are' ∙ sym is'
 
 pub one_time_line : (p : ProblemLists) (clock event : ℕ) (a b : List ℕ) → HasReading p clock → IsTimeLine p clock event a → IsTimeLine p clock event b → a ≡ b
 one_time_line p clock event a b (stamp, reads) (e, each, is) (f, each', is') =
     is ∙ one_line p (time_by clock stamp (nodes.Event event)) (codes "time") e f (each stamp reads) (each' stamp reads) ∙ sym is'
 
-pub one_order_line : (p : ProblemLists) (from to : ℕ) (a b : List ℕ) → ((x : Times) × IsExecution p x) → IsOrderLine p from to a → IsOrderLine p from to b → a ≡ b
-one_order_line p from to a b (x, execution) (o, one, is) (o', one', is') =
-    is ∙ ap (λ (order : Order). line_of (codes "order" ∷ order_word order ∷ [])) (one_order p (nodes.Event from) (nodes.Event to) x execution o o' one one') ∙ sym is'
+pub one_order_line : (p : ProblemLists) (first second : ℕ) (a b : List ℕ) → ((x : Times) × IsExecution p x) → IsOrderLine p first second a → IsOrderLine p first second b → a ≡ b
+one_order_line p first second a b (x, execution) (o, one, is) (o', one', is') =
+    is ∙ ap (λ (order : Order). line_of (codes "order" ∷ order_word order ∷ [])) (one_order p (nodes.Event first) (nodes.Event second) x execution o o' one one') ∙ sym is'
 
 -- ---- replies
 pub reply_says : (p : ProblemLists) (Says : List ℕ → Type 0) (text : List ℕ) → ((x : Times) × IsExecution p x) → Replies p Says text → Says text

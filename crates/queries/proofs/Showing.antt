@@ -14,11 +14,11 @@ use Rattle.intervals.proofs.Times.{ends_are}
 use Rattle.queries.specs.Words.{end_word, order_word}
 use Rattle.queries.specs.Replies.{IsIntervalLine, IsOrderLine}
 
-module _ (p : ProblemLists) (from to : ℕ) (pair : Pair) (is : IsPairOf p (nodes.Event from) (nodes.Event to) pair) (ends : Ends) (ends_is : ends ≡ ends_of pair) (text : List ℕ) where
-  pub interval_shows : text ≡ line_of (codes "interval" ∷ end_word (codes "-inf") ends.least ∷ end_word (codes "+inf") ends.greatest ∷ []) → IsIntervalLine p from to text
-  interval_shows line = (ends, rw ends_is (ends_are p (nodes.Event from) (nodes.Event to) pair is), line)
+module _ (p : ProblemLists) (first second : ℕ) (pair : Pair) (is : IsPairOf p (nodes.Event first) (nodes.Event second) pair) (ends : Ends) (ends_is : ends ≡ ends_of pair) (text : List ℕ) where
+  pub interval_shows : text ≡ line_of (codes "interval" ∷ end_word (codes "-inf") ends.least ∷ end_word (codes "+inf") ends.greatest ∷ []) → IsIntervalLine p first second text
+  interval_shows line = (ends, rw ends_is (ends_are p (nodes.Event first) (nodes.Event second) pair is), line)
 
-  pub order_shows : (order : Order) → IsOrder ends order → text ≡ line_of (codes "order" ∷ order_word order ∷ []) → IsOrderLine p from to text
+  pub order_shows : (order : Order) → IsOrder ends order → text ≡ line_of (codes "order" ∷ order_word order ∷ []) → IsOrderLine p first second text
   order_shows order ordered line =
       let ordered' : IsOrder (ends_of pair) order = subst (λ (e : Ends). IsOrder e order) ends_is ordered in
-      (order, (orders p (nodes.Event from) (nodes.Event to) pair is order).0 ordered', line)
+      (order, (orders p (nodes.Event first) (nodes.Event second) pair is order).0 ordered', line)

@@ -1,7 +1,6 @@
 -- What is written of two events of a problem.
-use Rattle.std.specs.Prelude.{◌≡◌, ◌⊎◌, ◌≤◌, ℕ, List, [], ◌∷◌, length, map, Option, codes}
+use Rattle.std.specs.Prelude.{◌≡◌, ◌⊎◌, ◌≤◌, ℕ, List, [], ◌∷◌, length, map, codes}
 use Rattle.line_format.specs.Words.{line_of}
-use Rattle.ports.specs.Content.{Appends}
 use Rattle.problem_model.specs.declared.items.Node.TheVariants as nodes
 use Rattle.problem_model.specs.Problem.{ProblemLists}
 use Rattle.problem_model.specs.Bounds.{Times, IsExecution, IsReading}
@@ -21,12 +20,12 @@ use Rattle.queries.specs.Words.{end_word, order_word}
 
 -- the line has the least and the greatest difference from one event to another over all executions
 abbrev pub IsIntervalLine : ProblemLists → ℕ → ℕ → List ℕ → Type 0
-IsIntervalLine p from to text = (e : Ends) × AreEndsOf p (difference (nodes.Event from) (nodes.Event to)) e
+IsIntervalLine p first second text = (e : Ends) × AreEndsOf p (difference (nodes.Event first) (nodes.Event second)) e
     × (text ≡ line_of (codes "interval" ∷ end_word (codes "-inf") e.least ∷ end_word (codes "+inf") e.greatest ∷ []))
 
 -- the line has the order of two events in every execution
 abbrev pub IsOrderLine : ProblemLists → ℕ → ℕ → List ℕ → Type 0
-IsOrderLine p from to text = (order : Order) × IsOrderOf p (nodes.Event from) (nodes.Event to) order
+IsOrderLine p first second text = (order : Order) × IsOrderOf p (nodes.Event first) (nodes.Event second) order
     × (text ≡ line_of (codes "order" ∷ order_word order ∷ []))
 
 -- the clock has a reading
@@ -41,7 +40,7 @@ IsTimeLine p clock event text = (e : Ends) × ((stamp : ℕ) → IsReading p clo
 -- the text is the certificate of both ends of the difference from one event to another, with the executions that attain
 -- them and the cuts that show that there is none
 abbrev pub IsProofText : ProblemLists → ℕ → ℕ → List ℕ → Type 0
-IsProofText p from to text = (readings : List Reading) × AreReadings p readings × IsTightText p readings from to text
+IsProofText p first second text = (readings : List Reading) × AreReadings p readings × IsTightText p readings first second text
 
 -- the line says what is asked of two events
 abbrev pub IsLineOf : Asked → ProblemLists → ℕ → ℕ → List ℕ → Type 0
@@ -50,7 +49,7 @@ IsLineOf asked.Order = IsOrderLine
 
 -- the line answers the question
 abbrev pub IsAnswer : ProblemLists → Question → List ℕ → Type 0
-IsAnswer p question = IsLineOf question.asked p question.from question.to
+IsAnswer p question = IsLineOf question.asked p question.first question.second
 
 -- no real times obey the bounds, and the text is the certificate of a contradiction of at most as many steps as nodes
 abbrev pub IsContradictionText : ProblemLists → List ℕ → Type 0
@@ -62,7 +61,3 @@ IsContradictionText p text = (steps : List Step) × (readings : List Reading) ×
 -- a line that says so where some execution obeys the bounds, else the certificate of a contradiction
 abbrev pub Replies : ProblemLists → (List ℕ → Type 0) → List ℕ → Type 0
 Replies p Says text = (((x : Times) × IsExecution p x) × Says text) ⊎ IsContradictionText p text
-
--- a text of this kind is appended
-abbrev pub AppendsSome : (List ℕ → Type 0) → Option (List ℕ) → Option (List ℕ) → Type 0
-AppendsSome Shows old new = (text : List ℕ) × Shows text × Appends old new text

@@ -19,6 +19,3 @@ pub use prove::write_proof;
 pub use reply::{write_interval, write_order};
 pub use stop::Stop;
 pub use time::{reading_of, write_time};
-
-#[cfg(test)]
-mod tests;

@@ -9,8 +9,8 @@ ghost use Rattle.queries.specs.Words.{end_word, order_word};
 ghost use Rattle.queries.specs.Replies.{IsLineOf};
 
 use crate::question::Asked;
-use cert::line::{Line, first_word, push_ns, push_word};
 use intervals::{End, Ends, Order, ends_from, order_of};
+use line_words::line::{Line, first_word, push_ns, push_word};
 use row_pool::Pair;
 
 // Appends the word of an end.
@@ -79,7 +79,7 @@ fn order_line(order: Order) -> Line
 /// 1e-9 ns.
 pub fn line_for(asked: Asked, pair: Pair) -> Line
     requires { FitsPair pair }
-    ensures { (p : ProblemLists) (from to : ℕ) → IsPairOf p (nodes.Event from) (nodes.Event to) pair → IsLineOf asked p from to result.items }
+    ensures { (p : ProblemLists) (first second : ℕ) → IsPairOf p (nodes.Event first) (nodes.Event second) pair → IsLineOf asked p first second result.items }
 {
     let ends = ends_from(pair);
     match asked {

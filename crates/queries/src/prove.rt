@@ -1,9 +1,9 @@
 // The certificate of the interval of two events.
-ghost use Rattle.std.specs.Prelude.{◌<◌, ◌≤◌, length, OnOk, IsErrOf};
-ghost use Rattle.ports.specs.Content.{Rose};
+ghost use Rattle.std.specs.Prelude.{◌<◌, length};
+ghost use Rattle.ports.specs.Content.{WritesSuch};
 ghost use Rattle.solver.specs.Solution.{IsSolved, IsSolution};
 ghost use Rattle.queries.specs.declared.stop.Stop.TheVariants as stops;
-ghost use Rattle.queries.specs.Replies.{IsProofText, Replies, AppendsSome};
+ghost use Rattle.queries.specs.Replies.{IsProofText, Replies};
 
 use crate::contradiction::write_contradiction;
 use crate::stop::Stop;
@@ -22,23 +22,21 @@ fn write_answer<O: Sink>(
     p: &Problem,
     g: &Graph,
     e: &Earliest,
-    from: u32,
-    to: u32,
+    first: u32,
+    second: u32,
     out: &mut O,
 ) -> Result<(), Stop>
     requires solved { IsSolved p.now g.now e.now }
-    requires from { from < length p.now.events }
-    requires to { to < length p.now.events }
-    ensures reply { OnOk result (AppendsSome (Replies p.now (IsProofText p.now from to)) (O.written out.old) (O.written out.new)) }
-    ensures cause { IsErrOf result stops.WriteFault → Rose (O.faults out.old) (O.faults out.new) }
-    ensures no_fall { O.faults out.old ≤ O.faults out.new }
+    requires first { first < length p.now.events }
+    requires second { second < length p.now.events }
+    ensures { WritesSuch (Replies p.now (IsProofText p.now first second)) stops.WriteFault (O.told out.old) (O.told out.new) result }
 {
     // They tell that the graph stands for the problem as it lists itself.
     let _ = p.events();
     let _ = p.readings();
     g.exact();
-    let rows = rows_of(alloc, p, g, e, from)?;
-    write_ends(p, g, e, &rows.from, &rows.to, from, to, out)?;
+    let rows = rows_of(alloc, p, g, e, first)?;
+    write_ends(p, g, e, &rows.from, &rows.to, first, second, out)?;
     Ok(())
 }
 
@@ -47,19 +45,17 @@ fn write_solution<O: Sink>(
     alloc: Global,
     p: &Problem,
     solution: &Solution,
-    from: u32,
-    to: u32,
+    first: u32,
+    second: u32,
     out: &mut O,
 ) -> Result<(), Stop>
     requires solution { IsSolution p.now solution.now }
-    requires from { from < length p.now.events }
-    requires to { to < length p.now.events }
-    ensures reply { OnOk result (AppendsSome (Replies p.now (IsProofText p.now from to)) (O.written out.old) (O.written out.new)) }
-    ensures cause { IsErrOf result stops.WriteFault → Rose (O.faults out.old) (O.faults out.new) }
-    ensures no_fall { O.faults out.old ≤ O.faults out.new }
+    requires first { first < length p.now.events }
+    requires second { second < length p.now.events }
+    ensures { WritesSuch (Replies p.now (IsProofText p.now first second)) stops.WriteFault (O.told out.old) (O.told out.new) result }
 {
     match solution {
-        Solution::Execution(g, e) => write_answer(alloc, p, g, e, from, to, out),
+        Solution::Execution(g, e) => write_answer(alloc, p, g, e, first, second, out),
         Solution::Contradiction(steps) => {
             write_contradiction(p, steps, out)?;
             Ok(())
@@ -73,20 +69,18 @@ fn write_solution<O: Sink>(
 /// counted from 0.
 ///
 /// `Memory` is answered for want of memory. `WriteFault` is answered only where the sink's count of faults rose, or stands at
-/// its last value; some front of the reply may then be written.
+/// its last value; a front of such a reply is then written.
 pub fn write_proof<O: Sink>(
     alloc: Global,
     p: &Problem,
-    from: u32,
-    to: u32,
+    first: u32,
+    second: u32,
     out: &mut O,
 ) -> Result<(), Stop>
-    requires from { from < length p.now.events }
-    requires to { to < length p.now.events }
-    ensures reply { OnOk result (AppendsSome (Replies p.now (IsProofText p.now from to)) (O.written out.old) (O.written out.new)) }
-    ensures cause { IsErrOf result stops.WriteFault → Rose (O.faults out.old) (O.faults out.new) }
-    ensures no_fall { O.faults out.old ≤ O.faults out.new }
+    requires first { first < length p.now.events }
+    requires second { second < length p.now.events }
+    ensures { WritesSuch (Replies p.now (IsProofText p.now first second)) stops.WriteFault (O.told out.old) (O.told out.new) result }
 {
     let solution = solve(alloc, p)?;
-    write_solution(alloc, p, &solution, from, to, out)
+    write_solution(alloc, p, &solution, first, second, out)
 }

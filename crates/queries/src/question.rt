@@ -15,7 +15,7 @@ pub struct Question {
     /// What is asked.
     pub asked: Asked,
     /// The event that the difference is taken from.
-    pub from: u32,
+    pub first: u32,
     /// The event that it leads to.
-    pub to: u32,
+    pub second: u32,
 }

@@ -1,9 +1,9 @@
 // The interval or the order of two events, or a contradiction.
-ghost use Rattle.std.specs.Prelude.{◌<◌, ◌≤◌, length, OnOk, IsErrOf};
-ghost use Rattle.ports.specs.Content.{Rose};
+ghost use Rattle.std.specs.Prelude.{◌<◌, length};
+ghost use Rattle.ports.specs.Content.{WritesSuch};
 ghost use Rattle.solver.specs.Solution.{IsSolved, IsSolution};
 ghost use Rattle.queries.specs.declared.stop.Stop.TheVariants as stops;
-ghost use Rattle.queries.specs.Replies.{IsIntervalLine, IsOrderLine, IsAnswer, Replies, AppendsSome};
+ghost use Rattle.queries.specs.Replies.{IsIntervalLine, IsOrderLine, IsAnswer, Replies};
 
 use crate::contradiction::write_contradiction;
 use crate::lines::line_for;
@@ -27,15 +27,13 @@ fn write_answer<O: Sink>(
     out: &mut O,
 ) -> Result<(), Stop>
     requires solved { IsSolved p.now g.now e.now }
-    requires from { question.from < length p.now.events }
-    requires to { question.to < length p.now.events }
-    ensures reply { OnOk result (AppendsSome (Replies p.now (IsAnswer p.now question)) (O.written out.old) (O.written out.new)) }
-    ensures cause { IsErrOf result stops.WriteFault → Rose (O.faults out.old) (O.faults out.new) }
-    ensures no_fall { O.faults out.old ≤ O.faults out.new }
+    requires first { question.first < length p.now.events }
+    requires second { question.second < length p.now.events }
+    ensures { WritesSuch (Replies p.now (IsAnswer p.now question)) stops.WriteFault (O.told out.old) (O.told out.new) result }
 {
     // It tells that the earliest execution is one.
     let _ = p.readings();
-    let pair = pair_of(alloc, p, g, e, question.from, question.to)?;
+    let pair = pair_of(alloc, p, g, e, question.first, question.second)?;
     let line = line_for(question.asked, pair);
     write_whole(out, line.as_slice())?;
     Ok(())
@@ -50,11 +48,9 @@ fn write_solution<O: Sink>(
     out: &mut O,
 ) -> Result<(), Stop>
     requires solution { IsSolution p.now solution.now }
-    requires from { question.from < length p.now.events }
-    requires to { question.to < length p.now.events }
-    ensures reply { OnOk result (AppendsSome (Replies p.now (IsAnswer p.now question)) (O.written out.old) (O.written out.new)) }
-    ensures cause { IsErrOf result stops.WriteFault → Rose (O.faults out.old) (O.faults out.new) }
-    ensures no_fall { O.faults out.old ≤ O.faults out.new }
+    requires first { question.first < length p.now.events }
+    requires second { question.second < length p.now.events }
+    ensures { WritesSuch (Replies p.now (IsAnswer p.now question)) stops.WriteFault (O.told out.old) (O.told out.new) result }
 {
     match solution {
         Solution::Execution(g, e) => write_answer(alloc, p, g, e, question, out),
@@ -72,11 +68,9 @@ fn write_reply<O: Sink>(
     question: Question,
     out: &mut O,
 ) -> Result<(), Stop>
-    requires from { question.from < length p.now.events }
-    requires to { question.to < length p.now.events }
-    ensures reply { OnOk result (AppendsSome (Replies p.now (IsAnswer p.now question)) (O.written out.old) (O.written out.new)) }
-    ensures cause { IsErrOf result stops.WriteFault → Rose (O.faults out.old) (O.faults out.new) }
-    ensures no_fall { O.faults out.old ≤ O.faults out.new }
+    requires first { question.first < length p.now.events }
+    requires second { question.second < length p.now.events }
+    ensures { WritesSuch (Replies p.now (IsAnswer p.now question)) stops.WriteFault (O.told out.old) (O.told out.new) result }
 {
     let solution = solve(alloc, p)?;
     write_solution(alloc, p, &solution, question, out)
@@ -86,44 +80,58 @@ fn write_reply<O: Sink>(
 /// `interval LEAST GREATEST`, with `-inf` and `+inf` where there is none; or the certificate of a contradiction where
 /// there is no execution. Events are given by their places in the problem, counted from 0.
 ///
-/// `Memory` is answered for want of memory. `WriteFault` is answered only where the sink's count
-/// of faults rose, or stands at its last value; some front of the reply may then be written.
+/// `Memory` is answered for want of memory. `WriteFault` is answered only where the sink's count of faults rose, or stands at
+/// its last value; a front of such a reply is then written.
 pub fn write_interval<O: Sink>(
     alloc: Global,
     p: &Problem,
-    from: u32,
-    to: u32,
+    first: u32,
+    second: u32,
     out: &mut O,
 ) -> Result<(), Stop>
-    requires from { from < length p.now.events }
-    requires to { to < length p.now.events }
-    ensures reply { OnOk result (AppendsSome (Replies p.now (IsIntervalLine p.now from to)) (O.written out.old) (O.written out.new)) }
-    ensures cause { IsErrOf result stops.WriteFault → Rose (O.faults out.old) (O.faults out.new) }
-    ensures no_fall { O.faults out.old ≤ O.faults out.new }
+    requires first { first < length p.now.events }
+    requires second { second < length p.now.events }
+    ensures { WritesSuch (Replies p.now (IsIntervalLine p.now first second)) stops.WriteFault (O.told out.old) (O.told out.new) result }
 {
     let asked = Asked::Interval;
-    write_reply(alloc, p, Question { asked, from, to }, out)
+    write_reply(
+        alloc,
+        p,
+        Question {
+            asked,
+            first,
+            second,
+        },
+        out,
+    )
 }
 
 /// Writes the line of the order of two events in every execution, as `order WORD`: `before` where the first one always
 /// comes before the second, `after`, `same`, or `open` where none of these is so in every execution; or the certificate
 /// of a contradiction where there is no execution. Events are given by their places in the problem, counted from 0.
 ///
-/// `Memory` is answered for want of memory. `WriteFault` is answered only where the sink's count
-/// of faults rose, or stands at its last value; some front of the reply may then be written.
+/// `Memory` is answered for want of memory. `WriteFault` is answered only where the sink's count of faults rose, or stands at
+/// its last value; a front of such a reply is then written.
 pub fn write_order<O: Sink>(
     alloc: Global,
     p: &Problem,
-    from: u32,
-    to: u32,
+    first: u32,
+    second: u32,
     out: &mut O,
 ) -> Result<(), Stop>
-    requires from { from < length p.now.events }
-    requires to { to < length p.now.events }
-    ensures reply { OnOk result (AppendsSome (Replies p.now (IsOrderLine p.now from to)) (O.written out.old) (O.written out.new)) }
-    ensures cause { IsErrOf result stops.WriteFault → Rose (O.faults out.old) (O.faults out.new) }
-    ensures no_fall { O.faults out.old ≤ O.faults out.new }
+    requires first { first < length p.now.events }
+    requires second { second < length p.now.events }
+    ensures { WritesSuch (Replies p.now (IsOrderLine p.now first second)) stops.WriteFault (O.told out.old) (O.told out.new) result }
 {
     let asked = Asked::Order;
-    write_reply(alloc, p, Question { asked, from, to }, out)
+    write_reply(
+        alloc,
+        p,
+        Question {
+            asked,
+            first,
+            second,
+        },
+        out,
+    )
 }

@@ -1,11 +1,11 @@
 // The time of an event by a clock that keeps time.
-ghost use Rattle.std.specs.Prelude.{◌≡◌, ◌<◌, ◌≤◌, length, nat_eq, find, option_map, IfSome, IfNone, OnOk, IsErrOf};
-ghost use Rattle.ports.specs.Content.{Rose};
+ghost use Rattle.std.specs.Prelude.{◌≡◌, ◌<◌, length, nat_eq, find, option_map, IfSome, IfNone};
+ghost use Rattle.ports.specs.Content.{WritesSuch};
 ghost use Rattle.problem_model.specs.Bounds.{IsReading};
 ghost use Rattle.solver.specs.Solution.{IsSolved, IsSolution};
 ghost use Rattle.queries.specs.declared.stop.Stop.TheVariants as stops;
 ghost use Rattle.queries.specs.Clocks.{KeepsTime};
-ghost use Rattle.queries.specs.Replies.{HasReading, IsTimeLine, Replies, AppendsSome};
+ghost use Rattle.queries.specs.Replies.{HasReading, IsTimeLine, Replies};
 
 use crate::contradiction::write_contradiction;
 use crate::lines::time_line;
@@ -53,9 +53,7 @@ fn write_answer<O: Sink>(
     requires clock { KeepsTime p.now clock }
     requires reading { IsReading p.now clock stamp }
     requires event { event < length p.now.events }
-    ensures reply { OnOk result (AppendsSome (Replies p.now (IsTimeLine p.now clock event)) (O.written out.old) (O.written out.new)) }
-    ensures cause { IsErrOf result stops.WriteFault → Rose (O.faults out.old) (O.faults out.new) }
-    ensures no_fall { O.faults out.old ≤ O.faults out.new }
+    ensures { WritesSuch (Replies p.now (IsTimeLine p.now clock event)) stops.WriteFault (O.told out.old) (O.told out.new) result }
 {
     // It tells that the earliest execution is one.
     let _ = p.readings();
@@ -80,9 +78,7 @@ fn write_solution<O: Sink>(
     requires clock { KeepsTime p.now clock }
     requires reading { IsReading p.now clock stamp }
     requires event { event < length p.now.events }
-    ensures reply { OnOk result (AppendsSome (Replies p.now (IsTimeLine p.now clock event)) (O.written out.old) (O.written out.new)) }
-    ensures cause { IsErrOf result stops.WriteFault → Rose (O.faults out.old) (O.faults out.new) }
-    ensures no_fall { O.faults out.old ≤ O.faults out.new }
+    ensures { WritesSuch (Replies p.now (IsTimeLine p.now clock event)) stops.WriteFault (O.told out.old) (O.told out.new) result }
 {
     match solution {
         Solution::Execution(g, e) => write_answer(alloc, p, g, e, clock, stamp, event, out),
@@ -100,7 +96,7 @@ fn write_solution<O: Sink>(
 /// the problem, counted from 0.
 ///
 /// `Memory` is answered for want of memory. `WriteFault` is answered only where the sink's count of faults rose, or stands at
-/// its last value; some front of the reply may then be written.
+/// its last value; a front of such a reply is then written.
 pub fn write_time<O: Sink>(
     alloc: Global,
     p: &Problem,
@@ -112,9 +108,7 @@ pub fn write_time<O: Sink>(
     requires clock { KeepsTime p.now clock }
     requires reading { IsReading p.now clock stamp }
     requires event { event < length p.now.events }
-    ensures reply { OnOk result (AppendsSome (Replies p.now (IsTimeLine p.now clock event)) (O.written out.old) (O.written out.new)) }
-    ensures cause { IsErrOf result stops.WriteFault → Rose (O.faults out.old) (O.faults out.new) }
-    ensures no_fall { O.faults out.old ≤ O.faults out.new }
+    ensures { WritesSuch (Replies p.now (IsTimeLine p.now clock event)) stops.WriteFault (O.told out.old) (O.told out.new) result }
 {
     let solution = solve(alloc, p)?;
     write_solution(alloc, p, &solution, clock, stamp, event, out)

@@ -13,6 +13,3 @@ mod view;
 pub use line::report_line;
 pub use merge::{MergeKey, merge_order, write_merge_line};
 pub use view::{NamedGroup, NoKeys, View};
-
-#[cfg(test)]
-mod tests;

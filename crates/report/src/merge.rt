@@ -1,13 +1,13 @@
 // Events in one order, and the line of each.
-ghost use Rattle.std.specs.Prelude.{◌≡◌, ◌≤◌, ◌^◌, ◌∷◌, [], ◌++◌, length, slice_get, IfOk, OnOk, OnErr};
+ghost use Rattle.std.specs.Prelude.{◌≡◌, ◌≤◌, ◌^◌, ◌∷◌, [], ◌++◌, length, slice_get, IfOk};
 ghost use Rattle.std.specs.List.{range_with_len};
 ghost use Rattle.atto.specs.NsText.{ns_text};
 ghost use Rattle.line_format.specs.Words.{words};
-ghost use Rattle.ports.specs.Content.{Rose, Appends, AppendsPrefix};
+ghost use Rattle.ports.specs.Content.{Writes};
 ghost use Rattle.report.specs.Merging.{AreApart, IsMergeOrder, merge_line};
 
 use atto::{NsText, write_ns};
-use cert::line::{Line, first_word, push_word};
+use line_words::line::{Line, first_word, push_word};
 use ports::{Failed, Sink, write_whole};
 use problem_model::Name;
 use std::alloc::{AllocError, Global};
@@ -69,10 +69,7 @@ fn merge_head(value: i128, name: &Name) -> Line
 
 // Writes what stands before a text, the text, and a line feed.
 fn write_text<O: Sink>(head: &[u8], text: &[u8], out: &mut O) -> Result<(), Failed>
-    ensures ok { OnOk result (Appends (O.written out.old) (O.written out.new) (head.now ++ text.now ++ 10 ∷ [])) }
-    ensures err { OnErr result (AppendsPrefix (O.written out.old) (O.written out.new) (head.now ++ text.now ++ 10 ∷ [])) }
-    ensures cause { OnErr result (Rose (O.faults out.old) (O.faults out.new)) }
-    ensures no_fall { O.faults out.old ≤ O.faults out.new }
+    ensures { Writes (head.now ++ text.now ++ 10 ∷ []) (O.told out.old) (O.told out.new) result }
 {
     write_whole(out, head)?;
     write_whole(out, text)?;
@@ -90,10 +87,7 @@ pub fn write_merge_line<O: Sink>(
     text: &[u8],
     out: &mut O,
 ) -> Result<(), Failed>
-    ensures ok { OnOk result (Appends (O.written out.old) (O.written out.new) (merge_line value name.now text.now)) }
-    ensures err { OnErr result (AppendsPrefix (O.written out.old) (O.written out.new) (merge_line value name.now text.now)) }
-    ensures cause { OnErr result (Rose (O.faults out.old) (O.faults out.new)) }
-    ensures no_fall { O.faults out.old ≤ O.faults out.new }
+    ensures { Writes (merge_line value name.now text.now) (O.told out.old) (O.told out.new) result }
 {
     let mut line = merge_head(value, name);
     if text.is_empty() {

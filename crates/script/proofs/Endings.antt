@@ -1,27 +1,34 @@
 -- How a session over a script ends.
-use Rattle.std.proofs.Common.{◌≡◌, ℕ, ◌+◌, ◌^◌, ◌<◌, ◌≤◌, List, [], ◌∷◌, ◌++◌, length, take, Option, Some, Bool, true, false, refl, sym, ◌∙◌, ap, arith, append_assoc, append-nil, length-append}
+use Rattle.std.proofs.Common.{◌≡◌, ℕ, ◌+◌, ◌^◌, ◌<◌, ◌≤◌, List, [], ◌∷◌, ◌++◌, length, take, Option, Some, Bool, true, false, refl, sym, ◌∙◌, ap, subst, Result, Ok, Err, arith, append_assoc, length-append}
+use Rattle.std.specs.Prelude.{IfErr}
+use Rattle.ports.specs.Content.{Rose, Appends, AppendsPrefix}
+use Rattle.ports.specs.Files.{Keeps}
+use Rattle.ports.proofs.Appending.{rose_later}
 use Rattle.decl.specs.Declaration.{Declaration}
 use Rattle.line_reader.specs.Lines.{whole_lines, lines_of}
 use Rattle.line_reader.specs.Reader.{Reader, Came, Ends, NoneLeft}
 use Rattle.session.specs.Stands.{Held}
+use Rattle.queries.specs.declared.stop.Stop.{Stop}
+use Rattle.queries.specs.declared.stop.Stop.TheVariants as stops
 use Rattle.script.specs.declared.ended.Ended.{Ended}
 use Rattle.script.specs.declared.ended.Ended.TheVariants.{Done, ReadFault, Limit, WriteFault, Memory}
-use Rattle.script.specs.Script.{Told, OfScript, Replied, IsTaken, EndsSo}
-use Rattle.script.specs.Turns.{HasNoLine, FailsInLine, IsPastMost, HasNoReply}
+use Rattle.script.specs.Script.{Devices, OfScript, Replied, IsTaken, ScriptAnswered}
+use Rattle.script.specs.Stopping.{ended_of}
+use Rattle.script.specs.Turns.{AnswersLine, HasNoLine, FailsInLine, IsPastMost, HasNoReply}
 use Rattle.script.proofs.Scripts.{feeds, NoFeeds, whole_broken, lines_end, feeds_cut, take_front}
-use Rattle.script.proofs.Replies.{counted_later, rose_later}
-use Rattle.script.proofs.Places.{IsPlace, IsAt, of_script}
+use Rattle.script.proofs.Replies.{counted_later}
+use Rattle.script.proofs.Places.{IsPlace, IsAt, of_script, cut_at_line}
 
 -- what is written so far is the replies to the lines that are done
-replied : (d : Declaration) (old now now' : Told) (held : Held) (r : Reader) (script : List ℕ) (lines : List (List ℕ)) (here : IsAt d old now held r script) → lines ≡ here.done →
-    now'.written ≡ now.written → now.faults ≤ now'.faults → now.absences ≤ now'.absences → Replied d old now' lines []
-replied d old now now' held r script lines here is silent f_le a_le = record {
+replied : (d : Declaration) (old now now' : Devices) (held : Held) (r : Reader) (script : List ℕ) (lines : List (List ℕ)) (here : IsAt d old now held r script) → lines ≡ here.done →
+    now'.out.written ≡ now.out.written → Keeps now.files now'.files → Replied d old now' lines (Appends old.out.written now'.out.written)
+replied d old now now' held r script lines here is silent keeps = record {
   founds = here.founds;
   texts = here.texts;
   state = here.state;
   session = rw is here.session;
-  counted = counted_later here.founds _ _ _ _ _ _ here.counted f_le a_le;
-  written = rw (append-nil, silent) here.written;
+  counted = counted_later here.founds old.files now.files now'.files here.counted keeps;
+  written = rw silent here.written;
 }
 
 same_some : (x y : List ℕ) → Some x ≡ Some y → x ≡ y
@@ -48,16 +55,16 @@ lines_done script done rest false none place = ap lines_of (place.0 ∙ ap (feed
 few : (most taken : ℕ) (left script : List ℕ) → taken + length left ≡ length script → left ≡ [] → taken ≤ most → length script ≤ most
 few most taken left script count none within = omega (arith, count, ap length none, within)
 
-done_at : (d : Declaration) (old now now' : Told) (held : Held) (r r' : Reader) (script : List ℕ) → IsAt d old now held r script → HasNoLine r r' now now' →
-    now.faults ≤ now'.faults → now.absences ≤ now'.absences → (length script ≤ 2 ^ 30) × (now'.left ≡ Some []) × Replied d old now' (lines_of script) []
-done_at d old now now' held r r' script here turn f_le a_le =
-    let came : Came (Some here.left) now'.left turn.bytes = rw here.left_is at turn.counts.came in
-    let ends : Ends r (Some here.left) now'.left turn.bytes = rw here.left_is at turn.ends in
-    let none = none_left r script here.left now'.left turn.bytes here.done r.ended refl here.place came ends in
+done_at : (d : Declaration) (old now now' : Devices) (held : Held) (r r' : Reader) (script : List ℕ) → IsAt d old now held r script → HasNoLine r r' now now' →
+    Keeps now.files now'.files → (length script ≤ 2 ^ 30) × (now'.input.left ≡ Some []) × Replied d old now' (lines_of script) (Appends old.out.written now'.out.written)
+done_at d old now now' held r r' script here turn keeps =
+    let came : Came (Some here.left) now'.input.left turn.bytes = rw here.left_is at turn.counts.came in
+    let ends : Ends r (Some here.left) now'.input.left turn.bytes = rw here.left_is at turn.ends in
+    let none = none_left r script here.left now'.input.left turn.bytes here.done r.ended refl here.place came ends in
     let after : came.0 ≡ [] = tail_none turn.bytes came.0 (sym came.1 ∙ none.1) in (
       few (2 ^ 30) r.taken here.left script here.count none.1 here.within,
       came.2 ∙ ap Some after,
-      replied d old now now' held r script (lines_of script) here (lines_done script here.done (r.held ++ here.left) r.ended none.0 here.place) turn.silent f_le a_le,
+      replied d old now now' held r script (lines_of script) here (lines_done script here.done (r.held ++ here.left) r.ended none.0 here.place) turn.silent keeps,
     )
 
 -- where no last line was given, the script is the lines that are done, and the rest
@@ -74,10 +81,10 @@ length_taken : (front left more left' script : List ℕ) (taken : ℕ) → taken
 length_taken front left more left' script taken count cut is =
     omega (arith, count, ap length cut, ap length is, length-append more left', length-append front left')
 
-fault_at : (d : Declaration) (old now now' : Told) (held : Held) (r r' : Reader) (script : List ℕ) → IsAt d old now held r script → FailsInLine r r' now now' →
-    now.faults ≤ now'.faults → now.absences ≤ now'.absences → IsTaken d old now' [] script
-fault_at d old now now' held r r' script here turn f_le a_le =
-    let came : Came (Some here.left) now'.left turn.bytes = rw here.left_is at turn.counts.came in
+fault_at : (d : Declaration) (old now now' : Devices) (held : Held) (r r' : Reader) (script : List ℕ) → IsAt d old now held r script → FailsInLine r r' now now' →
+    Keeps now.files now'.files → IsTaken d old now' (Appends old.out.written now'.out.written) script
+fault_at d old now now' held r r' script here turn keeps =
+    let came : Came (Some here.left) now'.input.left turn.bytes = rw here.left_is at turn.counts.came in
     let place = open_place script here.done (r.held ++ here.left) r.ended turn.breaks.going here.place in
     let front = feeds here.done (r.held ++ turn.bytes) in
     let cut : script ≡ front ++ came.0 = cut_at script r.held here.left turn.bytes came.0 here.done place.0 came.1 in
@@ -88,7 +95,7 @@ fault_at d old now now' held r r' script here turn f_le a_le =
       is = cut;
       left = came.2;
       short = rw (long, ← turn.counts.counted) turn.counts.within;
-      replied = replied d old now now' held r script (whole_lines front) here (whole_broken here.done (r.held ++ turn.bytes) place.1 turn.breaks.part) turn.silent f_le a_le;
+      replied = replied d old now now' held r script (whole_lines front) here (whole_broken here.done (r.held ++ turn.bytes) place.1 turn.breaks.part) turn.silent keeps;
     }
 
 one_more : (bytes front left left' : List ℕ) (another : ℕ) → left ≡ bytes ++ left' → bytes ≡ front ++ another ∷ [] → left ≡ front ++ another ∷ left'
@@ -98,10 +105,10 @@ past : (most : ℕ) (script front back : List ℕ) (another : ℕ) → script �
 past most script front back another is long =
     (omega (arith, ap length is, length-append front (another ∷ back), long), rw is (take_front front (another ∷ back) most long))
 
-limit_at : (d : Declaration) (old now now' : Told) (held : Held) (r r' : Reader) (script : List ℕ) → IsAt d old now held r script → IsPastMost r r' now now' →
-    now.faults ≤ now'.faults → now.absences ≤ now'.absences → (2 ^ 30 < length script) × Replied d old now' (whole_lines (take (2 ^ 30) script)) []
-limit_at d old now now' held r r' script here turn f_le a_le =
-    let came : Came (Some here.left) now'.left turn.bytes = rw here.left_is at turn.came in
+limit_at : (d : Declaration) (old now now' : Devices) (held : Held) (r r' : Reader) (script : List ℕ) → IsAt d old now held r script → IsPastMost r r' now now' →
+    Keeps now.files now'.files → (2 ^ 30 < length script) × Replied d old now' (whole_lines (take (2 ^ 30) script)) (Appends old.out.written now'.out.written)
+limit_at d old now now' held r r' script here turn keeps =
+    let came : Came (Some here.left) now'.input.left turn.bytes = rw here.left_is at turn.came in
     let goes = turn.goes in
     let place = open_place script here.done (r.held ++ here.left) r.ended goes.broken.going here.place in
     let left_is : here.left ≡ goes.front ++ goes.another ∷ came.0 = one_more turn.bytes goes.front here.left came.0 goes.another came.1 goes.came_is in
@@ -111,18 +118,30 @@ limit_at d old now now' held r r' script here turn f_le a_le =
     let over = past (2 ^ 30) script front came.0 goes.another cut (long ∙ goes.most) in (
       over.0,
       replied d old now now' held r script (whole_lines (take (2 ^ 30) script)) here
-          (ap whole_lines over.1 ∙ whole_broken here.done (r.held ++ goes.front) place.1 goes.broken.part) turn.silent f_le a_le,
+          (ap whole_lines over.1 ∙ whole_broken here.done (r.held ++ goes.front) place.1 goes.broken.part) turn.silent keeps,
     )
 
 -- the script ends as its last turn says
-pub ends_so : (d : Declaration) (old now now' : Told) (held : Held) (r r' : Reader) (ended : Ended) → OfScript old.left (λ script. IsAt d old now held r script) →
-    HasNoReply r r' now now' ended → now.faults ≤ now'.faults → now.absences ≤ now'.absences → old.read_faults ≤ now.read_faults → old.write_faults ≤ now.write_faults →
-    EndsSo d old now' [] ended
-ends_so d old now now' held r r' Done here turn f_le a_le r_le w_le =
-    of_script old.left _ _ (λ script is. done_at d old now now' held r r' script is turn f_le a_le) here
-ends_so d old now now' held r r' ReadFault here turn f_le a_le r_le w_le =
-    (rose_later _ _ _ r_le turn.rose, of_script old.left _ _ (λ script is. fault_at d old now now' held r r' script is turn f_le a_le) here)
-ends_so d old now now' held r r' Limit here turn f_le a_le r_le w_le =
-    of_script old.left _ _ (λ script is. limit_at d old now now' held r r' script is turn f_le a_le) here
-ends_so d old now now' held r r' WriteFault here turn f_le a_le r_le w_le = rose_later _ _ _ w_le turn
-ends_so d old now now' held r r' Memory here turn f_le a_le r_le w_le = tt
+pub ends_so : (d : Declaration) (old now now' : Devices) (held held' : Held) (r r' : Reader) (ended : Ended) → OfScript old.input.left (λ script. IsAt d old now held r script) →
+    HasNoReply held held' r r' now now' ended → now.files.content ≡ old.files.content → Keeps now.files now'.files → old.input.faults ≤ now.input.faults → old.out.faults ≤ now.out.faults →
+    ScriptAnswered d old now' ended
+ends_so d old now now' held held' r r' Done here turn same keeps r_le w_le =
+    of_script old.input.left _ _ (λ script is. done_at d old now now' held r r' script is turn keeps) here
+ends_so d old now now' held held' r r' ReadFault here turn same keeps r_le w_le =
+    (rose_later _ _ _ r_le turn.rose, of_script old.input.left _ _ (λ script is. fault_at d old now now' held r r' script is turn keeps) here)
+ends_so d old now now' held held' r r' Limit here turn same keeps r_le w_le =
+    of_script old.input.left _ _ (λ script is. limit_at d old now now' held r r' script is turn keeps) here
+ends_so d old now now' held held' r r' WriteFault here turn same keeps r_le w_le =
+    (rose_later _ _ _ w_le turn.0, of_script old.input.left _ _ (λ script is. cut_at_line d old now now' held held' r r' script is same keeps turn.1) here)
+ends_so d old now now' held held' r r' Memory here turn same keeps r_le w_le = tt
+
+-- a session that stopped ends its script
+pub stopped : (h h' : Held) (r r' : Reader) (old new : Devices) (stop : Stop)
+    → (stop ≡ stops.WriteFault → Rose old.out.faults new.out.faults × AnswersLine h h' r r' old new (AppendsPrefix old.out.written new.out.written)) → HasNoReply h h' r r' old new (ended_of stop)
+stopped h h' r r' old new stops.WriteFault on = on refl
+stopped h h' r r' old new stops.Memory on = tt
+
+-- the end that a stop becomes where it is handed on
+pub handed_on : (r : Result (Unit {0}) Ended) (stop : Stop) (P : Ended → Type 0) → IfErr r (λ (e : Ended). e ≡ ended_of stop) → P (ended_of stop) → IfErr r P
+handed_on (Ok a) stop P is p = tt
+handed_on (Err e) stop P is p = subst P (sym is) p

@@ -1,19 +1,21 @@
 -- How far a session over a script is.
-use Rattle.std.proofs.Common.{◌≡◌, ◌↔◌, inl, inr, ℕ, ◌+◌, ◌^◌, ◌<◌, ◌≤◌, List, [], ◌∷◌, ◌++◌, length, Option, Some, None, Bool, true, false, refl, sym, ◌∙◌, ap, subst, arith, length-append, append_assoc}
+use Rattle.std.proofs.Common.{◌≡◌, ◌↔◌, inl, inr, ℕ, ◌+◌, ◌^◌, ◌<◌, ◌≤◌, List, [], ◌∷◌, ◌++◌, length, Option, Some, None, Bool, true, false, refl, sym, ◌∙◌, ap, subst, arith, length-append, append_assoc, append-nil}
 use Rattle.std.proofs.lemmas.Bool.{cases_lt}
 use Rattle.std.specs.List.{concat}
-use Rattle.ports.specs.Content.{Appends}
+use Rattle.ports.specs.Content.{Appends, AppendsPrefix}
+use Rattle.ports.specs.Files.{Content, Keeps}
+use Rattle.ports.proofs.Writing.{appends_then, appends_none, prefix_then}
 use Rattle.decl.specs.Declaration.{Declaration}
 use Rattle.line_reader.specs.Lines.{lines_of}
 use Rattle.line_reader.specs.Reader.{Reader, Came, IsFirst, Gives, fresh}
 use Rattle.line_reader.proofs.LinesOf.{gives_first}
 use Rattle.session.specs.Reply.{State, Found}
-use Rattle.session.specs.Sessions.{Session, AreCounted, start}
-use Rattle.session.specs.Stands.{Held, StandsFor, Stepped}
-use Rattle.script.specs.Script.{Told, OfScript}
+use Rattle.session.specs.Sessions.{Session, LineReply, AreCounted, start}
+use Rattle.session.specs.Stands.{Held, StandsFor}
+use Rattle.script.specs.Script.{Devices, OfScript, IsBegun}
 use Rattle.script.specs.Turns.{AnswersLine}
-use Rattle.script.proofs.Scripts.{feeds, NoFeeds, lines_last, feeds_more, none_more}
-use Rattle.script.proofs.Replies.{session_more, counted_more, counted_none, concat_more, appends_more, appends_nothing}
+use Rattle.script.proofs.Scripts.{feeds, NoFeeds, lines_feeds, lines_last, feeds_more, none_more}
+use Rattle.script.proofs.Replies.{session_more, counted_more, counted_none, concat_more}
 
 -- the lines that are done, and the rest of the script; or all lines are done
 abbrev pub IsPlace : List ℕ → List (List ℕ) → List ℕ → Bool → Type 0
@@ -21,22 +23,22 @@ IsPlace script done rest false = (script ≡ feeds done rest) × NoFeeds done
 IsPlace script done rest true = (lines_of script ≡ done) × (rest ≡ [])
 
 -- the lines that are done have their replies, and the session stands for what they added
-pub record IsAt (d : Declaration) (old now : Told) (held : Held) (r : Reader) (script : List ℕ) : Type 0 where
+pub record IsAt (d : Declaration) (old now : Devices) (held : Held) (r : Reader) (script : List ℕ) : Type 0 where
   pub done : List (List ℕ)
   pub founds : List Found
   pub texts : List (List ℕ)
   pub state : State
-  pub session : Session d old.files (start d) done founds texts state
+  pub session : Session d old.files.content (start d) done founds texts state
   pub stands : StandsFor held d state
-  pub counted : AreCounted founds old.faults now.faults old.absences now.absences
-  pub written : Appends old.written now.written (concat texts)
+  pub counted : AreCounted founds old.files now.files
+  pub written : Appends old.out.written now.out.written (concat texts)
   pub left : List ℕ
-  pub left_is : now.left ≡ Some left
+  pub left_is : now.input.left ≡ Some left
   pub place : IsPlace script done (r.held ++ left) r.ended
   pub count : r.taken + length left ≡ length script
   pub within : r.taken ≤ 2 ^ 30
 
-at_fresh : (d : Declaration) (t : Told) (held : Held) (script : List ℕ) → StandsFor held d (start d) → t.left ≡ Some script → IsAt d t t held fresh script
+at_fresh : (d : Declaration) (t : Devices) (held : Held) (script : List ℕ) → StandsFor held d (start d) → t.input.left ≡ Some script → IsAt d t t held fresh script
 at_fresh d t held script stands told = record {
   done = [];
   founds = [];
@@ -44,8 +46,8 @@ at_fresh d t held script stands told = record {
   state = start d;
   session = refl;
   stands = stands;
-  counted = counted_none t.faults t.absences;
-  written = appends_nothing t.written t.written refl;
+  counted = counted_none t.files;
+  written = appends_none t.out.written;
   left = script;
   left_is = told;
   place = (refl, tt);
@@ -53,7 +55,7 @@ at_fresh d t held script stands told = record {
   within = omega arith;
 }
 
-pub at_start : (d : Declaration) (t : Told) (held : Held) (r : Reader) (script : List ℕ) → r ≡ fresh → StandsFor held d (start d) → t.left ≡ Some script → IsAt d t t held r script
+pub at_start : (d : Declaration) (t : Devices) (held : Held) (r : Reader) (script : List ℕ) → r ≡ fresh → StandsFor held d (start d) → t.input.left ≡ Some script → IsAt d t t held r script
 at_start d t held r script is stands told = subst (λ (x : Reader). IsAt d t t held x script) (sym is) (at_fresh d t held script stands told)
 
 place_more : (script : List ℕ) (done : List (List ℕ)) (rest rest' line : List ℕ) (ended ended' : Bool) → ended ≡ false → IsPlace script done rest ended →
@@ -63,6 +65,11 @@ place_more script done rest rest' line false false going place first =
     (place.0 ∙ ap (feeds done) first.1 ∙ sym (feeds_more done line rest'), none_more done line place.1 first.0)
 place_more script done rest rest' line false true going place first =
     (ap lines_of (place.0 ∙ ap (feeds done) first.2) ∙ lines_last done line place.1 first.0 first.1, first.3)
+
+-- the lines of a script are those that are done and others
+lines_behind : (script : List ℕ) (done : List (List ℕ)) (rest : List ℕ) (ended : Bool) → IsPlace script done rest ended → (more : List (List ℕ)) × (lines_of script ≡ done ++ more)
+lines_behind script done rest false place = (lines_of rest, ap lines_of place.0 ∙ lines_feeds done rest place.1)
+lines_behind script done rest true place = ([], place.0 ∙ sym (append-nil done))
 
 same_some : (x y : List ℕ) → Some x ≡ Some y → x ≡ y
 same_some x y e = cc
@@ -79,31 +86,77 @@ count_on : (bytes left left' script : List ℕ) (taken taken' : ℕ) → taken +
     taken' + length left' ≡ length script
 count_on bytes left left' script taken taken' count cut counted = omega (arith, count, ap length cut, length-append bytes left', counted)
 
--- one more line has its reply
-pub at_more : (d : Declaration) (old now now' : Told) (held held' : Held) (r r' : Reader) (script : List ℕ) → IsAt d old now held r script → now.files ≡ old.files →
-    AnswersLine held held' r r' now now' → now.faults ≤ now'.faults → now.absences ≤ now'.absences → IsAt d old now' held' r' script
-at_more d old now now' held held' r r' script here same turn f_le a_le =
-    let line = turn.line in
-    let steps : Stepped old.files now.faults now'.faults now.absences now'.absences now.written now'.written held held' line = rw same at turn.stepped in
-    let step = steps d here.state here.stands in
-    let came : Came (Some here.left) now'.left turn.bytes = rw here.left_is at turn.counts.came in
-    let gives : Gives r r' (Some here.left) now'.left turn.bytes line = rw here.left_is at turn.gives in
-    record {
-      done = here.done ++ line ∷ [];
-      founds = here.founds ++ step.0 ∷ [];
-      texts = here.texts ++ step.1 ∷ [];
-      state = step.2;
-      session = session_more d old.files (start d) here.state step.2 here.done here.founds here.texts line step.1 step.0 here.session step.3;
-      stands = step.6;
-      counted = counted_more here.founds step.0 _ _ _ _ _ _ here.counted step.5 f_le a_le;
-      written = rw (concat_more here.texts step.1) (appends_more old.written now.written now'.written (concat here.texts) step.1 here.written step.4);
-      left = came.0;
-      left_is = came.2;
-      place = place_more script here.done (r.held ++ here.left) (r'.held ++ came.0) line r.ended r'.ended gives.going here.place
-          (given_first r r' here.left now'.left turn.bytes line came gives);
-      count = count_on turn.bytes here.left came.0 script r.taken r'.taken here.count came.1 turn.counts.counted;
-      within = turn.counts.within;
-    }
+-- one more line was taken off, and its reply stands written so
+module _ (d : Declaration) (old now now' : Devices) (held held' : Held) (r r' : Reader) (script : List ℕ) (here : IsAt d old now held r script)
+    (same : now.files.content ≡ old.files.content) (keeps : Keeps now.files now'.files) where
+  came_at : (bytes : List ℕ) → Came now.input.left now'.input.left bytes → Came (Some here.left) now'.input.left bytes
+  came_at bytes came = rw here.left_is at came
+
+  module _ (IsWritten : List ℕ → Type 0) (turn : AnswersLine held held' r r' now now' IsWritten) where
+    came_of : Came (Some here.left) now'.input.left turn.bytes
+    came_of = came_at turn.bytes turn.counts.came
+
+    place_of : IsPlace script (here.done ++ turn.line ∷ []) (r'.held ++ came_of.0) r'.ended
+    place_of =
+        let gives : Gives r r' (Some here.left) now'.input.left turn.bytes turn.line = rw here.left_is at turn.gives in
+        place_more script here.done (r.held ++ here.left) (r'.held ++ came_of.0) turn.line r.ended r'.ended gives.going here.place
+        (given_first r r' here.left now'.input.left turn.bytes turn.line came_of gives)
+
+    -- what is found at its path, its reply, and what the session then has
+    replied_of : (found : Found) × (text : List ℕ) × (s' : State) × LineReply d old.files.content here.state turn.line found text s'
+        × IsWritten text × AreCounted (found ∷ []) now.files now'.files × StandsFor held' d s'
+    replied_of =
+        let step = turn.stepped d here.state here.stands in
+        (step.0, step.1, step.2, subst (λ (content : Content). LineReply d content here.state turn.line step.0 step.1 step.2) same step.3, step.4, step.5, step.6)
+
+    session_of : Session d old.files.content (start d) (here.done ++ turn.line ∷ []) (here.founds ++ replied_of.0 ∷ []) (here.texts ++ replied_of.1 ∷ []) replied_of.2
+    session_of = session_more d old.files.content (start d) here.state replied_of.2 here.done here.founds here.texts turn.line replied_of.1 replied_of.0 here.session replied_of.3
+
+    counted_of : AreCounted (here.founds ++ replied_of.0 ∷ []) old.files now'.files
+    counted_of = counted_more here.founds replied_of.0 old.files now.files now'.files here.counted replied_of.5 keeps
+
+  -- all of it is written
+  pub at_more : AnswersLine held held' r r' now now' (Appends now.out.written now'.out.written) → IsAt d old now' held' r' script
+  at_more turn =
+      let Whole : List ℕ → Type 0 = Appends now.out.written now'.out.written in
+      let came = came_of Whole turn in
+      let replied = replied_of Whole turn in
+      record {
+        done = here.done ++ turn.line ∷ [];
+        founds = here.founds ++ replied.0 ∷ [];
+        texts = here.texts ++ replied.1 ∷ [];
+        state = replied.2;
+        session = session_of Whole turn;
+        stands = replied.6;
+        counted = counted_of Whole turn;
+        written = rw (concat_more here.texts replied.1) (appends_then old.out.written now.out.written now'.out.written (concat here.texts) replied.1 here.written replied.4);
+        left = came.0;
+        left_is = came.2;
+        place = place_of Whole turn;
+        count = count_on turn.bytes here.left came.0 script r.taken r'.taken here.count came.1 turn.counts.counted;
+        within = turn.counts.within;
+      }
+
+  -- a front of it is written
+  pub cut_at_line : AnswersLine held held' r r' now now' (AppendsPrefix now.out.written now'.out.written) → IsBegun d old now' (AppendsPrefix old.out.written now'.out.written) script
+  cut_at_line turn =
+      let Front : List ℕ → Type 0 = AppendsPrefix now.out.written now'.out.written in
+      let came = came_of Front turn in
+      let replied = replied_of Front turn in
+      let more = lines_behind script (here.done ++ turn.line ∷ []) (r'.held ++ came.0) r'.ended (place_of Front turn) in
+      record {
+        lines = here.done ++ turn.line ∷ [];
+        more = more.0;
+        are = more.1;
+        replied = record {
+          founds = here.founds ++ replied.0 ∷ [];
+          texts = here.texts ++ replied.1 ∷ [];
+          state = replied.2;
+          session = session_of Front turn;
+          counted = counted_of Front turn;
+          written = rw (concat_more here.texts replied.1) (prefix_then old.out.written now.out.written now'.out.written (concat here.texts) replied.1 here.written replied.4);
+        };
+      }
 
 -- facts of the script, one after the other
 pub of_script : (o : Option (List ℕ)) (P Q : List ℕ → Type 0) → ((script : List ℕ) → P script → Q script) → OfScript o P → OfScript o Q

@@ -18,7 +18,8 @@ whole_feeds : (done : List (List ℕ)) (rest : List ℕ) → NoFeeds done → wh
 whole_feeds [] rest none = refl
 whole_feeds (line ∷ done) rest none = whole_line line (feeds done rest) none.0 ∙ ap (λ ls. line ∷ ls) (whole_feeds done rest none.1)
 
-lines_feeds : (done : List (List ℕ)) (rest : List ℕ) → NoFeeds done → lines_of (feeds done rest) ≡ done ++ lines_of rest
+-- the lines of a script whose first lines are taken off
+pub lines_feeds : (done : List (List ℕ)) (rest : List ℕ) → NoFeeds done → lines_of (feeds done rest) ≡ done ++ lines_of rest
 lines_feeds [] rest none = refl
 lines_feeds (line ∷ done) rest none = first_line line (feeds done rest) none.0 ∙ ap (λ ls. line ∷ ls) (lines_feeds done rest none.1)
 

@@ -1,52 +1,52 @@
 -- One turn of a session over a script: a line is taken off and answered, or none is.
 use Rattle.std.specs.Prelude.{◌≡◌, ℕ, ◌+◌, ◌^◌, ◌≤◌, List, length}
-use Rattle.ports.specs.Content.{Rose}
+use Rattle.ports.specs.Content.{Rose, AppendsPrefix}
 use Rattle.line_reader.specs.Reader.{Reader, Came, Gives, Ends, BreaksOff, GoesPast}
 use Rattle.session.specs.Stands.{Held, Stepped}
-use Rattle.script.specs.Script.{Told}
+use Rattle.script.specs.Script.{Devices}
 use Rattle.script.specs.declared.ended.Ended.{Ended}
 use Rattle.script.specs.declared.ended.Ended.TheVariants.{Done, ReadFault, Limit, WriteFault, Memory}
 
 -- these bytes came off the script and were counted, and no more than 2^30 were taken in all
-pub record Counts (r r' : Reader) (old new : Told) (bytes : List ℕ) : Type 0 where
-  pub came : Came old.left new.left bytes
+pub record Counts (r r' : Reader) (old new : Devices) (bytes : List ℕ) : Type 0 where
+  pub came : Came old.input.left new.input.left bytes
   pub counted : r'.taken ≡ r.taken + length bytes
   pub within : r'.taken ≤ 2 ^ 30
 
--- the next line of the script was taken off, and has its reply
-pub record AnswersLine (h h' : Held) (r r' : Reader) (old new : Told) : Type 0 where
+-- the next line of the script was taken off, and its reply stands written so
+pub record AnswersLine (h h' : Held) (r r' : Reader) (old new : Devices) (IsWritten : List ℕ → Type 0) : Type 0 where
   pub bytes : List ℕ
   pub line : List ℕ
   pub counts : Counts r r' old new bytes
-  pub gives : Gives r r' old.left new.left bytes line
-  pub stepped : Stepped old.files old.faults new.faults old.absences new.absences old.written new.written h h' line
+  pub gives : Gives r r' old.input.left new.input.left bytes line
+  pub stepped : Stepped line old.files new.files h h' IsWritten
 
 -- no line is left
-pub record HasNoLine (r r' : Reader) (old new : Told) : Type 0 where
+pub record HasNoLine (r r' : Reader) (old new : Devices) : Type 0 where
   pub bytes : List ℕ
   pub counts : Counts r r' old new bytes
-  pub ends : Ends r old.left new.left bytes
-  pub silent : new.written ≡ old.written
+  pub ends : Ends r old.input.left new.input.left bytes
+  pub silent : new.out.written ≡ old.out.written
 
 -- reading failed in the middle of a line, or before it
-pub record FailsInLine (r r' : Reader) (old new : Told) : Type 0 where
+pub record FailsInLine (r r' : Reader) (old new : Devices) : Type 0 where
   pub bytes : List ℕ
   pub counts : Counts r r' old new bytes
   pub breaks : BreaksOff r r' bytes
-  pub rose : Rose old.read_faults new.read_faults
-  pub silent : new.written ≡ old.written
+  pub rose : Rose old.input.faults new.input.faults
+  pub silent : new.out.written ≡ old.out.written
 
 -- the most bytes were taken before the line ended, and another came
-pub record IsPastMost (r r' : Reader) (old new : Told) : Type 0 where
+pub record IsPastMost (r r' : Reader) (old new : Devices) : Type 0 where
   pub bytes : List ℕ
-  pub came : Came old.left new.left bytes
+  pub came : Came old.input.left new.input.left bytes
   pub goes : GoesPast r r' bytes
-  pub silent : new.written ≡ old.written
+  pub silent : new.out.written ≡ old.out.written
 
--- why there is no reply
-abbrev pub HasNoReply : Reader → Reader → Told → Told → Ended → Type 0
-HasNoReply r r' old new Done = HasNoLine r r' old new
-HasNoReply r r' old new ReadFault = FailsInLine r r' old new
-HasNoReply r r' old new Limit = IsPastMost r r' old new
-HasNoReply r r' old new WriteFault = Rose old.write_faults new.write_faults
-HasNoReply r r' old new Memory = Unit {0}
+-- why there is no whole reply: where a write failed, a front of it is written
+abbrev pub HasNoReply : Held → Held → Reader → Reader → Devices → Devices → Ended → Type 0
+HasNoReply h h' r r' old new Done = HasNoLine r r' old new
+HasNoReply h h' r r' old new ReadFault = FailsInLine r r' old new
+HasNoReply h h' r r' old new Limit = IsPastMost r r' old new
+HasNoReply h h' r r' old new WriteFault = Rose old.out.faults new.out.faults × AnswersLine h h' r r' old new (AppendsPrefix old.out.written new.out.written)
+HasNoReply h h' r r' old new Memory = Unit {0}

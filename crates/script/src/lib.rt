@@ -3,8 +3,6 @@
 
 mod ended;
 mod script;
-#[cfg(test)]
-mod tests;
 
 pub use ended::Ended;
 pub use script::answer_script;

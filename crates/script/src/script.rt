@@ -1,10 +1,12 @@
 // A session over the lines of a script.
-ghost use Rattle.std.specs.Prelude.{◌≡◌, ◌<◌, ◌≤◌, [], IfErr, OnOk, false};
+ghost use Rattle.std.specs.Prelude.{◌≡◌, ◌<◌, ◌≤◌, IfErr, OnOk, false};
+ghost use Rattle.ports.specs.Content.{Appends};
+ghost use Rattle.ports.specs.Files.{Keeps};
 ghost use Rattle.decl.specs.Declaration.{Declaration, IsDeclaration, declaration_of};
 ghost use Rattle.line_reader.specs.Reader.{fresh, room};
 ghost use Rattle.session.specs.Sessions.{start};
 ghost use Rattle.session.specs.Stands.{StandsFor};
-ghost use Rattle.script.specs.Script.{EndsSo};
+ghost use Rattle.script.specs.Script.{ScriptAnswered, devices};
 ghost use Rattle.script.specs.Turns.{AnswersLine, HasNoReply};
 
 use crate::Ended;
@@ -25,16 +27,14 @@ fn answer_line<F: Files, I: Source, O: Sink>(
 ) -> Result<(), Ended>
     requires { reader.old.over ≡ false }
     ensures ok { OnOk result (AnswersLine session.old session.new reader.old reader.new
-        (record { files = F.content files.old; faults = F.faults files.old; absences = F.absences files.old; left = I.left input.old; read_faults = I.faults input.old; written = O.written out.old; write_faults = O.faults out.old })
-        (record { files = F.content files.new; faults = F.faults files.new; absences = F.absences files.new; left = I.left input.new; read_faults = I.faults input.new; written = O.written out.new; write_faults = O.faults out.new })) }
-    ensures err { IfErr result (HasNoReply reader.old reader.new
-        (record { files = F.content files.old; faults = F.faults files.old; absences = F.absences files.old; left = I.left input.old; read_faults = I.faults input.old; written = O.written out.old; write_faults = O.faults out.old })
-        (record { files = F.content files.new; faults = F.faults files.new; absences = F.absences files.new; left = I.left input.new; read_faults = I.faults input.new; written = O.written out.new; write_faults = O.faults out.new })) }
+        (devices (F.told files.old) (I.told input.old) (O.told out.old)) (devices (F.told files.new) (I.told input.new) (O.told out.new))
+        (Appends (O.told out.old).written (O.told out.new).written)) }
+    ensures err { IfErr result (HasNoReply session.old session.new reader.old reader.new
+        (devices (F.told files.old) (I.told input.old) (O.told out.old)) (devices (F.told files.new) (I.told input.new) (O.told out.new))) }
     ensures going { OnOk result (reader.new.over ≡ false) }
     ensures progress { OnOk result (room reader.new < room reader.old) }
-    ensures same { F.content files.new ≡ F.content files.old }
-    ensures no_fall { (F.faults files.old ≤ F.faults files.new) × (F.absences files.old ≤ F.absences files.new)
-        × (I.faults input.old ≤ I.faults input.new) × (O.faults out.old ≤ O.faults out.new) }
+    ensures keeps { Keeps (F.told files.old) (F.told files.new) }
+    ensures no_fall { ((I.told input.old).faults ≤ (I.told input.new).faults) × ((O.told out.old).faults ≤ (O.told out.new).faults) }
 {
     match reader.next_line(input, line) {
         Ok(Line::Text) => Ok(session.step(line.as_slice(), files, out)?),
@@ -54,13 +54,10 @@ fn answer_lines<F: Files, I: Source, O: Sink>(
     out: &mut O,
 ) -> Ended
     requires { reader.old ≡ fresh }
-    ensures ended { (d : Declaration) → StandsFor session.old d (start d) → EndsSo d
-        (record { files = F.content files.old; faults = F.faults files.old; absences = F.absences files.old; left = I.left input.old; read_faults = I.faults input.old; written = O.written out.old; write_faults = O.faults out.old })
-        (record { files = F.content files.new; faults = F.faults files.new; absences = F.absences files.new; left = I.left input.new; read_faults = I.faults input.new; written = O.written out.new; write_faults = O.faults out.new })
-        [] result }
-    ensures same { F.content files.new ≡ F.content files.old }
-    ensures no_fall { (F.faults files.old ≤ F.faults files.new) × (F.absences files.old ≤ F.absences files.new)
-        × (I.faults input.old ≤ I.faults input.new) × (O.faults out.old ≤ O.faults out.new) }
+    ensures ended { (d : Declaration) → StandsFor session.old d (start d) → ScriptAnswered d
+        (devices (F.told files.old) (I.told input.old) (O.told out.old)) (devices (F.told files.new) (I.told input.new) (O.told out.new)) result }
+    ensures keeps { Keeps (F.told files.old) (F.told files.new) }
+    ensures no_fall { ((I.told input.old).faults ≤ (I.told input.new).faults) × ((O.told out.old).faults ≤ (O.told out.new).faults) }
 {
     let mut line = LineText::new();
     loop {
@@ -76,8 +73,8 @@ fn answer_lines<F: Files, I: Source, O: Sink>(
 ///
 /// `Done` comes where the script was read to its end, and each of its lines has its reply; `ReadFault` where the script
 /// could not be read on, and `Limit` where it has more than 2^30 bytes, when each line that is whole before that has its
-/// reply, and nothing else is written; `WriteFault` where a write failed; `Memory` where memory ran out. A file that cannot
-/// be read is a reply, and no end.
+/// reply, and nothing else is written; `WriteFault` where a write failed, when a front of the replies to the first lines is
+/// written; `Memory` where memory ran out. A file that cannot be read is a reply, and no end.
 pub fn answer_script<F: Files, I: Source, O: Sink>(
     alloc: Global,
     decl: Decl,
@@ -86,13 +83,10 @@ pub fn answer_script<F: Files, I: Source, O: Sink>(
     out: &mut O,
 ) -> Ended
     requires { IsDeclaration (declaration_of decl) }
-    ensures ended { EndsSo (declaration_of decl)
-        (record { files = F.content files.old; faults = F.faults files.old; absences = F.absences files.old; left = I.left input.old; read_faults = I.faults input.old; written = O.written out.old; write_faults = O.faults out.old })
-        (record { files = F.content files.new; faults = F.faults files.new; absences = F.absences files.new; left = I.left input.new; read_faults = I.faults input.new; written = O.written out.new; write_faults = O.faults out.new })
-        [] result }
-    ensures same { F.content files.new ≡ F.content files.old }
-    ensures no_fall { (F.faults files.old ≤ F.faults files.new) × (F.absences files.old ≤ F.absences files.new)
-        × (I.faults input.old ≤ I.faults input.new) × (O.faults out.old ≤ O.faults out.new) }
+    ensures ended { ScriptAnswered (declaration_of decl)
+        (devices (F.told files.old) (I.told input.old) (O.told out.old)) (devices (F.told files.new) (I.told input.new) (O.told out.new)) result }
+    ensures keeps { Keeps (F.told files.old) (F.told files.new) }
+    ensures no_fall { ((I.told input.old).faults ≤ (I.told input.new).faults) × ((O.told out.old).faults ≤ (O.told out.new).faults) }
 {
     match Session::new(alloc, decl) {
         Ok(mut session) => {

@@ -1,8 +1,7 @@
 -- Events that are accepted under a label.
-use Rattle.std.proofs.Common.{◌≡◌, ◌≢◌, ◌⊎◌, inl, inr, ℕ, zero, suc, ◌+◌, ◌-◌, ◌^◌, ◌<◌, List, [], ◌∷◌, ◌++◌, length, map, slice_get, slice_set, Option, Some, Bool, true, false, nat_le, option_map, codes, refl, sym, ◌∙◌, ap, subst, arith, MatchBool, length-set}
+use Rattle.std.proofs.Common.{◌≡◌, ◌≢◌, ◌⊎◌, inl, inr, ℕ, zero, suc, ◌+◌, ◌-◌, ◌^◌, ◌<◌, List, [], ◌∷◌, ◌++◌, length, map, slice_get, slice_set, Some, Bool, true, false, nat_le, option_map, codes, refl, sym, ◌∙◌, ap, subst, arith, MatchBool, length-set}
 use Rattle.std.proofs.lemmas.Option.{slice_get-map}
 use Rattle.std.proofs.Math.Seq.{map-set}
-use Rattle.ports.specs.Content.{Appends}
 use Rattle.problem_model.specs.Problem.{ProblemLists}
 use Rattle.pcap_stream.specs.Capture as captures
 use Rattle.pcap_stream.specs.Feeding as feeding
@@ -17,10 +16,10 @@ use Rattle.traces.specs.Messages.{messages_of, missing, problem_of, problem_of_s
 use Rattle.trace_match.specs.declared.matcher.Changed.{Changed}
 use Rattle.trace_match.specs.Ends.{End, AreEndsOf, IsChange}
 use Rattle.queries.specs.Consistent.{IsConsistent}
-use Rattle.queries.specs.Replies.{AppendsSome}
 use Rattle.session.specs.Reply.{State, IsAdded, added_line, count_by, messages_by, pending_of, refusal}
 use Rattle.session.specs.Stands.{Held, Under, IsHeld, StandsFor, held_of, under_of, problem_held, seen_held}
 use Rattle.session.specs.Inside.{AcceptAnswered, HasPlace, IsTailWithin, IsAddedTo, IsGrownAt, IsGrownTrace, grown}
+use Rattle.session.proofs.Telling.{Told}
 use Rattle.session.proofs.Holding.{count_grown, held_grown, room_by, room_few, seen_accepted, some_same, there_some}
 
 pub choose : (b b' : Bool) (P Q : Type 0) → b ≡ b' → MatchBool b' P Q → MatchBool b P Q
@@ -150,16 +149,16 @@ module _ (held : Held) (d : Declaration) (s : State) (k : ℕ) (label : Label) (
       )
 
 -- ---- the replies
-pub accept_refused : (held : Held) (k : ℕ) (events : List Seen) (size : ℕ) (tail : Tail) (line : List ℕ) (written written' : Option (List ℕ)) → k < length held.under →
-    nat_le (event_count (seen_held held.under) + length events) (2 ^ 20) ≡ false → line ≡ refusal (codes "27" ∷ []) → Appends written written' line → AcceptAnswered held held k events size tail written written'
-accept_refused held k events size tail line written written' inside room is appends d s label old new stands at_label at_old g =
-    (line, s, choose _ false _ _ (room_is held d s k label old new events size tail stands at_label at_old g false inside room) (is, refl), appends, stands)
+pub accept_refused : (held : Held) (k : ℕ) (events : List Seen) (size : ℕ) (tail : Tail) (IsWritten : List ℕ → Type 0) → k < length held.under →
+    nat_le (event_count (seen_held held.under) + length events) (2 ^ 20) ≡ false → IsWritten (refusal (codes "27" ∷ [])) → AcceptAnswered held held k events size tail IsWritten
+accept_refused held k events size tail IsWritten inside room written d s label old new stands at_label at_old g =
+    (_, s, choose _ false _ _ (room_is held d s k label old new events size tail stands at_label at_old g false inside room) (refl, refl), written, stands)
 
-pub accept_added : (held held' : Held) (k : ℕ) (events : List Seen) (size : ℕ) (tail : Tail) (p : ProblemLists) (changed : Changed) (written written' : Option (List ℕ)) → k < length held.under →
+pub accept_added : (held held' : Held) (k : ℕ) (events : List Seen) (size : ℕ) (tail : Tail) (p : ProblemLists) (changed : Changed) (IsWritten : List ℕ → Type 0) → k < length held.under →
     nat_le (event_count (seen_held held.under) + length events) (2 ^ 20) ≡ true → held'.declaration ≡ held.declaration → p ≡ problem_held held' →
     IsChange (seen_held held.under) (seen_held held'.under) changed → IsGrownAt held.under held'.under k events size tail →
-    AppendsSome (IsAddedTo p changed (length events) (length tail.rest)) written written' → AcceptAnswered held held' k events size tail written written'
-accept_added held held' k events size tail p changed written written' inside room same p_is change grew says d s label old new stands at_label at_old g = (
+    Told (IsAddedTo p changed (length events) (length tail.rest)) IsWritten → AcceptAnswered held held' k events size tail IsWritten
+accept_added held held' k events size tail p changed IsWritten inside room same p_is change grew says d s label old new stands at_label at_old g = (
   says.0,
   record s { traces = slice_set s.traces k new },
   choose _ true _ _ (room_is held d s k label old new events size tail stands at_label at_old g true inside room)
@@ -169,26 +168,19 @@ accept_added held held' k events size tail p changed written written' inside roo
 )
 
 -- the line of an addition, by what was found out for it
-pub added_says : (p : ProblemLists) (changed : Changed) (b : Bool) (events new gone pending : ℕ) (line : List ℕ) (written written' : Option (List ℕ)) → IsConsistent p b → new ≡ changed.messages →
-    gone ≡ changed.withdrawn → line ≡ added_line events new gone pending b → Appends written written' line → AppendsSome (IsAddedTo p changed events pending) written written'
-added_says p changed b events new gone pending line written written' consistent new_is gone_is line_is appends = (
-  line,
-  (
-    b,
-    consistent,
-    line_is ∙ ap (λ (n : ℕ). added_line events n gone pending b) new_is ∙ ap (λ (n : ℕ). added_line events changed.messages n pending b) gone_is,
-  ),
-  appends,
-)
+pub added_says : (p : ProblemLists) (changed : Changed) (b : Bool) (events new gone pending : ℕ) (line : List ℕ) → IsConsistent p b → new ≡ changed.messages →
+    gone ≡ changed.withdrawn → line ≡ added_line events new gone pending b → IsAddedTo p changed events pending line
+added_says p changed b events new gone pending line consistent new_is gone_is line_is =
+    (b, consistent, line_is ∙ ap (λ (n : ℕ). added_line events n gone pending b) new_is ∙ ap (λ (n : ℕ). added_line events changed.messages n pending b) gone_is)
 
 -- ---- the same by what the code holds
-pub refused_in : (d : Declaration) (accepted : List Accepted) (held : Held) (k n : ℕ) (events : List Seen) (size : ℕ) (tail : Tail) (r : Bool) (line : List ℕ) (written written' : Option (List ℕ)) → held_of d accepted ≡ held →
-    k < length held.under → n ≡ length events → r ≡ nat_le (event_count (seen_in accepted) + n) (2 ^ 20) → r ≡ false → line ≡ refusal (codes "27" ∷ []) → Appends written written' line →
-    AcceptAnswered held held k events size tail written written'
-refused_in d accepted held k n events size tail r line written written' same inside n_is r_is full is appends =
-    let P : Held → Type 0 = λ h. k < length h.under → AcceptAnswered h h k events size tail written written' in
+pub refused_in : (d : Declaration) (accepted : List Accepted) (held : Held) (k n : ℕ) (events : List Seen) (size : ℕ) (tail : Tail) (r : Bool) (IsWritten : List ℕ → Type 0) → held_of d accepted ≡ held →
+    k < length held.under → n ≡ length events → r ≡ nat_le (event_count (seen_in accepted) + n) (2 ^ 20) → r ≡ false → IsWritten (refusal (codes "27" ∷ [])) →
+    AcceptAnswered held held k events size tail IsWritten
+refused_in d accepted held k n events size tail r IsWritten same inside n_is r_is full written =
+    let P : Held → Type 0 = λ h. k < length h.under → AcceptAnswered h h k events size tail IsWritten in
     let room = room_by accepted (length events) r false (r_is ∙ ap (λ (m : ℕ). nat_le (event_count (seen_in accepted) + m) (2 ^ 20)) n_is) full in
-    subst P same (λ within. accept_refused (held_of d accepted) k events size tail line written written' within room is appends) inside
+    subst P same (λ within. accept_refused (held_of d accepted) k events size tail IsWritten within room written) inside
 
 -- what was found out of an addition of events to what the code holds
 pub record Extended (d : Declaration) (accepted new : List Accepted) (held : Held) (k : ℕ) (events : List Seen) (size : ℕ) (tail : Tail) : Type 0 where
@@ -228,13 +220,13 @@ module _ (d : Declaration) (accepted new : List Accepted) (held : Held) (k : ℕ
   whole_extended then ends is held are =
       (subst (λ (l : List Accepted). IsHeld (held_of d l)) (sym is) (held_extended held), subst (λ (l : List Accepted). AreEndsOf ends (seen_in l)) (sym is) are)
 
-  pub added_in : (p : ProblemLists) (changed : Changed) (n pending : ℕ) (written written' : Option (List ℕ)) → p ≡ problem_held (held_of d new) → IsChange (seen_in accepted) (seen_in new) changed →
-      n ≡ length events → pending ≡ length tail.rest → AppendsSome (IsAddedTo p changed n pending) written written' → AcceptAnswered held (held_of d new) k events size tail written written'
-  added_in p changed n pending written written' p_is change n_is pending_is says =
-      let P : Held → Type 0 = λ h. AcceptAnswered h (held_of d new) k events size tail written written' in
+  pub added_in : (p : ProblemLists) (changed : Changed) (n pending : ℕ) (IsWritten : List ℕ → Type 0) → p ≡ problem_held (held_of d new) → IsChange (seen_in accepted) (seen_in new) changed →
+      n ≡ length events → pending ≡ length tail.rest → Told (IsAddedTo p changed n pending) IsWritten → AcceptAnswered held (held_of d new) k events size tail IsWritten
+  added_in p changed n pending IsWritten p_is change n_is pending_is says =
+      let P : Held → Type 0 = λ h. AcceptAnswered h (held_of d new) k events size tail IsWritten in
       let from_old : IsChange (seen_held (map under_of accepted)) (seen_in new) changed = subst (λ (x : List (List Seen)). IsChange x (seen_in new) changed) (sym (seen_accepted accepted)) change in
       let to_new : IsChange (seen_held (map under_of accepted)) (seen_held (map under_of new)) changed =
       subst (λ (x : List (List Seen)). IsChange (seen_held (map under_of accepted)) x changed) (sym (seen_accepted new)) from_old in
-      let said = subst (λ (m : ℕ). AppendsSome (IsAddedTo p changed m pending) written written') n_is says in
-      let waits = subst (λ (m : ℕ). AppendsSome (IsAddedTo p changed (length events) m) written written') pending_is said in
-      subst P e.same (accept_added (held_of d accepted) (held_of d new) k events size tail p changed written written' inside_is has_room refl p_is to_new e.grew waits)
+      let said = subst (λ (m : ℕ). Told (IsAddedTo p changed m pending) IsWritten) n_is says in
+      let waits = subst (λ (m : ℕ). Told (IsAddedTo p changed (length events) m) IsWritten) pending_is said in
+      subst P e.same (accept_added (held_of d accepted) (held_of d new) k events size tail p changed IsWritten inside_is has_room refl p_is to_new e.grew waits)

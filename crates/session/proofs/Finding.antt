@@ -1,17 +1,17 @@
 -- The replies to `add`.
-use Rattle.std.proofs.Common.{◌≡◌, ◌⊎◌, inl, inr, ℕ, zero, suc, ◌+◌, ◌^◌, ◌<◌, ◌≤◌, List, [], ◌∷◌, length, slice_get, Option, Some, None, Bool, true, false, position, codes, refl, sym, subst, arith}
+use Rattle.std.proofs.Common.{◌≡◌, ◌⊎◌, inl, inr, ℕ, zero, suc, ◌+◌, ◌^◌, ◌<◌, ◌≤◌, List, [], ◌∷◌, length, Option, Some, None, Bool, true, false, position, codes, refl, sym, subst, arith}
 use Rattle.std.specs.Str.{bytes_eq}
 use Rattle.std.proofs.lemmas.List.Quantifiers.{position-Some}
 use Rattle.std.proofs.lemmas.Grind.{common_steps}
-use Rattle.ports.specs.Content.{Rose, Appends}
-use Rattle.ports.specs.Files.{Content, IsAbsent, HasBytes, IsFront}
+use Rattle.ports.specs.Content.{Rose}
+use Rattle.ports.specs.Files.{Content, FilesTold, Keeps, IsAbsent, HasBytes, IsFront}
 use Rattle.decl.specs.declared.items.Label.{Label}
 use Rattle.decl.specs.Declaration.{Declaration}
 use Rattle.session.specs.Commands.{Add}
-use Rattle.session.specs.Reply.{State, Found, Unread, Bytes, Absent, Failed, refusal, AddReply, PieceReply, label_at}
+use Rattle.session.specs.Reply.{State, Found, Unread, Bytes, Absent, Failed, refusal, AddReply, label_at}
 use Rattle.session.specs.Sessions.{FoundAt}
 use Rattle.session.specs.Stands.{Held, StandsFor}
-use Rattle.session.specs.Inside.{IsPiece, PieceAnswered, CommandAnswered}
+use Rattle.session.specs.Inside.{IsPiece, FrontAnswered, CommandAnswered}
 
 by_place : (d : Declaration) (s s' : State) (o o' : Option ℕ) (found : Found) (text : List ℕ) → o ≡ o' → AddReply d s o' found text s' → AddReply d s o found text s'
 by_place d s s' o o' found text e reply = rw e reply
@@ -31,33 +31,33 @@ found_absent (Some files) label path absent = absent
 label_in : (held : Held) (d : Declaration) (s : State) (label : List ℕ) (o : Option ℕ) → StandsFor held d s → o ≡ label_at held.declaration label → label_at d label ≡ o
 label_in held d s label o stands is = subst (λ (x : Declaration). label_at x label ≡ o) stands.declaration (sym is)
 
-pub add_unknown : (held : Held) (files : Content) (label path line : List ℕ) (f f' a a' : ℕ) (written written' : Option (List ℕ)) → None ≡ label_at held.declaration label →
-    f ≤ f' → a ≤ a' → line ≡ refusal (codes "21" ∷ []) → Appends written written' line → CommandAnswered files f f' a a' written written' held held (Some (Add label path))
-add_unknown held files label path line f f' a a' written written' none f_le a_le is appends d s stands = (
+pub add_unknown : (held : Held) (files : FilesTold) (label path : List ℕ) (IsWritten : List ℕ → Type 0) → None ≡ label_at held.declaration label →
+    IsWritten (refusal (codes "21" ∷ [])) → CommandAnswered (Some (Add label path)) files files held held IsWritten
+add_unknown held files label path IsWritten none written d s stands = (
   Unread,
-  (line, s, (found_unread files label path, by_place d s s _ None Unread line (label_in held d s label None stands none) (is, refl)), appends, stands),
-  record { failed = λ below. omega (arith, f_le); absent = λ below. omega (arith, a_le) },
+  (_, s, (found_unread files.content label path, by_place d s s _ None Unread _ (label_in held d s label None stands none) (refl, refl)), written, stands),
+  record { failed = λ below. omega arith; absent = λ below. omega arith },
 )
 
 at_most_one : (last a b : ℕ) → ((a < b) ⊎ (b ≡ last)) → b < last → a + 1 ≤ b
 at_most_one last a b (inl lt) below = omega (arith, lt)
 at_most_one last a b (inr is) below = absurd (omega (arith, is, below))
 
-pub add_failed : (held : Held) (files : Content) (label path line : List ℕ) (k f f' a a' : ℕ) (written written' : Option (List ℕ)) → Some k ≡ label_at held.declaration label →
-    Rose f f' → a ≤ a' → line ≡ refusal (codes "22" ∷ []) → Appends written written' line → CommandAnswered files f f' a a' written written' held held (Some (Add label path))
-add_failed held files label path line k f f' a a' written written' some rose a_le is appends d s stands = (
+pub add_failed : (held : Held) (files files' : FilesTold) (label path : List ℕ) (k : ℕ) (IsWritten : List ℕ → Type 0) → Some k ≡ label_at held.declaration label →
+    Rose files.faults files'.faults → Keeps files files' → IsWritten (refusal (codes "22" ∷ [])) → CommandAnswered (Some (Add label path)) files files' held held IsWritten
+add_failed held files files' label path k IsWritten some rose keeps written d s stands = (
   Failed,
-  (line, s, (found_failed files label path, by_place d s s _ (Some k) Failed line (label_in held d s label (Some k) stands some) (is, refl)), appends, stands),
-  record { failed = λ below. at_most_one _ f f' rose below; absent = λ below. omega (arith, a_le) },
+  (_, s, (found_failed files.content label path, by_place d s s _ (Some k) Failed _ (label_in held d s label (Some k) stands some) (refl, refl)), written, stands),
+  record { failed = λ below. at_most_one _ files.faults files'.faults rose below; absent = λ below. omega (arith, keeps.absences) },
 )
 
-pub add_absent : (held : Held) (files : Content) (label path line : List ℕ) (k f f' a a' : ℕ) (written written' : Option (List ℕ)) → Some k ≡ label_at held.declaration label →
-    f ≤ f' → Rose a a' → IsAbsent files path → line ≡ refusal (codes "22" ∷ []) → Appends written written' line →
-    CommandAnswered files f f' a a' written written' held held (Some (Add label path))
-add_absent held files label path line k f f' a a' written written' some f_le rose absent is appends d s stands = (
+pub add_absent : (held : Held) (files files' : FilesTold) (label path : List ℕ) (k : ℕ) (IsWritten : List ℕ → Type 0) → Some k ≡ label_at held.declaration label →
+    Rose files.absences files'.absences → Keeps files files' → IsAbsent files.content path → IsWritten (refusal (codes "22" ∷ [])) →
+    CommandAnswered (Some (Add label path)) files files' held held IsWritten
+add_absent held files files' label path k IsWritten some rose keeps absent written d s stands = (
   Absent,
-  (line, s, (found_absent files label path absent, by_place d s s _ (Some k) Absent line (label_in held d s label (Some k) stands some) (is, refl)), appends, stands),
-  record { failed = λ below. omega (arith, f_le); absent = λ below. at_most_one _ a a' rose below },
+  (_, s, (found_absent files.content label path absent, by_place d s s _ (Some k) Absent _ (label_in held d s label (Some k) stands some) (refl, refl)), written, stands),
+  record { failed = λ below. omega (arith, keeps.faults); absent = λ below. at_most_one _ files.absences files'.absences rose below },
 )
 
 -- the bytes of which the front was read, where the files tell them or not
@@ -78,16 +78,14 @@ piece_of None label path front true has = let some = more_than (2 ^ 28) in (some
 piece_of (Some files) label path front false has = (has.0, has.1, sym (whole (2 ^ 28) front has.0 false refl has.2))
 piece_of (Some files) label path front true has = (has.0, has.1, long (2 ^ 28) front has.0 true refl has.2)
 
-pub add_read : (held held' : Held) (files : Content) (label path front : List ℕ) (more : Bool) (k f f' a a' : ℕ) (written written' : Option (List ℕ)) → Some k ≡ label_at held.declaration label →
-    f ≤ f' → a ≤ a' → HasBytes files path (IsFront (2 ^ 28) front more) →
-    ((bytes : List ℕ) → IsPiece more front bytes → PieceAnswered held held' written written' (λ d s. PieceReply d s k (slice_get d.labels k) (slice_get s.traces k) bytes)) →
-    CommandAnswered files f f' a a' written written' held held' (Some (Add label path))
-add_read held held' files label path front more k f f' a a' written written' some f_le a_le has answer d s stands =
-    let piece = piece_of files label path front more has in
+pub add_read : (held held' : Held) (files files' : FilesTold) (label path front : List ℕ) (more : Bool) (k : ℕ) (IsWritten : List ℕ → Type 0) → Some k ≡ label_at held.declaration label →
+    Keeps files files' → HasBytes files.content path (IsFront (2 ^ 28) front more) → FrontAnswered more front held held' k IsWritten → CommandAnswered (Some (Add label path)) files files' held held' IsWritten
+add_read held held' files files' label path front more k IsWritten some keeps has answer d s stands =
+    let piece = piece_of files.content label path front more has in
     let answered = answer piece.0 piece.2 d s stands in (
       Bytes piece.0,
       (answered.0, answered.1, (piece.1, by_place d s answered.1 _ (Some k) (Bytes piece.0) answered.0 (label_in held d s label (Some k) stands some) answered.2), answered.3, answered.4),
-      record { failed = λ below. omega (arith, f_le); absent = λ below. omega (arith, a_le) },
+      record { failed = λ below. omega (arith, keeps.faults); absent = λ below. omega (arith, keeps.absences) },
     )
 
 found_within : (test : Label → Bool) (labels : List Label) (k : ℕ) → position test labels ≡ Some k → k < length labels

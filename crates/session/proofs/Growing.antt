@@ -1,8 +1,7 @@
 -- Traces with one piece more, and what answers it.
-use Rattle.std.proofs.Common.{◌≡◌, ◌≢◌, inl, inr, ℕ, ◌+◌, ◌<◌, List, [], ◌++◌, length, map, slice_get, Option, Some, None, option_map, refl, sym, ◌∙◌, ap, subst, arith, length-append}
+use Rattle.std.proofs.Common.{◌≡◌, ◌≢◌, inl, inr, ℕ, ◌+◌, ◌<◌, List, [], ◌++◌, length, map, slice_get, Some, None, option_map, refl, sym, ◌∙◌, ap, subst, arith, length-append}
 use Rattle.std.proofs.lemmas.List.{map-append}
 use Rattle.std.proofs.lemmas.Option.{slice_get-map, slice_get_within}
-use Rattle.ports.specs.Content.{Appends}
 use Rattle.event_log.specs.declared.errors.LogError.{LogError}
 use Rattle.event_log.specs.declared.row.Row.{Row}
 use Rattle.event_log.specs.Log.{records_of, AreRows, IsLogFault}
@@ -18,10 +17,10 @@ use Rattle.decl.specs.declared.items.TraceKind.TheVariants.{Capture, Log}
 use Rattle.decl.specs.Declaration.{Declaration}
 use Rattle.trace_event.specs.Seen.{Seen, seen_row, event_of_packet}
 use Rattle.traces.specs.Traces.{Trace, Captured, Logged, IsOfKind}
-use Rattle.queries.specs.Replies.{AppendsSome}
-use Rattle.session.specs.Reply.{State, LogReply, CaptureReply, capture_fault, refusal, with_rows}
+use Rattle.session.specs.Reply.{State, LogReply, CaptureReply, capture_fault, with_rows}
 use Rattle.session.specs.Stands.{Under, Held, StandsFor}
 use Rattle.session.specs.Inside.{AcceptAnswered, Answered, KindAnswered, IsRowRefusal, IsCaptureRefusal, IsGrownTrace}
+use Rattle.session.proofs.Telling.{Told}
 use Rattle.session.proofs.Holding.{some_same, there_some}
 use Rattle.session.proofs.Starting.{captured_parts}
 
@@ -45,19 +44,19 @@ log_grown d host Log (Logged old n) rows size tail is is_log new = record {
   tail = λ bytes capture e. absurd cc;
 }
 
-pub log_accepted : (held held' : Held) (k : ℕ) (bytes : List ℕ) (rows : List Row) (events : List Seen) (tail : Tail) (written written' : Option (List ℕ)) → AreRows (records_of bytes) rows →
-    events ≡ map seen_row rows → IsNew tail → AcceptAnswered held held' k events (length bytes) tail written written' →
-    KindAnswered Log held held' k written written' (λ d s trace. LogReply d s k trace bytes)
-log_accepted held held' k bytes rows events tail written written' are is new answered d s trace stands at_trace of_kind =
+pub log_accepted : (held held' : Held) (k : ℕ) (bytes : List ℕ) (rows : List Row) (events : List Seen) (tail : Tail) (IsWritten : List ℕ → Type 0) → AreRows (records_of bytes) rows →
+    events ≡ map seen_row rows → IsNew tail → AcceptAnswered held held' k events (length bytes) tail IsWritten →
+    KindAnswered Log held held' k (λ d s trace. LogReply d s k trace bytes) IsWritten
+log_accepted held held' k bytes rows events tail IsWritten are is new answered d s trace stands at_trace of_kind =
     let label = label_of held d s k trace stands at_trace in
     let grown = log_grown d label.0.host label.0.kind trace rows (length bytes) tail (stands.kinds k label.0 trace label.1 at_trace) of_kind new in
     let a = answered d s label.0 trace (with_rows trace rows (length bytes)) stands label.1 at_trace
     (subst (λ (es : List Seen). IsGrownTrace d label.0.host label.0.kind trace (with_rows trace rows (length bytes)) es (length bytes) tail) (sym is) grown) in
     (a.0, a.1, inl (rows, are, a.2), a.3, a.4)
 
-pub log_fault : (held : Held) (k : ℕ) (bytes : List ℕ) (e : LogError) (written written' : Option (List ℕ)) → IsLogFault bytes e → AppendsSome (IsRowRefusal e) written written' →
-    KindAnswered Log held held k written written' (λ d s trace. LogReply d s k trace bytes)
-log_fault held k bytes e written written' fault says d s trace stands at_trace of_kind =
+pub log_fault : (held : Held) (k : ℕ) (bytes : List ℕ) (e : LogError) (IsWritten : List ℕ → Type 0) → IsLogFault bytes e → Told (IsRowRefusal e) IsWritten →
+    KindAnswered Log held held k (λ d s trace. LogReply d s k trace bytes) IsWritten
+log_fault held k bytes e IsWritten fault says d s trace stands at_trace of_kind =
     let row = says.1 in
     (says.0, s, inr (row.0, row.1, (e, fault, row.2), (row.3, refl)), says.2, stands)
 
@@ -91,10 +90,10 @@ events_at held d s k host label packets events stands at_label at_host is =
 abbrev pub IsFed : Tail → List ℕ → Tail → List captures.Seen → Type 0
 IsFed tail piece next packets = (s : List ℕ) (c : captures.Capture) → feeding.StandsFor tail s c → Grows next (s ++ piece) c [] packets
 
-module _ (held held' : Held) (k host : ℕ) (piece : List ℕ) (u : Under) (next : Tail) (packets : List captures.Seen) (events : List Seen) (written written' : Option (List ℕ)) (at_under : slice_get held.under k ≡ Some u)
+module _ (held held' : Held) (k host : ℕ) (piece : List ℕ) (u : Under) (next : Tail) (packets : List captures.Seen) (events : List Seen) (IsWritten : List ℕ → Type 0) (at_under : slice_get held.under k ≡ Some u)
     (at_host : slice_get (map (λ (l : Label). l.host) held.declaration.labels) k ≡ Some host) (fed : IsFed u.tail piece next packets) (is : events ≡ map (event_of_packet held.declaration host) packets)
-    (answered : AcceptAnswered held held' k events (length piece) next written written') where
-  by_trace : (d : Declaration) (s : State) (trace : Trace) → StandsFor held d s → slice_get s.traces k ≡ Some trace → IsOfKind Capture trace → Answered held' d written written' (CaptureReply d s k trace piece)
+    (answered : AcceptAnswered held held' k events (length piece) next IsWritten) where
+  by_trace : (d : Declaration) (s : State) (trace : Trace) → StandsFor held d s → slice_get s.traces k ≡ Some trace → IsOfKind Capture trace → Answered held' d (CaptureReply d s k trace piece) IsWritten
   by_trace d s (Logged rows size) stands at_trace of_kind = absurd of_kind
   by_trace d s (Captured bytes capture) stands at_trace of_kind =
       let label = label_of held d s k (Captured bytes capture) stands at_trace in
@@ -106,25 +105,20 @@ module _ (held held' : Held) (k host : ℕ) (piece : List ℕ) (u : Under) (next
       (subst (λ (es : List Seen). IsGrownTrace d label.0.host label.0.kind (Captured bytes capture) new es (length piece) next) (sym same) grown) in
       (a.0, a.1, inl (grows.then, grows.stands.reads, a.2), a.3, a.4)
 
-  pub capture_accepted : KindAnswered Capture held held' k written written' (λ d s trace. CaptureReply d s k trace piece)
+  pub capture_accepted : KindAnswered Capture held held' k (λ d s trace. CaptureReply d s k trace piece) IsWritten
   capture_accepted d s trace stands at_trace of_kind = by_trace d s trace stands at_trace of_kind
 
 no_numbers : (e : PcapError) (numbers : List (List ℕ)) → capture_fault e ≡ Some numbers → e ≡ refused.Memory → ⊥
 no_numbers e numbers is memory = let none : capture_fault e ≡ None = ap capture_fault memory in absurd cc
 
-pub capture_refused : (held : Held) (k : ℕ) (piece : List ℕ) (u : Under) (e : PcapError) (written written' : Option (List ℕ)) → slice_get held.under k ≡ Some u →
-    (e ≢ refused.Memory → (s : List ℕ) (c : captures.Capture) → feeding.StandsFor u.tail s c → IsFault (s ++ piece) e) → AppendsSome (IsCaptureRefusal e) written written' →
-    KindAnswered Capture held held k written written' (λ d s trace. CaptureReply d s k trace piece)
-capture_refused held k piece u e written written' at_under fault says d s trace stands at_trace of_kind = by_kind trace at_trace of_kind
+pub capture_refused : (held : Held) (k : ℕ) (piece : List ℕ) (u : Under) (e : PcapError) (IsWritten : List ℕ → Type 0) → slice_get held.under k ≡ Some u →
+    (e ≢ refused.Memory → (s : List ℕ) (c : captures.Capture) → feeding.StandsFor u.tail s c → IsFault (s ++ piece) e) → Told (IsCaptureRefusal e) IsWritten →
+    KindAnswered Capture held held k (λ d s trace. CaptureReply d s k trace piece) IsWritten
+capture_refused held k piece u e IsWritten at_under fault says d s trace stands at_trace of_kind = by_kind trace at_trace of_kind
   where
-    by_kind : (t : Trace) → slice_get s.traces k ≡ Some t → IsOfKind Capture t → Answered held d written written' (CaptureReply d s k t piece)
+    by_kind : (t : Trace) → slice_get s.traces k ≡ Some t → IsOfKind Capture t → Answered held d (CaptureReply d s k t piece) IsWritten
     by_kind (Logged rows size) at kind = absurd kind
     by_kind (Captured bytes capture) at kind =
         let why = says.1 in
         let is = fault (no_numbers e why.0 why.1) bytes capture (stands.tails k u bytes capture at_under at) in
         (says.0, s, inr (why.0, (e, is, why.1), (why.2, refl)), says.2, stands)
-
--- the line that refuses a capture
-pub capture_says : (e : PcapError) (numbers : List (List ℕ)) (line : List ℕ) (written written' : Option (List ℕ)) → capture_fault e ≡ Some numbers → line ≡ refusal numbers → Appends written written' line →
-    AppendsSome (IsCaptureRefusal e) written written'
-capture_says e numbers line written written' fault is appends = (line, (numbers, fault, is), appends)

@@ -2,6 +2,7 @@ pub mod Asking
 pub mod OneCommand
 pub mod Holding
 pub mod Naming
+pub mod Telling
 pub mod Replying
 pub mod Starting
 pub mod Extending

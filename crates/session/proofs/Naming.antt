@@ -15,7 +15,7 @@ name_of_some (e ∷ events) (suc k) name all at = name_of_some events k name (Al
 
 -- what is no name is the name of no event
 pub no_name : (p : ProblemLists) (name : List ℕ) → IsProblem p → (IsEventName name → ⊥) → IsUnknown p name
-no_name p name lawful other k at = other (name_of_some p.events k name lawful.event_names at)
+no_name p name lawful other k at = other (name_of_some p.events k name lawful.formed.event_names at)
 
 -- an event of a name has a place
 pub event_within : (p : ProblemLists) (k : ℕ) (name : List ℕ) → HasEvent p k name → k < length p.events

@@ -1,7 +1,6 @@
 -- The replies to a piece.
 use Rattle.std.proofs.Common.{◌≡◌, ℕ, ◌+◌, ◌^◌, ◌<◌, ◌≤◌, List, [], ◌∷◌, length, map, slice_get, Option, Some, None, Bool, true, false, nat_le, ◌&&◌, option_map, codes, refl, sym, ◌∙◌, ap, subst, arith, MatchBool}
 use Rattle.std.proofs.lemmas.Option.{slice_get-map}
-use Rattle.ports.specs.Content.{Appends}
 use Rattle.decl.specs.declared.items.Label.{Label}
 use Rattle.decl.specs.declared.items.TraceKind.{TraceKind}
 use Rattle.decl.specs.Declaration.{Declaration}
@@ -66,30 +65,29 @@ too_long n most false long = grind (arith, long)
 abbrev pub PieceAt : ℕ → List ℕ → Declaration → State → List ℕ → State → Type 0
 PieceAt k bytes d s text s' = PieceReply d s k (slice_get d.labels k) (slice_get s.traces k) bytes text s'
 
-pub piece_long : (held : Held) (k : ℕ) (bytes line : List ℕ) (written written' : Option (List ℕ)) → k < length held.declaration.labels → 2 ^ 28 < length bytes → line ≡ refusal (codes "23" ∷ []) →
-    Appends written written' line → PieceAnswered held held written written' (PieceAt k bytes)
-piece_long held k bytes line written written' inside long is appends d s stands =
+pub piece_long : (held : Held) (k : ℕ) (bytes : List ℕ) (IsWritten : List ℕ → Type 0) → k < length held.declaration.labels → 2 ^ 28 < length bytes → IsWritten (refusal (codes "23" ∷ [])) → PieceAnswered held held (PieceAt k bytes) IsWritten
+piece_long held k bytes IsWritten inside long written d s stands =
     let within : k < length d.labels = subst (λ (x : Declaration). k < length x.labels) stands.declaration inside in
     let label = there_some d.labels k within in
     let trace = there_some s.traces k (let e = stands.labels in omega (arith, within, e)) in
-    let reply : MatchBool (fits (size_of trace.0) (length bytes)) (KindReply d s k trace.0 label.0.kind bytes line s) (Refuses s (codes "23" ∷ []) line s) =
-    choose _ false _ _ (too_long (length bytes) (2 ^ 28) _ long) (is, refl) in
-    (line, s, rw (label.1, trace.1) reply, appends, stands)
+    let reply : MatchBool (fits (size_of trace.0) (length bytes)) (KindReply d s k trace.0 label.0.kind bytes (refusal (codes "23" ∷ [])) s) (Refuses s (codes "23" ∷ []) (refusal (codes "23" ∷ [])) s) =
+    choose _ false _ _ (too_long (length bytes) (2 ^ 28) _ long) (refl, refl) in
+    (_, s, rw (label.1, trace.1) reply, written, stands)
 
-pub piece_full : (held : Held) (k size : ℕ) (bytes line : List ℕ) (written written' : Option (List ℕ)) → k < length held.declaration.labels → slice_get (sizes_held held.under) k ≡ Some size →
-    fits size (length bytes) ≡ false → line ≡ refusal (codes "23" ∷ []) → Appends written written' line → PieceAnswered held held written written' (PieceAt k bytes)
-piece_full held k size bytes line written written' inside at_size no_place is appends d s stands =
+pub piece_full : (held : Held) (k size : ℕ) (bytes : List ℕ) (IsWritten : List ℕ → Type 0) → k < length held.declaration.labels → slice_get (sizes_held held.under) k ≡ Some size →
+    fits size (length bytes) ≡ false → IsWritten (refusal (codes "23" ∷ [])) → PieceAnswered held held (PieceAt k bytes) IsWritten
+piece_full held k size bytes IsWritten inside at_size no_place written d s stands =
     let label = there_some held.declaration.labels k inside in
     let at_kind : slice_get (map (λ (l : Label). l.kind) held.declaration.labels) k ≡ Some label.0.kind =
     slice_get-map (λ (l : Label). l.kind) held.declaration.labels k ∙ ap (option_map (λ (l : Label). l.kind)) label.1 in
     let t = there held d s k size label.0.kind stands at_kind at_size in
-    (line, s, by_label d s k size label.0.kind bytes line s t (choose _ false _ _ no_place (is, refl)), appends, stands)
+    (_, s, by_label d s k size label.0.kind bytes _ s t (choose _ false _ _ no_place (refl, refl)), written, stands)
 
 -- ---- a piece that is read by the kind of its label
-piece_by_kind : (held held' : Held) (k size : ℕ) (kind : TraceKind) (bytes : List ℕ) (written written' : Option (List ℕ)) → slice_get (map (λ (l : Label). l.kind) held.declaration.labels) k ≡ Some kind →
-    slice_get (sizes_held held.under) k ≡ Some size → fits size (length bytes) ≡ true → KindAnswered kind held held' k written written' (λ d s trace. KindReply d s k trace kind bytes) →
-    PieceAnswered held held' written written' (PieceAt k bytes)
-piece_by_kind held held' k size kind bytes written written' at_kind at_size place answered d s stands =
+piece_by_kind : (held held' : Held) (k size : ℕ) (kind : TraceKind) (bytes : List ℕ) (IsWritten : List ℕ → Type 0) → slice_get (map (λ (l : Label). l.kind) held.declaration.labels) k ≡ Some kind →
+    slice_get (sizes_held held.under) k ≡ Some size → fits size (length bytes) ≡ true → KindAnswered kind held held' k (λ d s trace. KindReply d s k trace kind bytes) IsWritten →
+    PieceAnswered held held' (PieceAt k bytes) IsWritten
+piece_by_kind held held' k size kind bytes IsWritten at_kind at_size place answered d s stands =
     let t = there held d s k size kind stands at_kind at_size in
     let a = answered d s t.trace stands t.trace_is t.of_kind in
     (a.0, a.1, by_label d s k size kind bytes a.0 a.1 t (choose _ true _ _ place a.2), a.3, a.4)
@@ -102,18 +100,18 @@ pub long_piece : (more : Bool) (front bytes : List ℕ) → more ≡ true → Is
 long_piece true front bytes e piece = piece
 long_piece false front bytes e piece = absurd cc
 
-pub piece_read : (held held' : Held) (k size : ℕ) (kind : TraceKind) (more : Bool) (front : List ℕ) (written written' : Option (List ℕ)) → more ≡ false →
+pub piece_read : (held held' : Held) (k size : ℕ) (kind : TraceKind) (more : Bool) (front : List ℕ) (IsWritten : List ℕ → Type 0) → more ≡ false →
     slice_get (map (λ (l : Label). l.kind) held.declaration.labels) k ≡ Some kind → slice_get (sizes_held held.under) k ≡ Some size → fits size (length front) ≡ true →
-    KindAnswered kind held held' k written written' (λ d s trace. KindReply d s k trace kind front) → (bytes : List ℕ) → IsPiece more front bytes → PieceAnswered held held' written written' (PieceAt k bytes)
-piece_read held held' k size kind more front written written' whole at_kind at_size place answered bytes piece =
-    subst (λ (b : List ℕ). PieceAnswered held held' written written' (PieceAt k b)) (whole_piece more front bytes whole piece)
-    (piece_by_kind held held' k size kind front written written' at_kind at_size place answered)
+    KindAnswered kind held held' k (λ d s trace. KindReply d s k trace kind front) IsWritten → (bytes : List ℕ) → IsPiece more front bytes → PieceAnswered held held' (PieceAt k bytes) IsWritten
+piece_read held held' k size kind more front IsWritten whole at_kind at_size place answered bytes piece =
+    subst (λ (b : List ℕ). PieceAnswered held held' (PieceAt k b) IsWritten) (whole_piece more front bytes whole piece)
+    (piece_by_kind held held' k size kind front IsWritten at_kind at_size place answered)
 
-pub piece_without_place : (held : Held) (k size : ℕ) (more : Bool) (front line : List ℕ) (written written' : Option (List ℕ)) → more ≡ false → k < length held.declaration.labels →
-    slice_get (sizes_held held.under) k ≡ Some size → fits size (length front) ≡ false → line ≡ refusal (codes "23" ∷ []) → Appends written written' line →
-    (bytes : List ℕ) → IsPiece more front bytes → PieceAnswered held held written written' (PieceAt k bytes)
-piece_without_place held k size more front line written written' whole inside at_size no_place is appends bytes piece =
-    subst (λ (b : List ℕ). PieceAnswered held held written written' (PieceAt k b)) (whole_piece more front bytes whole piece) (piece_full held k size front line written written' inside at_size no_place is appends)
+pub piece_without_place : (held : Held) (k size : ℕ) (more : Bool) (front : List ℕ) (IsWritten : List ℕ → Type 0) → more ≡ false → k < length held.declaration.labels →
+    slice_get (sizes_held held.under) k ≡ Some size → fits size (length front) ≡ false → IsWritten (refusal (codes "23" ∷ [])) →
+    (bytes : List ℕ) → IsPiece more front bytes → PieceAnswered held held (PieceAt k bytes) IsWritten
+piece_without_place held k size more front IsWritten whole inside at_size no_place written bytes piece =
+    subst (λ (b : List ℕ). PieceAnswered held held (PieceAt k b) IsWritten) (whole_piece more front bytes whole piece) (piece_full held k size front IsWritten inside at_size no_place written)
 
 and_left : (a b : Bool) → (a && b) ≡ true → a ≡ true
 and_left true b e = refl

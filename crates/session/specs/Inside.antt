@@ -1,8 +1,7 @@
 -- What the parts of a session promise each other.
 use Rattle.std.specs.Prelude.{◌≡◌, ◌⊎◌, ℕ, ◌+◌, ◌^◌, ◌<◌, ◌≤◌, List, [], ◌∷◌, ◌++◌, length, slice_get, slice_set, Option, Some, Bool, true, false, codes, All}
 use Rattle.atto.specs.Decimal.{decimal_of}
-use Rattle.ports.specs.Content.{Appends}
-use Rattle.ports.specs.Files.{Content}
+use Rattle.ports.specs.Files.{FilesTold}
 use Rattle.event_log.specs.declared.errors.LogError.{LogError}
 use Rattle.pcap_stream.specs.declared.errors.PcapError.{PcapError}
 use Rattle.pcap_stream.specs.Capture as captures
@@ -19,7 +18,7 @@ use Rattle.session.specs.Commands.{Command}
 use Rattle.problem_model.specs.Problem.{ProblemLists}
 use Rattle.problem.specs.Line.{HasEvent, IsUnknown}
 use Rattle.queries.specs.Replies.{Replies}
-use Rattle.session.specs.Reply.{State, Found, Unread, Reply, AcceptReply, refusal, row_fault, capture_fault, pending_of, added_line}
+use Rattle.session.specs.Reply.{State, Found, Unread, Reply, AcceptReply, PieceReply, refusal, row_fault, capture_fault, pending_of, added_line}
 use Rattle.session.specs.Sessions.{CommandReply, AreCounted}
 use Rattle.session.specs.Stands.{Held, Under, StandsFor}
 
@@ -82,22 +81,27 @@ IsPiece true front bytes = 2 ^ 28 < length bytes
 IsPiece false front bytes = bytes ≡ front
 
 -- ---- replies
--- a reply of this kind is appended, and the session then stands for what follows
-abbrev pub Answered : Held → Declaration → Option (List ℕ) → Option (List ℕ) → (List ℕ → State → Type 0) → Type 0
-Answered held' d written written' IsReply = (text : List ℕ) × (s' : State) × IsReply text s' × Appends written written' text × StandsFor held' d s'
+-- a reply of this kind stands written so, and the session stands for what follows it
+abbrev pub Answered : Held → Declaration → (List ℕ → State → Type 0) → (List ℕ → Type 0) → Type 0
+Answered held' d IsReply IsWritten = (text : List ℕ) × (s' : State) × IsReply text s' × IsWritten text × StandsFor held' d s'
 
 -- the same for all that the session stood for, of a command that reads no file
-abbrev pub Asked : Held → Option (List ℕ) → Option (List ℕ) → Command → Type 0
-Asked held written written' command = (d : Declaration) (s : State) → StandsFor held d s → Answered held d written written' (Reply d s command Unread)
+abbrev pub Asked : Held → Command → (List ℕ → Type 0) → Type 0
+Asked held command IsWritten = (d : Declaration) (s : State) → StandsFor held d s → Answered held d (Reply d s command Unread) IsWritten
 
 -- the same of a piece for a label
-abbrev pub PieceAnswered : Held → Held → Option (List ℕ) → Option (List ℕ) → (Declaration → State → List ℕ → State → Type 0) → Type 0
-PieceAnswered held held' written written' IsReply = (d : Declaration) (s : State) → StandsFor held d s → Answered held' d written written' (IsReply d s)
+abbrev pub PieceAnswered : Held → Held → (Declaration → State → List ℕ → State → Type 0) → (List ℕ → Type 0) → Type 0
+PieceAnswered held held' IsReply IsWritten = (d : Declaration) (s : State) → StandsFor held d s → Answered held' d (IsReply d s) IsWritten
+
+-- the same of a piece for a label, whose front was read and maybe more
+abbrev pub FrontAnswered : Bool → List ℕ → Held → Held → ℕ → (List ℕ → Type 0) → Type 0
+FrontAnswered more front held held' k IsWritten = (bytes : List ℕ) → IsPiece more front bytes
+    → PieceAnswered held held' (λ d s. PieceReply d s k (slice_get d.labels k) (slice_get s.traces k) bytes) IsWritten
 
 -- the same of a piece for a label of this kind, by what was accepted under it
-abbrev pub KindAnswered : TraceKind → Held → Held → ℕ → Option (List ℕ) → Option (List ℕ) → (Declaration → State → Trace → List ℕ → State → Type 0) → Type 0
-KindAnswered kind held held' k written written' IsReply = (d : Declaration) (s : State) (trace : Trace) → StandsFor held d s → slice_get s.traces k ≡ Some trace
-    → IsOfKind kind trace → Answered held' d written written' (IsReply d s trace)
+abbrev pub KindAnswered : TraceKind → Held → Held → ℕ → (Declaration → State → Trace → List ℕ → State → Type 0) → (List ℕ → Type 0) → Type 0
+KindAnswered kind held held' k IsReply IsWritten = (d : Declaration) (s : State) (trace : Trace) → StandsFor held d s → slice_get s.traces k ≡ Some trace
+    → IsOfKind kind trace → Answered held' d (IsReply d s trace) IsWritten
 
 -- a trace of a label of this host grew by these events, which came in so many bytes, and this is its tail
 pub record IsGrownTrace (d : Declaration) (host : ℕ) (kind : TraceKind) (old new : Trace) (more : List Seen) (came : ℕ) (next : Tail) : Type 0 where
@@ -108,12 +112,12 @@ pub record IsGrownTrace (d : Declaration) (host : ℕ) (kind : TraceKind) (old n
   pub tail : (bytes : List ℕ) (capture : captures.Capture) → new ≡ Captured bytes capture → feeding.StandsFor next bytes capture
 
 -- these events were accepted, or refused for their number: the answer is a reply for every trace that they make of the one before
-abbrev pub AcceptAnswered : Held → Held → ℕ → List Seen → ℕ → Tail → Option (List ℕ) → Option (List ℕ) → Type 0
-AcceptAnswered held held' k events size tail written written' = (d : Declaration) (s : State) (label : Label) (old new : Trace) → StandsFor held d s
+abbrev pub AcceptAnswered : Held → Held → ℕ → List Seen → ℕ → Tail → (List ℕ → Type 0) → Type 0
+AcceptAnswered held held' k events size tail IsWritten = (d : Declaration) (s : State) (label : Label) (old new : Trace) → StandsFor held d s
     → slice_get d.labels k ≡ Some label → slice_get s.traces k ≡ Some old → IsGrownTrace d label.host label.kind old new events size tail
-    → Answered held' d written written' (AcceptReply d s k new)
+    → Answered held' d (AcceptReply d s k new) IsWritten
 
 -- the same of a command or of a line that spells none, with what its read came to
-abbrev pub CommandAnswered : Content → ℕ → ℕ → ℕ → ℕ → Option (List ℕ) → Option (List ℕ) → Held → Held → Option Command → Type 0
-CommandAnswered files faults faults' absences absences' written written' held held' command = (d : Declaration) (s : State) → StandsFor held d s →
-    (found : Found) × Answered held' d written written' (CommandReply d files s command found) × AreCounted (found ∷ []) faults faults' absences absences'
+abbrev pub CommandAnswered : Option Command → FilesTold → FilesTold → Held → Held → (List ℕ → Type 0) → Type 0
+CommandAnswered command files files' held held' IsWritten = (d : Declaration) (s : State) → StandsFor held d s →
+    (found : Found) × Answered held' d (CommandReply d files.content s command found) IsWritten × AreCounted (found ∷ []) files files'

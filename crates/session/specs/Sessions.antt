@@ -1,6 +1,6 @@
 -- A session over a script: one reply for each line, in order.
 use Rattle.std.specs.Prelude.{◌≡◌, ℕ, ◌+◌, ◌-◌, ◌^◌, ◌<◌, ◌≤◌, List, [], ◌∷◌, length, map, count_by, Option, Some, None, Bool, true, false, nat_le, codes, MatchBool}
-use Rattle.ports.specs.Files.{Content}
+use Rattle.ports.specs.Files.{Content, FilesTold}
 use Rattle.decl.specs.declared.items.Label.{Label}
 use Rattle.decl.specs.Declaration.{Declaration}
 use Rattle.traces.specs.Traces.{nothing_for}
@@ -65,6 +65,6 @@ abbrev pub AreAtMost : ℕ → ℕ → ℕ → Type 0
 AreAtMost n old new = new < 2 ^ 64 - 1 → old + n ≤ new
 
 -- at most as many reads failed, and as many paths were not there, as the files counted
-pub record AreCounted (founds : List Found) (faults faults' absences absences' : ℕ) : Type 0 where
-  pub failed : AreAtMost (count_by is_failed founds) faults faults'
-  pub absent : AreAtMost (count_by is_absent founds) absences absences'
+pub record AreCounted (founds : List Found) (old new : FilesTold) : Type 0 where
+  pub failed : AreAtMost (count_by is_failed founds) old.faults new.faults
+  pub absent : AreAtMost (count_by is_absent founds) old.absences new.absences

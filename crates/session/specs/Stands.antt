@@ -1,7 +1,7 @@
 -- What a session holds, and what it stands for.
-use Rattle.std.specs.Prelude.{◌≡◌, ℕ, ◌+◌, ◌^◌, ◌≤◌, List, [], ◌∷◌, length, map, slice_get, Option, Some, All}
-use Rattle.ports.specs.Content.{Appends}
-use Rattle.ports.specs.Files.{Content}
+use Rattle.std.specs.Prelude.{◌≡◌, ℕ, ◌+◌, ◌^◌, ◌≤◌, List, [], ◌∷◌, length, map, slice_get, Some, All, Result, OnOk, IsErrOf}
+use Rattle.ports.specs.Content.{Appends, AppendsPrefix, Rose, SinkTold}
+use Rattle.ports.specs.Files.{FilesTold}
 use Rattle.pcap_stream.specs.Capture as captures
 use Rattle.pcap_stream.specs.Feeding as feeding
 use Rattle.pcap_stream.specs.Feeding.{Tail}
@@ -12,6 +12,8 @@ use Rattle.traces.specs.declared.accepted.Accepted.{Accepted}
 use Rattle.traces.specs.Traces.{Trace, Captured, size_of, seen_by, IsOfKind, event_count}
 use Rattle.traces.specs.Messages.{problem_of_seen}
 use Rattle.problem_model.specs.Problem.{ProblemLists}
+use Rattle.queries.specs.declared.stop.Stop.{Stop}
+use Rattle.queries.specs.declared.stop.Stop.TheVariants as stops
 use Rattle.session.specs.Reply.{State, Found}
 use Rattle.session.specs.Sessions.{LineReply, AreCounted}
 
@@ -64,10 +66,18 @@ pub record StandsFor (h : Held) (d : Declaration) (s : State) : Type 0 where
       → feeding.StandsFor u.tail bytes capture
   pub kept : s.kept ≡ []
 
--- for each declaration, traces and kept events that the session stood for, what was written is a reply to the line, and it stands for what follows
-abbrev pub Stepped : Content → ℕ → ℕ → ℕ → ℕ → Option (List ℕ) → Option (List ℕ) → Held → Held → List ℕ → Type 0
-Stepped files faults faults' absences absences' written written' held held' line = (d : Declaration) (s : State) → StandsFor held d s →
-    (found : Found) × (text : List ℕ) × (s' : State) × LineReply d files s line found text s'
-    × Appends written written' text
-    × AreCounted (found ∷ []) faults faults' absences absences'
+-- for each declaration, traces and kept events that the session stood for, a reply to the line stands written so, and the
+-- session stands for what follows it
+abbrev pub Stepped : List ℕ → FilesTold → FilesTold → Held → Held → (List ℕ → Type 0) → Type 0
+Stepped line files files' held held' IsWritten = (d : Declaration) (s : State) → StandsFor held d s →
+    (found : Found) × (text : List ℕ) × (s' : State) × LineReply d files.content s line found text s'
+    × IsWritten text
+    × AreCounted (found ∷ []) files files'
     × StandsFor held' d s'
+
+-- this is said of the reply as it stands written: whole, or a front of it where a write failed
+pub record WritesReply (Says : (List ℕ → Type 0) → Type 0) (old new : SinkTold) (result : Result (Unit {0}) Stop) : Type 0 where
+  pub reply : OnOk result (Says (Appends old.written new.written))
+  pub front : IsErrOf result stops.WriteFault → Says (AppendsPrefix old.written new.written)
+  pub cause : IsErrOf result stops.WriteFault → Rose old.faults new.faults
+  pub no_fall : old.faults ≤ new.faults

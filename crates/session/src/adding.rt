@@ -1,12 +1,12 @@
 // Additions to the labels of a session.
-ghost use Rattle.std.specs.Prelude.{◌≡◌, ◌<◌, ◌≤◌, ◌^◌, ℕ, List, length, slice_get, OnOk, IsErrOf, Some};
-ghost use Rattle.ports.specs.Content.{Rose};
+ghost use Rattle.std.specs.Prelude.{◌<◌, ◌≤◌, ◌^◌, length, Some};
+ghost use Rattle.ports.specs.Files.{Keeps};
 ghost use Rattle.decl.specs.declared.items.TraceKind.TheVariants as kinds;
-ghost use Rattle.queries.specs.declared.stop.Stop.TheVariants as stops;
 ghost use Rattle.trace_event.specs.Seen.{seen_events};
 ghost use Rattle.session.specs.Commands as asked;
-ghost use Rattle.session.specs.Reply.{PieceReply, LogReply, CaptureReply};
-ghost use Rattle.session.specs.Inside.{HasPlace, IsTailWithin, IsPiece, PieceAnswered, KindAnswered, AcceptAnswered, CommandAnswered};
+ghost use Rattle.session.specs.Reply.{LogReply, CaptureReply};
+ghost use Rattle.session.specs.Stands.{WritesReply};
+ghost use Rattle.session.specs.Inside.{HasPlace, IsTailWithin, FrontAnswered, KindAnswered, AcceptAnswered, CommandAnswered};
 
 use crate::Session;
 use crate::accepted::{extend, has_place, has_room, size_at};
@@ -30,11 +30,9 @@ impl Session {
         files: &mut F,
         out: &mut O,
     ) -> Result<(), Stop>
-        ensures reply { OnOk result (CommandAnswered (F.content files.old) (F.faults files.old) (F.faults files.new) (F.absences files.old) (F.absences files.new) (O.written out.old) (O.written out.new) self.old self.new (Some (asked.Add label.now path.now))) }
-        ensures cause { IsErrOf result stops.WriteFault → Rose (O.faults out.old) (O.faults out.new) }
-        ensures same { F.content files.new ≡ F.content files.old }
-        ensures no_fall { (F.faults files.old ≤ F.faults files.new) × (F.absences files.old ≤ F.absences files.new) }
-        ensures out_no_fall { O.faults out.old ≤ O.faults out.new }
+        ensures writes { WritesReply (CommandAnswered (Some (asked.Add label.now path.now)) (F.told files.old) (F.told files.new) self.old self.new)
+            (O.told out.old) (O.told out.new) result }
+        ensures keeps { Keeps (F.told files.old) (F.told files.new) }
     {
         match label_at(&self.decl.labels, label) {
             Some(k) => match read_file(self.alloc, files, path, 1 << 28) {
@@ -56,9 +54,8 @@ impl Session {
         out: &mut O,
     ) -> Result<(), Stop>
         requires { k < length self.old.declaration.labels }
-        ensures reply { OnOk result ((bytes : List ℕ) → IsPiece more front.now bytes → PieceAnswered self.old self.new (O.written out.old) (O.written out.new) (λ d s. PieceReply d s k (slice_get d.labels k) (slice_get s.traces k) bytes)) }
-        ensures cause { IsErrOf result stops.WriteFault → Rose (O.faults out.old) (O.faults out.new) }
-        ensures no_fall { O.faults out.old ≤ O.faults out.new }
+        ensures { WritesReply (FrontAnswered more front.now self.old self.new k)
+            (O.told out.old) (O.told out.new) result }
     {
         if more {
             return write_line(b"refused 23\n", out);
@@ -77,9 +74,8 @@ impl Session {
         requires inside { k < length self.old.under }
         requires short { length piece.now ≤ 2 ^ 28 }
         requires place { HasPlace self.old.under k (length piece.now) }
-        ensures reply { OnOk result (KindAnswered kinds.Log self.old self.new k (O.written out.old) (O.written out.new) (λ d s trace. LogReply d s k trace piece.now)) }
-        ensures cause { IsErrOf result stops.WriteFault → Rose (O.faults out.old) (O.faults out.new) }
-        ensures no_fall { O.faults out.old ≤ O.faults out.new }
+        ensures { WritesReply (KindAnswered kinds.Log self.old self.new k (λ d s trace. LogReply d s k trace piece.now))
+            (O.told out.old) (O.told out.new) result }
     {
         match read_rows(self.alloc, piece) {
             Ok(rows) => {
@@ -96,9 +92,8 @@ impl Session {
         requires inside { k < length self.old.under }
         requires short { length piece.now ≤ 2 ^ 28 }
         requires place { HasPlace self.old.under k (length piece.now) }
-        ensures reply { OnOk result (KindAnswered kinds.Capture self.old self.new k (O.written out.old) (O.written out.new) (λ d s trace. CaptureReply d s k trace piece.now)) }
-        ensures cause { IsErrOf result stops.WriteFault → Rose (O.faults out.old) (O.faults out.new) }
-        ensures no_fall { O.faults out.old ≤ O.faults out.new }
+        ensures { WritesReply (KindAnswered kinds.Capture self.old self.new k (λ d s trace. CaptureReply d s k trace piece.now))
+            (O.told out.old) (O.told out.new) result }
     {
         let mut packets = Vec::new(self.alloc);
         match self.accepted[k].stream.feed(piece, &mut packets) {
@@ -123,9 +118,8 @@ impl Session {
         requires inside { k < length self.old.under }
         requires place { HasPlace self.old.under k size }
         requires within { IsTailWithin self.old.under k size stream }
-        ensures reply { OnOk result (AcceptAnswered self.old self.new k (seen_events events.items) size stream (O.written out.old) (O.written out.new)) }
-        ensures cause { IsErrOf result stops.WriteFault → Rose (O.faults out.old) (O.faults out.new) }
-        ensures no_fall { O.faults out.old ≤ O.faults out.new }
+        ensures { WritesReply (AcceptAnswered self.old self.new k (seen_events events.items) size stream)
+            (O.told out.old) (O.told out.new) result }
     {
         let more = events.len();
         if !has_room(&self.accepted, more) {

@@ -1,8 +1,6 @@
 // The reply to an addition.
-ghost use Rattle.std.specs.Prelude.{◌≤◌, OnOk, IsErrOf};
-ghost use Rattle.ports.specs.Content.{Rose};
+ghost use Rattle.ports.specs.Content.{WritesSuch};
 ghost use Rattle.queries.specs.declared.stop.Stop.TheVariants as stops;
-ghost use Rattle.queries.specs.Replies.{AppendsSome};
 ghost use Rattle.session.specs.Inside.{IsAddedTo};
 
 use crate::lines::{Added, added_line, write_line};
@@ -22,9 +20,7 @@ pub(crate) fn write_added<O: Sink>(
     changed: Changed,
     out: &mut O,
 ) -> Result<(), Stop>
-    ensures reply { OnOk result (AppendsSome (IsAddedTo p.now changed events pending) (O.written out.old) (O.written out.new)) }
-    ensures cause { IsErrOf result stops.WriteFault → Rose (O.faults out.old) (O.faults out.new) }
-    ensures no_fall { O.faults out.old ≤ O.faults out.new }
+    ensures { WritesSuch (IsAddedTo p.now changed events pending) stops.WriteFault (O.told out.old) (O.told out.new) result }
 {
     let consistent = is_consistent(alloc, p)?;
     let line = added_line(

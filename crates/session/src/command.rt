@@ -7,16 +7,9 @@ ghost use Rattle.session.specs.CommandSeen.{command_seen};
 
 use line_format::{cut, three_words};
 
-/// What a line asks for. Each word is 1 byte or more from 33 to 126.
+/// What is asked of all that was added. Each word is 1 byte or more from 33 to 126.
 #[derive(Clone, Copy, Debug)]
-pub enum Command<'a> {
-    /// Adds the file at a path to a label.
-    Add {
-        /// The name of the label.
-        label: &'a [u8],
-        /// Where the file is.
-        path: &'a str,
-    },
+pub enum Question<'a> {
     /// The interval of the real time from one event to another.
     Interval {
         /// The name of the event that it is measured from.
@@ -49,6 +42,20 @@ pub enum Command<'a> {
     Problem,
     /// What there is to say of all events.
     Report,
+}
+
+/// What a line asks for. Each word is 1 byte or more from 33 to 126.
+#[derive(Clone, Copy, Debug)]
+pub enum Command<'a> {
+    /// Adds the file at a path to a label.
+    Add {
+        /// The name of the label.
+        label: &'a [u8],
+        /// Where the file is.
+        path: &'a str,
+    },
+    /// Asks about all that was added.
+    Ask(Question<'a>),
 }
 
 fn are_visible(word: &[u8]) -> bool
@@ -89,11 +96,11 @@ fn command_of<'a>(name: &[u8], first: &'a [u8], second: &'a [u8]) -> Option<Comm
         let path = text_of(second);
         Some(Command::Add { label: first, path })
     } else if name == b"interval".as_slice() {
-        Some(Command::Interval { first, second })
+        Some(Command::Ask(Question::Interval { first, second }))
     } else if name == b"order".as_slice() {
-        Some(Command::Order { first, second })
+        Some(Command::Ask(Question::Order { first, second }))
     } else if name == b"prove".as_slice() {
-        Some(Command::Prove { first, second })
+        Some(Command::Ask(Question::Prove { first, second }))
     } else {
         None
     }
@@ -107,7 +114,7 @@ fn command_of_two<'a>(name: &[u8], event: &'a [u8]) -> Option<Command<'a>>
         return None;
     }
     if name == b"time".as_slice() {
-        Some(Command::Time { event })
+        Some(Command::Ask(Question::Time { event }))
     } else {
         None
     }
@@ -118,11 +125,11 @@ fn command_of_one(name: &[u8]) -> Option<Command<'_>>
     ensures { HasWords (name.now ∷ []) (option_map command_seen result) }
 {
     if name == b"merge".as_slice() {
-        Some(Command::Merge)
+        Some(Command::Ask(Question::Merge))
     } else if name == b"problem".as_slice() {
-        Some(Command::Problem)
+        Some(Command::Ask(Question::Problem))
     } else if name == b"report".as_slice() {
-        Some(Command::Report)
+        Some(Command::Ask(Question::Report))
     } else {
         None
     }

@@ -9,6 +9,7 @@
 mod accepted;
 mod adding;
 mod addition;
+mod answering;
 mod command;
 mod events;
 mod labels;
@@ -22,10 +23,3 @@ mod session;
 pub use laws::{commands_are_one, replies_are_one};
 pub use queries::Stop;
 pub use session::Session;
-
-#[cfg(test)]
-mod cut_tests;
-#[cfg(test)]
-mod query_tests;
-#[cfg(test)]
-mod tests;

@@ -1,9 +1,8 @@
 // Lines of replies, composed word by word.
-ghost use Rattle.std.specs.Prelude.{◌≡◌, ◌≤◌, ◌∷◌, [], ◌++◌, ℕ, List, OnOk, IfOk, IsErrOf, codes};
+ghost use Rattle.std.specs.Prelude.{◌≡◌, ◌∷◌, [], ◌++◌, ℕ, List, OnOk, IfOk, codes};
 ghost use Rattle.atto.specs.Decimal.{decimal_of};
 ghost use Rattle.line_format.specs.Words.{words};
-ghost use Rattle.ports.specs.Content.{Rose, Appends};
-ghost use Rattle.queries.specs.declared.stop.Stop.TheVariants as stops;
+ghost use Rattle.ports.specs.Content.{Writes};
 ghost use Rattle.session.specs.Reply.{added_line, refusal, state_word};
 ghost use Rattle.session.specs.Inside.{row_line};
 
@@ -85,9 +84,7 @@ pub(crate) fn place_line(alloc: Global, place: u32) -> Result<Vec<u8>, AllocErro
 
 /// Writes a line that has its line feed.
 pub(crate) fn write_line<O: Sink>(line: &[u8], out: &mut O) -> Result<(), Stop>
-    ensures ok { OnOk result (Appends (O.written out.old) (O.written out.new) line.now) }
-    ensures cause { IsErrOf result stops.WriteFault → Rose (O.faults out.old) (O.faults out.new) }
-    ensures no_fall { O.faults out.old ≤ O.faults out.new }
+    ensures { Writes line.now (O.told out.old) (O.told out.new) result }
 {
     write_whole(out, line)?;
     Ok(())

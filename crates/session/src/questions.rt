@@ -1,9 +1,9 @@
 // Questions about events, by their names.
-ghost use Rattle.std.specs.Prelude.{◌≤◌, ◌<◌, length, Some, IfSome, OnOk, IsErrOf};
-ghost use Rattle.ports.specs.Content.{Rose};
+ghost use Rattle.std.specs.Prelude.{◌<◌, length, Some, IfSome};
+ghost use Rattle.ports.specs.Content.{WritesSuch};
 ghost use Rattle.queries.specs.declared.stop.Stop.TheVariants as stops;
 ghost use Rattle.queries.specs.Clocks.{KeepsTime};
-ghost use Rattle.queries.specs.Replies.{AppendsSome, IsIntervalLine, IsOrderLine, IsProofText};
+ghost use Rattle.queries.specs.Replies.{IsIntervalLine, IsOrderLine, IsProofText};
 ghost use Rattle.session.specs.Inside.{IsReplyOfTwo};
 ghost use Rattle.session.specs.Reply.{IsTimeReply, OfOne};
 
@@ -22,9 +22,7 @@ pub(crate) fn ask_interval<O: Sink>(
     second: &[u8],
     out: &mut O,
 ) -> Result<(), Stop>
-    ensures reply { OnOk result (AppendsSome (IsReplyOfTwo p.now first.now second.now (IsIntervalLine p.now)) (O.written out.old) (O.written out.new)) }
-    ensures cause { IsErrOf result stops.WriteFault → Rose (O.faults out.old) (O.faults out.new) }
-    ensures no_fall { O.faults out.old ≤ O.faults out.new }
+    ensures { WritesSuch (IsReplyOfTwo p.now first.now second.now (IsIntervalLine p.now)) stops.WriteFault (O.told out.old) (O.told out.new) result }
 {
     match two_events(p, first, second) {
         Some((from, to)) => write_interval(alloc, p, from, to, out),
@@ -40,9 +38,7 @@ pub(crate) fn ask_order<O: Sink>(
     second: &[u8],
     out: &mut O,
 ) -> Result<(), Stop>
-    ensures reply { OnOk result (AppendsSome (IsReplyOfTwo p.now first.now second.now (IsOrderLine p.now)) (O.written out.old) (O.written out.new)) }
-    ensures cause { IsErrOf result stops.WriteFault → Rose (O.faults out.old) (O.faults out.new) }
-    ensures no_fall { O.faults out.old ≤ O.faults out.new }
+    ensures { WritesSuch (IsReplyOfTwo p.now first.now second.now (IsOrderLine p.now)) stops.WriteFault (O.told out.old) (O.told out.new) result }
 {
     match two_events(p, first, second) {
         Some((from, to)) => write_order(alloc, p, from, to, out),
@@ -58,9 +54,7 @@ pub(crate) fn ask_proof<O: Sink>(
     second: &[u8],
     out: &mut O,
 ) -> Result<(), Stop>
-    ensures reply { OnOk result (AppendsSome (IsReplyOfTwo p.now first.now second.now (IsProofText p.now)) (O.written out.old) (O.written out.new)) }
-    ensures cause { IsErrOf result stops.WriteFault → Rose (O.faults out.old) (O.faults out.new) }
-    ensures no_fall { O.faults out.old ≤ O.faults out.new }
+    ensures { WritesSuch (IsReplyOfTwo p.now first.now second.now (IsProofText p.now)) stops.WriteFault (O.told out.old) (O.told out.new) result }
 {
     match two_events(p, first, second) {
         Some((from, to)) => write_proof(alloc, p, from, to, out),
@@ -78,9 +72,7 @@ fn time_by<O: Sink>(
 ) -> Result<(), Stop>
     requires clock { KeepsTime p.now clock }
     requires event { event < length p.now.events }
-    ensures reply { OnOk result (AppendsSome (IsTimeReply p.now (Some clock) event) (O.written out.old) (O.written out.new)) }
-    ensures cause { IsErrOf result stops.WriteFault → Rose (O.faults out.old) (O.faults out.new) }
-    ensures no_fall { O.faults out.old ≤ O.faults out.new }
+    ensures { WritesSuch (IsTimeReply p.now (Some clock) event) stops.WriteFault (O.told out.old) (O.told out.new) result }
 {
     match reading_of(p, clock) {
         Some(stamp) => write_time(alloc, p, clock, stamp, event, out),
@@ -97,9 +89,7 @@ pub(crate) fn ask_time<O: Sink>(
     out: &mut O,
 ) -> Result<(), Stop>
     requires source { IfSome source (λ clock. KeepsTime p.now clock) }
-    ensures reply { OnOk result (AppendsSome (OfOne p.now event.now (IsTimeReply p.now source)) (O.written out.old) (O.written out.new)) }
-    ensures cause { IsErrOf result stops.WriteFault → Rose (O.faults out.old) (O.faults out.new) }
-    ensures no_fall { O.faults out.old ≤ O.faults out.new }
+    ensures { WritesSuch (OfOne p.now event.now (IsTimeReply p.now source)) stops.WriteFault (O.told out.old) (O.told out.new) result }
 {
     match event_of(p, event) {
         Some(event) => match source {

@@ -1,8 +1,7 @@
 // Refusals of a piece: of a log by one of its rows, of a capture by its header or one of its records.
-ghost use Rattle.std.specs.Prelude.{◌≡◌, ◌≤◌, OnOk, IsErrOf};
-ghost use Rattle.ports.specs.Content.{Rose};
+ghost use Rattle.std.specs.Prelude.{◌≡◌};
+ghost use Rattle.ports.specs.Content.{WritesSuch};
 ghost use Rattle.queries.specs.declared.stop.Stop.TheVariants as stops;
-ghost use Rattle.queries.specs.Replies.{AppendsSome};
 ghost use Rattle.session.specs.Reply.{row_fault};
 ghost use Rattle.session.specs.Inside.{IsCaptureRefusal, IsRowRefusal};
 
@@ -28,9 +27,7 @@ fn row_fault(e: LogError) -> Option<(u32, u32)>
 
 /// Refuses a piece for this fault. For want of memory nothing is written, and `Memory` is answered.
 pub(crate) fn refuse_row<O: Sink>(alloc: Global, e: LogError, out: &mut O) -> Result<(), Stop>
-    ensures reply { OnOk result (AppendsSome (IsRowRefusal e) (O.written out.old) (O.written out.new)) }
-    ensures cause { IsErrOf result stops.WriteFault → Rose (O.faults out.old) (O.faults out.new) }
-    ensures no_fall { O.faults out.old ≤ O.faults out.new }
+    ensures { WritesSuch (IsRowRefusal e) stops.WriteFault (O.told out.old) (O.told out.new) result }
 {
     match row_fault(e) {
         Some((row, number)) => {
@@ -43,9 +40,7 @@ pub(crate) fn refuse_row<O: Sink>(alloc: Global, e: LogError, out: &mut O) -> Re
 
 /// Refuses a piece of a capture for this fault. For want of memory nothing is written, and `Memory` is answered.
 pub(crate) fn refuse_capture<O: Sink>(alloc: Global, e: PcapError, out: &mut O) -> Result<(), Stop>
-    ensures reply { OnOk result (AppendsSome (IsCaptureRefusal e) (O.written out.old) (O.written out.new)) }
-    ensures cause { IsErrOf result stops.WriteFault → Rose (O.faults out.old) (O.faults out.new) }
-    ensures no_fall { O.faults out.old ≤ O.faults out.new }
+    ensures { WritesSuch (IsCaptureRefusal e) stops.WriteFault (O.told out.old) (O.told out.new) result }
 {
     match e {
         PcapError::Magic => write_line(b"refused 24 1\n", out),

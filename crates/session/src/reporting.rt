@@ -1,12 +1,11 @@
 // The report on all events.
-ghost use Rattle.std.specs.Prelude.{◌≡◌, ◌≤◌, ◌^◌, length, OnOk, IsErrOf};
-ghost use Rattle.ports.specs.Content.{Rose};
+ghost use Rattle.std.specs.Prelude.{◌≡◌, ◌≤◌, ◌^◌, length};
+ghost use Rattle.ports.specs.Content.{WritesSuch};
 ghost use Rattle.decl.specs.Declaration.{IsDeclaration, declaration_of};
 ghost use Rattle.traces.specs.Traces.{event_count};
 ghost use Rattle.traces.specs.Held.{seen_in};
 ghost use Rattle.traces.specs.Messages.{problem_of_seen};
 ghost use Rattle.queries.specs.declared.stop.Stop.TheVariants as stops;
-ghost use Rattle.queries.specs.Replies.{AppendsSome};
 ghost use Rattle.session.specs.Reply.{IsReport};
 
 use crate::lines::write_line;
@@ -31,9 +30,7 @@ pub(crate) fn write_report<O: Sink>(
     requires labels { length accepted.now ≡ length decl.now.labels.items }
     requires few { event_count (seen_in accepted.now) ≤ 2 ^ 20 }
     requires problem { p.now ≡ problem_of_seen (declaration_of decl.now) (seen_in accepted.now) }
-    ensures reply { OnOk result (AppendsSome (IsReport (declaration_of decl.now) (seen_in accepted.now)) (O.written out.old) (O.written out.new)) }
-    ensures cause { IsErrOf result stops.WriteFault → Rose (O.faults out.old) (O.faults out.new) }
-    ensures no_fall { O.faults out.old ≤ O.faults out.new }
+    ensures { WritesSuch (IsReport (declaration_of decl.now) (seen_in accepted.now)) stops.WriteFault (O.told out.old) (O.told out.new) result }
 {
     let consistent = is_consistent(alloc, p)?;
     let view = view_of(alloc, decl, accepted, consistent)?;

@@ -3,6 +3,7 @@ use Rattle.std.proofs.lemmas.Int.{to_z-of_z}
 use mir.Syntax.{w128}
 use Rattle.problem_model.specs.declared.items.Node.TheVariants as nodes
 use Rattle.problem_model.specs.Bounds.{Times}
+use Rattle.ports.proofs.Writing.{writes_as}
 use Rattle.decl.specs.Declaration.{Declaration, declaration_of}
 use Rattle.traces.specs.Traces.{Placed, name_of}
 use Rattle.traces.specs.Held.{placed_in, placed_of}
@@ -11,7 +12,6 @@ use Rattle.trace_problem.proofs.Lists.{all_at}
 use Rattle.report.specs.Merging.{merge_line}
 use Rattle.merging.specs.Merged.{line_if}
 use Rattle.merging.specs.Writing.{times_by}
-use Rattle.merging.proofs.Shown.{shown_line}
 use Rattle.merging.proofs.lines.write_line_at.Goals as goal
 
 pub write_event-requires-clause-label : goal.write_event-requires-clause-label
@@ -20,12 +20,10 @@ write_event-requires-clause-label g c =
     let at = placed_at c.args.events.now c.args.place c.index-events-place.result c.requires.inside c.index-events-place.is in
     all_at (λ (e : Placed). e.id.label < length d.labels) (placed_in c.args.events.now) c.args.place (placed_of c.index-events-place.result) c.requires.events.labels at
 
-pub returns-clause-ok : goal.returns-clause-ok
-returns-clause-ok g c =
+pub returns : goal.returns
+returns g c =
     let d : Declaration = declaration_of c.args.decl.now in
     let x : Times = times_by c.args.e.now.values in
     let at : slice_get (placed_in c.args.events.now) c.args.place ≡ Some (placed_of c.index-events-place.result) = placed_at c.args.events.now c.args.place c.index-events-place.result c.requires.inside c.index-events-place.is in
     let value : to_z w128 (of_z w128 c.value.result) ≡ x (nodes.Event c.args.place) = to_z-of_z w128 c.value.result (record { sfits = c.value.type_inv }) ∙ c.value.ensures in
-    shown_line c.write_event.result _ _ _ _
-    (ap (λ (v : ℤ). merge_line v (name_of d c.index-events-place.result.id) (placed_of c.index-events-place.result).seen.text) value ∙ ap (line_if d x c.args.place) (sym at))
-    c.write_event.ensures.ok
+    writes_as (ap (λ (v : ℤ). merge_line v (name_of d c.index-events-place.result.id) (placed_of c.index-events-place.result).seen.text) value ∙ ap (line_if d x c.args.place) (sym at)) c.write_event.ensures

@@ -1,14 +1,13 @@
-use Rattle.std.proofs.Common.{◌≤◌, drop}
+use Rattle.std.proofs.Common.{drop}
 use Rattle.decl.specs.Declaration.{declaration_of}
 use Rattle.traces.specs.Held.{placed_in}
-use Rattle.cert.proofs.Pieces.{Leaves}
+use Rattle.ports.proofs.Writing.{Leaves}
 use Rattle.merging.specs.Writing.{lines_of, times_by}
 use Rattle.merging.proofs.lines.write_lines.Given as goal
 
 -- the lines from this place of the order on are what is left of all
 abbrev pub invariant-loop-place : goal.invariant-loop-place
 invariant-loop-place g l =
-    Leaves (g.O.Sink.written l.initial.out) (g.O.Sink.written l.out)
+    Leaves (g.O.Sink.told l.initial.out) (g.O.Sink.told l.out)
     (lines_of (declaration_of l.decl) (times_by l.e.values) (placed_in l.events) (drop l.place-index l.order))
     (lines_of (declaration_of l.decl) (times_by l.e.values) (placed_in l.events) l.order)
-    × (g.O.Sink.faults l.initial.out ≤ g.O.Sink.faults l.out)

@@ -1,13 +1,14 @@
 use Rattle.std.proofs.Common.{◌≡◌, ◌<◌, ◌++◌, ℕ, List, length, All, sym, ◌∙◌, ap, subst, arith}
 use Rattle.std.proofs.lemmas.List.{length-map}
 use Rattle.problem_model.specs.Bounds.{Times}
+use Rattle.ports.proofs.Writing.{such_failed, such_written}
 use Rattle.decl.specs.Declaration.{Declaration, declaration_of}
 use Rattle.traces.specs.Traces.{Placed}
 use Rattle.traces.specs.Held.{placed_in, placed_of}
 use Rattle.report.specs.declared.merge.MergeKey.{MergeKey}
 use Rattle.report.specs.Merging.{AreApart, IsMergeOrder}
 use Rattle.merging.specs.Merged.{keys_from}
-use Rattle.merging.specs.Writing.{count_line, lines_of, times_by}
+use Rattle.merging.specs.Writing.{IsTextBy, count_line, lines_of, times_by}
 use Rattle.merging.proofs.Agreeing.{keys_apart, length_keys}
 use Rattle.merging.proofs.OneOrder.{order_within}
 use Rattle.merging.proofs.merge.write_merged.Goals as goal
@@ -33,15 +34,26 @@ write_ordered-requires-clause-inside g c =
     let order : IsMergeOrder c.deref.result.now c.deref-2.result.now = subst (IsMergeOrder c.deref.result.now) (sym c.deref-2.ensures.value) c.in_ok-order.ensures in
     subst (λ (n : ℕ). All (λ (k : ℕ). k < n) c.deref-2.result.now) total (order_within c.deref.result.now c.deref-2.result.now order)
 
-pub returns-clause-merged : goal.returns-clause-merged
-returns-clause-merged g c =
+pub returns-in_err-write_ordered : goal.returns-in_err-write_ordered
+returns-in_err-write_ordered g c =
     let d : Declaration = declaration_of c.args.decl.now in
     let x : Times = times_by c.args.e.now.values in
     let events : List Placed = placed_in c.args.events.now in
     let keys : c.deref.result.now ≡ keys_from x 0 events = c.deref.ensures.value ∙ c.in_ok-keys.ensures in
     let order : IsMergeOrder c.deref.result.now c.deref-2.result.now = subst (IsMergeOrder c.deref.result.now) (sym c.deref-2.ensures.value) c.in_ok-order.ensures in
-    let sorted : IsMergeOrder (keys_from x 0 events) c.deref-2.result.now = subst (λ (ks : List MergeKey). IsMergeOrder ks c.deref-2.result.now) keys order in (
-      count_line (length c.args.events.now) ++ lines_of d x events c.deref-2.result.now,
-      (c.deref-2.result.now, sorted, ap (λ (n : ℕ). count_line n ++ lines_of d x events c.deref-2.result.now) (sym (length-map c.args.events.now placed_of))),
-      c.in_ok-write_ordered.ensures.ok,
-    )
+    let sorted : IsMergeOrder (keys_from x 0 events) c.deref-2.result.now = subst (λ (ks : List MergeKey). IsMergeOrder ks c.deref-2.result.now) keys order in
+    such_failed (IsTextBy d x events)
+    (c.deref-2.result.now, sorted, ap (λ (n : ℕ). count_line n ++ lines_of d x events c.deref-2.result.now) (sym (length-map c.args.events.now placed_of)))
+    c.from_residual-in_err-write_ordered.ensures.0 c.in_err-write_ordered.ensures
+
+pub returns : goal.returns
+returns g c =
+    let d : Declaration = declaration_of c.args.decl.now in
+    let x : Times = times_by c.args.e.now.values in
+    let events : List Placed = placed_in c.args.events.now in
+    let keys : c.deref.result.now ≡ keys_from x 0 events = c.deref.ensures.value ∙ c.in_ok-keys.ensures in
+    let order : IsMergeOrder c.deref.result.now c.deref-2.result.now = subst (IsMergeOrder c.deref.result.now) (sym c.deref-2.ensures.value) c.in_ok-order.ensures in
+    let sorted : IsMergeOrder (keys_from x 0 events) c.deref-2.result.now = subst (λ (ks : List MergeKey). IsMergeOrder ks c.deref-2.result.now) keys order in
+    such_written (IsTextBy d x events)
+    (c.deref-2.result.now, sorted, ap (λ (n : ℕ). count_line n ++ lines_of d x events c.deref-2.result.now) (sym (length-map c.args.events.now placed_of)))
+    c.in_ok-write_ordered.ensures

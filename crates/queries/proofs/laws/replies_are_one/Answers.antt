@@ -9,10 +9,10 @@ pub returns-clause-order : goal.returns-clause-order
 returns-clause-order c = one_order_line
 
 pub returns-clause-interval_reply : goal.returns-clause-interval_reply
-returns-clause-interval_reply c = λ p from to. reply_says p (IsIntervalLine p from to)
+returns-clause-interval_reply c = λ p first second. reply_says p (IsIntervalLine p first second)
 
 pub returns-clause-order_reply : goal.returns-clause-order_reply
-returns-clause-order_reply c = λ p from to. reply_says p (IsOrderLine p from to)
+returns-clause-order_reply c = λ p first second. reply_says p (IsOrderLine p first second)
 
 pub returns-clause-time : goal.returns-clause-time
 returns-clause-time c = one_time_line

@@ -1,13 +1,15 @@
 use Rattle.std.proofs.Common.{inl}
-use Rattle.cert.proofs.Pieces.{appends_as}
+use Rattle.ports.proofs.Writing.{such_failed, such_written, writes_as}
+use Rattle.queries.specs.Replies.{IsAnswer, Replies}
 use Rattle.queries.proofs.Solved.{executes}
 use Rattle.queries.proofs.reply.write_answer.Goals as goal
 
-pub returns-clause-reply : goal.returns-clause-reply
-returns-clause-reply g c =
+pub returns-in_err-write_whole : goal.returns-in_err-write_whole
+returns-in_err-write_whole g c =
     let p = c.args.p.now in
-    let question = c.args.question in (
-      c.line_for-line.result.items,
-      inl (executes p c.readings.result.now c.readings.ensures c.args.g.now c.args.e.now c.requires.solved, c.line_for-line.ensures p question.from question.to c.in_ok-pair.ensures.pair),
-      appends_as _ _ _ _ c.as_slice.ensures.value c.in_ok-write_whole.ensures.ok,
-    )
+    such_failed (Replies p (IsAnswer p c.args.question)) (inl (executes p c.readings.result.now c.readings.ensures c.args.g.now c.args.e.now c.requires.solved, c.line_for-line.ensures p c.args.question.first c.args.question.second c.in_ok-pair.ensures.pair)) c.from_residual-in_err-write_whole.ensures.0 (writes_as c.as_slice.ensures.value c.in_err-write_whole.ensures)
+
+pub returns : goal.returns
+returns g c =
+    let p = c.args.p.now in
+    such_written (Replies p (IsAnswer p c.args.question)) (inl (executes p c.readings.result.now c.readings.ensures c.args.g.now c.args.e.now c.requires.solved, c.line_for-line.ensures p c.args.question.first c.args.question.second c.in_ok-pair.ensures.pair)) (writes_as c.as_slice.ensures.value c.in_ok-write_whole.ensures)

@@ -1,20 +1,12 @@
 use Rattle.std.proofs.Common.{◌∷◌, []}
-use Rattle.cert.proofs.Lines.{on_err, ok_more, err_more}
-use Rattle.cert.proofs.Pieces.{first_cut, second_cut, third_cut, three_pieces}
+use Rattle.ports.proofs.Writing.{writes_then, writes_front, writes_failed}
 use Rattle.report.proofs.merge.write_text.Goals as goal
 
-pub returns-in_err-write_whole-clause-err : goal.returns-in_err-write_whole-clause-err
-returns-in_err-write_whole-clause-err g c =
-    on_err c.from_residual.result _ (first_cut _ _ c.args.head.now c.args.text.now (10 ∷ []) c.in_err-write_whole.ensures.err)
+pub returns-in_err-write_whole : goal.returns-in_err-write_whole
+returns-in_err-write_whole g c = writes_failed c.from_residual.ensures.0 (writes_front _ (writes_front _ c.in_err-write_whole.ensures))
 
-pub returns-in_err-write_whole-2-clause-err : goal.returns-in_err-write_whole-2-clause-err
-returns-in_err-write_whole-2-clause-err g c =
-    on_err c.from_residual-in_err-write_whole-2.result _ (second_cut _ _ _ c.args.head.now c.args.text.now (10 ∷ []) c.in_ok-write_whole.ensures.ok c.in_err-write_whole-2.ensures.err)
+pub returns-in_err-write_whole-2 : goal.returns-in_err-write_whole-2
+returns-in_err-write_whole-2 g c = writes_failed c.from_residual-in_err-write_whole-2.ensures.0 (writes_front _ (writes_then c.in_ok-write_whole.ensures c.in_err-write_whole-2.ensures))
 
-pub returns-clause-ok : goal.returns-clause-ok
-returns-clause-ok g c =
-    ok_more c.write_whole-3.result _ _ (three_pieces _ _ _ _ c.args.head.now c.args.text.now (10 ∷ []) c.in_ok-write_whole.ensures.ok c.in_ok-write_whole-2.ensures.ok) c.write_whole-3.ensures.ok
-
-pub returns-clause-err : goal.returns-clause-err
-returns-clause-err g c =
-    err_more c.write_whole-3.result _ _ (third_cut _ _ _ _ c.args.head.now c.args.text.now (10 ∷ []) c.in_ok-write_whole.ensures.ok c.in_ok-write_whole-2.ensures.ok) c.write_whole-3.ensures.err
+pub returns : goal.returns
+returns g c = writes_then (writes_then c.in_ok-write_whole.ensures c.in_ok-write_whole-2.ensures) c.write_whole-3.ensures

@@ -1,11 +1,13 @@
 use Rattle.std.proofs.Common.{◌≡◌, rules}
-use Rattle.session.proofs.Replying.{on_ok}
+use Rattle.ports.proofs.Writing.{such_of}
+use Rattle.session.specs.Inside.{IsAddedTo}
 use Rattle.session.proofs.Accepting.{added_says}
 use Rattle.session.proofs.addition.write_added.Goals as goal
 
-pub returns-clause-reply : goal.returns-clause-reply
-returns-clause-reply g c =
+pub returns : goal.returns
+returns g c =
     let messages : c.from.result ≡ c.args.changed.messages = search rules in
     let withdrawn : c.from-2.result ≡ c.args.changed.withdrawn = search rules in
-    on_ok c.write_line.result _ _ (added_says c.args.p.now c.args.changed c.in_ok-consistent.consistent c.args.events c.from.result c.from-2.result c.args.pending c.deref.result.now
-    (g.O.Sink.written c.args.out.now) (g.O.Sink.written c.write_line.new.out) c.in_ok-consistent.ensures messages withdrawn (rw c.deref.ensures.value c.in_ok-line.ensures)) c.write_line.ensures.ok
+    such_of (IsAddedTo c.args.p.now c.args.changed c.args.events c.args.pending)
+    (added_says c.args.p.now c.args.changed c.in_ok-consistent.consistent c.args.events c.from.result c.from-2.result c.args.pending c.deref.result.now c.in_ok-consistent.ensures messages withdrawn
+    (rw c.deref.ensures.value c.in_ok-line.ensures)) c.write_line.ensures

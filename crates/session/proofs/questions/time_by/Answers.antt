@@ -1,11 +1,13 @@
-use Rattle.std.proofs.Common.{refl}
-use Rattle.session.proofs.Replying.{on_ok, time_read, time_unread}
+use Rattle.std.proofs.Common.{Some, inl, inr, refl}
+use Rattle.ports.proofs.Writing.{such_as, such_of}
+use Rattle.queries.specs.Replies.{IsTimeLine, Replies}
+use Rattle.session.specs.Reply.{IsTimeReply}
 use Rattle.session.proofs.questions.time_by.Goals as goal
 
-pub returns-in-Some-clause-reply : goal.returns-in-Some-clause-reply
-returns-in-Some-clause-reply g c = on_ok c.write_time.result _ _ (time_read c.args.p.now c.args.clock c.args.event c.in-Some.stamp (g.O.Sink.written c.args.out.now) (g.O.Sink.written c.write_time.new.out)
-    c.in-Some.ensures.some) c.write_time.ensures.reply
+pub returns-in-Some : goal.returns-in-Some
+returns-in-Some g c =
+    such_as (Replies c.args.p.now (IsTimeLine c.args.p.now c.args.clock c.args.event)) (IsTimeReply c.args.p.now (Some c.args.clock) c.args.event)
+    (λ text says. inl ((c.in-Some.stamp, c.in-Some.ensures.some), says)) c.write_time.ensures
 
-pub returns-in-None-clause-reply : goal.returns-in-None-clause-reply
-returns-in-None-clause-reply g c = on_ok c.write_line.result _ _ (time_unread c.args.p.now c.args.clock c.args.event _ (g.O.Sink.written c.args.out.now) (g.O.Sink.written c.write_line.new.out)
-    c.in-None.ensures.none refl) c.write_line.ensures.ok
+pub returns-in-None : goal.returns-in-None
+returns-in-None g c = such_of (IsTimeReply c.args.p.now (Some c.args.clock) c.args.event) (inr (c.in-None.ensures.none, refl)) c.write_line.ensures

@@ -1,4 +1,4 @@
-use Rattle.std.proofs.Common.{◌≡◌, ◌∙◌, ◌+◌, ◌^◌, ◌≤◌, ℕ, sym, refl, ap, subst, nat_le, List, length, map, true, false, OnOk, rules}
+use Rattle.std.proofs.Common.{◌≡◌, ◌∙◌, ◌+◌, ◌^◌, ◌≤◌, ℕ, sym, ap, subst, nat_le, List, length, map, true, false, rules}
 use Rattle.std.specs.Vec.{with_items}
 use Rattle.std.proofs.lemmas.List.{length-map, with_items_is}
 use Rattle.decl.specs.Declaration.{declaration_of}
@@ -7,21 +7,21 @@ use Rattle.traces.specs.declared.accepted.Accepted.{Accepted}
 use Rattle.traces.specs.Traces.{event_count}
 use Rattle.traces.specs.Held.{seen_in}
 use Rattle.trace_match.specs.Ends.{AreEndsOf, IsChange}
-use Rattle.session.specs.Stands.{Held, held_of, problem_held, under_of}
+use Rattle.session.specs.Stands.{WritesReply, Held, held_of, problem_held, under_of}
 use Rattle.session.specs.Inside.{AcceptAnswered, HasPlace}
 use Rattle.session.proofs.Holding.{labels_few, le_true}
-use Rattle.session.proofs.Replying.{on_ok}
+use Rattle.session.proofs.Telling.{reply_such, reply_text}
 use Rattle.session.proofs.Accepting.{refused_in, extended, whole_extended, added_in}
 use Rattle.session.proofs.session.Session.accept.Goals as goal
 
-pub returns-then-not-has_room-clause-reply : goal.returns-then-not-has_room-clause-reply
-returns-then-not-has_room-clause-reply g c =
+pub returns-then-not-has_room : goal.returns-then-not-has_room
+returns-then-not-has_room g c =
     let len : c.len-more.result ≡ length c.args.events.items = search rules in
     let count : c.len-more.result ≡ length (seen_events c.args.events.items) = len ∙ sym (length-map c.args.events.items seen_event) in
     let room : c.has_room.result ≡ nat_le (event_count (seen_in c.self.inside.accepted.items) + c.len-more.result) (2 ^ 20) = rw (← c.deref.ensures.value) c.has_room.ensures in
     let full : c.has_room.result ≡ false = search rules in
-    on_ok c.write_line.result _ _ (refused_in (declaration_of c.self.inside.decl) c.self.inside.accepted.items c.args.self.now c.args.k c.len-more.result (seen_events c.args.events.items) c.args.size c.args.stream
-    c.has_room.result _ (g.O.Sink.written c.args.out.now) (g.O.Sink.written c.write_line.new.out) c.self.view_is c.requires.inside count room full refl) c.write_line.ensures.ok
+    reply_text (λ IsWritten. refused_in (declaration_of c.self.inside.decl) c.self.inside.accepted.items c.args.self.now c.args.k c.len-more.result (seen_events c.args.events.items) c.args.size c.args.stream
+    c.has_room.result IsWritten c.self.view_is c.requires.inside count room full) c.write_line.ensures
 
 pub extend-requires-clause-labels : goal.extend-requires-clause-labels
 extend-requires-clause-labels g c =
@@ -75,8 +75,8 @@ invariant_of-self-3 g c =
     let back : (with_items c.self.inside.accepted c.extend.new.accepted).items ≡ c.extend.new.accepted = with_items_is c.self.inside.accepted c.extend.new.accepted long in
     whole_extended _ _ _ _ _ _ _ _ e _ c.extend.new.matcher back c.self.invariant.0 c.in_ok-changed.ensures.ends
 
-pub returns-clause-reply : goal.returns-clause-reply
-returns-clause-reply g c =
+pub returns : goal.returns
+returns g c =
     let len : c.len-more.result ≡ length c.args.events.items = search rules in
     let count : c.len-more.result ≡ length (seen_events c.args.events.items) = len ∙ sym (length-map c.args.events.items seen_event) in
     let fit : c.has_room.result ≡ true = search rules in
@@ -89,7 +89,6 @@ returns-clause-reply g c =
     let change : IsChange (seen_in c.self.inside.accepted.items) (seen_in c.extend.new.accepted) c.in_ok-changed.changed =
     subst (λ (l : List Accepted). IsChange (seen_in l) (seen_in c.extend.new.accepted) c.in_ok-changed.changed) c.deref_mut.ensures.value c.in_ok-changed.ensures.changed in
     let pending : c.from-pending.result ≡ length c.args.stream.rest = search rules in
-    subst (λ (l : List Accepted). OnOk c.write_added.result (AcceptAnswered c.args.self.now (held_of (declaration_of c.self.inside.decl) l) c.args.k (seen_events c.args.events.items) c.args.size c.args.stream
-    (g.O.Sink.written c.args.out.now) (g.O.Sink.written c.write_added.new.out)))
-    (sym back) (on_ok c.write_added.result _ _ (added_in _ _ _ _ _ _ _ _ e c.in_ok-p.p c.in_ok-changed.changed c.len-more.result c.from-pending.result (g.O.Sink.written c.args.out.now) (g.O.Sink.written c.write_added.new.out)
-    problem change count pending) c.write_added.ensures.reply)
+    subst (λ (l : List Accepted). WritesReply (AcceptAnswered c.args.self.now (held_of (declaration_of c.self.inside.decl) l) c.args.k (seen_events c.args.events.items) c.args.size c.args.stream)
+    (g.O.Sink.told c.args.out.now) (g.O.Sink.told c.write_added.new.out) c.write_added.result)
+    (sym back) (reply_such (λ IsWritten. added_in _ _ _ _ _ _ _ _ e c.in_ok-p.p c.in_ok-changed.changed c.len-more.result c.from-pending.result IsWritten problem change count pending) c.write_added.ensures)

@@ -1,34 +1,36 @@
-use Rattle.std.proofs.Common.{◌≡◌, Some, None, refl, subst, rules, arith}
+use Rattle.std.proofs.Common.{◌≡◌, Some, None, subst, rules}
 use Rattle.decl.specs.Declaration.{declaration_of}
 use Rattle.session.specs.Reply.{label_at}
 use Rattle.session.specs.Stands.{Held}
-use Rattle.session.proofs.Replying.{on_ok}
+use Rattle.session.proofs.Telling.{reply_as, reply_text}
 use Rattle.session.proofs.Finding.{add_unknown, add_failed, add_absent, add_read}
 use Rattle.session.proofs.session.Session.add.Goals as goal
 
-pub returns-in-Ok-clause-reply : goal.returns-in-Ok-clause-reply
-returns-in-Ok-clause-reply g c =
+pub returns-in-Ok-clause-writes : goal.returns-in-Ok-clause-writes
+returns-in-Ok-clause-writes g c =
     let some : Some c.in-Some.k ≡ label_at (declaration_of c.self.inside.decl) c.args.label.now = search rules in
     let there = subst (λ (h : Held). Some c.in-Some.k ≡ label_at h.declaration c.args.label.now) c.self.view_is some in
-    on_ok c.add_piece.result _ _ (add_read c.args.self.now c.add_piece.new.self (g.F.Files.content c.args.files.now) c.args.label.now c.args.path.now _ _ _ _ _ _ _ (g.O.Sink.written c.args.out.now) (g.O.Sink.written c.add_piece.new.out)
-    there c.in-Ok.ensures.no_fall.0 c.in-Ok.ensures.no_fall.1 (rw c.deref-in-Ok.ensures.value c.in-Ok.ensures.read)) c.add_piece.ensures.reply
+    reply_as (λ IsWritten. add_read c.args.self.now c.add_piece.new.self (g.F.Files.told c.args.files.now) (g.F.Files.told c.read_file.new.files) c.args.label.now c.args.path.now _ _ _ IsWritten
+    there c.in-Ok.ensures.keeps (rw c.deref-in-Ok.ensures.value c.in-Ok.ensures.read)) c.add_piece.ensures
 
-pub returns-in-Err-Absent-clause-reply : goal.returns-in-Err-Absent-clause-reply
-returns-in-Err-Absent-clause-reply g c =
+pub returns-in-Err-Absent-clause-writes : goal.returns-in-Err-Absent-clause-writes
+returns-in-Err-Absent-clause-writes g c =
     let some : Some c.in-Some.k ≡ label_at (declaration_of c.self.inside.decl) c.args.label.now = search rules in
     let there = subst (λ (h : Held). Some c.in-Some.k ≡ label_at h.declaration c.args.label.now) c.self.view_is some in
     let cause = rw c.in-Err-Absent.field-0-is at c.in-Err-Absent.ensures.cause in
-    on_ok c.write_line.result _ _ (add_absent c.args.self.now (g.F.Files.content c.args.files.now) c.args.label.now c.args.path.now _ _ _ _ _ _ (g.O.Sink.written c.args.out.now) (g.O.Sink.written c.write_line.new.out) there c.in-Err-Absent.ensures.no_fall.0 cause.0 cause.1 refl) c.write_line.ensures.ok
+    reply_text (λ IsWritten. add_absent c.args.self.now (g.F.Files.told c.args.files.now) (g.F.Files.told c.read_file.new.files) c.args.label.now c.args.path.now _ IsWritten
+    there cause.0 c.in-Err-Absent.ensures.keeps cause.1) c.write_line.ensures
 
-pub returns-in-Err-Read-clause-reply : goal.returns-in-Err-Read-clause-reply
-returns-in-Err-Read-clause-reply g c =
+pub returns-in-Err-Read-clause-writes : goal.returns-in-Err-Read-clause-writes
+returns-in-Err-Read-clause-writes g c =
     let some : Some c.in-Some.k ≡ label_at (declaration_of c.self.inside.decl) c.args.label.now = search rules in
     let there = subst (λ (h : Held). Some c.in-Some.k ≡ label_at h.declaration c.args.label.now) c.self.view_is some in
     let cause = rw c.in-Err-Read.field-0-is at c.in-Err-Read.ensures.cause in
-    on_ok c.write_line-in-Err-Read.result _ _ (add_failed c.args.self.now (g.F.Files.content c.args.files.now) c.args.label.now c.args.path.now _ _ _ _ _ _ (g.O.Sink.written c.args.out.now) (g.O.Sink.written c.write_line-in-Err-Read.new.out) there cause c.in-Err-Read.ensures.no_fall.1 refl) c.write_line-in-Err-Read.ensures.ok
+    reply_text (λ IsWritten. add_failed c.args.self.now (g.F.Files.told c.args.files.now) (g.F.Files.told c.read_file.new.files) c.args.label.now c.args.path.now _ IsWritten
+    there cause c.in-Err-Read.ensures.keeps) c.write_line-in-Err-Read.ensures
 
-pub returns-in-None-clause-reply : goal.returns-in-None-clause-reply
-returns-in-None-clause-reply g c =
+pub returns-in-None-clause-writes : goal.returns-in-None-clause-writes
+returns-in-None-clause-writes g c =
     let none : None ≡ label_at (declaration_of c.self.inside.decl) c.args.label.now = search rules in
     let there = subst (λ (h : Held). None ≡ label_at h.declaration c.args.label.now) c.self.view_is none in
-    on_ok c.write_line-in-None.result _ _ (add_unknown c.args.self.now (g.F.Files.content c.args.files.now) c.args.label.now c.args.path.now _ _ _ _ _ (g.O.Sink.written c.args.out.now) (g.O.Sink.written c.write_line-in-None.new.out) there (omega arith) (omega arith) refl) c.write_line-in-None.ensures.ok
+    reply_text (λ IsWritten. add_unknown c.args.self.now (g.F.Files.told c.args.files.now) c.args.label.now c.args.path.now IsWritten there) c.write_line-in-None.ensures

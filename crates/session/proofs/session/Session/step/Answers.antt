@@ -1,27 +1,20 @@
-use Rattle.session.proofs.Replying.{on_ok, stepped_unread}
+use Rattle.std.proofs.Common.{Some}
 use Rattle.session.specs.Commands as asked
+use Rattle.session.specs.CommandSeen.{question_seen}
+use Rattle.session.proofs.Telling.{reply_as, reply_text}
+use Rattle.session.proofs.Replying.{stepped, stepped_unread, stepped_none}
 use Rattle.session.proofs.session.Session.step.Goals as goal
 
-pub returns-in-Some-Interval-clause-reply : goal.returns-in-Some-Interval-clause-reply
-returns-in-Some-Interval-clause-reply g c = on_ok c.interval.result _ _ (stepped_unread (g.F.Files.content c.args.files.now) (g.F.Files.faults c.args.files.now) (g.F.Files.absences c.args.files.now)
-    (g.O.Sink.written c.args.out.now) (g.O.Sink.written c.interval.new.out) c.args.self.now c.args.line.now (asked.Interval c.in-Some-Interval.first.now c.in-Some-Interval.second.now) c.requires (rw c.in-Some-Interval.field-0-is at c.in-Some-Interval.ensures)) c.interval.ensures.reply
+pub returns-in-Some-Add-clause-writes : goal.returns-in-Some-Add-clause-writes
+returns-in-Some-Add-clause-writes g c =
+    reply_as (λ IsWritten. stepped (g.F.Files.told c.args.files.now) (g.F.Files.told c.add.new.files) c.args.self.now c.add.new.self c.args.line.now (Some (asked.Add c.in-Some-Add.label.now c.in-Some-Add.path.now)) IsWritten
+    c.requires (rw c.in-Some-Add.field-0-is at c.in-Some-Add.ensures)) c.add.ensures.writes
 
-pub returns-in-Some-Order-clause-reply : goal.returns-in-Some-Order-clause-reply
-returns-in-Some-Order-clause-reply g c = on_ok c.order.result _ _ (stepped_unread (g.F.Files.content c.args.files.now) (g.F.Files.faults c.args.files.now) (g.F.Files.absences c.args.files.now)
-    (g.O.Sink.written c.args.out.now) (g.O.Sink.written c.order.new.out) c.args.self.now c.args.line.now (asked.Order c.in-Some-Order.first.now c.in-Some-Order.second.now) c.requires (rw c.in-Some-Order.field-0-is at c.in-Some-Order.ensures)) c.order.ensures.reply
+pub returns-in-Some-Ask-clause-writes : goal.returns-in-Some-Ask-clause-writes
+returns-in-Some-Ask-clause-writes g c =
+    reply_as (λ IsWritten. stepped_unread (g.F.Files.told c.args.files.now) c.args.self.now c.args.line.now (question_seen c.in-Some-Ask.question) IsWritten c.requires
+    (rw c.in-Some-Ask.field-0-is at c.in-Some-Ask.ensures)) c.ask.ensures
 
-pub returns-in-Some-Time-clause-reply : goal.returns-in-Some-Time-clause-reply
-returns-in-Some-Time-clause-reply g c = on_ok c.time.result _ _ (stepped_unread (g.F.Files.content c.args.files.now) (g.F.Files.faults c.args.files.now) (g.F.Files.absences c.args.files.now)
-    (g.O.Sink.written c.args.out.now) (g.O.Sink.written c.time.new.out) c.args.self.now c.args.line.now (asked.Time c.in-Some-Time.event.now) c.requires (rw c.in-Some-Time.field-0-is at c.in-Some-Time.ensures)) c.time.ensures.reply
-
-pub returns-in-Some-Prove-clause-reply : goal.returns-in-Some-Prove-clause-reply
-returns-in-Some-Prove-clause-reply g c = on_ok c.prove.result _ _ (stepped_unread (g.F.Files.content c.args.files.now) (g.F.Files.faults c.args.files.now) (g.F.Files.absences c.args.files.now)
-    (g.O.Sink.written c.args.out.now) (g.O.Sink.written c.prove.new.out) c.args.self.now c.args.line.now (asked.Prove c.in-Some-Prove.first.now c.in-Some-Prove.second.now) c.requires (rw c.in-Some-Prove.field-0-is at c.in-Some-Prove.ensures)) c.prove.ensures.reply
-
-pub returns-in-Some-Merge-clause-reply : goal.returns-in-Some-Merge-clause-reply
-returns-in-Some-Merge-clause-reply g c = on_ok c.merge.result _ _ (stepped_unread (g.F.Files.content c.args.files.now) (g.F.Files.faults c.args.files.now) (g.F.Files.absences c.args.files.now)
-    (g.O.Sink.written c.args.out.now) (g.O.Sink.written c.merge.new.out) c.args.self.now c.args.line.now asked.Merge c.requires (rw c.in-Some-Merge.field-0-is at c.in-Some-Merge.ensures)) c.merge.ensures.reply
-
-pub returns-in-Some-Report-clause-reply : goal.returns-in-Some-Report-clause-reply
-returns-in-Some-Report-clause-reply g c = on_ok c.report.result _ _ (stepped_unread (g.F.Files.content c.args.files.now) (g.F.Files.faults c.args.files.now) (g.F.Files.absences c.args.files.now)
-    (g.O.Sink.written c.args.out.now) (g.O.Sink.written c.report.new.out) c.args.self.now c.args.line.now asked.Report c.requires (rw c.in-Some-Report.field-0-is at c.in-Some-Report.ensures)) c.report.ensures.reply
+pub returns-in-None-clause-writes : goal.returns-in-None-clause-writes
+returns-in-None-clause-writes g c =
+    reply_text (λ IsWritten. stepped_none (g.F.Files.told c.args.files.now) c.args.self.now c.args.line.now IsWritten c.requires c.in-None.ensures) c.write_line.ensures
