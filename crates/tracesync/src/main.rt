@@ -2,32 +2,7 @@
 //! certificates, and answers questions about event logs and packet captures.
 #![tactic(auto)]
 
-mod declaration;
-mod ending;
-mod ends;
-mod form;
-mod obey;
-mod print;
-mod refusal;
-mod run;
-#[cfg(test)]
-mod running;
-#[cfg(test)]
-mod session_tests;
-mod sessions;
-mod solve;
-mod status;
-#[cfg(test)]
-mod tests;
-mod texts;
-mod verify;
-#[cfg(test)]
-mod verify_cases;
-#[cfg(test)]
-mod verify_tests;
-
-use crate::run::run;
-use crate::status::Status;
+use commands::{Status, run};
 use ports::{DiskFiles, StdSink, StdSource, Words};
 use std::io::ErrorKind;
 use std::process::ExitCode;

@@ -1,0 +1,131 @@
+-- The words of each form.
+use Rattle.std.proofs.Common.{◌≡◌, ℕ, List, [], ◌∷◌, length, Some, slice_get, codes, refl, sym, ◌∙◌, ap, subst, arith}
+use Rattle.ports.specs.Content.{SinkTold}
+use Rattle.ports.specs.Files.{FilesTold}
+use Rattle.script.specs.Script.{Devices}
+use Rattle.commands.specs.Run.{obey_words, solve_words, ends_words, verify_words, session_words}
+use Rattle.commands.specs.Printing.{Prints}
+use Rattle.commands.specs.Obey.{Obeyed}
+use Rattle.commands.specs.Solve.{Solved}
+use Rattle.commands.specs.Intervals.{IntervalAnswered}
+use Rattle.commands.specs.Verify.{Verified}
+use Rattle.commands.specs.Sessions.{Conducted}
+use Rattle.commands.specs.declared.status.Status.{Status}
+
+-- three words, the first of which is `obey`
+pub is_obey : (ws : List (List ℕ)) (a : List ℕ) → length ws ≡ 3 → slice_get ws 0 ≡ Some a → a ≡ codes "obey" → (problem : List ℕ) × (exec : List ℕ) × (ws ≡ obey_words problem exec)
+is_obey [] a long e is = absurd (omega (arith, long))
+is_obey (x ∷ []) a long e is = absurd (omega (arith, long))
+is_obey (x ∷ y ∷ []) a long e is = absurd (omega (arith, long))
+is_obey (x ∷ y ∷ z ∷ []) a long e is = (y, z, cc)
+is_obey (x ∷ y ∷ z ∷ w ∷ ws) a long e is = absurd (omega (arith, long))
+
+-- three words, the first of which is `verify`
+pub is_verify : (ws : List (List ℕ)) (a : List ℕ) → length ws ≡ 3 → slice_get ws 0 ≡ Some a → a ≡ codes "verify" → (problem : List ℕ) × (cert : List ℕ) × (ws ≡ verify_words problem cert)
+is_verify [] a long e is = absurd (omega (arith, long))
+is_verify (x ∷ []) a long e is = absurd (omega (arith, long))
+is_verify (x ∷ y ∷ []) a long e is = absurd (omega (arith, long))
+is_verify (x ∷ y ∷ z ∷ []) a long e is = (y, z, cc)
+is_verify (x ∷ y ∷ z ∷ w ∷ ws) a long e is = absurd (omega (arith, long))
+
+-- two words, the first of which is `solve`
+pub is_solve : (ws : List (List ℕ)) (a : List ℕ) → length ws ≡ 2 → slice_get ws 0 ≡ Some a → a ≡ codes "solve" → (problem : List ℕ) × (ws ≡ solve_words problem)
+is_solve [] a long e is = absurd (omega (arith, long))
+is_solve (x ∷ []) a long e is = absurd (omega (arith, long))
+is_solve (x ∷ y ∷ []) a long e is = (y, cc)
+is_solve (x ∷ y ∷ z ∷ ws) a long e is = absurd (omega (arith, long))
+
+-- two words, the first of which is `session`
+pub is_session : (ws : List (List ℕ)) (a : List ℕ) → length ws ≡ 2 → slice_get ws 0 ≡ Some a → a ≡ codes "session" → (decl : List ℕ) × (ws ≡ session_words decl)
+is_session [] a long e is = absurd (omega (arith, long))
+is_session (x ∷ []) a long e is = absurd (omega (arith, long))
+is_session (x ∷ y ∷ []) a long e is = (y, cc)
+is_session (x ∷ y ∷ z ∷ ws) a long e is = absurd (omega (arith, long))
+
+-- four words, the first of which is `ends`
+pub is_ends : (ws : List (List ℕ)) (a : List ℕ) → length ws ≡ 4 → slice_get ws 0 ≡ Some a → a ≡ codes "ends"
+    → (problem : List ℕ) × (first : List ℕ) × (second : List ℕ) × (ws ≡ ends_words problem first second)
+is_ends [] a long e is = absurd (omega (arith, long))
+is_ends (x ∷ []) a long e is = absurd (omega (arith, long))
+is_ends (x ∷ y ∷ []) a long e is = absurd (omega (arith, long))
+is_ends (x ∷ y ∷ z ∷ []) a long e is = absurd (omega (arith, long))
+is_ends (x ∷ y ∷ z ∷ w ∷ []) a long e is = (y, z, w, cc)
+is_ends (x ∷ y ∷ z ∷ w ∷ v ∷ ws) a long e is = absurd (omega (arith, long))
+
+pub obey_three : (ws : List (List ℕ)) (problem exec : List ℕ) → ws ≡ obey_words problem exec → length ws ≡ 3
+obey_three ws problem exec is = ap length is
+
+pub solve_two : (ws : List (List ℕ)) (problem : List ℕ) → ws ≡ solve_words problem → length ws ≡ 2
+solve_two ws problem is = ap length is
+
+pub ends_four : (ws : List (List ℕ)) (problem first second : List ℕ) → ws ≡ ends_words problem first second → length ws ≡ 4
+ends_four ws problem first second is = ap length is
+
+pub verify_three : (ws : List (List ℕ)) (problem cert : List ℕ) → ws ≡ verify_words problem cert → length ws ≡ 3
+verify_three ws problem cert is = ap length is
+
+pub session_two : (ws : List (List ℕ)) (decl : List ℕ) → ws ≡ session_words decl → length ws ≡ 2
+session_two ws decl is = ap length is
+
+-- words have one length
+pub other_length : (ws : List (List ℕ)) (m n : ℕ) → length ws ≡ m → length ws ≡ n → (m ≡ n → ⊥) → ⊥
+other_length ws m n a b differ = differ (sym a ∙ b)
+
+some_same : (a b : List ℕ) → Some a ≡ Some b → a ≡ b
+some_same a b e = cc
+
+-- and one first word
+pub obey_or_verify : (ws : List (List ℕ)) (problem exec problem' cert : List ℕ) → ws ≡ obey_words problem exec → ws ≡ verify_words problem' cert → ⊥
+obey_or_verify ws problem exec problem' cert a b =
+    let first : codes "obey" ≡ codes "verify" = some_same (codes "obey") (codes "verify") (sym (ap (λ (v : List (List ℕ)). slice_get v 0) a) ∙ ap (λ (v : List (List ℕ)). slice_get v 0) b) in
+    let size : 4 ≡ 6 = ap length first in
+    omega (arith, size)
+
+pub solve_or_session : (ws : List (List ℕ)) (problem decl : List ℕ) → ws ≡ solve_words problem → ws ≡ session_words decl → ⊥
+solve_or_session ws problem decl a b =
+    let first : codes "solve" ≡ codes "session" = some_same (codes "solve") (codes "session") (sym (ap (λ (v : List (List ℕ)). slice_get v 0) a) ∙ ap (λ (v : List (List ℕ)). slice_get v 0) b) in
+    let size : 5 ≡ 7 = ap length first in
+    omega (arith, size)
+
+-- a word is that of the form
+pub word_is : (ws form : List (List ℕ)) (k : ℕ) (a b : List ℕ) → slice_get ws k ≡ Some a → ws ≡ form → slice_get form k ≡ Some b → a ≡ b
+word_is ws form k a b at is named = some_same a b (sym at ∙ ap (λ (v : List (List ℕ)). slice_get v k) is ∙ named)
+
+-- what `obey` says of the second and the third word
+pub obey_by : (ws : List (List ℕ)) (a b problem exec : List ℕ) (files files' : FilesTold) (out out' : SinkTold) (result : Status) → slice_get ws 1 ≡ Some a → slice_get ws 2 ≡ Some b → ws ≡ obey_words problem exec
+    → Prints (Obeyed a b files files') out out' result → Prints (Obeyed problem exec files files') out out' result
+obey_by ws a b problem exec files files' out out' result e f is said =
+    let first : a ≡ problem = word_is ws (obey_words problem exec) 1 a problem e is refl in
+    let second : b ≡ exec = word_is ws (obey_words problem exec) 2 b exec f is refl in
+    subst (λ (v : List ℕ). Prints (Obeyed v exec files files') out out' result) first (subst (λ (v : List ℕ). Prints (Obeyed a v files files') out out' result) second said)
+
+-- what `solve` says of the second word
+pub solve_by : (ws : List (List ℕ)) (a problem : List ℕ) (files files' : FilesTold) (out out' : SinkTold) (result : Status) → slice_get ws 1 ≡ Some a → ws ≡ solve_words problem
+    → Prints (Solved a files files') out out' result → Prints (Solved problem files files') out out' result
+solve_by ws a problem files files' out out' result e is said =
+    subst (λ (v : List ℕ). Prints (Solved v files files') out out' result) (word_is ws (solve_words problem) 1 a problem e is refl) said
+
+-- what `ends` says of the second, the third and the fourth word
+pub ends_by : (ws : List (List ℕ)) (a b d problem first second : List ℕ) (files files' : FilesTold) (out out' : SinkTold) (result : Status)
+    → slice_get ws 1 ≡ Some a → slice_get ws 2 ≡ Some b → slice_get ws 3 ≡ Some d → ws ≡ ends_words problem first second
+    → Prints (IntervalAnswered a b d files files') out out' result → Prints (IntervalAnswered problem first second files files') out out' result
+ends_by ws a b d problem first second files files' out out' result e f g is said =
+    let one : a ≡ problem = word_is ws (ends_words problem first second) 1 a problem e is refl in
+    let two : b ≡ first = word_is ws (ends_words problem first second) 2 b first f is refl in
+    let three : d ≡ second = word_is ws (ends_words problem first second) 3 d second g is refl in
+    subst (λ (v : List ℕ). Prints (IntervalAnswered v first second files files') out out' result) one
+    (subst (λ (v : List ℕ). Prints (IntervalAnswered a v second files files') out out' result) two
+    (subst (λ (v : List ℕ). Prints (IntervalAnswered a b v files files') out out' result) three said))
+
+-- what `verify` says of the second and the third word
+pub verify_by : (ws : List (List ℕ)) (a b problem cert : List ℕ) (files files' : FilesTold) (out out' : SinkTold) (result : Status) → slice_get ws 1 ≡ Some a → slice_get ws 2 ≡ Some b → ws ≡ verify_words problem cert
+    → Prints (Verified a b files files') out out' result → Prints (Verified problem cert files files') out out' result
+verify_by ws a b problem cert files files' out out' result e f is said =
+    let first : a ≡ problem = word_is ws (verify_words problem cert) 1 a problem e is refl in
+    let second : b ≡ cert = word_is ws (verify_words problem cert) 2 b cert f is refl in
+    subst (λ (v : List ℕ). Prints (Verified v cert files files') out out' result) first (subst (λ (v : List ℕ). Prints (Verified a v files files') out out' result) second said)
+
+-- what `session` says of the second word
+pub session_by : (ws : List (List ℕ)) (a decl : List ℕ) (old new : Devices) (result : Status) → slice_get ws 1 ≡ Some a → ws ≡ session_words decl
+    → Conducted a old new result → Conducted decl old new result
+session_by ws a decl old new result e is said = subst (λ (v : List ℕ). Conducted v old new result) (word_is ws (session_words decl) 1 a decl e is refl) said

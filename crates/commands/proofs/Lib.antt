@@ -1,0 +1,12 @@
+pub mod Printing
+pub mod Reading
+pub mod Words
+pub mod Naming
+pub mod Obeying
+pub mod Solving
+pub mod Certifying
+pub mod Forms
+pub mod Intervals
+pub mod Verifying
+pub mod Declaring
+pub mod Conducting

@@ -1,0 +1,15 @@
+use Rattle.std.proofs.Common.{refl}
+use Rattle.commands.specs.Printing.{IsOnly}
+use Rattle.commands.specs.declared.status.Status.TheVariants.{UnknownEvent}
+use Rattle.std.proofs.Common.{codes}
+use Rattle.commands.proofs.Printing.{closes_prints}
+use Rattle.commands.proofs.Solving.{known_names, unknown_name}
+use Rattle.commands.proofs.ends.between.Goals as goal
+
+pub returns-in_default : goal.returns-in_default
+returns-in_default g c =
+    unknown_name c.args.p.now c.args.first.now c.args.second.now _ _ c.finish.result c.in_default.ensures.none
+    (closes_prints (IsOnly (codes "unknown event\n") UnknownEvent) (codes "unknown event\n") UnknownEvent c.finish.result _ _ (refl, refl) c.finish.ensures)
+
+pub returns-in-Ok : goal.returns-in-Ok
+returns-in-Ok g c = known_names c.args.p.now c.args.first.now c.args.second.now _ _ c.conclude.result _ _ c.in-Some.ensures.some.0 c.in-Some.ensures.some.1 c.conclude.ensures

@@ -1,0 +1,33 @@
+use Rattle.std.proofs.Common.{◌≡◌, length, rules, sym, ◌∙◌, codes}
+use Rattle.commands.proofs.Forms.{is_obey, is_solve, is_ends, is_verify, is_session}
+use Rattle.commands.proofs.form.form_of.Goals as goal
+
+pub returns-then-eq : goal.returns-then-eq
+returns-then-eq c =
+    let same : c.word.result.now ≡ codes "obey" = search rules in
+    let long : length c.args.words.now ≡ 3 = sym c.len-count.ensures ∙ c.if-count-eq3.true in
+    is_obey c.args.words.now c.word.result.now long c.word.ensures same
+
+pub returns-then-eq-2 : goal.returns-then-eq-2
+returns-then-eq-2 c =
+    let same : c.word-then-count-eq2.result.now ≡ codes "solve" = search rules in
+    let long : length c.args.words.now ≡ 2 = sym c.len-count.ensures ∙ c.if-count-eq2.true in
+    is_solve c.args.words.now c.word-then-count-eq2.result.now long c.word-then-count-eq2.ensures same
+
+pub returns-then-eq-3 : goal.returns-then-eq-3
+returns-then-eq-3 c =
+    let same : c.word-then-count-eq4.result.now ≡ codes "ends" = search rules in
+    let long : length c.args.words.now ≡ 4 = sym c.len-count.ensures ∙ c.if-count-eq4.true in
+    is_ends c.args.words.now c.word-then-count-eq4.result.now long c.word-then-count-eq4.ensures same
+
+pub returns-then-eq-4 : goal.returns-then-eq-4
+returns-then-eq-4 c =
+    let same : c.word-then-count-eq3-2.result.now ≡ codes "verify" = search rules in
+    let long : length c.args.words.now ≡ 3 = sym c.len-count.ensures ∙ c.if-count-eq3-2.true in
+    is_verify c.args.words.now c.word-then-count-eq3-2.result.now long c.word-then-count-eq3-2.ensures same
+
+pub returns-then-eq-5 : goal.returns-then-eq-5
+returns-then-eq-5 c =
+    let same : c.word-then-count-eq2-2.result.now ≡ codes "session" = search rules in
+    let long : length c.args.words.now ≡ 2 = sym c.len-count.ensures ∙ c.if-count-eq2-2.true in
+    is_session c.args.words.now c.word-then-count-eq2-2.result.now long c.word-then-count-eq2-2.ensures same

@@ -1,0 +1,62 @@
+-- The words of a run and the statuses that it ends with.
+use Rattle.std.specs.Prelude.{◌≡◌, ◌∷◌, [], ℕ, List, codes}
+use Rattle.commands.specs.declared.form.Form.{Form}
+use Rattle.commands.specs.declared.form.Form.TheVariants.{Obey, Solve, Ends, Verify, Session, Unknown}
+use Rattle.commands.specs.declared.status.Status.{Status}
+use Rattle.commands.specs.declared.status.Status.TheVariants.{Done, No, Usage, BadDecl, BadProblem, BadExec, BadCert, ReadFault, WriteFault, Memory, ScriptLimit, UnknownEvent}
+
+-- the exit status
+abbrev pub code_of : Status → ℕ
+code_of Done = 0
+code_of No = 1
+code_of Usage = 2
+code_of BadDecl = 3
+code_of BadProblem = 4
+code_of BadExec = 5
+code_of BadCert = 6
+code_of ReadFault = 7
+code_of WriteFault = 8
+code_of Memory = 9
+code_of ScriptLimit = 10
+code_of UnknownEvent = 11
+
+-- ---- the words
+abbrev pub obey_words : List ℕ → List ℕ → List (List ℕ)
+obey_words problem exec = codes "obey" ∷ problem ∷ exec ∷ []
+
+abbrev pub solve_words : List ℕ → List (List ℕ)
+solve_words problem = codes "solve" ∷ problem ∷ []
+
+abbrev pub ends_words : List ℕ → List ℕ → List ℕ → List (List ℕ)
+ends_words problem first second = codes "ends" ∷ problem ∷ first ∷ second ∷ []
+
+abbrev pub verify_words : List ℕ → List ℕ → List (List ℕ)
+verify_words problem cert = codes "verify" ∷ problem ∷ cert ∷ []
+
+abbrev pub session_words : List ℕ → List (List ℕ)
+session_words decl = codes "session" ∷ decl ∷ []
+
+-- the words are of no session
+abbrev pub IsNoSession : List (List ℕ) → Type 0
+IsNoSession ws = (decl : List ℕ) → ws ≡ session_words decl → ⊥
+
+-- the words are of none of the forms
+pub record IsNoCommand (ws : List (List ℕ)) : Type 0 where
+  pub obey : (problem exec : List ℕ) → ws ≡ obey_words problem exec → ⊥
+  pub solve : (problem : List ℕ) → ws ≡ solve_words problem → ⊥
+  pub ends : (problem first second : List ℕ) → ws ≡ ends_words problem first second → ⊥
+  pub verify : (problem cert : List ℕ) → ws ≡ verify_words problem cert → ⊥
+  pub session : IsNoSession ws
+
+-- the words are of this form
+abbrev pub IsForm : List (List ℕ) → Form → Type 0
+IsForm ws Obey = (problem : List ℕ) × (exec : List ℕ) × (ws ≡ obey_words problem exec)
+IsForm ws Solve = (problem : List ℕ) × (ws ≡ solve_words problem)
+IsForm ws Ends = (problem : List ℕ) × (first : List ℕ) × (second : List ℕ) × (ws ≡ ends_words problem first second)
+IsForm ws Verify = (problem : List ℕ) × (cert : List ℕ) × (ws ≡ verify_words problem cert)
+IsForm ws Session = (decl : List ℕ) × (ws ≡ session_words decl)
+IsForm ws Unknown = IsNoCommand ws
+
+-- what is printed where the words are of none of the forms
+abbrev pub usage_line : List ℕ
+usage_line = codes "usage: tracesync obey PROBLEM EXEC | solve PROBLEM | ends PROBLEM P Q | verify PROBLEM CERT | session DECL | trial N\n"

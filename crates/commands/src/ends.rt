@@ -1,0 +1,144 @@
+// The interval and the order of two events, or a contradiction.
+ghost use Rattle.std.specs.Prelude.{◌≡◌, ◌<◌, ◌⊎◌, ℕ, length, IfSome, IfNone};
+ghost use Rattle.ports.specs.Files.{Keeps};
+ghost use Rattle.problem_model.specs.declared.items.Node.TheVariants as nodes;
+ghost use Rattle.problem_model.specs.Problem.{ProblemLists};
+ghost use Rattle.problem.specs.Line.{HasEvent, IsUnknown};
+ghost use Rattle.intervals.specs.Ends.{FitsPair};
+ghost use Rattle.intervals.specs.Executions.{IsPairOf};
+ghost use Rattle.solver.specs.Solution.{IsSolved, HasContradiction, IsSolution};
+ghost use Rattle.commands.specs.Printing.{Prints};
+ghost use Rattle.commands.specs.Intervals.{TellsInterval, TellsNamed, IntervalAnswered};
+
+use crate::ending::{finish, stop};
+use crate::print::interval_line;
+use crate::status::Status;
+use crate::texts::problem_in;
+use earliest::Earliest;
+use intervals::{ends_from, order_of};
+use ports::{Failed, Files, Sink};
+use problem::{Name, Problem};
+use queries::write_contradiction;
+use reaches::pair_of;
+use row_pool::Pair;
+use solver::Solution;
+use std::alloc::Global;
+use sync_graph::{Arc, Graph};
+
+// The place of the event of a name.
+fn event_of(p: &Problem, name: &[u8]) -> Option<u32>
+    ensures some { IfSome result (λ place. HasEvent p.now place name.now) }
+    ensures none { IfNone result (IsUnknown p.now name.now) }
+{
+    // It tells that each event has an event's name.
+    let _ = p.events();
+    match Name::new(name) {
+        Some(name) => p.event_place(&name),
+        None => None,
+    }
+}
+
+// Prints the interval and the order of two events, by their greatest differences in both directions.
+fn answer<O: Sink>(pair: Pair, out: &mut O) -> Status
+    requires { FitsPair pair }
+    ensures { (p : ProblemLists) (from to : ℕ) → IsPairOf p (nodes.Event from) (nodes.Event to) pair
+        → Prints (TellsInterval p from to) (O.told out.old) (O.told out.new) result }
+{
+    let ends = ends_from(pair);
+    let order = order_of(&ends);
+    finish(interval_line(&ends, order).as_slice(), Status::Done, out)
+}
+
+// The places of the events of two names.
+fn events_of(p: &Problem, first: &str, second: &str) -> Option<(u32, u32)>
+    ensures some { IfSome result (λ places. HasEvent p.now places.0 first.now × HasEvent p.now places.1 second.now) }
+    ensures none { IfNone result (IsUnknown p.now first.now ⊎ IsUnknown p.now second.now) }
+{
+    let from = event_of(p, first.as_bytes())?;
+    let to = event_of(p, second.as_bytes())?;
+    Some((from, to))
+}
+
+// Prints the interval and the order of two events of a problem that has an execution.
+fn interval<O: Sink>(
+    alloc: Global,
+    p: &Problem,
+    g: &Graph,
+    e: &Earliest,
+    from: u32,
+    to: u32,
+    out: &mut O,
+) -> Status
+    requires solved { IsSolved p.now g.now e.now }
+    requires from { from < length p.now.events }
+    requires to { to < length p.now.events }
+    ensures { Prints (TellsInterval p.now from to) (O.told out.old) (O.told out.new) result }
+{
+    match pair_of(alloc, p, g, e, from, to) {
+        Ok(pair) => answer(pair, out),
+        Err(_) => Status::Memory,
+    }
+}
+
+// Prints the certificate of a contradiction, whichever events were asked for.
+fn contradict<O: Sink>(p: &Problem, steps: &[Arc], out: &mut O) -> Status
+    requires { HasContradiction p.now steps.now }
+    ensures { (from to : ℕ) → Prints (TellsInterval p.now from to) (O.told out.old) (O.told out.new) result }
+{
+    match write_contradiction(p, steps, out) {
+        Ok(()) => Status::Done,
+        Err(Failed) => Status::WriteFault,
+    }
+}
+
+// Prints what a solution says of two events.
+fn conclude<O: Sink>(
+    alloc: Global,
+    p: &Problem,
+    solution: &Solution,
+    from: u32,
+    to: u32,
+    out: &mut O,
+) -> Status
+    requires solution { IsSolution p.now solution.now }
+    requires from { from < length p.now.events }
+    requires to { to < length p.now.events }
+    ensures { Prints (TellsInterval p.now from to) (O.told out.old) (O.told out.new) result }
+{
+    match solution {
+        Solution::Execution(g, e) => interval(alloc, p, g, e, from, to, out),
+        Solution::Contradiction(steps) => contradict(p, steps, out),
+    }
+}
+
+// Prints what a problem says of the events of two names.
+fn between<O: Sink>(alloc: Global, p: &Problem, first: &str, second: &str, out: &mut O) -> Status
+    ensures { Prints (TellsNamed p.now first.now second.now) (O.told out.old) (O.told out.new) result }
+{
+    let Some((from, to)) = events_of(p, first, second) else {
+        return finish(b"unknown event\n", Status::UnknownEvent, out);
+    };
+    match solver::solve(alloc, p) {
+        Ok(solution) => conclude(alloc, p, &solution, from, to, out),
+        Err(_) => Status::Memory,
+    }
+}
+
+/// The least and the greatest difference of the real times of two events of the problem in a file, over all
+/// executions, and their order; or a contradiction where there is no execution.
+pub fn ends<F: Files, O: Sink>(
+    alloc: Global,
+    files: &mut F,
+    problem: &str,
+    first: &str,
+    second: &str,
+    out: &mut O,
+) -> Status
+    ensures answered { Prints (IntervalAnswered problem.now first.now second.now (F.told files.old) (F.told files.new)) (O.told out.old) (O.told out.new) result }
+    ensures keeps { Keeps (F.told files.old) (F.told files.new) }
+{
+    match problem_in(alloc, files, problem) {
+        Ok(p) => between(alloc, &p, first, second, out),
+        Err(unread) => stop(unread, b"problem", Status::BadProblem, out),
+    }
+}

@@ -1,0 +1,75 @@
+// The program's one call.
+ghost use Rattle.std.specs.Prelude.{◌≡◌, ℕ, List};
+ghost use Rattle.ports.specs.Files.{Keeps};
+ghost use Rattle.script.specs.Script.{devices};
+ghost use Rattle.commands.specs.Run.{IsNoCommand, IsNoSession, obey_words, solve_words, ends_words, verify_words, session_words, usage_line};
+ghost use Rattle.commands.specs.Printing.{Prints, Closes};
+ghost use Rattle.commands.specs.Obey.{Obeyed};
+ghost use Rattle.commands.specs.Solve.{Solved};
+ghost use Rattle.commands.specs.Intervals.{IntervalAnswered};
+ghost use Rattle.commands.specs.Verify.{Verified};
+ghost use Rattle.commands.specs.Sessions.{Conducted};
+ghost use Rattle.commands.specs.declared.status.Status.TheVariants.{Usage};
+
+use crate::ending::finish;
+use crate::ends::ends;
+use crate::form::{Form, form_of};
+use crate::obey::obey;
+use crate::sessions::session;
+use crate::solve::solve;
+use crate::status::Status;
+use crate::verify::verify;
+use ports::{Files, Sink, Source, Words};
+use std::alloc::Global;
+
+const USAGE: &[u8] =
+    b"usage: tracesync obey PROBLEM EXEC | solve PROBLEM | ends PROBLEM P Q | verify PROBLEM CERT | session DECL | trial N\n";
+
+/// Does what the words say: reads the files that they name, prints the answer, and says how it ended.
+///
+/// `obey PROBLEM EXEC` reads and judges the problem before it reads the execution, and says whether that is one;
+/// `solve PROBLEM` prints the certificate of the earliest execution, or of a contradiction where there is none; `ends
+/// PROBLEM P Q` prints the least and the greatest difference of the real times of two events over all executions, and
+/// their order, or a contradiction; `verify PROBLEM CERT` says whether a certificate of the problem shows what it should, or
+/// the first reason why not; `session DECL` answers the lines of the input, one after another, in a session over the
+/// declaration. `Usage` comes where the words are of no form, `BadDecl`, `BadProblem`, `BadExec` and `BadCert` where a text
+/// is refused, `UnknownEvent` where the problem has no event of a name, `ReadFault` where a named file is not there or a read
+/// failed, `ScriptLimit` where the input of a session is too long, `WriteFault` where a write failed, `Memory` where memory
+/// ran out, and else `Done` or `No` with the answer. Beside `WriteFault` a front of what was to be printed stands written;
+/// beside `Memory` nothing is promised of it. No other command reads the input, and where the words are of no form no file is
+/// read.
+pub fn run<F: Files, I: Source, O: Sink>(
+    alloc: Global,
+    words: &Words,
+    files: &mut F,
+    input: &mut I,
+    out: &mut O,
+) -> Status
+    ensures obey { (problem exec : List ℕ) → words.now ≡ obey_words problem exec → Prints (Obeyed problem exec (F.told files.old) (F.told files.new)) (O.told out.old) (O.told out.new) result }
+    ensures solve { (problem : List ℕ) → words.now ≡ solve_words problem → Prints (Solved problem (F.told files.old) (F.told files.new)) (O.told out.old) (O.told out.new) result }
+    ensures ends { (problem first second : List ℕ) → words.now ≡ ends_words problem first second
+        → Prints (IntervalAnswered problem first second (F.told files.old) (F.told files.new)) (O.told out.old) (O.told out.new) result }
+    ensures verify { (problem cert : List ℕ) → words.now ≡ verify_words problem cert → Prints (Verified problem cert (F.told files.old) (F.told files.new)) (O.told out.old) (O.told out.new) result }
+    ensures session { (decl : List ℕ) → words.now ≡ session_words decl
+        → Conducted decl (devices (F.told files.old) (I.told input.old) (O.told out.old)) (devices (F.told files.new) (I.told input.new) (O.told out.new)) result }
+    ensures usage { IsNoCommand words.now → Closes usage_line Usage (O.told out.old) (O.told out.new) result }
+    ensures files { Keeps (F.told files.old) (F.told files.new) }
+    ensures unread { IsNoCommand words.now → F.told files.new ≡ F.told files.old }
+    ensures input { IsNoSession words.now → I.told input.new ≡ I.told input.old }
+{
+    match form_of(words) {
+        Form::Obey => obey(alloc, files, words.word(1), words.word(2), out),
+        Form::Solve => solve(alloc, files, words.word(1), out),
+        Form::Ends => ends(
+            alloc,
+            files,
+            words.word(1),
+            words.word(2),
+            words.word(3),
+            out,
+        ),
+        Form::Verify => verify(alloc, files, words.word(1), words.word(2), out),
+        Form::Session => session(alloc, files, words.word(1), input, out),
+        Form::Unknown => finish(USAGE, Status::Usage, out),
+    }
+}

@@ -1,0 +1,39 @@
+// Why a text is refused.
+ghost use Rattle.std.specs.Prelude.{◌≡◌};
+ghost use Rattle.commands.specs.Refusal.{number_of, place_of};
+
+use line_format::FaultKind;
+
+/// Why a text is refused: the first fault and its line, or that it is longer than 2^30 bytes.
+#[derive(Clone, Copy, Debug)]
+pub enum Refusal {
+    /// The first faulty line, counted from 1, and what is wrong with it.
+    Faulty(FaultKind, u32),
+    /// The text has more than 2^30 bytes.
+    Long,
+}
+
+impl Refusal {
+    /// The number of the cause: syntax, name, range, limit, length.
+    pub fn number(self) -> u8
+        ensures { result ≡ number_of self }
+    {
+        match self {
+            Refusal::Faulty(FaultKind::Syntax, _) => 1,
+            Refusal::Faulty(FaultKind::Name, _) => 2,
+            Refusal::Faulty(FaultKind::Range, _) => 3,
+            Refusal::Faulty(FaultKind::Limit, _) => 4,
+            Refusal::Long => 5,
+        }
+    }
+
+    /// The line of the fault, from 1 on; 0 for a text that is too long.
+    pub fn place(self) -> u32
+        ensures { result ≡ place_of self }
+    {
+        match self {
+            Refusal::Faulty(_, line) => line,
+            Refusal::Long => 0,
+        }
+    }
+}

@@ -1,0 +1,60 @@
+// A session over a script.
+ghost use Rattle.ports.specs.Files.{Keeps};
+ghost use Rattle.script.specs.Script.{devices};
+ghost use Rattle.commands.specs.Printing.{Prints};
+ghost use Rattle.commands.specs.Sessions.{TellsUndeclared, ClosesScript, Conducted};
+
+use crate::declaration::{Undeclared, decl_in};
+use crate::ending::finish;
+use crate::print::declaration_line;
+use crate::status::Status;
+use ports::{Files, Sink, Source};
+use script::{Ended, answer_script};
+use std::alloc::Global;
+
+// Prints why there is no declaration, and answers the status.
+fn refuse<O: Sink>(undeclared: Undeclared, out: &mut O) -> Status
+    ensures { Prints (TellsUndeclared undeclared) (O.told out.old) (O.told out.new) result }
+{
+    match undeclared {
+        Undeclared::Faulty(number, section, index) => finish(
+            declaration_line(number, section, index).as_slice(),
+            Status::BadDecl,
+            out,
+        ),
+        Undeclared::Unread => finish(b"read fault\n", Status::ReadFault, out),
+        Undeclared::Memory => Status::Memory,
+    }
+}
+
+// Prints how the lines of the script ended, and answers the status.
+fn close<O: Sink>(ended: Ended, out: &mut O) -> Status
+    ensures { ClosesScript ended (O.told out.old) (O.told out.new) result }
+{
+    match ended {
+        Ended::Done => Status::Done,
+        Ended::ReadFault => finish(b"read fault\n", Status::ReadFault, out),
+        Ended::Limit => finish(b"script limit\n", Status::ScriptLimit, out),
+        Ended::WriteFault => Status::WriteFault,
+        Ended::Memory => Status::Memory,
+    }
+}
+
+/// Answers the lines of a script, in a session over the declaration in a file.
+pub fn session<F: Files, I: Source, O: Sink>(
+    alloc: Global,
+    files: &mut F,
+    decl: &str,
+    input: &mut I,
+    out: &mut O,
+) -> Status
+    ensures conducted { Conducted decl.now
+        (devices (F.told files.old) (I.told input.old) (O.told out.old)) (devices (F.told files.new) (I.told input.new) (O.told out.new)) result }
+    ensures keeps { Keeps (F.told files.old) (F.told files.new) }
+{
+    let decl = match decl_in(alloc, files, decl) {
+        Ok(decl) => decl,
+        Err(undeclared) => return refuse(undeclared, out),
+    };
+    close(answer_script(alloc, decl, files, input, out), out)
+}

@@ -1,0 +1,71 @@
+// Finds the earliest execution of a problem, or a contradiction.
+ghost use Rattle.std.specs.Prelude.{List, ℕ};
+ghost use Rattle.ports.specs.Content.{Writes};
+ghost use Rattle.ports.specs.Files.{Keeps};
+ghost use Rattle.solver.specs.Solution.{IsSolved, IsSolution};
+ghost use Rattle.commands.specs.Printing.{Prints};
+ghost use Rattle.commands.specs.Solve.{IsEarliestText, IsSolutionText, TellsSolution, Solved};
+
+use crate::ending::stop;
+use crate::status::Status;
+use crate::texts::problem_in;
+use attain::write_run;
+use earliest::Earliest;
+use ports::{Failed, Files, Sink};
+use problem::Problem;
+use queries::write_contradiction;
+use solver::Solution;
+use std::alloc::Global;
+use sync_graph::Graph;
+
+// Writes the certificate of the earliest execution.
+fn write_earliest<O: Sink>(p: &Problem, g: &Graph, e: &Earliest, out: &mut O) -> Result<(), Failed>
+    requires { IsSolved p.now g.now e.now }
+    ensures { (text : List ℕ) × IsEarliestText p.now text × Writes text (O.told out.old) (O.told out.new) result }
+{
+    let _ = p.readings();
+    write_run(p, e, out)
+}
+
+// Writes the certificate of a solution.
+fn write_solution<O: Sink>(p: &Problem, solution: &Solution, out: &mut O) -> Result<(), Failed>
+    requires { IsSolution p.now solution.now }
+    ensures { (text : List ℕ) × IsSolutionText p.now text × Writes text (O.told out.old) (O.told out.new) result }
+{
+    match solution {
+        Solution::Execution(g, e) => write_earliest(p, g, e, out),
+        Solution::Contradiction(steps) => write_contradiction(p, steps, out),
+    }
+}
+
+// Prints the certificate of a solution, and answers the status.
+fn certify<O: Sink>(p: &Problem, solution: &Solution, out: &mut O) -> Status
+    requires { IsSolution p.now solution.now }
+    ensures { Prints (TellsSolution p.now) (O.told out.old) (O.told out.new) result }
+{
+    match write_solution(p, solution, out) {
+        Ok(()) => Status::Done,
+        Err(Failed) => Status::WriteFault,
+    }
+}
+
+// Prints the certificate of a problem.
+fn answer<O: Sink>(alloc: Global, p: &Problem, out: &mut O) -> Status
+    ensures { Prints (TellsSolution p.now) (O.told out.old) (O.told out.new) result }
+{
+    match solver::solve(alloc, p) {
+        Ok(solution) => certify(p, &solution, out),
+        Err(_) => Status::Memory,
+    }
+}
+
+/// The earliest execution of the problem in a file, or a contradiction.
+pub fn solve<F: Files, O: Sink>(alloc: Global, files: &mut F, problem: &str, out: &mut O) -> Status
+    ensures solved { Prints (Solved problem.now (F.told files.old) (F.told files.new)) (O.told out.old) (O.told out.new) result }
+    ensures keeps { Keeps (F.told files.old) (F.told files.new) }
+{
+    match problem_in(alloc, files, problem) {
+        Ok(p) => answer(alloc, &p, out),
+        Err(unread) => stop(unread, b"problem", Status::BadProblem, out),
+    }
+}

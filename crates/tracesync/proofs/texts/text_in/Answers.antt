@@ -1,5 +1,0 @@
-use Rattle.tracesync.proofs.Reaching.{text_whole}
-use Rattle.tracesync.proofs.texts.text_in.Goals as goal
-
-pub returns-else-file-clause-ok : goal.returns-else-file-clause-ok
-returns-else-file-clause-ok g c = text_whole _ _ c.in-Ok.file.bytes.items c.in-Ok.file.more c.if-file.false c.in-Ok.ensures.read
