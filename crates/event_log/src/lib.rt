@@ -15,6 +15,3 @@ pub use log_text::LogText;
 pub use read::read_rows;
 pub use row::{Kind, Row};
 pub use word_key::WordKey;
-
-#[cfg(test)]
-mod tests;

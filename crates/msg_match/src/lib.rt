@@ -17,6 +17,3 @@ pub use item::Item;
 pub use laws::{matched_events_are_ends, numbered_events_differ};
 pub use matcher::Matcher;
 pub use trace_event::{Key, Side};
-
-#[cfg(test)]
-mod tests;

@@ -1,7 +1,7 @@
 mod Lists
 mod Headers
 mod Records
-mod Streams
+pub mod Streams
 mod Reading
 mod Growing
 mod Judging

@@ -15,6 +15,3 @@ pub use laws::{
 };
 pub use packet::Packet;
 pub use stream::PcapStream;
-
-#[cfg(test)]
-mod tests;

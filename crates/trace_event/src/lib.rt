@@ -8,6 +8,3 @@ mod rows;
 pub use event::{Event, Key, Mark, NoKey, Side};
 pub use packets::packet_events;
 pub use rows::row_events;
-
-#[cfg(test)]
-mod tests;

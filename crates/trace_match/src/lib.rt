@@ -8,6 +8,3 @@ mod naming;
 
 pub use laws::ends_grow;
 pub use matcher::{Changed, TraceMatcher};
-
-#[cfg(test)]
-mod tests;

@@ -13,6 +13,3 @@ mod view;
 pub use laws::counts_add_up;
 pub use texts::key_text;
 pub use view::view_of;
-
-#[cfg(test)]
-mod tests;

@@ -1,0 +1,67 @@
+ghost use Rattle.std.specs.Prelude.{◌≡◌, ◌≤◌, true, length};
+
+use crate::fixtures::LATE_LOGS_PROBLEM;
+use earliest::Earliest;
+use problem::{Problem, read_problem};
+use solver::{Solution, solve};
+use std::alloc::Global;
+use std::test::*;
+
+// The same logs, but each begins with a receive of what the other one sends last.
+const CIRCLE_PROBLEM: &str =
+    "problem 1\nclock a 0 0 0 0\nclock b 0 0 3 7\nevent a#1 a 100\nevent a#2 a 180\nevent b#1 b 250\nevent b#2 b 300\n\
+    message a#2 b#1 10 20\nmessage b#2 a#1 10 20\nend\n";
+
+// Whether the first values are these, in units.
+fn begins_with(e: &Earliest, nodes: u32, want: &[i128]) -> bool
+    requires solved { e.now.is_solved ≡ true }
+    requires nodes { nodes ≤ length e.now.values }
+{
+    for (k, value) in want.iter().enumerate() {
+        if nodes as usize <= k {
+            return false;
+        }
+        if e.value(k as u32) != *value {
+            return false;
+        }
+    }
+    true
+}
+
+// Whether a problem has an execution, and its earliest one begins with these values, in units.
+fn values_begin(alloc: Global, p: &Problem, want: &[i128]) -> Option<bool> {
+    match solve(alloc, p) {
+        Ok(Solution::Execution(g, e)) => Some(begins_with(&e, g.nodes(), want)),
+        Ok(Solution::Contradiction(_)) => Some(false),
+        Err(_) => None,
+    }
+}
+
+// The same of a problem by its text.
+fn has_values(alloc: Global, text: &str, want: &[i128]) -> Option<bool> {
+    let p = read_problem(alloc, text.as_bytes()).ok()?;
+    values_begin(alloc, &p, want)
+}
+
+// How many bounds the contradiction of a problem has, where it has one.
+fn bounds_of_contradiction(alloc: Global, p: &Problem) -> Option<usize> {
+    match solve(alloc, p) {
+        Ok(Solution::Contradiction(steps)) => Some(steps.len()),
+        _ => None,
+    }
+}
+
+// The same of a problem by its text.
+fn contradiction_size(alloc: Global, text: &str) -> Option<usize> {
+    let p = read_problem(alloc, text.as_bytes()).ok()?;
+    bounds_of_contradiction(alloc, &p)
+}
+
+#[test]
+fn problems_are_solved(rt: HostRuntime) {
+    let alloc = rt.alloc();
+    let want = [0, 80_000_000_000, 10_000_000_000, 60_000_000_000];
+    assert!(rt; has_values(alloc, LATE_LOGS_PROBLEM, &want) == Some(true));
+    assert!(rt; has_values(alloc, "problem 1\nend\n", &[]) == Some(true));
+    assert!(rt; contradiction_size(alloc, CIRCLE_PROBLEM) == Some(8));
+}

@@ -1,0 +1,153 @@
+ghost use Rattle.std.specs.Prelude.{◌≡◌, length};
+
+use frontier::Frontier;
+use std::alloc::AllocError;
+use std::test::Fail;
+
+// Nodes come by key, then by node; a lowered key counts, and so do the extremes.
+#[test]
+fn the_least_comes_first(rt: HostRuntime) -> Result<(), Fail> {
+    let mut front = Frontier::new(rt.alloc());
+    front.reserve(5)?;
+    front.put(4, 7);
+    front.lower(4, i128::MIN);
+    front.put(1, -3);
+    front.put(3, -3);
+    front.put(0, i128::MAX);
+    assert!(rt; front.key(1) == Some(-3) && front.key(2).is_none() && front.key(5).is_none());
+    for want in [
+        Some((4, i128::MIN)),
+        Some((1, -3)),
+        Some((3, -3)),
+        Some((0, i128::MAX)),
+        None,
+    ] {
+        assert!(rt; front.pop() == want);
+    }
+    Ok(())
+}
+
+// The same calls in any order give what a table of keys gives in which all are looked at.
+#[test]
+fn it_answers_as_a_table_of_keys(rt: HostRuntime) -> Result<(), Fail> {
+    for seed in [1, 2, 3] {
+        let mut tried = Tried {
+            front: Frontier::new(rt.alloc()),
+            room: 0,
+            table: [None; 24],
+        };
+        assert!(rt; agree(&mut tried, seed)?);
+    }
+    Ok(())
+}
+
+// A frontier, its room, and a table of keys that is given the same calls.
+#[derive(Drop)]
+struct Tried {
+    front: Frontier,
+    room: u32,
+    table: [Option<i128>; 24],
+    ghost as_long: { room ≡ length front },
+}
+
+// Whether 600 calls, chosen by a linear congruential generator, give the same in both.
+fn agree(tried: &mut Tried, seed: u64) -> Result<bool, AllocError> {
+    let mut state = seed;
+    for _ in 0..600 {
+        state = state
+            .wrapping_mul(6364136223846793005)
+            .wrapping_add(1442695040888963407);
+        if !call(tried, state >> 32)? || !same_keys(tried) {
+            return Ok(false);
+        }
+    }
+    Ok(true)
+}
+
+// One call, in both; whether the answers are one. Most keys are equal to others.
+fn call(tried: &mut Tried, drawn: u64) -> Result<bool, AllocError> {
+    let node = (drawn / 64 % 24) as u32;
+    let key = KEYS[(drawn / 2048 % 8) as usize];
+    match drawn % 64 {
+        0 => clear(tried),
+        1..=3 => reserve(tried, node)?,
+        4..=30 => put(tried, node, key),
+        31..=50 => lower(tried, node, key),
+        _ => return Ok(pop(tried)),
+    }
+    Ok(true)
+}
+
+const KEYS: [i128; 8] = [i128::MIN, -2, -1, -1, 0, 0, 3, i128::MAX];
+
+fn clear(tried: &mut Tried) {
+    tried.front.clear();
+    tried.table = [None; 24];
+}
+
+fn reserve(tried: &mut Tried, nodes: u32) -> Result<(), AllocError> {
+    tried.front.reserve(nodes)?;
+    tried.room = tried.room.max(nodes);
+    Ok(())
+}
+
+fn put(tried: &mut Tried, node: u32, key: i128) {
+    if node < tried.room && tried.front.key(node).is_none() {
+        tried.front.put(node, key);
+        set_key(&mut tried.table, node, Some(key));
+    }
+}
+
+fn lower(tried: &mut Tried, node: u32, key: i128) {
+    if let Some(before) = tried.front.key(node) {
+        if key <= before {
+            tried.front.lower(node, key);
+            set_key(&mut tried.table, node, Some(key));
+        }
+    }
+}
+
+fn pop(tried: &mut Tried) -> bool {
+    let least = least(&tried.table);
+    if let Some((node, _)) = least {
+        set_key(&mut tried.table, node, None);
+    }
+    tried.front.pop() == least
+}
+
+fn same_keys(tried: &Tried) -> bool {
+    for (node, key) in tried.table.iter().enumerate() {
+        if tried.front.key(node as u32) != *key {
+            return false;
+        }
+    }
+    true
+}
+
+fn set_key(table: &mut [Option<i128>], node: u32, key: Option<i128>) {
+    if let Some(place) = table.get_mut(node as usize) {
+        *place = key;
+    }
+}
+
+// The entry that no other comes before, by a look at all of them.
+fn least(table: &[Option<i128>; 24]) -> Option<(u32, i128)> {
+    let mut best = None;
+    for (node, key) in table.iter().enumerate() {
+        best = better(best, node as u32, *key);
+    }
+    best
+}
+
+// Of the best so far and the entry of one more node, if it waits, the one that comes first.
+fn better(best: Option<(u32, i128)>, node: u32, key: Option<i128>) -> Option<(u32, i128)> {
+    match (best, key) {
+        (None, Some(key)) => Some((node, key)),
+        (Some(entry), Some(key)) => if key < entry.1 {
+            Some((node, key))
+        } else {
+            Some(entry)
+        },
+        (best, None) => best,
+    }
+}

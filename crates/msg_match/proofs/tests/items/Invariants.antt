@@ -1,7 +1,0 @@
-use Rattle.std.proofs.Common.{◌≡◌, length}
-use Rattle.msg_match.specs.Held.{seen_items}
-use Rattle.msg_match.specs.Changes.{AreNumberedFrom}
-use Rattle.msg_match.proofs.tests.items.Given as goal
-
-abbrev pub invariant-loop-place : goal.invariant-loop-place
-invariant-loop-place l = (length l.items.items ≡ l.place) × AreNumberedFrom l.first (seen_items l.items.items)

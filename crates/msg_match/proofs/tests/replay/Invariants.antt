@@ -1,6 +1,0 @@
-use Rattle.std.proofs.Common.{◌≡◌, length}
-use Rattle.msg_match.specs.Changes.{AreNumberedFrom}
-use Rattle.msg_match.proofs.tests.replay.Given as goal
-
-abbrev pub invariant-loop-step : goal.invariant-loop-step
-invariant-loop-step l = (length l.matcher ≡ l.first) × AreNumberedFrom 0 l.matcher

@@ -1,0 +1,64 @@
+// Runs of the program over objects in memory. Each function makes one of them, and gives it to the next.
+use commands::{Status, run};
+use ports::{MemFiles, MemSink, MemSource, Words};
+use std::alloc::{AllocError, Global};
+
+// Words, and what a run with them comes to.
+#[derive(Clone, Copy)]
+pub(crate) struct Wanted<'a> {
+    pub(crate) words: &'a [&'a str],
+    pub(crate) status: Status,
+    pub(crate) printed: &'a str,
+}
+
+// How a run with these words ends.
+fn status_of(
+    alloc: Global,
+    words: &[&str],
+    files: &mut MemFiles,
+    input: &mut MemSource,
+    out: &mut MemSink,
+) -> Result<Status, AllocError> {
+    let mut all = Words::new(alloc);
+    for word in words {
+        all.push(word)?;
+    }
+    Ok(run(alloc, &all, files, input, out))
+}
+
+// How a run ends over this script, which comes in pieces of 14 bytes. Reads of it with these numbers fail.
+pub(crate) fn run_over(
+    alloc: Global,
+    words: &[&str],
+    files: &mut MemFiles,
+    script: &[u8],
+    fails: &[u32],
+    out: &mut MemSink,
+) -> Result<Status, AllocError> {
+    let mut input = MemSource::new(alloc, script, 14, fails)?;
+    status_of(alloc, words, files, &mut input, out)
+}
+
+// Whether a run over this script comes to what is wanted.
+pub(crate) fn answers(
+    alloc: Global,
+    wanted: &Wanted<'_>,
+    files: &mut MemFiles,
+    script: &[u8],
+    fails: &[u32],
+    out: &mut MemSink,
+) -> Result<bool, AllocError> {
+    let found = run_over(alloc, wanted.words, files, script, fails, out)?;
+    Ok(found.code() == wanted.status.code() && out.bytes() == wanted.printed.as_bytes())
+}
+
+// Whether a run without a script comes to what is wanted. Writes with these numbers fail, each of at most 7 bytes.
+pub(crate) fn prints(
+    alloc: Global,
+    wanted: &Wanted<'_>,
+    files: &mut MemFiles,
+    fails: &[u32],
+) -> Result<bool, AllocError> {
+    let mut out = MemSink::new(alloc, 600, 7, fails)?;
+    answers(alloc, wanted, files, b"", &[], &mut out)
+}

@@ -1,0 +1,467 @@
+ghost use Rattle.std.specs.Prelude.{◌<◌, ◌↔◌, IsTrue, length};
+ghost use Rattle.queries.specs.Clocks.{KeepsTime};
+
+use crate::fixtures::CYCLE;
+use ports::MemSink;
+use problem::{Problem, read_problem};
+use queries::{
+    Stop, is_consistent, reading_of, write_interval, write_order, write_proof, write_time,
+};
+use std::alloc::Global;
+use std::test::*;
+
+// Two logs and two messages, one each way. Events a#1, a#2, b#1 and b#2 have the places 0 to 3.
+const TWO_LOGS_PROBLEM: &str =
+    "problem 1\nclock a 0 0 0 0\nclock b 0 0 0 0\nevent a#1 a 100\nevent a#2 a 180\nevent b#1 b 250\nevent b#2 b 300\n\
+    message a#1 b#1 10 20\nmessage b#2 a#2 10 20\nend\n";
+
+// The same, but host a has waited longer than bounds and clocks allow.
+const CONTRADICTING: &str =
+    "problem 1\nclock a 0 0 0 0\nclock b 0 0 0 0\nevent a#1 a 100\nevent a#2 a 195\nevent b#1 b 250\nevent b#2 b 300\n\
+    message a#1 b#1 10 20\nmessage b#2 a#2 10 20\nend\n";
+
+// Nothing ties the two clocks.
+const APART: &str =
+    "problem 1\nclock a 0 0 0 0\nclock b 0 0 0 0\nevent a#1 a 0\nevent b#1 b 0\nend\n";
+
+// A message that may be under way for any time.
+const OPEN: &str =
+    "problem 1\nclock c 0 0 0 0\nclock d 0 0 0 0\nevent p c 5\nevent q d 3\nmessage p q 0 none\nend\n";
+
+// The same, with a least delay.
+const ONE_WAY: &str =
+    "problem 1\nclock c 0 0 0 0\nclock d 0 0 0 0\nevent p c 5\nevent q d 3\nmessage p q 1 none\nend\n";
+
+// Two events at one reading.
+const TOGETHER: &str = "problem 1\nclock c 0 0 0 0\nevent p c 5\nevent q c 5\nend\n";
+
+// A source, whose clock r keeps time, and a host. Event r#1, stamped 1000, sends to b#1, which sends back to r#2. Their places
+// are 1, 2 and 0.
+const SOURCE: &str =
+    "problem 1\nclock r 0 0 0 0\nclock b 0 0 0 0\nevent r#2 r 1500\nevent r#1 r 1000\nevent b#1 b 250\n\
+    message r#1 b#1 10 20\nmessage b#1 r#2 0 none\nend\n";
+
+// The same without the way back, and the source may stamp 2 ns early or 3 ns late.
+const STRAYING: &str =
+    "problem 1\nclock r 0 0 2 3\nclock b 0 0 0 0\nevent r#1 r 1000\nevent b#1 b 250\nmessage r#1 b#1 10 20\nend\n";
+
+// Clock a has no event.
+const SILENT: &str =
+    "problem 1\nclock a 0 0 0 0\nclock b 0 0 0 0\nclock c 0 0 0 0\nevent b#1 b 7\nevent c#1 c 9\nend\n";
+
+// The certificate of events a#1 and b#1 of the two logs.
+const LIMITED: &str =
+    "certificate 1\nends a#1 b#1\nupper 20.000000000\nstep delay-most a#1 b#1 20.000000000\nevent a#1 0.000000000\n\
+    event a#2 80.000000000\nevent b#1 20.000000000\nevent b#2 70.000000000\nreading a 100 0.000000000\n\
+    reading a 180 80.000000000\nreading b 250 20.000000000\nreading b 300 70.000000000\nlower 10.000000000\n\
+    step delay-least a#1 b#1 -10.000000000\nevent a#1 0.000000000\nevent a#2 80.000000000\nevent b#1 10.000000000\n\
+    event b#2 60.000000000\nreading a 100 0.000000000\nreading a 180 80.000000000\nreading b 250 10.000000000\n\
+    reading b 300 60.000000000\nend\n";
+
+// That of two events that nothing ties.
+const UNLIMITED: &str =
+    "certificate 1\nends a#1 b#1\nupper +inf\ninside a\nevent a#1 0.000000000\nevent b#1 0.000000000\n\
+    reading a 0 0.000000000\nreading b 0 0.000000000\nlower -inf\ninside b\nevent a#1 0.000000000\n\
+    event b#1 0.000000000\nreading a 0 0.000000000\nreading b 0 0.000000000\nend\n";
+
+// What is to be written of two events.
+struct Case {
+    problem: &'static str,
+    from: u32,
+    to: u32,
+    interval: &'static str,
+    order: &'static str,
+}
+
+const CASES: [Case; 9] = [
+    Case {
+        problem: TWO_LOGS_PROBLEM,
+        from: 0,
+        to: 2,
+        interval: "interval 10.000000000 20.000000000\n",
+        order: "order before\n",
+    },
+    Case {
+        problem: TWO_LOGS_PROBLEM,
+        from: 2,
+        to: 0,
+        interval: "interval -20.000000000 -10.000000000\n",
+        order: "order after\n",
+    },
+    Case {
+        problem: TWO_LOGS_PROBLEM,
+        from: 3,
+        to: 3,
+        interval: "interval 0.000000000 0.000000000\n",
+        order: "order same\n",
+    },
+    Case {
+        problem: TOGETHER,
+        from: 0,
+        to: 1,
+        interval: "interval 0.000000000 0.000000000\n",
+        order: "order same\n",
+    },
+    Case {
+        problem: APART,
+        from: 0,
+        to: 1,
+        interval: "interval -inf +inf\n",
+        order: "order open\n",
+    },
+    Case {
+        problem: OPEN,
+        from: 0,
+        to: 1,
+        interval: "interval 0.000000000 +inf\n",
+        order: "order open\n",
+    },
+    Case {
+        problem: ONE_WAY,
+        from: 0,
+        to: 1,
+        interval: "interval 1.000000000 +inf\n",
+        order: "order before\n",
+    },
+    Case {
+        problem: ONE_WAY,
+        from: 1,
+        to: 0,
+        interval: "interval -inf -1.000000000\n",
+        order: "order after\n",
+    },
+    Case {
+        problem: CONTRADICTING,
+        from: 0,
+        to: 3,
+        interval: CYCLE,
+        order: CYCLE,
+    },
+];
+
+// What is to be written of an event by a clock, or so far where these writes fail.
+struct Timed {
+    problem: &'static str,
+    clock: u32,
+    event: u32,
+    fails: &'static [u32],
+    answer: Result<(), Stop>,
+    written: &'static str,
+}
+
+const TIMES: [Timed; 10] = [
+    Timed {
+        problem: SOURCE,
+        clock: 0,
+        event: 2,
+        fails: &[],
+        answer: Ok(()),
+        written: "time 1010.000000000 1020.000000000\n",
+    },
+    Timed {
+        problem: SOURCE,
+        clock: 0,
+        event: 1,
+        fails: &[],
+        answer: Ok(()),
+        written: "time 1000.000000000 1000.000000000\n",
+    },
+    Timed {
+        problem: SOURCE,
+        clock: 0,
+        event: 0,
+        fails: &[],
+        answer: Ok(()),
+        written: "time 1500.000000000 1500.000000000\n",
+    },
+    Timed {
+        problem: STRAYING,
+        clock: 0,
+        event: 0,
+        fails: &[],
+        answer: Ok(()),
+        written: "time 998.000000000 1003.000000000\n",
+    },
+    Timed {
+        problem: STRAYING,
+        clock: 0,
+        event: 1,
+        fails: &[],
+        answer: Ok(()),
+        written: "time 1008.000000000 1023.000000000\n",
+    },
+    Timed {
+        problem: APART,
+        clock: 0,
+        event: 1,
+        fails: &[],
+        answer: Ok(()),
+        written: "time -inf +inf\n",
+    },
+    Timed {
+        problem: OPEN,
+        clock: 0,
+        event: 1,
+        fails: &[],
+        answer: Ok(()),
+        written: "time 5.000000000 +inf\n",
+    },
+    Timed {
+        problem: CONTRADICTING,
+        clock: 0,
+        event: 3,
+        fails: &[],
+        answer: Ok(()),
+        written: CYCLE,
+    },
+    Timed {
+        problem: SOURCE,
+        clock: 0,
+        event: 2,
+        fails: &[3],
+        answer: Err(Stop::WriteFault),
+        written: "time 1010.0000",
+    },
+    Timed {
+        problem: CONTRADICTING,
+        clock: 0,
+        event: 3,
+        fails: &[4],
+        answer: Err(Stop::WriteFault),
+        written: "certificate 1\ncycle\n",
+    },
+];
+
+// What is to be written to prove the interval of two events, or so far where these writes fail.
+struct Proved {
+    problem: &'static str,
+    from: u32,
+    to: u32,
+    fails: &'static [u32],
+    answer: Result<(), Stop>,
+    written: &'static str,
+}
+
+const PROOFS: [Proved; 5] = [
+    Proved {
+        problem: TWO_LOGS_PROBLEM,
+        from: 0,
+        to: 2,
+        fails: &[],
+        answer: Ok(()),
+        written: LIMITED,
+    },
+    Proved {
+        problem: APART,
+        from: 0,
+        to: 1,
+        fails: &[],
+        answer: Ok(()),
+        written: UNLIMITED,
+    },
+    Proved {
+        problem: CONTRADICTING,
+        from: 0,
+        to: 3,
+        fails: &[],
+        answer: Ok(()),
+        written: CYCLE,
+    },
+    Proved {
+        problem: TWO_LOGS_PROBLEM,
+        from: 0,
+        to: 2,
+        fails: &[4],
+        answer: Err(Stop::WriteFault),
+        written: "certificate 1\nends a#",
+    },
+    Proved {
+        problem: CONTRADICTING,
+        from: 0,
+        to: 3,
+        fails: &[1],
+        answer: Err(Stop::WriteFault),
+        written: "",
+    },
+];
+
+fn is_event(p: &Problem, place: u32) -> bool
+    ensures { IsTrue result ↔ (place < length p.now.events) }
+{
+    (place as usize) < p.events().len()
+}
+
+// Whether the clock at this place is never short or long.
+fn keeps_time(p: &Problem, clock: u32) -> bool
+    ensures { IsTrue result → KeepsTime p.now clock }
+{
+    match p.clocks().get(clock as usize) {
+        Some(c) => c.rate.short() == 0 && c.rate.long() == 0,
+        None => false,
+    }
+}
+
+// Whether the answer is this one, and this is written so far.
+fn is_so(out: &MemSink, given: Result<(), Stop>, answer: Result<(), Stop>, written: &str) -> bool {
+    given == answer && out.bytes() == written.as_bytes()
+}
+
+// Whether the interval of two events is answered so.
+fn interval_is(
+    alloc: Global,
+    p: &Problem,
+    case: &Case,
+    fails: &[u32],
+    answer: Result<(), Stop>,
+    written: &str,
+) -> Option<bool> {
+    if !is_event(p, case.from) || !is_event(p, case.to) {
+        return None;
+    }
+    let mut out = MemSink::new(alloc, 600, 7, fails).ok()?;
+    let given = write_interval(alloc, p, case.from, case.to, &mut out);
+    Some(is_so(&out, given, answer, written))
+}
+
+// Whether the interval is answered so over a sink where these writes fail, and written so far.
+fn interval_so(
+    alloc: Global,
+    case: &Case,
+    fails: &[u32],
+    answer: Result<(), Stop>,
+    written: &str,
+) -> Option<bool> {
+    let p = read_problem(alloc, case.problem.as_bytes()).ok()?;
+    interval_is(alloc, &p, case, fails, answer, written)
+}
+
+// Whether the order of two events is answered so.
+fn order_is(
+    alloc: Global,
+    p: &Problem,
+    case: &Case,
+    fails: &[u32],
+    answer: Result<(), Stop>,
+    written: &str,
+) -> Option<bool> {
+    if !is_event(p, case.from) || !is_event(p, case.to) {
+        return None;
+    }
+    let mut out = MemSink::new(alloc, 600, 7, fails).ok()?;
+    let given = write_order(alloc, p, case.from, case.to, &mut out);
+    Some(is_so(&out, given, answer, written))
+}
+
+// Whether the order is answered so over a sink where these writes fail, and written so far.
+fn order_so(
+    alloc: Global,
+    case: &Case,
+    fails: &[u32],
+    answer: Result<(), Stop>,
+    written: &str,
+) -> Option<bool> {
+    let p = read_problem(alloc, case.problem.as_bytes()).ok()?;
+    order_is(alloc, &p, case, fails, answer, written)
+}
+
+// Whether the time of an event is answered so.
+fn time_is(alloc: Global, p: &Problem, case: &Timed) -> Option<bool> {
+    if !is_event(p, case.event) || !keeps_time(p, case.clock) {
+        return None;
+    }
+    let stamp = reading_of(p, case.clock)?;
+    let mut out = MemSink::new(alloc, 600, 7, case.fails).ok()?;
+    let given = write_time(alloc, p, case.clock, stamp, case.event, &mut out);
+    Some(is_so(&out, given, case.answer, case.written))
+}
+
+// The same of a case by its text.
+fn time_so(alloc: Global, case: &Timed) -> Option<bool> {
+    let p = read_problem(alloc, case.problem.as_bytes()).ok()?;
+    time_is(alloc, &p, case)
+}
+
+// Whether the proof of an interval is answered so.
+fn proof_is(alloc: Global, p: &Problem, case: &Proved) -> Option<bool> {
+    if !is_event(p, case.from) || !is_event(p, case.to) {
+        return None;
+    }
+    let mut out = MemSink::new(alloc, 2000, 7, case.fails).ok()?;
+    let given = write_proof(alloc, p, case.from, case.to, &mut out);
+    Some(is_so(&out, given, case.answer, case.written))
+}
+
+// The same of a case by its text.
+fn proof_so(alloc: Global, case: &Proved) -> Option<bool> {
+    let p = read_problem(alloc, case.problem.as_bytes()).ok()?;
+    proof_is(alloc, &p, case)
+}
+
+// Whether the first event of the clock reads this stamp; none stands for a clock without an event.
+fn reads_so(alloc: Global, problem: &str, clock: u32, stamp: Option<u64>) -> Option<bool> {
+    let p = read_problem(alloc, problem.as_bytes()).ok()?;
+    Some(reading_of(&p, clock).map(|read| read.get()) == stamp)
+}
+
+fn consistent(alloc: Global, problem: &str) -> Option<bool> {
+    let p = read_problem(alloc, problem.as_bytes()).ok()?;
+    is_consistent(alloc, &p).ok()
+}
+
+#[test]
+fn intervals_and_orders(rt: HostRuntime) {
+    let alloc = rt.alloc();
+    for case in &CASES {
+        assert!(rt; interval_so(alloc, case, &[], Ok(()), case.interval) == Some(true));
+        assert!(rt; order_so(alloc, case, &[], Ok(()), case.order) == Some(true));
+    }
+}
+
+#[test]
+fn writes_that_fail(rt: HostRuntime) {
+    let alloc = rt.alloc();
+    let stop = Err(Stop::WriteFault);
+    assert!(rt; interval_so(alloc, &CASES[0], &[3], stop, "interval 10.00") == Some(true));
+    assert!(rt; interval_so(alloc, &CASES[8], &[1], stop, "") == Some(true));
+    assert!(rt; order_so(alloc, &CASES[0], &[2], stop, "order b") == Some(true));
+    assert!(rt; order_so(alloc, &CASES[8], &[4], stop, "certificate 1\ncycle\n") == Some(true));
+}
+
+#[test]
+fn consistency(rt: HostRuntime) {
+    for (problem, wanted) in [
+        (TWO_LOGS_PROBLEM, true),
+        (APART, true),
+        (CONTRADICTING, false),
+        ("problem 1\nend\n", true),
+    ] {
+        assert!(rt; consistent(rt.alloc(), problem) == Some(wanted));
+    }
+}
+
+#[test]
+fn times_by_a_clock(rt: HostRuntime) {
+    for case in &TIMES {
+        assert!(rt; time_so(rt.alloc(), case) == Some(true));
+    }
+}
+
+#[test]
+fn proofs_of_intervals(rt: HostRuntime) {
+    for case in &PROOFS {
+        assert!(rt; proof_so(rt.alloc(), case) == Some(true));
+    }
+}
+
+#[test]
+fn first_readings(rt: HostRuntime) {
+    for (problem, clock, stamp) in [
+        (SOURCE, 0, Some(1500)),
+        (SOURCE, 1, Some(250)),
+        (SILENT, 0, None),
+        (SILENT, 2, Some(9)),
+        (SILENT, 3, None),
+    ] {
+        assert!(rt; reads_so(rt.alloc(), problem, clock, stamp) == Some(true));
+    }
+}

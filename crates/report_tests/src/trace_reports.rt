@@ -1,0 +1,278 @@
+// Reports on small traces, byte for byte. The lines were made by another JSON writer (Python's json), with sorted keys.
+ghost use Rattle.std.specs.Prelude.{◌≤◌};
+
+use crate::fixtures::{EMPTY_REPORT, accepted, declared, log_of};
+use arrayvec::ArrayVec;
+use atto::Nano;
+use decl::Decl;
+use event_log::WordKey;
+use ip_headers::PacketKey;
+use pcap_stream::Packet;
+use report::report_line;
+use std::alloc::Global;
+use std::test::*;
+use trace_event::{Key, packet_events};
+use trace_report::{key_text, view_of};
+use traces::{Accepted, event_count};
+
+// Captures at the hosts a and b, and logs there.
+const DECLARATION: &[u8] =
+    b"payload_bytes = 16\n[hosts.a]\naddresses = ['10.1.2.3']\n[hosts.b]\naddresses = ['192.168.3.254']\n[labels]\n\
+    ca = { host = 'a', kind = 'capture' }\ncb = { host = 'b', kind = 'capture' }\nla = { host = 'a', kind = 'log' }\n\
+    lb = { host = 'b', kind = 'log' }\n";
+
+// UDP from a to b, without a payload.
+const OVER: [u8; 28] = [
+    69, 0, 0, 28, 0, 7, 0, 0, 64, 17, 0, 0, 10, 1, 2, 3, 192, 168, 3, 254, 19, 136, 23, 112, 0, 8,
+    0, 0,
+];
+
+// UDP from b to a, with the payload `m`.
+const BACK: [u8; 29] = [
+    69, 0, 0, 29, 0, 8, 0, 0, 64, 17, 0, 0, 192, 168, 3, 254, 10, 1, 2, 3, 23, 112, 19, 136, 0, 9,
+    0, 0, 109,
+];
+
+// TCP from a to b, with three bytes.
+const SEGMENT: [u8; 43] = [
+    69, 0, 0, 43, 1, 44, 0, 0, 64, 6, 0, 0, 10, 1, 2, 3, 192, 168, 3, 254, 19, 136, 1, 187, 255,
+    255, 255, 254, 0, 0, 0, 1, 80, 24, 0, 0, 0, 0, 0, 0, 15, 160, 255,
+];
+
+// UDP between addresses of nobody.
+const STRANGE: [u8; 28] = [
+    69, 0, 0, 28, 0, 7, 0, 0, 64, 17, 0, 0, 10, 1, 2, 4, 10, 1, 2, 4, 0, 1, 0, 2, 0, 8, 0, 0,
+];
+
+// A header that is too short.
+const HEADER: [u8; 20] = [
+    68, 0, 0, 20, 0, 7, 0, 0, 64, 17, 0, 0, 10, 1, 2, 3, 192, 168, 3, 254,
+];
+
+// A fragment.
+const FRAGMENT: [u8; 20] = [
+    69, 0, 0, 28, 0, 9, 32, 0, 64, 17, 0, 0, 10, 1, 2, 3, 192, 168, 3, 254,
+];
+
+// A datagram that is shorter than its header.
+const LENGTH: [u8; 20] = [
+    69, 0, 0, 19, 0, 7, 0, 0, 64, 17, 0, 0, 10, 1, 2, 3, 192, 168, 3, 254,
+];
+
+// A frame by its link type and its bytes.
+type Frame = (u16, &'static [u8]);
+
+// The frames captured at each host, the logs there, and the line of the report.
+#[derive(Clone, Copy)]
+struct Case {
+    frames: [&'static [Frame]; 2],
+    logs: [&'static [u8]; 2],
+    consistent: bool,
+    line: &'static str,
+}
+
+const NOTHING: Case = Case {
+    frames: [&[], &[]],
+    logs: [b"", b""],
+    consistent: true,
+    line: EMPTY_REPORT,
+};
+
+// A second send of a word: its key is ambiguous, and the other word has a message.
+const SECOND_SEND: Case = Case {
+    frames: [&[], &[]],
+    logs: [
+        b"1,send,m1,\n2,send,m2,\n3,send,m1,\n",
+        b"5,receive,m1,\n6,receive,m2,\n",
+    ],
+    consistent: true,
+    line: "{\"ambiguous\":[{\"key\":\"log m1\",\"receives\":[\"lb#1\"],\"sends\":[\"la#1\",\"la#3\"]}],\"consistent\":true,\
+    \"events\":5,\"messages\":1,\"nokey\":{\"fragment\":0,\"header\":0,\"length\":0,\"link\":0,\"local\":0,\"other\":0,\
+    \"short\":0,\"side\":0},\"unmatched\":0}\n",
+};
+
+// Ends without a partner, also two sends of one word, and rows that are local.
+const ALONE: Case = Case {
+    frames: [&[], &[]],
+    logs: [
+        b"1,send,a,\n2,local,,x\n3,local,,\n",
+        b"1,receive,b,\n2,send,c,\n2,send,c,\n3,local,,\n",
+    ],
+    consistent: false,
+    line: "{\"ambiguous\":[],\"consistent\":false,\"events\":7,\"messages\":0,\"nokey\":{\"fragment\":0,\"header\":0,\
+    \"length\":0,\"link\":0,\"local\":3,\"other\":0,\"short\":0,\"side\":0},\"unmatched\":4}\n",
+};
+
+// Two keys: the one that comes first is last by its text, and last by its last event.
+const ORDER: Case = Case {
+    frames: [&[], &[]],
+    logs: [
+        b"1,send,z,\n2,send,a,\n3,send,z,\n4,send,a,\n",
+        b"1,receive,a,\n2,receive,z,\n",
+    ],
+    consistent: true,
+    line: "{\"ambiguous\":[{\"key\":\"log z\",\"receives\":[\"lb#2\"],\"sends\":[\"la#1\",\"la#3\"]},{\"key\":\"log a\",\
+    \"receives\":[\"lb#1\"],\"sends\":[\"la#2\",\"la#4\"]}],\"consistent\":true,\"events\":6,\"messages\":0,\
+    \"nokey\":{\"fragment\":0,\"header\":0,\"length\":0,\"link\":0,\"local\":0,\"other\":0,\"short\":0,\"side\":0},\
+    \"unmatched\":0}\n",
+};
+
+// Packets with keys, and some of each kind without; a word is not the payload that is spelled like it.
+const PACKETS: Case = Case {
+    frames: [
+        &[
+            (101, &OVER),
+            (101, &SEGMENT),
+            (101, &OVER),
+            (101, &BACK),
+            (113, &OVER),
+            (101, &[0x60]),
+            (101, &[0x60]),
+            (101, &[]),
+            (101, &[]),
+            (101, &[]),
+            (101, &HEADER),
+            (101, &FRAGMENT),
+            (101, &LENGTH),
+            (101, &STRANGE),
+        ],
+        &[(101, &SEGMENT), (101, &OVER), (101, &BACK), (101, &SEGMENT)],
+    ],
+    logs: [b"1,send,m,\n", b"1,local,,\n"],
+    consistent: true,
+    line: "{\"ambiguous\":[{\"key\":\"udp 10.1.2.3:5000 192.168.3.254:6000 id 7 length 8 payload -\",\"receives\":[\"cb#2\"],\
+    \"sends\":[\"ca#1\",\"ca#3\"]},\
+    {\"key\":\"tcp 10.1.2.3:5000 192.168.3.254:443 id 300 seq 4294967294 ack 1 flags 24 length 3 payload 0fa0ff\",\
+    \"receives\":[\"cb#1\",\"cb#4\"],\"sends\":[\"ca#2\"]}],\"consistent\":true,\"events\":20,\"messages\":1,\
+    \"nokey\":{\"fragment\":1,\"header\":1,\"length\":1,\"link\":1,\"local\":1,\"other\":2,\"short\":3,\"side\":1},\
+    \"unmatched\":1}\n",
+};
+
+const CASES: [Case; 5] = [NOTHING, SECOND_SEND, ALONE, ORDER, PACKETS];
+
+fn packets_of(alloc: Global, frames: &[Frame]) -> Option<Vec<Packet>> {
+    let mut packets = Vec::new(alloc);
+    for (link, frame) in frames {
+        let stamp = Nano::new(100)?;
+        let bytes = Vec::from_slice(alloc, frame).ok()?;
+        let link = *link;
+        packets.push(Packet { stamp, link, bytes }).ok()?;
+    }
+    Some(packets)
+}
+
+fn captured(alloc: Global, decl: &Decl, host: u32, frames: &[Frame]) -> Option<Accepted>
+    requires { decl.now.payload_bytes ≤ 64 }
+{
+    let packets = packets_of(alloc, frames)?;
+    let events = packet_events(alloc, decl, host, &packets).ok()?;
+    Some(accepted(alloc, events, 0))
+}
+
+fn traces_of(alloc: Global, decl: &Decl, case: &Case) -> Option<Vec<Accepted>>
+    requires { decl.now.payload_bytes ≤ 64 }
+{
+    let at_a = captured(alloc, decl, 0, case.frames[0])?;
+    let at_b = captured(alloc, decl, 1, case.frames[1])?;
+    let of_a = log_of(alloc, case.logs[0])?;
+    let of_b = log_of(alloc, case.logs[1])?;
+    Vec::from_array(alloc, [at_a, at_b, of_a, of_b]).ok()
+}
+
+fn line_of(alloc: Global, case: &Case) -> Option<Vec<u8>> {
+    let decl = declared(alloc, DECLARATION)?;
+    let traces = traces_of(alloc, &decl, case)?;
+    if traces.len() != decl.labels.len() || event_count(&traces) > 1 << 20 {
+        return None;
+    }
+    let view = view_of(alloc, &decl, &traces, case.consistent).ok()?;
+    report_line(alloc, &view).ok()
+}
+
+fn has_line(alloc: Global, case: &Case) -> bool {
+    match line_of(alloc, case) {
+        Some(line) => line.as_slice() == case.line.as_bytes(),
+        None => false,
+    }
+}
+
+#[test]
+fn reports(rt: HostRuntime) {
+    for case in &CASES {
+        assert!(rt; has_line(rt.alloc(), case), "{}", case.line);
+    }
+}
+
+// Packets by protocol, addresses and payload, and their texts.
+const TOLD: [(u8, u32, u32, &[u8], &str); 4] = [
+    (
+        17,
+        0,
+        0xffff_ffff,
+        b"",
+        "udp 0.0.0.0:0 255.255.255.255:65535 id 65535 length 40 payload -",
+    ),
+    (
+        17,
+        0x0114_ff00,
+        0xff00_0a63,
+        b"\x00\xff\x9a",
+        "udp 1.20.255.0:0 255.0.10.99:65535 id 65535 length 40 payload 00ff9a",
+    ),
+    (
+        6,
+        0xffff_ffff,
+        0x7f00_0001,
+        b"",
+        "tcp 255.255.255.255:0 127.0.0.1:65535 id 65535 seq 4294967295 ack 0 flags 255 length 40 payload -",
+    ),
+    (
+        6,
+        0x0a00_0001,
+        0x0a00_0002,
+        b"GET \x0f\xf0",
+        "tcp 10.0.0.1:0 10.0.0.2:65535 id 65535 seq 4294967295 ack 0 flags 255 length 40 payload 474554200ff0",
+    ),
+];
+
+fn packet_key(protocol: u8, source: u32, target: u32, bytes: &[u8]) -> Key {
+    let mut payload = ArrayVec::new();
+    let _fits = payload.try_extend_from_slice(bytes);
+    Key::Packet(PacketKey {
+        source,
+        target,
+        protocol,
+        id: 65535,
+        source_port: 0,
+        target_port: 65535,
+        sequence: if protocol == 6 { 0xffff_ffff } else { 0 },
+        acknowledged: 0,
+        flags: if protocol == 6 { 255 } else { 0 },
+        length: 40,
+        payload,
+    })
+}
+
+fn has_text(alloc: Global, key: &Key, wanted: &str) -> bool {
+    match key_text(alloc, key) {
+        Ok(text) => text.as_slice() == wanted.as_bytes(),
+        Err(_) => false,
+    }
+}
+
+fn is_word_told(alloc: Global, word: &str, wanted: &str) -> bool {
+    match WordKey::new(word.as_bytes()) {
+        Some(word) => has_text(alloc, &Key::Word(word), wanted),
+        None => false,
+    }
+}
+
+#[test]
+fn keys(rt: HostRuntime) {
+    for (protocol, source, target, payload, wanted) in &TOLD {
+        let key = packet_key(*protocol, *source, *target, payload);
+        assert!(rt; has_text(rt.alloc(), &key, wanted), "{wanted}");
+    }
+    assert!(rt; is_word_told(rt.alloc(), "m1", "log m1"));
+    assert!(rt; is_word_told(rt.alloc(), "!udp\"\\~", "log !udp\"\\~"));
+}

@@ -1,0 +1,388 @@
+use crate::fixtures::{
+    CAPTURE_A, CAPTURE_B, CYCLE, MERGED, NO_EVENT, ONE_EVENT, TWO_CAPTURES_DECLARATION, TWO_EVENTS,
+    TWO_LOGS_DECLARATION, TWO_LOGS_PROBLEM, TWO_MESSAGES, answers, put_cut, replies_over,
+    session_over,
+};
+use ports::{MemFiles, MemSink};
+use session::{Session, Stop};
+use std::alloc::{AllocError, Global};
+use std::test::*;
+
+// A capture and a log at one host.
+const CAPTURE_DECLARATION: &str =
+    "[hosts.h]\n[labels.c]\nhost = \"h\"\nkind = \"capture\"\n[labels.l]\nhost = \"h\"\nkind = \"log\"\n";
+
+// The head of a record that says that 262,145 bytes were captured.
+const TOO_LONG: [u8; 16] = [0, 0, 0, 0, 100, 0, 0, 0, 1, 0, 4, 0, 1, 0, 4, 0];
+
+// What is asked when both hosts' traces were added, whether they are logs or captures.
+const QUESTIONS: [(&str, &str); 5] = [
+    ("interval a#1 b#1", "interval 10.000000000 20.000000000\n"),
+    ("interval b#1 a#1", "interval -20.000000000 -10.000000000\n"),
+    ("order a#1 b#1", "order before\n"),
+    ("merge", MERGED),
+    ("problem", TWO_LOGS_PROBLEM),
+];
+
+// Where the first capture is cut, and the replies to its two pieces.
+const CUTS: [(usize, &str, &str); 14] = [
+    (0, NO_EVENT, TWO_EVENTS),
+    (
+        1,
+        "added events 0 messages 0 withdrawn 0 pending 1 consistent\n",
+        TWO_EVENTS,
+    ),
+    (
+        3,
+        "added events 0 messages 0 withdrawn 0 pending 3 consistent\n",
+        TWO_EVENTS,
+    ),
+    (
+        4,
+        "added events 0 messages 0 withdrawn 0 pending 4 consistent\n",
+        TWO_EVENTS,
+    ),
+    (
+        8,
+        "added events 0 messages 0 withdrawn 0 pending 8 consistent\n",
+        TWO_EVENTS,
+    ),
+    (
+        23,
+        "added events 0 messages 0 withdrawn 0 pending 23 consistent\n",
+        TWO_EVENTS,
+    ),
+    (24, NO_EVENT, TWO_EVENTS),
+    (
+        39,
+        "added events 0 messages 0 withdrawn 0 pending 15 consistent\n",
+        TWO_EVENTS,
+    ),
+    (
+        40,
+        "added events 0 messages 0 withdrawn 0 pending 16 consistent\n",
+        TWO_EVENTS,
+    ),
+    (
+        67,
+        "added events 0 messages 0 withdrawn 0 pending 43 consistent\n",
+        TWO_EVENTS,
+    ),
+    (68, ONE_EVENT, ONE_EVENT),
+    (
+        84,
+        "added events 1 messages 0 withdrawn 0 pending 16 consistent\n",
+        ONE_EVENT,
+    ),
+    (
+        111,
+        "added events 1 messages 0 withdrawn 0 pending 43 consistent\n",
+        ONE_EVENT,
+    ),
+    (112, TWO_EVENTS, NO_EVENT),
+];
+
+// The files that are read, by their paths.
+const FILES: [(&str, &str); 10] = [
+    ("a.csv", "100,send,m1,\n180,receive,m2,\n"),
+    ("late.csv", "100,send,m1,\n190,receive,m2,\n"),
+    ("later.csv", "100,send,m1,\n195,receive,m2,\n"),
+    ("b.csv", "250,receive,m1,\n300,send,m2,\n"),
+    ("d.csv", "310,send,m2,\n"),
+    ("e.csv", "140,local,,note\n"),
+    ("zero.csv", "0,local,,\n"),
+    ("large.csv", "4611686018427387904,local,,\n"),
+    ("wrong.csv", "1,local,,\n2,local,,\n3,sends,m,\n4,send,m,\n"),
+    ("empty.csv", ""),
+];
+
+// Pieces of captures by their paths: no magic number, version 2.3, a record of 2^32 - 1 bytes, a byte.
+const PIECES: [(&str, &[u8]); 4] = [
+    ("no.pcap", &[0x0a, 0x0d]),
+    ("old.pcap", &[0x4d, 0x3c, 0xb2, 0xa1, 2, 0, 3, 0]),
+    (
+        "endless.pcap",
+        &[
+            0x4d, 0x3c, 0xb2, 0xa1, 2, 0, 4, 0, 0, 0, 0, 0, 0, 0, 0, 0, 0, 0, 4, 0, 101, 0, 0, 0, //
+            0, 0, 0, 0, 100, 0, 0, 0, 255, 255, 255, 255, 255, 255, 255, 255, //
+        ],
+    ),
+    ("zero.pcap", &[0]),
+];
+
+// A session over a declaration: lines with their replies. Reads with these numbers fail, counted from 1.
+struct Case {
+    declaration: &'static str,
+    fails: &'static [u32],
+    lines: &'static [(&'static str, &'static str)],
+}
+
+const CASES: [Case; 9] = [
+    // Two logs with a message each way. What is refused changes nothing.
+    Case {
+        declaration: TWO_LOGS_DECLARATION,
+        fails: &[],
+        lines: &[
+            (
+                "problem",
+                "problem 1\nclock a 0 0 0 0\nclock b 0 0 0 0\nend\n",
+            ),
+            ("add a a.csv", TWO_EVENTS),
+            ("add b b.csv", TWO_MESSAGES),
+            ("interval a#1 b#1", "interval 10.000000000 20.000000000\n"),
+            ("interval b#1 a#1", "interval -20.000000000 -10.000000000\n"),
+            ("order a#1 b#1", "order before\n"),
+            ("order b#1 a#1", "order after\n"),
+            ("order b#2 b#2", "order same\n"),
+            ("interval a#1", "refused 20\n"),
+            ("", "refused 20\n"),
+            ("merges", "refused 20\n"),
+            ("problem ", "refused 20\n"),
+            ("interval  a#1 b#1", "refused 20\n"),
+            ("interval a#1 b#1 ", "refused 20\n"),
+            ("add a a.csv\r", "refused 20\n"),
+            ("add x a.csv", "refused 21\n"),
+            ("add x nofile", "refused 21\n"),
+            ("add a nofile", "refused 22\n"),
+            ("add a large.csv", "refused 26 1 2\n"),
+            ("add a wrong.csv", "refused 26 3 3\n"),
+            ("interval a#1 a#01", "refused 28\n"),
+            ("order c#1 a#1", "refused 28\n"),
+            ("order a#3 a#1", "refused 28\n"),
+            ("interval a#1 a", "refused 28\n"),
+            ("problem", TWO_LOGS_PROBLEM),
+        ],
+    },
+    // A reply that comes late.
+    Case {
+        declaration: TWO_LOGS_DECLARATION,
+        fails: &[],
+        lines: &[
+            ("add a late.csv", TWO_EVENTS),
+            ("add b b.csv", TWO_MESSAGES),
+            ("interval a#1 b#1", "interval 20.000000000 20.000000000\n"),
+        ],
+    },
+    // Logs that contradict each other, until a second send withdraws a message.
+    Case {
+        declaration: TWO_LOGS_DECLARATION,
+        fails: &[],
+        lines: &[
+            ("add a later.csv", TWO_EVENTS),
+            (
+                "add b b.csv",
+                "added events 2 messages 2 withdrawn 0 pending 0 inconsistent\n",
+            ),
+            ("interval a#1 b#1", CYCLE),
+            (
+                "add b d.csv",
+                "added events 1 messages 0 withdrawn 1 pending 0 consistent\n",
+            ),
+            ("interval a#1 b#1", "interval 10.000000000 20.000000000\n"),
+        ],
+    },
+    // A local row is no message.
+    Case {
+        declaration: TWO_LOGS_DECLARATION,
+        fails: &[],
+        lines: &[
+            ("add a a.csv", TWO_EVENTS),
+            ("add b b.csv", TWO_MESSAGES),
+            ("add a e.csv", ONE_EVENT),
+            ("interval a#1 b#1", "interval 10.000000000 20.000000000\n"),
+            ("interval a#1 a#3", "interval 40.000000000 40.000000000\n"),
+        ],
+    },
+    // Events that nothing links, and a piece without rows.
+    Case {
+        declaration: TWO_LOGS_DECLARATION,
+        fails: &[],
+        lines: &[
+            ("add b zero.csv", ONE_EVENT),
+            ("add a zero.csv", ONE_EVENT),
+            ("add a empty.csv", NO_EVENT),
+            ("interval a#1 b#1", "interval -inf +inf\n"),
+            ("order a#1 b#1", "order open\n"),
+        ],
+    },
+    // A read that fails, and the same addition again.
+    Case {
+        declaration: TWO_LOGS_DECLARATION,
+        fails: &[1],
+        lines: &[
+            ("add a a.csv", "refused 22\n"),
+            ("order a#1 a#1", "refused 28\n"),
+            ("add a a.csv", TWO_EVENTS),
+            ("add b b.csv", TWO_MESSAGES),
+        ],
+    },
+    // A capture and a log; what is refused of the capture changes nothing. The path comes first.
+    Case {
+        declaration: CAPTURE_DECLARATION,
+        fails: &[],
+        lines: &[
+            ("add c nofile", "refused 22\n"),
+            ("add c no.pcap", "refused 24 1\n"),
+            ("add c old.pcap", "refused 24 2\n"),
+            ("add c endless.pcap", "refused 25 24\n"),
+            ("add c toolong.pcap", "refused 25 68\n"),
+            (
+                "add c begun.pcap",
+                "added events 0 messages 0 withdrawn 0 pending 23 consistent\n",
+            ),
+            ("add c zero.pcap", NO_EVENT),
+            ("add l a.csv", TWO_EVENTS),
+            ("interval l#1 l#2", "interval 80.000000000 80.000000000\n"),
+        ],
+    },
+    // A record that is refused, and whole captures.
+    Case {
+        declaration: TWO_CAPTURES_DECLARATION,
+        fails: &[],
+        lines: &[
+            ("add a toolong.pcap", "refused 25 68\n"),
+            ("add a a.pcap", TWO_EVENTS),
+            ("add b b.pcap", TWO_MESSAGES),
+            ("interval a#1 b#1", "interval 10.000000000 20.000000000\n"),
+            ("problem", TWO_LOGS_PROBLEM),
+        ],
+    },
+    // No labels.
+    Case {
+        declaration: "",
+        fails: &[],
+        lines: &[
+            ("add a a.csv", "refused 21\n"),
+            ("problem", "problem 1\nend\n"),
+        ],
+    },
+];
+
+// A capture as far as its first record, and then a record that is too long.
+fn too_long(alloc: Global) -> Result<Vec<u8>, AllocError> {
+    let mut bytes = Vec::from_slice(alloc, &CAPTURE_A[..68])?;
+    bytes.extend_from_slice(&TOO_LONG)?;
+    Ok(bytes)
+}
+
+fn put_too_long(alloc: Global, files: &mut MemFiles) -> Result<(), AllocError> {
+    let bytes = too_long(alloc)?;
+    files.put("toolong.pcap", &bytes)
+}
+
+fn put_captures(alloc: Global, files: &mut MemFiles) -> Result<(), AllocError> {
+    files.put("a.pcap", &CAPTURE_A)?;
+    files.put("b.pcap", &CAPTURE_B)?;
+    files.put("begun.pcap", &CAPTURE_A[..23])?;
+    put_too_long(alloc, files)?;
+    for (path, bytes) in &PIECES {
+        files.put(path, bytes)?;
+    }
+    Ok(())
+}
+
+fn put_files(alloc: Global, fails: &[u32]) -> Result<MemFiles, AllocError> {
+    let mut files = MemFiles::new(alloc, fails)?;
+    for (path, text) in &FILES {
+        files.put(path, text.as_bytes())?;
+    }
+    put_captures(alloc, &mut files)?;
+    Ok(files)
+}
+
+fn replies(alloc: Global, case: &Case) -> Result<bool, Stop> {
+    let mut files = put_files(alloc, case.fails)?;
+    replies_over(alloc, case.declaration, &mut files, case.lines)
+}
+
+#[test]
+fn sessions(rt: HostRuntime) {
+    for (k, case) in CASES.iter().enumerate() {
+        assert!(rt; replies(rt.alloc(), case) == Ok(true), "case {k}");
+    }
+}
+
+// Whether a session answers the additions so, and then all questions.
+fn is_answered_by(
+    alloc: Global,
+    session: &mut Session,
+    files: &mut MemFiles,
+    additions: &[(&str, &str)],
+) -> Result<bool, Stop> {
+    let added = answers(alloc, session, files, additions)?;
+    Ok(added && answers(alloc, session, files, &QUESTIONS)?)
+}
+
+// The same of a session over these files.
+fn is_answered_over(
+    alloc: Global,
+    files: &mut MemFiles,
+    additions: &[(&str, &str)],
+) -> Result<bool, Stop> {
+    match session_over(alloc, TWO_CAPTURES_DECLARATION)? {
+        Some(mut session) => is_answered_by(alloc, &mut session, files, additions),
+        None => Ok(false),
+    }
+}
+
+// Whether a capture in two pieces, and another host's, are answered so.
+fn is_answered_when_cut(
+    alloc: Global,
+    cut: usize,
+    first: &'static str,
+    second: &'static str,
+) -> Result<bool, Stop> {
+    let mut files = MemFiles::new(alloc, &[])?;
+    let is_put = put_cut(&mut files, cut)?;
+    let additions = [
+        ("add a front", first),
+        ("add a back", second),
+        ("add b b", TWO_MESSAGES),
+    ];
+    Ok(is_put && is_answered_over(alloc, &mut files, &additions)?)
+}
+
+#[test]
+fn cut_captures(rt: HostRuntime) {
+    for (cut, first, second) in &CUTS {
+        assert!(rt;
+            is_answered_when_cut(rt.alloc(), *cut, first, second) == Ok(true),
+            "cut {cut}"
+        );
+    }
+}
+
+// Whether a line that is too long is refused, and a sink that fails stops the session.
+fn session_stops(
+    session: &mut Session,
+    files: &mut MemFiles,
+    out: &mut MemSink,
+) -> Result<bool, Stop> {
+    session.too_long(out)?;
+    let stop = session.step(b"problem", files, out);
+    Ok(out.bytes() == b"refused 20\n".as_slice() && stop == Err(Stop::WriteFault))
+}
+
+// The same over a sink.
+fn stops_into(alloc: Global, session: &mut Session, files: &mut MemFiles) -> Result<bool, Stop> {
+    let mut out = MemSink::new(alloc, 100, 5_000, &[2])?;
+    session_stops(session, files, &mut out)
+}
+
+// The same over files.
+fn stops_over(alloc: Global, session: &mut Session) -> Result<bool, Stop> {
+    let mut files = put_files(alloc, &[])?;
+    stops_into(alloc, session, &mut files)
+}
+
+fn stops(alloc: Global) -> Result<bool, Stop> {
+    match session_over(alloc, TWO_LOGS_DECLARATION)? {
+        Some(mut session) => stops_over(alloc, &mut session),
+        None => Ok(false),
+    }
+}
+
+#[test]
+fn ends(rt: HostRuntime) {
+    assert!(rt; stops(rt.alloc()) == Ok(true));
+}

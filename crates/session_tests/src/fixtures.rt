@@ -1,0 +1,152 @@
+// Declarations, captures and replies that several modules use, and sessions over them.
+use decl::read_decl;
+use ports::{MemFiles, MemSink};
+use session::{Session, Stop};
+use std::alloc::{AllocError, Global};
+
+// Two hosts with a log each, and a link each way.
+pub(crate) const TWO_LOGS_DECLARATION: &str =
+    "[hosts.a]\n[hosts.b]\n[labels.a]\nhost = \"a\"\nkind = \"log\"\n[labels.b]\nhost = \"b\"\nkind = \"log\"\n\
+    [[links]]\nfrom = \"a\"\nto = \"b\"\nleast = 10\nmost = 20\n[[links]]\nfrom = \"b\"\nto = \"a\"\nleast = 10\nmost = 20\n";
+
+// The same two hosts with a capture each.
+pub(crate) const TWO_CAPTURES_DECLARATION: &str =
+    "[hosts.a]\naddresses = [\"10.0.0.1\"]\n[hosts.b]\naddresses = [\"10.0.0.2\"]\n\
+    [labels.a]\nhost = \"a\"\nkind = \"capture\"\n[labels.b]\nhost = \"b\"\nkind = \"capture\"\n\
+    [[links]]\nfrom = \"a\"\nto = \"b\"\nleast = 10\nmost = 20\n[[links]]\nfrom = \"b\"\nto = \"a\"\nleast = 10\nmost = 20\n";
+
+// Two records of 28 bytes under a header of little-endian nanoseconds and link type 101: at 100 ns a packet from
+// 10.0.0.1:5000 to 10.0.0.2:6000, at 180 ns one back.
+pub(crate) const CAPTURE_A: [u8; 112] = [
+    0x4d, 0x3c, 0xb2, 0xa1, 2, 0, 4, 0, 0, 0, 0, 0, 0, 0, 0, 0, 0, 0, 4, 0, 101, 0, 0, 0, //
+    0, 0, 0, 0, 100, 0, 0, 0, 28, 0, 0, 0, 28, 0, 0, 0, //
+    0x45, 0, 0, 0x1c, 0, 7, 0, 0, 0x40, 0x11, 0, 0, 10, 0, 0, 1, 10, 0, 0, 2, 0x13, 0x88, 0x17,
+    0x70, 0, 8, 0, 0, //
+    0, 0, 0, 0, 180, 0, 0, 0, 28, 0, 0, 0, 28, 0, 0, 0, //
+    0x45, 0, 0, 0x1c, 0, 8, 0, 0, 0x40, 0x11, 0, 0, 10, 0, 0, 2, 10, 0, 0, 1, 0x17, 0x70, 0x13,
+    0x88, 0, 8, 0, 0, //
+];
+
+// The same packets at 250 ns and 300 ns.
+pub(crate) const CAPTURE_B: [u8; 112] = [
+    0x4d, 0x3c, 0xb2, 0xa1, 2, 0, 4, 0, 0, 0, 0, 0, 0, 0, 0, 0, 0, 0, 4, 0, 101, 0, 0, 0, //
+    0, 0, 0, 0, 250, 0, 0, 0, 28, 0, 0, 0, 28, 0, 0, 0, //
+    0x45, 0, 0, 0x1c, 0, 7, 0, 0, 0x40, 0x11, 0, 0, 10, 0, 0, 1, 10, 0, 0, 2, 0x13, 0x88, 0x17,
+    0x70, 0, 8, 0, 0, //
+    0, 0, 0, 0, 44, 1, 0, 0, 28, 0, 0, 0, 28, 0, 0, 0, //
+    0x45, 0, 0, 0x1c, 0, 8, 0, 0, 0x40, 0x11, 0, 0, 10, 0, 0, 2, 10, 0, 0, 1, 0x17, 0x70, 0x13,
+    0x88, 0, 8, 0, 0, //
+];
+
+// The replies to additions of no event, of one, of two, and of two that make two messages with those before.
+pub(crate) const NO_EVENT: &str = "added events 0 messages 0 withdrawn 0 pending 0 consistent\n";
+
+pub(crate) const ONE_EVENT: &str = "added events 1 messages 0 withdrawn 0 pending 0 consistent\n";
+
+pub(crate) const TWO_EVENTS: &str = "added events 2 messages 0 withdrawn 0 pending 0 consistent\n";
+
+pub(crate) const TWO_MESSAGES: &str =
+    "added events 2 messages 2 withdrawn 0 pending 0 consistent\n";
+
+// The replies to `merge` and to `problem` when both hosts' traces were added, whether they are logs or captures.
+pub(crate) const MERGED: &str =
+    "merge 4\n0.000000000 a#1\n10.000000000 b#1\n60.000000000 b#2\n80.000000000 a#2\n";
+
+pub(crate) const TWO_LOGS_PROBLEM: &str =
+    "problem 1\nclock a 0 0 0 0\nclock b 0 0 0 0\nevent a#1 a 100\nevent a#2 a 180\nevent b#1 b 250\nevent b#2 b 300\n\
+    message a#1 b#1 10 20\nmessage b#2 a#2 10 20\nend\n";
+
+// The contradiction of two messages: the way there and back takes 90 ns at most, and 95 ns by the clock of host a.
+pub(crate) const CYCLE: &str =
+    "certificate 1\ncycle\nstep early a#2 0.000000000\nstep span-least a 100 195 -95.000000000\nstep late a#1 0.000000000\n\
+    step delay-most a#1 b#1 20.000000000\nstep early b#1 0.000000000\nstep span-most b 250 300 50.000000000\n\
+    step late b#2 0.000000000\nstep delay-most b#2 a#2 20.000000000\nend\n";
+
+// The first capture in two pieces, and the other one.
+pub(crate) fn put_cut(files: &mut MemFiles, cut: usize) -> Result<bool, AllocError> {
+    if cut > CAPTURE_A.len() {
+        return Ok(false);
+    }
+    let (front, back) = CAPTURE_A.split_at(cut);
+    files.put("front", front)?;
+    files.put("back", back)?;
+    files.put("b", &CAPTURE_B)?;
+    Ok(true)
+}
+
+// Whether a line is answered by this reply, behind what was wanted so far.
+fn is_answered(
+    session: &mut Session,
+    files: &mut MemFiles,
+    line: &str,
+    reply: &str,
+    wanted: &mut Vec<u8>,
+    out: &mut MemSink,
+) -> Result<bool, Stop> {
+    if line.len() > 4096 {
+        return Ok(false);
+    }
+    session.step(line.as_bytes(), files, out)?;
+    wanted.extend_from_slice(reply.as_bytes())?;
+    Ok(out.bytes() == wanted.as_slice())
+}
+
+// Whether each line is answered by its reply.
+fn are_answered(
+    session: &mut Session,
+    files: &mut MemFiles,
+    lines: &[(&str, &str)],
+    wanted: &mut Vec<u8>,
+    out: &mut MemSink,
+) -> Result<bool, Stop> {
+    for (line, reply) in lines {
+        if !is_answered(session, files, line, reply, wanted, out)? {
+            return Ok(false);
+        }
+    }
+    Ok(true)
+}
+
+// The same over a sink.
+fn answers_into(
+    alloc: Global,
+    session: &mut Session,
+    files: &mut MemFiles,
+    lines: &[(&str, &str)],
+    out: &mut MemSink,
+) -> Result<bool, Stop> {
+    let mut wanted = Vec::new(alloc);
+    are_answered(session, files, lines, &mut wanted, out)
+}
+
+// Whether a session gives these replies.
+pub(crate) fn answers(
+    alloc: Global,
+    session: &mut Session,
+    files: &mut MemFiles,
+    lines: &[(&str, &str)],
+) -> Result<bool, Stop> {
+    let mut out = MemSink::new(alloc, 5_000, 7, &[])?;
+    answers_into(alloc, session, files, lines, &mut out)
+}
+
+// A session over a declaration by its text.
+pub(crate) fn session_over(alloc: Global, declaration: &str) -> Result<Option<Session>, Stop> {
+    match read_decl(alloc, declaration.as_bytes()) {
+        Ok(decl) => Ok(Some(Session::new(alloc, decl)?)),
+        Err(_) => Ok(None),
+    }
+}
+
+// Whether a session over these files gives these replies.
+pub(crate) fn replies_over(
+    alloc: Global,
+    declaration: &str,
+    files: &mut MemFiles,
+    lines: &[(&str, &str)],
+) -> Result<bool, Stop> {
+    match session_over(alloc, declaration)? {
+        Some(mut session) => answers(alloc, &mut session, files, lines),
+        None => Ok(false),
+    }
+}

@@ -1,0 +1,17 @@
+//! Tests of sessions and scripts, each by public calls.
+//!
+//! `additions` has what is replied to each addition and each command, `cut_additions` a capture that comes in pieces,
+//! `questions` what is asked of two events (`session`); `scripts` has whole scripts (`script`); `fixtures` what
+//! several of them use.
+#![tactic(auto)]
+
+#[cfg(test)]
+mod additions;
+#[cfg(test)]
+mod cut_additions;
+#[cfg(test)]
+mod fixtures;
+#[cfg(test)]
+mod questions;
+#[cfg(test)]
+mod scripts;

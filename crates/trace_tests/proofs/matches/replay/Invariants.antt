@@ -1,0 +1,6 @@
+use Rattle.std.proofs.Common.{◌≡◌, length}
+use Rattle.msg_match.specs.Changes.{AreNumberedFrom}
+use Rattle.trace_tests.proofs.matches.replay.Given as goal
+
+abbrev pub invariant-loop-step : goal.invariant-loop-step
+invariant-loop-step l = (length l.matcher ≡ l.first) × AreNumberedFrom 0 l.matcher

@@ -1,0 +1,244 @@
+ghost use Rattle.std.specs.Prelude.{◌≤◌, ◌^◌, length, IfSome};
+
+use arrayvec::ArrayVec;
+use atto::Nano;
+use decl::{Address, Decl};
+use event_log::read_rows;
+use ip_headers::PacketKey;
+use pcap_stream::Packet;
+use std::alloc::Global;
+use std::test::*;
+use trace_event::{Event, Key, Mark, NoKey, Side, packet_events, row_events};
+
+const FIRST: u32 = 0x0a00_0001;
+
+const SECOND: u32 = 0x0a00_0002;
+
+// UDP from the first address and port 5000 to the second one and port 6000.
+const OVER: [u8; 28] = [
+    0x45, 0, 0, 28, 0, 7, 0, 0, 0x40, 17, 0, 0, 10, 0, 0, 1, 10, 0, 0, 2, 0x13, 0x88, 0x17, 0x70,
+    0, 8, 0, 0,
+];
+
+// And back.
+const BACK: [u8; 28] = [
+    0x45, 0, 0, 28, 0, 8, 0, 0, 0x40, 17, 0, 0, 10, 0, 0, 2, 10, 0, 0, 1, 0x17, 0x70, 0x13, 0x88,
+    0, 8, 0, 0,
+];
+
+// Each address is one of another host.
+const APART: [Address; 2] = [
+    Address {
+        address: FIRST,
+        host: 0,
+    },
+    Address {
+        address: SECOND,
+        host: 1,
+    },
+];
+
+// Both are of one host.
+const TOGETHER: [Address; 2] = [
+    Address {
+        address: FIRST,
+        host: 0,
+    },
+    Address {
+        address: SECOND,
+        host: 0,
+    },
+];
+
+// Only the first one is declared.
+const ALONE: [Address; 1] = [Address {
+    address: FIRST,
+    host: 0,
+}];
+
+// Packets at a host, and the side of each; None where the host has both addresses, or neither.
+const SIDES: [(&[Address], u32, &[u8], Option<Side>); 10] = [
+    (&APART, 0, &OVER, Some(Side::Send)),
+    (&APART, 1, &OVER, Some(Side::Receive)),
+    (&APART, 0, &BACK, Some(Side::Receive)),
+    (&APART, 1, &BACK, Some(Side::Send)),
+    (&APART, 2, &OVER, None),
+    (&TOGETHER, 0, &OVER, None),
+    (&TOGETHER, 1, &BACK, None),
+    (&ALONE, 0, &OVER, Some(Side::Send)),
+    (&ALONE, 0, &BACK, Some(Side::Receive)),
+    (&ALONE, 1, &OVER, None),
+];
+
+// Frames of link types that have no key.
+const REASONS: [(u16, &[u8], NoKey); 6] = [
+    (113, &OVER, NoKey::Link),
+    (101, &[0x60], NoKey::Other),
+    (101, &[], NoKey::Short),
+    (
+        101,
+        &[
+            0x44, 0, 0, 20, 0, 7, 0, 0, 0x40, 17, 0, 0, 10, 0, 0, 1, 10, 0, 0, 2,
+        ],
+        NoKey::Header,
+    ),
+    (
+        101,
+        &[
+            0x45, 0, 0, 28, 0, 9, 0x20, 0, 0x40, 17, 0, 0, 10, 0, 0, 1, 10, 0, 0, 2,
+        ],
+        NoKey::Fragment,
+    ),
+    (
+        101,
+        &[
+            0x45, 0, 0, 19, 0, 7, 0, 0, 0x40, 17, 0, 0, 10, 0, 0, 1, 10, 0, 0, 2,
+        ],
+        NoKey::Length,
+    ),
+];
+
+fn declared(alloc: Global, addresses: &[Address]) -> Option<Decl>
+    ensures { IfSome result (λ d. d.payload_bytes ≤ 64) }
+{
+    let mut all = Vec::new(alloc);
+    all.extend_from_slice(addresses).ok()?;
+    Some(Decl {
+        hosts: Vec::new(alloc),
+        clocks: Vec::new(alloc),
+        owners: Vec::new(alloc),
+        addresses: all,
+        labels: Vec::new(alloc),
+        links: Vec::new(alloc),
+        payload_bytes: 16,
+        source: None,
+    })
+}
+
+// The event of a packet that was captured at 100 ns.
+fn event_of(
+    alloc: Global,
+    addresses: &[Address],
+    host: u32,
+    link: u16,
+    frame: &[u8],
+) -> Option<Event> {
+    let decl = declared(alloc, addresses)?;
+    let mut bytes = Vec::new(alloc);
+    bytes.extend_from_slice(frame).ok()?;
+    let stamp = Nano::new(100)?;
+    let packet = Packet { stamp, link, bytes };
+    let packets = Vec::from_array(alloc, [packet]).ok()?;
+    let mut events = packet_events(alloc, &decl, host, &packets).ok()?;
+    events.pop()
+}
+
+// The key of the packet over, or that of the packet back.
+fn key_of(over: bool) -> PacketKey {
+    PacketKey {
+        source: if over { FIRST } else { SECOND },
+        target: if over { SECOND } else { FIRST },
+        protocol: 17,
+        id: if over { 7 } else { 8 },
+        source_port: if over { 5000 } else { 6000 },
+        target_port: if over { 6000 } else { 5000 },
+        sequence: 0,
+        acknowledged: 0,
+        flags: 0,
+        length: 8,
+        payload: ArrayVec::new(),
+    }
+}
+
+fn has_mark(mark: &Mark, wanted: Option<Side>, over: bool) -> bool {
+    match (mark, wanted) {
+        (
+            Mark::Keyed {
+                key: Key::Packet(key),
+                side,
+            },
+            Some(wanted),
+        ) => *side == wanted && *key == key_of(over),
+        (Mark::Unkeyed(reason), None) => *reason == NoKey::Side,
+        _ => false,
+    }
+}
+
+fn has_side(alloc: Global, case: &(&[Address], u32, &[u8], Option<Side>)) -> bool {
+    let (addresses, host, frame, wanted) = case;
+    let over = *frame == OVER.as_slice();
+    match event_of(alloc, addresses, *host, 101, frame) {
+        Some(event) => {
+            event.stamp.get() == 100 && event.text.is_none() && has_mark(&event.mark, *wanted, over)
+        }
+        None => false,
+    }
+}
+
+fn has_reason(alloc: Global, link: u16, frame: &[u8], wanted: NoKey) -> bool {
+    match event_of(alloc, &APART, 0, link, frame) {
+        Some(event) => match event.mark {
+            Mark::Keyed { .. } => false,
+            Mark::Unkeyed(reason) => reason == wanted,
+        },
+        None => false,
+    }
+}
+
+#[test]
+fn packets(rt: HostRuntime) {
+    for (k, case) in SIDES.iter().enumerate() {
+        assert!(rt; has_side(rt.alloc(), case), "case {k}");
+    }
+    for (link, frame, wanted) in &REASONS {
+        assert!(rt; has_reason(rt.alloc(), *link, frame, *wanted), "{wanted:?}");
+    }
+}
+
+// What the event of a row is to be: its stamp, its word with its side, and its text.
+type Row = (u64, Option<(&'static str, Side)>, &'static str);
+
+const ROWS: [Row; 3] = [
+    (5, Some(("m", Side::Send)), ""),
+    (7, Some(("n", Side::Receive)), "hello"),
+    (9, None, "x"),
+];
+
+fn has_word(mark: &Mark, wanted: Option<(&str, Side)>) -> bool {
+    match (mark, wanted) {
+        (
+            Mark::Keyed {
+                key: Key::Word(word),
+                side,
+            },
+            Some((text, wanted)),
+        ) => *side == wanted && word.bytes() == text.as_bytes(),
+        (Mark::Unkeyed(reason), None) => *reason == NoKey::Local,
+        _ => false,
+    }
+}
+
+fn is_row(event: &Event, wanted: &Row) -> bool {
+    match &event.text {
+        Some(text) => {
+            event.stamp.get() == wanted.0
+                && has_word(&event.mark, wanted.1)
+                && text.bytes() == wanted.2.as_bytes()
+        }
+        None => false,
+    }
+}
+
+fn are_rows(alloc: Global, log: &[u8]) -> Option<bool>
+    requires { length log.now ≤ 2 ^ 28 }
+{
+    let rows = read_rows(alloc, log).ok()?;
+    let events = row_events(alloc, rows).ok()?;
+    Some(events.len() == ROWS.len() && events.iter().zip(&ROWS).all(|(e, w)| is_row(e, w)))
+}
+
+#[test]
+fn rows(rt: HostRuntime) {
+    let log = b"5,send,m,\n7,receive,n,hello\n9,local,,x\n";
+    assert!(rt; are_rows(rt.alloc(), log) == Some(true));
+}

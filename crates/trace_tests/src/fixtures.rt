@@ -1,0 +1,83 @@
+// Keys, logs and messages that several modules use.
+use arrayvec::ArrayVec;
+use event_log::{LogError, read_rows};
+use ip_headers::PacketKey;
+use pcap_stream::PcapStream;
+use std::alloc::{AllocError, Global};
+use trace_event::{Event, Side, row_events};
+use traces::{Accepted, Couple, EventId, event_count, messages_in, missing};
+
+pub(crate) const SEND: Side = Side::Send;
+
+pub(crate) const RECEIVE: Side = Side::Receive;
+
+// The key of a UDP datagram from 10.0.0.1:5000 to 10.0.0.2:6000, whose payload begins so.
+pub(crate) fn packet_key(id: u16, payload: &[u8]) -> Option<PacketKey> {
+    let mut front = ArrayVec::new();
+    front.try_extend_from_slice(payload).ok()?;
+    Some(PacketKey {
+        source: 0x0a00_0001,
+        target: 0x0a00_0002,
+        protocol: 17,
+        id,
+        source_port: 5000,
+        target_port: 6000,
+        sequence: 0,
+        acknowledged: 0,
+        flags: 0,
+        length: 100,
+        payload: front,
+    })
+}
+
+// These events, accepted from a piece of so many bytes.
+pub(crate) fn accepted(alloc: Global, events: Vec<Event>, size: u64) -> Accepted {
+    Accepted {
+        events,
+        size,
+        stream: PcapStream::new(alloc),
+    }
+}
+
+// What is accepted of a log with this text.
+pub(crate) fn log_of(alloc: Global, text: &str) -> Result<Accepted, LogError> {
+    if text.len() > 1 << 28 {
+        return Err(LogError::Memory);
+    }
+    let events = row_events(alloc, read_rows(alloc, text.as_bytes())?)?;
+    Ok(accepted(alloc, events, text.len() as u64))
+}
+
+// The messages of all labels, by the filters.
+pub(crate) fn by_filters(alloc: Global, labels: &[Accepted]) -> Result<Vec<Couple>, AllocError> {
+    if labels.len() > 65536 || event_count(labels) > 1 << 20 {
+        return Err(AllocError);
+    }
+    messages_in(alloc, labels)
+}
+
+// How many of the first messages are not among the second.
+pub(crate) fn lost(xs: &[Couple], ys: &[Couple]) -> Option<u32> {
+    if xs.len() > 1 << 20 {
+        return None;
+    }
+    Some(missing(xs, ys))
+}
+
+// Whether a message has this label and number of its send, and of its receive.
+fn is_message(m: &Couple, wanted: &[u32; 4]) -> bool {
+    let send = EventId {
+        label: wanted[0],
+        number: wanted[1],
+    };
+    let receive = EventId {
+        label: wanted[2],
+        number: wanted[3],
+    };
+    *m == Couple { send, receive }
+}
+
+// Whether the messages are these.
+pub(crate) fn are_messages(messages: &[Couple], wanted: &[[u32; 4]]) -> bool {
+    messages.len() == wanted.len() && messages.iter().zip(wanted).all(|(m, w)| is_message(m, w))
+}
