@@ -37,8 +37,7 @@ compile() {
 need_program() {
     if [ ! -x "$program" ]; then
         [ -z "${TRACESYNC:-}" ] || fail "there is no $program"
-        python3 "$bench/generate.py" 2 "$out"
-        (cd "$crate" && rt run -- obey "$out/2.problem" "$out/2.execution") >&2
+        "$bench/../tools/build" >&2 || fail "the program was not built"
     fi
 }
 

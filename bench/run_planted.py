@@ -4,9 +4,11 @@
     bench/run_planted.py [CRATE..]
 
 With no crates it tries those of all. It works in a copy of the repository, and says of each crate how many bugs the proofs refuse.
-Each bug that they let through is then built, and the tests of its crate are run: it prints whether a test fails.
+Each bug that they let through is then built, and the tests are run, those of its crate and of each crate of tests (its name ends in
+_tests) that stands on it: it prints whether a test fails.
 """
 import os
+import shutil
 import subprocess
 import sys
 import tempfile
@@ -38,26 +40,58 @@ def edited(crate, edit):
     return path, text
 
 
-def fails_a_test(crate, edit):
-    """Returns whether a test of the crate fails with an edit, or the tests cannot be built."""
-    path, text = edited(crate, edit)
+def holds_tests(crate):
+    """Returns whether a crate's code has a test."""
+    for at, _, names in os.walk(f"{crate}/src"):
+        for name in names:
+            with open(f"{at}/{name}") as it:
+                if "#[test]" in it.read():
+                    return True
+    return False
+
+
+def crates_with_tests_of(copy, name):
+    """Returns the folders of the crates that test this one: itself, and crates of tests that stand on it."""
+    found = [name]
+    with open(f"{copy}/crates.txt") as lines:
+        for line in lines:
+            other, _, uses = line.partition("#")[0].partition(":")
+            if other.strip().endswith("_tests") and name in uses.split():
+                found.append(other.strip())
+    return [crate for crate in (f"{copy}/crates/{it}" for it in found) if holds_tests(crate)]
+
+
+def told_by_tests(folder):
+    """Returns whether a test of a crate fails, in words, or None where none does."""
+    told, status = output(["rt", "try", "--test"], folder)
+    if not status:
+        return None
+    return "a test fails" if "FAILED" in told or "failed" in told else f"the tests were not run: {told[-200:]!r}"
+
+
+def fails_a_test(copy, name, edit):
+    """Returns what the tests of a crate say with an edit, in words."""
+    path, text = edited(f"{copy}/crates/{name}", edit)
     with open(path) as it:
         before = it.read()
     with open(path, "w") as it:
         it.write(text)
-    told, status = output(["rt", "try", "--test"], crate)
+    told = "there is no test"
+    for folder in crates_with_tests_of(copy, name):
+        told = told_by_tests(folder)
+        if told:
+            break
     with open(path, "w") as it:
         it.write(before)
-    if not status:
-        return "no test fails"
-    return "a test fails" if "FAILED" in told or "failed" in told else f"the tests were not run: {told[-200:]!r}"
+    return told or "no test fails"
 
 
 def try_crate(copy, name):
     crate, planted = f"{copy}/crates/{name}", f"{copy}/bench/planted/{name}"
-    for edit in os.listdir(f"{crate}/must-fail"):
-        os.remove(f"{crate}/must-fail/{edit}")
-    subprocess.run(f"cp {planted}/*.edit {crate}/must-fail/", shell=True, check=True)
+    shutil.rmtree(f"{crate}/must-fail", ignore_errors=True)
+    os.mkdir(f"{crate}/must-fail")
+    for edit in os.listdir(planted):
+        shutil.copyfile(f"{planted}/{edit}", f"{crate}/must-fail/{edit}")
     told, _ = output(["rt", "must-fail", name], copy)
     lines = told.splitlines()
     print(f"{name}: {sum(': refused, as it must be' in line for line in lines)} refused", flush=True)
@@ -66,7 +100,7 @@ def try_crate(copy, name):
             print(f"  {line}", flush=True)
         if "NOT REFUSED" in line:
             edit = line.split("/", 1)[1].split(".edit")[0]
-            print(f"  {edit}: let through, {fails_a_test(crate, f'{planted}/{edit}.edit')}", flush=True)
+            print(f"  {edit}: let through, {fails_a_test(copy, name, f'{planted}/{edit}.edit')}", flush=True)
 
 
 def main():

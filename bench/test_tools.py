@@ -1,0 +1,89 @@
+#!/usr/bin/env python3
+"""Runs ./tracesync and the scripts of tools/ in a copy of the repository, and looks at what they say and their statuses. It is no part
+of the gate; bench/test_rows.py has the cases of tools/rows.
+
+    bench/test_tools.py [--binary PATH]
+
+PATH is the program to run, else the one that tools/build makes. Prints a line for each case that differs, and at last 'N passed, M
+failed'; with status 1 if one failed.
+"""
+import argparse
+import os
+import subprocess
+import sys
+import tempfile
+from xml.etree import ElementTree
+
+# (the import below leaves nothing behind)
+sys.dont_write_bytecode = True
+from run_documents import PROGRAM, TOP, copy_tree  # noqa: E402
+
+PROBLEM = "examples/obey/problem.txt"
+TIMELINE = "./tracesync session examples/timeline/hosts.toml < examples/timeline/script.txt"
+PART = "printf 'merge 2\\n0.000000000 a#1\\n7.000000000 b#1\\nproblem 1\\nclock a 0 0 0 0\\nclock b 0 0 0 0\\nevent a#1 a 1\\nevent b#1 b 1\\nmessage a#1 b#1 0 none\\nend\\n'"
+
+# The command, its status, a part of what it prints on the standard output, and one on the standard error ('' is nothing at all).
+CASES = [
+    ("./tracesync --help", 0, "session DECL < SCRIPT", ""),
+    ("./tracesync --version", 0, "tracesync, commit ", ""),
+    ("cd examples/obey && ../../tracesync ends problem.txt a#1 b#1", 0, "10.000000000 20.000000000 before\n", ""),
+    (f"./tracesync obey {PROBLEM} examples/obey/broken.txt", 1, "broken delay-most a#1 b#1", ""),
+    ("./tracesync", 2, "usage: tracesync", ""),
+    (f"./tracesync obey {PROBLEM} nosuch", 7, "read fault\n", "there is no file nosuch\n"),
+    (f"./tracesync verify nosuch {PROBLEM}", 7, "read fault\n", "there is no file nosuch\n"),
+    ("./tracesync solve examples", 7, "read fault\n", "examples is a folder\n"),
+    (f"./tracesync solve <(cat {PROBLEM})", 7, "read fault\n", "is a pipe or a device"),
+    ("./tracesync session nosuch < /dev/null", 7, "read fault\n", "there is no file nosuch\n"),
+    ("./tracesync session examples/captures/hosts.toml < examples", 7, "read fault\n", "a read of the script failed"),
+    (f"./tracesync solve {PROBLEM} > /dev/full", 8, "", "the standard output could not be written"),
+    ("tools/build --help", 0, "usage: tools/build", ""),
+    ("tools/build", 0, "", "no source is newer"),
+    ("tools/first-look --help", 0, "usage: tools/first-look", ""),
+    ("tools/crate-graph --check", 0, "", ""),
+    ("tools/diagram --help", 0, "usage: tools/diagram", ""),
+    ("tools/diagram --what", 2, "", "--what is no option"),
+    ("tools/diagram < /dev/null", 1, "", "no reply to merge"),
+    (f"{TIMELINE} | tools/diagram | cmp - docs/timeline.svg", 0, "", ""),
+    (f"{TIMELINE} | tools/diagram --around db#2 --events 4", 0, "<svg", "events 4 to 7 of 13, around db#2"),
+    (f"{TIMELINE} | tools/diagram --hosts db,app", 0, "<svg", "11 of 13 events, at 2 hosts"),
+    (f"{TIMELINE} | tools/diagram --hosts db,web", 1, "", "there is no host web"),
+    (f"{TIMELINE} | tools/diagram --around web#1", 1, "", "there is no event web#1"),
+    (f"{TIMELINE} | tools/diagram --around gate#1 --hosts db", 1, "", "gate#1 is at none of these hosts"),
+    (f"{PART} | tools/diagram -", 0, "b#1 at 7 ns", ""),
+    (f"{PART} | tools/diagram --events 1", 0, "stroke-dasharray", "events 1 to 1 of 2"),
+]
+
+
+def differs(command, status, printed, said, folder):
+    """Returns how a command differs from what is wanted, in words, or None."""
+    ran = subprocess.run(["bash", "-c", command], cwd=folder, stdin=subprocess.DEVNULL, capture_output=True, text=True)
+    if ran.returncode != status:
+        return f"status {ran.returncode} in place of {status}; {ran.stderr.strip()[-200:]}"
+    for wanted, text in ((printed, ran.stdout), (said, ran.stderr)):
+        if wanted not in text or (not wanted and text):
+            return f"{text[:200]!r} in place of {wanted!r}"
+    if "<svg" in ran.stdout:
+        ElementTree.fromstring(ran.stdout)
+    return None
+
+
+def main():
+    reader = argparse.ArgumentParser(description=__doc__.split("\n\n")[0])
+    reader.add_argument("--binary", metavar="PATH", help="the program to run; else the one that tools/build makes")
+    binary = reader.parse_args().binary
+    if not binary:
+        subprocess.run([f"{TOP}/tools/build"], check=True)
+    failed = 0
+    with tempfile.TemporaryDirectory() as room:
+        copy_tree(f"{room}/repository", binary or f"{TOP}/{PROGRAM}")
+        for case in CASES:
+            why = differs(*case, f"{room}/repository")
+            if why:
+                failed += 1
+                print(f"{case[0]}: {why}", flush=True)
+    print(f"{len(CASES) - failed} passed, {failed} failed")
+    return 1 if failed else 0
+
+
+if __name__ == "__main__":
+    sys.exit(main())
