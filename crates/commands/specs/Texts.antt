@@ -1,9 +1,9 @@
 -- What the texts in the files that the words name say.
-use Rattle.std.specs.Prelude.{◌≡◌, ◌⊎◌, ◌≤◌, ◌^◌, length, map, ℕ, ℤ, List, Some, None, All, codes}
+use Rattle.std.specs.Prelude.{◌≡◌, ◌⊎◌, ◌≤◌, length, map, ℕ, ℤ, List, Some, None, All, codes}
 use Rattle.atto.specs.Number.{FitsUnits}
 use Rattle.ports.specs.Content.{Rose}
 use Rattle.ports.specs.Files.{Content, FilesTold, HasBytes, IsAbsent, RaisesNoFault, Keeps}
-use Rattle.line_format.specs.Format.{Answers}
+use Rattle.line_format.specs.Format.{Answers, most_bytes}
 use Rattle.problem_model.specs.Problem.{ProblemLists, IsProblem}
 use Rattle.problem_model.specs.Bounds.{Times}
 use Rattle.problem_model.specs.Nodes.{Reading, AreReadings, nodes_of}
@@ -20,11 +20,11 @@ use Rattle.commands.specs.declared.refusal.Refusal.{Refusal}
 -- ---- texts
 -- the text is that of the problem p
 abbrev pub SpellsProblem : ProblemLists → List ℕ → Type 0
-SpellsProblem p text = (length text ≤ 2 ^ 30) × IsProblem p × (text ≡ problem_text p)
+SpellsProblem p text = (length text ≤ most_bytes) × IsProblem p × (text ≡ problem_text p)
 
 -- the text is that of the real times x of the nodes of p
 pub record SpellsExecution (p : ProblemLists) (x : Times) (text : List ℕ) : Type 0 where
-  pub short : length text ≤ 2 ^ 30
+  pub short : length text ≤ most_bytes
   pub readings : List Reading
   pub values : List ℤ
   pub are_readings : AreReadings p readings

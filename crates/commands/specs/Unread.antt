@@ -1,6 +1,7 @@
 -- Why a file gave no value, and how that is told.
-use Rattle.std.specs.Prelude.{◌≡◌, ◌<◌, ◌^◌, ℕ, List, length, codes}
+use Rattle.std.specs.Prelude.{◌≡◌, ◌<◌, ℕ, List, length, codes}
 use Rattle.ports.specs.Files.{FilesTold, HasBytes}
+use Rattle.line_format.specs.Format.{most_bytes}
 use Rattle.line_format.specs.declared.fault.FaultKind.TheVariants as kinds
 use Rattle.problem.specs.declared.errors.ProblemError.{ProblemError}
 use Rattle.problem.specs.declared.errors.ProblemError.TheVariants as problems
@@ -18,7 +19,7 @@ use Rattle.commands.specs.declared.texts.Unread.TheVariants.{Refused, Fault, Mem
 
 -- the text is too long
 abbrev pub IsLong : List ℕ → Refusal → Type 0
-IsLong text refusal = (refusal ≡ refusals.Long) × (2 ^ 30 < length text)
+IsLong text refusal = (refusal ≡ refusals.Long) × (most_bytes < length text)
 
 -- the text is refused, or memory ran out
 abbrev pub IsRefusedFor : (List ℕ → Refusal → Type 0) → List ℕ → Unread → Type 0

@@ -14,6 +14,7 @@ use crate::ending::{finish, stop};
 use crate::print::interval_line;
 use crate::status::Status;
 use crate::texts::problem_in;
+use atto::Steps;
 use earliest::Earliest;
 use intervals::{ends_from, order_of};
 use ports::{Failed, Files, Sink};
@@ -23,6 +24,7 @@ use reaches::pair_of;
 use row_pool::Pair;
 use solver::Solution;
 use std::alloc::Global;
+use std::sync::ledger::Ledger;
 use sync_graph::{Arc, Graph};
 
 // The place of the event of a name.
@@ -60,7 +62,7 @@ fn events_of(p: &Problem, first: &str, second: &str) -> Option<(u32, u32)>
 }
 
 // Prints the interval and the order of two events of a problem that has an execution.
-fn interval<O: Sink>(
+fn interval<O: Sink, L: Ledger>(
     alloc: Global,
     p: &Problem,
     g: &Graph,
@@ -68,13 +70,14 @@ fn interval<O: Sink>(
     from: u32,
     to: u32,
     out: &mut O,
+    steps: &mut Steps<L>,
 ) -> Status
     requires solved { IsSolved p.now g.now e.now }
     requires from { from < length p.now.events }
     requires to { to < length p.now.events }
     ensures { Prints (TellsInterval p.now from to) (O.told out.old) (O.told out.new) result }
 {
-    match pair_of(alloc, p, g, e, from, to) {
+    match pair_of(alloc, p, g, e, from, to, steps) {
         Ok(pair) => answer(pair, out),
         Err(_) => Status::Memory,
     }
@@ -92,13 +95,14 @@ fn contradict<O: Sink>(p: &Problem, steps: &[Arc], out: &mut O) -> Status
 }
 
 // Prints what a solution says of two events.
-fn conclude<O: Sink>(
+fn conclude<O: Sink, L: Ledger>(
     alloc: Global,
     p: &Problem,
     solution: &Solution,
     from: u32,
     to: u32,
     out: &mut O,
+    steps: &mut Steps<L>,
 ) -> Status
     requires solution { IsSolution p.now solution.now }
     requires from { from < length p.now.events }
@@ -106,39 +110,47 @@ fn conclude<O: Sink>(
     ensures { Prints (TellsInterval p.now from to) (O.told out.old) (O.told out.new) result }
 {
     match solution {
-        Solution::Execution(g, e) => interval(alloc, p, g, e, from, to, out),
-        Solution::Contradiction(steps) => contradict(p, steps, out),
+        Solution::Execution(g, e) => interval(alloc, p, g, e, from, to, out, steps),
+        Solution::Contradiction(cycle) => contradict(p, cycle, out),
     }
 }
 
 // Prints what a problem says of the events of two names.
-fn between<O: Sink>(alloc: Global, p: &Problem, first: &str, second: &str, out: &mut O) -> Status
+fn between<O: Sink, L: Ledger>(
+    alloc: Global,
+    p: &Problem,
+    first: &str,
+    second: &str,
+    out: &mut O,
+    steps: &mut Steps<L>,
+) -> Status
     ensures { Prints (TellsNamed p.now first.now second.now) (O.told out.old) (O.told out.new) result }
 {
     let Some((from, to)) = events_of(p, first, second) else {
         return finish(b"unknown event\n", Status::UnknownEvent, out);
     };
-    match solver::solve(alloc, p) {
-        Ok(solution) => conclude(alloc, p, &solution, from, to, out),
+    match solver::solve(alloc, p, steps) {
+        Ok(solution) => conclude(alloc, p, &solution, from, to, out, steps),
         Err(_) => Status::Memory,
     }
 }
 
 /// The least and the greatest difference of the real times of two events of the problem in a file, over all
 /// executions, and their order; or a contradiction where there is no execution.
-pub fn ends<F: Files, O: Sink>(
+pub fn ends<F: Files, O: Sink, L: Ledger>(
     alloc: Global,
     files: &mut F,
     problem: &str,
     first: &str,
     second: &str,
     out: &mut O,
+    steps: &mut Steps<L>,
 ) -> Status
     ensures answered { Prints (IntervalAnswered problem.now first.now second.now (F.told files.old) (F.told files.new)) (O.told out.old) (O.told out.new) result }
     ensures keeps { Keeps (F.told files.old) (F.told files.new) }
 {
     match problem_in(alloc, files, problem) {
-        Ok(p) => between(alloc, &p, first, second, out),
+        Ok(p) => between(alloc, &p, first, second, out, steps),
         Err(unread) => stop(unread, b"problem", Status::BadProblem, out),
     }
 }

@@ -1,5 +1,5 @@
 // The program's one call.
-ghost use Rattle.std.specs.Prelude.{◌≡◌, ℕ, List};
+ghost use Rattle.std.specs.Prelude.{◌≡◌, ◌<◌, ℕ, List};
 ghost use Rattle.ports.specs.Files.{Keeps};
 ghost use Rattle.script.specs.Script.{devices};
 ghost use Rattle.commands.specs.Run.{IsNoCommand, IsNoSession, obey_words, solve_words, ends_words, verify_words, session_words, usage_line};
@@ -19,11 +19,55 @@ use crate::sessions::session;
 use crate::solve::solve;
 use crate::status::Status;
 use crate::verify::verify;
+use atto::Steps;
 use ports::{Files, Sink, Source, Words};
 use std::alloc::Global;
+use std::marker::Brand;
+use std::sync::ledger::{Blank, Ledger};
 
 const USAGE: &[u8] =
     b"usage: tracesync obey PROBLEM EXEC | solve PROBLEM | ends PROBLEM P Q | verify PROBLEM CERT | session DECL | trial N\n";
+
+// Does what the words say, and counts its steps by this ledger.
+fn run_counted<F: Files, I: Source, O: Sink, L: Ledger>(
+    alloc: Global,
+    words: &Words,
+    files: &mut F,
+    input: &mut I,
+    out: &mut O,
+    blank: Blank,
+) -> Status
+    requires { (blank.name ≡ L.name) × (blank.parts ≡ L.parts) × (0 < L.parts) }
+    ensures obey { (problem exec : List ℕ) → words.now ≡ obey_words problem exec → Prints (Obeyed problem exec (F.told files.old) (F.told files.new)) (O.told out.old) (O.told out.new) result }
+    ensures solve { (problem : List ℕ) → words.now ≡ solve_words problem → Prints (Solved problem (F.told files.old) (F.told files.new)) (O.told out.old) (O.told out.new) result }
+    ensures ends { (problem first second : List ℕ) → words.now ≡ ends_words problem first second
+        → Prints (IntervalAnswered problem first second (F.told files.old) (F.told files.new)) (O.told out.old) (O.told out.new) result }
+    ensures verify { (problem cert : List ℕ) → words.now ≡ verify_words problem cert → Prints (Verified problem cert (F.told files.old) (F.told files.new)) (O.told out.old) (O.told out.new) result }
+    ensures session { (decl : List ℕ) → words.now ≡ session_words decl
+        → Conducted decl (devices (F.told files.old) (I.told input.old) (O.told out.old)) (devices (F.told files.new) (I.told input.new) (O.told out.new)) result }
+    ensures usage { IsNoCommand words.now → Closes usage_line Usage (O.told out.old) (O.told out.new) result }
+    ensures files { Keeps (F.told files.old) (F.told files.new) }
+    ensures unread { IsNoCommand words.now → F.told files.new ≡ F.told files.old }
+    ensures input { IsNoSession words.now → I.told input.new ≡ I.told input.old }
+{
+    let mut steps = Steps::<L>::open(blank);
+    match form_of(words) {
+        Form::Obey => obey(alloc, files, words.word(1), words.word(2), out),
+        Form::Solve => solve(alloc, files, words.word(1), out, &mut steps),
+        Form::Ends => ends(
+            alloc,
+            files,
+            words.word(1),
+            words.word(2),
+            words.word(3),
+            out,
+            &mut steps,
+        ),
+        Form::Verify => verify(alloc, files, words.word(1), words.word(2), out),
+        Form::Session => session(alloc, files, words.word(1), input, out, &mut steps),
+        Form::Unknown => finish(USAGE, Status::Usage, out),
+    }
+}
 
 /// Does what the words say: reads the files that they name, prints the answer, and says how it ended.
 ///
@@ -57,19 +101,5 @@ pub fn run<F: Files, I: Source, O: Sink>(
     ensures unread { IsNoCommand words.now → F.told files.new ≡ F.told files.old }
     ensures input { IsNoSession words.now → I.told input.new ≡ I.told input.old }
 {
-    match form_of(words) {
-        Form::Obey => obey(alloc, files, words.word(1), words.word(2), out),
-        Form::Solve => solve(alloc, files, words.word(1), out),
-        Form::Ends => ends(
-            alloc,
-            files,
-            words.word(1),
-            words.word(2),
-            words.word(3),
-            out,
-        ),
-        Form::Verify => verify(alloc, files, words.word(1), words.word(2), out),
-        Form::Session => session(alloc, files, words.word(1), input, out),
-        Form::Unknown => finish(USAGE, Status::Usage, out),
-    }
+    run_counted::<F, I, O, Brand>(alloc, words, files, input, out, Blank::new(1))
 }

@@ -8,9 +8,11 @@ use crate::declaration::{Undeclared, decl_in};
 use crate::ending::finish;
 use crate::print::declaration_line;
 use crate::status::Status;
+use atto::Steps;
 use ports::{Files, Sink, Source};
 use script::{Ended, answer_script};
 use std::alloc::Global;
+use std::sync::ledger::Ledger;
 
 // Prints why there is no declaration, and answers the status.
 fn refuse<O: Sink>(undeclared: Undeclared, out: &mut O) -> Status
@@ -41,12 +43,13 @@ fn close<O: Sink>(ended: Ended, out: &mut O) -> Status
 }
 
 /// Answers the lines of a script, in a session over the declaration in a file.
-pub fn session<F: Files, I: Source, O: Sink>(
+pub fn session<F: Files, I: Source, O: Sink, L: Ledger>(
     alloc: Global,
     files: &mut F,
     decl: &str,
     input: &mut I,
     out: &mut O,
+    steps: &mut Steps<L>,
 ) -> Status
     ensures conducted { Conducted decl.now
         (devices (F.told files.old) (I.told input.old) (O.told out.old)) (devices (F.told files.new) (I.told input.new) (O.told out.new)) result }
@@ -56,5 +59,5 @@ pub fn session<F: Files, I: Source, O: Sink>(
         Ok(decl) => decl,
         Err(undeclared) => return refuse(undeclared, out),
     };
-    close(answer_script(alloc, decl, files, input, out), out)
+    close(answer_script(alloc, decl, files, input, out, steps), out)
 }

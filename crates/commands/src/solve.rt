@@ -10,12 +10,14 @@ use crate::ending::stop;
 use crate::status::Status;
 use crate::texts::problem_in;
 use attain::write_run;
+use atto::Steps;
 use earliest::Earliest;
 use ports::{Failed, Files, Sink};
 use problem::Problem;
 use queries::write_contradiction;
 use solver::Solution;
 use std::alloc::Global;
+use std::sync::ledger::Ledger;
 use sync_graph::Graph;
 
 // Writes the certificate of the earliest execution.
@@ -34,7 +36,7 @@ fn write_solution<O: Sink>(p: &Problem, solution: &Solution, out: &mut O) -> Res
 {
     match solution {
         Solution::Execution(g, e) => write_earliest(p, g, e, out),
-        Solution::Contradiction(steps) => write_contradiction(p, steps, out),
+        Solution::Contradiction(cycle) => write_contradiction(p, cycle, out),
     }
 }
 
@@ -50,22 +52,33 @@ fn certify<O: Sink>(p: &Problem, solution: &Solution, out: &mut O) -> Status
 }
 
 // Prints the certificate of a problem.
-fn answer<O: Sink>(alloc: Global, p: &Problem, out: &mut O) -> Status
+fn answer<O: Sink, L: Ledger>(
+    alloc: Global,
+    p: &Problem,
+    out: &mut O,
+    steps: &mut Steps<L>,
+) -> Status
     ensures { Prints (TellsSolution p.now) (O.told out.old) (O.told out.new) result }
 {
-    match solver::solve(alloc, p) {
+    match solver::solve(alloc, p, steps) {
         Ok(solution) => certify(p, &solution, out),
         Err(_) => Status::Memory,
     }
 }
 
 /// The earliest execution of the problem in a file, or a contradiction.
-pub fn solve<F: Files, O: Sink>(alloc: Global, files: &mut F, problem: &str, out: &mut O) -> Status
+pub fn solve<F: Files, O: Sink, L: Ledger>(
+    alloc: Global,
+    files: &mut F,
+    problem: &str,
+    out: &mut O,
+    steps: &mut Steps<L>,
+) -> Status
     ensures solved { Prints (Solved problem.now (F.told files.old) (F.told files.new)) (O.told out.old) (O.told out.new) result }
     ensures keeps { Keeps (F.told files.old) (F.told files.new) }
 {
     match problem_in(alloc, files, problem) {
-        Ok(p) => answer(alloc, &p, out),
+        Ok(p) => answer(alloc, &p, out, steps),
         Err(unread) => stop(unread, b"problem", Status::BadProblem, out),
     }
 }

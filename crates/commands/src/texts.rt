@@ -1,5 +1,6 @@
 // The texts in the files that the words name.
-ghost use Rattle.std.specs.Prelude.{◌≡◌, ◌≤◌, ◌^◌, length, IfOk, IfErr};
+ghost use Rattle.std.specs.Prelude.{◌≡◌, ◌≤◌, length, IfOk, IfErr};
+ghost use Rattle.line_format.specs.Format.{most_bytes};
 ghost use Rattle.ports.specs.Files.{HasBytes, Keeps};
 ghost use Rattle.problem_model.specs.Bounds.{Times};
 ghost use Rattle.problem_model.specs.Nodes.{Lists};
@@ -12,13 +13,13 @@ ghost use Rattle.commands.specs.Unread.{IsUnread, IsRefusedFor, IsLong, unread_p
 use crate::refusal::Refusal;
 use cert::{CertError, Execution, read_execution};
 use cert_check::{Answer, check_text};
-use line_format::FaultKind;
+use line_format::{FaultKind, MOST_BYTES};
 use ports::{FileFault, Files, read_file};
 use problem::{Problem, ProblemError, read_problem};
 use std::alloc::Global;
 
 /// The greatest number of bytes of a text.
-const MOST: u64 = 1 << 30;
+const MOST: u64 = MOST_BYTES as u64;
 
 /// Why a file gave no value.
 #[derive(Clone, Copy, Debug)]
@@ -59,7 +60,7 @@ fn unread_cert(error: CertError) -> Unread
 
 // The whole text of a file, unless it is too long.
 fn text_in<F: Files>(alloc: Global, files: &mut F, path: &str) -> Result<Vec<u8>, Unread>
-    ensures ok { IfOk result (λ text. HasBytes (F.told files.old).content path.now (λ all. (length all ≤ 2 ^ 30) × (text.items ≡ all))) }
+    ensures ok { IfOk result (λ text. HasBytes (F.told files.old).content path.now (λ all. (length all ≤ most_bytes) × (text.items ≡ all))) }
     ensures err { IfErr result (IsUnread IsLong path.now (F.told files.old) (F.told files.new)) }
     ensures keeps { Keeps (F.told files.old) (F.told files.new) }
 {

@@ -3,3 +3,5 @@ pub mod Directions
 pub mod Spreading
 pub mod Popping
 pub mod Beginning
+pub mod Repairing
+pub mod Pushed

@@ -1,21 +1,22 @@
 -- A node is taken, and the end.
-use Rattle.std.proofs.Common.{◌≡◌, ℕ, ◌+◌, ◌-◌, ◌*◌, ◌^◌, ◌<◌, ◌≤◌, Bool, true, false, List, length, set, ◌∙◌, arith, inl, inr}
+use Rattle.std.proofs.Common.{◌≡◌, ℕ, ◌+◌, ◌-◌, ◌*◌, ◌^◌, ◌<◌, ◌≤◌, Bool, true, false, List, length, set, ap, sym, ◌∙◌, arith, inl, inr}
 use Rattle.std.specs.Prelude.{ℤ, pos, ◌-ℤ◌, ◌≤ℤ◌, ◌≢◌, Option, None, All}
 use Rattle.std.proofs.lemmas.Int.{ints}
 use Rattle.std.proofs.lemmas.Bool.{cases_lt}
 use Rattle.row_pool.specs.declared.cell.Cell.{Cell}
 use Rattle.difference_bounds.specs.Numbers.{IsUpTo}
-use Rattle.difference_bounds.specs.Parents.{Cells, IsRow}
+use Rattle.difference_bounds.specs.Parents.{Cells, LeadsBack, IsRow}
 use Rattle.difference_bounds.specs.RowPops.{IsRowStep, IsUnderWay}
-use Rattle.difference_bounds.specs.Sums.{done_sum}
+use Rattle.difference_bounds.specs.Sums.{done_sum, changed_sum}
 use Rattle.difference_bounds.specs.Tables.{ArcTable, ObeysAll}
-use Rattle.difference_bounds.proofs.RowsUnderWay.{under_way_step, under_way_fewer, under_way_row, under_way_bounds}
+use Rattle.difference_bounds.proofs.RowsUnderWay.{under_way_step, under_way_cost, under_way_fewer, under_way_row, under_way_paid, under_way_bounds}
 use Rattle.frontier.specs.Keys.{IsEmpty, IsLeastEntry}
 use Rattle.difference_bounds.proofs.Heights.{height_low}
 use Rattle.sync_graph.specs.Graph.{GraphLists, IsGraph}
-use Rattle.row_pool.specs.Row.{cell_at, cells_of, nothing_known}
+use Rattle.row_pool.specs.Row.{cell_at, cells_of}
 use Rattle.distances.specs.Facing.{facing, potential}
 use Rattle.distances.specs.Relaxed.{waits_of, AreKeyed}
+use Rattle.distances.specs.Changes.{AreBlank}
 use Rattle.distances.proofs.Directions.{facing_within, facing_light, potential_small}
 use Rattle.distances.proofs.Puts.{waits_true, none_waits, least_reduced, taken_others}
 
@@ -31,14 +32,22 @@ with_node table node c c' waits waits1 waits' s w = record {
   met = s.met;
 }
 
-between_small : (v a b : ℤ) (n : ℕ) → IsUpTo 115 a → IsUpTo 115 b → (a -ℤ b) ≤ℤ v → v ≤ℤ pos (0 + n) → n ≤ 2 ^ 115 → IsUpTo 118 v
+between_small : (v a b : ℤ) (n : ℕ) → IsUpTo 115 a → IsUpTo 115 b → (a -ℤ b) ≤ℤ v → v ≤ℤ pos (2 ^ 117 + n) → n ≤ 2 ^ 115 → IsUpTo 118 v
 between_small v a b n ua ub l h m = (omega (arith, ints, ua.0, ub.1), omega (arith, ints))
 
-module _ (outward : Bool) (g : GraphLists) (values : List ℤ) (p : ℕ) (row : List Cell) (front : List (Option ℤ)) (node : ℕ) (key : ℤ)
+-- a cell is its three parts
+made : ℤ → ℕ → Bool → Cell
+made v p k = record { value = v; parent = p; known = k }
+
+cell_same : (a b : Cell) → a.value ≡ b.value → a.parent ≡ b.parent → a.known ≡ b.known → a ≡ b
+unfolding made
+cell_same a b ev ep ek = ap (λ v. made v a.parent a.known) ev ∙ ap (λ p. made b.value p a.known) ep ∙ ap (λ k. made b.value b.parent k) ek
+
+module _ (outward : Bool) (g : GraphLists) (values : List ℤ) (p : ℕ) (old row : List Cell) (front : List (Option ℤ)) (node : ℕ) (key : ℤ)
     (is : IsGraph g)
     (small : All (IsUpTo 115) values)
     (x : ObeysAll (facing outward g) (potential outward values))
-    (u : IsUnderWay (length g.nodes) (facing outward g) p (potential outward values) 0 (2 ^ 93) nothing_known (cells_of row) (waits_of front))
+    (u : IsUnderWay (length g.nodes) (facing outward g) p (potential outward values) (2 ^ 117) (2 ^ 93) (cells_of old) (cells_of row) (waits_of front))
     (keyed : AreKeyed (potential outward values) front row)
     (least : IsLeastEntry front node key)
   where
@@ -53,8 +62,8 @@ module _ (outward : Bool) (g : GraphLists) (values : List ℤ) (p : ℕ) (row : 
 
     pub popped_small : IsUpTo 118 (cell_at row node).value
     popped_small =
-        let b : ((potential outward values node -ℤ potential outward values p) ≤ℤ (cell_at row node).value) × ((cell_at row node).value ≤ℤ pos (0 + length g.nodes * 2 ^ 93)) =
-        under_way_bounds (length g.nodes) (facing outward g) p (potential outward values) 0 (2 ^ 93) nothing_known (cells_of row) (waits_of front) u x node popped_known in
+        let b : ((potential outward values node -ℤ potential outward values p) ≤ℤ (cell_at row node).value) × ((cell_at row node).value ≤ℤ pos (2 ^ 117 + length g.nodes * 2 ^ 93)) =
+        under_way_bounds (length g.nodes) (facing outward g) p (potential outward values) (2 ^ 117) (2 ^ 93) (cells_of old) (cells_of row) (waits_of front) u x node popped_known in
         between_small (cell_at row node).value (potential outward values node) (potential outward values p) (length g.nodes * 2 ^ 93)
         (potential_small outward values small node) (potential_small outward values small p) b.0 b.1 (height_low (length g.nodes) is.node_limit)
 
@@ -66,17 +75,32 @@ module _ (outward : Bool) (g : GraphLists) (values : List ℤ) (p : ℕ) (row : 
         stepped = with_node (facing outward g) node (cells_of row) (cells_of row2) (waits_of front) (waits_of front1) (waits_of front2) step
             (taken_others front front1 node key least.waits taken)
 
-        pub under_way_more : IsUnderWay (length g.nodes) (facing outward g) p (potential outward values) 0 (2 ^ 93) nothing_known (cells_of row2) (waits_of front2)
-        under_way_more = under_way_step (length g.nodes) (facing outward g) p (potential outward values) 0 (2 ^ 93) nothing_known (cells_of row) (cells_of row2) (waits_of front) (waits_of front2) node
+        pub under_way_more : IsUnderWay (length g.nodes) (facing outward g) p (potential outward values) (2 ^ 117) (2 ^ 93) (cells_of old) (cells_of row2) (waits_of front2)
+        under_way_more = under_way_step (length g.nodes) (facing outward g) p (potential outward values) (2 ^ 117) (2 ^ 93) (cells_of old) (cells_of row) (cells_of row2) (waits_of front) (waits_of front2) node
             u x (facing_light outward g is) (facing_within outward g is) (waits_true front node key least.waits) (least_reduced (potential outward values) row front node key keyed least) stepped popped_within
 
-        pub fewer_left : (length g.nodes - done_sum (length g.nodes) (λ _. 1) nothing_known (cells_of row2) (waits_of front2)) < (length g.nodes - done_sum (length g.nodes) (λ _. 1) nothing_known (cells_of row) (waits_of front))
-        fewer_left = under_way_fewer (length g.nodes) (facing outward g) p (potential outward values) 0 (2 ^ 93) nothing_known (cells_of row) (cells_of row2) (waits_of front) (waits_of front2) node
+        pub fewer_left : (length g.nodes - done_sum (length g.nodes) (λ _. 1) (cells_of old) (cells_of row2) (waits_of front2)) < (length g.nodes - done_sum (length g.nodes) (λ _. 1) (cells_of old) (cells_of row) (waits_of front))
+        fewer_left = under_way_fewer (length g.nodes) (facing outward g) p (potential outward values) (2 ^ 117) (2 ^ 93) (cells_of old) (cells_of row) (cells_of row2) (waits_of front) (waits_of front2) node
             u x (facing_light outward g is) (facing_within outward g is) (waits_true front node key least.waits) (least_reduced (potential outward values) row front node key keyed least) stepped popped_within
 
--- where none waits the cells are the row
-pub none_left : (nodes : ℕ) (table : ArcTable) (p : ℕ) (e : ℕ → ℤ) (row : List Cell) (front : List (Option ℤ))
-    → IsUnderWay nodes table p e 0 (2 ^ 93) nothing_known (cells_of row) (waits_of front) → IsEmpty front
-    → IsRow nodes table p (cells_of row)
-none_left nodes table p e row front u none = under_way_row nodes table p e 0 (2 ^ 93) nothing_known (cells_of row) (waits_of front) u (none_waits front none)
-    (λ k h. absurd (let f : false ≡ true = h in let z : ⊥ = cc in z))
+        pub paid_more : (each : ℕ → ℕ) → done_sum (length g.nodes) each (cells_of old) (cells_of row2) (waits_of front2) ≡ done_sum (length g.nodes) each (cells_of old) (cells_of row) (waits_of front) + each node
+        paid_more = under_way_cost (length g.nodes) (facing outward g) p (potential outward values) (2 ^ 117) (2 ^ 93) (cells_of old) (cells_of row) (cells_of row2) (waits_of front) (waits_of front2) node
+            u x (facing_light outward g is) (facing_within outward g is) (waits_true front node key least.waits) (least_reduced (potential outward values) row front node key keyed least) stepped popped_within
+
+-- where none waits the cells are the row, and all changed nodes are paid
+module _ (nodes : ℕ) (table : ArcTable) (p : ℕ) (e : ℕ → ℤ) (old row : List Cell) (front : List (Option ℤ))
+    (u : IsUnderWay nodes table p e (2 ^ 117) (2 ^ 93) (cells_of old) (cells_of row) (waits_of front))
+  where
+    pub none_left : ((k : ℕ) → (cell_at old k).known ≡ true → (n : ℕ) × LeadsBack table p (cells_of old) n k) → IsEmpty front → IsRow nodes table p (cells_of row)
+    none_left chains none = under_way_row nodes table p e (2 ^ 117) (2 ^ 93) (cells_of old) (cells_of row) (waits_of front) u (none_waits front none) chains
+
+    -- cells that are not known are as they were
+    pub blank_kept : AreBlank old → AreBlank row
+    blank_kept b k f = elim (u.relaxing.each k) [
+      | inl t ↦ cell_same (cell_at row k) (cell_at old k) t.value t.parent t.known ∙ b k (sym t.known ∙ f)
+      | inr t ↦ absurd (let y : (cell_at row k).known ≡ true = t.known in let z : ⊥ = cc in z)
+    ]
+
+pub all_paid : (nodes : ℕ) (each : ℕ → ℕ) (old row : List Cell) (front : List (Option ℤ)) → IsEmpty front
+    → done_sum nodes each (cells_of old) (cells_of row) (waits_of front) ≡ changed_sum nodes each (cells_of old) (cells_of row)
+all_paid nodes each old row front none = under_way_paid nodes each (cells_of old) (cells_of row) (waits_of front) (none_waits front none)

@@ -1,12 +1,16 @@
-//! Rows of greatest differences: the shortest distances from a node of a graph, or towards it.
+//! Rows of greatest differences: the shortest distances from a node of a graph, or towards it. They are made, and they
+//! are repaired after an arc more.
 //!
 //! Nodes are taken by least reduced cost, with the earliest execution as potential, so that no arc has a cost below 0
 //! and each node is taken once. See D. B. Johnson, "Efficient algorithms for shortest paths in sparse networks",
-//! Journal of the ACM 24, 1977.
+//! Journal of the ACM 24, 1977. A repair begins at the head of the new arc, and takes the nodes whose distance the arc
+//! shortens, and no other.
 #![tactic(auto)]
 
 mod relax;
+mod repair;
 mod row;
 mod settle;
 
+pub use repair::{repair_from, repair_to};
 pub use row::{row_from, row_to};

@@ -6,3 +6,9 @@ pub mod Walking
 pub mod Pushing
 pub mod Copying
 pub mod Marking
+pub mod Counting
+pub mod Affecting
+pub mod Stopping
+pub mod Dropping
+pub mod Withdrawing
+pub mod Removing

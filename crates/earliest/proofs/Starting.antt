@@ -20,13 +20,13 @@ use Rattle.earliest.specs.UnderWay.{IsNeeded, raises_of, IsBefore, IsUnderWay}
 use Rattle.earliest.proofs.Waiting.{neg_neg, raise_none, raise-set_same, raise-set_other, raises_in, raises_none, in_force_below}
 use Rattle.earliest.proofs.Bounds.{no_arc}
 
-pos_le : (a b : ℕ) → a ≤ b → pos a ≤ℤ pos b
+pub pos_le : (a b : ℕ) → a ≤ b → pos a ≤ℤ pos b
 pos_le a b h = omega (arith, ints)
 
-weight_low : (w : ℤ) → neg_ℤ (pos (2 ^ 93)) <ℤ w → neg_ℤ (pos (2 ^ 93)) ≤ℤ w
+pub weight_low : (w : ℤ) → neg_ℤ (pos (2 ^ 93)) <ℤ w → neg_ℤ (pos (2 ^ 93)) ≤ℤ w
 weight_low w h = omega (arith, ints)
 
-value_low : (x y : ℤ) → x ≤ℤ y → y ≤ℤ pos (2 ^ 115) → x ≤ℤ pos (2 ^ 115)
+pub value_low : (x y : ℤ) → x ≤ℤ y → y ≤ℤ pos (2 ^ 115) → x ≤ℤ pos (2 ^ 115)
 value_low x y a b = omega (arith, ints)
 
 first_low : (a b w r : ℤ) → a ≤ℤ pos (2 ^ 115) → pos 0 ≤ℤ b → neg_ℤ (pos (2 ^ 93)) <ℤ w → r ≡ a -ℤ w -ℤ b → r ≤ℤ pos (2 ^ 116)
@@ -35,10 +35,10 @@ first_low a b w r ha hb hw e = omega (arith, ints)
 obeyed_from : (a b w r : ℤ) → r ≡ a -ℤ w -ℤ b → r ≤ℤ pos 0 → (a -ℤ b) ≤ℤ w
 obeyed_from a b w r e h = omega (arith, ints)
 
-up_to : (x : ℤ) → pos 0 ≤ℤ x → x ≤ℤ pos (2 ^ 115) → IsUpTo 118 x
+pub up_to : (x : ℤ) → pos 0 ≤ℤ x → x ≤ℤ pos (2 ^ 115) → IsUpTo 118 x
 up_to x l h = (omega (arith, ints), omega (arith, ints))
 
-zero_low : (x : ℤ) → x ≡ pos 0 → x ≤ℤ pos (2 ^ 115)
+pub zero_low : (x : ℤ) → x ≡ pos 0 → x ≤ℤ pos (2 ^ 115)
 zero_low x e = omega (arith, ints)
 
 module _ (g : GraphLists) (is : IsGraph g) (arc : ℕ) (olds : List ℤ)

@@ -154,10 +154,14 @@ pub asked_all : (g : GraphLists) → IsGraph g → (node count : ℕ) (s s' : Ra
 asked_all g is node count s s' a l = asking_done (table_of g) node (list_at g.arriving node) count s s' a l
     (λ j f t. subst (λ n. (m : ℕ) × (m < length (list_at g.arriving n)) × (get_or (list_at g.arriving n) m 0 ≡ j)) t (is.into.all j f))
 
-entry_is : (xs : List ℕ) (k x : ℕ) → slice_get xs k ≡ Some x → (k < length xs) × (get_or xs k 0 ≡ x)
+pub entry_is : (xs : List ℕ) (k x : ℕ) → slice_get xs k ≡ Some x → (k < length xs) × (get_or xs k 0 ≡ x)
 entry_is [] k x w = absurd (let e : None ≡ Some x = w in let z : ⊥ = cc in z)
 entry_is (y ∷ xs) zero x w = (omega arith, (let e : Some y ≡ Some x = w in let q : y ≡ x = cc in q))
 entry_is (y ∷ xs) (suc k) x w = (let r : (k < length xs) × (get_or xs k 0 ≡ x) = entry_is xs k x w in (omega (arith, r.0), r.1))
+
+-- so far there are entries
+pub entry_seen : (xs : List ℕ) (k x : ℕ) → slice_get xs k ≡ Some x → k + 1 ≤ length xs
+entry_seen xs k x w = omega (arith, (entry_is xs k x w).0)
 
 pub past_end : (xs : List ℕ) (k : ℕ) → ((x : ℕ) → slice_get xs k ≡ Some x → ⊥) → length xs ≤ k
 past_end [] k n = omega arith

@@ -1,17 +1,24 @@
 // The earliest execution, as it is kept.
-ghost use Rattle.std.specs.Prelude.{◌≡◌, ◌<◌, ◌≤◌, ◌++◌, ◌∷◌, [], false, true, IfOk, OnOk, OnErr, length, pos, replicate, slice_index_or};
+ghost use Rattle.std.specs.Prelude.{◌≡◌, ℕ, Bool, ◌+◌, ◌*◌, ◌<◌, ◌≤◌, ◌++◌, ◌∷◌, [], false, true, IfOk, OnOk, OnErr, All, length, pos, replicate, slice_index_or};
 ghost use Rattle.difference_bounds.specs.Executions.{at};
+ghost use Rattle.falls.specs.Withdrawals.{flagged_sum};
 ghost use Rattle.frontier.specs.Keys.{IsEmpty};
-ghost use Rattle.earliest.specs.Values.{IsEarliestBut};
+ghost use Rattle.sync_graph.specs.Graph.{IsSound, reaching, departing};
+ghost use Rattle.earliest.specs.Values.{IsEarliestOf, IsEarliestBut};
 ghost use Rattle.earliest.specs.Inserted.{IsInserted};
+ghost use Rattle.earliest.specs.Steps.{most_steps};
+ghost use Rattle.earliest.specs.Withdrawn.{IsEarliestWith, IsAffectedBy};
 
 use crate::cycle::cycle_of;
 use crate::inserted::Inserted;
 use crate::settle::add_arc;
+use crate::withdraw::withdraw_arcs;
+use atto::Steps;
 use frontier::Frontier;
 use std::alloc::{AllocError, Global};
 use std::marker::Model;
-use sync_graph::Graph;
+use std::sync::ledger::Ledger;
+use sync_graph::{Arc, Graph};
 
 /// One value for each node, in units of 1e-9 ns, and whether they are the earliest execution of a graph.
 #[derive(Drop)]
@@ -101,11 +108,16 @@ impl Earliest {
 
     /// Brings in one arc in force, where the values are the earliest execution of the others. `front` has room for all
     /// nodes, and is empty before and after. Where memory runs out it is not solved.
-    pub fn insert(
+    ///
+    /// A step is one call of `leaving`, `arriving` or `pop`. Where the values are kept there are at most two and, for
+    /// each node whose value differs before and after, two and the arcs in force that reach it. Where there is a
+    /// negative cycle there are at most two, two for each node, and the arcs in force.
+    pub fn insert<L: Ledger>(
         &mut self,
         g: &Graph,
         arc: u32,
         front: &mut Frontier,
+        steps: &mut Steps<L>,
     ) -> Result<Inserted, AllocError>
         requires in_force { slice_index_or g.now.in_force arc false ≡ true }
         requires solved { self.old.is_solved ≡ true }
@@ -113,17 +125,54 @@ impl Earliest {
         requires empty { IsEmpty front.old }
         requires room { length g.now.nodes ≤ length front.old }
         ensures found { IfOk result (λ found. IsInserted g.now self.new found) }
+        ensures steps { IfOk result (λ found. steps.new ≤ steps.old + most_steps g.now self.old.values self.new.values found) }
         ensures unsolved { OnErr result (self.new.is_solved ≡ false) }
         ensures values { length self.new.values ≡ length self.old.values }
         ensures empty { IsEmpty front.new }
         ensures room { length front.new ≡ length front.old }
     {
-        self.solved = add_arc(&mut self.values, &mut self.parents, g, arc, front);
+        g.degrees();
+        self.solved = add_arc(&mut self.values, &mut self.parents, g, arc, front, steps);
         if self.solved {
             return Ok(Inserted::Kept);
         }
         front.clear();
-        let steps = cycle_of(self.alloc, &self.parents, g, arc)?;
-        Ok(Inserted::Negative(steps))
+        let cycle = cycle_of(self.alloc, &self.parents, g, arc)?;
+        Ok(Inserted::Negative(cycle))
+    }
+
+    /// Brings the values to the earliest execution of `g`, where they are that of `g` with the arcs `removed` in force
+    /// as well. `front` has room for all nodes, and is empty before and after. It takes no memory.
+    ///
+    /// A node is affected where a chain of arcs that the values before meet exactly starts at it and ends by one of
+    /// those removed. There are at most two steps and, for each affected node, five and two for each arc in force that
+    /// reaches or leaves it.
+    pub fn withdraw<L: Ledger>(
+        &mut self,
+        g: &Graph,
+        removed: &[Arc],
+        front: &mut Frontier,
+        steps: &mut Steps<L>,
+    )
+        requires solved { self.old.is_solved ≡ true }
+        requires sound { All (IsSound (length g.now.nodes)) removed.now }
+        requires before { IsEarliestWith g.now removed.now self.old.values }
+        requires empty { IsEmpty front.old }
+        requires room { length g.now.nodes ≤ length front.old }
+        ensures solved { self.new.is_solved ≡ true }
+        ensures earliest { IsEarliestOf g.now self.new.values }
+        ensures empty { IsEmpty front.new }
+        ensures room { length front.new ≡ length front.old }
+        ensures steps { (affected : ℕ → Bool) → ((k : ℕ) → IsAffectedBy g.now removed.now self.old.values k → affected k ≡ true)
+            → steps.new ≤ steps.old + flagged_sum (length g.now.nodes) (λ k. 2 * (reaching g.now k + departing g.now k) + 5) affected + 2 }
+    {
+        withdraw_arcs(
+            &mut self.values,
+            &mut self.parents,
+            g,
+            removed,
+            front,
+            steps,
+        );
     }
 }

@@ -1,12 +1,14 @@
 -- The last place of a heap: a node is added there, or taken away.
-use Rattle.std.proofs.Common.{◌≡◌, ℕ, ◌+◌, ◌<◌, List, [], ◌∷◌, ◌++◌, length, set, ap, sym, ◌∙◌, subst, arith, ℤ, length-append}
+use Rattle.std.proofs.Common.{◌≡◌, ℕ, ◌+◌, ◌<◌, List, [], ◌∷◌, ◌++◌, length, set, ap, sym, ◌∙◌, subst, arith, ℤ, length-append, get_or-set_other}
 use Rattle.std.specs.Prelude.{◌≢◌, Option, None}
 use Rattle.std.proofs.lemmas.Grind.{common_steps}
 use Rattle.std.proofs.lemmas.List.{length-set}
 use Rattle.frontier.specs.Keys.{Waits, IsFree}
-use Rattle.frontier.specs.Heap.{node_at, place_of, above, IsBelow, IsWaiting, IsAhead, IsHeap, HasHole, IsAheadBelow}
-use Rattle.frontier.proofs.Waiting.{waiting_within, waits_before, waiting_after, ahead_after, free_apart, taken_apart}
+use Rattle.frontier.specs.Heap.{nowhere, waiting_keys, node_at, place_of, above, IsBelow, IsWaiting, IsAhead, IsHeap, HasHole, IsAheadBelow}
+use Rattle.frontier.proofs.Waiting.{waits_before, waiting_after, ahead_after, free_apart, taken_apart}
 use Rattle.frontier.proofs.Moving.{ahead_by}
+use Rattle.frontier.proofs.Tables.{place_lost}
+use Rattle.frontier.proofs.Widening.{replaced}
 use Rattle.frontier.proofs.Filling.{nodes_differ}
 
 -- a list and one more
@@ -97,8 +99,16 @@ module _ (keys : List (Option ℤ)) (heap places : List ℕ) (node : ℕ) (h : I
     held = dropped_held;
   }
 
-  pub last_within : node < length keys
-  last_within = waiting_within keys node (subst (IsWaiting keys) (at_end heap node) (h.waiting (length heap) last))
+  pub last_waiting : IsWaiting keys node
+  last_waiting = subst (IsWaiting keys) (at_end heap node) (h.waiting (length heap) last)
+
+-- so it loses its place
+pub let_go : (keys : List ℤ) (heap places : List ℕ) (node : ℕ) → IsHeap (waiting_keys keys places) (heap ++ node ∷ []) places → IsHeap (waiting_keys keys (set places node nowhere)) heap (set places node nowhere)
+let_go keys heap places node h =
+    let seen = waiting_keys keys places in
+    let d : IsHeap (set seen node None) heap places = dropped seen heap places node h in
+    subst (λ k. IsHeap k heap (set places node nowhere)) (sym (place_lost keys places node))
+    (replaced (set seen node None) heap places d (set places node nowhere) (λ other w. get_or-set_other places node other nowhere 0 (taken_apart seen node other w.0 w.1)) (omega (arith, d.room, length-set places node nowhere)))
 
 -- the last node is taken away, to be put in the hole at the root
 module _ (keys : List (Option ℤ)) (heap places : List ℕ) (node root : ℕ) (h : HasHole keys (heap ++ node ∷ []) places 0 root) (gone : IsFree keys root) where

@@ -103,3 +103,16 @@ module _ (keys : List (Option ℤ)) (heap places : List ℕ) (h : IsHeap keys he
     others = apart;
     held = held_by;
   }
+
+-- a node that has no place in the heap gets another one in the table
+pub placed_anew : (keys : List (Option ℤ)) (heap places : List ℕ) (hole node : ℕ) → HasHole keys heap places hole node → (v : ℕ) → HasHole keys heap (set places node v) hole node
+placed_anew keys heap places hole node h v = record {
+  room = omega (arith, h.room, length-set places node v);
+  within = h.within;
+  ordered = h.ordered;
+  across = h.across;
+  waiting = h.waiting;
+  placed = λ place l n. get_or-set_other places node (node_at heap place) v 0 (h.others place l n) ∙ h.placed place l n;
+  others = h.others;
+  held = λ other key w n. subst (λ p. (p < length heap) × (p ≢ hole) × (node_at heap p ≡ other)) (sym (get_or-set_other places node other v 0 n)) (h.held other key w n);
+}

@@ -45,14 +45,14 @@ module _ (keys : List (Option ℤ)) (more : ℕ) where
       (subst (λ k. ComesFirst (key_of keys a) a k b) (sym (key_wide b lb)) h)
 
 -- the same nodes wait, and have the places that they had
-module _ (keys : List (Option ℤ)) (heap places : List ℕ) (h : IsHeap keys heap places) (places' : List ℕ) (same : (node : ℕ) → node < length keys → place_of places' node ≡ place_of places node) where
+module _ (keys : List (Option ℤ)) (heap places : List ℕ) (h : IsHeap keys heap places) (places' : List ℕ) (same : (node : ℕ) → IsWaiting keys node → place_of places' node ≡ place_of places node) where
   pub replaced : length keys ≤ length places' → IsHeap keys heap places'
   replaced room = record {
     room = room;
     ordered = h.ordered;
     waiting = h.waiting;
-    placed = λ place l. same (node_at heap place) (waiting_within keys (node_at heap place) (h.waiting place l)) ∙ h.placed place l;
-    held = λ node key w. subst (λ p. (p < length heap) × (node_at heap p ≡ node)) (sym (same node (waits_within keys node key w))) (h.held node key w);
+    placed = λ place l. same (node_at heap place) (h.waiting place l) ∙ h.placed place l;
+    held = λ node key w. subst (λ p. (p < length heap) × (node_at heap p ≡ node)) (sym (same node (key, w))) (h.held node key w);
   }
 
 pub widened : (keys : List (Option ℤ)) (heap places : List ℕ) (more : ℕ) → IsHeap keys heap places → length keys + more ≤ length places → IsHeap (keys ++ replicate more None) heap places

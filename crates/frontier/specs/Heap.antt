@@ -1,6 +1,16 @@
 -- A heap: a list of nodes as a binary tree. Its root is at place 0, and the places 2p + 1 and 2p + 2 are below place p.
-use Rattle.std.specs.Prelude.{◌≡◌, ◌≢◌, ℕ, ◌-◌, ◌/◌, ◌<◌, ◌≤◌, List, length, ℤ, pos, Option, None, unwrap_or, slice_index_or}
+use Rattle.std.specs.Prelude.{◌≡◌, ◌≢◌, ℕ, ◌-◌, ◌/◌, ◌<◌, ◌≤◌, ◌^◌, ◌==◌, if◌then◌else◌, List, [], ◌∷◌, length, ℤ, pos, Option, Some, None, unwrap_or, slice_index_or}
 use Rattle.frontier.specs.Keys.{Waits, ComesFirst}
+
+-- the place of a node that does not wait
+abbrev pub nowhere : ℕ
+nowhere = 2 ^ 32 - 1
+
+-- the keys by node that the table of keys and the one of places say: a node without a place does not wait
+unfoldable pub waiting_keys : List ℤ → List ℕ → List (Option ℤ)
+waiting_keys [] places = []
+waiting_keys (key ∷ keys) [] = []
+waiting_keys (key ∷ keys) (place ∷ places) = (if place == nowhere then None else Some key) ∷ waiting_keys keys places
 
 -- the node at a place
 abbrev pub node_at : List ℕ → ℕ → ℕ
@@ -21,6 +31,10 @@ IsBelow place over = (0 < place) × (above place ≡ over)
 -- the key of a node, 0 where it does not wait
 abbrev pub key_of : List (Option ℤ) → ℕ → ℤ
 key_of keys node = unwrap_or (slice_index_or keys node None) (pos 0)
+
+-- of two nodes the one comes out no later than the other, by the table of keys
+abbrev pub IsFirstOf : List ℤ → ℕ → ℕ → Type 0
+IsFirstOf keys node other = ComesFirst (slice_index_or keys node (pos 0)) node (slice_index_or keys other (pos 0)) other
 
 -- the node waits
 abbrev pub IsWaiting : List (Option ℤ) → ℕ → Type 0

@@ -1,23 +1,18 @@
 // A heap of the nodes that wait, and the place of each. One place, the hole, is moved up or down to where a node belongs.
 ghost use Rattle.std.specs.Prelude.{◌≡◌, ◌≢◌, ℕ, ◌<◌, ◌^◌, length, slice_set, vec_capacity, IfNone, IfSome};
 ghost use Rattle.frontier.specs.Keys.{IsFree};
-ghost use Rattle.frontier.specs.Heap.{node_at, IsHeap, HasHole, IsWaiting, IsAhead, IsAheadBelow, IsBehindAbove, IsBelow};
+ghost use Rattle.frontier.specs.Heap.{node_at, waiting_keys, IsHeap, HasHole, IsWaiting, IsFirstOf, IsAheadBelow, IsBehindAbove, IsBelow};
 
 use crate::order::comes_first;
 
 /// Moves the hole up to where the node belongs, and puts the node there.
-pub fn sift_up(
-    keys: &[Option<i128>],
-    heap: &mut [u32],
-    places: &mut [u32],
-    mut hole: usize,
-    node: u32,
-)
+pub fn sift_up(keys: &[i128], heap: &mut [u32], places: &mut [u32], mut hole: usize, node: u32)
     requires few { length heap.old < 2 ^ 32 }
-    requires waits { IsWaiting keys.now node }
-    requires hole { HasHole keys.now heap.old places.old hole node }
-    requires ahead { IsAheadBelow keys.now heap.old hole node }
-    ensures { IsHeap keys.now heap.new places.new }
+    requires waits { IsWaiting (waiting_keys keys.now places.old) node }
+    requires hole { HasHole (waiting_keys keys.now places.old) heap.old places.old hole node }
+    requires ahead { IsAheadBelow (waiting_keys keys.now places.old) heap.old hole node }
+    ensures keys { waiting_keys keys.now places.new ≡ waiting_keys keys.now places.old }
+    ensures heap { IsHeap (waiting_keys keys.now places.old) heap.new places.new }
 {
     while hole > 0 {
         let above = (hole - 1) / 2;
@@ -32,18 +27,13 @@ pub fn sift_up(
 }
 
 /// Moves the hole down to where the node belongs, and puts the node there.
-pub fn sift_down(
-    keys: &[Option<i128>],
-    heap: &mut [u32],
-    places: &mut [u32],
-    mut hole: usize,
-    node: u32,
-)
+pub fn sift_down(keys: &[i128], heap: &mut [u32], places: &mut [u32], mut hole: usize, node: u32)
     requires few { length heap.old < 2 ^ 32 }
-    requires waits { IsWaiting keys.now node }
-    requires hole { HasHole keys.now heap.old places.old hole node }
-    requires behind { IsBehindAbove keys.now heap.old hole node }
-    ensures { IsHeap keys.now heap.new places.new }
+    requires waits { IsWaiting (waiting_keys keys.now places.old) node }
+    requires hole { HasHole (waiting_keys keys.now places.old) heap.old places.old hole node }
+    requires behind { IsBehindAbove (waiting_keys keys.now places.old) heap.old hole node }
+    ensures keys { waiting_keys keys.now places.new ≡ waiting_keys keys.now places.old }
+    ensures heap { IsHeap (waiting_keys keys.now places.old) heap.new places.new }
 {
     while let Some(below) = first_below(keys, heap, hole) {
         let child = heap[below];
@@ -57,14 +47,14 @@ pub fn sift_down(
 }
 
 // Of the two places below another the one whose node comes out first.
-fn first_below(keys: &[Option<i128>], heap: &[u32], place: usize) -> Option<usize>
+fn first_below(keys: &[i128], heap: &[u32], place: usize) -> Option<usize>
     requires few { length heap.now < 2 ^ 32 }
     requires place { place < length heap.now }
     requires nodes { (k : ℕ) → k < length heap.now → k ≢ place → node_at heap.now k < length keys.now }
     ensures none { IfNone result ((k : ℕ) → k < length heap.now → IsBelow k place → ⊥) }
     ensures below { IfSome result (λ first. IsBelow first place) }
     ensures within { IfSome result (λ first. first < length heap.now) }
-    ensures first { IfSome result (λ first. (k : ℕ) → k < length heap.now → IsBelow k place → k ≢ first → IsAhead keys.now (node_at heap.now first) (node_at heap.now k)) }
+    ensures first { IfSome result (λ first. (k : ℕ) → k < length heap.now → IsBelow k place → k ≢ first → IsFirstOf keys.now (node_at heap.now first) (node_at heap.now k)) }
 {
     let left = 2 * place + 1;
     let right = left + 1;
@@ -90,11 +80,12 @@ fn seat(heap: &mut [u32], places: &mut [u32], place: usize, node: u32)
 }
 
 /// Takes the root out, whose node waits no more.
-pub fn remove_root(keys: &[Option<i128>], heap: &mut Vec<u32>, places: &mut [u32])
+pub fn remove_root(keys: &[i128], heap: &mut Vec<u32>, places: &mut [u32])
     requires few { length heap.old.items < 2 ^ 32 }
-    requires gone { IsFree keys.now (node_at heap.old.items 0) }
-    requires hole { HasHole keys.now heap.old.items places.old 0 (node_at heap.old.items 0) }
-    ensures heap { IsHeap keys.now heap.new.items places.new }
+    requires gone { IsFree (waiting_keys keys.now places.old) (node_at heap.old.items 0) }
+    requires hole { HasHole (waiting_keys keys.now places.old) heap.old.items places.old 0 (node_at heap.old.items 0) }
+    ensures keys { waiting_keys keys.now places.new ≡ waiting_keys keys.now places.old }
+    ensures heap { IsHeap (waiting_keys keys.now places.old) heap.new.items places.new }
     ensures capacity { vec_capacity heap.new ≡ vec_capacity heap.old }
 {
     if let Some(last) = heap.pop() {

@@ -1,4 +1,13 @@
-// Problems that several modules use.
+// Problems that several modules use, and what solving one finds.
+ghost use Rattle.std.specs.Prelude.{◌≡◌, ◌<◌, IfOk};
+ghost use Rattle.solver.specs.Solution.{IsSolution};
+
+use atto::Steps;
+use problem::Problem;
+use solver::{Solution, solve};
+use std::alloc::{AllocError, Global};
+use std::marker::Brand;
+use std::sync::ledger::{Blank, Ledger};
 
 // Two logs, and a message in each direction.
 pub(crate) const TWO_LOGS_PROBLEM: &str =
@@ -17,3 +26,23 @@ pub(crate) const UNLINKED_PROBLEM: &str =
 
 // One event, whose clock may be early or late.
 pub(crate) const ALONE_PROBLEM: &str = "problem 1\nclock a 0 0 2 3\nevent p a 7\nend\n";
+
+// What solving a problem finds, with its steps counted by this ledger.
+fn solve_counted<L: Ledger>(
+    alloc: Global,
+    p: &Problem,
+    blank: Blank,
+) -> Result<Solution, AllocError>
+    requires { (blank.name ≡ L.name) × (blank.parts ≡ L.parts) × (0 < L.parts) }
+    ensures { IfOk result (λ solution. IsSolution p.now solution) }
+{
+    let mut steps = Steps::<L>::open(blank);
+    solve(alloc, p, &mut steps)
+}
+
+// What solving a problem finds.
+pub(crate) fn solve_alone(alloc: Global, p: &Problem) -> Result<Solution, AllocError>
+    ensures { IfOk result (λ solution. IsSolution p.now solution) }
+{
+    solve_counted::<Brand>(alloc, p, Blank::new(1))
+}

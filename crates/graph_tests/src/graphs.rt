@@ -1,11 +1,15 @@
-// The graph of two logs with a message each way.
+// The graph of two logs with a message each way, and the lists of a graph whose arcs come and go.
+ghost use Rattle.std.specs.Prelude.{◌≡◌, ◌<◌, ◌≤◌, length};
+
 use crate::fixtures::LATE_LOGS_PROBLEM;
-use atto::Nano;
+use atto::{Nano, Steps};
 use problem::read_problem;
 use problem_model::{Bound, Node};
 use std::alloc::Global;
+use std::marker::Brand;
+use std::sync::ledger::{Blank, Ledger};
 use std::test::*;
-use sync_graph::{Graph, graph_of};
+use sync_graph::{Arc, Graph, graph_of};
 
 // Tail, head and weight in ns of each arc of that problem: four spans, eight stamps, four delays.
 const ARCS: [(u32, u32, i128); 16] = [
@@ -47,16 +51,19 @@ fn first_wrong_arc(g: &Graph) -> Option<usize> {
 }
 
 // Whether these are the arcs at node 0, leaving it and arriving.
-fn has_arcs_at_first(g: &Graph) -> bool {
+fn has_arcs_at_first<L: Ledger>(g: &Graph, blank: Blank) -> bool
+    requires { (blank.name ≡ L.name) × (blank.parts ≡ L.parts) × (0 < L.parts) }
+{
     if g.nodes() == 0 {
         return false;
     }
-    g.leaving(0, 0) == Some(5)
-        && g.leaving(0, 1) == Some(12)
-        && g.leaving(0, 2) == None
-        && g.arriving(0, 0) == Some(4)
-        && g.arriving(0, 1) == Some(13)
-        && g.arriving(0, 2) == None
+    let mut steps = Steps::<L>::open(blank);
+    g.leaving(0, 0, &mut steps) == Some(5)
+        && g.leaving(0, 1, &mut steps) == Some(12)
+        && g.leaving(0, 2, &mut steps) == None
+        && g.arriving(0, 0, &mut steps) == Some(4)
+        && g.arriving(0, 1, &mut steps) == Some(13)
+        && g.arriving(0, 2, &mut steps) == None
 }
 
 // Whether the reading 180 of clock a is node 5, and its neighbours are those of each clock.
@@ -79,5 +86,154 @@ fn has_counts(g: &Graph) -> bool {
 fn a_problem_has_its_graph(rt: HostRuntime) {
     let g = two_logs(rt.alloc()).expect(&rt, "a graph");
     assert_eq!(rt; first_wrong_arc(&g), None);
-    assert!(rt; has_counts(&g) && has_arcs_at_first(&g) && has_readings(&g));
+    assert!(rt; has_counts(&g) && has_readings(&g));
+    assert!(rt; has_arcs_at_first::<Brand>(&g, Blank::new(1)));
+}
+
+// Appends the event at the next place.
+fn push_event(g: &mut Graph) -> Option<u32> {
+    let place = g.nodes();
+    if place >= 4 || g.node_of(Node::Event(place)).is_some() {
+        return None;
+    }
+    g.push_node(Node::Event(place)).ok()
+}
+
+// Appends the arc of a greatest delay from one event to another, and tells whether its nodes are those of the graph and
+// it comes back as it was.
+fn push_delay(g: &mut Graph, send: u32, receive: u32) -> Option<bool> {
+    let from = g.node_of(Node::Event(send))?;
+    let to = g.node_of(Node::Event(receive))?;
+    let name = Bound::DelayMost { send, receive };
+    if g.arcs() >= 40 {
+        return None;
+    }
+    let arc = Arc {
+        from,
+        to,
+        weight: 1,
+        name,
+    };
+    let k = g.push_arc(arc).ok()?;
+    Some(g.arc(k) == arc && from == send && to == receive)
+}
+
+// In each of ten turns an arc from event 0 to 1, one from 1 to 2 and one from 0 to 3.
+fn push_turns(g: &mut Graph) -> Option<bool> {
+    let mut sound = true;
+    for _ in 0..10 {
+        sound &= push_delay(g, 0, 1)?;
+        sound &= push_delay(g, 1, 2)?;
+        sound &= push_delay(g, 0, 3)?;
+    }
+    Some(sound)
+}
+
+// Four events, with arcs so that the lists of event 0 and of the others grow past one another.
+fn fill(g: &mut Graph) -> Option<bool> {
+    for _ in 0..4 {
+        push_event(g)?;
+    }
+    push_turns(g)
+}
+
+// The arcs that leave a node, each as a bit, and how many there are.
+fn leaving_bits<L: Ledger>(g: &Graph, node: u32, steps: &mut Steps<L>) -> (u64, u32)
+    requires { node < length g.now.nodes }
+{
+    let mut bits = 0;
+    for k in 0..64 {
+        match g.leaving(node, k, steps) {
+            Some(arc) if arc < 64 => bits |= 1 << arc,
+            _ => return (bits, k),
+        }
+    }
+    (bits, 64)
+}
+
+// The same of the arcs that reach it.
+fn arriving_bits<L: Ledger>(g: &Graph, node: u32, steps: &mut Steps<L>) -> (u64, u32)
+    requires { node < length g.now.nodes }
+{
+    let mut bits = 0;
+    for k in 0..64 {
+        match g.arriving(node, k, steps) {
+            Some(arc) if arc < 64 => bits |= 1 << arc,
+            _ => return (bits, k),
+        }
+    }
+    (bits, 64)
+}
+
+// Takes the arc at a place of an event's list out of force.
+fn withdraw_at<L: Ledger>(g: &mut Graph, node: u32, place: u32, steps: &mut Steps<L>) -> Option<u32>
+    requires { node < length g.old.nodes }
+    ensures { length g.new.nodes ≡ length g.old.nodes }
+{
+    let arc = g.leaving(node, place, steps)?;
+    g.exact();
+    g.withdraw(arc);
+    Some(arc)
+}
+
+// Every third arc begins at event 1.
+const FROM_1: u64 = 0b010_010_010_010_010_010_010_010_010_010;
+
+const FROM_0: u64 = FROM_1 << 1 | FROM_1 >> 1;
+
+// Whether the lists are those of all 30 arcs.
+fn has_all<L: Ledger>(g: &Graph, steps: &mut Steps<L>) -> bool {
+    g.nodes() == 4
+        && leaving_bits(g, 0, steps) == (FROM_0, 20)
+        && leaving_bits(g, 1, steps) == (FROM_1, 10)
+        && leaving_bits(g, 2, steps) == (0, 0)
+        && arriving_bits(g, 1, steps) == (FROM_1 >> 1, 10)
+        && arriving_bits(g, 2, steps) == (FROM_1, 10)
+        && arriving_bits(g, 3, steps) == (FROM_1 << 1, 10)
+}
+
+// Whether the lists are those of all arcs but for these, which leave event 0.
+fn has_all_but<L: Ledger>(g: &Graph, gone: u64, count: u32, steps: &mut Steps<L>) -> bool {
+    if g.nodes() != 4 || count > 20 {
+        return false;
+    }
+    let (first, _) = arriving_bits(g, 1, steps);
+    let (last, _) = arriving_bits(g, 3, steps);
+    leaving_bits(g, 0, steps) == (FROM_0 & !gone, 20 - count)
+        && leaving_bits(g, 1, steps) == (FROM_1, 10)
+        && arriving_bits(g, 2, steps) == (FROM_1, 10)
+        && first == (FROM_1 >> 1) & !gone
+        && last == (FROM_1 << 1) & !gone
+}
+
+// Whether the arcs at these places of the list of event 0 go, each alone.
+fn they_go<L: Ledger>(g: &mut Graph, places: &[u32], steps: &mut Steps<L>) -> bool {
+    let mut gone = 0;
+    for (count, place) in places.iter().enumerate() {
+        if g.nodes() != 4 {
+            return false;
+        }
+        match withdraw_at(g, 0, *place, steps) {
+            Some(arc) if arc < 64 => gone |= 1 << arc,
+            _ => return false,
+        }
+        if count >= 20 || !has_all_but(g, gone, count as u32 + 1, steps) {
+            return false;
+        }
+    }
+    true
+}
+
+fn lists_are_kept<L: Ledger>(g: &mut Graph, blank: Blank) -> bool
+    requires { (blank.name ≡ L.name) × (blank.parts ≡ L.parts) × (0 < L.parts) }
+{
+    let mut steps = Steps::<L>::open(blank);
+    fill(g) == Some(true) && has_all(g, &mut steps) && they_go(g, &[0, 18, 5, 5, 15], &mut steps)
+}
+
+// Lists that move several times keep all their entries, and a withdrawn arc leaves both its lists and no other.
+#[test]
+fn lists_hold_the_arcs_in_force(rt: HostRuntime) {
+    let mut g = Graph::new(rt.alloc());
+    assert!(rt; lists_are_kept::<Brand>(&mut g, Blank::new(1)));
 }

@@ -1,14 +1,17 @@
 // Greatest differences of problems that are read.
-ghost use Rattle.std.specs.Prelude.{◌<◌, length};
+ghost use Rattle.std.specs.Prelude.{◌≡◌, ◌<◌, length};
 ghost use Rattle.solver.specs.Solution.{IsSolved};
 
-use crate::fixtures::{ALONE_PROBLEM, TWO_LOGS_PROBLEM, UNLINKED_PROBLEM};
+use crate::fixtures::{ALONE_PROBLEM, TWO_LOGS_PROBLEM, UNLINKED_PROBLEM, solve_alone};
+use atto::Steps;
 use earliest::Earliest;
 use problem::{Problem, read_problem};
 use reaches::{Rows, pair_of, pair_of_reading, rows_of};
 use row_pool::{Pair, Reach};
-use solver::{Solution, solve};
+use solver::Solution;
 use std::alloc::Global;
+use std::marker::Brand;
+use std::sync::ledger::{Blank, Ledger};
 use std::test::*;
 use sync_graph::Graph;
 
@@ -107,44 +110,83 @@ fn tell(rows: &Rows, node: u32, want: Pair) -> bool {
 }
 
 // Whether the greatest differences of the two events are so.
-fn events_so(alloc: Global, p: &Problem, g: &Graph, e: &Earliest, case: &Case) -> Option<bool>
+fn events_so<L: Ledger>(
+    alloc: Global,
+    p: &Problem,
+    g: &Graph,
+    e: &Earliest,
+    case: &Case,
+    steps: &mut Steps<L>,
+) -> Option<bool>
     requires solved { IsSolved p.now g.now e.now }
     requires first { case.now.first < length p.now.events }
     requires second { case.now.second < length p.now.events }
 {
-    let events = pair_of(alloc, p, g, e, case.first, case.second).ok()?;
+    let events = pair_of(alloc, p, g, e, case.first, case.second, steps).ok()?;
     Some(events == case.events)
 }
 
 // Whether the greatest differences of the first event's reading and the second event are so.
-fn reading_so(alloc: Global, p: &Problem, g: &Graph, e: &Earliest, case: &Case) -> Option<bool>
+fn reading_so<L: Ledger>(
+    alloc: Global,
+    p: &Problem,
+    g: &Graph,
+    e: &Earliest,
+    case: &Case,
+    steps: &mut Steps<L>,
+) -> Option<bool>
     requires solved { IsSolved p.now g.now e.now }
     requires first { case.now.first < length p.now.events }
     requires second { case.now.second < length p.now.events }
 {
     let event = p.events()[case.first as usize];
-    let reading = pair_of_reading(alloc, p, g, e, event.clock, event.stamp, case.second).ok()?;
+    let reading = pair_of_reading(
+        alloc,
+        p,
+        g,
+        e,
+        event.clock,
+        event.stamp,
+        case.second,
+        steps,
+    ).ok()?;
     Some(reading == case.reading)
 }
 
 // Whether the rows of the first event tell the greatest differences of the two.
-fn rows_so(alloc: Global, p: &Problem, g: &Graph, e: &Earliest, case: &Case) -> Option<bool>
+fn rows_so<L: Ledger>(
+    alloc: Global,
+    p: &Problem,
+    g: &Graph,
+    e: &Earliest,
+    case: &Case,
+    steps: &mut Steps<L>,
+) -> Option<bool>
     requires solved { IsSolved p.now g.now e.now }
     requires first { case.now.first < length p.now.events }
 {
-    let rows = rows_of(alloc, p, g, e, case.first).ok()?;
+    let rows = rows_of(alloc, p, g, e, case.first, steps).ok()?;
     Some(tell(&rows, case.second, case.events))
 }
 
-// Whether all greatest differences of a case are so.
-fn tells(alloc: Global, p: &Problem, g: &Graph, e: &Earliest, case: &Case) -> Option<bool>
+// Whether all greatest differences of a case are so, with their steps counted by this ledger.
+fn tells<L: Ledger>(
+    alloc: Global,
+    p: &Problem,
+    g: &Graph,
+    e: &Earliest,
+    case: &Case,
+    blank: Blank,
+) -> Option<bool>
+    requires blank { (blank.name ≡ L.name) × (blank.parts ≡ L.parts) × (0 < L.parts) }
     requires solved { IsSolved p.now g.now e.now }
     requires first { case.now.first < length p.now.events }
     requires second { case.now.second < length p.now.events }
 {
-    let events = events_so(alloc, p, g, e, case)?;
-    let reading = reading_so(alloc, p, g, e, case)?;
-    let rows = rows_so(alloc, p, g, e, case)?;
+    let mut steps = Steps::<L>::open(blank);
+    let events = events_so(alloc, p, g, e, case, &mut steps)?;
+    let reading = reading_so(alloc, p, g, e, case, &mut steps)?;
+    let rows = rows_so(alloc, p, g, e, case, &mut steps)?;
     Some(events && reading && rows)
 }
 
@@ -153,8 +195,8 @@ fn solves(alloc: Global, p: &Problem, case: &Case) -> Option<bool>
     requires first { case.now.first < length p.now.events }
     requires second { case.now.second < length p.now.events }
 {
-    match solve(alloc, p) {
-        Ok(Solution::Execution(g, e)) => tells(alloc, p, &g, &e, case),
+    match solve_alone(alloc, p) {
+        Ok(Solution::Execution(g, e)) => tells::<Brand>(alloc, p, &g, &e, case, Blank::new(1)),
         Ok(Solution::Contradiction(_)) => Some(false),
         Err(_) => None,
     }

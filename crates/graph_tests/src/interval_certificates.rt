@@ -3,16 +3,19 @@ ghost use Rattle.std.specs.Prelude.{◌≡◌, ◌<◌, ◌≤◌, length, IfOk}
 ghost use Rattle.frontier.specs.Keys.{IsEmpty};
 ghost use Rattle.solver.specs.Solution.{IsSolved};
 
-use crate::fixtures::{ALONE_PROBLEM, TWO_LOGS_PROBLEM, UNLINKED_PROBLEM};
+use crate::fixtures::{ALONE_PROBLEM, TWO_LOGS_PROBLEM, UNLINKED_PROBLEM, solve_alone};
 use attain::write_ends;
+use atto::Steps;
 use distances::{row_from, row_to};
 use earliest::Earliest;
 use frontier::Frontier;
 use ports::MemSink;
 use problem::{Problem, read_problem};
 use row_pool::Cell;
-use solver::{Solution, solve};
+use solver::Solution;
 use std::alloc::{AllocError, Global};
+use std::marker::Brand;
+use std::sync::ledger::{Blank, Ledger};
 use std::test::*;
 use sync_graph::Graph;
 
@@ -107,8 +110,8 @@ fn new_row(alloc: Global, nodes: u32) -> Result<Vec<Cell>, AllocError>
     Ok(row)
 }
 
-// Writes the certificate of a case, by rows that are made in these.
-fn certify(
+// Writes the certificate of a case, by rows that are made in these, with their steps counted by this ledger.
+fn certify<L: Ledger>(
     p: &Problem,
     g: &Graph,
     e: &Earliest,
@@ -117,7 +120,9 @@ fn certify(
     to: &mut [Cell],
     front: &mut Frontier,
     out: &mut MemSink,
+    blank: Blank,
 )
+    requires blank { (blank.name ≡ L.name) × (blank.parts ≡ L.parts) × (0 < L.parts) }
     requires solved { IsSolved p.now g.now e.now }
     requires first { case.now.first < length p.now.events }
     requires second { case.now.second < length p.now.events }
@@ -129,8 +134,9 @@ fn certify(
     let _ = p.events();
     let _ = p.readings();
     g.exact();
-    row_from(g, e, case.first, from, front);
-    row_to(g, e, case.first, to, front);
+    let mut steps = Steps::<L>::open(blank);
+    row_from(g, e, case.first, from, front, &mut steps);
+    row_to(g, e, case.first, to, front, &mut steps);
     let _failed = write_ends(p, g, e, from, to, case.first, case.second, out);
 }
 
@@ -154,7 +160,7 @@ fn writes(
     requires room { length g.now.nodes ≤ length front.old }
 {
     let mut out = MemSink::new(alloc, 2000, 64, &[]).ok()?;
-    certify(p, g, e, case, from, to, front, &mut out);
+    certify::<Brand>(p, g, e, case, from, to, front, &mut out, Blank::new(1));
     Some(out.bytes() == case.printed.as_bytes())
 }
 
@@ -211,7 +217,7 @@ fn solves(alloc: Global, p: &Problem, case: &Case) -> Option<bool>
     requires first { case.now.first < length p.now.events }
     requires second { case.now.second < length p.now.events }
 {
-    match solve(alloc, p) {
+    match solve_alone(alloc, p) {
         Ok(Solution::Execution(g, e)) => certifies(alloc, p, &g, &e, case),
         Ok(Solution::Contradiction(_)) => Some(false),
         Err(_) => None,

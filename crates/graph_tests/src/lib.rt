@@ -2,7 +2,7 @@
 //!
 //! `graphs` has the graph of a problem (`sync_graph`); `waiting_nodes` the order in which nodes are taken (`frontier`);
 //! `insertions` arcs that are brought in (`earliest`); `distance_rows` rows of a graph (`distances`); `cells` what a cell
-//! tells (`row_pool`); `interval_ends` the ends and the order of two events (`intervals`); `empty_certificates` and
+//! tells and `row_pools` rows that are lent (`row_pool`); `interval_ends` the ends and the order of two events (`intervals`); `empty_certificates` and
 //! `interval_certificates` certificates that are made (`attain`); `greatest_differences` those of two events (`reaches`);
 //! `solutions` problems that are solved (`solver`); `fixtures` has problems that several of them use.
 #![tactic(auto)]
@@ -25,6 +25,8 @@ mod insertions;
 mod interval_certificates;
 #[cfg(test)]
 mod interval_ends;
+#[cfg(test)]
+mod row_pools;
 #[cfg(test)]
 mod solutions;
 #[cfg(test)]

@@ -1,20 +1,35 @@
-ghost use Rattle.std.specs.Prelude.{◌≡◌, length};
+ghost use Rattle.std.specs.Prelude.{◌≡◌, ◌<◌, length};
 
+use atto::Steps;
 use frontier::Frontier;
-use std::alloc::AllocError;
+use std::alloc::{AllocError, Global};
+use std::marker::Brand;
+use std::sync::ledger::{Blank, Ledger};
 use std::test::Fail;
 
 // Nodes come by key, then by node; a lowered key counts, and so do the extremes.
 #[test]
 fn the_least_comes_first(rt: HostRuntime) -> Result<(), Fail> {
-    let mut front = Frontier::new(rt.alloc());
+    assert!(rt; the_least_come::<Brand>(rt.alloc(), Blank::new(1))?);
+    Ok(())
+}
+
+fn the_least_come<L: Ledger>(alloc: Global, blank: Blank) -> Result<bool, AllocError>
+    requires { (blank.name ≡ L.name) × (blank.parts ≡ L.parts) × (0 < L.parts) }
+{
+    let mut steps = Steps::<L>::open(blank);
+    let mut front = Frontier::new(alloc);
     front.reserve(5)?;
     front.put(4, 7);
     front.lower(4, i128::MIN);
     front.put(1, -3);
     front.put(3, -3);
     front.put(0, i128::MAX);
-    assert!(rt; front.key(1) == Some(-3) && front.key(2).is_none() && front.key(5).is_none());
+    let keys = front.key(1) == Some(-3) && front.key(2).is_none() && front.key(5).is_none();
+    Ok(keys && comes_as(&mut front, &mut steps))
+}
+
+fn comes_as<L: Ledger>(front: &mut Frontier, steps: &mut Steps<L>) -> bool {
     for want in [
         Some((4, i128::MIN)),
         Some((1, -3)),
@@ -22,23 +37,32 @@ fn the_least_comes_first(rt: HostRuntime) -> Result<(), Fail> {
         Some((0, i128::MAX)),
         None,
     ] {
-        assert!(rt; front.pop() == want);
+        if front.pop(steps) != want {
+            return false;
+        }
     }
-    Ok(())
+    true
 }
 
 // The same calls in any order give what a table of keys gives in which all are looked at.
 #[test]
 fn it_answers_as_a_table_of_keys(rt: HostRuntime) -> Result<(), Fail> {
     for seed in [1, 2, 3] {
-        let mut tried = Tried {
-            front: Frontier::new(rt.alloc()),
-            room: 0,
-            table: [None; 24],
-        };
-        assert!(rt; agree(&mut tried, seed)?);
+        assert!(rt; table_agrees::<Brand>(rt.alloc(), Blank::new(1), seed)?);
     }
     Ok(())
+}
+
+fn table_agrees<L: Ledger>(alloc: Global, blank: Blank, seed: u64) -> Result<bool, AllocError>
+    requires { (blank.name ≡ L.name) × (blank.parts ≡ L.parts) × (0 < L.parts) }
+{
+    let mut steps = Steps::<L>::open(blank);
+    let mut tried = Tried {
+        front: Frontier::new(alloc),
+        room: 0,
+        table: [None; 24],
+    };
+    agree(&mut tried, &mut steps, seed)
 }
 
 // A frontier, its room, and a table of keys that is given the same calls.
@@ -51,13 +75,17 @@ struct Tried {
 }
 
 // Whether 600 calls, chosen by a linear congruential generator, give the same in both.
-fn agree(tried: &mut Tried, seed: u64) -> Result<bool, AllocError> {
+fn agree<L: Ledger>(
+    tried: &mut Tried,
+    steps: &mut Steps<L>,
+    seed: u64,
+) -> Result<bool, AllocError> {
     let mut state = seed;
     for _ in 0..600 {
         state = state
             .wrapping_mul(6364136223846793005)
             .wrapping_add(1442695040888963407);
-        if !call(tried, state >> 32)? || !same_keys(tried) {
+        if !call(tried, steps, state >> 32)? || !same_keys(tried) {
             return Ok(false);
         }
     }
@@ -65,7 +93,11 @@ fn agree(tried: &mut Tried, seed: u64) -> Result<bool, AllocError> {
 }
 
 // One call, in both; whether the answers are one. Most keys are equal to others.
-fn call(tried: &mut Tried, drawn: u64) -> Result<bool, AllocError> {
+fn call<L: Ledger>(
+    tried: &mut Tried,
+    steps: &mut Steps<L>,
+    drawn: u64,
+) -> Result<bool, AllocError> {
     let node = (drawn / 64 % 24) as u32;
     let key = KEYS[(drawn / 2048 % 8) as usize];
     match drawn % 64 {
@@ -73,7 +105,7 @@ fn call(tried: &mut Tried, drawn: u64) -> Result<bool, AllocError> {
         1..=3 => reserve(tried, node)?,
         4..=30 => put(tried, node, key),
         31..=50 => lower(tried, node, key),
-        _ => return Ok(pop(tried)),
+        _ => return Ok(pop(tried, steps)),
     }
     Ok(true)
 }
@@ -107,12 +139,12 @@ fn lower(tried: &mut Tried, node: u32, key: i128) {
     }
 }
 
-fn pop(tried: &mut Tried) -> bool {
+fn pop<L: Ledger>(tried: &mut Tried, steps: &mut Steps<L>) -> bool {
     let least = least(&tried.table);
     if let Some((node, _)) = least {
         set_key(&mut tried.table, node, None);
     }
-    tried.front.pop() == least
+    tried.front.pop(steps) == least
 }
 
 fn same_keys(tried: &Tried) -> bool {

@@ -14,6 +14,7 @@ ghost use Rattle.merging.specs.Writing.{IsTextBy, times_by};
 
 use crate::keys::keys_of;
 use crate::lines::write_ordered;
+use atto::Steps;
 use decl::Decl;
 use earliest::Earliest;
 use ports::Sink;
@@ -22,6 +23,7 @@ use queries::{Stop, write_contradiction};
 use report::merge_order;
 use solver::{Solution, solve};
 use std::alloc::Global;
+use std::sync::ledger::Ledger;
 use sync_graph::Graph;
 use traces::{Accepted, PlacedEvent, events};
 
@@ -99,12 +101,13 @@ fn write_solution<O: Sink>(
 ///
 /// `Memory` is answered for want of memory. `WriteFault` is answered only where the sink's count of faults rose, or stands at
 /// its last value; a front of such a reply is then written.
-pub fn write_merge<O: Sink>(
+pub fn write_merge<O: Sink, L: Ledger>(
     alloc: Global,
     decl: &Decl,
     accepted: &[Accepted],
     p: &Problem,
     out: &mut O,
+    steps: &mut Steps<L>,
 ) -> Result<(), Stop>
     requires declared { IsDeclaration (declaration_of decl.now) }
     requires labels { length accepted.now ≡ length decl.now.labels.items }
@@ -112,6 +115,6 @@ pub fn write_merge<O: Sink>(
     requires problem { p.now ≡ problem_of_seen (declaration_of decl.now) (seen_in accepted.now) }
     ensures { WritesSuch (Replies p.now (IsMergeText (declaration_of decl.now) (seen_in accepted.now))) stops.WriteFault (O.told out.old) (O.told out.new) result }
 {
-    let solution = solve(alloc, p)?;
+    let solution = solve(alloc, p, steps)?;
     write_solution(alloc, decl, accepted, p, &solution, out)
 }

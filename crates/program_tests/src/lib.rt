@@ -1,12 +1,14 @@
 //! Tests of the commands of the program, each a run over files, input and output in memory.
 //!
-//! `problem_commands` has the commands over a problem, `sessions` those over a declaration, `verifying` those over a
-//! certificate, with its table `verify_cases`; `running` is how they are run, and
-//! `fixtures` has what several of them use.
+//! `problem_commands` has the commands over a problem, `sessions` those over a declaration, `long_sessions` one over a log of
+//! thousands of rows, `verifying` those over a certificate, with its table `verify_cases`; `running` is how they are run,
+//! and `fixtures` has what several of them use.
 #![tactic(auto)]
 
 #[cfg(test)]
 mod fixtures;
+#[cfg(test)]
+mod long_sessions;
 #[cfg(test)]
 mod problem_commands;
 #[cfg(test)]

@@ -3,9 +3,11 @@ ghost use Rattle.std.specs.Prelude.{IfOk};
 ghost use Rattle.solver.specs.Solution.{IsSolution};
 ghost use Rattle.queries.specs.Consistent.{IsConsistent};
 
+use atto::Steps;
 use problem::Problem;
 use solver::{Solution, solve};
 use std::alloc::{AllocError, Global};
+use std::sync::ledger::Ledger;
 
 // Whether the solution is an execution.
 fn is_execution(p: &Problem, solution: &Solution) -> bool
@@ -21,9 +23,13 @@ fn is_execution(p: &Problem, solution: &Solution) -> bool
 
 /// Whether some execution obeys all bounds of the problem. It solves the problem, and answers an error only where
 /// memory runs out.
-pub fn is_consistent(alloc: Global, p: &Problem) -> Result<bool, AllocError>
+pub fn is_consistent<L: Ledger>(
+    alloc: Global,
+    p: &Problem,
+    steps: &mut Steps<L>,
+) -> Result<bool, AllocError>
     ensures { IfOk result (λ b. IsConsistent p.now b) }
 {
-    let solution = solve(alloc, p)?;
+    let solution = solve(alloc, p, steps)?;
     Ok(is_execution(p, &solution))
 }

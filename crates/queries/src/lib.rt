@@ -1,5 +1,8 @@
 //! What is asked of a problem and of its events: whether some execution obeys the bounds, the interval of the difference of
 //! two real times and its certificate, their order, and the time of an event by a clock.
+//!
+//! `steps` counts each node that is asked for at the frontier and each arc that is asked for at a node. No number of them
+//! is promised.
 #![tactic(auto)]
 
 mod consistent;

@@ -8,16 +8,18 @@ ghost use Rattle.queries.specs.Replies.{IsProofText, Replies};
 use crate::contradiction::write_contradiction;
 use crate::stop::Stop;
 use attain::write_ends;
+use atto::Steps;
 use earliest::Earliest;
 use ports::Sink;
 use problem::Problem;
 use reaches::rows_of;
 use solver::{Solution, solve};
 use std::alloc::Global;
+use std::sync::ledger::Ledger;
 use sync_graph::Graph;
 
 // Writes the certificate for a problem that has an execution.
-fn write_answer<O: Sink>(
+fn write_answer<O: Sink, L: Ledger>(
     alloc: Global,
     p: &Problem,
     g: &Graph,
@@ -25,6 +27,7 @@ fn write_answer<O: Sink>(
     first: u32,
     second: u32,
     out: &mut O,
+    steps: &mut Steps<L>,
 ) -> Result<(), Stop>
     requires solved { IsSolved p.now g.now e.now }
     requires first { first < length p.now.events }
@@ -35,19 +38,20 @@ fn write_answer<O: Sink>(
     let _ = p.events();
     let _ = p.readings();
     g.exact();
-    let rows = rows_of(alloc, p, g, e, first)?;
+    let rows = rows_of(alloc, p, g, e, first, steps)?;
     write_ends(p, g, e, &rows.from, &rows.to, first, second, out)?;
     Ok(())
 }
 
 // Writes what a solution says.
-fn write_solution<O: Sink>(
+fn write_solution<O: Sink, L: Ledger>(
     alloc: Global,
     p: &Problem,
     solution: &Solution,
     first: u32,
     second: u32,
     out: &mut O,
+    steps: &mut Steps<L>,
 ) -> Result<(), Stop>
     requires solution { IsSolution p.now solution.now }
     requires first { first < length p.now.events }
@@ -55,9 +59,9 @@ fn write_solution<O: Sink>(
     ensures { WritesSuch (Replies p.now (IsProofText p.now first second)) stops.WriteFault (O.told out.old) (O.told out.new) result }
 {
     match solution {
-        Solution::Execution(g, e) => write_answer(alloc, p, g, e, first, second, out),
-        Solution::Contradiction(steps) => {
-            write_contradiction(p, steps, out)?;
+        Solution::Execution(g, e) => write_answer(alloc, p, g, e, first, second, out, steps),
+        Solution::Contradiction(cycle) => {
+            write_contradiction(p, cycle, out)?;
             Ok(())
         }
     }
@@ -70,17 +74,18 @@ fn write_solution<O: Sink>(
 ///
 /// `Memory` is answered for want of memory. `WriteFault` is answered only where the sink's count of faults rose, or stands at
 /// its last value; a front of such a reply is then written.
-pub fn write_proof<O: Sink>(
+pub fn write_proof<O: Sink, L: Ledger>(
     alloc: Global,
     p: &Problem,
     first: u32,
     second: u32,
     out: &mut O,
+    steps: &mut Steps<L>,
 ) -> Result<(), Stop>
     requires first { first < length p.now.events }
     requires second { second < length p.now.events }
     ensures { WritesSuch (Replies p.now (IsProofText p.now first second)) stops.WriteFault (O.told out.old) (O.told out.new) result }
 {
-    let solution = solve(alloc, p)?;
-    write_solution(alloc, p, &solution, first, second, out)
+    let solution = solve(alloc, p, steps)?;
+    write_solution(alloc, p, &solution, first, second, out, steps)
 }

@@ -10,7 +10,7 @@ ghost use Rattle.queries.specs.Replies.{HasReading, IsTimeLine, Replies};
 use crate::contradiction::write_contradiction;
 use crate::lines::time_line;
 use crate::stop::Stop;
-use atto::Nano;
+use atto::{Nano, Steps};
 use earliest::Earliest;
 use intervals::source_time;
 use ports::{Sink, write_whole};
@@ -18,6 +18,7 @@ use problem::{Event, Problem};
 use reaches::pair_of_reading;
 use solver::{Solution, solve};
 use std::alloc::Global;
+use std::sync::ledger::Ledger;
 use sync_graph::Graph;
 
 // The stamp of the first of the events that is on the clock.
@@ -39,7 +40,7 @@ pub fn reading_of(p: &Problem, clock: u32) -> Option<Nano>
 }
 
 // Writes the time for a problem that has an execution.
-fn write_answer<O: Sink>(
+fn write_answer<O: Sink, L: Ledger>(
     alloc: Global,
     p: &Problem,
     g: &Graph,
@@ -48,6 +49,7 @@ fn write_answer<O: Sink>(
     stamp: Nano,
     event: u32,
     out: &mut O,
+    steps: &mut Steps<L>,
 ) -> Result<(), Stop>
     requires solved { IsSolved p.now g.now e.now }
     requires clock { KeepsTime p.now clock }
@@ -57,7 +59,7 @@ fn write_answer<O: Sink>(
 {
     // It tells that the earliest execution is one.
     let _ = p.readings();
-    let pair = pair_of_reading(alloc, p, g, e, clock, stamp, event)?;
+    let pair = pair_of_reading(alloc, p, g, e, clock, stamp, event, steps)?;
     let ends = source_time(stamp, pair);
     let line = time_line(&ends);
     write_whole(out, line.as_slice())?;
@@ -65,7 +67,7 @@ fn write_answer<O: Sink>(
 }
 
 // Writes what a solution says.
-fn write_solution<O: Sink>(
+fn write_solution<O: Sink, L: Ledger>(
     alloc: Global,
     p: &Problem,
     solution: &Solution,
@@ -73,6 +75,7 @@ fn write_solution<O: Sink>(
     stamp: Nano,
     event: u32,
     out: &mut O,
+    steps: &mut Steps<L>,
 ) -> Result<(), Stop>
     requires solution { IsSolution p.now solution.now }
     requires clock { KeepsTime p.now clock }
@@ -81,9 +84,9 @@ fn write_solution<O: Sink>(
     ensures { WritesSuch (Replies p.now (IsTimeLine p.now clock event)) stops.WriteFault (O.told out.old) (O.told out.new) result }
 {
     match solution {
-        Solution::Execution(g, e) => write_answer(alloc, p, g, e, clock, stamp, event, out),
-        Solution::Contradiction(steps) => {
-            write_contradiction(p, steps, out)?;
+        Solution::Execution(g, e) => write_answer(alloc, p, g, e, clock, stamp, event, out, steps),
+        Solution::Contradiction(cycle) => {
+            write_contradiction(p, cycle, out)?;
             Ok(())
         }
     }
@@ -97,19 +100,20 @@ fn write_solution<O: Sink>(
 ///
 /// `Memory` is answered for want of memory. `WriteFault` is answered only where the sink's count of faults rose, or stands at
 /// its last value; a front of such a reply is then written.
-pub fn write_time<O: Sink>(
+pub fn write_time<O: Sink, L: Ledger>(
     alloc: Global,
     p: &Problem,
     clock: u32,
     stamp: Nano,
     event: u32,
     out: &mut O,
+    steps: &mut Steps<L>,
 ) -> Result<(), Stop>
     requires clock { KeepsTime p.now clock }
     requires reading { IsReading p.now clock stamp }
     requires event { event < length p.now.events }
     ensures { WritesSuch (Replies p.now (IsTimeLine p.now clock event)) stops.WriteFault (O.told out.old) (O.told out.new) result }
 {
-    let solution = solve(alloc, p)?;
-    write_solution(alloc, p, &solution, clock, stamp, event, out)
+    let solution = solve(alloc, p, steps)?;
+    write_solution(alloc, p, &solution, clock, stamp, event, out, steps)
 }

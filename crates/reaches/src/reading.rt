@@ -7,12 +7,13 @@ ghost use Rattle.intervals.specs.Executions.{IsPairOf};
 ghost use Rattle.solver.specs.Solution.{IsGraphOf, IsSolved};
 
 use crate::pair::pair_between;
-use atto::Nano;
+use atto::{Nano, Steps};
 use earliest::Earliest;
 use problem::Problem;
 use problem_model::Node;
 use row_pool::Pair;
 use std::alloc::{AllocError, Global};
+use std::sync::ledger::Ledger;
 use sync_graph::Graph;
 
 // The number of a reading's node.
@@ -27,7 +28,7 @@ fn number_of(p: &Problem, g: &Graph, clock: u32, stamp: Nano) -> u32
 
 /// The greatest differences of a clock's reading of a stamp, in ns, and an event, in both directions, in units of 1e-9 ns
 /// and below 2^120 in absolute value. It makes a row for the reading, and answers an error only where memory runs out.
-pub fn pair_of_reading(
+pub fn pair_of_reading<L: Ledger>(
     alloc: Global,
     p: &Problem,
     g: &Graph,
@@ -35,6 +36,7 @@ pub fn pair_of_reading(
     clock: u32,
     stamp: Nano,
     event: u32,
+    steps: &mut Steps<L>,
 ) -> Result<Pair, AllocError>
     requires solved { IsSolved p.now g.now e.now }
     requires reading { IsReading p.now clock stamp }
@@ -44,5 +46,5 @@ pub fn pair_of_reading(
 {
     let _ = p.readings();
     let from = number_of(p, g, clock, stamp);
-    pair_between(alloc, p, g, e, from, event)
+    pair_between(alloc, p, g, e, from, event, steps)
 }

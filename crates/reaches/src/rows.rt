@@ -7,12 +7,14 @@ ghost use Rattle.row_pool.specs.Row.{cells_of};
 ghost use Rattle.solver.specs.Solution.{IsSolved};
 
 use crate::room::new_row;
+use atto::Steps;
 use distances::{row_from, row_to};
 use earliest::Earliest;
 use frontier::Frontier;
 use problem::Problem;
 use row_pool::Cell;
 use std::alloc::{AllocError, Global};
+use std::sync::ledger::Ledger;
 use sync_graph::Graph;
 
 /// The distances from an event and towards it, with a cell for each node.
@@ -26,12 +28,13 @@ pub struct Rows {
 
 /// The rows of an event, which is given by its place in the problem, counted from 0. An error comes only where memory runs
 /// out.
-pub fn rows_of(
+pub fn rows_of<L: Ledger>(
     alloc: Global,
     p: &Problem,
     g: &Graph,
     e: &Earliest,
     event: u32,
+    steps: &mut Steps<L>,
 ) -> Result<Rows, AllocError>
     requires solved { IsSolved p.now g.now e.now }
     requires event { event < length p.now.events }
@@ -44,7 +47,7 @@ pub fn rows_of(
     let mut front = Frontier::with_room(alloc, g.nodes())?;
     let mut from = new_row(alloc, g.nodes())?;
     let mut to = new_row(alloc, g.nodes())?;
-    row_from(g, e, event, &mut from, &mut front);
-    row_to(g, e, event, &mut to, &mut front);
+    row_from(g, e, event, &mut from, &mut front, steps);
+    row_to(g, e, event, &mut to, &mut front, steps);
     Ok(Rows { from, to })
 }

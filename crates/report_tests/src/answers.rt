@@ -1,13 +1,16 @@
-ghost use Rattle.std.specs.Prelude.{◌<◌, ◌↔◌, IsTrue, length};
+ghost use Rattle.std.specs.Prelude.{◌≡◌, ◌<◌, ◌↔◌, IsTrue, length};
 ghost use Rattle.queries.specs.Clocks.{KeepsTime};
 
 use crate::fixtures::CYCLE;
+use atto::Steps;
 use ports::MemSink;
 use problem::{Problem, read_problem};
 use queries::{
     Stop, is_consistent, reading_of, write_interval, write_order, write_proof, write_time,
 };
 use std::alloc::Global;
+use std::marker::Brand;
+use std::sync::ledger::{Blank, Ledger};
 use std::test::*;
 
 // Two logs and two messages, one each way. Events a#1, a#2, b#1 and b#2 have the places 0 to 3.
@@ -307,19 +310,23 @@ fn is_so(out: &MemSink, given: Result<(), Stop>, answer: Result<(), Stop>, writt
 }
 
 // Whether the interval of two events is answered so.
-fn interval_is(
+fn interval_is<L: Ledger>(
     alloc: Global,
     p: &Problem,
     case: &Case,
     fails: &[u32],
     answer: Result<(), Stop>,
     written: &str,
-) -> Option<bool> {
+    blank: Blank,
+) -> Option<bool>
+    requires blank { (blank.name ≡ L.name) × (blank.parts ≡ L.parts) × (0 < L.parts) }
+{
     if !is_event(p, case.from) || !is_event(p, case.to) {
         return None;
     }
     let mut out = MemSink::new(alloc, 600, 7, fails).ok()?;
-    let given = write_interval(alloc, p, case.from, case.to, &mut out);
+    let mut steps = Steps::<L>::open(blank);
+    let given = write_interval(alloc, p, case.from, case.to, &mut out, &mut steps);
     Some(is_so(&out, given, answer, written))
 }
 
@@ -332,23 +339,27 @@ fn interval_so(
     written: &str,
 ) -> Option<bool> {
     let p = read_problem(alloc, case.problem.as_bytes()).ok()?;
-    interval_is(alloc, &p, case, fails, answer, written)
+    interval_is::<Brand>(alloc, &p, case, fails, answer, written, Blank::new(1))
 }
 
 // Whether the order of two events is answered so.
-fn order_is(
+fn order_is<L: Ledger>(
     alloc: Global,
     p: &Problem,
     case: &Case,
     fails: &[u32],
     answer: Result<(), Stop>,
     written: &str,
-) -> Option<bool> {
+    blank: Blank,
+) -> Option<bool>
+    requires blank { (blank.name ≡ L.name) × (blank.parts ≡ L.parts) × (0 < L.parts) }
+{
     if !is_event(p, case.from) || !is_event(p, case.to) {
         return None;
     }
     let mut out = MemSink::new(alloc, 600, 7, fails).ok()?;
-    let given = write_order(alloc, p, case.from, case.to, &mut out);
+    let mut steps = Steps::<L>::open(blank);
+    let given = write_order(alloc, p, case.from, case.to, &mut out, &mut steps);
     Some(is_so(&out, given, answer, written))
 }
 
@@ -361,40 +372,48 @@ fn order_so(
     written: &str,
 ) -> Option<bool> {
     let p = read_problem(alloc, case.problem.as_bytes()).ok()?;
-    order_is(alloc, &p, case, fails, answer, written)
+    order_is::<Brand>(alloc, &p, case, fails, answer, written, Blank::new(1))
 }
 
 // Whether the time of an event is answered so.
-fn time_is(alloc: Global, p: &Problem, case: &Timed) -> Option<bool> {
+fn time_is<L: Ledger>(alloc: Global, p: &Problem, case: &Timed, blank: Blank) -> Option<bool>
+    requires blank { (blank.name ≡ L.name) × (blank.parts ≡ L.parts) × (0 < L.parts) }
+{
     if !is_event(p, case.event) || !keeps_time(p, case.clock) {
         return None;
     }
     let stamp = reading_of(p, case.clock)?;
     let mut out = MemSink::new(alloc, 600, 7, case.fails).ok()?;
-    let given = write_time(alloc, p, case.clock, stamp, case.event, &mut out);
+    let mut steps = Steps::<L>::open(blank);
+    let given = write_time(
+        alloc, p, case.clock, stamp, case.event, &mut out, &mut steps,
+    );
     Some(is_so(&out, given, case.answer, case.written))
 }
 
 // The same of a case by its text.
 fn time_so(alloc: Global, case: &Timed) -> Option<bool> {
     let p = read_problem(alloc, case.problem.as_bytes()).ok()?;
-    time_is(alloc, &p, case)
+    time_is::<Brand>(alloc, &p, case, Blank::new(1))
 }
 
 // Whether the proof of an interval is answered so.
-fn proof_is(alloc: Global, p: &Problem, case: &Proved) -> Option<bool> {
+fn proof_is<L: Ledger>(alloc: Global, p: &Problem, case: &Proved, blank: Blank) -> Option<bool>
+    requires blank { (blank.name ≡ L.name) × (blank.parts ≡ L.parts) × (0 < L.parts) }
+{
     if !is_event(p, case.from) || !is_event(p, case.to) {
         return None;
     }
     let mut out = MemSink::new(alloc, 2000, 7, case.fails).ok()?;
-    let given = write_proof(alloc, p, case.from, case.to, &mut out);
+    let mut steps = Steps::<L>::open(blank);
+    let given = write_proof(alloc, p, case.from, case.to, &mut out, &mut steps);
     Some(is_so(&out, given, case.answer, case.written))
 }
 
 // The same of a case by its text.
 fn proof_so(alloc: Global, case: &Proved) -> Option<bool> {
     let p = read_problem(alloc, case.problem.as_bytes()).ok()?;
-    proof_is(alloc, &p, case)
+    proof_is::<Brand>(alloc, &p, case, Blank::new(1))
 }
 
 // Whether the first event of the clock reads this stamp; none stands for a clock without an event.
@@ -403,9 +422,18 @@ fn reads_so(alloc: Global, problem: &str, clock: u32, stamp: Option<u64>) -> Opt
     Some(reading_of(&p, clock).map(|read| read.get()) == stamp)
 }
 
+// Whether a problem has an execution.
+fn consistent_is<L: Ledger>(alloc: Global, p: &Problem, blank: Blank) -> Option<bool>
+    requires blank { (blank.name ≡ L.name) × (blank.parts ≡ L.parts) × (0 < L.parts) }
+{
+    let mut steps = Steps::<L>::open(blank);
+    is_consistent(alloc, p, &mut steps).ok()
+}
+
+// The same of a problem by its text.
 fn consistent(alloc: Global, problem: &str) -> Option<bool> {
     let p = read_problem(alloc, problem.as_bytes()).ok()?;
-    is_consistent(alloc, &p).ok()
+    consistent_is::<Brand>(alloc, &p, Blank::new(1))
 }
 
 #[test]

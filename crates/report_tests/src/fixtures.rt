@@ -4,10 +4,9 @@ ghost use Rattle.decl.specs.Declaration.{IsDeclaration, declaration_of};
 
 use decl::{Decl, read_decl};
 use event_log::read_rows;
-use pcap_stream::PcapStream;
 use std::alloc::Global;
 use trace_event::{Event, row_events};
-use traces::Accepted;
+use traces::{Accepted, Stream};
 
 // The contradiction of two logs: the way from a#1 to a#2 over host b takes 90 ns at most, and 95 ns by host a's clock.
 pub(crate) const CYCLE: &str =
@@ -28,11 +27,11 @@ pub(crate) fn declared(alloc: Global, text: &[u8]) -> Option<Decl>
 }
 
 // These events, accepted from a piece of so many bytes.
-pub(crate) fn accepted(alloc: Global, events: Vec<Event>, size: u64) -> Accepted {
+pub(crate) fn accepted(events: Vec<Event>, size: u64) -> Accepted {
     Accepted {
         events,
         size,
-        stream: PcapStream::new(alloc),
+        stream: Stream::Log,
     }
 }
 
@@ -43,5 +42,5 @@ pub(crate) fn log_of(alloc: Global, text: &[u8]) -> Option<Accepted> {
     }
     let rows = read_rows(alloc, text).ok()?;
     let events = row_events(alloc, rows).ok()?;
-    Some(accepted(alloc, events, text.len() as u64))
+    Some(accepted(events, text.len() as u64))
 }

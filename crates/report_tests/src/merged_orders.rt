@@ -1,12 +1,16 @@
 // Logs of two hosts, merged.
+ghost use Rattle.std.specs.Prelude.{◌≡◌, ◌<◌};
 ghost use Rattle.decl.specs.Declaration.{IsDeclaration, declaration_of};
 
 use crate::fixtures::{CYCLE, declared, log_of};
+use atto::Steps;
 use decl::Decl;
 use merging::write_merge;
 use ports::MemSink;
 use queries::Stop;
 use std::alloc::Global;
+use std::marker::Brand;
+use std::sync::ledger::{Blank, Ledger};
 use std::test::*;
 use trace_problem::problem_of;
 use traces::{Accepted, event_count, messages_in};
@@ -69,21 +73,24 @@ fn logs_of(alloc: Global, texts: &[&str; 2]) -> Option<Vec<Accepted>> {
     Vec::from_array(alloc, [first, second]).ok()
 }
 
-// Merges what the labels have.
-fn merge(
+// Merges what the labels have, with the steps counted by this ledger.
+fn merge<L: Ledger>(
     alloc: Global,
     decl: &Decl,
     logs: &[Accepted],
     out: &mut MemSink,
+    blank: Blank,
 ) -> Option<Result<(), Stop>>
-    requires { IsDeclaration (declaration_of decl.now) }
+    requires blank { (blank.name ≡ L.name) × (blank.parts ≡ L.parts) × (0 < L.parts) }
+    requires declared { IsDeclaration (declaration_of decl.now) }
 {
     if logs.len() > 65536 || logs.len() != decl.labels.len() || event_count(logs) > 1 << 20 {
         return None;
     }
     let messages = messages_in(alloc, logs).ok()?;
     let p = problem_of(alloc, decl, logs, &messages).ok()?;
-    Some(write_merge(alloc, decl, logs, &p, out))
+    let mut steps = Steps::<L>::open(blank);
+    Some(write_merge(alloc, decl, logs, &p, out, &mut steps))
 }
 
 // Whether logs are answered so over a sink where these writes fail, and written so far.
@@ -97,7 +104,7 @@ fn merged_so(
     let decl = declared(alloc, TWO_LOGS_DECLARATION.as_bytes())?;
     let logs = logs_of(alloc, texts)?;
     let mut out = MemSink::new(alloc, 600, 7, fails).ok()?;
-    let given = merge(alloc, &decl, &logs, &mut out)?;
+    let given = merge::<Brand>(alloc, &decl, &logs, &mut out, Blank::new(1))?;
     Some(given == answer && out.bytes() == written.as_bytes())
 }
 

@@ -4,10 +4,10 @@ ghost use Rattle.std.specs.Prelude.{◌≤◌};
 use crate::fixtures::{EMPTY_REPORT, accepted, declared, log_of};
 use arrayvec::ArrayVec;
 use atto::Nano;
+use captures::Packet;
 use decl::Decl;
 use event_log::WordKey;
 use ip_headers::PacketKey;
-use pcap_stream::Packet;
 use report::report_line;
 use std::alloc::Global;
 use std::test::*;
@@ -166,7 +166,7 @@ fn captured(alloc: Global, decl: &Decl, host: u32, frames: &[Frame]) -> Option<A
 {
     let packets = packets_of(alloc, frames)?;
     let events = packet_events(alloc, decl, host, &packets).ok()?;
-    Some(accepted(alloc, events, 0))
+    Some(accepted(events, 0))
 }
 
 fn traces_of(alloc: Global, decl: &Decl, case: &Case) -> Option<Vec<Accepted>>

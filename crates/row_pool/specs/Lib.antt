@@ -1,2 +1,5 @@
-pub mod Row
+pub mod Pool
 pub mod Reach
+pub mod Region
+pub mod Row
+pub mod Writing

@@ -1,10 +1,12 @@
 -- Replies to lines, one after another.
-use Rattle.std.proofs.Common.{◌≡◌, ℕ, ◌+◌, ◌<◌, ◌≤◌, List, [], ◌∷◌, ◌++◌, length, Bool, false, nat_le, count_by, cond, refl, sym, ◌∙◌, subst, arith, append_assoc, append-nil, codes}
+use Rattle.std.proofs.Common.{◌≡◌, ℕ, ◌+◌, ◌<◌, ◌≤◌, List, [], ◌∷◌, ◌++◌, length, Bool, false, nat_le, count_by, cond, refl, sym, ◌∙◌, subst, arith, append_assoc, append-nil}
 use Rattle.std.specs.List.{concat}
 use Rattle.std.proofs.lemmas.List.Sums.{sum_by-append}
 use Rattle.ports.specs.Files.{Content, FilesTold, Keeps}
 use Rattle.decl.specs.Declaration.{Declaration}
-use Rattle.session.specs.Reply.{State, Found, Unread, refusal}
+use Rattle.session.specs.declared.refusal.Refusal.TheVariants.{NoCommand}
+use Rattle.session.specs.Refusals.{refusal_line}
+use Rattle.session.specs.Reply.{State, Found, Unread}
 use Rattle.session.specs.Sessions.{Session, LineReply, AreCounted, is_failed, is_absent}
 use Rattle.session.specs.Stands.{Held, Stepped}
 
@@ -80,10 +82,10 @@ not_short : (n : ℕ) → 4096 < n → nat_le n 4096 ≡ false
 not_short n long = grind (arith, long)
 
 -- a line that is too long is refused
-pub long_refused : (d : Declaration) (files : Content) (s : State) (line : List ℕ) → 4096 < length line → LineReply d files s line Unread (refusal (codes "20" ∷ [])) s
+pub long_refused : (d : Declaration) (files : Content) (s : State) (line : List ℕ) → 4096 < length line → LineReply d files s line Unread (refusal_line NoCommand) s
 long_refused d files s line long = rw (not_short (length line) long) (refl, (refl, refl))
 
 pub long_stepped : (files : FilesTold) (held : Held) (line : List ℕ) (IsWritten : List ℕ → Type 0) → 4096 < length line →
-    IsWritten (refusal (codes "20" ∷ [])) → Stepped line files files held held IsWritten
+    IsWritten (refusal_line NoCommand) → Stepped line files files held held IsWritten
 long_stepped files held line IsWritten long written =
-    λ d s stands. (Unread, refusal (codes "20" ∷ []), s, long_refused d files.content s line long, written, counted_unread files, stands)
+    λ d s stands. (Unread, refusal_line NoCommand, s, long_refused d files.content s line long, written, counted_unread files, stands)

@@ -10,20 +10,23 @@ ghost use Rattle.script.specs.Script.{ScriptAnswered, devices};
 ghost use Rattle.script.specs.Turns.{AnswersLine, HasNoReply};
 
 use crate::Ended;
+use atto::Steps;
 use decl::Decl;
 use line_reader::{Line, LineFault, LineReader, LineText};
 use ports::{Files, Sink, Source};
 use session::Session;
 use std::alloc::Global;
+use std::sync::ledger::Ledger;
 
 // Reads a line, and writes its reply.
-fn answer_line<F: Files, I: Source, O: Sink>(
+fn answer_line<F: Files, I: Source, O: Sink, L: Ledger>(
     session: &mut Session,
     reader: &mut LineReader,
     line: &mut LineText,
     files: &mut F,
     input: &mut I,
     out: &mut O,
+    steps: &mut Steps<L>,
 ) -> Result<(), Ended>
     requires { reader.old.over ≡ false }
     ensures ok { OnOk result (AnswersLine session.old session.new reader.old reader.new
@@ -37,7 +40,7 @@ fn answer_line<F: Files, I: Source, O: Sink>(
     ensures no_fall { ((I.told input.old).faults ≤ (I.told input.new).faults) × ((O.told out.old).faults ≤ (O.told out.new).faults) }
 {
     match reader.next_line(input, line) {
-        Ok(Line::Text) => Ok(session.step(line.as_slice(), files, out)?),
+        Ok(Line::Text) => Ok(session.step(line.as_slice(), files, out, steps)?),
         Ok(Line::TooLong) => Ok(session.too_long(out)?),
         Ok(Line::End) => Err(Ended::Done),
         Err(LineFault::Read) => Err(Ended::ReadFault),
@@ -46,12 +49,13 @@ fn answer_line<F: Files, I: Source, O: Sink>(
 }
 
 // Answers the lines of a script until one gets no reply.
-fn answer_lines<F: Files, I: Source, O: Sink>(
+fn answer_lines<F: Files, I: Source, O: Sink, L: Ledger>(
     session: &mut Session,
     reader: &mut LineReader,
     files: &mut F,
     input: &mut I,
     out: &mut O,
+    steps: &mut Steps<L>,
 ) -> Ended
     requires { reader.old ≡ fresh }
     ensures ended { (d : Declaration) → StandsFor session.old d (start d) → ScriptAnswered d
@@ -61,7 +65,7 @@ fn answer_lines<F: Files, I: Source, O: Sink>(
 {
     let mut line = LineText::new();
     loop {
-        if let Err(ended) = answer_line(session, reader, &mut line, files, input, out) {
+        if let Err(ended) = answer_line(session, reader, &mut line, files, input, out, steps) {
             return ended;
         }
     }
@@ -75,12 +79,13 @@ fn answer_lines<F: Files, I: Source, O: Sink>(
 /// could not be read on, and `Limit` where it has more than 2^30 bytes, when each line that is whole before that has its
 /// reply, and nothing else is written; `WriteFault` where a write failed, when a front of the replies to the first lines is
 /// written; `Memory` where memory ran out. A file that cannot be read is a reply, and no end.
-pub fn answer_script<F: Files, I: Source, O: Sink>(
+pub fn answer_script<F: Files, I: Source, O: Sink, L: Ledger>(
     alloc: Global,
     decl: Decl,
     files: &mut F,
     input: &mut I,
     out: &mut O,
+    steps: &mut Steps<L>,
 ) -> Ended
     requires { IsDeclaration (declaration_of decl) }
     ensures ended { ScriptAnswered (declaration_of decl)
@@ -91,7 +96,7 @@ pub fn answer_script<F: Files, I: Source, O: Sink>(
     match Session::new(alloc, decl) {
         Ok(mut session) => {
             let mut reader = LineReader::new();
-            answer_lines(&mut session, &mut reader, files, input, out)
+            answer_lines(&mut session, &mut reader, files, input, out, steps)
         }
         Err(_) => Ended::Memory,
     }

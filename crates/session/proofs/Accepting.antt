@@ -1,24 +1,24 @@
 -- Events that are accepted under a label.
-use Rattle.std.proofs.Common.{◌≡◌, ◌≢◌, ◌⊎◌, inl, inr, ℕ, zero, suc, ◌+◌, ◌-◌, ◌^◌, ◌<◌, List, [], ◌∷◌, ◌++◌, length, map, slice_get, slice_set, Some, Bool, true, false, nat_le, option_map, codes, refl, sym, ◌∙◌, ap, subst, arith, MatchBool, length-set}
+use Rattle.std.proofs.Common.{◌≡◌, ◌≢◌, ◌⊎◌, inl, inr, ℕ, zero, suc, ◌+◌, ◌-◌, ◌^◌, ◌<◌, List, [], ◌∷◌, ◌++◌, length, map, slice_get, slice_set, Some, Bool, true, false, nat_le, option_map, refl, sym, ◌∙◌, ap, subst, arith, MatchBool, length-set}
 use Rattle.std.proofs.lemmas.Option.{slice_get-map}
 use Rattle.std.proofs.Math.Seq.{map-set}
 use Rattle.problem_model.specs.Problem.{ProblemLists}
-use Rattle.pcap_stream.specs.Capture as captures
-use Rattle.pcap_stream.specs.Feeding as feeding
-use Rattle.pcap_stream.specs.Feeding.{Tail}
 use Rattle.decl.specs.declared.items.Label.{Label}
 use Rattle.decl.specs.Declaration.{Declaration}
 use Rattle.trace_event.specs.Seen.{Seen}
 use Rattle.traces.specs.declared.accepted.Accepted.{Accepted}
+use Rattle.traces.specs.declared.accepted.Stream.{Stream}
 use Rattle.traces.specs.Held.{seen_in}
-use Rattle.traces.specs.Traces.{Trace, Captured, Traces, size_of, seen_of, seen_under, seen_by, IsOfKind, event_count, events_of}
+use Rattle.traces.specs.Traces.{Trace, Traces, size_of, seen_of, seen_under, seen_by, IsOfKind, event_count, events_of}
 use Rattle.traces.specs.Messages.{messages_of, missing, problem_of, problem_of_seen}
 use Rattle.trace_match.specs.declared.matcher.Changed.{Changed}
 use Rattle.trace_match.specs.Ends.{End, AreEndsOf, IsChange}
 use Rattle.queries.specs.Consistent.{IsConsistent}
-use Rattle.session.specs.Reply.{State, IsAdded, added_line, count_by, messages_by, pending_of, refusal}
-use Rattle.session.specs.Stands.{Held, Under, IsHeld, StandsFor, held_of, under_of, problem_held, seen_held}
-use Rattle.session.specs.Inside.{AcceptAnswered, HasPlace, IsTailWithin, IsAddedTo, IsGrownAt, IsGrownTrace, grown}
+use Rattle.session.specs.declared.refusal.Refusal.TheVariants.{TooManyEvents}
+use Rattle.session.specs.Refusals.{refusal_line}
+use Rattle.session.specs.Reply.{State, IsAdded, added_line, count_by, messages_by, pending_of}
+use Rattle.session.specs.Stands.{Held, Under, IsHeld, StandsFor, held_of, under_of, problem_held, seen_held, waiting, IsStreamOf}
+use Rattle.session.specs.Inside.{AcceptAnswered, HasPlace, IsStreamWithin, IsAddedTo, IsGrownAt, IsGrownTrace, grown}
 use Rattle.session.proofs.Telling.{Told}
 use Rattle.session.proofs.Holding.{count_grown, held_grown, room_by, room_few, seen_accepted, some_same, there_some}
 
@@ -54,8 +54,8 @@ seen_set d (l ∷ labels) (t ∷ traces) zero label new at = ap (λ (x : Label).
 seen_set d (l ∷ labels) (t ∷ traces) (suc k) label new at = ap (λ (more : List (List Seen)). seen_of d l.host t ∷ more) (seen_set d labels traces k label new at)
 
 -- ---- a trace that grew
-module _ (held : Held) (d : Declaration) (s : State) (k : ℕ) (label : Label) (old new : Trace) (events : List Seen) (size : ℕ) (tail : Tail) (stands : StandsFor held d s) (at_label : slice_get d.labels k ≡ Some label)
-    (at_old : slice_get s.traces k ≡ Some old) (g : IsGrownTrace d label.host label.kind old new events size tail) where
+module _ (held : Held) (d : Declaration) (s : State) (k : ℕ) (label : Label) (old new : Trace) (events : List Seen) (size : ℕ) (stream : Stream) (stands : StandsFor held d s) (at_label : slice_get d.labels k ≡ Some label)
+    (at_old : slice_get s.traces k ≡ Some old) (g : IsGrownTrace d label.host label.kind old new events size stream) where
   events_are : (u : Under) → slice_get held.under k ≡ Some u → u.events ≡ seen_of d label.host old
   events_are u was =
       let had : slice_get (seen_held held.under) k ≡ Some u.events = slice_get-map (λ (x : Under). x.events) held.under k ∙ ap (option_map (λ (x : Under). x.events)) was in
@@ -69,17 +69,17 @@ module _ (held : Held) (d : Declaration) (s : State) (k : ℕ) (label : Label) (
       let also : slice_get (map f held.under) k ≡ Some (size_of old) = ap (λ (x : List ℕ). slice_get x k) stands.sizes ∙ slice_get-map size_of s.traces k ∙ ap (option_map size_of) at_old in
       some_same u.size (size_of old) (sym had ∙ also)
 
-  seen_then : (u : Under) → slice_get held.under k ≡ Some u → seen_by d (slice_set s.traces k new) ≡ seen_held (slice_set held.under k (grown u events size tail))
+  seen_then : (u : Under) → slice_get held.under k ≡ Some u → seen_by d (slice_set s.traces k new) ≡ seen_held (slice_set held.under k (grown u events size stream))
   seen_then u was =
       seen_set d d.labels s.traces k label new at_label
       ∙ ap (λ (x : List Seen). slice_set (seen_by d s.traces) k x) (g.events ∙ ap (λ (x : List Seen). x ++ events) (sym (events_are u was)))
       ∙ ap (λ (x : List (List Seen)). slice_set x k (u.events ++ events)) (sym stands.events)
-      ∙ sym (map-set (λ (x : Under). x.events) held.under k (grown u events size tail))
+      ∙ sym (map-set (λ (x : Under). x.events) held.under k (grown u events size stream))
 
-  sizes_then : (u : Under) → slice_get held.under k ≡ Some u → map (λ (x : Under). x.size) (slice_set held.under k (grown u events size tail)) ≡ map size_of (slice_set s.traces k new)
+  sizes_then : (u : Under) → slice_get held.under k ≡ Some u → map (λ (x : Under). x.size) (slice_set held.under k (grown u events size stream)) ≡ map size_of (slice_set s.traces k new)
   sizes_then u was =
       let f = λ (x : Under). x.size in
-      map-set f held.under k (grown u events size tail)
+      map-set f held.under k (grown u events size stream)
       ∙ ap (λ (x : List ℕ). slice_set x k (u.size + size)) stands.sizes
       ∙ ap (λ (n : ℕ). slice_set (map size_of s.traces) k n) (ap (λ (n : ℕ). n + size) (size_is u was) ∙ sym g.size)
       ∙ sym (map-set size_of s.traces k new)
@@ -87,7 +87,7 @@ module _ (held : Held) (d : Declaration) (s : State) (k : ℕ) (label : Label) (
   count_then : k < length held.under → count_by d (slice_set s.traces k new) ≡ event_count (seen_held held.under) + length events
   count_then inside =
       let u = there_some held.under k inside in
-      ap event_count (seen_then u.0 u.1) ∙ count_grown held.under k u.0 events size tail u.1
+      ap event_count (seen_then u.0 u.1) ∙ count_grown held.under k u.0 events size stream u.1
 
   room_is : (b : Bool) → k < length held.under → nat_le (event_count (seen_held held.under) + length events) (2 ^ 20) ≡ b → nat_le (count_by d (slice_set s.traces k new)) (2 ^ 20) ≡ b
   room_is b inside room = ap (λ (n : ℕ). nat_le n (2 ^ 20)) (count_then inside) ∙ room
@@ -104,30 +104,31 @@ module _ (held : Held) (d : Declaration) (s : State) (k : ℕ) (label : Label) (
       let same : label ≡ l = some_same label l (sym at_label ∙ subst (λ (i : ℕ). slice_get d.labels i ≡ Some l) is.0 at_l) in
       subst (λ (x : Trace). IsOfKind l.kind x) (sym is.1) (subst (λ (x : Label). IsOfKind x.kind new) same g.of_kind)
 
-  tail_of : (u : Under) (j : ℕ) (v : Under) (bytes : List ℕ) (capture : captures.Capture) → ((j ≡ k) × (v ≡ grown u events size tail)) ⊎ ((j ≢ k) × (slice_get held.under j ≡ Some v)) →
-      ((j ≡ k) × (Captured bytes capture ≡ new)) ⊎ ((j ≢ k) × (slice_get s.traces j ≡ Some (Captured bytes capture))) → feeding.StandsFor v.tail bytes capture
-  tail_of u j v bytes capture (inl p) (inl q) = subst (λ (t : Tail). feeding.StandsFor t bytes capture) (ap (λ (x : Under). x.tail) (sym p.1)) (g.tail bytes capture (sym q.1))
-  tail_of u j v bytes capture (inl p) (inr q) = absurd (q.0 p.0)
-  tail_of u j v bytes capture (inr p) (inl q) = absurd (p.0 q.0)
-  tail_of u j v bytes capture (inr p) (inr q) = stands.tails j v bytes capture p.1 q.1
+  stream_of : (u : Under) (j : ℕ) (v : Under) (t : Trace) → ((j ≡ k) × (v ≡ grown u events size stream)) ⊎ ((j ≢ k) × (slice_get held.under j ≡ Some v)) →
+      ((j ≡ k) × (t ≡ new)) ⊎ ((j ≢ k) × (slice_get s.traces j ≡ Some t)) → IsStreamOf v.stream t
+  stream_of u j v t (inl p) (inl q) =
+      subst (λ (x : Under). IsStreamOf x.stream t) (sym p.1) (subst (λ (x : Trace). IsStreamOf stream x) (sym q.1) g.stream)
+  stream_of u j v t (inl p) (inr q) = absurd (q.0 p.0)
+  stream_of u j v t (inr p) (inl q) = absurd (p.0 q.0)
+  stream_of u j v t (inr p) (inr q) = stands.streams j v t p.1 q.1
 
-  stands_then : (held' : Held) → held'.declaration ≡ held.declaration → IsGrownAt held.under held'.under k events size tail → StandsFor held' d (record s { traces = slice_set s.traces k new })
+  stands_then : (held' : Held) → held'.declaration ≡ held.declaration → IsGrownAt held.under held'.under k events size stream → StandsFor held' d (record s { traces = slice_set s.traces k new })
   stands_then held' same grew =
-      let set = slice_set held.under k (grown grew.at events size tail) in
+      let set = slice_set held.under k (grown grew.at events size stream) in
       record {
         declaration = same ∙ stands.declaration;
         labels = length-set s.traces k new ∙ stands.labels;
         kinds = λ j l t at_l at_t. kind_of j l t at_l (set_or_same s.traces k j new t at_t);
         events = ap seen_held grew.is ∙ sym (seen_then grew.at grew.was);
         sizes = ap (λ (us : List Under). map (λ (x : Under). x.size) us) grew.is ∙ sizes_then grew.at grew.was;
-        tails = λ j v bytes capture at_v at_t. tail_of grew.at j v bytes capture
-            (set_or_same held.under k j (grown grew.at events size tail) v (ap (λ (us : List Under). slice_get us j) (sym grew.is) ∙ at_v))
-            (set_or_same s.traces k j new (Captured bytes capture) at_t);
+        streams = λ j v t at_v at_t. stream_of grew.at j v t
+            (set_or_same held.under k j (grown grew.at events size stream) v (ap (λ (us : List Under). slice_get us j) (sym grew.is) ∙ at_v))
+            (set_or_same s.traces k j new t at_t);
         kept = stands.kept;
       }
 
   added_then : (held' : Held) (p : ProblemLists) (changed : Changed) (text : List ℕ) → k < length held.under → held'.declaration ≡ held.declaration → p ≡ problem_held held' →
-      IsChange (seen_held held.under) (seen_held held'.under) changed → IsGrownAt held.under held'.under k events size tail → IsAddedTo p changed (length events) (length tail.rest) text →
+      IsChange (seen_held held.under) (seen_held held'.under) changed → IsGrownAt held.under held'.under k events size stream → IsAddedTo p changed (length events) (waiting stream) text →
       IsAdded d s.traces (slice_set s.traces k new) (pending_of new) text
   added_then held' p changed text inside same p_is change grew says =
       let traces = slice_set s.traces k new in
@@ -142,29 +143,29 @@ module _ (held : Held) (d : Declaration) (s : State) (k : ℕ) (label : Label) (
         says.0,
         subst (λ (q : ProblemLists). IsConsistent q says.0) problem says.1,
         says.2
-            ∙ ap (λ (n : ℕ). added_line n changed.messages changed.withdrawn (length tail.rest) says.0) (more_is inside)
-            ∙ ap (λ (n : ℕ). added_line (count_by d traces - count_by d s.traces) n changed.withdrawn (length tail.rest) says.0) came
-            ∙ ap (λ (n : ℕ). added_line (count_by d traces - count_by d s.traces) (missing (messages_by d traces) (messages_by d s.traces)) n (length tail.rest) says.0) went
+            ∙ ap (λ (n : ℕ). added_line n changed.messages changed.withdrawn (waiting stream) says.0) (more_is inside)
+            ∙ ap (λ (n : ℕ). added_line (count_by d traces - count_by d s.traces) n changed.withdrawn (waiting stream) says.0) came
+            ∙ ap (λ (n : ℕ). added_line (count_by d traces - count_by d s.traces) (missing (messages_by d traces) (messages_by d s.traces)) n (waiting stream) says.0) went
             ∙ ap (λ (n : ℕ). added_line (count_by d traces - count_by d s.traces) (missing (messages_by d traces) (messages_by d s.traces)) (missing (messages_by d s.traces) (messages_by d traces)) n says.0) g.waits,
       )
 
 -- ---- the replies
-pub accept_refused : (held : Held) (k : ℕ) (events : List Seen) (size : ℕ) (tail : Tail) (IsWritten : List ℕ → Type 0) → k < length held.under →
-    nat_le (event_count (seen_held held.under) + length events) (2 ^ 20) ≡ false → IsWritten (refusal (codes "27" ∷ [])) → AcceptAnswered held held k events size tail IsWritten
-accept_refused held k events size tail IsWritten inside room written d s label old new stands at_label at_old g =
-    (_, s, choose _ false _ _ (room_is held d s k label old new events size tail stands at_label at_old g false inside room) (refl, refl), written, stands)
+pub accept_refused : (held : Held) (k : ℕ) (events : List Seen) (size : ℕ) (stream : Stream) (IsWritten : List ℕ → Type 0) → k < length held.under →
+    nat_le (event_count (seen_held held.under) + length events) (2 ^ 20) ≡ false → IsWritten (refusal_line TooManyEvents) → AcceptAnswered held held k events size stream IsWritten
+accept_refused held k events size stream IsWritten inside room written d s label old new stands at_label at_old g =
+    (_, s, choose _ false _ _ (room_is held d s k label old new events size stream stands at_label at_old g false inside room) (refl, refl), written, stands)
 
-pub accept_added : (held held' : Held) (k : ℕ) (events : List Seen) (size : ℕ) (tail : Tail) (p : ProblemLists) (changed : Changed) (IsWritten : List ℕ → Type 0) → k < length held.under →
+pub accept_added : (held held' : Held) (k : ℕ) (events : List Seen) (size : ℕ) (stream : Stream) (p : ProblemLists) (changed : Changed) (IsWritten : List ℕ → Type 0) → k < length held.under →
     nat_le (event_count (seen_held held.under) + length events) (2 ^ 20) ≡ true → held'.declaration ≡ held.declaration → p ≡ problem_held held' →
-    IsChange (seen_held held.under) (seen_held held'.under) changed → IsGrownAt held.under held'.under k events size tail →
-    Told (IsAddedTo p changed (length events) (length tail.rest)) IsWritten → AcceptAnswered held held' k events size tail IsWritten
-accept_added held held' k events size tail p changed IsWritten inside room same p_is change grew says d s label old new stands at_label at_old g = (
+    IsChange (seen_held held.under) (seen_held held'.under) changed → IsGrownAt held.under held'.under k events size stream →
+    Told (IsAddedTo p changed (length events) (waiting stream)) IsWritten → AcceptAnswered held held' k events size stream IsWritten
+accept_added held held' k events size stream p changed IsWritten inside room same p_is change grew says d s label old new stands at_label at_old g = (
   says.0,
   record s { traces = slice_set s.traces k new },
-  choose _ true _ _ (room_is held d s k label old new events size tail stands at_label at_old g true inside room)
-      (refl, added_then held d s k label old new events size tail stands at_label at_old g held' p changed says.0 inside same p_is change grew says.1),
+  choose _ true _ _ (room_is held d s k label old new events size stream stands at_label at_old g true inside room)
+      (refl, added_then held d s k label old new events size stream stands at_label at_old g held' p changed says.0 inside same p_is change grew says.1),
   says.2,
-  stands_then held d s k label old new events size tail stands at_label at_old g held' same grew,
+  stands_then held d s k label old new events size stream stands at_label at_old g held' same grew,
 )
 
 -- the line of an addition, by what was found out for it
@@ -174,36 +175,36 @@ added_says p changed b events new gone pending line consistent new_is gone_is li
     (b, consistent, line_is ∙ ap (λ (n : ℕ). added_line events n gone pending b) new_is ∙ ap (λ (n : ℕ). added_line events changed.messages n pending b) gone_is)
 
 -- ---- the same by what the code holds
-pub refused_in : (d : Declaration) (accepted : List Accepted) (held : Held) (k n : ℕ) (events : List Seen) (size : ℕ) (tail : Tail) (r : Bool) (IsWritten : List ℕ → Type 0) → held_of d accepted ≡ held →
-    k < length held.under → n ≡ length events → r ≡ nat_le (event_count (seen_in accepted) + n) (2 ^ 20) → r ≡ false → IsWritten (refusal (codes "27" ∷ [])) →
-    AcceptAnswered held held k events size tail IsWritten
-refused_in d accepted held k n events size tail r IsWritten same inside n_is r_is full written =
-    let P : Held → Type 0 = λ h. k < length h.under → AcceptAnswered h h k events size tail IsWritten in
+pub refused_in : (d : Declaration) (accepted : List Accepted) (held : Held) (k n : ℕ) (events : List Seen) (size : ℕ) (stream : Stream) (r : Bool) (IsWritten : List ℕ → Type 0) → held_of d accepted ≡ held →
+    k < length held.under → n ≡ length events → r ≡ nat_le (event_count (seen_in accepted) + n) (2 ^ 20) → r ≡ false → IsWritten (refusal_line TooManyEvents) →
+    AcceptAnswered held held k events size stream IsWritten
+refused_in d accepted held k n events size stream r IsWritten same inside n_is r_is full written =
+    let P : Held → Type 0 = λ h. k < length h.under → AcceptAnswered h h k events size stream IsWritten in
     let room = room_by accepted (length events) r false (r_is ∙ ap (λ (m : ℕ). nat_le (event_count (seen_in accepted) + m) (2 ^ 20)) n_is) full in
-    subst P same (λ within. accept_refused (held_of d accepted) k events size tail IsWritten within room written) inside
+    subst P same (λ within. accept_refused (held_of d accepted) k events size stream IsWritten within room written) inside
 
 -- what was found out of an addition of events to what the code holds
-pub record Extended (d : Declaration) (accepted new : List Accepted) (held : Held) (k : ℕ) (events : List Seen) (size : ℕ) (tail : Tail) : Type 0 where
+pub record Extended (d : Declaration) (accepted new : List Accepted) (held : Held) (k : ℕ) (events : List Seen) (size : ℕ) (stream : Stream) : Type 0 where
   pub same : held_of d accepted ≡ held
   pub inside : k < length held.under
   pub place : HasPlace held.under k size
-  pub within : IsTailWithin held.under k size tail
+  pub within : IsStreamWithin held.under k size stream
   pub room : nat_le (event_count (seen_in accepted) + length events) (2 ^ 20) ≡ true
-  pub grew : IsGrownAt (map under_of accepted) (map under_of new) k events size tail
+  pub grew : IsGrownAt (map under_of accepted) (map under_of new) k events size stream
 
-pub extended : (d : Declaration) (accepted seen taken new : List Accepted) (held : Held) (k n : ℕ) (events : List Seen) (size : ℕ) (tail : Tail) (r : Bool) → held_of d accepted ≡ held → k < length held.under →
-    HasPlace held.under k size → IsTailWithin held.under k size tail → seen ≡ accepted → n ≡ length events → r ≡ nat_le (event_count (seen_in seen) + n) (2 ^ 20) → r ≡ true → taken ≡ accepted →
-    IsGrownAt (map under_of taken) (map under_of new) k events size tail → Extended d accepted new held k events size tail
-extended d accepted seen taken new held k n events size tail r same inside place within seen_is n_is r_is fit taken_is grew = record {
+pub extended : (d : Declaration) (accepted seen taken new : List Accepted) (held : Held) (k n : ℕ) (events : List Seen) (size : ℕ) (stream : Stream) (r : Bool) → held_of d accepted ≡ held → k < length held.under →
+    HasPlace held.under k size → IsStreamWithin held.under k size stream → seen ≡ accepted → n ≡ length events → r ≡ nat_le (event_count (seen_in seen) + n) (2 ^ 20) → r ≡ true → taken ≡ accepted →
+    IsGrownAt (map under_of taken) (map under_of new) k events size stream → Extended d accepted new held k events size stream
+extended d accepted seen taken new held k n events size stream r same inside place within seen_is n_is r_is fit taken_is grew = record {
   same = same;
   inside = inside;
   place = place;
   within = within;
   room = ap (λ (m : ℕ). nat_le (event_count (seen_in accepted) + m) (2 ^ 20)) (sym n_is) ∙ ap (λ (l : List Accepted). nat_le (event_count (seen_in l) + n) (2 ^ 20)) (sym seen_is) ∙ sym r_is ∙ fit;
-  grew = subst (λ (l : List Accepted). IsGrownAt (map under_of l) (map under_of new) k events size tail) taken_is grew;
+  grew = subst (λ (l : List Accepted). IsGrownAt (map under_of l) (map under_of new) k events size stream) taken_is grew;
 }
 
-module _ (d : Declaration) (accepted new : List Accepted) (held : Held) (k : ℕ) (events : List Seen) (size : ℕ) (tail : Tail) (e : Extended d accepted new held k events size tail) where
+module _ (d : Declaration) (accepted new : List Accepted) (held : Held) (k : ℕ) (events : List Seen) (size : ℕ) (stream : Stream) (e : Extended d accepted new held k events size stream) where
   inside_is : k < length (map under_of accepted)
   inside_is = let P : Held → Type 0 = λ h. k < length h.under in subst P (sym e.same) e.inside
 
@@ -213,20 +214,20 @@ module _ (d : Declaration) (accepted new : List Accepted) (held : Held) (k : ℕ
   held_extended : IsHeld (held_of d accepted) → IsHeld (held_of d new)
   held_extended is =
       let P : Held → Type 0 = λ h. HasPlace h.under k size in
-      let Q : Held → Type 0 = λ h. IsTailWithin h.under k size tail in
-      held_grown (held_of d accepted) (held_of d new) k events size tail is (subst P (sym e.same) e.place) (subst Q (sym e.same) e.within) (room_few (map under_of accepted) (length events) has_room) refl e.grew
+      let Q : Held → Type 0 = λ h. IsStreamWithin h.under k size stream in
+      held_grown (held_of d accepted) (held_of d new) k events size stream is (subst P (sym e.same) e.place) (subst Q (sym e.same) e.within) (room_few (map under_of accepted) (length events) has_room) refl e.grew
 
   pub whole_extended : (then : List Accepted) (ends : List End) → then ≡ new → IsHeld (held_of d accepted) → AreEndsOf ends (seen_in new) → IsHeld (held_of d then) × AreEndsOf ends (seen_in then)
   whole_extended then ends is held are =
       (subst (λ (l : List Accepted). IsHeld (held_of d l)) (sym is) (held_extended held), subst (λ (l : List Accepted). AreEndsOf ends (seen_in l)) (sym is) are)
 
   pub added_in : (p : ProblemLists) (changed : Changed) (n pending : ℕ) (IsWritten : List ℕ → Type 0) → p ≡ problem_held (held_of d new) → IsChange (seen_in accepted) (seen_in new) changed →
-      n ≡ length events → pending ≡ length tail.rest → Told (IsAddedTo p changed n pending) IsWritten → AcceptAnswered held (held_of d new) k events size tail IsWritten
+      n ≡ length events → pending ≡ waiting stream → Told (IsAddedTo p changed n pending) IsWritten → AcceptAnswered held (held_of d new) k events size stream IsWritten
   added_in p changed n pending IsWritten p_is change n_is pending_is says =
-      let P : Held → Type 0 = λ h. AcceptAnswered h (held_of d new) k events size tail IsWritten in
+      let P : Held → Type 0 = λ h. AcceptAnswered h (held_of d new) k events size stream IsWritten in
       let from_old : IsChange (seen_held (map under_of accepted)) (seen_in new) changed = subst (λ (x : List (List Seen)). IsChange x (seen_in new) changed) (sym (seen_accepted accepted)) change in
       let to_new : IsChange (seen_held (map under_of accepted)) (seen_held (map under_of new)) changed =
       subst (λ (x : List (List Seen)). IsChange (seen_held (map under_of accepted)) x changed) (sym (seen_accepted new)) from_old in
       let said = subst (λ (m : ℕ). Told (IsAddedTo p changed m pending) IsWritten) n_is says in
       let waits = subst (λ (m : ℕ). Told (IsAddedTo p changed (length events) m) IsWritten) pending_is said in
-      subst P e.same (accept_added (held_of d accepted) (held_of d new) k events size tail p changed IsWritten inside_is has_room refl p_is to_new e.grew waits)
+      subst P e.same (accept_added (held_of d accepted) (held_of d new) k events size stream p changed IsWritten inside_is has_room refl p_is to_new e.grew waits)

@@ -6,15 +6,18 @@ use Rattle.std.proofs.lemmas.List.{length-map}
 use Rattle.std.proofs.lemmas.List.Elements.{All-head, All-tail}
 use Rattle.std.proofs.lemmas.Option.{slice_get-map, slice_get-get_or, slice_get_within, get_or_from_slice_get}
 use Rattle.std.proofs.Math.Seq.{map-set}
-use Rattle.pcap_stream.specs.Feeding.{Tail}
+use Rattle.captures.specs.Feeding.{taken}
 use Rattle.trace_event.specs.Seen.{Seen, seen_event, seen_events}
 use Rattle.traces.specs.Traces.{event_count, numbered}
 use Rattle.traces.specs.Held.{seen_in}
 use Rattle.trace_match.specs.Ends.{End, ends_of, AreEndsOf}
 use Rattle.traces.specs.declared.accepted.Accepted.{Accepted}
+use Rattle.traces.specs.declared.accepted.Stream.{Stream}
+use Rattle.traces.specs.declared.accepted.Stream.TheVariants as streams
 use Rattle.decl.specs.Declaration.{Declaration}
-use Rattle.session.specs.Stands.{Under, Held, IsUnder, IsHeld, held_of, under_of}
-use Rattle.session.specs.Inside.{HasPlace, IsGrownAt, IsTailWithin, grown}
+use Rattle.session.specs.Stands.{Under, Held, IsUnder, IsHeld, IsWithin, held_of, under_of}
+use Rattle.session.specs.Inside.{HasPlace, IsGrownAt, IsStreamWithin, grown}
+use Rattle.session.specs.Pieces.{HasPlaceFor, SaysEvents}
 use Rattle.session.proofs.Holding.{some_same}
 
 pub in_err : {V E : Type 0} (r : Result V E) (P : Type 0) → P → OnErr r P
@@ -24,9 +27,9 @@ in_err (Err e) P p = p
 at_place : (accepted : List Accepted) (k : ℕ) (a : Accepted) → slice_get accepted k ≡ Some a → slice_get (map under_of accepted) k ≡ Some (under_of a)
 at_place accepted k a at_k = slice_get-map under_of accepted k ∙ ap (option_map under_of) at_k
 
-pub grown_at : (accepted : List Accepted) (k : ℕ) (a new : Accepted) (events : List Seen) (size : ℕ) (tail : Tail) → slice_get accepted k ≡ Some a →
-    under_of new ≡ grown (under_of a) events size tail → IsGrownAt (map under_of accepted) (map under_of (slice_set accepted k new)) k events size tail
-grown_at accepted k a new events size tail at_k is = record {
+pub grown_at : (accepted : List Accepted) (k : ℕ) (a new : Accepted) (events : List Seen) (size : ℕ) (stream : Stream) → slice_get accepted k ≡ Some a →
+    under_of new ≡ grown (under_of a) events size stream → IsGrownAt (map under_of accepted) (map under_of (slice_set accepted k new)) k events size stream
+grown_at accepted k a new events size stream at_k is = record {
   at = under_of a;
   was = at_place accepted k a at_k;
   is = map-set under_of accepted k new ∙ ap (λ (u : Under). slice_set (map under_of accepted) k u) is;
@@ -37,18 +40,18 @@ kept_at [] k a new at_k is = absurd cc
 kept_at (x ∷ accepted) zero a new at_k is = ap (λ (u : Under). u ∷ map under_of accepted) (is ∙ ap under_of (sym (some_same x a at_k)))
 kept_at (x ∷ accepted) (suc k) a new at_k is = ap (λ (more : List Under). under_of x ∷ more) (kept_at accepted k a new at_k is)
 
-under_with : List Seen → ℕ → Tail → Under
-under_with events size tail = record { events = events; size = size; tail = tail }
+under_with : List Seen → ℕ → Stream → Under
+under_with events size stream = record { events = events; size = size; stream = stream }
 
--- the same by the events, the size and the tail
-pub grown_by : (accepted : List Accepted) (k : ℕ) (a new : Accepted) (events : List Seen) (size : ℕ) (tail : Tail) → slice_get accepted k ≡ Some a →
-    seen_events new.events.items ≡ seen_events a.events.items ++ events → new.size ≡ a.size + size → new.stream ≡ tail →
-    IsGrownAt (map under_of accepted) (map under_of (slice_set accepted k new)) k events size tail
+-- the same by the events, the size and the stream
+pub grown_by : (accepted : List Accepted) (k : ℕ) (a new : Accepted) (events : List Seen) (size : ℕ) (stream : Stream) → slice_get accepted k ≡ Some a →
+    seen_events new.events.items ≡ seen_events a.events.items ++ events → new.size ≡ a.size + size → new.stream ≡ stream →
+    IsGrownAt (map under_of accepted) (map under_of (slice_set accepted k new)) k events size stream
 unfolding under_with
-grown_by accepted k a new events size tail at_k events_are size_is tail_is =
-    grown_at accepted k a new events size tail at_k
+grown_by accepted k a new events size stream at_k events_are size_is tail_is =
+    grown_at accepted k a new events size stream at_k
     (ap (λ (es : List Seen). under_with es new.size new.stream) events_are ∙ ap (λ (n : ℕ). under_with (seen_events a.events.items ++ events) n new.stream) size_is
-    ∙ ap (λ (t : Tail). under_with (seen_events a.events.items ++ events) (a.size + size) t) tail_is)
+    ∙ ap (λ (t : Stream). under_with (seen_events a.events.items ++ events) (a.size + size) t) tail_is)
 
 pub kept_by : (accepted : List Accepted) (k : ℕ) (a new : Accepted) → slice_get accepted k ≡ Some a → seen_events new.events.items ≡ seen_events a.events.items → new.size ≡ a.size →
     new.stream ≡ a.stream → map under_of (slice_set accepted k new) ≡ map under_of accepted
@@ -56,12 +59,12 @@ unfolding under_with
 kept_by accepted k a new at_k events_are size_is tail_is =
     kept_at accepted k a new at_k
     (ap (λ (es : List Seen). under_with es new.size new.stream) events_are ∙ ap (λ (n : ℕ). under_with (seen_events a.events.items) n new.stream) size_is
-    ∙ ap (λ (t : Tail). under_with (seen_events a.events.items) a.size t) tail_is)
+    ∙ ap (λ (t : Stream). under_with (seen_events a.events.items) a.size t) tail_is)
 
 pub size_fits : (accepted : List Accepted) (k : ℕ) (a : Accepted) (size : ℕ) → slice_get accepted k ≡ Some a → HasPlace (map under_of accepted) k size → a.size + size < 2 ^ 64
 size_fits accepted k a size at_k place = let fits : a.size + size ≤ 2 ^ 30 = place (under_of a) (at_place accepted k a at_k) in omega (arith, fits)
 
--- ---- the tail of a label
+-- ---- the stream of a label
 -- what is held at a place, by what the code holds there
 pub under_at : (d : Declaration) (accepted : List Accepted) (held : Held) (k : ℕ) (a : Accepted) → held_of d accepted ≡ held → k < length held.under → a ≡ slice_index_or accepted k a →
     slice_get held.under k ≡ Some (under_of a)
@@ -78,20 +81,36 @@ fits_at [] k u all at_k = absurd cc
 fits_at (v ∷ under) zero u all at_k = subst IsUnder (some_same v u at_k) (All-head IsUnder v under all)
 fits_at (v ∷ under) (suc k) u all at_k = fits_at under k u (All-tail IsUnder v under all) at_k
 
--- a piece that has its place can be fed
-pub tail_fits : (held : Held) (k n : ℕ) (u : Under) → IsHeld held → slice_get held.under k ≡ Some u → HasPlace held.under k n → u.tail.offset + length u.tail.rest + n ≤ 2 ^ 30
-tail_fits held k n u is at_k place =
-    let within : u.tail.offset + length u.tail.rest ≤ u.size = (fits_at held.under k u is.fit at_k).1 in
-    let room : u.size + n ≤ 2 ^ 30 = place u at_k in
-    omega (arith, within, room)
+-- a place by its label is a place by what the session holds
+pub inside_under : (held : Held) (k : ℕ) → IsHeld held → k < length held.declaration.labels → k < length held.under
+inside_under held k is inside = let each = is.each in omega (arith, inside, each)
 
--- and the tail behind it is of no more than the label then has
-pub tail_within : (held : Held) (k n : ℕ) (u : Under) (next : Tail) → IsHeld held → slice_get held.under k ≡ Some u → next.offset + length next.rest ≡ u.tail.offset + length u.tail.rest + n →
-    IsTailWithin held.under k n next
-tail_within held k n u next is at_k size v at_v =
-    let same : u.size ≡ v.size = ap (λ (x : Under). x.size) (some_same u v (sym at_k ∙ at_v)) in
-    let within : u.tail.offset + length u.tail.rest ≤ u.size = (fits_at held.under k u is.fit at_k).1 in
-    omega (arith, same, within, size)
+-- a piece that has its place can be fed
+place_fits : (stream : Stream) (size n : ℕ) → IsWithin stream size → size + n ≤ 2 ^ 30 → HasPlaceFor stream n
+place_fits streams.Log size n within place = tt
+place_fits (streams.Capture tail) size n within place =
+    let read : taken tail ≤ size = within in
+    let fits : taken tail + n ≤ 2 ^ 30 = omega (arith, read, place) in
+    fits
+
+pub stream_fits : (held : Held) (k n : ℕ) (u : Under) → IsHeld held → slice_get held.under k ≡ Some u → HasPlace held.under k n → HasPlaceFor u.stream n
+stream_fits held k n u is at_k place = place_fits u.stream u.size n (fits_at held.under k u is.fit at_k).1 (place u at_k)
+
+-- and what is then kept is of no more than the label then has
+says_within : (d : Declaration) (host : ℕ) (old next : Stream) (piece : List ℕ) (events : List Seen) (size : ℕ) → IsWithin old size → SaysEvents d host old piece events next →
+    IsWithin next (size + length piece)
+says_within d host streams.Log next piece events size within says = subst (λ (x : Stream). IsWithin x (size + length piece)) (sym says.kept) tt
+says_within d host (streams.Capture tail) next piece events size within says =
+    let came : taken says.fed ≡ taken tail + length piece = says.size in
+    let read : taken tail ≤ size = within in
+    let fits : taken says.fed ≤ size + length piece = omega (arith, read, came) in
+    subst (λ (x : Stream). IsWithin x (size + length piece)) (sym says.kept) fits
+
+pub stream_within : (held : Held) (d : Declaration) (host k : ℕ) (u : Under) (next : Stream) (piece : List ℕ) (events : List Seen) → IsHeld held → slice_get held.under k ≡ Some u →
+    SaysEvents d host u.stream piece events next → IsStreamWithin held.under k (length piece) next
+stream_within held d host k u next piece events is at_k says v at_v =
+    subst (λ (x : Under). IsWithin next (x.size + length piece)) (some_same u v (sym at_k ∙ at_v))
+    (says_within d host u.stream next piece events u.size (fits_at held.under k u is.fit at_k).1 says)
 
 -- ---- the ends of messages
 -- with events that are added to those of a label, their ends are added

@@ -1,5 +1,5 @@
 -- The replies to `add`.
-use Rattle.std.proofs.Common.{◌≡◌, ◌⊎◌, inl, inr, ℕ, zero, suc, ◌+◌, ◌^◌, ◌<◌, ◌≤◌, List, [], ◌∷◌, length, Option, Some, None, Bool, true, false, position, codes, refl, sym, subst, arith}
+use Rattle.std.proofs.Common.{◌≡◌, ◌⊎◌, inl, inr, ℕ, zero, suc, ◌+◌, ◌^◌, ◌<◌, ◌≤◌, List, [], ◌∷◌, length, Option, Some, None, Bool, true, false, position, refl, sym, subst, arith}
 use Rattle.std.specs.Str.{bytes_eq}
 use Rattle.std.proofs.lemmas.List.Quantifiers.{position-Some}
 use Rattle.std.proofs.lemmas.Grind.{common_steps}
@@ -7,8 +7,10 @@ use Rattle.ports.specs.Content.{Rose}
 use Rattle.ports.specs.Files.{Content, FilesTold, Keeps, IsAbsent, HasBytes, IsFront}
 use Rattle.decl.specs.declared.items.Label.{Label}
 use Rattle.decl.specs.Declaration.{Declaration}
+use Rattle.session.specs.declared.refusal.Refusal.TheVariants.{UnknownLabel, UnreadFile}
+use Rattle.session.specs.Refusals.{refusal_line}
 use Rattle.session.specs.Commands.{Add}
-use Rattle.session.specs.Reply.{State, Found, Unread, Bytes, Absent, Failed, refusal, AddReply, label_at}
+use Rattle.session.specs.Reply.{State, Found, Unread, Bytes, Absent, Failed, AddReply, label_at}
 use Rattle.session.specs.Sessions.{FoundAt}
 use Rattle.session.specs.Stands.{Held, StandsFor}
 use Rattle.session.specs.Inside.{IsPiece, FrontAnswered, CommandAnswered}
@@ -32,7 +34,7 @@ label_in : (held : Held) (d : Declaration) (s : State) (label : List ℕ) (o : O
 label_in held d s label o stands is = subst (λ (x : Declaration). label_at x label ≡ o) stands.declaration (sym is)
 
 pub add_unknown : (held : Held) (files : FilesTold) (label path : List ℕ) (IsWritten : List ℕ → Type 0) → None ≡ label_at held.declaration label →
-    IsWritten (refusal (codes "21" ∷ [])) → CommandAnswered (Some (Add label path)) files files held held IsWritten
+    IsWritten (refusal_line UnknownLabel) → CommandAnswered (Some (Add label path)) files files held held IsWritten
 add_unknown held files label path IsWritten none written d s stands = (
   Unread,
   (_, s, (found_unread files.content label path, by_place d s s _ None Unread _ (label_in held d s label None stands none) (refl, refl)), written, stands),
@@ -44,7 +46,7 @@ at_most_one last a b (inl lt) below = omega (arith, lt)
 at_most_one last a b (inr is) below = absurd (omega (arith, is, below))
 
 pub add_failed : (held : Held) (files files' : FilesTold) (label path : List ℕ) (k : ℕ) (IsWritten : List ℕ → Type 0) → Some k ≡ label_at held.declaration label →
-    Rose files.faults files'.faults → Keeps files files' → IsWritten (refusal (codes "22" ∷ [])) → CommandAnswered (Some (Add label path)) files files' held held IsWritten
+    Rose files.faults files'.faults → Keeps files files' → IsWritten (refusal_line UnreadFile) → CommandAnswered (Some (Add label path)) files files' held held IsWritten
 add_failed held files files' label path k IsWritten some rose keeps written d s stands = (
   Failed,
   (_, s, (found_failed files.content label path, by_place d s s _ (Some k) Failed _ (label_in held d s label (Some k) stands some) (refl, refl)), written, stands),
@@ -52,7 +54,7 @@ add_failed held files files' label path k IsWritten some rose keeps written d s 
 )
 
 pub add_absent : (held : Held) (files files' : FilesTold) (label path : List ℕ) (k : ℕ) (IsWritten : List ℕ → Type 0) → Some k ≡ label_at held.declaration label →
-    Rose files.absences files'.absences → Keeps files files' → IsAbsent files.content path → IsWritten (refusal (codes "22" ∷ [])) →
+    Rose files.absences files'.absences → Keeps files files' → IsAbsent files.content path → IsWritten (refusal_line UnreadFile) →
     CommandAnswered (Some (Add label path)) files files' held held IsWritten
 add_absent held files files' label path k IsWritten some rose keeps absent written d s stands = (
   Absent,

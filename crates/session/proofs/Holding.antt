@@ -6,15 +6,15 @@ use Rattle.std.proofs.lemmas.List.Elements.{All-set}
 use Rattle.std.proofs.lemmas.List.Folds.{sum_by-replicate}
 use Rattle.std.proofs.lemmas.Option.{slice_get-map, slice_get_within, get_or_from_slice_get}
 use Rattle.std.proofs.Math.Seq.{map-set}
-use Rattle.pcap_stream.specs.Feeding.{Tail}
 use Rattle.decl.specs.Declaration.{Declaration}
 use Rattle.trace_event.specs.Seen.{Seen, seen_events}
 use Rattle.traces.specs.declared.accepted.Accepted.{Accepted}
+use Rattle.traces.specs.declared.accepted.Stream.{Stream}
 use Rattle.traces.specs.Traces.{event_count}
 use Rattle.traces.specs.Held.{seen_in}
 use Rattle.traces.proofs.Ids.{count_appended}
 use Rattle.session.specs.Stands.{Under, Held, IsUnder, IsHeld, held_of, under_of, seen_held}
-use Rattle.session.specs.Inside.{HasPlace, IsTailWithin, IsGrownAt, grown}
+use Rattle.session.specs.Inside.{HasPlace, IsStreamWithin, IsGrownAt, grown}
 
 pub some_same : {A : Type 0} (x y : A) → Some x ≡ Some y → x ≡ y
 some_same x y e = cc
@@ -59,27 +59,27 @@ none_counted n = sum_by-replicate (λ (of_label : List Seen). length of_label) n
 
 -- ---- more is held under one label
 -- events that come under one label are so many more
-pub count_grown : (under : List Under) (k : ℕ) (at : Under) (events : List Seen) (size : ℕ) (tail : Tail) → slice_get under k ≡ Some at →
-    event_count (seen_held (slice_set under k (grown at events size tail))) ≡ event_count (seen_held under) + length events
-count_grown under k at events size tail was =
+pub count_grown : (under : List Under) (k : ℕ) (at : Under) (events : List Seen) (size : ℕ) (stream : Stream) → slice_get under k ≡ Some at →
+    event_count (seen_held (slice_set under k (grown at events size stream))) ≡ event_count (seen_held under) + length events
+count_grown under k at events size stream was =
     let f = λ (u : Under). u.events in
     let there : slice_get (seen_held under) k ≡ Some at.events = slice_get-map f under k ∙ ap (option_map f) was in
     let within : k < length (seen_held under) = slice_get_within (seen_held under) k at.events there in
     let first : slice_index_or (seen_held under) k [] ≡ at.events = get_or_from_slice_get (seen_held under) k at.events [] there in
-    ap event_count (map-set f under k (grown at events size tail) ∙ ap (λ (x : List Seen). slice_set (seen_held under) k (x ++ events)) (sym first)) ∙ count_appended (seen_held under) k events within
+    ap event_count (map-set f under k (grown at events size stream) ∙ ap (λ (x : List Seen). slice_set (seen_held under) k (x ++ events)) (sym first)) ∙ count_appended (seen_held under) k events within
 
 -- what is held is then within its limits
-pub held_grown : (held held' : Held) (k : ℕ) (events : List Seen) (size : ℕ) (tail : Tail) → IsHeld held → HasPlace held.under k size → IsTailWithin held.under k size tail →
-    event_count (seen_held held.under) + length events ≤ 2 ^ 20 → held'.declaration ≡ held.declaration → IsGrownAt held.under held'.under k events size tail → IsHeld held'
-held_grown held held' k events size tail is place within few same g =
-    let new = grown g.at events size tail in
+pub held_grown : (held held' : Held) (k : ℕ) (events : List Seen) (size : ℕ) (stream : Stream) → IsHeld held → HasPlace held.under k size → IsStreamWithin held.under k size stream →
+    event_count (seen_held held.under) + length events ≤ 2 ^ 20 → held'.declaration ≡ held.declaration → IsGrownAt held.under held'.under k events size stream → IsHeld held'
+held_grown held held' k events size stream is place within few same g =
+    let new = grown g.at events size stream in
     let labels : length held'.declaration.labels ≡ length held.declaration.labels = ap (λ (d : Declaration). length d.labels) same in
     let fits : IsUnder new = (place g.at g.was, within g.at g.was) in
     record {
       declared = rw same is.declared;
       each = ap length g.is ∙ length-set held.under k new ∙ is.each ∙ sym labels;
       fit = rw g.is (All-set IsUnder held.under k new fits is.fit);
-      few = let e = ap (λ (u : List Under). event_count (seen_held u)) g.is in let f = count_grown held.under k g.at events size tail g.was in omega (arith, e, f, few);
+      few = let e = ap (λ (u : List Under). event_count (seen_held u)) g.is in let f = count_grown held.under k g.at events size stream g.was in omega (arith, e, f, few);
     }
 
 -- and it is where all stays
@@ -90,9 +90,3 @@ held_same held held' is same under = record {
   fit = rw under is.fit;
   few = rw under is.few;
 }
-
--- ---- one label of what the code holds
-pub sizes_accepted : (accepted : List Accepted) (k size : ℕ) → slice_get (map (λ (a : Accepted). a.size) accepted) k ≡ Some size → slice_get (map (λ (u : Under). u.size) (map under_of accepted)) k ≡ Some size
-sizes_accepted [] k size at = at
-sizes_accepted (a ∷ accepted) zero size at = at
-sizes_accepted (a ∷ accepted) (suc k) size at = sizes_accepted accepted k size at

@@ -1,6 +1,5 @@
 -- A line has one reply, but for which contradiction and which path of bounds is printed.
-use Rattle.std.proofs.Common.{◌≡◌, ◌≢◌, ◌⊎◌, inl, inr, ℕ, suc, ◌-◌, ◌^◌, List, [], ◌∷◌, ◌++◌, length, slice_get, slice_set, Option, Some, None, Bool, true, false, nat_le, MatchBool, codes, refl, sym, ◌∙◌, ap, subst, arith}
-use Rattle.atto.specs.Decimal.{decimal_of}
+use Rattle.std.proofs.Common.{◌≡◌, ◌≢◌, ◌⊎◌, inl, inr, ℕ, suc, ◌-◌, ◌^◌, List, [], ◌∷◌, ◌++◌, length, slice_get, slice_set, Option, Some, None, Bool, true, false, nat_le, MatchBool, refl, sym, ◌∙◌, ap, subst, arith}
 use Rattle.ports.specs.Files.{Content}
 use Rattle.problem_model.specs.Problem.{ProblemLists, IsProblem}
 use Rattle.problem_model.specs.Bounds.{Times, IsExecution}
@@ -10,10 +9,10 @@ use Rattle.event_log.specs.declared.errors.LogError.{LogError}
 use Rattle.event_log.specs.declared.errors.LogError.TheVariants as faults
 use Rattle.event_log.specs.declared.row.Row.{Row}
 use Rattle.event_log.specs.Log.{records_of, AreRows, IsLogFault}
-use Rattle.pcap_stream.specs.declared.errors.PcapError.{PcapError}
-use Rattle.pcap_stream.specs.declared.errors.PcapError.TheVariants as refused
-use Rattle.pcap_stream.specs.Capture as captures
-use Rattle.pcap_stream.specs.Capture.{Reads, IsFault}
+use Rattle.captures.specs.declared.errors.CaptureError.{CaptureError}
+use Rattle.captures.specs.declared.errors.CaptureError.TheVariants as refused
+use Rattle.captures.specs.Capture as captures
+use Rattle.captures.specs.Capture.{Reads, IsFault}
 use Rattle.decl.specs.declared.items.Label.{Label}
 use Rattle.decl.specs.declared.items.TraceKind.{TraceKind}
 use Rattle.decl.specs.declared.items.TraceKind.TheVariants.{Capture, Log}
@@ -26,8 +25,11 @@ use Rattle.queries.specs.Consistent.{IsConsistent}
 use Rattle.queries.specs.Replies.{HasReading, IsIntervalLine, IsOrderLine, IsProofText, IsTimeLine, Replies}
 use Rattle.merging.specs.Merged.{IsMergeText}
 use Rattle.trace_report.specs.Reports.{report_text}
+use Rattle.session.specs.declared.refusal.Refusal.{Refusal}
+use Rattle.session.specs.declared.refusal.Refusal.TheVariants.{NoCommand, UnknownLabel, UnreadFile, TooManyBytes, TooManyEvents, UnknownEvent}
+use Rattle.session.specs.Refusals.{log_refusal, capture_refusal}
 use Rattle.session.specs.Commands.{Command, Add, Interval, Order, Time, Merge, Prove, Problem, Report, Asks}
-use Rattle.session.specs.Reply.{State, Found, Unread, Bytes, Absent, Failed, Refuses, OfTwo, OfOne, IsTimeReply, IsReport, added_line, messages_by, count_by, IsAdded, pending_of, AcceptReply, with_rows, row_fault, IsRowFault, LogReply, bytes_of, capture_fault, IsCaptureFault, CaptureReply, KindReply, fits_label, PieceReply, label_at, AddReply, Reply}
+use Rattle.session.specs.Reply.{State, Found, Unread, Bytes, Absent, Failed, Refuses, OfTwo, OfOne, IsTimeReply, IsReport, added_line, messages_by, count_by, IsAdded, pending_of, AcceptReply, with_rows, IsLogRefusal, LogReply, bytes_of, IsCaptureRefusal, CaptureReply, KindReply, fits_label, PieceReply, label_at, AddReply, Reply}
 use Rattle.session.specs.Sessions.{CommandReply, LineReply}
 use Rattle.session.specs.OneReply.{IsState, AreOneBut}
 use Rattle.session.proofs.OneCommand.{command_one}
@@ -42,15 +44,15 @@ pub record Below : Type 0 where
   pub time : (p : ProblemLists) (clock event : ℕ) (a b : List ℕ) → HasReading p clock → IsTimeLine p clock event a → IsTimeLine p clock event b → a ≡ b
   pub merge : (d : Declaration) (seen : List (List Seen)) (a b : List ℕ) → IsMergeText d seen a → IsMergeText d seen b → a ≡ b
   pub capture : (s : List ℕ) (a b : captures.Capture) → Reads s a → Reads s b → a ≡ b
-  pub capture_fault : (s : List ℕ) (e f : PcapError) → IsFault s e → IsFault s f → e ≢ refused.Memory → f ≢ refused.Memory → e ≡ f
-  pub judged : (s : List ℕ) (c : captures.Capture) (e : PcapError) → Reads s c → IsFault s e → e ≢ refused.Memory → ⊥
+  pub capture_fault : (s : List ℕ) (e f : CaptureError) → IsFault s e → IsFault s f → e ≢ refused.Memory → f ≢ refused.Memory → e ≡ f
+  pub judged : (s : List ℕ) (c : captures.Capture) (e : CaptureError) → Reads s c → IsFault s e → e ≢ refused.Memory → ⊥
 
 -- any two replies of this kind are one, and so is the state that follows
 abbrev AreOne : ProblemLists → (List ℕ → State → Type 0) → Type 0
 AreOne p IsReply = (a b : List ℕ) (after other : State) → IsReply a after → IsReply b other → AreOneBut p a b × (after ≡ other)
 
-one_refusal : (p : ProblemLists) (s : State) (numbers : List (List ℕ)) → AreOne p (Refuses s numbers)
-one_refusal p s numbers a b after other x y = (inl (x.0 ∙ sym y.0), x.1 ∙ sym y.1)
+one_refusal : (p : ProblemLists) (s : State) (r : Refusal) → AreOne p (Refuses s r)
+one_refusal p s r a b after other x y = (inl (x.0 ∙ sym y.0), x.1 ∙ sym y.1)
 
 by_test : (p : ProblemLists) (test : Bool) (Yes No : List ℕ → State → Type 0) → AreOne p Yes → AreOne p No → AreOne p (λ text s'. MatchBool test (Yes text s') (No text s'))
 by_test p true Yes No one other = one
@@ -71,35 +73,34 @@ one_added d old new pending a b x y =
 one_acceptance : (p : ProblemLists) (d : Declaration) (s : State) (k : ℕ) (trace : Trace) → AreOne p (AcceptReply d s k trace)
 one_acceptance p d s k trace =
     let traces = slice_set s.traces k trace in
-    by_test p (nat_le (count_by d traces) (2 ^ 20)) (λ text s'. (s' ≡ record s { traces = traces }) × IsAdded d s.traces traces (pending_of trace) text) (Refuses s (codes "27" ∷ []))
-    (λ a b after other x y. (inl (one_added d s.traces traces (pending_of trace) a b x.1 y.1), x.0 ∙ sym y.0)) (one_refusal p s (codes "27" ∷ []))
+    by_test p (nat_le (count_by d traces) (2 ^ 20)) (λ text s'. (s' ≡ record s { traces = traces }) × IsAdded d s.traces traces (pending_of trace) text) (Refuses s TooManyEvents)
+    (λ a b after other x y. (inl (one_added d s.traces traces (pending_of trace) a b x.1 y.1), x.0 ∙ sym y.0)) (one_refusal p s TooManyEvents)
 
 -- ---- pieces of logs
-row_not_memory : (e : LogError) (at : ℕ × ℕ) → row_fault e ≡ Some at → e ≢ faults.Memory
-row_not_memory e at is memory = let none : row_fault faults.Memory ≡ Some at = sym (ap row_fault memory) ∙ is in absurd cc
+log_not_memory : (e : LogError) (r : Refusal) → log_refusal e ≡ Some r → e ≢ faults.Memory
+log_not_memory e r is memory = let none : log_refusal faults.Memory ≡ Some r = sym (ap log_refusal memory) ∙ is in absurd cc
 
-abbrev row_numbers : Option (ℕ × ℕ) → List (List ℕ)
-row_numbers None = []
-row_numbers (Some at) = codes "26" ∷ decimal_of at.0 ∷ decimal_of at.1 ∷ []
+some_one : (a b : Refusal) → Some a ≡ Some b → a ≡ b
+some_one a b is = cc
 
 module _ (below : Below) where
-  one_row_fault : (bytes : List ℕ) (row number row' number' : ℕ) → IsRowFault bytes row number → IsRowFault bytes row' number' → row_numbers (Some (row, number)) ≡ row_numbers (Some (row', number'))
-  one_row_fault bytes row number row' number' (e, fault, is) (f, fault', is') =
-      let same : e ≡ f = below.fault bytes e f fault fault' (row_not_memory e (row, number) is) (row_not_memory f (row', number') is') in
-      ap row_numbers (sym is ∙ ap row_fault same ∙ is')
+  one_log_refusal : (bytes : List ℕ) (r r' : Refusal) → IsLogRefusal bytes r → IsLogRefusal bytes r' → r ≡ r'
+  one_log_refusal bytes r r' (e, fault, is) (f, fault', is') =
+      let same : e ≡ f = below.fault bytes e f fault fault' (log_not_memory e r is) (log_not_memory f r' is') in
+      some_one r r' (sym is ∙ ap log_refusal same ∙ is')
 
-  rows_no_fault : (bytes : List ℕ) (rows : List Row) (row number : ℕ) → AreRows (records_of bytes) rows → IsRowFault bytes row number → ⊥
-  rows_no_fault bytes rows row number are (e, fault, is) = row_not_memory e (row, number) is (below.either bytes rows e are fault)
+  rows_no_fault : (bytes : List ℕ) (rows : List Row) (r : Refusal) → AreRows (records_of bytes) rows → IsLogRefusal bytes r → ⊥
+  rows_no_fault bytes rows r are (e, fault, is) = log_not_memory e r is (below.either bytes rows e are fault)
 
   one_log : (p : ProblemLists) (d : Declaration) (s : State) (k : ℕ) (trace : Trace) (bytes : List ℕ) → AreOne p (LogReply d s k trace bytes)
   one_log p d s k trace bytes a b after other (inl (rows, are, x)) (inl (rows', are', y)) =
       let same : rows' ≡ rows = below.rows bytes rows' rows are' are in
       one_acceptance p d s k (with_rows trace rows (length bytes)) a b after other x (subst (λ (all : List Row). AcceptReply d s k (with_rows trace all (length bytes)) b other) same y)
-  one_log p d s k trace bytes a b after other (inl (rows, are, x)) (inr (row, number, fault, y)) = absurd (rows_no_fault bytes rows row number are fault)
-  one_log p d s k trace bytes a b after other (inr (row, number, fault, x)) (inl (rows, are, y)) = absurd (rows_no_fault bytes rows row number are fault)
-  one_log p d s k trace bytes a b after other (inr (row, number, fault, x)) (inr (row', number', fault', y)) =
-      let same = one_row_fault bytes row' number' row number fault' fault in
-      one_refusal p s (row_numbers (Some (row, number))) a b after other x (subst (λ (numbers : List (List ℕ)). Refuses s numbers b other) same y)
+  one_log p d s k trace bytes a b after other (inl (rows, are, x)) (inr (r, fault, y)) = absurd (rows_no_fault bytes rows r are fault)
+  one_log p d s k trace bytes a b after other (inr (r, fault, x)) (inl (rows, are, y)) = absurd (rows_no_fault bytes rows r are fault)
+  one_log p d s k trace bytes a b after other (inr (r, fault, x)) (inr (r', fault', y)) =
+      let same : r' ≡ r = one_log_refusal bytes r' r fault' fault in
+      one_refusal p s r a b after other x (subst (λ (all : Refusal). Refuses s all b other) same y)
 
 -- ---- questions
 -- where there is an execution, two texts that say this are one
@@ -124,7 +125,7 @@ one_of_two p s first second Says lawful one a b after other (inl (i, j, at_i, at
     (one_answer p (Says i j) a b (one i j) x z, stays ∙ sym stays')
 one_of_two p s first second Says lawful one a b after other (inl (i, j, at_i, at_j, x, stays)) (inr (unknown, y)) = absurd (known_both p first second i j at_i at_j unknown)
 one_of_two p s first second Says lawful one a b after other (inr (unknown, x)) (inl (i, j, at_i, at_j, y, stays)) = absurd (known_both p first second i j at_i at_j unknown)
-one_of_two p s first second Says lawful one a b after other (inr (unknown, x)) (inr (unknown', y)) = one_refusal p s (codes "28" ∷ []) a b after other x y
+one_of_two p s first second Says lawful one a b after other (inr (unknown, x)) (inr (unknown', y)) = one_refusal p s UnknownEvent a b after other x y
 
 one_of_one : (p : ProblemLists) (event : List ℕ) (Says : ℕ → List ℕ → Type 0) → IsProblem p → ((i : ℕ) (a b : List ℕ) → Says i a → Says i b → AreOneBut p a b) →
     (a b : List ℕ) → OfOne p event Says a → OfOne p event Says b → AreOneBut p a b
@@ -148,29 +149,28 @@ state_lawful : (d : Declaration) (s : State) → IsDeclaration d → IsState d s
 state_lawful d s declared state = problem_lawful d (seen_by d s.traces) declared (seen_length d d.labels s.traces state.labels) state.few state.stamps
 
 -- ---- pieces of captures
-capture_not_memory : (e : PcapError) (numbers : List (List ℕ)) → capture_fault e ≡ Some numbers → e ≢ refused.Memory
-capture_not_memory e numbers is memory = let none : capture_fault refused.Memory ≡ Some numbers = sym (ap capture_fault memory) ∙ is in absurd cc
+pub capture_not_memory : (e : CaptureError) (r : Refusal) → capture_refusal e ≡ Some r → e ≢ refused.Memory
+capture_not_memory e r is memory = let none : capture_refusal refused.Memory ≡ Some r = sym (ap capture_refusal memory) ∙ is in absurd cc
 
 module _ (below : Below) where
-  one_capture_fault : (bytes : List ℕ) (numbers numbers' : List (List ℕ)) → IsCaptureFault bytes numbers → IsCaptureFault bytes numbers' → numbers ≡ numbers'
-  one_capture_fault bytes numbers numbers' (e, fault, is) (f, fault', is') =
-      let same : e ≡ f = below.capture_fault bytes e f fault fault' (capture_not_memory e numbers is) (capture_not_memory f numbers' is') in
-      let both : Some numbers ≡ Some numbers' = sym is ∙ ap capture_fault same ∙ is' in
-      cc
+  one_capture_refusal : (bytes : List ℕ) (r r' : Refusal) → IsCaptureRefusal bytes r → IsCaptureRefusal bytes r' → r ≡ r'
+  one_capture_refusal bytes r r' (e, fault, is) (f, fault', is') =
+      let same : e ≡ f = below.capture_fault bytes e f fault fault' (capture_not_memory e r is) (capture_not_memory f r' is') in
+      some_one r r' (sym is ∙ ap capture_refusal same ∙ is')
 
-  read_no_fault : (bytes : List ℕ) (c : captures.Capture) (numbers : List (List ℕ)) → Reads bytes c → IsCaptureFault bytes numbers → ⊥
-  read_no_fault bytes c numbers reads (e, fault, is) = below.judged bytes c e reads fault (capture_not_memory e numbers is)
+  read_no_fault : (bytes : List ℕ) (c : captures.Capture) (r : Refusal) → Reads bytes c → IsCaptureRefusal bytes r → ⊥
+  read_no_fault bytes c r reads (e, fault, is) = below.judged bytes c e reads fault (capture_not_memory e r is)
 
   one_capture : (p : ProblemLists) (d : Declaration) (s : State) (k : ℕ) (trace : Trace) (piece : List ℕ) → AreOne p (CaptureReply d s k trace piece)
   one_capture p d s k trace piece a b after other (inl (c, reads, x)) (inl (c', reads', y)) =
       let bytes = bytes_of trace ++ piece in
       let same : c' ≡ c = below.capture bytes c' c reads' reads in
       one_acceptance p d s k (Captured bytes c) a b after other x (subst (λ (z : captures.Capture). AcceptReply d s k (Captured bytes z) b other) same y)
-  one_capture p d s k trace piece a b after other (inl (c, reads, x)) (inr (numbers, fault, y)) = absurd (read_no_fault (bytes_of trace ++ piece) c numbers reads fault)
-  one_capture p d s k trace piece a b after other (inr (numbers, fault, x)) (inl (c, reads, y)) = absurd (read_no_fault (bytes_of trace ++ piece) c numbers reads fault)
-  one_capture p d s k trace piece a b after other (inr (numbers, fault, x)) (inr (numbers', fault', y)) =
-      let same : numbers' ≡ numbers = one_capture_fault (bytes_of trace ++ piece) numbers' numbers fault' fault in
-      one_refusal p s numbers a b after other x (subst (λ (all : List (List ℕ)). Refuses s all b other) same y)
+  one_capture p d s k trace piece a b after other (inl (c, reads, x)) (inr (r, fault, y)) = absurd (read_no_fault (bytes_of trace ++ piece) c r reads fault)
+  one_capture p d s k trace piece a b after other (inr (r, fault, x)) (inl (c, reads, y)) = absurd (read_no_fault (bytes_of trace ++ piece) c r reads fault)
+  one_capture p d s k trace piece a b after other (inr (r, fault, x)) (inr (r', fault', y)) =
+      let same : r' ≡ r = one_capture_refusal (bytes_of trace ++ piece) r' r fault' fault in
+      one_refusal p s r a b after other x (subst (λ (all : Refusal). Refuses s all b other) same y)
 
   -- ---- pieces
   one_of_kind : (p : ProblemLists) (d : Declaration) (s : State) (k : ℕ) (trace : Trace) (kind : TraceKind) (bytes : List ℕ) → AreOne p (KindReply d s k trace kind bytes)
@@ -181,18 +181,18 @@ module _ (below : Below) where
   one_piece p d s k None trace bytes = λ a b after other x y. absurd x
   one_piece p d s k (Some label) None bytes = λ a b after other x y. absurd x
   one_piece p d s k (Some label) (Some trace) bytes =
-      by_test p (fits_label trace bytes) (KindReply d s k trace label.kind bytes) (Refuses s (codes "23" ∷ []))
-      (one_of_kind p d s k trace label.kind bytes) (one_refusal p s (codes "23" ∷ []))
+      by_test p (fits_label trace bytes) (KindReply d s k trace label.kind bytes) (Refuses s TooManyBytes)
+      (one_of_kind p d s k trace label.kind bytes) (one_refusal p s TooManyBytes)
 
   one_addition : (p : ProblemLists) (d : Declaration) (s : State) (place : Option ℕ) (found : Found) → AreOne p (AddReply d s place found)
-  one_addition p d s None Unread = one_refusal p s (codes "21" ∷ [])
+  one_addition p d s None Unread = one_refusal p s UnknownLabel
   one_addition p d s None (Bytes bytes) = λ a b after other x y. absurd x
   one_addition p d s None Absent = λ a b after other x y. absurd x
   one_addition p d s None Failed = λ a b after other x y. absurd x
   one_addition p d s (Some k) Unread = λ a b after other x y. absurd x
   one_addition p d s (Some k) (Bytes bytes) = one_piece p d s k (slice_get d.labels k) (slice_get s.traces k) bytes
-  one_addition p d s (Some k) Absent = one_refusal p s (codes "22" ∷ [])
-  one_addition p d s (Some k) Failed = one_refusal p s (codes "22" ∷ [])
+  one_addition p d s (Some k) Absent = one_refusal p s UnreadFile
+  one_addition p d s (Some k) Failed = one_refusal p s UnreadFile
 
   -- ---- times
   one_time : (p : ProblemLists) (source : Option ℕ) (i : ℕ) (a b : List ℕ) → IsTimeReply p source i a → IsTimeReply p source i b → AreOneBut p a b
@@ -224,14 +224,14 @@ module _ (below : Below) where
   one_reply d s Report found lawful = λ a b after other x y. (inl (one_report d (seen_by d s.traces) a b x.2 y.2), x.1 ∙ sym y.1)
 
   one_of_command : (d : Declaration) (files : Content) (s : State) (c : Option Command) (found : Found) → IsProblem (problem_of d s.traces) → AreOne (problem_of d s.traces) (CommandReply d files s c found)
-  one_of_command d files s None found lawful = λ a b after other x y. one_refusal (problem_of d s.traces) s (codes "20" ∷ []) a b after other x.1 y.1
+  one_of_command d files s None found lawful = λ a b after other x y. one_refusal (problem_of d s.traces) s NoCommand a b after other x.1 y.1
   one_of_command d files s (Some c) found lawful = λ a b after other x y. one_reply d s c found lawful a b after other x.1 y.1
 
   pub one_line : (d : Declaration) (files : Content) (s : State) (line : List ℕ) (found : Found) → IsDeclaration d → IsState d s → AreOne (problem_of d s.traces) (LineReply d files s line found)
   one_line d files s line found declared state =
       let p = problem_of d s.traces in
-      by_test p (nat_le (length line) 4096) (λ text s'. (c : Option Command) × Asks line c × CommandReply d files s c found text s') (λ text s'. (found ≡ Unread) × Refuses s (codes "20" ∷ []) text s')
+      by_test p (nat_le (length line) 4096) (λ text s'. (c : Option Command) × Asks line c × CommandReply d files s c found text s') (λ text s'. (found ≡ Unread) × Refuses s NoCommand text s')
       (λ a b after other (c, asks, x) (c', asks', y).
       let same : c' ≡ c = command_one line c' c asks' asks in
       one_of_command d files s c found (state_lawful d s declared state) a b after other x (subst (λ (o : Option Command). CommandReply d files s o found b other) same y))
-      (λ a b after other x y. one_refusal p s (codes "20" ∷ []) a b after other x.1 y.1)
+      (λ a b after other x y. one_refusal p s NoCommand a b after other x.1 y.1)

@@ -1,5 +1,5 @@
 -- Replies of a session that stands for traces.
-use Rattle.std.proofs.Common.{◌≡◌, inl, inr, ℕ, ◌≤◌, List, [], ◌∷◌, length, map, Option, Some, None, Result, Ok, Err, IfOk, IfSome, true, codes, nat_le, refl, sym, ◌∙◌, ap, subst, arith}
+use Rattle.std.proofs.Common.{◌≡◌, inl, inr, ℕ, ◌≤◌, List, [], ◌∷◌, length, map, Option, Some, None, Result, Ok, Err, IfOk, IfSome, true, nat_le, refl, sym, ◌∙◌, ap, subst, arith}
 use Rattle.problem_model.specs.Problem.{ProblemLists}
 use Rattle.problem_model.specs.ProblemText.{problem_text}
 use Rattle.ports.specs.Files.{Content, FilesTold, Keeps}
@@ -12,8 +12,10 @@ use Rattle.traces.specs.Messages.{problem_of, problem_of_seen}
 use Rattle.queries.specs.Clocks.{KeepsTime}
 use Rattle.queries.specs.Replies.{Replies}
 use Rattle.merging.specs.Merged.{IsMergeText}
+use Rattle.session.specs.declared.refusal.Refusal.TheVariants.{NoCommand}
+use Rattle.session.specs.Refusals.{refusal_line}
 use Rattle.session.specs.Commands.{Command, Add, Interval, Order, Time, Merge, Prove, Problem, Report, Asks}
-use Rattle.session.specs.Reply.{State, Found, Unread, OfTwo, OfOne, IsTimeReply, IsReport, refusal}
+use Rattle.session.specs.Reply.{State, Found, Unread, OfTwo, OfOne, IsTimeReply, IsReport}
 use Rattle.session.specs.Sessions.{CommandReply, LineReply, FoundAt, AreCounted}
 use Rattle.session.specs.Stands.{Held, StandsFor, Stepped, held_of, problem_held, seen_held, under_of}
 use Rattle.session.specs.Inside.{IsReplyOfTwo, Answered, Asked, CommandAnswered}
@@ -133,6 +135,14 @@ stepped_unread files held line c IsWritten short asks asked = stepped files file
 
 -- a line that spells no command
 pub stepped_none : (files : FilesTold) (held : Held) (line : List ℕ) (IsWritten : List ℕ → Type 0) → length line ≤ 4096 → Asks line None →
-    IsWritten (refusal (codes "20" ∷ [])) → Stepped line files files held held IsWritten
+    IsWritten (refusal_line NoCommand) → Stepped line files files held held IsWritten
 stepped_none files held line IsWritten short asks written =
-    stepped files files held held line None IsWritten short asks (λ d s stands. (Unread, (refusal (codes "20" ∷ []), s, (refl, (refl, refl)), written, stands), counted_unread files files (keeps_all files)))
+    stepped files files held held line None IsWritten short asks (λ d s stands. (Unread, (refusal_line NoCommand, s, (refl, (refl, refl)), written, stands), counted_unread files files (keeps_all files)))
+
+-- ---- a command that is answered before it is written
+-- what is said of a line is said of it as it stands written
+pub line_written : (c : Option Command) (files files' : FilesTold) (held held' : Held) (line : List ℕ) (IsWritten : List ℕ → Type 0) → CommandAnswered c files files' held held' (λ text. text ≡ line) →
+    IsWritten line → CommandAnswered c files files' held held' IsWritten
+line_written c files files' held held' line IsWritten answered written d s stands =
+    let r = answered d s stands in
+    (r.0, (r.1.0, r.1.1, r.1.2, subst IsWritten (sym r.1.3) written, r.1.4), r.2)

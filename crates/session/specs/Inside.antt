@@ -1,40 +1,27 @@
 -- What the parts of a session promise each other.
-use Rattle.std.specs.Prelude.{◌≡◌, ◌⊎◌, ℕ, ◌+◌, ◌^◌, ◌<◌, ◌≤◌, List, [], ◌∷◌, ◌++◌, length, slice_get, slice_set, Option, Some, Bool, true, false, codes, All}
-use Rattle.atto.specs.Decimal.{decimal_of}
+use Rattle.std.specs.Prelude.{◌≡◌, ◌⊎◌, ℕ, ◌+◌, ◌^◌, ◌<◌, ◌≤◌, List, [], ◌∷◌, ◌++◌, length, map, slice_get, slice_set, Option, Some, Bool, true, false, All, ⊤}
 use Rattle.ports.specs.Files.{FilesTold}
-use Rattle.event_log.specs.declared.errors.LogError.{LogError}
-use Rattle.pcap_stream.specs.declared.errors.PcapError.{PcapError}
-use Rattle.pcap_stream.specs.Capture as captures
-use Rattle.pcap_stream.specs.Feeding as feeding
-use Rattle.pcap_stream.specs.Feeding.{Tail, IsNew}
+use Rattle.captures.specs.Feeding.{IsNew}
 use Rattle.decl.specs.declared.items.Label.{Label}
 use Rattle.decl.specs.declared.items.TraceKind.{TraceKind}
 use Rattle.decl.specs.Declaration.{Declaration}
 use Rattle.trace_event.specs.Seen.{Seen}
-use Rattle.traces.specs.Traces.{Trace, Captured, IsOfKind, seen_of, size_of}
+use Rattle.traces.specs.declared.accepted.Stream.{Stream}
+use Rattle.traces.specs.declared.accepted.Stream.TheVariants as streams
+use Rattle.traces.specs.Traces.{Trace, IsOfKind, seen_of, size_of}
 use Rattle.trace_match.specs.declared.matcher.Changed.{Changed}
 use Rattle.queries.specs.Consistent.{IsConsistent}
+use Rattle.session.specs.declared.refusal.Refusal.TheVariants.{UnknownEvent}
+use Rattle.session.specs.Refusals.{refusal_line}
 use Rattle.session.specs.Commands.{Command}
 use Rattle.problem_model.specs.Problem.{ProblemLists}
 use Rattle.problem.specs.Line.{HasEvent, IsUnknown}
 use Rattle.queries.specs.Replies.{Replies}
-use Rattle.session.specs.Reply.{State, Found, Unread, Reply, AcceptReply, PieceReply, refusal, row_fault, capture_fault, pending_of, added_line}
+use Rattle.session.specs.Reply.{State, Found, Unread, Reply, AcceptReply, PieceReply, pending_of, added_line}
 use Rattle.session.specs.Sessions.{CommandReply, AreCounted}
-use Rattle.session.specs.Stands.{Held, Under, StandsFor}
+use Rattle.session.specs.Stands.{Held, Under, StandsFor, IsStreamOf, IsWithin, kind_of, waiting}
 
 -- ---- what is written
--- the line of a refusal by a row
-abbrev pub row_line : ℕ → ℕ → List ℕ
-row_line row number = refusal (codes "26" ∷ decimal_of row ∷ decimal_of number ∷ [])
-
--- the line of the refusal by a row with this fault
-abbrev pub IsRowRefusal : LogError → List ℕ → Type 0
-IsRowRefusal e text = (row : ℕ) × (number : ℕ) × (row_fault e ≡ Some (row, number)) × (text ≡ row_line row number)
-
--- the line of the refusal of a capture with this fault
-abbrev pub IsCaptureRefusal : PcapError → List ℕ → Type 0
-IsCaptureRefusal e text = (numbers : List (List ℕ)) × (capture_fault e ≡ Some numbers) × (text ≡ refusal numbers)
-
 -- the line of an addition of so many events, behind which this is the problem, by how the messages changed, where so many
 -- bytes wait
 abbrev pub IsAddedTo : ProblemLists → Changed → ℕ → ℕ → List ℕ → Type 0
@@ -44,36 +31,45 @@ IsAddedTo p changed more pending text = (b : Bool) × IsConsistent p b × (text 
 abbrev pub IsReplyOfTwo : ProblemLists → List ℕ → List ℕ → (ℕ → ℕ → List ℕ → Type 0) → List ℕ → Type 0
 IsReplyOfTwo p first second Says text =
     ((i : ℕ) × (j : ℕ) × HasEvent p i first × HasEvent p j second × Replies p (Says i j) text)
-    ⊎ ((IsUnknown p first ⊎ IsUnknown p second) × (text ≡ refusal (codes "28" ∷ [])))
+    ⊎ ((IsUnknown p first ⊎ IsUnknown p second) × (text ≡ refusal_line UnknownEvent))
 
 -- ---- what is held
+-- this is kept of nothing
+abbrev pub IsNewStream : Stream → Type 0
+IsNewStream streams.Log = ⊤
+IsNewStream (streams.Capture tail) = IsNew tail
+
 -- nothing is held under a label
 pub record IsEmpty (u : Under) : Type 0 where
   pub events : u.events ≡ []
   pub size : u.size ≡ 0
-  pub tail : IsNew u.tail
+  pub stream : IsNewStream u.stream
 
--- nothing is held under so many labels
-abbrev pub AreEmpty : List Under → ℕ → Type 0
-AreEmpty under n = (length under ≡ n) × All IsEmpty under
+-- the kinds of what is kept under each label
+abbrev pub kinds_held : List Under → List TraceKind
+kinds_held under = map (λ (u : Under). kind_of u.stream) under
+
+-- nothing is held under these labels
+abbrev pub AreEmpty : List Under → List Label → Type 0
+AreEmpty under labels = (kinds_held under ≡ map (λ (l : Label). l.kind) labels) × All IsEmpty under
 
 -- a label has room for so many bytes more
 abbrev pub HasPlace : List Under → ℕ → ℕ → Type 0
 HasPlace under k size = (u : Under) → slice_get under k ≡ Some u → u.size + size ≤ 2 ^ 30
 
--- what a label has, with so many bytes more, is as much as this tail is of
-abbrev pub IsTailWithin : List Under → ℕ → ℕ → Tail → Type 0
-IsTailWithin under k size tail = (u : Under) → slice_get under k ≡ Some u → tail.offset + length tail.rest ≤ u.size + size
+-- this is kept of no more than a label has, with so many bytes more
+abbrev pub IsStreamWithin : List Under → ℕ → ℕ → Stream → Type 0
+IsStreamWithin under k size stream = (u : Under) → slice_get under k ≡ Some u → IsWithin stream (u.size + size)
 
--- what is held under a label, with more events that came in so many bytes, and another tail
-abbrev pub grown : Under → List Seen → ℕ → Tail → Under
-grown u events size tail = record { events = u.events ++ events; size = u.size + size; tail = tail }
+-- what is held under a label, with more events that came in so many bytes, of which this is kept
+abbrev pub grown : Under → List Seen → ℕ → Stream → Under
+grown u events size stream = record { events = u.events ++ events; size = u.size + size; stream = stream }
 
 -- what is held under all labels, with more at a place
-pub record IsGrownAt (old new : List Under) (k : ℕ) (events : List Seen) (size : ℕ) (tail : Tail) : Type 0 where
+pub record IsGrownAt (old new : List Under) (k : ℕ) (events : List Seen) (size : ℕ) (stream : Stream) : Type 0 where
   pub at : Under
   pub was : slice_get old k ≡ Some at
-  pub is : new ≡ slice_set old k (grown at events size tail)
+  pub is : new ≡ slice_set old k (grown at events size stream)
 
 -- the front of a piece is all of it, or there is more of it than a piece may have
 abbrev pub IsPiece : Bool → List ℕ → List ℕ → Type 0
@@ -103,18 +99,18 @@ abbrev pub KindAnswered : TraceKind → Held → Held → ℕ → (Declaration �
 KindAnswered kind held held' k IsReply IsWritten = (d : Declaration) (s : State) (trace : Trace) → StandsFor held d s → slice_get s.traces k ≡ Some trace
     → IsOfKind kind trace → Answered held' d (IsReply d s trace) IsWritten
 
--- a trace of a label of this host grew by these events, which came in so many bytes, and this is its tail
-pub record IsGrownTrace (d : Declaration) (host : ℕ) (kind : TraceKind) (old new : Trace) (more : List Seen) (came : ℕ) (next : Tail) : Type 0 where
+-- a trace of a label of this host grew by these events, which came in so many bytes, and this is kept of it
+pub record IsGrownTrace (d : Declaration) (host : ℕ) (kind : TraceKind) (old new : Trace) (more : List Seen) (came : ℕ) (next : Stream) : Type 0 where
   pub of_kind : IsOfKind kind new
   pub events : seen_of d host new ≡ seen_of d host old ++ more
   pub size : size_of new ≡ size_of old + came
-  pub waits : length next.rest ≡ pending_of new
-  pub tail : (bytes : List ℕ) (capture : captures.Capture) → new ≡ Captured bytes capture → feeding.StandsFor next bytes capture
+  pub waits : waiting next ≡ pending_of new
+  pub stream : IsStreamOf next new
 
 -- these events were accepted, or refused for their number: the answer is a reply for every trace that they make of the one before
-abbrev pub AcceptAnswered : Held → Held → ℕ → List Seen → ℕ → Tail → (List ℕ → Type 0) → Type 0
-AcceptAnswered held held' k events size tail IsWritten = (d : Declaration) (s : State) (label : Label) (old new : Trace) → StandsFor held d s
-    → slice_get d.labels k ≡ Some label → slice_get s.traces k ≡ Some old → IsGrownTrace d label.host label.kind old new events size tail
+abbrev pub AcceptAnswered : Held → Held → ℕ → List Seen → ℕ → Stream → (List ℕ → Type 0) → Type 0
+AcceptAnswered held held' k events size stream IsWritten = (d : Declaration) (s : State) (label : Label) (old new : Trace) → StandsFor held d s
+    → slice_get d.labels k ≡ Some label → slice_get s.traces k ≡ Some old → IsGrownTrace d label.host label.kind old new events size stream
     → Answered held' d (AcceptReply d s k new) IsWritten
 
 -- the same of a command or of a line that spells none, with what its read came to

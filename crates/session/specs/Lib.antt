@@ -1,7 +1,10 @@
 pub mod Commands
 pub mod CommandSeen
+pub mod Refusals
 pub mod Reply
+pub mod Outcomes
 pub mod Sessions
 pub mod Stands
+pub mod Pieces
 pub mod Inside
 pub mod OneReply

@@ -7,13 +7,11 @@ use Rattle.problem_model.specs.Problem.{ProblemLists}
 use Rattle.problem_model.specs.ProblemText.{problem_text}
 use Rattle.problem.specs.Line.{HasEvent, IsUnknown}
 use Rattle.event_log.specs.declared.errors.LogError.{LogError}
-use Rattle.event_log.specs.declared.errors.LogError.TheVariants as faults
 use Rattle.event_log.specs.declared.row.Row.{Row}
 use Rattle.event_log.specs.Log.{records_of, AreRows, IsLogFault}
-use Rattle.pcap_stream.specs.declared.errors.PcapError.{PcapError}
-use Rattle.pcap_stream.specs.declared.errors.PcapError.TheVariants as refused
-use Rattle.pcap_stream.specs.Capture as captures
-use Rattle.pcap_stream.specs.Capture.{Reads, IsFault}
+use Rattle.captures.specs.declared.errors.CaptureError.{CaptureError}
+use Rattle.captures.specs.Capture as captures
+use Rattle.captures.specs.Capture.{Reads, IsFault}
 use Rattle.decl.specs.declared.items.Label.{Label}
 use Rattle.decl.specs.declared.items.TraceKind.{TraceKind}
 use Rattle.decl.specs.declared.items.TraceKind.TheVariants.{Capture, Log}
@@ -27,6 +25,9 @@ use Rattle.queries.specs.Consistent.{IsConsistent}
 use Rattle.queries.specs.Replies.{HasReading, IsIntervalLine, IsOrderLine, IsProofText, IsTimeLine, Replies}
 use Rattle.merging.specs.Merged.{IsMergeText}
 use Rattle.trace_report.specs.Reports.{report_text}
+use Rattle.session.specs.declared.refusal.Refusal.{Refusal}
+use Rattle.session.specs.declared.refusal.Refusal.TheVariants.{UnknownLabel, UnreadFile, TooManyBytes, TooManyEvents, UnknownEvent, NoSourceTime}
+use Rattle.session.specs.Refusals.{refusal_line, log_refusal, capture_refusal}
 use Rattle.session.specs.Commands.{Command, Add, Interval, Order, Time, Merge, Prove, Problem, Report}
 
 -- what a session has: the traces, and the events that are kept
@@ -46,30 +47,26 @@ pub data Found : Type 0 where
   Failed : Found
 
 -- ---- refusals
--- the line of a refusal, by its number and the further numbers
-abbrev pub refusal : List (List ℕ) → List ℕ
-refusal numbers = line_of (codes "refused" ∷ numbers)
-
 -- the command is refused so, and nothing changes
-abbrev pub Refuses : State → List (List ℕ) → List ℕ → State → Type 0
-Refuses s numbers text s' = (text ≡ refusal numbers) × (s' ≡ s)
+abbrev pub Refuses : State → Refusal → List ℕ → State → Type 0
+Refuses s r text s' = (text ≡ refusal_line r) × (s' ≡ s)
 
 -- ---- questions
 -- two events are asked about by their names
 abbrev pub OfTwo : ProblemLists → List ℕ → List ℕ → (ℕ → ℕ → List ℕ → Type 0) → State → List ℕ → State → Type 0
 OfTwo p first second Says s text s' =
     ((i : ℕ) × (j : ℕ) × HasEvent p i first × HasEvent p j second × Replies p (Says i j) text × (s' ≡ s))
-    ⊎ ((IsUnknown p first ⊎ IsUnknown p second) × Refuses s (codes "28" ∷ []) text s')
+    ⊎ ((IsUnknown p first ⊎ IsUnknown p second) × Refuses s UnknownEvent text s')
 
 -- what is said of an event by its name, or the refusal where none has it
 abbrev pub OfOne : ProblemLists → List ℕ → (ℕ → List ℕ → Type 0) → List ℕ → Type 0
-OfOne p event Says text = ((i : ℕ) × HasEvent p i event × Says i text) ⊎ (IsUnknown p event × (text ≡ refusal (codes "28" ∷ [])))
+OfOne p event Says text = ((i : ℕ) × HasEvent p i event × Says i text) ⊎ (IsUnknown p event × (text ≡ refusal_line UnknownEvent))
 
 -- the time of an event by the source's clock, or the refusal where no source is declared or its clock has no reading
 abbrev pub IsTimeReply : ProblemLists → Option ℕ → ℕ → List ℕ → Type 0
-IsTimeReply p None event text = text ≡ refusal (codes "29" ∷ [])
+IsTimeReply p None event text = text ≡ refusal_line NoSourceTime
 IsTimeReply p (Some clock) event text = (HasReading p clock × Replies p (IsTimeLine p clock event) text)
-    ⊎ ((HasReading p clock → ⊥) × (text ≡ refusal (codes "29" ∷ [])))
+    ⊎ ((HasReading p clock → ⊥) × (text ≡ refusal_line NoSourceTime))
 
 -- the report on the events of all labels, by whether their problem has an execution
 abbrev pub IsReport : Declaration → List (List Seen) → List ℕ → Type 0
@@ -112,7 +109,7 @@ AcceptReply d s k trace text s' =
     let traces = slice_set s.traces k trace in
     MatchBool (nat_le (count_by d traces) (2 ^ 20))
     ((s' ≡ record s { traces = traces }) × IsAdded d s.traces traces (pending_of trace) text)
-    (Refuses s (codes "27" ∷ []) text s')
+    (Refuses s TooManyEvents text s')
 
 -- ---- pieces of logs
 -- a trace with the rows of one piece more, of so many bytes
@@ -120,23 +117,15 @@ abbrev pub with_rows : Trace → List Row → ℕ → Trace
 with_rows (Captured bytes capture) more size = Captured bytes capture
 with_rows (Logged rows old) more size = Logged (rows ++ more) (old + size)
 
--- the number of a fault of a log's piece, behind its row
-abbrev pub row_fault : LogError → Option (ℕ × ℕ)
-row_fault (faults.Fields row) = Some (row, 1)
-row_fault (faults.Stamp row) = Some (row, 2)
-row_fault (faults.Kind row) = Some (row, 3)
-row_fault (faults.Text row) = Some (row, 4)
-row_fault faults.Memory = None
-
--- the first record of the piece that is no row, and the number of its fault
-abbrev pub IsRowFault : List ℕ → ℕ → ℕ → Type 0
-IsRowFault bytes row number = (e : LogError) × IsLogFault bytes e × (row_fault e ≡ Some (row, number))
+-- the refusal of a piece of a log by its first record that is no row
+abbrev pub IsLogRefusal : List ℕ → Refusal → Type 0
+IsLogRefusal bytes r = (e : LogError) × IsLogFault bytes e × (log_refusal e ≡ Some r)
 
 -- a piece of a log has rows, or a first fault
 abbrev pub LogReply : Declaration → State → ℕ → Trace → List ℕ → List ℕ → State → Type 0
 LogReply d s k trace bytes text s' =
     ((rows : List Row) × AreRows (records_of bytes) rows × AcceptReply d s k (with_rows trace rows (length bytes)) text s')
-    ⊎ ((row : ℕ) × (number : ℕ) × IsRowFault bytes row number × Refuses s (codes "26" ∷ decimal_of row ∷ decimal_of number ∷ []) text s')
+    ⊎ ((r : Refusal) × IsLogRefusal bytes r × Refuses s r text s')
 
 -- ---- pieces of captures
 -- the bytes of a capture so far
@@ -144,23 +133,16 @@ abbrev pub bytes_of : Trace → List ℕ
 bytes_of (Captured bytes capture) = bytes
 bytes_of (Logged rows size) = []
 
--- the numbers by which a capture is refused
-abbrev pub capture_fault : PcapError → Option (List (List ℕ))
-capture_fault refused.Magic = Some (codes "24" ∷ codes "1" ∷ [])
-capture_fault refused.Version = Some (codes "24" ∷ codes "2" ∷ [])
-capture_fault (refused.Length place) = Some (codes "25" ∷ decimal_of place ∷ [])
-capture_fault refused.Memory = None
-
--- why a capture of these bytes is refused, as numbers
-abbrev pub IsCaptureFault : List ℕ → List (List ℕ) → Type 0
-IsCaptureFault bytes numbers = (e : PcapError) × IsFault bytes e × (capture_fault e ≡ Some numbers)
+-- the refusal of a capture of these bytes
+abbrev pub IsCaptureRefusal : List ℕ → Refusal → Type 0
+IsCaptureRefusal bytes r = (e : CaptureError) × IsFault bytes e × (capture_refusal e ≡ Some r)
 
 -- a capture with one piece more is read, or refused
 abbrev pub CaptureReply : Declaration → State → ℕ → Trace → List ℕ → List ℕ → State → Type 0
 CaptureReply d s k trace piece text s' =
     let bytes = bytes_of trace ++ piece in
     ((capture : captures.Capture) × Reads bytes capture × AcceptReply d s k (Captured bytes capture) text s')
-    ⊎ ((numbers : List (List ℕ)) × IsCaptureFault bytes numbers × Refuses s numbers text s')
+    ⊎ ((r : Refusal) × IsCaptureRefusal bytes r × Refuses s r text s')
 
 -- a piece by the kind of its label
 abbrev pub KindReply : Declaration → State → ℕ → Trace → TraceKind → List ℕ → List ℕ → State → Type 0
@@ -176,7 +158,7 @@ abbrev pub PieceReply : Declaration → State → ℕ → Option Label → Optio
 PieceReply d s k None trace bytes text s' = ⊥
 PieceReply d s k (Some label) None bytes text s' = ⊥
 PieceReply d s k (Some label) (Some trace) bytes text s' =
-    MatchBool (fits_label trace bytes) (KindReply d s k trace label.kind bytes text s') (Refuses s (codes "23" ∷ []) text s')
+    MatchBool (fits_label trace bytes) (KindReply d s k trace label.kind bytes text s') (Refuses s TooManyBytes text s')
 
 -- the place of a label by its name
 abbrev pub label_at : Declaration → List ℕ → Option ℕ
@@ -184,14 +166,14 @@ label_at d name = position (λ (l : Label). bytes_eq l.name name) d.labels
 
 -- the first refusal that applies, or what was added
 abbrev pub AddReply : Declaration → State → Option ℕ → Found → List ℕ → State → Type 0
-AddReply d s None Unread text s' = Refuses s (codes "21" ∷ []) text s'
+AddReply d s None Unread text s' = Refuses s UnknownLabel text s'
 AddReply d s None (Bytes bytes) text s' = ⊥
 AddReply d s None Absent text s' = ⊥
 AddReply d s None Failed text s' = ⊥
 AddReply d s (Some k) Unread text s' = ⊥
 AddReply d s (Some k) (Bytes bytes) text s' = PieceReply d s k (slice_get d.labels k) (slice_get s.traces k) bytes text s'
-AddReply d s (Some k) Absent text s' = Refuses s (codes "22" ∷ []) text s'
-AddReply d s (Some k) Failed text s' = Refuses s (codes "22" ∷ []) text s'
+AddReply d s (Some k) Absent text s' = Refuses s UnreadFile text s'
+AddReply d s (Some k) Failed text s' = Refuses s UnreadFile text s'
 
 -- ---- any command
 -- the texts that are replies, and what the session then has

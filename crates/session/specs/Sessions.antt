@@ -1,9 +1,10 @@
 -- A session over a script: one reply for each line, in order.
-use Rattle.std.specs.Prelude.{◌≡◌, ℕ, ◌+◌, ◌-◌, ◌^◌, ◌<◌, ◌≤◌, List, [], ◌∷◌, length, map, count_by, Option, Some, None, Bool, true, false, nat_le, codes, MatchBool}
+use Rattle.std.specs.Prelude.{◌≡◌, ℕ, ◌+◌, ◌-◌, ◌^◌, ◌<◌, ◌≤◌, List, [], ◌∷◌, length, map, count_by, Option, Some, None, Bool, true, false, nat_le, MatchBool}
 use Rattle.ports.specs.Files.{Content, FilesTold}
 use Rattle.decl.specs.declared.items.Label.{Label}
 use Rattle.decl.specs.Declaration.{Declaration}
 use Rattle.traces.specs.Traces.{nothing_for}
+use Rattle.session.specs.declared.refusal.Refusal.TheVariants.{NoCommand}
 use Rattle.session.specs.Commands.{Command, Add, Interval, Order, Time, Merge, Prove, Problem, Report, Asks}
 use Rattle.session.specs.Reply.{State, Found, Unread, Bytes, Absent, Failed, Refuses, Reply}
 
@@ -24,14 +25,14 @@ FoundAt (Some files) Report found = Unit {0}
 
 -- the reply to a command, or the refusal of a line that spells none
 abbrev pub CommandReply : Declaration → Content → State → Option Command → Found → List ℕ → State → Type 0
-CommandReply d files s None found text s' = (found ≡ Unread) × Refuses s (codes "20" ∷ []) text s'
+CommandReply d files s None found text s' = (found ≡ Unread) × Refuses s NoCommand text s'
 CommandReply d files s (Some c) found text s' = FoundAt files c found × Reply d s c found text s'
 
 -- the reply to a line, and what the session then has; a line over 4,096 bytes is refused
 abbrev pub LineReply : Declaration → Content → State → List ℕ → Found → List ℕ → State → Type 0
 LineReply d files s line found text s' = MatchBool (nat_le (length line) 4096)
     ((c : Option Command) × Asks line c × CommandReply d files s c found text s')
-    ((found ≡ Unread) × Refuses s (codes "20" ∷ []) text s')
+    ((found ≡ Unread) × Refuses s NoCommand text s')
 
 -- each line has one reply, in order
 abbrev pub Session : Declaration → Content → State → List (List ℕ) → List Found → List (List ℕ) → State → Type 0

@@ -1,15 +1,18 @@
 -- What a session holds, and what it stands for.
-use Rattle.std.specs.Prelude.{◌≡◌, ℕ, ◌+◌, ◌^◌, ◌≤◌, List, [], ◌∷◌, length, map, slice_get, Some, All, Result, OnOk, IsErrOf}
+use Rattle.std.specs.Prelude.{◌≡◌, ℕ, ◌+◌, ◌^◌, ◌≤◌, List, [], ◌∷◌, length, map, slice_get, Some, All, Result, OnOk, IsErrOf, ⊤}
 use Rattle.ports.specs.Content.{Appends, AppendsPrefix, Rose, SinkTold}
 use Rattle.ports.specs.Files.{FilesTold}
-use Rattle.pcap_stream.specs.Capture as captures
-use Rattle.pcap_stream.specs.Feeding as feeding
-use Rattle.pcap_stream.specs.Feeding.{Tail}
+use Rattle.captures.specs.Feeding as feeding
+use Rattle.captures.specs.Feeding.{taken, rest_of}
 use Rattle.decl.specs.declared.items.Label.{Label}
+use Rattle.decl.specs.declared.items.TraceKind.{TraceKind}
+use Rattle.decl.specs.declared.items.TraceKind.TheVariants.{Capture, Log}
 use Rattle.decl.specs.Declaration.{Declaration, IsDeclaration}
 use Rattle.trace_event.specs.Seen.{Seen, seen_events}
 use Rattle.traces.specs.declared.accepted.Accepted.{Accepted}
-use Rattle.traces.specs.Traces.{Trace, Captured, size_of, seen_by, IsOfKind, event_count}
+use Rattle.traces.specs.declared.accepted.Stream.{Stream}
+use Rattle.traces.specs.declared.accepted.Stream.TheVariants as streams
+use Rattle.traces.specs.Traces.{Trace, Captured, Logged, size_of, seen_by, IsOfKind, event_count}
 use Rattle.traces.specs.Messages.{problem_of_seen}
 use Rattle.problem_model.specs.Problem.{ProblemLists}
 use Rattle.queries.specs.declared.stop.Stop.{Stop}
@@ -17,11 +20,35 @@ use Rattle.queries.specs.declared.stop.Stop.TheVariants as stops
 use Rattle.session.specs.Reply.{State, Found}
 use Rattle.session.specs.Sessions.{LineReply, AreCounted}
 
--- what is held under a label: its events, how many bytes were accepted, and the tail of a capture
+-- ---- what is kept of the bytes under a label
+-- the kind of the label
+abbrev pub kind_of : Stream → TraceKind
+kind_of streams.Log = Log
+kind_of (streams.Capture tail) = Capture
+
+-- how many bytes wait for more; of a log none do
+abbrev pub waiting : Stream → ℕ
+waiting streams.Log = 0
+waiting (streams.Capture tail) = length (rest_of tail)
+
+-- a capture was read no further than through so many bytes
+abbrev pub IsWithin : Stream → ℕ → Type 0
+IsWithin streams.Log size = ⊤
+IsWithin (streams.Capture tail) size = taken tail ≤ size
+
+-- this is kept of what was accepted
+abbrev pub IsStreamOf : Stream → Trace → Type 0
+IsStreamOf streams.Log (Captured bytes capture) = ⊥
+IsStreamOf streams.Log (Logged rows size) = ⊤
+IsStreamOf (streams.Capture tail) (Captured bytes capture) = feeding.StandsFor tail bytes capture
+IsStreamOf (streams.Capture tail) (Logged rows size) = ⊥
+
+-- ---- what is held
+-- what is held under a label: its events, how many bytes were accepted, and what is kept of them
 pub record Under : Type 0 where
   pub events : List Seen
   pub size : ℕ
-  pub tail : Tail
+  pub stream : Stream
 
 -- what a session holds: its declaration, and what is held under each label
 pub record Held : Type 0 where
@@ -36,9 +63,9 @@ seen_held under = map (λ (u : Under). u.events) under
 abbrev pub problem_held : Held → ProblemLists
 problem_held h = problem_of_seen h.declaration (seen_held h.under)
 
--- a label has at most 2^30 bytes, and its tail is of no more
+-- a label has at most 2^30 bytes, and what is kept of them is of no more
 abbrev pub IsUnder : Under → Type 0
-IsUnder u = (u.size ≤ 2 ^ 30) × (u.tail.offset + length u.tail.rest ≤ u.size)
+IsUnder u = (u.size ≤ 2 ^ 30) × IsWithin u.stream u.size
 
 -- what a session holds is within its limits, with a place for each label
 pub record IsHeld (h : Held) : Type 0 where
@@ -49,7 +76,7 @@ pub record IsHeld (h : Held) : Type 0 where
 
 -- what the code holds under a label
 abbrev pub under_of : Accepted → Under
-under_of a = record { events = seen_events a.events.items; size = a.size; tail = a.stream }
+under_of a = record { events = seen_events a.events.items; size = a.size; stream = a.stream }
 
 -- what the code's own declaration and labels hold
 abbrev pub held_of : Declaration → List Accepted → Held
@@ -62,8 +89,7 @@ pub record StandsFor (h : Held) (d : Declaration) (s : State) : Type 0 where
   pub kinds : (k : ℕ) (label : Label) (trace : Trace) → slice_get d.labels k ≡ Some label → slice_get s.traces k ≡ Some trace → IsOfKind label.kind trace
   pub events : seen_held h.under ≡ seen_by d s.traces
   pub sizes : map (λ (u : Under). u.size) h.under ≡ map size_of s.traces
-  pub tails : (k : ℕ) (u : Under) (bytes : List ℕ) (capture : captures.Capture) → slice_get h.under k ≡ Some u → slice_get s.traces k ≡ Some (Captured bytes capture)
-      → feeding.StandsFor u.tail bytes capture
+  pub streams : (k : ℕ) (u : Under) (trace : Trace) → slice_get h.under k ≡ Some u → slice_get s.traces k ≡ Some trace → IsStreamOf u.stream trace
   pub kept : s.kept ≡ []
 
 -- for each declaration, traces and kept events that the session stood for, a reply to the line stands written so, and the

@@ -1,47 +1,61 @@
 // What was accepted under the labels.
-ghost use Rattle.std.specs.Prelude.{◌≡◌, ◌<◌, ◌≤◌, ◌+◌, ◌^◌, ◌++◌, ◌&&◌, List, length, map, nat_le, slice_get, Some, OnOk, OnErr, IfOk};
+ghost use Rattle.std.specs.Prelude.{◌≡◌, ◌<◌, ◌≤◌, ◌+◌, ◌^◌, ◌++◌, ◌&&◌, List, length, map, nat_le, OnOk, OnErr, IfOk};
 ghost use Rattle.trace_event.specs.Seen.{Seen, seen_events};
 ghost use Rattle.traces.specs.Traces.{event_count, numbered};
 ghost use Rattle.traces.specs.Held.{seen_in};
 ghost use Rattle.trace_match.specs.Ends.{ends_of, AreEndsOf, IsChange};
-ghost use Rattle.session.specs.Stands.{under_of};
-ghost use Rattle.session.specs.Inside.{AreEmpty, HasPlace, IsGrownAt};
+ghost use Rattle.session.specs.Stands.{under_of, waiting, kind_of};
+ghost use Rattle.session.specs.Inside.{AreEmpty, IsNewStream, HasPlace, IsGrownAt};
 
-use decl::Label;
-use pcap_stream::PcapStream;
+use crate::limits::{MOST_EVENTS, MOST_OF_LABEL, MOST_PIECE};
+use captures::CaptureStream;
+use decl::{Label, TraceKind};
 use std::alloc::{AllocError, Global};
 use trace_event::Event;
 use trace_match::{Changed, TraceMatcher, ends_grow};
-use traces::{Accepted, event_count};
+use traces::{Accepted, Stream, event_count};
+
+// What is kept under a label of this kind of which nothing came yet.
+fn new_stream(alloc: Global, kind: TraceKind) -> Stream
+    ensures new { IsNewStream result }
+    ensures kind { kind_of result ≡ kind }
+{
+    match kind {
+        TraceKind::Capture => Stream::Capture(CaptureStream::new(alloc)),
+        TraceKind::Log => Stream::Log,
+    }
+}
 
 /// Nothing yet, under each label.
 pub(crate) fn nothing_under(alloc: Global, labels: &[Label]) -> Result<Vec<Accepted>, AllocError>
-    ensures { IfOk result (λ accepted. AreEmpty (map under_of accepted.items) (length labels.now)) }
+    ensures { IfOk result (λ accepted. AreEmpty (map under_of accepted.items) labels.now) }
 {
     let mut accepted = Vec::new(alloc);
-    for _ in labels {
+    for label in labels {
         accepted.push(Accepted {
             events: Vec::new(alloc),
             size: 0,
-            stream: PcapStream::new(alloc),
+            stream: new_stream(alloc, label.kind),
         })?;
     }
     Ok(accepted)
 }
 
-/// How many bytes a label has.
-pub(crate) fn size_at(accepted: &[Accepted], k: usize) -> u64
-    requires { k < length accepted.now }
-    ensures { slice_get (map (λ a. a.size) accepted.now) k ≡ Some result }
+/// How many bytes wait for more.
+pub(crate) fn waiting(stream: &Stream) -> u64
+    ensures { result ≡ waiting stream.now }
 {
-    accepted[k].size
+    match stream {
+        Stream::Log => 0,
+        Stream::Capture(stream) => u64::from(stream.pending()),
+    }
 }
 
 /// Whether a piece is not too long by itself, and with the bytes that its label has.
 pub(crate) fn has_place(old: u64, size: u64) -> bool
     ensures { result ≡ (nat_le size (2 ^ 28) && nat_le (old + size) (2 ^ 30)) }
 {
-    size <= 1 << 28 && old <= 1 << 30 && old + size <= 1 << 30
+    size <= MOST_PIECE && old <= MOST_OF_LABEL && old + size <= MOST_OF_LABEL
 }
 
 /// Whether there may be so many events more.
@@ -49,10 +63,11 @@ pub(crate) fn has_room(accepted: &[Accepted], more: usize) -> bool
     requires { event_count (seen_in accepted.now) ≤ 2 ^ 20 }
     ensures { result ≡ nat_le (event_count (seen_in accepted.now) + more) (2 ^ 20) }
 {
-    if more > 1 << 20 {
+    let more = more as u64;
+    if more > MOST_EVENTS {
         return false;
     }
-    event_count(accepted) + more as u64 <= 1 << 20
+    event_count(accepted) + more <= MOST_EVENTS
 }
 
 // Appends events to those of a label, and to the ends of messages. It answers how the messages change; for want of memory all
@@ -82,15 +97,15 @@ fn append(
     }
 }
 
-/// Appends events to those of the label at a place, which came in so many bytes, and to the ends of messages, and notes how
-/// far the label's capture was read then. It answers how the messages change; for want of memory all stays.
+/// Appends events to those of the label at a place, which came in so many bytes, and to the ends of messages, and notes
+/// what is then kept of its bytes. It answers how the messages change; for want of memory all stays.
 pub(crate) fn extend(
     accepted: &mut [Accepted],
     matcher: &mut TraceMatcher,
     k: usize,
     events: Vec<Event>,
     size: u64,
-    stream: PcapStream,
+    stream: Stream,
 ) -> Result<Changed, AllocError>
     requires inside { k < length accepted.old }
     requires labels { length accepted.old ≤ 65536 }

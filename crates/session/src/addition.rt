@@ -1,37 +1,34 @@
-// The reply to an addition.
-ghost use Rattle.ports.specs.Content.{WritesSuch};
-ghost use Rattle.queries.specs.declared.stop.Stop.TheVariants as stops;
+// What an addition changed.
+ghost use Rattle.std.specs.Prelude.{IfOk};
 ghost use Rattle.session.specs.Inside.{IsAddedTo};
+ghost use Rattle.session.specs.Outcomes.{outcome_line};
 
-use crate::lines::{Added, added_line, write_line};
-use ports::Sink;
+use crate::outcome::{Added, Outcome};
+use atto::Steps;
 use problem::Problem;
-use queries::{Stop, is_consistent};
-use std::alloc::Global;
+use queries::is_consistent;
+use std::alloc::{AllocError, Global};
+use std::sync::ledger::Ledger;
 use trace_match::Changed;
 
-/// Writes the line of an addition of so many events, behind which this is the problem and so many bytes wait, by how the
+/// What is told of an addition of so many events, behind which this is the problem and so many bytes wait, by how the
 /// messages changed.
-pub(crate) fn write_added<O: Sink>(
+pub(crate) fn outcome_of<L: Ledger>(
     alloc: Global,
     p: &Problem,
     events: u64,
     pending: u64,
     changed: Changed,
-    out: &mut O,
-) -> Result<(), Stop>
-    ensures { WritesSuch (IsAddedTo p.now changed events pending) stops.WriteFault (O.told out.old) (O.told out.new) result }
+    steps: &mut Steps<L>,
+) -> Result<Outcome, AllocError>
+    ensures { IfOk result (λ outcome. IsAddedTo p.now changed events pending (outcome_line outcome)) }
 {
-    let consistent = is_consistent(alloc, p)?;
-    let line = added_line(
-        alloc,
-        Added {
-            events,
-            messages: u64::from(changed.messages),
-            withdrawn: u64::from(changed.withdrawn),
-            pending,
-            consistent,
-        },
-    )?;
-    write_line(&line, out)
+    let consistent = is_consistent(alloc, p, steps)?;
+    Ok(Outcome::Added(Added {
+        events,
+        messages: u64::from(changed.messages),
+        withdrawn: u64::from(changed.withdrawn),
+        pending,
+        consistent,
+    }))
 }

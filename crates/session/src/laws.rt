@@ -9,9 +9,9 @@ ghost use Rattle.session.specs.Reply.{State, Found};
 ghost use Rattle.session.specs.Sessions.{LineReply};
 ghost use Rattle.session.specs.OneReply.{IsState, AreOneBut};
 
+use captures::{captures_are_one, faults_are_one, refused_or_read};
 use event_log::log_answers_are_one;
 use merging::merges_are_one;
-use pcap_stream::{captures_are_one, faults_are_one, refused_or_read};
 
 /// A law, which does nothing when it runs: a line asks for one command at most.
 pub fn commands_are_one()

@@ -1,54 +1,138 @@
-// Refusals of a piece: of a log by one of its rows, of a capture by its header or one of its records.
-ghost use Rattle.std.specs.Prelude.{◌≡◌};
-ghost use Rattle.ports.specs.Content.{WritesSuch};
-ghost use Rattle.queries.specs.declared.stop.Stop.TheVariants as stops;
-ghost use Rattle.session.specs.Reply.{row_fault};
-ghost use Rattle.session.specs.Inside.{IsCaptureRefusal, IsRowRefusal};
+// Refusals, and the lines that tell them.
+ghost use Rattle.std.specs.Prelude.{◌≡◌, ◌≤◌, ◌+◌, ◌++◌, ◌∷◌, [], ℕ, List, length};
+ghost use Rattle.atto.specs.Decimal.{decimal_of};
+ghost use Rattle.line_format.specs.Words.{words};
+ghost use Rattle.line_words.specs.Room.{HasRoom};
+ghost use Rattle.ports.specs.Content.{Writes};
+ghost use Rattle.session.specs.Refusals.{number_of, details, refusal_line, log_refusal, capture_refusal};
 
-use crate::lines::{place_line, row_line, write_line};
+use crate::lines::write_line;
+use captures::CaptureError;
 use event_log::LogError;
-use pcap_stream::PcapError;
+use line_words::line::{Line, first_word, push_decimal};
 use ports::Sink;
 use queries::Stop;
-use std::alloc::Global;
 
-// The row of a fault, counted from 1, and its number.
-fn row_fault(e: LogError) -> Option<(u32, u32)>
-    ensures { result ≡ row_fault e }
+/// Why a line changes nothing, in the order in which the causes are looked for.
+#[derive(Clone, Copy, Debug)]
+pub enum Refusal {
+    /// The line spells no command, or has more than 4,096 bytes.
+    NoCommand,
+    /// No label has this name.
+    UnknownLabel,
+    /// The file is not there, or could not be read.
+    UnreadFile,
+    /// The piece has more bytes than one may have, or than the label has room for.
+    TooManyBytes,
+    /// The first bytes begin no capture.
+    CaptureMagic,
+    /// The capture is of a version that is not read.
+    CaptureVersion,
+    /// A record of the capture is too long.
+    CaptureRecord {
+        /// The place of the record, in bytes from the start of the capture.
+        place: u32,
+    },
+    /// A record of the log is no row.
+    LogRow {
+        /// The row, counted from 1.
+        row: u32,
+        /// What it lacks: 1 its fields, 2 its stamp, 3 its kind, 4 its text.
+        lack: u32,
+    },
+    /// There would be too many events.
+    TooManyEvents,
+    /// No event has this name.
+    UnknownEvent,
+    /// There is no source, or its clock has no reading.
+    NoSourceTime,
+}
+
+impl Refusal {
+    /// The number that stands for it.
+    pub(crate) fn number(self) -> u64
+        ensures { result ≡ number_of self }
+    {
+        match self {
+            Refusal::NoCommand => 20,
+            Refusal::UnknownLabel => 21,
+            Refusal::UnreadFile => 22,
+            Refusal::TooManyBytes => 23,
+            Refusal::CaptureMagic => 24,
+            Refusal::CaptureVersion => 24,
+            Refusal::CaptureRecord { .. } => 25,
+            Refusal::LogRow { .. } => 26,
+            Refusal::TooManyEvents => 27,
+            Refusal::UnknownEvent => 28,
+            Refusal::NoSourceTime => 29,
+        }
+    }
+
+    /// The line that tells it: its number, and the numbers that say where and why.
+    pub(crate) fn line(self) -> Line
+        ensures { result.items ≡ refusal_line self }
+    {
+        let mut line = first_word(b"refused");
+        push_decimal(&mut line, self.number());
+        push_details(&mut line, self);
+        line.push(b'\n');
+        line
+    }
+}
+
+// Appends the numbers that say where and why.
+fn push_details(line: &mut Line, refusal: Refusal)
+    requires room { HasRoom line.old.items 98 }
+    ensures appended { (first : List ℕ) (ws : List (List ℕ)) → line.old.items ≡ words (first ∷ ws) → line.new.items ≡ words (first ∷ ws ++ details refusal) }
+    ensures grown { length line.new.items ≤ length line.old.items + 98 }
+{
+    match refusal {
+        Refusal::CaptureMagic => push_decimal(line, 1),
+        Refusal::CaptureVersion => push_decimal(line, 2),
+        Refusal::CaptureRecord { place } => push_decimal(line, u64::from(place)),
+        Refusal::LogRow { row, lack } => push_both(line, u64::from(row), u64::from(lack)),
+        _ => {}
+    }
+}
+
+// Appends two decimals.
+fn push_both(line: &mut Line, first: u64, second: u64)
+    requires room { HasRoom line.old.items 98 }
+    ensures appended { (word : List ℕ) (ws : List (List ℕ)) → line.old.items ≡ words (word ∷ ws) → line.new.items ≡ words (word ∷ ws ++ decimal_of first ∷ decimal_of second ∷ []) }
+    ensures grown { length line.new.items ≤ length line.old.items + 98 }
+{
+    push_decimal(line, first);
+    push_decimal(line, second);
+}
+
+/// Writes the line of a refusal.
+pub(crate) fn write_refusal<O: Sink>(refusal: Refusal, out: &mut O) -> Result<(), Stop>
+    ensures { Writes (refusal_line refusal) (O.told out.old) (O.told out.new) result }
+{
+    write_line(&refusal.line(), out)
+}
+
+/// Why a piece of a log is refused; None for want of memory.
+pub(crate) fn log_refusal(e: LogError) -> Option<Refusal>
+    ensures { result ≡ log_refusal e }
 {
     match e {
-        LogError::Fields(row) => Some((row, 1)),
-        LogError::Stamp(row) => Some((row, 2)),
-        LogError::Kind(row) => Some((row, 3)),
-        LogError::Text(row) => Some((row, 4)),
+        LogError::Fields(row) => Some(Refusal::LogRow { row, lack: 1 }),
+        LogError::Stamp(row) => Some(Refusal::LogRow { row, lack: 2 }),
+        LogError::Kind(row) => Some(Refusal::LogRow { row, lack: 3 }),
+        LogError::Text(row) => Some(Refusal::LogRow { row, lack: 4 }),
         LogError::Memory => None,
     }
 }
 
-/// Refuses a piece for this fault. For want of memory nothing is written, and `Memory` is answered.
-pub(crate) fn refuse_row<O: Sink>(alloc: Global, e: LogError, out: &mut O) -> Result<(), Stop>
-    ensures { WritesSuch (IsRowRefusal e) stops.WriteFault (O.told out.old) (O.told out.new) result }
-{
-    match row_fault(e) {
-        Some((row, number)) => {
-            let line = row_line(alloc, row, number)?;
-            write_line(&line, out)
-        }
-        None => Err(Stop::Memory),
-    }
-}
-
-/// Refuses a piece of a capture for this fault. For want of memory nothing is written, and `Memory` is answered.
-pub(crate) fn refuse_capture<O: Sink>(alloc: Global, e: PcapError, out: &mut O) -> Result<(), Stop>
-    ensures { WritesSuch (IsCaptureRefusal e) stops.WriteFault (O.told out.old) (O.told out.new) result }
+/// Why a piece of a capture is refused; None for want of memory.
+pub(crate) fn capture_refusal(e: CaptureError) -> Option<Refusal>
+    ensures { result ≡ capture_refusal e }
 {
     match e {
-        PcapError::Magic => write_line(b"refused 24 1\n", out),
-        PcapError::Version => write_line(b"refused 24 2\n", out),
-        PcapError::Length(place) => {
-            let line = place_line(alloc, place)?;
-            write_line(&line, out)
-        }
-        PcapError::Memory => Err(Stop::Memory),
+        CaptureError::Magic => Some(Refusal::CaptureMagic),
+        CaptureError::Version => Some(Refusal::CaptureVersion),
+        CaptureError::Length(place) => Some(Refusal::CaptureRecord { place }),
+        CaptureError::Memory => None,
     }
 }

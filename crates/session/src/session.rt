@@ -1,11 +1,12 @@
 // One line at a time.
-ghost use Rattle.std.specs.Prelude.{◌≡◌, ◌≤◌, [], ◌∷◌, length, IfOk, IfErr, codes};
+ghost use Rattle.std.specs.Prelude.{◌≡◌, ◌≤◌, length, IfOk, IfErr};
 ghost use Rattle.ports.specs.Content.{Writes};
 ghost use Rattle.ports.specs.Files.{Keeps};
 ghost use Rattle.decl.specs.Declaration.{IsDeclaration, declaration_of};
 ghost use Rattle.queries.specs.declared.stop.Stop.TheVariants as stops;
 ghost use Rattle.session.specs.CommandSeen.{question_seen};
-ghost use Rattle.session.specs.Reply.{refusal};
+ghost use Rattle.session.specs.declared.refusal.Refusal.TheVariants as refusals;
+ghost use Rattle.session.specs.Refusals.{refusal_line};
 ghost use Rattle.session.specs.Sessions.{start};
 ghost use Rattle.session.specs.Stands.{WritesReply, StandsFor, Stepped, problem_held};
 ghost use Rattle.session.specs.Inside.{Asked};
@@ -14,13 +15,16 @@ use crate::accepted::nothing_under;
 use crate::answering::answer;
 use crate::command::{Command, Question, read_command};
 use crate::lines::write_line;
+use crate::refusal::{Refusal, write_refusal};
+use atto::Steps;
+use captures::{new_stands, nothing_reads};
 use decl::Decl;
-use pcap_stream::{new_stands, nothing_reads};
 use ports::{Files, Sink, write_whole};
 use problem::Problem;
 use queries::Stop;
 use std::alloc::{AllocError, Global};
 use std::marker::Model;
+use std::sync::ledger::Ledger;
 use trace_match::{TraceMatcher, ends_grow};
 use trace_problem::problem_of;
 use traces::{Accepted, events};
@@ -67,16 +71,17 @@ impl Session {
     }
 
     /// Writes the reply to a line, which is given without its line feed and has at most 4,096 bytes. A command that is
-    /// refused changes nothing.
+    /// refused changes nothing. The steps of its searches are counted.
     ///
     /// `WriteFault` is answered only where the sink's count of faults rose, or stands at its last value: a front of the
     /// reply is then written, and the session is as if all of it were. `Memory` is answered where memory runs out: behind
     /// it nothing is promised of the session, nor of what is written.
-    pub fn step<F: Files, O: Sink>(
+    pub fn step<F: Files, O: Sink, L: Ledger>(
         &mut self,
         line: &[u8],
         files: &mut F,
         out: &mut O,
+        steps: &mut Steps<L>,
     ) -> Result<(), Stop>
         requires { length line.now ≤ 4096 }
         ensures writes { WritesReply (Stepped line.now (F.told files.old) (F.told files.new) self.old self.new)
@@ -84,19 +89,22 @@ impl Session {
         ensures keeps { Keeps (F.told files.old) (F.told files.new) }
     {
         match read_command(line) {
-            Some(Command::Add { label, path }) => self.add(label, path, files, out),
-            Some(Command::Ask(question)) => self.ask(question, out),
-            None => write_line(b"refused 20\n", out),
+            Some(Command::Add { label, path }) => {
+                let outcome = self.add(label, path, files, steps)?;
+                write_line(&outcome.line(), out)
+            }
+            Some(Command::Ask(question)) => self.ask(question, out, steps),
+            None => write_refusal(Refusal::NoCommand, out),
         }
     }
 
     /// Writes the reply to a line of more than 4,096 bytes, which is refused.
     pub fn too_long<O: Sink>(&mut self, out: &mut O) -> Result<(), Stop>
-        ensures writes { Writes (refusal (codes "20" ∷ [])) (O.told out.old) (O.told out.new) result }
+        ensures writes { Writes (refusal_line refusals.NoCommand) (O.told out.old) (O.told out.new) result }
         ensures only { IfErr result (λ stop. stop ≡ stops.WriteFault) }
         ensures unchanged { self.new ≡ self.old }
     {
-        write_whole(out, b"refused 20\n")?;
+        write_whole(out, &Refusal::NoCommand.line())?;
         Ok(())
     }
 
@@ -110,10 +118,23 @@ impl Session {
     }
 
     // Writes the answer to a question.
-    fn ask<O: Sink>(&self, question: Question, out: &mut O) -> Result<(), Stop>
+    fn ask<O: Sink, L: Ledger>(
+        &self,
+        question: Question,
+        out: &mut O,
+        steps: &mut Steps<L>,
+    ) -> Result<(), Stop>
         ensures { WritesReply (Asked self.now (question_seen question.entry)) (O.told out.old) (O.told out.new) result }
     {
         let p = self.build()?;
-        answer(self.alloc, &self.decl, &self.accepted, &p, question, out)
+        answer(
+            self.alloc,
+            &self.decl,
+            &self.accepted,
+            &p,
+            question,
+            out,
+            steps,
+        )
     }
 }

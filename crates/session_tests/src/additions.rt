@@ -3,9 +3,12 @@ use crate::fixtures::{
     TWO_LOGS_DECLARATION, TWO_LOGS_PROBLEM, TWO_MESSAGES, answers, put_cut, replies_over,
     session_over,
 };
+use atto::Steps;
 use ports::{MemFiles, MemSink};
 use session::{Session, Stop};
 use std::alloc::{AllocError, Global};
+use std::marker::Brand;
+use std::sync::ledger::Blank;
 use std::test::*;
 
 // A capture and a log at one host.
@@ -83,7 +86,7 @@ const CUTS: [(usize, &str, &str); 14] = [
 ];
 
 // The files that are read, by their paths.
-const FILES: [(&str, &str); 10] = [
+const FILES: [(&str, &str); 11] = [
     ("a.csv", "100,send,m1,\n180,receive,m2,\n"),
     ("late.csv", "100,send,m1,\n190,receive,m2,\n"),
     ("later.csv", "100,send,m1,\n195,receive,m2,\n"),
@@ -93,6 +96,7 @@ const FILES: [(&str, &str); 10] = [
     ("zero.csv", "0,local,,\n"),
     ("large.csv", "4611686018427387904,local,,\n"),
     ("wrong.csv", "1,local,,\n2,local,,\n3,sends,m,\n4,send,m,\n"),
+    ("fields.csv", "1,local,,\n2,local,,\n3,local,,\n4,local\n"),
     ("empty.csv", ""),
 ];
 
@@ -146,6 +150,7 @@ const CASES: [Case; 9] = [
             ("add a nofile", "refused 22\n"),
             ("add a large.csv", "refused 26 1 2\n"),
             ("add a wrong.csv", "refused 26 3 3\n"),
+            ("add a fields.csv", "refused 26 4 1\n"),
             ("interval a#1 a#01", "refused 28\n"),
             ("order c#1 a#1", "refused 28\n"),
             ("order a#3 a#1", "refused 28\n"),
@@ -359,7 +364,8 @@ fn session_stops(
     out: &mut MemSink,
 ) -> Result<bool, Stop> {
     session.too_long(out)?;
-    let stop = session.step(b"problem", files, out);
+    let mut steps = Steps::<Brand>::open(Blank::new(1));
+    let stop = session.step(b"problem", files, out, &mut steps);
     Ok(out.bytes() == b"refused 20\n".as_slice() && stop == Err(Stop::WriteFault))
 }
 

@@ -1,8 +1,11 @@
 // Declarations, captures and replies that several modules use, and sessions over them.
+use atto::Steps;
 use decl::read_decl;
 use ports::{MemFiles, MemSink};
 use session::{Session, Stop};
 use std::alloc::{AllocError, Global};
+use std::marker::Brand;
+use std::sync::ledger::Blank;
 
 // Two hosts with a log each, and a link each way.
 pub(crate) const TWO_LOGS_DECLARATION: &str =
@@ -86,7 +89,8 @@ fn is_answered(
     if line.len() > 4096 {
         return Ok(false);
     }
-    session.step(line.as_bytes(), files, out)?;
+    let mut steps = Steps::<Brand>::open(Blank::new(1));
+    session.step(line.as_bytes(), files, out, &mut steps)?;
     wanted.extend_from_slice(reply.as_bytes())?;
     Ok(out.bytes() == wanted.as_slice())
 }

@@ -1,8 +1,11 @@
 use crate::fixtures::TWO_LOGS_DECLARATION;
+use atto::Steps;
 use decl::read_decl;
 use ports::{MemFiles, MemSink, MemSource};
 use script::{Ended, answer_script};
 use std::alloc::{AllocError, Global};
+use std::marker::Brand;
+use std::sync::ledger::Blank;
 use std::test::Fail;
 
 // A script, which calls fail, and how the session ends with which replies.
@@ -18,8 +21,9 @@ struct Case<'a> {
 
 // How a session over the script ends.
 fn ended(alloc: Global, files: &mut MemFiles, input: &mut MemSource, out: &mut MemSink) -> Ended {
+    let mut steps = Steps::<Brand>::open(Blank::new(1));
     match read_decl(alloc, TWO_LOGS_DECLARATION.as_bytes()) {
-        Ok(decl) => answer_script(alloc, decl, files, input, out),
+        Ok(decl) => answer_script(alloc, decl, files, input, out, &mut steps),
         Err(_) => Ended::Memory,
     }
 }

@@ -3,6 +3,9 @@
 //! The bounds are brought in one by one, in the order in which their events may have come: each clock upward, each send
 //! before its receive, and otherwise by the stamps, with the offsets of the clocks taken off. So most of them raise few
 //! values.
+//!
+//! `steps` counts each node that is asked for at the frontier and each arc that is asked for at a node. No number of them
+//! is promised.
 #![tactic(auto)]
 
 mod offsets;

@@ -4,8 +4,10 @@ ghost use Rattle.std.specs.List.{range_with_len};
 ghost use Rattle.solver.specs.Order.{AreAllArcs};
 
 use crate::ranks::node_ranks;
+use atto::Steps;
 use problem::Problem;
 use std::alloc::{AllocError, Global};
+use std::sync::ledger::Ledger;
 use sync_graph::Graph;
 
 // The greater rank of the ends of an arc.
@@ -38,10 +40,15 @@ fn numbers(alloc: Global, ranked: &[(u32, u32)]) -> Result<Vec<u32>, AllocError>
 }
 
 /// The numbers of all arcs of a problem's graph, each once, in the order in which their ends are brought in.
-pub fn insertion_order(alloc: Global, p: &Problem, g: &Graph) -> Result<Vec<u32>, AllocError>
+pub fn insertion_order<L: Ledger>(
+    alloc: Global,
+    p: &Problem,
+    g: &Graph,
+    steps: &mut Steps<L>,
+) -> Result<Vec<u32>, AllocError>
     ensures { IfOk result (λ order. AreAllArcs g.now order.items) }
 {
-    let ranks = node_ranks(alloc, p, g)?;
+    let ranks = node_ranks(alloc, p, g, steps)?;
     let mut ranked = ranked_arcs(alloc, g, &ranks)?;
     ranked.sort_unstable();
     let order = numbers(alloc, &ranked)?;

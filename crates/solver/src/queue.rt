@@ -2,9 +2,11 @@
 ghost use Rattle.std.specs.Prelude.{◌≡◌, ◌+◌, ◌<◌, ◌≤◌, ◌^◌, length, All, IfOk, IfSome, IfNone};
 ghost use Rattle.solver.specs.Queues.{AreSuccessions};
 
+use atto::Steps;
 use frontier::Frontier;
 use std::alloc::{AllocError, Global};
 use std::marker::Model;
+use std::sync::ledger::Ledger;
 
 /// An event that comes next behind another: on its clock, or as the receive of a message behind its send.
 #[derive(Clone, Copy)]
@@ -101,13 +103,13 @@ impl Queue {
     }
 
     /// Takes out the earliest event that is ready; None where none is.
-    pub fn take(&mut self) -> Option<u32>
+    pub fn take<L: Ledger>(&mut self, steps: &mut Steps<L>) -> Option<u32>
         ensures all { self.new.all ≡ self.old.all }
         ensures event { IfSome result (λ event. event < self.old.all) }
         ensures left { IfSome result (λ event. self.new.left + 1 ≡ self.old.left) }
         ensures none { IfNone result (self.new ≡ self.old) }
     {
-        let (event, _) = self.ready.pop()?;
+        let (event, _) = self.ready.pop(steps)?;
         Some(event)
     }
 

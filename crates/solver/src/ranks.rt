@@ -4,9 +4,11 @@ ghost use Rattle.solver.specs.Queues.{AreSuccessions, AreEvents};
 
 use crate::offsets::clock_offsets;
 use crate::queue::{Queue, Succession};
+use atto::Steps;
 use problem::Problem;
 use problem_model::Bound;
 use std::alloc::{AllocError, Global};
+use std::sync::ledger::Ledger;
 use sync_graph::Graph;
 
 // An event behind its clock and its stamp, in ns.
@@ -114,10 +116,11 @@ fn by_time(alloc: Global, times: &[i128]) -> Result<Vec<Timed>, AllocError>
 }
 
 // Takes out the events that are ready, and those that become so by it, one after another.
-fn take_ready(
+fn take_ready<L: Ledger>(
     queue: &mut Queue,
     pairs: &[Succession],
     order: &mut Vec<u32>,
+    steps: &mut Steps<L>,
 ) -> Result<(), AllocError>
     requires pairs { AreSuccessions queue.old.all pairs.now }
     requires order { AreEvents queue.old.all order.old.items }
@@ -125,7 +128,7 @@ fn take_ready(
     ensures order { OnOk result (AreEvents queue.old.all order.new.items) }
     ensures once { OnOk result (length order.new.items + queue.new.left ≡ length order.old.items + queue.old.left) }
 {
-    while let Some(event) = queue.take() {
+    while let Some(event) = queue.take(steps) {
         order.push(event)?;
         queue.release(event, pairs);
     }
@@ -133,11 +136,12 @@ fn take_ready(
 }
 
 // Takes out all events. Where none is ready, the earliest one that has not been queued is.
-fn take_all(
+fn take_all<L: Ledger>(
     queue: &mut Queue,
     pairs: &[Succession],
     timed: &[Timed],
     order: &mut Vec<u32>,
+    steps: &mut Steps<L>,
 ) -> Result<(), AllocError>
     requires pairs { AreSuccessions queue.old.all pairs.now }
     requires timed { All (λ entry. entry.event < queue.old.all) timed.now }
@@ -148,17 +152,21 @@ fn take_all(
     for entry in timed {
         queue.push_ready(entry.event);
     }
-    take_ready(queue, pairs, order)?;
+    take_ready(queue, pairs, order, steps)?;
     for entry in timed {
         queue.push(entry.event);
-        take_ready(queue, pairs, order)?;
+        take_ready(queue, pairs, order, steps)?;
     }
     Ok(())
 }
 
 // All events, in an order that goes up on each clock and has each send before its receive, and otherwise goes by time.
 // Where clocks and messages allow no such order, the earliest event comes first.
-fn event_order(alloc: Global, p: &Problem) -> Result<Vec<u32>, AllocError>
+fn event_order<L: Ledger>(
+    alloc: Global,
+    p: &Problem,
+    steps: &mut Steps<L>,
+) -> Result<Vec<u32>, AllocError>
     ensures events { IfOk result (λ order. AreEvents (length p.now.events) order.items) }
     ensures once { IfOk result (λ order. length order.items ≤ length p.now.events) }
 {
@@ -167,13 +175,17 @@ fn event_order(alloc: Global, p: &Problem) -> Result<Vec<u32>, AllocError>
     let timed = by_time(alloc, &times)?;
     let mut queue = Queue::new(alloc, times, &pairs)?;
     let mut order = Vec::new(alloc);
-    take_all(&mut queue, &pairs, &timed, &mut order)?;
+    take_all(&mut queue, &pairs, &timed, &mut order, steps)?;
     Ok(order)
 }
 
 // The rank of each event: its place in the order of all of them.
-fn event_ranks(alloc: Global, p: &Problem) -> Result<Vec<u32>, AllocError> {
-    let order = event_order(alloc, p)?;
+fn event_ranks<L: Ledger>(
+    alloc: Global,
+    p: &Problem,
+    steps: &mut Steps<L>,
+) -> Result<Vec<u32>, AllocError> {
+    let order = event_order(alloc, p, steps)?;
     let mut ranks = Vec::new(alloc);
     ranks.resize(p.events().len(), 0)?;
     for (rank, event) in order.iter().enumerate() {
@@ -186,11 +198,16 @@ fn event_ranks(alloc: Global, p: &Problem) -> Result<Vec<u32>, AllocError> {
 const LAST: u32 = u32::MAX;
 
 /// The rank of each node: that of the event, or the least one among the events of the reading.
-pub fn node_ranks(alloc: Global, p: &Problem, g: &Graph) -> Result<Vec<u32>, AllocError>
+pub fn node_ranks<L: Ledger>(
+    alloc: Global,
+    p: &Problem,
+    g: &Graph,
+    steps: &mut Steps<L>,
+) -> Result<Vec<u32>, AllocError>
     ensures { IfOk result (λ ranks. length ranks.items ≡ length g.now.nodes) }
 {
     g.exact();
-    let mut ranks = event_ranks(alloc, p)?;
+    let mut ranks = event_ranks(alloc, p, steps)?;
     ranks.resize(g.nodes() as usize, LAST)?;
     for k in 0..g.arcs() {
         let arc = g.arc(k);

@@ -8,10 +8,12 @@ ghost use Rattle.solver.specs.GraphSolution.{IsGraphSolution};
 
 use crate::order::insertion_order;
 use crate::solution::{GraphSolution, Solution};
+use atto::Steps;
 use earliest::{Earliest, Inserted};
 use frontier::Frontier;
 use problem::Problem;
 use std::alloc::{AllocError, Global};
+use std::sync::ledger::Ledger;
 use sync_graph::{Graph, graph_of};
 
 // So many more nodes have the value 0.
@@ -34,11 +36,12 @@ fn zeros(alloc: Global, nodes: u32) -> Result<Earliest, AllocError>
 }
 
 // Brings in the arcs of a graph one by one, over values that are 0.
-fn bring_in(
+fn bring_in<L: Ledger>(
     alloc: Global,
     g: &Graph,
     order: &[u32],
     e: &mut Earliest,
+    steps: &mut Steps<L>,
 ) -> Result<Inserted, AllocError>
     requires order { AreAllArcs g.now order.now }
     requires in_force { AreAllInForce g.now }
@@ -47,7 +50,7 @@ fn bring_in(
 {
     g.exact();
     let mut front = Frontier::with_room(alloc, g.nodes())?;
-    e.rebuild_in_order(g, order, &mut front)
+    e.rebuild_in_order(g, order, &mut front, steps)
 }
 
 // The values that were kept, or the cycle that was found.
@@ -63,24 +66,34 @@ fn kept_or_cycle(e: Earliest, found: Inserted) -> GraphSolution
 /// Finds the earliest execution of a graph whose arcs are all in force, or a contradiction where it has none. The arcs
 /// are brought in in the order in which their numbers stand, which decides what it costs, and which contradiction is
 /// found where there are several. It answers an error only where memory runs out.
-pub fn solve_graph(alloc: Global, g: &Graph, order: &[u32]) -> Result<GraphSolution, AllocError>
+pub fn solve_graph<L: Ledger>(
+    alloc: Global,
+    g: &Graph,
+    order: &[u32],
+    steps: &mut Steps<L>,
+) -> Result<GraphSolution, AllocError>
     requires order { AreAllArcs g.now order.now }
     requires in_force { AreAllInForce g.now }
     ensures { IfOk result (λ solution. IsGraphSolution g.now solution) }
 {
     let mut e = zeros(alloc, g.nodes())?;
-    let found = bring_in(alloc, g, order, &mut e)?;
+    let found = bring_in(alloc, g, order, &mut e, steps)?;
     Ok(kept_or_cycle(e, found))
 }
 
 // Solves the graph of a problem, in the order of the problem.
-fn solve_in_order(alloc: Global, p: &Problem, g: &Graph) -> Result<GraphSolution, AllocError>
+fn solve_in_order<L: Ledger>(
+    alloc: Global,
+    p: &Problem,
+    g: &Graph,
+    steps: &mut Steps<L>,
+) -> Result<GraphSolution, AllocError>
     requires { IsGraphOf p.now g.now }
     ensures { IfOk result (λ solution. IsGraphSolution g.now solution) }
 {
     let _ = p.readings();
-    let order = insertion_order(alloc, p, g)?;
-    solve_graph(alloc, g, &order)
+    let order = insertion_order(alloc, p, g, steps)?;
+    solve_graph(alloc, g, &order, steps)
 }
 
 // What was found of the graph of a problem says the same of the problem.
@@ -99,10 +112,14 @@ fn of_problem(p: &Problem, g: Graph, found: GraphSolution) -> Solution
 
 /// Finds the earliest execution of a problem, or a contradiction where it has none. It answers an error only where
 /// memory runs out.
-pub fn solve(alloc: Global, p: &Problem) -> Result<Solution, AllocError>
+pub fn solve<L: Ledger>(
+    alloc: Global,
+    p: &Problem,
+    steps: &mut Steps<L>,
+) -> Result<Solution, AllocError>
     ensures { IfOk result (λ solution. IsSolution p.now solution) }
 {
     let g = graph_of(alloc, p)?;
-    let found = solve_in_order(alloc, p, &g)?;
+    let found = solve_in_order(alloc, p, &g, steps)?;
     Ok(of_problem(p, g, found))
 }

@@ -1,7 +1,12 @@
+ghost use Rattle.std.specs.Prelude.{◌≡◌, ◌<◌};
+
 use crate::order::insertion_order;
 use crate::ranks::node_ranks;
+use atto::Steps;
 use problem::{Problem, read_problem};
 use std::alloc::Global;
+use std::marker::Brand;
+use std::sync::ledger::{Blank, Ledger};
 use std::test::*;
 use sync_graph::{Graph, graph_of};
 
@@ -21,16 +26,25 @@ const TURNED: &str =
 const ONE_WAY: &str =
     "problem 1\nclock a 0 0 0 0\nclock b 0 0 0 0\nevent a#1 a 0\nevent a#2 a 1000\nevent b#1 b 10\nevent b#2 b 20\nevent b#3 b 30\nevent b#4 b 1010\nmessage a#1 b#1 10 20\nmessage a#2 b#4 10 20\nend\n";
 
-// Whether the nodes of a graph have these ranks.
-fn are_ranks(alloc: Global, p: &Problem, g: &Graph, want: &[u32]) -> Option<bool> {
-    let ranks = node_ranks(alloc, p, g).ok()?;
+// Whether the nodes of a graph have these ranks, counted by this ledger.
+fn are_ranks<L: Ledger>(
+    alloc: Global,
+    p: &Problem,
+    g: &Graph,
+    want: &[u32],
+    blank: Blank,
+) -> Option<bool>
+    requires { (blank.name ≡ L.name) × (blank.parts ≡ L.parts) × (0 < L.parts) }
+{
+    let mut steps = Steps::<L>::open(blank);
+    let ranks = node_ranks(alloc, p, g, &mut steps).ok()?;
     Some(ranks.as_slice() == want)
 }
 
 // Whether the nodes of a problem's graph have these ranks.
 fn graph_has_ranks(alloc: Global, p: &Problem, want: &[u32]) -> Option<bool> {
     let g = graph_of(alloc, p).ok()?;
-    are_ranks(alloc, p, &g, want)
+    are_ranks::<Brand>(alloc, p, &g, want, Blank::new(1))
 }
 
 // Whether the nodes of a problem have these ranks.
@@ -39,16 +53,25 @@ fn has_ranks(alloc: Global, text: &str, want: &[u32]) -> Option<bool> {
     graph_has_ranks(alloc, &p, want)
 }
 
-// Whether the arcs of a graph are brought in in this order.
-fn is_order(alloc: Global, p: &Problem, g: &Graph, want: &[u32]) -> Option<bool> {
-    let order = insertion_order(alloc, p, g).ok()?;
+// Whether the arcs of a graph are brought in in this order, counted by this ledger.
+fn is_order<L: Ledger>(
+    alloc: Global,
+    p: &Problem,
+    g: &Graph,
+    want: &[u32],
+    blank: Blank,
+) -> Option<bool>
+    requires { (blank.name ≡ L.name) × (blank.parts ≡ L.parts) × (0 < L.parts) }
+{
+    let mut steps = Steps::<L>::open(blank);
+    let order = insertion_order(alloc, p, g, &mut steps).ok()?;
     Some(order.as_slice() == want)
 }
 
 // Whether the arcs of a problem's graph are brought in in this order.
 fn graph_has_order(alloc: Global, p: &Problem, want: &[u32]) -> Option<bool> {
     let g = graph_of(alloc, p).ok()?;
-    is_order(alloc, p, &g, want)
+    is_order::<Brand>(alloc, p, &g, want, Blank::new(1))
 }
 
 // Whether the arcs of a problem are brought in in this order.

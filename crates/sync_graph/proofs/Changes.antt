@@ -1,19 +1,7 @@
--- Lists within a list are changed.
-use Rattle.std.proofs.Common.{◌≡◌, ℕ, zero, suc, ◌-◌, ◌<◌, List, [], ◌∷◌, ◌++◌, length, map, set, get_or, take, refl, ap, sym, ◌∙◌, arith, length-append}
-use Rattle.std.proofs.Math.Seq.{map-set_same, take-append_seam}
-use Rattle.std.proofs.lemmas.List.{get_or-map, map-set, length-map, get_or-set_same, set-get_or}
-
--- one list is changed
-pub changed_list : {X : Type 0} (f : X → List ℕ) (vs : List X) (now : List (List ℕ)) (node : ℕ) (v old : X) (g : List ℕ → List ℕ) → map f vs ≡ now → node < length now → old ≡ get_or vs node old → f v ≡ g (f old) → map f (set vs node v) ≡ set now node (g (get_or now node []))
-changed_list f vs now node v old g en l eo ev =
-    let ln : node < length vs = omega (arith, ap length en, length-map vs f) in
-    let e1 : get_or (map f vs) node [] ≡ f (get_or vs node old) = get_or-map f vs node old [] ln in
-    let e2 : get_or now node [] ≡ f old = ap (λ xs. get_or xs node []) (sym en) ∙ e1 ∙ ap f (sym eo) in
-    map-set f vs node v ∙ ap (λ xs. set xs node (f v)) en ∙ ap (λ x. set now node x) (ev ∙ ap g (sym e2))
-
--- a list is written back
-pub same_list : {X : Type 0} (f : X → List ℕ) (vs : List X) (now : List (List ℕ)) (node : ℕ) (v old : X) → map f vs ≡ now → old ≡ get_or vs node old → f v ≡ f old → map f (set vs node v) ≡ now
-same_list f vs now node v old en eo ev = map-set_same f vs node v old (ev ∙ ap f eo) ∙ en
+-- A list within a list is changed, and changed back.
+use Rattle.std.proofs.Common.{◌≡◌, ℕ, zero, suc, ◌-◌, ◌<◌, List, [], ◌∷◌, ◌++◌, length, set, get_or, take, refl, ap, sym, ◌∙◌, arith, length-append}
+use Rattle.std.proofs.Math.Seq.{take-append_seam}
+use Rattle.std.proofs.lemmas.List.{get_or-set_same, set-get_or}
 
 take_end : {X : Type 0} (xs : List X) (x : X) → take (length (xs ++ x ∷ []) - 1) (xs ++ x ∷ []) ≡ xs
 take_end xs x = let e : length (xs ++ x ∷ []) - 1 ≡ length xs = omega (arith, length-append xs (x ∷ [])) in ap (λ n. take n (xs ++ x ∷ [])) e ∙ take-append_seam xs (x ∷ [])

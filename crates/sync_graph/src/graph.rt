@@ -1,22 +1,26 @@
 // A graph of numbered arcs.
-ghost use Rattle.std.specs.Prelude.{◌≡◌, ℕ, ◌<◌, ◌^◌, ◌++◌, ◌∷◌, [], length, true, slice_get, slice_set, Some, IfSome, IfNone, OnOk, OnErr, IfOk};
+ghost use Rattle.std.specs.Prelude.{◌≡◌, ℕ, ◌<◌, ◌+◌, ◌^◌, ◌++◌, ◌∷◌, [], length, true, false, slice_get, slice_set, slice_index_or, Some, IfSome, IfNone, OnOk, OnErr, IfOk};
+ghost use Rattle.difference_bounds.specs.Sums.{sum_to};
 ghost use Rattle.sync_graph.specs.Lists.{list_at};
 ghost use Rattle.sync_graph.specs.Neighbours.{IsNearestBelow, IsNearestAbove};
-ghost use Rattle.sync_graph.specs.Graph.{GraphLists, IsGraph, IsSound, most_nodes, most_arcs, arc_at, no_graph, with_node, with_arc};
+ghost use Rattle.sync_graph.specs.Names.{IsNamed};
+ghost use Rattle.sync_graph.specs.Graph.{GraphLists, IsGraph, IsSound, most_nodes, most_arcs, arc_at, no_graph, with_node, with_arc, departing, reaching, arcs_in_force};
 
 use crate::arc::Arc;
+use crate::arcs::{Arcs, KindArc, name_between, of_kind};
 use crate::lists::Lists;
 use crate::numbers::Numbers;
-use atto::Nano;
-use problem_model::{Bound, Node};
+use atto::{Nano, Steps};
+use problem_model::Node;
 use std::alloc::{AllocError, Global};
 use std::marker::Model;
+use std::sync::ledger::Ledger;
 
 /// Nodes and arcs by their numbers, with the arcs in force that leave and reach each node.
 #[derive(Drop)]
 pub struct Graph {
     numbers: Numbers,
-    arcs: Vec<Arc>,
+    arcs: Arcs,
     in_force: Vec<bool>,
     leaving: Lists,
     arriving: Lists,
@@ -24,12 +28,13 @@ pub struct Graph {
 
 impl Model for Graph {
     ghost use Rattle.sync_graph.specs.Graph.{GraphLists, IsGraph};
+    ghost use Rattle.sync_graph.specs.Kinds.{named_arcs};
 
     ghost Value = { GraphLists };
 
-    ghost view = { λ s. record { nodes = s.numbers; arcs = s.arcs.items; in_force = s.in_force.items; leaving = s.leaving; arriving = s.arriving } };
+    ghost view = { λ s. record { nodes = s.numbers; arcs = named_arcs s.numbers s.arcs; in_force = s.in_force.items; leaving = s.leaving; arriving = s.arriving } };
 
-    ghost invariant = { λ s. IsGraph (record { nodes = s.numbers; arcs = s.arcs.items; in_force = s.in_force.items; leaving = s.leaving; arriving = s.arriving }) };
+    ghost invariant = { λ s. IsGraph (record { nodes = s.numbers; arcs = named_arcs s.numbers s.arcs; in_force = s.in_force.items; leaving = s.leaving; arriving = s.arriving }) };
 }
 
 // Appends the number of an arc to the lists of both its ends, or leaves both as they were.
@@ -42,6 +47,8 @@ fn push_both(
 ) -> Result<(), AllocError>
     requires from { from < length leaving.old }
     requires to { to < length arriving.old }
+    requires few_leaving { length (list_at leaving.old from) < most_arcs }
+    requires few_arriving { length (list_at arriving.old to) < most_arcs }
     ensures leaving { OnOk result (leaving.new ≡ slice_set leaving.old from (list_at leaving.old from ++ k ∷ [])) }
     ensures arriving { OnOk result (arriving.new ≡ slice_set arriving.old to (list_at arriving.old to ++ k ∷ [])) }
     ensures err { OnErr result ((leaving.new ≡ leaving.old) × (arriving.new ≡ arriving.old)) }
@@ -51,6 +58,32 @@ fn push_both(
     }
     if let Err(_) = arriving.push_to(to, k) {
         leaving.pop_from(from);
+        return Err(AllocError);
+    }
+    Ok(())
+}
+
+// Appends an arc to all three, with its number in the lists, or leaves all as they were.
+fn push_all(
+    arcs: &mut Arcs,
+    leaving: &mut Lists,
+    arriving: &mut Lists,
+    a: KindArc,
+    k: u32,
+) -> Result<(), AllocError>
+    requires from { a.from < length leaving.old }
+    requires to { a.to < length arriving.old }
+    requires few_leaving { length (list_at leaving.old a.from) < most_arcs }
+    requires few_arriving { length (list_at arriving.old a.to) < most_arcs }
+    ensures arcs { OnOk result (arcs.new ≡ arcs.old ++ a ∷ []) }
+    ensures leaving { OnOk result (leaving.new ≡ slice_set leaving.old a.from (list_at leaving.old a.from ++ k ∷ [])) }
+    ensures arriving { OnOk result (arriving.new ≡ slice_set arriving.old a.to (list_at arriving.old a.to ++ k ∷ [])) }
+    ensures err { OnErr result ((arcs.new ≡ arcs.old) × (leaving.new ≡ leaving.old) × (arriving.new ≡ arriving.old)) }
+{
+    push_both(leaving, arriving, a.from, a.to, k)?;
+    if let Err(_) = arcs.push(a) {
+        leaving.pop_from(a.from);
+        arriving.pop_from(a.to);
         return Err(AllocError);
     }
     Ok(())
@@ -102,11 +135,24 @@ impl Graph {
     {
         Graph {
             numbers: Numbers::new(alloc),
-            arcs: Vec::new(alloc),
+            arcs: Arcs::new(alloc),
             in_force: Vec::new(alloc),
             leaving: Lists::new(alloc),
             arriving: Lists::new(alloc),
         }
+    }
+
+    /// A graph of the same nodes, with the same numbers, without arcs.
+    pub fn without_arcs(&self, alloc: Global) -> Result<Graph, AllocError>
+        ensures nodes { IfOk result (λ g. g.nodes ≡ self.now.nodes) }
+        ensures arcs { IfOk result (λ g. g.arcs ≡ []) }
+        ensures flags { IfOk result (λ g. g.in_force ≡ []) }
+    {
+        let mut g = Graph::new(alloc);
+        for k in 0..self.nodes() {
+            g.push_node(self.numbers.node(k))?;
+        }
+        Ok(g)
     }
 
     /// How many nodes there are, at most 2^22.
@@ -131,6 +177,15 @@ impl Graph {
         let _ = &self.arcs;
     }
 
+    /// A law, which does nothing when it runs. The lists of leaving arcs of all nodes have together as many entries as
+    /// arcs are in force, and so have the lists of arriving arcs.
+    pub fn degrees(&self)
+        ensures leaving { sum_to (length self.now.nodes) (departing self.now) ≡ arcs_in_force self.now }
+        ensures arriving { sum_to (length self.now.nodes) (reaching self.now) ≡ arcs_in_force self.now }
+    {
+        self.exact();
+    }
+
     /// Appends a node without arcs, and answers its number. All stays as it was where memory runs out.
     pub fn push_node(&mut self, n: Node) -> Result<u32, AllocError>
         requires new { (k : ℕ) → slice_get self.old.nodes k ≡ Some n → ⊥ }
@@ -149,26 +204,40 @@ impl Graph {
     /// Appends an arc, in force, and answers its number. All stays as it was where memory runs out.
     pub fn push_arc(&mut self, a: Arc) -> Result<u32, AllocError>
         requires sound { IsSound (length self.old.nodes) a }
+        requires named { IsNamed self.old.nodes a }
         requires room { length self.old.arcs < most_arcs }
         ensures number { IfOk result (λ k. k ≡ length self.old.arcs) }
         ensures ok { OnOk result (self.new ≡ with_arc self.old a) }
         ensures err { OnErr result (self.new ≡ self.old) }
     {
-        // A local of the name's type: without it the check of this function fails.
-        let _name: Bound = a.name;
         let k = self.arcs.len() as u32;
-        if let Err(_) = self.arcs.reserve(1) {
-            return Err(AllocError);
-        }
         if let Err(_) = self.in_force.reserve(1) {
             return Err(AllocError);
         }
-        if let Err(_) = push_both(&mut self.leaving, &mut self.arriving, a.from, a.to, k) {
+        if let Err(_) = push_all(
+            &mut self.arcs,
+            &mut self.leaving,
+            &mut self.arriving,
+            of_kind(a),
+            k,
+        ) {
             return Err(AllocError);
         }
-        self.arcs.push_reserved(a);
         self.in_force.push_reserved(true);
         Ok(k)
+    }
+
+    /// Takes an arc out of force. It takes no memory.
+    pub fn withdraw(&mut self, k: u32)
+        requires { slice_index_or self.old.in_force k false ≡ true }
+        ensures nodes { self.new.nodes ≡ self.old.nodes }
+        ensures arcs { self.new.arcs ≡ self.old.arcs }
+        ensures in_force { self.new.in_force ≡ slice_set self.old.in_force k false }
+    {
+        let a = self.arcs.get(k);
+        self.in_force[k as usize] = false;
+        self.leaving.remove(a.from, k);
+        self.arriving.remove(a.to, k);
     }
 
     /// The arc of a number, in force or not.
@@ -176,7 +245,15 @@ impl Graph {
         requires { k < length self.now.arcs }
         ensures { result ≡ arc_at self.now.arcs k }
     {
-        self.arcs[k as usize]
+        let a = self.arcs.get(k);
+        let from = self.numbers.node(a.from);
+        let to = self.numbers.node(a.to);
+        Arc {
+            from: a.from,
+            to: a.to,
+            weight: a.weight,
+            name: name_between(a.kind, from, to),
+        }
     }
 
     /// The number of a node, and None exactly where it is not there.
@@ -209,20 +286,24 @@ impl Graph {
     }
 
     /// The number of one of the arcs in force that leave a node, the `k`-th of its list from 0 on; None exactly behind
-    /// the list's end. The list of a node changes only where arcs are pushed.
-    pub fn leaving(&self, node: u32, k: u32) -> Option<u32>
+    /// the list's end. The list of a node changes only where arcs are pushed or withdrawn. Each call is one step.
+    pub fn leaving<L: Ledger>(&self, node: u32, k: u32, steps: &mut Steps<L>) -> Option<u32>
         requires { node < length self.now.nodes }
-        ensures { result ≡ slice_get (list_at self.now.leaving node) k }
+        ensures entry { result ≡ slice_get (list_at self.now.leaving node) k }
+        ensures step { steps.new ≡ steps.old + 1 }
     {
+        steps.tick();
         self.leaving.entry(node, k)
     }
 
     /// The number of one of the arcs in force that reach a node, the `k`-th of its list from 0 on; None exactly behind
-    /// the list's end. The list of a node changes only where arcs are pushed.
-    pub fn arriving(&self, node: u32, k: u32) -> Option<u32>
+    /// the list's end. The list of a node changes only where arcs are pushed or withdrawn. Each call is one step.
+    pub fn arriving<L: Ledger>(&self, node: u32, k: u32, steps: &mut Steps<L>) -> Option<u32>
         requires { node < length self.now.nodes }
-        ensures { result ≡ slice_get (list_at self.now.arriving node) k }
+        ensures entry { result ≡ slice_get (list_at self.now.arriving node) k }
+        ensures step { steps.new ≡ steps.old + 1 }
     {
+        steps.tick();
         self.arriving.entry(node, k)
     }
 }

@@ -10,7 +10,7 @@ use Rattle.ip_headers.specs.Keys.{KeyFields, fields_of}
 use Rattle.ip_headers.specs.Decoding.{decoded}
 use Rattle.ip_headers.specs.declared.key.Reason.{Reason}
 use Rattle.ip_headers.specs.declared.key.Reason.TheVariants as reasons
-use Rattle.pcap_stream.specs.Capture as captured
+use Rattle.captures.specs.Capture as captured
 use Rattle.trace_event.specs.declared.event.Side.{Side}
 use Rattle.trace_event.specs.declared.event.Side.TheVariants.{Send, Receive}
 use Rattle.trace_event.specs.declared.event.NoKey.{NoKey}

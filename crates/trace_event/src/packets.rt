@@ -1,14 +1,14 @@
 // Events of captures.
 ghost use Rattle.std.specs.Prelude.{◌≡◌, ◌≤◌, map, IfOk};
+ghost use Rattle.captures.specs.Feeding.{seen_packet, seen_packets};
 ghost use Rattle.decl.specs.Declaration.{declaration_of};
 ghost use Rattle.ip_headers.specs.Keys.{answer_of, fields_of};
-ghost use Rattle.pcap_stream.specs.Feeding.{seen_packet, seen_packets};
 ghost use Rattle.trace_event.specs.Seen.{event_of_packet, is_at, mark_by, mark_of, mark_of_packet, no_key, seen_event, seen_events};
 
 use crate::{Event, Key, Mark, NoKey, Side};
+use captures::Packet;
 use decl::Decl;
 use ip_headers::{Decoded, PacketKey, Reason, decode};
-use pcap_stream::Packet;
 use std::alloc::{AllocError, Global};
 
 // Why an event has no key, whose packet has none.

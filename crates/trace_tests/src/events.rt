@@ -2,10 +2,10 @@ ghost use Rattle.std.specs.Prelude.{◌≤◌, ◌^◌, length, IfSome};
 
 use arrayvec::ArrayVec;
 use atto::Nano;
+use captures::Packet;
 use decl::{Address, Decl};
 use event_log::read_rows;
 use ip_headers::PacketKey;
-use pcap_stream::Packet;
 use std::alloc::Global;
 use std::test::*;
 use trace_event::{Event, Key, Mark, NoKey, Side, packet_events, row_events};

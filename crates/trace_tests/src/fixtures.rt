@@ -2,10 +2,9 @@
 use arrayvec::ArrayVec;
 use event_log::{LogError, read_rows};
 use ip_headers::PacketKey;
-use pcap_stream::PcapStream;
 use std::alloc::{AllocError, Global};
 use trace_event::{Event, Side, row_events};
-use traces::{Accepted, Couple, EventId, event_count, messages_in, missing};
+use traces::{Accepted, Couple, EventId, Stream, event_count, messages_in, missing};
 
 pub(crate) const SEND: Side = Side::Send;
 
@@ -31,11 +30,11 @@ pub(crate) fn packet_key(id: u16, payload: &[u8]) -> Option<PacketKey> {
 }
 
 // These events, accepted from a piece of so many bytes.
-pub(crate) fn accepted(alloc: Global, events: Vec<Event>, size: u64) -> Accepted {
+pub(crate) fn accepted(events: Vec<Event>, size: u64) -> Accepted {
     Accepted {
         events,
         size,
-        stream: PcapStream::new(alloc),
+        stream: Stream::Log,
     }
 }
 
@@ -45,7 +44,7 @@ pub(crate) fn log_of(alloc: Global, text: &str) -> Result<Accepted, LogError> {
         return Err(LogError::Memory);
     }
     let events = row_events(alloc, read_rows(alloc, text.as_bytes())?)?;
-    Ok(accepted(alloc, events, text.len() as u64))
+    Ok(accepted(events, text.len() as u64))
 }
 
 // The messages of all labels, by the filters.

@@ -6,12 +6,11 @@ ghost use Rattle.trace_match.specs.Ends.{AreEndsOf};
 use crate::fixtures::{RECEIVE, SEND, are_messages, by_filters, lost, packet_key};
 use atto::Nano;
 use event_log::WordKey;
-use pcap_stream::PcapStream;
 use std::alloc::{AllocError, Global};
 use std::test::*;
 use trace_event::{Event, Key, Mark, NoKey, Side};
 use trace_match::{Changed, TraceMatcher, ends_grow};
-use traces::{Accepted, Couple, event_count, events};
+use traces::{Accepted, Couple, Stream, event_count, events};
 
 // Events that are added to a label, and what is to follow.
 struct Step {
@@ -154,7 +153,7 @@ fn nothing(alloc: Global) -> Accepted
     Accepted {
         events: Vec::new(alloc),
         size: 0,
-        stream: PcapStream::new(alloc),
+        stream: Stream::Log,
     }
 }
 

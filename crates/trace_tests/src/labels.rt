@@ -240,7 +240,7 @@ fn label_of(alloc: Global, ends: &[(Known, Side)]) -> Option<Accepted> {
         };
         events.push(event).ok()?;
     }
-    Some(accepted(alloc, events, 0))
+    Some(accepted(events, 0))
 }
 
 fn mixed_holds(alloc: Global, case: &Mixed) -> Option<bool> {

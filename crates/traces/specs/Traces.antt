@@ -6,8 +6,8 @@ use Rattle.decl.specs.declared.items.Label.{Label}
 use Rattle.decl.specs.declared.items.TraceKind.{TraceKind}
 use Rattle.decl.specs.declared.items.TraceKind.TheVariants.{Capture, Log}
 use Rattle.decl.specs.Declaration.{Declaration}
-use Rattle.pcap_stream.specs.Capture as captures
-use Rattle.pcap_stream.specs.Capture.{Reads, packets_of, nothing}
+use Rattle.captures.specs.Capture as captures
+use Rattle.captures.specs.Capture.{Reads, nothing}
 use Rattle.trace_event.specs.Seen.{Seen, seen_row, event_of_packet}
 use Rattle.traces.specs.declared.event.EventId.{EventId}
 
@@ -41,7 +41,7 @@ IsOfKind Log (Logged rows size) = Unit {0}
 -- ---- what it says
 -- the events of what was accepted under a label of this host, in its order
 abbrev pub seen_of : Declaration → ℕ → Trace → List Seen
-seen_of d host (Captured bytes capture) = map (event_of_packet d host) (packets_of capture)
+seen_of d host (Captured bytes capture) = map (event_of_packet d host) capture.packets
 seen_of d host (Logged rows size) = map seen_row rows
 
 -- the events of each label, by what was accepted under it

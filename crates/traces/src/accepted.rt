@@ -1,6 +1,15 @@
 // What was accepted under a label.
-use pcap_stream::PcapStream;
+use captures::CaptureStream;
 use trace_event::Event;
+
+/// What is kept of the bytes that were accepted under a label, by its kind, so that the next piece can be read.
+#[derive(Drop)]
+pub enum Stream {
+    /// Of a log nothing is: each of its pieces has whole rows.
+    Log,
+    /// How far a capture was read.
+    Capture(CaptureStream),
+}
 
 /// What was accepted under a label: its events, in their order, and how many bytes they came in.
 #[derive(Drop)]
@@ -8,6 +17,6 @@ pub struct Accepted {
     pub events: Vec<Event>,
     /// In bytes, at most 2^30.
     pub size: u64,
-    /// How far a capture was read. Nothing is fed to that of a log.
-    pub stream: PcapStream,
+    /// What is kept of these bytes.
+    pub stream: Stream,
 }

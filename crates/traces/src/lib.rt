@@ -8,7 +8,7 @@ mod pairing;
 mod placing;
 mod withdrawn;
 
-pub use accepted::Accepted;
+pub use accepted::{Accepted, Stream};
 pub use event::{Couple, EventId, PlacedEvent};
 pub use laws::messages_are_pairs;
 pub use pairing::{messages, messages_in};

@@ -11,4 +11,4 @@ returns-in-Some g c =
     (λ text says. inl (c.in-Some.from, c.in-Some.to, c.in-Some.ensures.some.0, c.in-Some.ensures.some.1, says)) c.write_interval.ensures
 
 pub returns-in-None : goal.returns-in-None
-returns-in-None g c = such_of (IsReplyOfTwo c.args.p.now c.args.first.now c.args.second.now (IsIntervalLine c.args.p.now)) (inr (c.in-None.ensures.none, refl)) c.write_line.ensures
+returns-in-None g c = such_of (IsReplyOfTwo c.args.p.now c.args.first.now c.args.second.now (IsIntervalLine c.args.p.now)) (inr (c.in-None.ensures.none, refl)) c.write_refusal.ensures

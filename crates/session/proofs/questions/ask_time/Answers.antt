@@ -10,7 +10,7 @@ returns-in-Some-source g c =
 
 pub returns-in-None-source : goal.returns-in-None-source
 returns-in-None-source g c =
-    rw c.in-None-source.is (such_of (OfOne c.args.p.now c.args.event.now (IsTimeReply c.args.p.now None)) (inl (c.in-Some.event, c.in-Some.ensures.some, refl)) c.write_line.ensures)
+    rw c.in-None-source.is (such_of (OfOne c.args.p.now c.args.event.now (IsTimeReply c.args.p.now None)) (inl (c.in-Some.event, c.in-Some.ensures.some, refl)) c.write_refusal.ensures)
 
 pub returns-in-None : goal.returns-in-None
-returns-in-None g c = such_of (OfOne c.args.p.now c.args.event.now (IsTimeReply c.args.p.now c.args.source)) (inr (c.in-None.ensures.none, refl)) c.write_line-in-None.ensures
+returns-in-None g c = such_of (OfOne c.args.p.now c.args.event.now (IsTimeReply c.args.p.now c.args.source)) (inr (c.in-None.ensures.none, refl)) c.write_refusal-in-None.ensures

@@ -10,4 +10,4 @@ returns-in-Some g c =
     (λ text says. inl ((c.in-Some.stamp, c.in-Some.ensures.some), says)) c.write_time.ensures
 
 pub returns-in-None : goal.returns-in-None
-returns-in-None g c = such_of (IsTimeReply c.args.p.now (Some c.args.clock) c.args.event) (inr (c.in-None.ensures.none, refl)) c.write_line.ensures
+returns-in-None g c = such_of (IsTimeReply c.args.p.now (Some c.args.clock) c.args.event) (inr (c.in-None.ensures.none, refl)) c.write_refusal.ensures

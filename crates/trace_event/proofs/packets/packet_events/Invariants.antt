@@ -1,6 +1,6 @@
 use Rattle.std.proofs.Common.{◌≡◌, ◌++◌, drop, map}
+use Rattle.captures.specs.Feeding.{seen_packets}
 use Rattle.decl.specs.Declaration.{declaration_of}
-use Rattle.pcap_stream.specs.Feeding.{seen_packets}
 use Rattle.trace_event.specs.Seen.{event_of_packet, seen_events}
 use Rattle.trace_event.proofs.packets.packet_events.Given as goal
 

@@ -1,16 +1,19 @@
-use Rattle.std.proofs.Common.{◌≡◌, ◌∙◌, ◌+◌, ◌^◌, ◌≤◌, ℕ, sym, ap, subst, nat_le, List, length, map, true, false, rules}
+use Rattle.std.proofs.Common.{◌≡◌, ◌∙◌, ◌+◌, IfOk, refl, ◌^◌, ◌≤◌, ℕ, sym, ap, subst, nat_le, List, length, map, true, false, rules}
 use Rattle.std.specs.Vec.{with_items}
 use Rattle.std.proofs.lemmas.List.{length-map, with_items_is}
+use Rattle.std.proofs.lemmas.Result.{IfOk-weaker}
 use Rattle.decl.specs.Declaration.{declaration_of}
 use Rattle.trace_event.specs.Seen.{seen_event, seen_events}
 use Rattle.traces.specs.declared.accepted.Accepted.{Accepted}
 use Rattle.traces.specs.Traces.{event_count}
 use Rattle.traces.specs.Held.{seen_in}
 use Rattle.trace_match.specs.Ends.{AreEndsOf, IsChange}
-use Rattle.session.specs.Stands.{WritesReply, Held, held_of, problem_held, under_of}
+use Rattle.session.specs.declared.refusal.Refusal.TheVariants.{TooManyEvents}
+use Rattle.session.specs.declared.outcome.Outcome.TheVariants.{Refused}
+use Rattle.session.specs.Outcomes.{IsLineOf, outcome_line}
+use Rattle.session.specs.Stands.{Held, held_of, problem_held, under_of}
 use Rattle.session.specs.Inside.{AcceptAnswered, HasPlace}
 use Rattle.session.proofs.Holding.{labels_few, le_true}
-use Rattle.session.proofs.Telling.{reply_such, reply_text}
 use Rattle.session.proofs.Accepting.{refused_in, extended, whole_extended, added_in}
 use Rattle.session.proofs.session.Session.accept.Goals as goal
 
@@ -20,8 +23,8 @@ returns-then-not-has_room g c =
     let count : c.len-more.result ≡ length (seen_events c.args.events.items) = len ∙ sym (length-map c.args.events.items seen_event) in
     let room : c.has_room.result ≡ nat_le (event_count (seen_in c.self.inside.accepted.items) + c.len-more.result) (2 ^ 20) = rw (← c.deref.ensures.value) c.has_room.ensures in
     let full : c.has_room.result ≡ false = search rules in
-    reply_text (λ IsWritten. refused_in (declaration_of c.self.inside.decl) c.self.inside.accepted.items c.args.self.now c.args.k c.len-more.result (seen_events c.args.events.items) c.args.size c.args.stream
-    c.has_room.result IsWritten c.self.view_is c.requires.inside count room full) c.write_line.ensures
+    refused_in (declaration_of c.self.inside.decl) c.self.inside.accepted.items c.args.self.now c.args.k c.len-more.result (seen_events c.args.events.items) c.args.size c.args.stream
+    c.has_room.result (IsLineOf (Refused TooManyEvents)) c.self.view_is c.requires.inside count room full refl
 
 pub extend-requires-clause-labels : goal.extend-requires-clause-labels
 extend-requires-clause-labels g c =
@@ -88,7 +91,8 @@ returns g c =
     subst (λ (l : List Accepted). c.in_ok-p.p ≡ problem_held (held_of (declaration_of c.self.inside.decl) l)) back c.in_ok-p.ensures in
     let change : IsChange (seen_in c.self.inside.accepted.items) (seen_in c.extend.new.accepted) c.in_ok-changed.changed =
     subst (λ (l : List Accepted). IsChange (seen_in l) (seen_in c.extend.new.accepted) c.in_ok-changed.changed) c.deref_mut.ensures.value c.in_ok-changed.ensures.changed in
-    let pending : c.from-pending.result ≡ length c.args.stream.rest = search rules in
-    subst (λ (l : List Accepted). WritesReply (AcceptAnswered c.args.self.now (held_of (declaration_of c.self.inside.decl) l) c.args.k (seen_events c.args.events.items) c.args.size c.args.stream)
-    (g.O.Sink.told c.args.out.now) (g.O.Sink.told c.write_added.new.out) c.write_added.result)
-    (sym back) (reply_such (λ IsWritten. added_in _ _ _ _ _ _ _ _ e c.in_ok-p.p c.in_ok-changed.changed c.len-more.result c.from-pending.result IsWritten problem change count pending) c.write_added.ensures)
+    subst (λ (l : List Accepted). IfOk c.outcome_of.result (λ outcome. AcceptAnswered c.args.self.now (held_of (declaration_of c.self.inside.decl) l) c.args.k (seen_events c.args.events.items) c.args.size c.args.stream (IsLineOf outcome)))
+    (sym back)
+    (IfOk-weaker c.outcome_of.result _ (λ outcome. AcceptAnswered c.args.self.now (held_of (declaration_of c.self.inside.decl) c.extend.new.accepted) c.args.k (seen_events c.args.events.items) c.args.size c.args.stream (IsLineOf outcome))
+    (λ outcome says. added_in _ _ _ _ _ _ _ _ e c.in_ok-p.p c.in_ok-changed.changed c.len-more.result c.waiting-pending.result (IsLineOf outcome) problem change count c.waiting-pending.ensures
+    (outcome_line outcome, says, refl)) c.outcome_of.ensures)

@@ -1,53 +1,84 @@
-use Rattle.std.proofs.Common.{◌≡◌, ◌∙◌, sym, ap, subst, length, map, slice_get, Some, true, false, rules}
+use Rattle.std.proofs.Common.{◌≡◌, ◌∙◌, sym, subst, refl, length, map, slice_get, Some, true, false, rules}
+use Rattle.std.proofs.lemmas.Result.{IfOk-weaker}
 use Rattle.decl.specs.declared.items.Label.{Label}
-use Rattle.decl.specs.declared.items.TraceKind.TheVariants as kinds
-use Rattle.traces.specs.declared.accepted.Accepted.{Accepted}
-use Rattle.session.specs.Stands.{Held}
-use Rattle.session.proofs.Telling.{reply_as, reply_text}
-use Rattle.session.proofs.Holding.{sizes_accepted}
-use Rattle.session.proofs.Standing.{piece_read, piece_without_place, sizes_held, fits_place}
+use Rattle.decl.specs.Declaration.{declaration_of}
+use Rattle.trace_event.specs.Seen.{seen_events}
+use Rattle.session.specs.declared.refusal.Refusal.TheVariants.{TooManyBytes}
+use Rattle.session.specs.declared.outcome.Outcome.TheVariants.{Refused}
+use Rattle.session.specs.Outcomes.{IsLineOf}
+use Rattle.session.specs.Stands.{Held, IsHeld, under_of}
+use Rattle.session.specs.Pieces.{SaysEvents, IsRefusedAs}
+use Rattle.session.specs.Inside.{FrontAnswered}
+use Rattle.session.proofs.Extending.{under_at, inside_under, stream_fits, stream_within}
+use Rattle.session.proofs.Growing.{says_answered, refusal_answered}
+use Rattle.session.proofs.Standing.{piece_more, piece_read, piece_without_place, fits_short, fits_place}
 use Rattle.session.proofs.session.Session.add_piece.Goals as goal
 
-pub returns-in-Log : goal.returns-in-Log
-returns-in-Log g c =
-    let more : c.args.more ≡ false = search rules in
-    let place : c.has_place.result ≡ true = search rules in
-    let kind : slice_get (map (λ (l : Label). l.kind) c.self.inside.decl.labels.items) c.args.k ≡ Some kinds.Log = rw (← c.deref-2.ensures.value) (c.kind_at.ensures ∙ ap Some c.in-Log.is) in
-    let size : slice_get (map (λ (a : Accepted). a.size) c.self.inside.accepted.items) c.args.k ≡ Some c.size_at.result = rw (← c.deref.ensures.value) c.size_at.ensures in
-    let at_kind = subst (λ (h : Held). slice_get (map (λ (l : Label). l.kind) h.declaration.labels) c.args.k ≡ Some kinds.Log) c.self.view_is kind in
-    let at_size = subst (λ (h : Held). slice_get (sizes_held h.under) c.args.k ≡ Some c.size_at.result) c.self.view_is (sizes_accepted c.self.inside.accepted.items c.args.k c.size_at.result size) in
-    reply_as (λ IsWritten. piece_read c.args.self.now c.add_log.new.self c.args.k c.size_at.result kinds.Log c.args.more c.args.front.now IsWritten
-    more at_kind at_size (sym c.has_place.ensures ∙ place)) c.add_log.ensures
-
-pub returns-in-Capture : goal.returns-in-Capture
-returns-in-Capture g c =
-    let more : c.args.more ≡ false = search rules in
-    let place : c.has_place.result ≡ true = search rules in
-    let kind : slice_get (map (λ (l : Label). l.kind) c.self.inside.decl.labels.items) c.args.k ≡ Some kinds.Capture = rw (← c.deref-2.ensures.value) (c.kind_at.ensures ∙ ap Some c.in-Capture.is) in
-    let size : slice_get (map (λ (a : Accepted). a.size) c.self.inside.accepted.items) c.args.k ≡ Some c.size_at.result = rw (← c.deref.ensures.value) c.size_at.ensures in
-    let at_kind = subst (λ (h : Held). slice_get (map (λ (l : Label). l.kind) h.declaration.labels) c.args.k ≡ Some kinds.Capture) c.self.view_is kind in
-    let at_size = subst (λ (h : Held). slice_get (sizes_held h.under) c.args.k ≡ Some c.size_at.result) c.self.view_is (sizes_accepted c.self.inside.accepted.items c.args.k c.size_at.result size) in
-    reply_as (λ IsWritten. piece_read c.args.self.now c.add_capture.new.self c.args.k c.size_at.result kinds.Capture c.args.more c.args.front.now IsWritten
-    more at_kind at_size (sym c.has_place.ensures ∙ place)) c.add_capture.ensures
+pub returns-then-more : goal.returns-then-more
+returns-then-more g c =
+    let more : c.args.more ≡ true = search rules in
+    piece_more c.args.self.now c.args.k c.args.more c.args.front.now (IsLineOf (Refused TooManyBytes)) more c.requires refl
 
 pub returns-then-not-has_place : goal.returns-then-not-has_place
 returns-then-not-has_place g c =
     let more : c.args.more ≡ false = search rules in
     let none : c.has_place.result ≡ false = search rules in
-    let size : slice_get (map (λ (a : Accepted). a.size) c.self.inside.accepted.items) c.args.k ≡ Some c.size_at.result = rw (← c.deref.ensures.value) c.size_at.ensures in
-    let at_size = subst (λ (h : Held). slice_get (sizes_held h.under) c.args.k ≡ Some c.size_at.result) c.self.view_is (sizes_accepted c.self.inside.accepted.items c.args.k c.size_at.result size) in
-    reply_text (λ IsWritten. piece_without_place c.args.self.now c.args.k c.size_at.result c.args.more c.args.front.now IsWritten more c.requires at_size (sym c.has_place.ensures ∙ none)) c.write_line-then-not-has_place.ensures
+    let held = subst IsHeld c.self.view_is c.self.invariant.0 in
+    let at_under = under_at (declaration_of c.self.inside.decl) c.self.inside.accepted.items c.args.self.now c.args.k c.index-under.result.now c.self.view_is (inside_under c.args.self.now c.args.k held c.requires) c.index-under.ensures in
+    piece_without_place c.args.self.now c.args.k (under_of c.index-under.result.now) c.args.more c.args.front.now (IsLineOf (Refused TooManyBytes)) more at_under (sym c.has_place.ensures ∙ none) refl
 
-pub add_capture-requires-clause-place : goal.add_capture-requires-clause-place
-add_capture-requires-clause-place g c =
+pub read_piece-requires-clause-short : goal.read_piece-requires-clause-short
+read_piece-requires-clause-short g c =
     let place : c.has_place.result ≡ true = search rules in
-    let size : slice_get (map (λ (a : Accepted). a.size) c.self.inside.accepted.items) c.args.k ≡ Some c.size_at.result = rw (← c.deref.ensures.value) c.size_at.ensures in
-    let at_size = subst (λ (h : Held). slice_get (sizes_held h.under) c.args.k ≡ Some c.size_at.result) c.self.view_is (sizes_accepted c.self.inside.accepted.items c.args.k c.size_at.result size) in
-    fits_place c.args.self.now.under c.args.k c.size_at.result (length c.args.front.now) at_size (sym c.has_place.ensures ∙ place)
+    fits_short c.index-under.result.now.size (length c.args.front.now) (sym c.has_place.ensures ∙ place)
 
-pub add_log-requires-clause-place : goal.add_log-requires-clause-place
-add_log-requires-clause-place g c =
+pub read_piece-requires-clause-place : goal.read_piece-requires-clause-place
+read_piece-requires-clause-place g c =
     let place : c.has_place.result ≡ true = search rules in
-    let size : slice_get (map (λ (a : Accepted). a.size) c.self.inside.accepted.items) c.args.k ≡ Some c.size_at.result = rw (← c.deref.ensures.value) c.size_at.ensures in
-    let at_size = subst (λ (h : Held). slice_get (sizes_held h.under) c.args.k ≡ Some c.size_at.result) c.self.view_is (sizes_accepted c.self.inside.accepted.items c.args.k c.size_at.result size) in
-    fits_place c.args.self.now.under c.args.k c.size_at.result (length c.args.front.now) at_size (sym c.has_place.ensures ∙ place)
+    let held = subst IsHeld c.self.view_is c.self.invariant.0 in
+    let at_under = under_at (declaration_of c.self.inside.decl) c.self.inside.accepted.items c.args.self.now c.args.k c.index-under.result.now c.self.view_is (inside_under c.args.self.now c.args.k held c.requires) c.index-under.ensures in
+    stream_fits c.args.self.now c.args.k (length c.args.front.now) (under_of c.index-under.result.now) held at_under
+    (fits_place c.args.self.now.under c.args.k (length c.args.front.now) (under_of c.index-under.result.now) at_under (sym c.has_place.ensures ∙ place))
+
+pub accept-requires-clause-place : goal.accept-requires-clause-place
+accept-requires-clause-place g c =
+    let place : c.has_place.result ≡ true = search rules in
+    let held = subst IsHeld c.self.view_is c.self.invariant.0 in
+    let at_under = under_at (declaration_of c.self.inside.decl) c.self.inside.accepted.items c.args.self.now c.args.k c.index-under.result.now c.self.view_is (inside_under c.args.self.now c.args.k held c.requires) c.index-under.ensures in
+    fits_place c.args.self.now.under c.args.k (length c.args.front.now) (under_of c.index-under.result.now) at_under (sym c.has_place.ensures ∙ place)
+
+pub accept-requires-clause-within : goal.accept-requires-clause-within
+accept-requires-clause-within g c =
+    let held = subst IsHeld c.self.view_is c.self.invariant.0 in
+    let at_under = under_at (declaration_of c.self.inside.decl) c.self.inside.accepted.items c.args.self.now c.args.k c.index-under.result.now c.self.view_is (inside_under c.args.self.now c.args.k held c.requires) c.index-under.ensures in
+    let says : SaysEvents (declaration_of c.self.inside.decl) c.host_of-host.result c.index-under.result.now.stream c.args.front.now (seen_events c.in-Read.events.items) c.in-Read.stream =
+    rw c.in-Read.is at c.in_ok-read.ensures in
+    stream_within c.args.self.now (declaration_of c.self.inside.decl) c.host_of-host.result c.args.k (under_of c.index-under.result.now) c.in-Read.stream c.args.front.now (seen_events c.in-Read.events.items)
+    held at_under says
+
+pub returns-in-Read : goal.returns-in-Read
+returns-in-Read g c =
+    let more : c.args.more ≡ false = search rules in
+    let place : c.has_place.result ≡ true = search rules in
+    let held = subst IsHeld c.self.view_is c.self.invariant.0 in
+    let at_under = under_at (declaration_of c.self.inside.decl) c.self.inside.accepted.items c.args.self.now c.args.k c.index-under.result.now c.self.view_is (inside_under c.args.self.now c.args.k held c.requires) c.index-under.ensures in
+    let says : SaysEvents (declaration_of c.self.inside.decl) c.host_of-host.result c.index-under.result.now.stream c.args.front.now (seen_events c.in-Read.events.items) c.in-Read.stream =
+    rw c.in-Read.is at c.in_ok-read.ensures in
+    let host : slice_get (map (λ (l : Label). l.host) c.self.inside.decl.labels.items) c.args.k ≡ Some c.host_of-host.result = rw (← c.deref.ensures.value) c.host_of-host.ensures in
+    let at_host = subst (λ (h : Held). slice_get (map (λ (l : Label). l.host) h.declaration.labels) c.args.k ≡ Some c.host_of-host.result) c.self.view_is host in
+    let by_held = subst (λ (h : Held). SaysEvents h.declaration c.host_of-host.result c.index-under.result.now.stream c.args.front.now (seen_events c.in-Read.events.items) c.in-Read.stream) c.self.view_is says in
+    IfOk-weaker c.accept.result _ (λ outcome. FrontAnswered c.args.more c.args.front.now c.args.self.now c.accept.new.self c.args.k (IsLineOf outcome))
+    (λ outcome answered. piece_read c.args.self.now c.accept.new.self c.args.k (under_of c.index-under.result.now) c.args.more c.args.front.now (IsLineOf outcome) more at_under (sym c.has_place.ensures ∙ place)
+    (says_answered c.args.self.now c.accept.new.self c.args.k c.host_of-host.result c.args.front.now (under_of c.index-under.result.now) (seen_events c.in-Read.events.items) c.in-Read.stream (IsLineOf outcome)
+    at_under at_host answered by_held))
+    c.accept.ensures
+
+pub returns-in-Refused : goal.returns-in-Refused
+returns-in-Refused g c =
+    let more : c.args.more ≡ false = search rules in
+    let place : c.has_place.result ≡ true = search rules in
+    let held = subst IsHeld c.self.view_is c.self.invariant.0 in
+    let at_under = under_at (declaration_of c.self.inside.decl) c.self.inside.accepted.items c.args.self.now c.args.k c.index-under.result.now c.self.view_is (inside_under c.args.self.now c.args.k held c.requires) c.index-under.ensures in
+    let why : IsRefusedAs c.index-under.result.now.stream c.args.front.now c.in-Refused.refusal = rw c.in-Refused.is at c.in_ok-read.ensures in
+    piece_read c.args.self.now c.args.self.now c.args.k (under_of c.index-under.result.now) c.args.more c.args.front.now (IsLineOf (Refused c.in-Refused.refusal)) more at_under (sym c.has_place.ensures ∙ place)
+    (refusal_answered c.args.self.now c.args.k c.args.front.now (under_of c.index-under.result.now) c.in-Refused.refusal (IsLineOf (Refused c.in-Refused.refusal)) at_under refl why)

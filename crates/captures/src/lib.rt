@@ -1,0 +1,14 @@
+//! Captures of packets, read piece by piece however they are cut, whatever format they are in.
+//!
+//! The bytes of a capture stand for packets, and for a rest that waits for more bytes. Nothing that a format has beside
+//! these passes this door; today there is one format, classic pcap.
+#![tactic(auto)]
+
+mod errors;
+mod laws;
+mod stream;
+
+pub use errors::CaptureError;
+pub use laws::{captures_are_one, faults_are_one, new_stands, nothing_reads, refused_or_read};
+pub use pcap_stream::Packet;
+pub use stream::CaptureStream;

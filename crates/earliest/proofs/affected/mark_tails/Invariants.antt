@@ -1,0 +1,22 @@
+use Rattle.std.proofs.Common.{◌≡◌, ℕ, ◌+◌, ◌<◌, ◌≤◌, true, List, length}
+use Rattle.difference_bounds.specs.Executions as bounds
+use Rattle.difference_bounds.specs.Executions.{at}
+use Rattle.sync_graph.specs.Graph.{unnamed, arc_at, reaching}
+use Rattle.sync_graph.specs.Lists.{entry_at}
+use Rattle.falls.specs.Withdrawals.{IsExact}
+use Rattle.earliest.specs.Withdrawn.{waits_at, found_at, IsMarkingIn}
+use Rattle.earliest.proofs.affected.mark_tails.Given as goal
+
+abbrev pub invariant-loop-k : goal.invariant-loop-k
+invariant-loop-k g l = record {
+  marking : (before gone : List bounds.Arc) (done : ℕ)
+      → IsMarkingIn l.g before gone l.values l.initial.front l.initial.found l.first done
+      → IsMarkingIn l.g before gone l.values l.front l.found l.count done;
+  keeps : (k : ℕ) → waits_at l.initial.front k ≡ true → waits_at l.front k ≡ true;
+  before : (i : ℕ) → i < l.first → found_at l.found i ≡ found_at l.initial.found i;
+  more : l.first ≤ l.count;
+  here : (m : ℕ) → m < l.k → IsExact (at l.values) (unnamed (arc_at l.g.arcs (entry_at l.g.arriving l.node m))) → waits_at l.front (arc_at l.g.arcs (entry_at l.g.arriving l.node m)).from ≡ true;
+  seen : l.k ≤ reaching l.g l.node;
+  room : length l.front ≡ length l.initial.front;
+  steps : l.steps ≡ l.initial.steps + l.k;
+}

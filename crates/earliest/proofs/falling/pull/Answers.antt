@@ -1,0 +1,34 @@
+use Rattle.std.proofs.Common.{◌≤◌, ◌∙◌, sym, length, arith}
+use Rattle.falls.proofs.Falling.{holding_more}
+use Rattle.sync_graph.specs.Graph.{table_of}
+use Rattle.sync_graph.specs.Lists.{list_at}
+use Rattle.earliest.specs.Withdrawn.{falls_of}
+use Rattle.earliest.proofs.Waiting.{in_force_below, past_end}
+use Rattle.earliest.proofs.Marking.{leaving_short}
+use Rattle.earliest.proofs.Dropping.{leaving_arc, holding_done}
+use Rattle.earliest.proofs.falling.pull.Goals as goal
+
+pub stop_tail-requires-clause-arc : goal.stop_tail-requires-clause-arc
+stop_tail-requires-clause-arc g c = in_force_below c.args.g.now c.exact.ensures c.in-Some.arc (leaving_arc c.args.g.now c.exact.ensures c.args.node c.loop-k.k c.in-Some.arc (sym c.leaving.ensures.entry ∙ c.in-Some.is)).2
+
+pub loop-k-preserved : goal.loop-k-preserved
+loop-k-preserved g c =
+    let w = leaving_arc c.args.g.now c.exact.ensures c.args.node c.loop-k.k c.in-Some.arc (sym c.leaving.ensures.entry ∙ c.in-Some.is) in
+    record {
+      holding = holding_more (table_of c.args.g.now) (list_at c.args.g.now.leaving c.args.node) c.loop-k.k (falls_of c.args.values.now c.args.front.now) (falls_of c.args.values.now c.loop-k.front) (falls_of c.args.values.now c.stop_tail.new.front)
+          c.in-Some.arc c.loop-k.invariant.holding w.0 w.1 w.2 c.stop_tail.ensures.held;
+      seen = omega (arith, w.0);
+      room = c.stop_tail.ensures.room ∙ c.loop-k.invariant.room;
+      steps = omega (arith, c.leaving.ensures.step, c.loop-k.invariant.steps);
+    }
+
+pub returns-in_default-clause-holding : goal.returns-in_default-clause-holding
+returns-in_default-clause-holding g c =
+    holding_done (table_of c.args.g.now) (list_at c.args.g.now.leaving c.args.node) c.loop-k.k (falls_of c.args.values.now c.args.front.now) (falls_of c.args.values.now c.loop-k.front) c.loop-k.invariant.holding
+    (past_end (list_at c.args.g.now.leaving c.args.node) c.loop-k.k (λ x q. c.in_default.not-Some x (c.leaving.ensures.entry ∙ q)))
+
+pub returns-clause-holding : goal.returns-clause-holding
+returns-clause-holding g c =
+    let short : length (list_at c.args.g.now.leaving c.args.node) ≤ length c.args.g.now.arcs = leaving_short c.args.g.now c.exact.ensures c.args.node in
+    holding_done (table_of c.args.g.now) (list_at c.args.g.now.leaving c.args.node) c.loop-k.k (falls_of c.args.values.now c.args.front.now) (falls_of c.args.values.now c.loop-k.front) c.loop-k.invariant.holding
+    (omega (arith, c.loop-k-test.false, c.arcs-k-end.ensures))

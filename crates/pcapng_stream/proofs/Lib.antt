@@ -1,0 +1,11 @@
+mod Stamps
+mod Walking
+mod Heads
+mod Rows
+mod Streams
+mod Judging
+mod Growing
+mod Reading
+mod Either
+mod EitherGrowing
+mod Worked

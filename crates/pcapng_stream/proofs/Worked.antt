@@ -1,0 +1,72 @@
+-- A capture of one packet, worked through.
+use Rattle.std.proofs.Common.{◌≡◌, ℕ, List, [], ◌∷◌, Some, refl, arith}
+use Rattle.pcap_stream.specs.Capture.{Seen}
+use Rattle.pcapng_stream.specs.declared.order.Order.TheVariants.{Little}
+use Rattle.pcapng_stream.specs.declared.section.Interface.{Interface}
+use Rattle.pcapng_stream.specs.declared.flaw.Flaw.TheVariants.{Malformed, OtherVersion}
+use Rattle.pcapng_stream.specs.Blocks.{Block, before, interface_of, nanos, section_behind}
+use Rattle.pcapng_stream.specs.Flaws.{flaw_in}
+use Rattle.pcapng_stream.specs.Pcapng.{Blocks, AreBlocks, IsBlock, packets_of}
+
+abbrev little : List ℕ → Block
+little bytes = record { order = Little; bytes = bytes }
+
+-- a section header
+abbrev header : Block
+header = little (10 ∷ 13 ∷ 13 ∷ 10 ∷ 28 ∷ 0 ∷ 0 ∷ 0 ∷ 77 ∷ 60 ∷ 43 ∷ 26 ∷ 1 ∷ 0 ∷ 0 ∷ 0 ∷ 255 ∷ 255 ∷ 255 ∷ 255 ∷ 255 ∷ 255 ∷ 255 ∷ 255 ∷ 28 ∷ 0 ∷ 0 ∷ 0 ∷ [])
+
+-- an interface of link type 101 whose option says 9
+abbrev interface : Block
+interface = little (1 ∷ 0 ∷ 0 ∷ 0 ∷ 32 ∷ 0 ∷ 0 ∷ 0 ∷ 101 ∷ 0 ∷ 0 ∷ 0 ∷ 0 ∷ 0 ∷ 4 ∷ 0 ∷ 9 ∷ 0 ∷ 1 ∷ 0 ∷ 9 ∷ 0 ∷ 0 ∷ 0 ∷ 0 ∷ 0 ∷ 0 ∷ 0 ∷ 32 ∷ 0 ∷ 0 ∷ 0 ∷ [])
+
+-- a packet of the one byte 7 at 100 ns
+abbrev packet : Block
+packet = little (6 ∷ 0 ∷ 0 ∷ 0 ∷ 36 ∷ 0 ∷ 0 ∷ 0 ∷ 0 ∷ 0 ∷ 0 ∷ 0 ∷ 0 ∷ 0 ∷ 0 ∷ 0 ∷ 100 ∷ 0 ∷ 0 ∷ 0 ∷ 1 ∷ 0 ∷ 0 ∷ 0 ∷ 1 ∷ 0 ∷ 0 ∷ 0 ∷ 7 ∷ 0 ∷ 0 ∷ 0 ∷ 36 ∷ 0 ∷ 0 ∷ 0 ∷ [])
+
+-- a header of major version 2, and one whose last length is another
+abbrev later_header : Block
+later_header = little (10 ∷ 13 ∷ 13 ∷ 10 ∷ 28 ∷ 0 ∷ 0 ∷ 0 ∷ 77 ∷ 60 ∷ 43 ∷ 26 ∷ 2 ∷ 0 ∷ 0 ∷ 0 ∷ 255 ∷ 255 ∷ 255 ∷ 255 ∷ 255 ∷ 255 ∷ 255 ∷ 255 ∷ 28 ∷ 0 ∷ 0 ∷ 0 ∷ [])
+
+abbrev broken_header : Block
+broken_header = little (10 ∷ 13 ∷ 13 ∷ 10 ∷ 28 ∷ 0 ∷ 0 ∷ 0 ∷ 77 ∷ 60 ∷ 43 ∷ 26 ∷ 1 ∷ 0 ∷ 0 ∷ 0 ∷ 255 ∷ 255 ∷ 255 ∷ 255 ∷ 255 ∷ 255 ∷ 255 ∷ 255 ∷ 32 ∷ 0 ∷ 0 ∷ 0 ∷ [])
+
+abbrev capture : Blocks
+capture = record { blocks = header ∷ interface ∷ packet ∷ []; rest = [] }
+
+pub header_is : IsBlock before header
+header_is = record { whole = record { said = refl; long = omega arith }; sound = refl; flawless = refl }
+
+pub interface_is : IsBlock (section_behind before header) interface
+interface_is = record { whole = record { said = refl; long = omega arith }; sound = refl; flawless = refl }
+
+pub packet_is : IsBlock (section_behind (section_behind before header) interface) packet
+packet_is = record { whole = record { said = refl; long = omega arith }; sound = refl; flawless = refl }
+
+pub blocks_are : AreBlocks before (header ∷ interface ∷ packet ∷ [])
+blocks_are = (header_is, (interface_is, (packet_is, tt)))
+
+pub interface_says : ◌≡◌ {A = Interface} (interface_of interface) (record { link = 101; resolution = 9 })
+interface_says = refl
+
+pub packets_are : ◌≡◌ {A = List Seen} (packets_of capture) (record { stamp = 100; link = 101; bytes = 7 ∷ [] } ∷ [])
+packets_are = refl
+
+-- a packet before its interface
+pub packet_alone : flaw_in (section_behind before header) packet ≡ Some Malformed
+packet_alone = refl
+
+pub later_is : flaw_in before later_header ≡ Some OtherVersion
+later_is = refl
+
+pub broken_is : flaw_in before broken_header ≡ Some Malformed
+broken_is = refl
+
+-- stamps: 5 us, 1024 and 1 times 2^-10 s
+pub micros : nanos 6 5 ≡ 5000
+micros = refl
+
+pub second : nanos 138 1024 ≡ 1000000000
+second = refl
+
+pub part : nanos 138 1 ≡ 976562
+part = refl

@@ -1,0 +1,19 @@
+use Rattle.std.proofs.Common.{◌≡◌, ◌∙◌, ◌++◌, ℕ, List, [], length, vec_len, sym, ap, arith, rules}
+use Rattle.std.proofs.lemmas.List.{nil_from_length}
+use Rattle.std.proofs.lemmas.Result.{IfOk-weaker}
+use Rattle.pcap_stream.specs.Feeding.{seen_packets}
+use Rattle.pcapng_stream.specs.Pcapng.{Blocks}
+use Rattle.pcapng_stream.specs.Feeding.{BlockTail, GrowsBlocks, StandsForBlocks}
+use Rattle.pcapng_stream.proofs.block_stream.BlockStream.read.Goals as goal
+
+pub returns-then-is_empty-clause-ok : goal.returns-then-is_empty-clause-ok
+returns-then-is_empty-clause-ok c =
+    let t = c.args.self.now in
+    let counted : vec_len c.self.inside.rest ≡ length c.self.inside.rest.items = search rules in
+    let none : c.self.inside.rest.items ≡ [] = nil_from_length c.self.inside.rest.items (grind (arith, counted, c.is_empty.ensures, c.if-is_empty.true)) in
+    let rest : t.rest ≡ [] = sym (ap (λ (u : BlockTail). u.rest) c.self.view_is) ∙ none in
+    let whole : c.args.piece.now ≡ t.rest ++ c.args.piece.now = sym (ap (λ (l : List ℕ). l ++ c.args.piece.now) rest) in
+    IfOk-weaker c.go_on.result _
+    (λ (next : BlockTail). (s : List ℕ) (d : Blocks) → StandsForBlocks t s d → GrowsBlocks next (s ++ c.args.piece.now) d (seen_packets c.args.packets.now.items) (seen_packets c.go_on.new.packets.items))
+    (λ next all s d stands. all s c.args.piece.now d whole stands)
+    c.go_on.ensures.ok

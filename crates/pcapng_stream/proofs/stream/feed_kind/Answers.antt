@@ -1,0 +1,20 @@
+use Rattle.std.proofs.Common.{sym, subst}
+use Rattle.std.proofs.lemmas.Result.{IfErr-weaker, IfOk-weaker}
+use Rattle.pcap_stream.specs.Feeding.{seen_packets}
+use Rattle.pcapng_stream.specs.declared.stream.Kind.{Kind}
+use Rattle.pcapng_stream.specs.Kept.{GoesOn, IsRefused, kept_in}
+use Rattle.pcapng_stream.proofs.EitherGrowing.{begun_on, begun_refused}
+use Rattle.pcapng_stream.proofs.stream.feed_kind.Goals as goal
+
+pub returns-in-Unknown-clause-fault : goal.returns-in-Unknown-clause-fault
+returns-in-Unknown-clause-fault c =
+    IfErr-weaker c.begin.result _ (IsRefused (kept_in c.args.kind.now) c.args.piece.now)
+    (λ e all. subst (λ (k : Kind). IsRefused (kept_in k) c.args.piece.now e) (sym c.in-Unknown.is) (begun_refused c.args.piece.now e all))
+    c.begin.ensures.fault
+
+pub returns-in-Unknown-clause-ok : goal.returns-in-Unknown-clause-ok
+returns-in-Unknown-clause-ok c =
+    IfOk-weaker c.begin.result _ (GoesOn (kept_in c.args.kind.now) c.args.piece.now (seen_packets c.args.out.now.items) (seen_packets c.begin.new.out.items))
+    (λ next begins. subst (λ (k : Kind). GoesOn (kept_in k) c.args.piece.now (seen_packets c.args.out.now.items) (seen_packets c.begin.new.out.items) next) (sym c.in-Unknown.is)
+    (begun_on c.args.piece.now (seen_packets c.args.out.now.items) (seen_packets c.begin.new.out.items) next begins))
+    c.begin.ensures.ok

@@ -1,0 +1,145 @@
+-- Blocks: what each kind says, and what a section's blocks say of those that follow.
+use Rattle.std.specs.Prelude.{ℕ, ◌+◌, ◌-◌, ◌*◌, ◌/◌, ◌%◌, ◌^◌, Bool, ◌==◌, if◌then◌else◌, nat_lt, List, [], ◌∷◌, ◌++◌, length, take, drop, slice_index_or, Option, Some, None}
+use Rattle.std.specs.Str.{bytes_eq}
+use Rattle.pcap_stream.specs.Capture.{Seen}
+use Rattle.pcapng_stream.specs.declared.order.Order.{Order}
+use Rattle.pcapng_stream.specs.declared.order.Order.TheVariants.{Big, Little}
+use Rattle.pcapng_stream.specs.declared.head.Head.{Head}
+use Rattle.pcapng_stream.specs.declared.block.BlockKind.{BlockKind}
+use Rattle.pcapng_stream.specs.declared.block.BlockKind.TheVariants.{SectionHeader, InterfaceDescription, EnhancedPacket, Other}
+use Rattle.pcapng_stream.specs.declared.section.Interface.{Interface}
+use Rattle.pcapng_stream.specs.Numbers.{half_at, word_at}
+use Rattle.pcapng_stream.specs.Options.{resolution_in}
+
+-- ---- sections
+-- what a section says of the blocks that follow: the order of their bytes, and its interfaces
+pub record Section : Type 0 where
+  pub order : Option Order
+  pub interfaces : List Interface
+
+-- before the first section header
+abbrev pub before : Section
+before = record { order = None; interfaces = [] }
+
+-- ---- how a block begins
+-- the type of a section header, which reads alike in both orders
+abbrev pub section_type : List ℕ
+section_type = 10 ∷ 13 ∷ 13 ∷ 10 ∷ []
+
+-- a section header begins these bytes
+abbrev pub is_section : List ℕ → Bool
+is_section bytes = bytes_eq section_type (take 4 bytes)
+
+-- the order in which a section header's magic number reads as it should, if it does in one
+abbrev pub magic_order : List ℕ → Option Order
+magic_order bytes = if word_at Big 8 bytes == 0x1a2b3c4d then Some Big else if word_at Little 8 bytes == 0x1a2b3c4d then Some Little else None
+
+-- the order of a section header, where its 12 first bytes are there and tell it
+abbrev pub section_order : List ℕ → Option Order
+section_order begin = if nat_lt (length begin) 12 then None else magic_order begin
+
+-- the order of a block that begins so: a section header's own, and the section's for each other
+abbrev pub order_of : Option Order → List ℕ → Option Order
+order_of present begin = if is_section begin then section_order begin else present
+
+-- the order and the length of a block, where both are there
+abbrev pub head_by : Option Order → List ℕ → Option Head
+head_by None begin = None
+head_by (Some order) begin = if nat_lt (length begin) 8 then None else Some (record { order = order; size = word_at order 4 begin })
+
+-- what the first 12 bytes say of the block that they begin
+abbrev pub head_of : Option Order → List ℕ → Option Head
+head_of present bytes = head_by (order_of present (take 12 bytes)) (take 12 bytes)
+
+-- ---- whole blocks
+-- the bytes of a block, and their order
+pub record Block : Type 0 where
+  pub order : Order
+  pub bytes : List ℕ
+
+-- the bytes
+abbrev pub bytes_of : Block → List ℕ
+bytes_of b = b.bytes
+
+-- the kind, by the type
+abbrev pub kind_of : Block → BlockKind
+kind_of b =
+    if is_section b.bytes then SectionHeader
+    else if word_at b.order 0 b.bytes == 1 then InterfaceDescription
+    else if word_at b.order 0 b.bytes == 6 then EnhancedPacket else Other
+
+-- the length that stands at the end once more
+abbrev pub last_length : Block → ℕ
+last_length b = word_at b.order (length b.bytes - 4) b.bytes
+
+-- of a section header, the major version
+abbrev pub major_version : Block → ℕ
+major_version b = half_at b.order 12 b.bytes
+
+-- of an interface, its options, which stand before the last length
+abbrev pub options_of : Block → List ℕ
+options_of b = take (length b.bytes - 20) (drop 16 b.bytes)
+
+-- of an interface, its link type and the byte that tells the resolution of its stamps
+abbrev pub interface_of : Block → Interface
+interface_of b = record { link = half_at b.order 8 b.bytes; resolution = resolution_in b.order (options_of b) }
+
+-- of a packet, the number of its interface
+abbrev pub interface_number : Block → ℕ
+interface_number b = word_at b.order 8 b.bytes
+
+-- of a packet, its time: the upper half and then the lower one
+abbrev pub time_of : Block → ℕ
+time_of b = word_at b.order 12 b.bytes * 2 ^ 32 + word_at b.order 16 b.bytes
+
+-- of a packet, how many of its bytes were captured
+abbrev pub captured_length : Block → ℕ
+captured_length b = word_at b.order 20 b.bytes
+
+-- ---- packets
+-- times of this resolution count parts of a second: by a power of ten, or of two where the upper bit is set
+abbrev pub parts_of_second : ℕ → ℕ
+parts_of_second resolution = if nat_lt resolution 128 then 10 ^ (resolution % 128) else 2 ^ (resolution % 128)
+
+-- a time of this resolution in ns, rounded down
+abbrev pub nanos : ℕ → ℕ → ℕ
+nanos resolution time = time * 1000000000 / parts_of_second resolution
+
+-- an interface of a section, by its number
+abbrev pub interface_at : Section → ℕ → Interface
+interface_at s n = slice_index_or s.interfaces n (record { link = 0; resolution = 6 })
+
+-- the interface of a packet
+abbrev pub interface_for : Section → Block → Interface
+interface_for s b = interface_at s (interface_number b)
+
+-- the stamp of a packet in ns
+abbrev pub stamp_of : Section → Block → ℕ
+stamp_of s b = nanos (interface_for s b).resolution (time_of b)
+
+-- the packet of an enhanced packet block
+abbrev pub packet_of : Section → Block → Seen
+packet_of s b = record { stamp = stamp_of s b; link = (interface_for s b).link; bytes = take (captured_length b) (drop 28 b.bytes) }
+
+-- ---- what a block gives
+-- the section behind a block of this kind
+abbrev pub section_by : BlockKind → Section → Block → Section
+section_by SectionHeader s b = record { order = Some b.order; interfaces = [] }
+section_by InterfaceDescription s b = record { order = s.order; interfaces = s.interfaces ++ interface_of b ∷ [] }
+section_by EnhancedPacket s b = s
+section_by Other s b = s
+
+-- the section behind a block
+abbrev pub section_behind : Section → Block → Section
+section_behind s b = section_by (kind_of b) s b
+
+-- the packets of a block of this kind
+abbrev pub packets_by : BlockKind → Section → Block → List Seen
+packets_by SectionHeader s b = []
+packets_by InterfaceDescription s b = []
+packets_by EnhancedPacket s b = packet_of s b ∷ []
+packets_by Other s b = []
+
+-- the packets of a block: one, or none
+abbrev pub packets_in : Section → Block → List Seen
+packets_in s b = packets_by (kind_of b) s b

@@ -1,0 +1,144 @@
+-- What the parts of a reader promise each other.
+use Rattle.std.specs.Prelude.{◌≡◌, ℕ, ◌+◌, false, true, List, ◌++◌, length, Option, Some, None, ⊤}
+use Rattle.std.specs.List.{flat_map}
+use Rattle.pcap_stream.specs.declared.errors.PcapError.{PcapError}
+use Rattle.pcap_stream.specs.declared.errors.PcapError.TheVariants as classic_errors
+use Rattle.pcap_stream.specs.Capture.{Seen}
+use Rattle.pcapng_stream.specs.declared.order.Order.{Order}
+use Rattle.pcapng_stream.specs.declared.errors.CaptureError.{CaptureError}
+use Rattle.pcapng_stream.specs.declared.errors.CaptureError.TheVariants.{Magic, Version, Length, Memory}
+use Rattle.pcapng_stream.specs.declared.errors.CaptureError.TheVariants as errors
+use Rattle.pcapng_stream.specs.declared.flaw.Flaw.{Flaw}
+use Rattle.pcapng_stream.specs.declared.flaw.Flaw.TheVariants.{Malformed, OtherVersion, TooLong}
+use Rattle.pcapng_stream.specs.declared.block.WholeBlock.{WholeBlock}
+use Rattle.pcapng_stream.specs.declared.section.OpenSection.{OpenSection}
+use Rattle.pcapng_stream.specs.declared.packet.Captured.{Captured}
+use Rattle.pcapng_stream.specs.Blocks.{Section, Block, bytes_of, section_behind, packets_in}
+use Rattle.pcapng_stream.specs.Flaws.{begins_wrong}
+use Rattle.pcapng_stream.specs.Pcapng.{IsWhole, HasBlock, IsBlock, AreBlocks, HasFlaw, section_after, packets_after}
+use Rattle.pcapng_stream.specs.Feeding.{BlockTail}
+
+-- ---- values of the code
+-- the section of the code
+abbrev pub section_of : OpenSection → Section
+section_of s = record { order = s.order; interfaces = s.interfaces.items }
+
+-- the block of the code
+abbrev pub block_of : WholeBlock → Block
+block_of b = record { order = b.order; bytes = b.bytes.now }
+
+-- the packet of the code, before it has bytes of its own
+abbrev pub seen_captured : Captured → Seen
+seen_captured c = record { stamp = c.stamp; link = c.link; bytes = c.bytes.now }
+
+-- why a capture is refused where the block at this place has this flaw
+abbrev pub fault_at : ℕ → Flaw → CaptureError
+fault_at place Malformed = errors.Block place
+fault_at place OtherVersion = Version
+fault_at place TooLong = Length place
+
+-- why a classic capture is refused
+abbrev pub of_classic : PcapError → CaptureError
+of_classic classic_errors.Magic = Magic
+of_classic classic_errors.Version = Version
+of_classic (classic_errors.Length place) = Length place
+of_classic classic_errors.Memory = Memory
+
+-- ---- one block
+-- behind blocks of this order no block begins so
+pub record IsWrong (order : Option Order) (bytes : List ℕ) (flaw : Flaw) : Type 0 where
+  pub wrong : begins_wrong order bytes ≡ true
+  pub malformed : flaw ≡ Malformed
+
+-- no whole block begins these bytes, and nothing is wrong with them
+pub record IsPart (order : Option Order) (bytes : List ℕ) : Type 0 where
+  pub no_more : HasBlock order bytes → ⊥
+  pub sound : begins_wrong order bytes ≡ false
+
+-- this whole block begins these bytes
+pub record IsFirst (order : Option Order) (bytes : List ℕ) (b : Block) : Type 0 where
+  pub whole : IsWhole order b
+  pub sound : begins_wrong order b.bytes ≡ false
+  pub after : List ℕ
+  pub joined : bytes ≡ bytes_of b ++ after
+
+-- the whole block that begins these bytes, if one does
+abbrev pub FindsBlock : Option Order → List ℕ → Option WholeBlock → Type 0
+FindsBlock order bytes None = IsPart order bytes
+FindsBlock order bytes (Some b) = IsFirst order bytes (block_of b)
+
+-- why a capture is refused where the block at this place has this flaw first, if it has one; memory may run out
+abbrev pub IsFaultOf : Option Flaw → ℕ → CaptureError → Type 0
+IsFaultOf flaw place Magic = ⊥
+IsFaultOf flaw place Version = flaw ≡ Some OtherVersion
+IsFaultOf flaw place (Length p) = (flaw ≡ Some TooLong) × (p ≡ place)
+IsFaultOf flaw place (errors.Block p) = (flaw ≡ Some Malformed) × (p ≡ place)
+IsFaultOf flaw place Memory = ⊤
+
+-- the section and the packets are those behind a block
+pub record IsTaken (s : Section) (b : Block) (next : Section) (old new : List Seen) : Type 0 where
+  pub section : next ≡ section_behind s b
+  pub packets : new ≡ old ++ packets_in s b
+
+-- a block without a flaw begins these bytes, has this size, and was taken
+pub record IsNext (s : Section) (bytes : List ℕ) (size : ℕ) (next : Section) (old new : List Seen) : Type 0 where
+  pub block : Block
+  pub after : List ℕ
+  pub lawful : IsBlock s block
+  pub said : size ≡ length block.bytes
+  pub joined : bytes ≡ bytes_of block ++ after
+  pub taken : IsTaken s block next old new
+
+-- nothing changed
+pub record IsSame (s next : Section) (old new : List Seen) : Type 0 where
+  pub section : next ≡ s
+  pub packets : new ≡ old
+
+-- the block that begins these bytes was taken, if one does
+abbrev pub FindsNext : Section → List ℕ → Option ℕ → Section → List Seen → List Seen → Type 0
+FindsNext s bytes None next old new = IsPart s.order bytes × IsSame s next old new
+FindsNext s bytes (Some size) next old new = IsNext s bytes size next old new
+
+-- the block that begins these bytes, at this place, has a flaw
+abbrev pub IsHereFault : Section → List ℕ → ℕ → CaptureError → Type 0
+IsHereFault s bytes place Magic = ⊥
+IsHereFault s bytes place Version = HasFlaw s bytes OtherVersion
+IsHereFault s bytes place (Length p) = HasFlaw s bytes TooLong × (p ≡ place)
+IsHereFault s bytes place (errors.Block p) = HasFlaw s bytes Malformed × (p ≡ place)
+IsHereFault s bytes place Memory = ⊤
+
+-- ---- blocks in a row
+-- the blocks before what is left were taken
+pub record HasRead (s : Section) (bytes left : List ℕ) (next : Section) (old new : List Seen) : Type 0 where
+  pub blocks : List Block
+  pub lawful : AreBlocks s blocks
+  pub whole : bytes ≡ flat_map bytes_of blocks ++ left
+  pub section : next ≡ section_after s blocks
+  pub added : new ≡ old ++ packets_after s blocks
+
+-- all whole blocks were taken
+pub record EndsBlocks (s : Section) (bytes left : List ℕ) (next : Section) (old new : List Seen) : Type 0 where
+  pub read : HasRead s bytes left next old new
+  pub part : IsPart next.order left
+
+-- behind some blocks, the one at this place has this flaw
+pub record IsLater (s : Section) (bytes : List ℕ) (start : ℕ) (flaw : Flaw) (place : ℕ) : Type 0 where
+  pub blocks : List Block
+  pub left : List ℕ
+  pub lawful : AreBlocks s blocks
+  pub whole : bytes ≡ flat_map bytes_of blocks ++ left
+  pub flawed : HasFlaw (section_after s blocks) left flaw
+  pub at : place + length left ≡ start + length bytes
+
+-- why blocks that start at this place are refused
+abbrev pub IsBlocksFault : Section → List ℕ → ℕ → CaptureError → Type 0
+IsBlocksFault s bytes start Magic = ⊥
+IsBlocksFault s bytes start Version = (place : ℕ) × IsLater s bytes start OtherVersion place
+IsBlocksFault s bytes start (Length place) = IsLater s bytes start TooLong place
+IsBlocksFault s bytes start (errors.Block place) = IsLater s bytes start Malformed place
+IsBlocksFault s bytes start Memory = ⊤
+
+-- ---- streams
+-- the tail of a section, an offset and a rest
+abbrev pub tail_of : Section → ℕ → List ℕ → BlockTail
+tail_of section offset rest = record { section = section; offset = offset; rest = rest }

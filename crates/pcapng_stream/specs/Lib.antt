@@ -1,0 +1,9 @@
+pub mod Numbers
+pub mod Options
+pub mod Blocks
+pub mod Flaws
+pub mod Pcapng
+pub mod Capture
+pub mod Feeding
+pub mod Inside
+pub mod Kept

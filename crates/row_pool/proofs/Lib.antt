@@ -1,0 +1,4 @@
+pub mod Parts
+pub mod Pools
+pub mod Regions
+pub mod TwoRows

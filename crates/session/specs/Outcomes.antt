@@ -1,0 +1,15 @@
+-- What came of an addition, as a line.
+use Rattle.std.specs.Prelude.{◌≡◌, ℕ, List}
+use Rattle.session.specs.declared.outcome.Outcome.{Outcome}
+use Rattle.session.specs.declared.outcome.Outcome.TheVariants.{Added, Refused}
+use Rattle.session.specs.Refusals.{refusal_line}
+use Rattle.session.specs.Reply.{added_line}
+
+-- the line that tells it
+abbrev pub outcome_line : Outcome → List ℕ
+outcome_line (Added a) = added_line a.events a.messages a.withdrawn a.pending a.consistent
+outcome_line (Refused r) = refusal_line r
+
+-- the text is that line
+abbrev pub IsLineOf : Outcome → List ℕ → Type 0
+IsLineOf outcome text = text ≡ outcome_line outcome

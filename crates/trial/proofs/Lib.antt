@@ -1,0 +1,4 @@
+mod Drawing
+mod Files
+mod Ranges
+mod Whole

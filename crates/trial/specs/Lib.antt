@@ -1,0 +1,4 @@
+pub mod Declaration
+pub mod Draws
+pub mod Rounds
+pub mod Workload

@@ -1,0 +1,4 @@
+pub mod Keys
+pub mod Ipv6
+pub mod Decoding
+pub mod Inside
