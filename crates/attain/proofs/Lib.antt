@@ -21,3 +21,4 @@ pub mod EndLengths
 pub mod Accepted
 pub mod DeclaredBounds
 pub mod SolvedTexts
+mod PathSums

@@ -2,11 +2,12 @@
 //! the problem. The functions do nothing.
 ghost use Rattle.std.specs.Prelude.{◌≡◌, ◌<◌, ◌≤◌, ◌^◌, ℕ, ℤ, List, length, map, All};
 ghost use Rattle.problem_model.specs.declared.items.Bound.{Bound};
+ghost use Rattle.problem_model.specs.declared.items.Node.{Node};
 ghost use Rattle.problem_model.specs.Problem.{ProblemLists, IsProblem};
 ghost use Rattle.problem_model.specs.Bounds.{Times};
 ghost use Rattle.problem_model.specs.Nodes.{Reading, AreReadings, nodes_of};
 ghost use Rattle.problem_model.specs.ShortList.{short_list};
-ghost use Rattle.difference_bounds.specs.Solutions.{IsEarliestExecution, IsContradictionOf};
+ghost use Rattle.difference_bounds.specs.Solutions.{IsEarliestExecution, IsContradictionOf, WeighedBound, Leads, weight_of};
 ghost use Rattle.sync_graph.specs.Graph.{GraphLists, IsGraph};
 ghost use Rattle.sync_graph.specs.Standing.{HasBounds};
 ghost use Rattle.cert.specs.declared.chain.Step.{Step};
@@ -17,7 +18,7 @@ ghost use Rattle.cert.specs.Listed.{listed_cycle, listed_run};
 ghost use Rattle.cert.specs.CertificateText.{certificate_text};
 ghost use Rattle.cert.specs.ReadsCert.{FitsEndLists};
 ghost use Rattle.cert.specs.ReadAgain.{IsAccepted};
-ghost use Rattle.cert.specs.Shows.{weighed_bounds};
+ghost use Rattle.cert.specs.Shows.{LeadsAgainst, weighed_bounds};
 ghost use Rattle.sync_graph.specs.ListedProblem.{IsListedBy};
 ghost use Rattle.attain.specs.ListedProblem.{AreCarried};
 ghost use Rattle.sync_graph.specs.ListedStanding.{StandsForListed};
@@ -60,6 +61,15 @@ pub fn accepted()
         → All (IsUnder 116) (map x (nodes_of p readings)) }
     ensures run_short { (p : ProblemLists) (readings : List Reading) (x : Times) → IsEarliestExecution p x → IsProblem p → AreReadings p readings
         → length (certificate_text p (nodes_of p readings) (Run (map x (nodes_of p readings)))) < 2 ^ 30 }
+{}
+
+/// Declared bounds of a problem that lead from one node to another, onward or back, in fewer steps than it has nodes, have a
+/// sum below 2^114 in absolute value, in units of 1e-9 ns.
+pub fn short_paths()
+    ensures onward { (p : ProblemLists) (readings : List Reading) (m n : Node) (steps : List WeighedBound) → Leads p m steps n
+        → length steps < length (nodes_of p readings) → IsProblem p → AreReadings p readings → IsUnder 114 (weight_of steps) }
+    ensures back { (p : ProblemLists) (readings : List Reading) (m n : Node) (steps : List WeighedBound) → LeadsAgainst p m steps n
+        → length steps < length (nodes_of p readings) → IsProblem p → AreReadings p readings → IsUnder 114 (weight_of steps) }
 {}
 
 /// A graph that has the nodes of a problem in their order, and its short list as its arcs, stands for the problem as it

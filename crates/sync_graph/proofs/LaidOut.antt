@@ -1,6 +1,6 @@
 -- Lists that lie in one table, of which one is changed.
 use Rattle.std.proofs.Common.{◌≡◌, ℕ, zero, suc, ◌+◌, ◌-◌, ◌<◌, ◌≤◌, ◌⊎◌, inl, inr, List, [], ◌∷◌, ◌++◌, length, map, set, get_or, take, drop, refl, ap, sym, ◌∙◌, subst, arith, length-set, get_or-take}
-use Rattle.std.specs.Prelude.{◌≢◌, All, AllPairs}
+use Rattle.std.specs.Prelude.{◌≢◌}
 use Rattle.std.specs.List.{swap_remove}
 use Rattle.std.proofs.lemmas.Bool.{cases_eq, cases_lt}
 use Rattle.std.proofs.lemmas.List.{get_or-drop, get_or-set_same, get_or-set_other, get_or-map, get_or_default, get_or_read, length-map, length-take-le, length-drop, ext_get_or, take_more_set, drop-set-add, take-take, take_all}

@@ -9,7 +9,7 @@ use Rattle.problem_model.specs.declared.items.Node.{Node}
 use Rattle.problem_model.specs.declared.items.Node.TheVariants as nodes
 use Rattle.problem_model.specs.declared.items.Bound.{Bound}
 use Rattle.problem_model.specs.Problem.{ProblemLists}
-use Rattle.problem_model.specs.Bounds.{Constraint, Declares, Times}
+use Rattle.problem_model.specs.Bounds.{Times}
 use Rattle.problem_model.specs.Bounds as bounds
 use Rattle.problem_model.specs.Nodes.{Reading, nodes_of}
 use Rattle.problem_model.proofs.OneName.{declared_one}

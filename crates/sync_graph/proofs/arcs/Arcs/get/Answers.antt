@@ -3,7 +3,6 @@ use mir.Syntax.{w128}
 use mir.Val.{SFits}
 use Rattle.std.specs.Prelude.{vec_len}
 use Rattle.std.proofs.lemmas.Int.{to_z-of_z}
-use Rattle.sync_graph.specs.declared.arcs.KindArc.{KindArc}
 use Rattle.sync_graph.proofs.Compact.{length-joined, got}
 use Rattle.sync_graph.proofs.arcs.Arcs.get.Goals as goal
 

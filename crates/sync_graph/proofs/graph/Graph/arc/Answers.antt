@@ -1,4 +1,4 @@
-use Rattle.std.proofs.Common.{◌≡◌, ◌<◌, length, sym, subst}
+use Rattle.std.proofs.Common.{◌<◌, length, sym, subst}
 use Rattle.sync_graph.specs.Kinds.{named_arcs}
 use Rattle.sync_graph.proofs.Compact.{arc_sound, arc_joins}
 use Rattle.sync_graph.proofs.graph.Graph.arc.Goals as goal

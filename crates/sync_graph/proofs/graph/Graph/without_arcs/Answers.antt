@@ -1,5 +1,4 @@
-use Rattle.std.proofs.Common.{◌≡◌, ℕ, slice_get, Some, sym, ap, ◌∙◌, ◌++◌, ◌∷◌, [], subst, List}
-use Rattle.std.specs.Prelude.{◌≢◌, AllPairs}
+use Rattle.std.proofs.Common.{◌≡◌, slice_get, Some, sym, ap, ◌∙◌, ◌++◌, ◌∷◌, [], subst, List}
 use Rattle.problem_model.specs.declared.items.Node.{Node}
 use Rattle.sync_graph.specs.Graph.{GraphLists, IsGraph}
 use Rattle.sync_graph.proofs.Copies.{front_more, not_before}
