@@ -1,14 +1,11 @@
 use crate::fixtures::{
     CAPTURE_A, CAPTURE_B, CYCLE, MERGED, NO_EVENT, ONE_EVENT, TWO_CAPTURES_DECLARATION, TWO_EVENTS,
     TWO_LOGS_DECLARATION, TWO_LOGS_PROBLEM, TWO_MESSAGES, answers, put_cut, replies_over,
-    session_over,
+    session_over, step,
 };
-use atto::Steps;
 use ports::{MemFiles, MemSink};
 use session::{Session, Stop};
 use std::alloc::{AllocError, Global};
-use std::marker::Brand;
-use std::sync::ledger::Blank;
 use std::test::*;
 
 // A capture and a log at one host.
@@ -364,8 +361,7 @@ fn session_stops(
     out: &mut MemSink,
 ) -> Result<bool, Stop> {
     session.too_long(out)?;
-    let mut steps = Steps::<Brand>::open(Blank::new(1));
-    let stop = session.step(b"problem", files, out, &mut steps);
+    let stop = step(session, files, "problem", out);
     Ok(out.bytes() == b"refused 20\n".as_slice() && stop == Err(Stop::WriteFault))
 }
 

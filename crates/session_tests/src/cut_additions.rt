@@ -1,11 +1,11 @@
 // Captures cut at each byte, and the longest record.
-use crate::fixtures::{CAPTURE_A, TWO_CAPTURES_DECLARATION, TWO_MESSAGES, put_cut, session_over};
-use atto::{NsText, Steps, write_decimal};
+use crate::fixtures::{
+    CAPTURE_A, TWO_CAPTURES_DECLARATION, TWO_MESSAGES, put_cut, session_over, step,
+};
+use atto::{NsText, write_decimal};
 use ports::{MemFiles, MemSink};
 use session::{Session, Stop};
 use std::alloc::{AllocError, Global};
-use std::marker::Brand;
-use std::sync::ledger::Blank;
 use std::test::*;
 
 // What is replied when both captures were added, wherever the first one was cut.
@@ -61,12 +61,10 @@ fn reply(
     lines: &[&str],
     out: &mut MemSink,
 ) -> Result<bool, Stop> {
-    let mut steps = Steps::<Brand>::open(Blank::new(1));
     for line in lines {
-        if line.len() > 4096 {
+        if !step(session, files, line, out)? {
             return Ok(false);
         }
-        session.step(line.as_bytes(), files, out, &mut steps)?;
     }
     Ok(true)
 }

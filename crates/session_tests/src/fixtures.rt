@@ -1,11 +1,13 @@
 // Declarations, captures and replies that several modules use, and sessions over them.
+ghost use Rattle.std.specs.Prelude.{◌≡◌, ◌<◌, ◌≤◌, length};
+
 use atto::Steps;
 use decl::read_decl;
-use ports::{MemFiles, MemSink};
+use ports::{Files, MemFiles, MemSink};
 use session::{Session, Stop};
 use std::alloc::{AllocError, Global};
 use std::marker::Brand;
-use std::sync::ledger::Blank;
+use std::sync::ledger::{Blank, Ledger};
 
 // Two hosts with a log each, and a link each way.
 pub(crate) const TWO_LOGS_DECLARATION: &str =
@@ -77,6 +79,35 @@ pub(crate) fn put_cut(files: &mut MemFiles, cut: usize) -> Result<bool, AllocErr
     Ok(true)
 }
 
+// What a session does with a line, its steps counted from none on.
+fn step_counted<F: Files, L: Ledger>(
+    session: &mut Session,
+    files: &mut F,
+    line: &[u8],
+    out: &mut MemSink,
+    blank: Blank,
+) -> Result<(), Stop>
+    requires short { length line.now ≤ 4_096 }
+    requires blank { (blank.name ≡ L.name) × (blank.parts ≡ L.parts) × (0 < L.parts) }
+{
+    let mut steps = Steps::<L>::open(blank);
+    session.step(line, files, out, &mut steps)
+}
+
+// What a session does with a line, and whether it is short enough to be one.
+pub(crate) fn step<F: Files>(
+    session: &mut Session,
+    files: &mut F,
+    line: &str,
+    out: &mut MemSink,
+) -> Result<bool, Stop> {
+    if line.len() > 4_096 {
+        return Ok(false);
+    }
+    step_counted::<F, Brand>(session, files, line.as_bytes(), out, Blank::new(1))?;
+    Ok(true)
+}
+
 // Whether a line is answered by this reply, behind what was wanted so far.
 fn is_answered(
     session: &mut Session,
@@ -86,13 +117,9 @@ fn is_answered(
     wanted: &mut Vec<u8>,
     out: &mut MemSink,
 ) -> Result<bool, Stop> {
-    if line.len() > 4096 {
-        return Ok(false);
-    }
-    let mut steps = Steps::<Brand>::open(Blank::new(1));
-    session.step(line.as_bytes(), files, out, &mut steps)?;
+    let is_line = step(session, files, line, out)?;
     wanted.extend_from_slice(reply.as_bytes())?;
-    Ok(out.bytes() == wanted.as_slice())
+    Ok(is_line && out.bytes() == wanted.as_slice())
 }
 
 // Whether each line is answered by its reply.

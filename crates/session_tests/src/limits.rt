@@ -1,14 +1,12 @@
 // Files that have more than a session takes: more than 2^28 bytes, or a log with more than 2^20 rows.
-use crate::fixtures::{TWO_LOGS_DECLARATION, replies_over, session_over};
-use atto::Steps;
+use crate::fixtures::{TWO_LOGS_DECLARATION, replies_over, session_over, step};
 use ports::{FileFail, Files, MemFiles, MemSink};
 use session::{Session, Stop};
 use std::alloc::{AllocError, Global};
-use std::marker::Brand;
-use std::sync::ledger::Blank;
 use std::test::*;
 
 // Files without an end, at every path.
+#[derive(Drop)]
 struct Endless;
 
 impl Files for Endless {
@@ -24,10 +22,9 @@ impl Files for Endless {
 // Whether a piece without an end is refused, and nothing is added.
 fn is_endless_refused(session: &mut Session, out: &mut MemSink) -> Result<bool, Stop> {
     let mut files = Endless;
-    let mut steps = Steps::<Brand>::open(Blank::new(1));
-    session.step(b"add a endless", &mut files, out, &mut steps)?;
-    session.step(b"order a#1 a#1", &mut files, out, &mut steps)?;
-    Ok(out.bytes() == b"refused 23\nrefused 28\n".as_slice())
+    let are_lines = step(session, &mut files, "add a endless", out)?
+        && step(session, &mut files, "order a#1 a#1", out)?;
+    Ok(are_lines && out.bytes() == b"refused 23\nrefused 28\n".as_slice())
 }
 
 // The same over a sink.

@@ -1,11 +1,14 @@
+ghost use Rattle.std.specs.Prelude.{◌≡◌, ◌<◌};
+ghost use Rattle.decl.specs.Declaration.{IsDeclaration, declaration_of};
+
 use crate::fixtures::TWO_LOGS_DECLARATION;
 use atto::Steps;
-use decl::read_decl;
+use decl::{Decl, read_decl};
 use ports::{MemFiles, MemSink, MemSource};
 use script::{Ended, answer_script};
 use std::alloc::{AllocError, Global};
 use std::marker::Brand;
-use std::sync::ledger::Blank;
+use std::sync::ledger::{Blank, Ledger};
 use std::test::Fail;
 
 // A script, which calls fail, and how the session ends with which replies.
@@ -19,11 +22,26 @@ struct Case<'a> {
     replies: &'a str,
 }
 
+// How a session over the script ends, its steps counted from none on.
+fn ended_counted<L: Ledger>(
+    alloc: Global,
+    decl: Decl,
+    files: &mut MemFiles,
+    input: &mut MemSource,
+    out: &mut MemSink,
+    blank: Blank,
+) -> Ended
+    requires decl { IsDeclaration (declaration_of decl) }
+    requires blank { (blank.name ≡ L.name) × (blank.parts ≡ L.parts) × (0 < L.parts) }
+{
+    let mut steps = Steps::<L>::open(blank);
+    answer_script(alloc, decl, files, input, out, &mut steps)
+}
+
 // How a session over the script ends.
 fn ended(alloc: Global, files: &mut MemFiles, input: &mut MemSource, out: &mut MemSink) -> Ended {
-    let mut steps = Steps::<Brand>::open(Blank::new(1));
     match read_decl(alloc, TWO_LOGS_DECLARATION.as_bytes()) {
-        Ok(decl) => answer_script(alloc, decl, files, input, out, &mut steps),
+        Ok(decl) => ended_counted::<Brand>(alloc, decl, files, input, out, Blank::new(1)),
         Err(_) => Ended::Memory,
     }
 }
