@@ -67,6 +67,25 @@ const UNLIMITED: &str =
     reading a 0 0.000000000\nreading b 0 0.000000000\nlower -inf\ninside b\nevent a#1 0.000000000\n\
     event b#1 0.000000000\nreading a 0 0.000000000\nreading b 0 0.000000000\nend\n";
 
+// What may be asked of two events.
+#[derive(Clone, Copy)]
+enum Question {
+    Interval,
+    Order,
+}
+
+// A question on two events of a problem, which writes fail, how it is answered, and what is written by then.
+#[derive(Clone, Copy)]
+struct Asked<'a> {
+    problem: &'a str,
+    from: u32,
+    to: u32,
+    question: Question,
+    fails: &'a [u32],
+    answer: Result<(), Stop>,
+    written: &'a str,
+}
+
 // What is to be written of two events.
 struct Case {
     problem: &'static str,
@@ -309,70 +328,26 @@ fn is_so(out: &MemSink, given: Result<(), Stop>, answer: Result<(), Stop>, writt
     given == answer && out.bytes() == written.as_bytes()
 }
 
-// Whether the interval of two events is answered so.
-fn interval_is<L: Ledger>(
-    alloc: Global,
-    p: &Problem,
-    case: &Case,
-    fails: &[u32],
-    answer: Result<(), Stop>,
-    written: &str,
-    blank: Blank,
-) -> Option<bool>
+// Whether a question on two events is answered so.
+fn pair_is<L: Ledger>(alloc: Global, p: &Problem, asked: &Asked<'_>, blank: Blank) -> Option<bool>
     requires blank { (blank.name ≡ L.name) × (blank.parts ≡ L.parts) × (0 < L.parts) }
 {
-    if !is_event(p, case.from) || !is_event(p, case.to) {
+    if !is_event(p, asked.from) || !is_event(p, asked.to) {
         return None;
     }
-    let mut out = MemSink::new(alloc, 600, 7, fails).ok()?;
+    let mut out = MemSink::new(alloc, 600, 7, asked.fails).ok()?;
     let mut steps = Steps::<L>::open(blank);
-    let given = write_interval(alloc, p, case.from, case.to, &mut out, &mut steps);
-    Some(is_so(&out, given, answer, written))
+    let given = match asked.question {
+        Question::Interval => write_interval(alloc, p, asked.from, asked.to, &mut out, &mut steps),
+        Question::Order => write_order(alloc, p, asked.from, asked.to, &mut out, &mut steps),
+    };
+    Some(is_so(&out, given, asked.answer, asked.written))
 }
 
-// Whether the interval is answered so over a sink where these writes fail, and written so far.
-fn interval_so(
-    alloc: Global,
-    case: &Case,
-    fails: &[u32],
-    answer: Result<(), Stop>,
-    written: &str,
-) -> Option<bool> {
-    let p = read_problem(alloc, case.problem.as_bytes()).ok()?;
-    interval_is::<Brand>(alloc, &p, case, fails, answer, written, Blank::new(1))
-}
-
-// Whether the order of two events is answered so.
-fn order_is<L: Ledger>(
-    alloc: Global,
-    p: &Problem,
-    case: &Case,
-    fails: &[u32],
-    answer: Result<(), Stop>,
-    written: &str,
-    blank: Blank,
-) -> Option<bool>
-    requires blank { (blank.name ≡ L.name) × (blank.parts ≡ L.parts) × (0 < L.parts) }
-{
-    if !is_event(p, case.from) || !is_event(p, case.to) {
-        return None;
-    }
-    let mut out = MemSink::new(alloc, 600, 7, fails).ok()?;
-    let mut steps = Steps::<L>::open(blank);
-    let given = write_order(alloc, p, case.from, case.to, &mut out, &mut steps);
-    Some(is_so(&out, given, answer, written))
-}
-
-// Whether the order is answered so over a sink where these writes fail, and written so far.
-fn order_so(
-    alloc: Global,
-    case: &Case,
-    fails: &[u32],
-    answer: Result<(), Stop>,
-    written: &str,
-) -> Option<bool> {
-    let p = read_problem(alloc, case.problem.as_bytes()).ok()?;
-    order_is::<Brand>(alloc, &p, case, fails, answer, written, Blank::new(1))
+// The same of a problem by its text.
+fn pair_so(alloc: Global, asked: &Asked<'_>) -> Option<bool> {
+    let p = read_problem(alloc, asked.problem.as_bytes()).ok()?;
+    pair_is::<Brand>(alloc, &p, asked, Blank::new(1))
 }
 
 // Whether the time of an event is answered so.
@@ -436,23 +411,75 @@ fn consistent(alloc: Global, problem: &str) -> Option<bool> {
     consistent_is::<Brand>(alloc, &p, Blank::new(1))
 }
 
-#[test]
-fn intervals_and_orders(rt: HostRuntime) {
-    let alloc = rt.alloc();
-    for case in &CASES {
-        assert!(rt; interval_so(alloc, case, &[], Ok(()), case.interval) == Some(true));
-        assert!(rt; order_so(alloc, case, &[], Ok(()), case.order) == Some(true));
+// A question of a case, over a sink where each write succeeds.
+fn whole(case: &Case, question: Question) -> Asked<'static> {
+    Asked {
+        problem: case.problem,
+        from: case.from,
+        to: case.to,
+        question,
+        fails: &[],
+        answer: Ok(()),
+        written: match question {
+            Question::Interval => case.interval,
+            Question::Order => case.order,
+        },
     }
 }
 
 #[test]
-fn writes_that_fail(rt: HostRuntime) {
+fn intervals_and_orders(rt: HostRuntime) {
     let alloc = rt.alloc();
-    let stop = Err(Stop::WriteFault);
-    assert!(rt; interval_so(alloc, &CASES[0], &[3], stop, "interval 10.00") == Some(true));
-    assert!(rt; interval_so(alloc, &CASES[8], &[1], stop, "") == Some(true));
-    assert!(rt; order_so(alloc, &CASES[0], &[2], stop, "order b") == Some(true));
-    assert!(rt; order_so(alloc, &CASES[8], &[4], stop, "certificate 1\ncycle\n") == Some(true));
+    for case in &CASES {
+        assert!(rt; pair_so(alloc, &whole(case, Question::Interval)) == Some(true));
+        assert!(rt; pair_so(alloc, &whole(case, Question::Order)) == Some(true));
+    }
+}
+
+const FAILING: [Asked<'static>; 4] = [
+    Asked {
+        problem: TWO_LOGS_PROBLEM,
+        from: 0,
+        to: 2,
+        question: Question::Interval,
+        fails: &[3],
+        answer: Err(Stop::WriteFault),
+        written: "interval 10.00",
+    },
+    Asked {
+        problem: CONTRADICTING,
+        from: 0,
+        to: 3,
+        question: Question::Interval,
+        fails: &[1],
+        answer: Err(Stop::WriteFault),
+        written: "",
+    },
+    Asked {
+        problem: TWO_LOGS_PROBLEM,
+        from: 0,
+        to: 2,
+        question: Question::Order,
+        fails: &[2],
+        answer: Err(Stop::WriteFault),
+        written: "order b",
+    },
+    Asked {
+        problem: CONTRADICTING,
+        from: 0,
+        to: 3,
+        question: Question::Order,
+        fails: &[4],
+        answer: Err(Stop::WriteFault),
+        written: "certificate 1\ncycle\n",
+    },
+];
+
+#[test]
+fn writes_that_fail(rt: HostRuntime) {
+    for failing in &FAILING {
+        assert!(rt; pair_so(rt.alloc(), failing) == Some(true));
+    }
 }
 
 #[test]
