@@ -1,0 +1,7 @@
+pub mod Found
+pub mod Growing
+pub mod Looking
+pub mod Renewing
+pub mod Slotting
+pub mod Taking
+pub mod Writing

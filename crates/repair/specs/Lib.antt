@@ -1,0 +1,4 @@
+pub mod Keeping
+pub mod Pairs
+pub mod Renewals
+pub mod Slots

@@ -1,0 +1,270 @@
+// The rows that are kept.
+ghost use Rattle.std.specs.Prelude.{◌≡◌, ◌+◌, ◌<◌, ◌≤◌, ℤ, List, length, max, true, false, Some, None, slice_index_or, MatchOption, OnOk, OnErr, IfOk, IfErr};
+ghost use Rattle.problem_model.specs.Nodes.{most_nodes};
+ghost use Rattle.difference_bounds.specs.Executions.{IsExecution};
+ghost use Rattle.sync_graph.specs.Graph.{GraphLists, IsGraph};
+ghost use Rattle.sync_graph.specs.InForce.{arcs_of};
+ghost use Rattle.repair.specs.declared.slot.Slot as slots;
+ghost use Rattle.frontier.specs.Keys.{IsEmpty};
+ghost use Rattle.earliest.specs.Values.{IsEarliestOf};
+ghost use Rattle.row_pool.specs.Pool.{free_rows};
+ghost use Rattle.repair.specs.Slots.{nothing_kept, with_presence, with_room, slot_of, all_slots, AreNodes, AreOwnRows, AreRowsOf, AreRowsBut, ChangesRowsOf};
+ghost use Rattle.repair.specs.Keeping.{TakesRows, with_slot, with_source, IsRefused};
+ghost use Rattle.repair.specs.Renewals.{TakesFewSteps};
+ghost use Rattle.repair.specs.Pairs.{IsPairIn};
+
+use crate::keep::{KeepError, new_slot};
+use crate::look::look_in;
+use crate::renew::{make_all, make_source, repair_all, repair_source};
+use crate::slot::{Slot, find_slot, place_of};
+use arrayvec::ArrayVec;
+use atto::Steps;
+use earliest::Earliest;
+use frontier::Frontier;
+use row_pool::{Pair, RowId, RowPool};
+use std::alloc::{AllocError, Global};
+use std::marker::Model;
+use std::sync::ledger::Ledger;
+use sync_graph::Graph;
+
+/// Up to eight nodes of events and the node of the source's clock, each with two rows of a pool. It is seen as these slots,
+/// with whether their rows are those of the graph, and with the room for the nodes of a graph.
+#[derive(Drop)]
+pub struct Kept {
+    slots: ArrayVec<Option<Slot>, 8>,
+    source: Option<Slot>,
+    present: bool,
+    found: Vec<u32>,
+    room: u32,
+}
+
+impl Model for Kept {
+    ghost use Rattle.std.specs.Prelude.{◌≡◌, ◌≤◌, [], length, vec_capacity};
+    ghost use Rattle.repair.specs.Slots.{KeptRows, slots_in};
+
+    ghost Value = { KeptRows };
+
+    ghost view = { λ k. record { slots = slots_in k.slots.items; source = k.source; present = k.present; room = k.room } };
+
+    ghost invariant = { λ k. (length (slots_in k.slots.items) ≡ length k.slots.items) × (k.found.items ≡ []) × (k.room ≤ vec_capacity k.found) };
+}
+
+impl Kept {
+    /// Nothing is kept, so that all rows are those of the graph, and there is room for no node. It takes no memory.
+    pub fn new(alloc: Global) -> Kept
+        ensures { result ≡ nothing_kept }
+    {
+        Kept {
+            slots: ArrayVec::new(),
+            source: None,
+            present: true,
+            found: Vec::new(alloc),
+            room: 0,
+        }
+    }
+
+    /// Whether the rows are those of the graph.
+    pub fn present(&self) -> bool
+        ensures { result ≡ self.now.present }
+    {
+        self.present
+    }
+
+    /// From now on the rows are not those of the graph.
+    pub fn lose(&mut self)
+        ensures { self.new ≡ with_presence self.old false }
+    {
+        self.present = false;
+    }
+
+    /// Makes the room, in which withdrawn arcs are worked off, that for at least so many nodes. No slot and no row is changed.
+    /// An `Err` comes only if memory does not suffice, and then all is as before.
+    pub fn reserve(&mut self, nodes: u32) -> Result<(), AllocError>
+        requires { nodes ≤ most_nodes }
+        ensures ok { OnOk result (self.new ≡ with_room self.old (max self.old.room nodes)) }
+        ensures err { OnErr result (self.new ≡ self.old) }
+    {
+        if nodes <= self.room {
+            return Ok(());
+        }
+        self.found.reserve(nodes as usize)?;
+        self.room = nodes;
+        Ok(())
+    }
+
+    /// The greatest differences of a kept node p and of any node q in both directions, in units of 1e-9 ns: `up` of
+    /// `x_q - x_p`, `down` of `x_p - x_q`. They are read off the rows, and hold for every graph that has an execution and
+    /// has these rows. It is `None` where p is not kept, and only there.
+    pub fn look(&self, pool: &RowPool, p: u32, q: u32) -> Option<Pair>
+        requires present { self.now.present ≡ true }
+        requires own { AreOwnRows self.now pool.now }
+        requires node { q < pool.now.width }
+        ensures { MatchOption result (slot_of self.now p ≡ None) (λ pair. (slot : slots.Slot) × (slot_of self.now p ≡ Some slot)
+            × ((g : GraphLists) (xs : List ℤ) → IsGraph g → IsExecution (length g.nodes) (arcs_of g) xs → AreRowsOf g self.now pool.now
+            → IsPairIn g p q pair)) }
+    {
+        match find_slot(&self.slots, p) {
+            None => None,
+            Some(slot) => Some(look_in(slot, pool, q)),
+        }
+    }
+
+    /// The same for the node of the source's clock. It is `None` where the source has no slot, and only there.
+    pub fn look_source(&self, pool: &RowPool, q: u32) -> Option<Pair>
+        requires present { self.now.present ≡ true }
+        requires own { AreOwnRows self.now pool.now }
+        requires node { q < pool.now.width }
+        ensures { MatchOption result (self.now.source ≡ None) (λ pair. (source : slots.Slot) × (self.now.source ≡ Some source)
+            × ((g : GraphLists) (xs : List ℤ) → IsGraph g → IsExecution (length g.nodes) (arcs_of g) xs → AreRowsOf g self.now pool.now
+            → IsPairIn g source.node q pair)) }
+    {
+        match &self.source {
+            None => None,
+            Some(source) => Some(look_in(source, pool, q)),
+        }
+    }
+
+    /// The row from a kept node and the row towards it. It is `None` where the node is not kept, and only there.
+    pub fn rows_of(&self, p: u32) -> Option<(&RowId, &RowId)>
+        ensures { MatchOption result (slot_of self.now p ≡ None) (λ rows. (slot : slots.Slot) × (slot_of self.now p ≡ Some slot) × (rows.0.now ≡ slot.from) × (rows.1.now ≡ slot.to)) }
+    {
+        match find_slot(&self.slots, p) {
+            None => None,
+            Some(slot) => Some((&slot.from, &slot.to)),
+        }
+    }
+
+    /// Gives a node of the graph a slot with two free rows of the pool, and makes these where an execution exists. The
+    /// rows are present exactly where one does. Answers the number of the slot, from 1. It takes no memory. An error leaves
+    /// all as it was: the node has a slot already, or else there are eight.
+    pub fn keep<L: Ledger>(
+        &mut self,
+        g: &Graph,
+        e: &Earliest,
+        p: u32,
+        pool: &mut RowPool,
+        front: &mut Frontier,
+        steps: &mut Steps<L>,
+    ) -> Result<u32, KeepError>
+        requires own { AreOwnRows self.old pool.old }
+        requires free { 2 ≤ free_rows pool.old }
+        requires node { p < length g.now.nodes }
+        requires present { self.old.present ≡ e.now.is_solved }
+        requires earliest { e.now.is_solved ≡ true → IsEarliestOf g.now e.now.values }
+        requires rows { e.now.is_solved ≡ true → AreRowsOf g.now self.old pool.old }
+        requires wide { length g.now.nodes ≤ pool.old.width }
+        requires empty { IsEmpty front.old }
+        requires room { length g.now.nodes ≤ length front.old }
+        ensures slot { IfOk result (λ place. (slot_of self.old p ≡ None) × (length self.old.slots < 8) × (place ≡ length self.old.slots + 1)) }
+        ensures takes { OnOk result ((slot : slots.Slot) × (slot.node ≡ p) × (self.new ≡ with_slot self.old slot) × TakesRows pool.old pool.new slot) }
+        ensures own { AreOwnRows self.new pool.new }
+        ensures rows { e.now.is_solved ≡ true → AreRowsOf g.now self.new pool.new }
+        ensures refused { IfErr result (IsRefused self.old p) }
+        ensures err { OnErr result ((self.new ≡ self.old) × (pool.new ≡ pool.old)) }
+        ensures empty { IsEmpty front.new }
+        ensures front { length front.new ≡ length front.old }
+    {
+        if let Some(place) = place_of(&self.slots, p) {
+            return Err(KeepError::Already(place));
+        }
+        if self.slots.is_full() {
+            return Err(KeepError::Full);
+        }
+        let slot = new_slot(g, e, p, pool, front, steps);
+        self.slots.push(Some(slot));
+        Ok(self.slots.len() as u32)
+    }
+
+    /// Gives the node of the source's clock, which has no slot yet, two free rows of the pool, as `keep` does. It takes no
+    /// memory.
+    pub fn keep_source<L: Ledger>(
+        &mut self,
+        g: &Graph,
+        e: &Earliest,
+        node: u32,
+        pool: &mut RowPool,
+        front: &mut Frontier,
+        steps: &mut Steps<L>,
+    )
+        requires none { self.old.source ≡ None }
+        requires own { AreOwnRows self.old pool.old }
+        requires free { 2 ≤ free_rows pool.old }
+        requires node { node < length g.now.nodes }
+        requires present { self.old.present ≡ e.now.is_solved }
+        requires earliest { e.now.is_solved ≡ true → IsEarliestOf g.now e.now.values }
+        requires rows { e.now.is_solved ≡ true → AreRowsOf g.now self.old pool.old }
+        requires wide { length g.now.nodes ≤ pool.old.width }
+        requires empty { IsEmpty front.old }
+        requires room { length g.now.nodes ≤ length front.old }
+        ensures takes { (slot : slots.Slot) × (slot.node ≡ node) × (self.new ≡ with_source self.old slot) × TakesRows pool.old pool.new slot }
+        ensures own { AreOwnRows self.new pool.new }
+        ensures rows { e.now.is_solved ≡ true → AreRowsOf g.now self.new pool.new }
+        ensures empty { IsEmpty front.new }
+        ensures front { length front.new ≡ length front.old }
+    {
+        let slot = new_slot(g, e, node, pool, front, steps);
+        self.source = Some(slot);
+    }
+
+    /// Makes the rows of all slots anew, which are then present. It takes no memory.
+    pub fn refresh<L: Ledger>(
+        &mut self,
+        g: &Graph,
+        e: &Earliest,
+        pool: &mut RowPool,
+        front: &mut Frontier,
+        steps: &mut Steps<L>,
+    )
+        requires own { AreOwnRows self.old pool.old }
+        requires nodes { AreNodes g.now self.old }
+        requires solved { e.now.is_solved ≡ true }
+        requires earliest { IsEarliestOf g.now e.now.values }
+        requires wide { length g.now.nodes ≤ pool.old.width }
+        requires empty { IsEmpty front.old }
+        requires room { length g.now.nodes ≤ length front.old }
+        ensures slots { self.new ≡ with_presence self.old true }
+        ensures own { AreOwnRows self.new pool.new }
+        ensures rows { AreRowsOf g.now self.new pool.new }
+        ensures others { ChangesRowsOf (all_slots self.old) pool.old pool.new }
+        ensures empty { IsEmpty front.new }
+        ensures front { length front.new ≡ length front.old }
+    {
+        make_source(&self.source, g, e, pool, front, steps);
+        make_all(&self.slots, g, e, pool, front, steps);
+        self.present = true;
+    }
+
+    /// Repairs the rows of all slots after an arc in force was brought in: they were those of the graph without it, and are
+    /// those of the graph now. `e` is the earliest execution of the graph. It takes no memory, and few steps: for each row
+    /// two, and for each node whose cell gets another value or becomes known two and one for each arc in force that leaves
+    /// the node, or that arrives at it in a row towards the slot's node.
+    pub fn after_insert<L: Ledger>(
+        &mut self,
+        g: &Graph,
+        e: &Earliest,
+        arc: u32,
+        pool: &mut RowPool,
+        front: &mut Frontier,
+        steps: &mut Steps<L>,
+    )
+        requires own { AreOwnRows self.old pool.old }
+        requires before { AreRowsBut g.now arc self.old pool.old }
+        requires in_force { slice_index_or g.now.in_force arc false ≡ true }
+        requires solved { e.now.is_solved ≡ true }
+        requires earliest { IsEarliestOf g.now e.now.values }
+        requires wide { length g.now.nodes ≤ pool.old.width }
+        requires empty { IsEmpty front.old }
+        requires room { length g.now.nodes ≤ length front.old }
+        ensures slots { self.new ≡ with_presence self.old true }
+        ensures own { AreOwnRows self.new pool.new }
+        ensures rows { AreRowsOf g.now self.new pool.new }
+        ensures others { ChangesRowsOf (all_slots self.old) pool.old pool.new }
+        ensures few { TakesFewSteps g.now (all_slots self.old) pool.old pool.new steps.old steps.new }
+        ensures empty { IsEmpty front.new }
+        ensures front { length front.new ≡ length front.old }
+    {
+        repair_source(&self.source, g, e, arc, pool, front, steps);
+        repair_all(&self.slots, g, e, arc, pool, front, steps);
+        self.present = true;
+    }
+}
