@@ -3,6 +3,7 @@ use Rattle.std.proofs.Common.{◌≡◌, ◌≤◌, arith, ℕ, Bool, true, fals
 use Rattle.std.proofs.lemmas.Option.{none-some, same_Some}
 use Rattle.decl.specs.Causes.{at, when, first, error_at, IsFirstOf}
 use Rattle.decl.specs.Hosts.{is_one_too_many}
+use Rattle.decl.specs.Limits.{most_entries}
 use Rattle.decl.specs.declared.cause.Cause.{Cause}
 use Rattle.decl.specs.declared.errors.DeclError.{DeclError}
 use Rattle.decl.specs.declared.errors.DeclError.TheVariants.{Fault, Memory}
@@ -29,7 +30,7 @@ second_of true b e = refl
 second_of false b e = e
 
 -- an index that may be
-pub few_index : (index : ℕ) → index ≤ 65536 → is_one_too_many index ≡ false
+pub few_index : (index : ℕ) → index ≤ most_entries → is_one_too_many index ≡ false
 few_index index few = grind (arith, few)
 
 pub not_false : (a : Bool) → not a ≡ false → a ≡ true

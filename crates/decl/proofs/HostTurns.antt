@@ -1,5 +1,5 @@
 -- Hosts one by one, as the code reads them.
-use Rattle.std.proofs.Common.{◌≡◌, ℕ, ◌+◌, ◌-◌, ◌≤◌, ◌^◌, Bool, true, false, not, ◌||◌, if◌then◌else◌, nat_lt, List, [], ◌∷◌, ◌++◌, length, Option, Some, None, String, Global, string_bytes, codes, refl, sym, ap, ◌∙◌, subst, arith, append_assoc}
+use Rattle.std.proofs.Common.{◌≡◌, ℕ, ◌+◌, ◌-◌, ◌≤◌, Bool, true, false, not, ◌||◌, if◌then◌else◌, nat_lt, List, [], ◌∷◌, ◌++◌, length, Option, Some, None, String, Global, string_bytes, codes, refl, sym, ap, ◌∙◌, subst, arith, append_assoc}
 use Rattle.std.specs.Prelude.{All}
 use Rattle.std.specs.List.{AllByRecursion}
 use Rattle.std.specs.List.Sorted.{IsStrictlySortedBy}
@@ -19,6 +19,7 @@ use Rattle.decl.specs.Causes.{at, when, first, error_at, IsFirstOf}
 use Rattle.decl.specs.Declaration.{Precedes, one_clock_each}
 use Rattle.decl.specs.Hosts.{is_clock_name, has_wild_rate, has_wild_number, rate_of, clock_of, clock_causes, host_causes, hosts_faults, entry_of, addresses_in, hosts_of, clocks_of, addresses_from, is_one_too_many}
 use Rattle.decl.specs.Keys.{table_causes}
+use Rattle.decl.specs.Limits.{most_entries, nano_limit}
 use Rattle.decl.specs.Values.{whole_or_zero, number_at, is_up_to}
 use Rattle.decl.specs.declared.cause.Cause.{Cause}
 use Rattle.decl.specs.declared.cause.Cause.TheVariants.{Name, Number}
@@ -38,8 +39,8 @@ same_clock name rate rate' early early' late late' p q r = rw (p, q, r) refl
 
 -- the clock of numbers in their ranges
 pub clock_made : (name : List ℕ) (ms : Members) (rate : RateParts) (early late : ℕ) → Some rate ≡ (if has_wild_rate ms then None else Some (rate_of ms))
-    → Some early ≡ (if is_up_to (2 ^ 62 - 1) (whole_or_zero (codes "early") ms) then Some (number_at (codes "early") ms) else None)
-    → Some late ≡ (if is_up_to (2 ^ 62 - 1) (whole_or_zero (codes "late") ms) then Some (number_at (codes "late") ms) else None)
+    → Some early ≡ (if is_up_to (nano_limit - 1) (whole_or_zero (codes "early") ms) then Some (number_at (codes "early") ms) else None)
+    → Some late ≡ (if is_up_to (nano_limit - 1) (whole_or_zero (codes "late") ms) then Some (number_at (codes "late") ms) else None)
     → Some (let c : Clock = record { name = name; rate = rate; early = early; late = late } in c) ≡ (if has_wild_number ms then None else Some (clock_of name ms))
 clock_made name ms rate early late p q r =
     let (tame, rate_is) = some_unless (has_wild_rate ms) rate (rate_of ms) p in
@@ -54,7 +55,7 @@ none_wrong c n w p q r = rw (p, q, r) refl
 number_wrong : (c : List Cause) (n w : Bool) → c ≡ [] → n ≡ true → w ≡ true → first (c ++ when (not n) Name ++ when w Number) ≡ Some Number
 number_wrong c n w p q r = rw (p, q, r) refl
 
-pub clock_sound : (index : ℕ) (name given : List ℕ) (ms : Members) (clock : Clock) → table_causes Hosts ms ≡ [] → Some given ≡ (if is_clock_name name then Some name else None) → index ≤ 65536
+pub clock_sound : (index : ℕ) (name given : List ℕ) (ms : Members) (clock : Clock) → table_causes Hosts ms ≡ [] → Some given ≡ (if is_clock_name name then Some name else None) → index ≤ most_entries
     → Some clock ≡ (if has_wild_number ms then None else Some (clock_of given ms)) → (clock_causes index name ms ≡ []) × (clock ≡ clock_of name ms)
 clock_sound index name given ms clock table named few numbers =
     let (is_name, name_is) = some_if (is_clock_name name) given name named in
@@ -77,12 +78,12 @@ clock_fault index before name o ms cause e is h placed =
     (fault_at Hosts index (host_causes index before name (Some ms)) cause e (first_front (clock_causes index name ms) _ cause h) placed)
 
 -- a host without a fault has an index that may be
-pub host_few : (index : ℕ) (before : List ℕ) (name : List ℕ) (o : Option Members) → host_causes index before name o ≡ [] → index ≤ 65536
+pub host_few : (index : ℕ) (before : List ℕ) (name : List ℕ) (o : Option Members) → host_causes index before name o ≡ [] → index ≤ most_entries
 host_few index before name None e = cc
 host_few index before name (Some ms) e =
     let clock = (no_parts (clock_causes index name ms) _ e).0 in
     let last = (no_parts (table_causes Hosts ms ++ when (not (is_clock_name name)) Name) _ clock).1 in
-    let many : nat_lt 65536 index ≡ false = (neither _ _ (not_so _ Number last)).0 in
+    let many : nat_lt most_entries index ≡ false = (neither _ _ (not_so _ Number last)).0 in
     grind (arith, many)
 
 -- the first fault of the next host

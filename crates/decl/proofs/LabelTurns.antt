@@ -17,6 +17,7 @@ use Rattle.decl.specs.Declaration.{Precedes}
 use Rattle.decl.specs.Hosts.{is_clock_name, entry_of}
 use Rattle.decl.specs.Keys.{table_causes}
 use Rattle.decl.specs.Labels.{host_at_key, kind_at, is_misnamed, label_causes, label_of, entry_causes, labels_faults, labels_of}
+use Rattle.decl.specs.Limits.{most_entries}
 use Rattle.decl.specs.declared.cause.Cause.{Cause}
 use Rattle.decl.specs.declared.cause.Cause.TheVariants.{Name, Number}
 use Rattle.decl.specs.declared.errors.DeclError.{DeclError}
@@ -44,11 +45,11 @@ label_made hosts name given ms host kind named placed kinded =
     (same_label _ _ _ _ _ _ name_is (ap (λ (o : Option ℕ). unwrap_or o 0) placed) (ap (λ (o : Option TraceKind). unwrap_or o Capture) kinded))
 
 -- a label without a fault has an index that may be
-pub label_few : (hosts : List (List ℕ)) (index : ℕ) (name : List ℕ) (o : Option Members) → entry_causes (label_causes hosts index name) o ≡ [] → index ≤ 65536
+pub label_few : (hosts : List (List ℕ)) (index : ℕ) (name : List ℕ) (o : Option Members) → entry_causes (label_causes hosts index name) o ≡ [] → index ≤ most_entries
 label_few hosts index name None e = cc
 label_few hosts index name (Some ms) e =
     let last = (no_parts (table_causes Labels ms ++ when (is_misnamed hosts name ms) Name) _ e).1 in
-    let many : nat_lt 65536 index ≡ false = not_so _ Number last in
+    let many : nat_lt most_entries index ≡ false = not_so _ Number last in
     grind (arith, many)
 
 -- the first fault of the next label

@@ -1,5 +1,5 @@
 -- What a document without a fault declares is lawful.
-use Rattle.std.proofs.Common.{◌≡◌, ◌≢◌, ℕ, zero, suc, ◌+◌, ◌-◌, ◌^◌, ◌<◌, ◌≤◌, ◌==◌, ◌&&◌, Bool, true, false, not, ◌||◌, is_none, nat_abs, unwrap_or, option_to_list, option_map, List, [], ◌∷◌, ◌++◌, length, map, get_or, slice_get, Option, Some, None, ℤ, pos, codes, eq-eqb, eqb-true, refl, sym, ap, ◌∙◌, subst, arith}
+use Rattle.std.proofs.Common.{◌≡◌, ◌≢◌, ℕ, zero, suc, ◌+◌, ◌-◌, ◌<◌, ◌≤◌, ◌==◌, ◌&&◌, Bool, true, false, not, ◌||◌, is_none, nat_abs, unwrap_or, option_to_list, option_map, List, [], ◌∷◌, ◌++◌, length, map, get_or, slice_get, Option, Some, None, ℤ, pos, codes, eq-eqb, eqb-true, refl, sym, ap, ◌∙◌, subst, arith}
 use Rattle.std.specs.Prelude.{All, AllPairs, IfSome, option_and_then}
 use Rattle.std.specs.List.{position_from}
 use Rattle.std.specs.Int.{from_be_bytes, w32}
@@ -16,6 +16,7 @@ use Rattle.decl.specs.Declaration.{IsDeclaration, IsSource, IsClockOf, LinkFits,
 use Rattle.decl.specs.Hosts.{address_texts, addresses_from, addresses_in, clock_causes, clock_of, clocks_of, entry_of, hosts_of, has_wild_number, has_wild_rate, host_causes, hosts_faults, is_clock_name, is_one_too_many}
 use Rattle.decl.specs.Keys.{table_causes}
 use Rattle.decl.specs.Labels.{entry_causes, host_at_key, is_misnamed, label_causes, label_of, labels_faults, labels_of}
+use Rattle.decl.specs.Limits.{most_entries, most_payload, most_short, most_long, nano_limit, address_limit}
 use Rattle.decl.specs.Links.{has_link, is_astray, link_causes, link_of, links_faults, links_of}
 use Rattle.decl.specs.Places.{place_of, clock_place}
 use Rattle.decl.specs.Values.{is_up_to, text_at, whole_at, whole_or_zero}
@@ -40,8 +41,8 @@ use Rattle.decl.proofs.Searching.{Rise, precedes_differ}
 up_to_le : (limit : ℕ) (z : ℤ) → is_up_to limit z ≡ true → nat_abs z ≤ limit
 up_to_le limit z e = grind (arith, e)
 
-below_62 : (z : ℤ) → is_up_to (2 ^ 62 - 1) z ≡ true → nat_abs z < 2 ^ 62
-below_62 z e = omega (arith, up_to_le (2 ^ 62 - 1) z e)
+below_62 : (z : ℤ) → is_up_to (nano_limit - 1) z ≡ true → nat_abs z < nano_limit
+below_62 z e = omega (arith, up_to_le (nano_limit - 1) z e)
 
 wild : (a b : Bool) → (not a || not b) ≡ false → (a ≡ true) × (b ≡ true)
 wild true true e = (refl, refl)
@@ -50,11 +51,11 @@ wild false b e = cc
 
 clock_fits : (name : List ℕ) (ms : Members) → has_wild_number ms ≡ false → ClockFits (clock_of name ms)
 clock_fits name ms tame =
-    let (front, late) = neither (has_wild_rate ms || not (is_up_to (2 ^ 62 - 1) (whole_or_zero (codes "early") ms))) _ tame in
+    let (front, late) = neither (has_wild_rate ms || not (is_up_to (nano_limit - 1) (whole_or_zero (codes "early") ms))) _ tame in
     let (rate, early) = neither (has_wild_rate ms) _ front in
-    let (short, long) = wild (is_up_to 999999999 (whole_or_zero (codes "short") ms)) (is_up_to 1000000000 (whole_or_zero (codes "long") ms)) rate in (
-      up_to_le 999999999 (whole_or_zero (codes "short") ms) short,
-      up_to_le 1000000000 (whole_or_zero (codes "long") ms) long,
+    let (short, long) = wild (is_up_to most_short (whole_or_zero (codes "short") ms)) (is_up_to most_long (whole_or_zero (codes "long") ms)) rate in (
+      up_to_le most_short (whole_or_zero (codes "short") ms) short,
+      up_to_le most_long (whole_or_zero (codes "long") ms) long,
       below_62 (whole_or_zero (codes "early") ms) (not_false _ early),
       below_62 (whole_or_zero (codes "late") ms) (not_false _ late),
     )
@@ -98,7 +99,7 @@ hosts_fit index before (member name d ms) e =
     All-cons ClockFits _ _ (good_host index before name (as_table d) (host_here index before name d ms e)).fits
     (hosts_fit (index + 1) (before ++ addresses_in d) ms (hosts_behind index before name d ms e))
 
-hosts_few : (index : ℕ) (before : List ℕ) (ms : Members) → index ≤ 65537 → hosts_faults index before ms ≡ [] → index + length (clocks_of ms) ≤ 65537
+hosts_few : (index : ℕ) (before : List ℕ) (ms : Members) → index ≤ most_entries + 1 → hosts_faults index before ms ≡ [] → index + length (clocks_of ms) ≤ most_entries + 1
 hosts_few index before no_members le e = omega (arith, le)
 hosts_few index before (member name d ms) le e =
     let here = host_few index before name (as_table d) (host_here index before name d ms e) in
@@ -146,29 +147,29 @@ addresses_placed place (member name d ms) n e =
     (addresses_of_host (λ (a : Address). a.host < n) place (addresses_in d) (λ k m below. omega (arith, e)))
     (addresses_placed (place + 1) ms n (omega (arith, e)))
 
-octets_below : (octets : List ℕ) (a b c d : ℕ) → octets ≡ a ∷ b ∷ c ∷ d ∷ [] → a < 256 → b < 256 → c < 256 → d < 256 → from_be_bytes w32 octets < 2 ^ 32
+octets_below : (octets : List ℕ) (a b c d : ℕ) → octets ≡ a ∷ b ∷ c ∷ d ∷ [] → a < 256 → b < 256 → c < 256 → d < 256 → from_be_bytes w32 octets < address_limit
 octets_below octets a b c d e p q r s = rw e (omega (arith, p, q, r, s))
 
-address_below : (text : List ℕ) (address : ℕ) → address_of text ≡ Some address → address < 2 ^ 32
+address_below : (text : List ℕ) (address : ℕ) → address_of text ≡ Some address → address < address_limit
 address_below text address e =
     let found = address_found text address e in
     let dotted = found.dotted in
     let below = octets_below found.octets dotted.a dotted.b dotted.c dotted.d dotted.value dotted.fit.0 dotted.fit.1 dotted.fit.2 dotted.fit.3 in
-    subst (λ (n : ℕ). n < 2 ^ 32) (sym found.value) below
+    subst (λ (n : ℕ). n < address_limit) (sym found.value) below
 
-written_below : (texts : List (List ℕ)) → All (λ (n : ℕ). n < 2 ^ 32) (written texts)
-written_below [] = All-nil (λ (n : ℕ). n < 2 ^ 32)
-written_below (text ∷ texts) = All-append (λ (n : ℕ). n < 2 ^ 32) (option_to_list (address_of text)) (written texts) (one (address_of text) refl) (written_below texts)
+written_below : (texts : List (List ℕ)) → All (λ (n : ℕ). n < address_limit) (written texts)
+written_below [] = All-nil (λ (n : ℕ). n < address_limit)
+written_below (text ∷ texts) = All-append (λ (n : ℕ). n < address_limit) (option_to_list (address_of text)) (written texts) (one (address_of text) refl) (written_below texts)
   where
-    one : (o : Option ℕ) → address_of text ≡ o → All (λ (n : ℕ). n < 2 ^ 32) (option_to_list o)
-    one None e = All-nil (λ (n : ℕ). n < 2 ^ 32)
-    one (Some n) e = All-cons (λ (m : ℕ). m < 2 ^ 32) n [] (address_below text n e) (All-nil (λ (m : ℕ). m < 2 ^ 32))
+    one : (o : Option ℕ) → address_of text ≡ o → All (λ (n : ℕ). n < address_limit) (option_to_list o)
+    one None e = All-nil (λ (n : ℕ). n < address_limit)
+    one (Some n) e = All-cons (λ (m : ℕ). m < address_limit) n [] (address_below text n e) (All-nil (λ (m : ℕ). m < address_limit))
 
-addresses_fit : (place : ℕ) (ms : Members) → All (λ (a : Address). a.address < 2 ^ 32) (addresses_from place ms)
-addresses_fit place no_members = All-nil (λ (a : Address). a.address < 2 ^ 32)
+addresses_fit : (place : ℕ) (ms : Members) → All (λ (a : Address). a.address < address_limit) (addresses_from place ms)
+addresses_fit place no_members = All-nil (λ (a : Address). a.address < address_limit)
 addresses_fit place (member name d ms) =
-    All-append (λ (a : Address). a.address < 2 ^ 32) (at_host place (addresses_in d)) (addresses_from (place + 1) ms)
-    (addresses_of_host (λ (a : Address). a.address < 2 ^ 32) place (addresses_in d) (written_below (address_texts (entry_of d)))) (addresses_fit (place + 1) ms)
+    All-append (λ (a : Address). a.address < address_limit) (at_host place (addresses_in d)) (addresses_from (place + 1) ms)
+    (addresses_of_host (λ (a : Address). a.address < address_limit) place (addresses_in d) (written_below (address_texts (entry_of d)))) (addresses_fit (place + 1) ms)
 
 abbrev same_number : ℕ → ℕ → Bool
 same_number b x = x == b
@@ -274,7 +275,7 @@ module _ (hosts : List (List ℕ)) where
       let good = good_label index name (as_table d) (label_here index name d ms e) in
       All-cons (λ (l : Label). IsClockOf (one_clock_each 0 hosts) l.host l.clock) (label_of hosts name (entry_of d)) (labels_of hosts ms) (own_clock hosts (label_of hosts name (entry_of d)).host good.placed) (labels_owned (index + 1) ms (labels_behind index name d ms e))
 
-  labels_few : (index : ℕ) (ms : Members) → index ≤ 65537 → labels_faults hosts index ms ≡ [] → index + length (labels_of hosts ms) ≤ 65537
+  labels_few : (index : ℕ) (ms : Members) → index ≤ most_entries + 1 → labels_faults hosts index ms ≡ [] → index + length (labels_of hosts ms) ≤ most_entries + 1
   labels_few index no_members le e = omega (arith, le)
   labels_few index (member name d ms) le e =
       let here = label_few hosts index name (as_table d) (label_here index name d ms e) in
@@ -294,7 +295,7 @@ module _ (hosts : List (List ℕ)) where
   astray before (Some from) None e = cc
   astray before (Some from) (Some to) e = (refl, refl, e)
 
-  most_fits : (o : Option ℤ) → is_up_to (2 ^ 62 - 1) (unwrap_or o (pos 0)) ≡ true → IfSome (option_map nat_abs o) (λ most. most < 2 ^ 62)
+  most_fits : (o : Option ℤ) → is_up_to (nano_limit - 1) (unwrap_or o (pos 0)) ≡ true → IfSome (option_map nat_abs o) (λ most. most < nano_limit)
   most_fits None e = tt
   most_fits (Some z) e = below_62 z e
 
@@ -305,7 +306,7 @@ module _ (hosts : List (List ℕ)) where
       let (_, names) = no_parts (table_causes Links ms) _ front in
       let (from, to, fresh) = astray before (host_at_key hosts (codes "from") ms) (host_at_key hosts (codes "to") ms) (not_so _ cause.Name names) in
       let (_, tame) = neither (is_one_too_many index) _ (not_so _ cause.Number numbers) in
-      let (least, most) = wild (is_up_to (2 ^ 62 - 1) (whole_or_zero (codes "least") ms)) (is_up_to (2 ^ 62 - 1) (whole_or_zero (codes "most") ms)) tame in
+      let (least, most) = wild (is_up_to (nano_limit - 1) (whole_or_zero (codes "least") ms)) (is_up_to (nano_limit - 1) (whole_or_zero (codes "most") ms)) tame in
       record {
         start = known_below (codes "from") ms from;
         end = known_below (codes "to") ms to;
@@ -327,7 +328,7 @@ module _ (hosts : List (List ℕ)) where
       All-cons P _ _ (good before (entry_of d) (good_link index before (as_table d) (link_here index before d ds e)))
       (links_all P good (index + 1) (before ++ link_of hosts (entry_of d) ∷ []) ds (links_behind index before d ds e))
 
-  links_few : (index : ℕ) (before : List Link) (ds : Items) → index ≤ 65537 → links_faults hosts index before ds ≡ [] → index + length (links_of hosts ds) ≤ 65537
+  links_few : (index : ℕ) (before : List Link) (ds : Items) → index ≤ most_entries + 1 → links_faults hosts index before ds ≡ [] → index + length (links_of hosts ds) ≤ most_entries + 1
   links_few index before no_items le e = omega (arith, le)
   links_few index before (item d ds) le e =
       let here = link_few hosts index before (as_table d) (link_here index before d ds e) in
@@ -384,32 +385,44 @@ lawful ms rise labels_rise e =
     let (labels, behind_labels) = no_parts (labels_faults names 1 (labels_in ms)) _ behind_hosts in
     let (links, source) = no_parts (links_faults names 1 [] (links_in ms)) _ behind_labels in
     let payload = (no_parts (table_causes Top ms) _ (no_causes Top 0 (top_causes ms) top)).1 in
-    let few : 1 + length clocks ≤ 65537 = hosts_few 1 [] (hosts_in ms) (omega arith) hosts in
+    let few : 1 + length clocks ≤ most_entries + 1 = hosts_few 1 [] (hosts_in ms) (omega arith) hosts in
     let counted : length names ≡ length clocks = hosts_counted (hosts_in ms) in
     record {
-      host_names = hosts_are_named 1 [] (hosts_in ms) hosts;
-      hosts_rise = rise;
-      host_limit = omega (arith, few, counted);
-      clock_names = hosts_named 1 [] (hosts_in ms) hosts;
-      clocks_differ = clocks_differ clocks names (own_names (hosts_in ms)) rise;
-      clocks_fit = hosts_fit 1 [] (hosts_in ms) hosts;
-      clock_limit = omega (arith, few);
-      clocks_owned = owners_counted 0 (hosts_in ms);
-      own_names = own_names (hosts_in ms);
-      own_clocks = refl;
-      address_hosts = addresses_placed 0 (hosts_in ms) (length names) (omega (arith, counted));
-      addresses_fit = addresses_fit 0 (hosts_in ms);
-      addresses_differ = addresses_differ (addresses_from 0 (hosts_in ms)) (all_apart same_number [] _ (addresses_fresh 1 0 [] (hosts_in ms) hosts));
-      label_names = labels_named names 1 (labels_in ms) labels;
-      labels_rise = labels_rise;
-      label_hosts = labels_placed names 1 (labels_in ms) labels;
-      label_clocks = labels_owned names 1 (labels_in ms) labels;
-      label_limit = omega (arith, labels_few names 1 (labels_in ms) (omega arith) labels);
-      link_starts = links_all names (λ (l : Link). l.from < length names) (λ before m good. good.start) 1 [] (links_in ms) links;
-      link_ends = links_all names (λ (l : Link). l.to < length names) (λ before m good. good.end) 1 [] (links_in ms) links;
-      links_differ = links_differ (links_of names (links_in ms)) (all_apart same_ends [] _ (links_fresh names 1 [] (links_in ms) links));
-      links_fit = links_all names LinkFits (λ before m good. good.fits) 1 [] (links_in ms) links;
-      link_limit = omega (arith, links_few names 1 [] (links_in ms) (omega arith) links);
-      payload_limit = up_to_le 64 (whole_or_zero (codes "payload_bytes") ms) (not_false _ (not_so _ cause.Number payload));
-      source_true = source_true clocks (text_at (codes "source") ms) (no_causes Top 0 _ source);
+      hosts = record {
+        host_names = hosts_are_named 1 [] (hosts_in ms) hosts;
+        hosts_rise = rise;
+        own_names = own_names (hosts_in ms);
+        own_clocks = refl;
+      };
+      clocks = record {
+        clock_names = hosts_named 1 [] (hosts_in ms) hosts;
+        clocks_differ = clocks_differ clocks names (own_names (hosts_in ms)) rise;
+        clocks_fit = hosts_fit 1 [] (hosts_in ms) hosts;
+        clocks_owned = owners_counted 0 (hosts_in ms);
+        source_true = source_true clocks (text_at (codes "source") ms) (no_causes Top 0 _ source);
+      };
+      addresses = record {
+        address_hosts = addresses_placed 0 (hosts_in ms) (length names) (omega (arith, counted));
+        addresses_fit = addresses_fit 0 (hosts_in ms);
+        addresses_differ = addresses_differ (addresses_from 0 (hosts_in ms)) (all_apart same_number [] _ (addresses_fresh 1 0 [] (hosts_in ms) hosts));
+      };
+      labels = record {
+        label_names = labels_named names 1 (labels_in ms) labels;
+        labels_rise = labels_rise;
+        label_hosts = labels_placed names 1 (labels_in ms) labels;
+        label_clocks = labels_owned names 1 (labels_in ms) labels;
+      };
+      links = record {
+        link_starts = links_all names (λ (l : Link). l.from < length names) (λ before m good. good.start) 1 [] (links_in ms) links;
+        link_ends = links_all names (λ (l : Link). l.to < length names) (λ before m good. good.end) 1 [] (links_in ms) links;
+        links_differ = links_differ (links_of names (links_in ms)) (all_apart same_ends [] _ (links_fresh names 1 [] (links_in ms) links));
+        links_fit = links_all names LinkFits (λ before m good. good.fits) 1 [] (links_in ms) links;
+      };
+      limits = record {
+        host_limit = omega (arith, few, counted);
+        clock_limit = omega (arith, few);
+        label_limit = omega (arith, labels_few names 1 (labels_in ms) (omega arith) labels);
+        link_limit = omega (arith, links_few names 1 [] (links_in ms) (omega arith) links);
+        payload_limit = up_to_le most_payload (whole_or_zero (codes "payload_bytes") ms) (not_false _ (not_so _ cause.Number payload));
+      };
     }

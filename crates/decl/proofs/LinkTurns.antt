@@ -1,5 +1,5 @@
 -- Links one by one, as the code reads them.
-use Rattle.std.proofs.Common.{◌≡◌, ℕ, ◌+◌, ◌-◌, ◌≤◌, ◌<◌, ◌^◌, Bool, true, false, not, ◌||◌, if◌then◌else◌, unwrap_or, nat_lt, option_map, nat_abs, List, [], ◌∷◌, ◌++◌, length, get_or, drop, Option, Some, None, ℤ, pos, codes, refl, sym, ap, ◌∙◌, subst, arith, append_assoc}
+use Rattle.std.proofs.Common.{◌≡◌, ℕ, ◌+◌, ◌-◌, ◌≤◌, ◌<◌, Bool, true, false, not, ◌||◌, if◌then◌else◌, unwrap_or, nat_lt, option_map, nat_abs, List, [], ◌∷◌, ◌++◌, length, get_or, drop, Option, Some, None, ℤ, pos, codes, refl, sym, ap, ◌∙◌, subst, arith, append_assoc}
 use Rattle.std.specs.Prelude.{◌==◌, ◌&&◌, cond}
 use Rattle.std.specs.Ordering.{nat_cmp, ordering_then, is_eq}
 use Rattle.std.proofs.lemmas.List.Folds.{list_any-append}
@@ -11,6 +11,7 @@ use Rattle.decl.specs.Causes.{at, when, first, error_at, IsFirstOf}
 use Rattle.decl.specs.Hosts.{entry_of, is_one_too_many}
 use Rattle.decl.specs.Keys.{table_causes}
 use Rattle.decl.specs.Labels.{host_at_key, entry_causes}
+use Rattle.decl.specs.Limits.{most_entries, nano_limit}
 use Rattle.decl.specs.Links.{has_link, is_astray, most_at, link_causes, link_of, links_faults, links_of}
 use Rattle.decl.specs.Values.{whole_at, whole_or_zero, number_at, is_up_to}
 use Rattle.decl.specs.declared.cause.Cause.{Cause}
@@ -22,9 +23,9 @@ use Rattle.decl.proofs.Faults.{few_index, neither_of, second_of, no_parts, not_s
 
 -- the number of a greatest delay that is there
 pub most_some : (ms : Members) (z : ℤ) (most : ℕ) → whole_at (codes "most") ms ≡ Some z
-    → Some most ≡ (if is_up_to (2 ^ 62 - 1) (whole_or_zero (codes "most") ms) then Some (number_at (codes "most") ms) else None) → Some most ≡ most_at ms
+    → Some most ≡ (if is_up_to (nano_limit - 1) (whole_or_zero (codes "most") ms) then Some (number_at (codes "most") ms) else None) → Some most ≡ most_at ms
 most_some ms z most there p =
-    let (_, most_is) = some_if (is_up_to (2 ^ 62 - 1) (whole_or_zero (codes "most") ms)) most (number_at (codes "most") ms) p in
+    let (_, most_is) = some_if (is_up_to (nano_limit - 1) (whole_or_zero (codes "most") ms)) most (number_at (codes "most") ms) p in
     go (whole_at (codes "most") ms) there most_is
   where
     go : (o : Option ℤ) → o ≡ Some z → most ≡ nat_abs (unwrap_or o (pos 0)) → Some most ≡ option_map nat_abs o
@@ -32,10 +33,10 @@ most_some ms z most there p =
     go (Some y) e h = ap Some h
 
 -- a greatest delay in its range
-pub most_made : (ms : Members) (most : Option ℕ) (most' : ℕ) → Some most' ≡ (if is_up_to (2 ^ 62 - 1) (whole_or_zero (codes "most") ms) then Some (number_at (codes "most") ms) else None)
-    → most ≡ most_at ms → ◌≡◌ {A = Option (Option ℕ)} (Some most) (if is_up_to (2 ^ 62 - 1) (whole_or_zero (codes "most") ms) then Some (most_at ms) else None)
+pub most_made : (ms : Members) (most : Option ℕ) (most' : ℕ) → Some most' ≡ (if is_up_to (nano_limit - 1) (whole_or_zero (codes "most") ms) then Some (number_at (codes "most") ms) else None)
+    → most ≡ most_at ms → ◌≡◌ {A = Option (Option ℕ)} (Some most) (if is_up_to (nano_limit - 1) (whole_or_zero (codes "most") ms) then Some (most_at ms) else None)
 most_made ms most most' p e =
-    let (there, _) = some_if (is_up_to (2 ^ 62 - 1) (whole_or_zero (codes "most") ms)) most' (number_at (codes "most") ms) p in
+    let (there, _) = some_if (is_up_to (nano_limit - 1) (whole_or_zero (codes "most") ms)) most' (number_at (codes "most") ms) p in
     made _ _ _ there e
   where
     made : (b : Bool) (m m' : Option ℕ) → b ≡ true → m ≡ m' → ◌≡◌ {A = Option (Option ℕ)} (Some m) (if b then Some m' else None)
@@ -71,31 +72,31 @@ module _ (hosts : List (List ℕ)) (index : ℕ) (before : List Link) (ms : Memb
   wild_second true b p = rw p refl
   wild_second false b p = refl
 
-  pub link_sound : (least : ℕ) (most : Option ℕ) → index ≤ 65536
-      → Some least ≡ (if is_up_to (2 ^ 62 - 1) (whole_or_zero (codes "least") ms) then Some (number_at (codes "least") ms) else None)
-      → ◌≡◌ {A = Option (Option ℕ)} (Some most) (if is_up_to (2 ^ 62 - 1) (whole_or_zero (codes "most") ms) then Some (most_at ms) else None)
+  pub link_sound : (least : ℕ) (most : Option ℕ) → index ≤ most_entries
+      → Some least ≡ (if is_up_to (nano_limit - 1) (whole_or_zero (codes "least") ms) then Some (number_at (codes "least") ms) else None)
+      → ◌≡◌ {A = Option (Option ℕ)} (Some most) (if is_up_to (nano_limit - 1) (whole_or_zero (codes "most") ms) then Some (most_at ms) else None)
       → (link_causes hosts index before ms ≡ []) × ((let l : Link = record { from = from; to = to; least = least; most = most } in l) ≡ link_of hosts ms)
   link_sound least most few p q =
-      let (first, least_is) = some_if (is_up_to (2 ^ 62 - 1) (whole_or_zero (codes "least") ms)) least (number_at (codes "least") ms) p in
-      let (second, most_is) = some_if (is_up_to (2 ^ 62 - 1) (whole_or_zero (codes "most") ms)) most (most_at ms) q in (
+      let (first, least_is) = some_if (is_up_to (nano_limit - 1) (whole_or_zero (codes "least") ms)) least (number_at (codes "least") ms) p in
+      let (second, most_is) = some_if (is_up_to (nano_limit - 1) (whole_or_zero (codes "most") ms)) most (most_at ms) q in (
         none_wrong _ _ _ table known (neither_of _ _ (few_index index few) (tame_of _ _ first second)),
         same_link _ _ _ _ _ _ _ _ (ap (λ (p : ℕ × ℕ). p.0) ends_are) (ap (λ (p : ℕ × ℕ). p.1) ends_are) least_is most_is,
       )
 
-  pub least_wild : None ≡ (if is_up_to (2 ^ 62 - 1) (whole_or_zero (codes "least") ms) then Some (number_at (codes "least") ms) else None) → first (link_causes hosts index before ms) ≡ Some Number
+  pub least_wild : None ≡ (if is_up_to (nano_limit - 1) (whole_or_zero (codes "least") ms) then Some (number_at (codes "least") ms) else None) → first (link_causes hosts index before ms) ≡ Some Number
   least_wild p =
-      number_wrong _ _ _ table known (second_of (is_one_too_many index) _ (wild_first _ (is_up_to (2 ^ 62 - 1) (whole_or_zero (codes "most") ms)) (none_if (is_up_to (2 ^ 62 - 1) (whole_or_zero (codes "least") ms)) (number_at (codes "least") ms) p)))
+      number_wrong _ _ _ table known (second_of (is_one_too_many index) _ (wild_first _ (is_up_to (nano_limit - 1) (whole_or_zero (codes "most") ms)) (none_if (is_up_to (nano_limit - 1) (whole_or_zero (codes "least") ms)) (number_at (codes "least") ms) p)))
 
-  pub most_wild : ◌≡◌ {A = Option (Option ℕ)} None (if is_up_to (2 ^ 62 - 1) (whole_or_zero (codes "most") ms) then Some (most_at ms) else None) → first (link_causes hosts index before ms) ≡ Some Number
+  pub most_wild : ◌≡◌ {A = Option (Option ℕ)} None (if is_up_to (nano_limit - 1) (whole_or_zero (codes "most") ms) then Some (most_at ms) else None) → first (link_causes hosts index before ms) ≡ Some Number
   most_wild p =
-      number_wrong _ _ _ table known (second_of (is_one_too_many index) _ (wild_second (is_up_to (2 ^ 62 - 1) (whole_or_zero (codes "least") ms)) _ (none_if (is_up_to (2 ^ 62 - 1) (whole_or_zero (codes "most") ms)) (most_at ms) p)))
+      number_wrong _ _ _ table known (second_of (is_one_too_many index) _ (wild_second (is_up_to (nano_limit - 1) (whole_or_zero (codes "least") ms)) _ (none_if (is_up_to (nano_limit - 1) (whole_or_zero (codes "most") ms)) (most_at ms) p)))
 
 -- a link without a fault has an index that may be
-pub link_few : (hosts : List (List ℕ)) (index : ℕ) (before : List Link) (o : Option Members) → entry_causes (link_causes hosts index before) o ≡ [] → index ≤ 65536
+pub link_few : (hosts : List (List ℕ)) (index : ℕ) (before : List Link) (o : Option Members) → entry_causes (link_causes hosts index before) o ≡ [] → index ≤ most_entries
 link_few hosts index before None e = cc
 link_few hosts index before (Some ms) e =
     let last = (no_parts (table_causes Links ms ++ when (is_astray before (host_at_key hosts (codes "from") ms) (host_at_key hosts (codes "to") ms)) Name) _ e).1 in
-    let many : nat_lt 65536 index ≡ false = (neither _ _ (not_so _ Number last)).0 in
+    let many : nat_lt most_entries index ≡ false = (neither _ _ (not_so _ Number last)).0 in
     grind (arith, many)
 
 module _ (all : List DeclError) (hosts : List (List ℕ)) (index : ℕ) (before : List Link) (items : List Value) (i : ℕ) (d : Value) (within : i < length items)

@@ -1,11 +1,12 @@
 -- What a declaration says, and the rules that it meets.
-use Rattle.std.specs.Prelude.{◌≡◌, ◌≢◌, ℕ, ◌+◌, ◌^◌, ◌<◌, ◌≤◌, ◌==◌, ◌&&◌, if◌then◌else◌, List, [], ◌∷◌, length, map, slice_get, Option, Some, None, IfSome, All, AllPairs}
+use Rattle.std.specs.Prelude.{◌≡◌, ◌≢◌, ℕ, ◌+◌, ◌<◌, ◌≤◌, ◌==◌, ◌&&◌, if◌then◌else◌, List, [], ◌∷◌, length, map, slice_get, Option, Some, None, IfSome, All, AllPairs}
 use Rattle.std.specs.Ordering.{nat_cmp}
 use Rattle.std.specs.declared.cmp.Ordering.TheVariants.{Less}
 use Rattle.std.specs.Cmp.Lexicographic.{slice_cmp}
 use Rattle.problem_model.specs.declared.items.Clock.{Clock}
 use Rattle.problem_model.specs.Name.{IsClockName}
-use Rattle.problem_model.specs.Problem.{ClockFits}
+use Rattle.problem_model.specs.Problem.{ClockFits, most_clocks}
+use Rattle.decl.specs.Limits.{most_entries, most_payload, nano_limit, address_limit}
 use Rattle.decl.specs.declared.items.Decl.{Decl}
 use Rattle.decl.specs.declared.items.Owner.{Owner}
 use Rattle.decl.specs.declared.items.Address.{Address}
@@ -34,7 +35,7 @@ Precedes a b = slice_cmp nat_cmp a b ≡ Less
 
 -- the numbers of a link are in their ranges
 abbrev pub LinkFits : Link → Type 0
-LinkFits l = (l.least < 2 ^ 62) × IfSome l.most (λ most. most < 2 ^ 62)
+LinkFits l = (l.least < nano_limit) × IfSome l.most (λ most. most < nano_limit)
 
 -- the clock at this place is never short or long
 abbrev pub IsSource : List Clock → ℕ → Type 0
@@ -49,35 +50,58 @@ abbrev pub one_clock_each : ℕ → List (List ℕ) → List Owner
 one_clock_each k [] = []
 one_clock_each k (host ∷ hosts) = (record { host = k; gap = 0 }) ∷ one_clock_each (k + 1) hosts
 
--- names, places, ranges and limits are lawful; hosts and labels rise, and clocks, addresses and links differ from each
--- other; a label's clock is one of its host; each host has one clock, of its own name. What is said of clocks beside
--- that follows from it, and is what users of a declaration ask of clocks
-pub record IsDeclaration (d : Declaration) : Type 0 where
+-- hosts rise by their names, and each has one clock, of its own name
+pub record HasLawfulHosts (d : Declaration) : Type 0 where
   pub host_names : All IsClockName d.hosts
   pub hosts_rise : AllPairs Precedes d.hosts
-  pub host_limit : length d.hosts ≤ 65536
+  pub own_names : map (λ c. c.name) d.clocks ≡ d.hosts
+  pub own_clocks : d.owners ≡ one_clock_each 0 d.hosts
+
+-- clocks differ in their names, have numbers in their ranges and an owner each; one that is the source shows true time.
+-- Names and owners follow from what is said of hosts, and are what users of a declaration ask of clocks
+pub record HasLawfulClocks (d : Declaration) : Type 0 where
   pub clock_names : All (λ c. IsClockName c.name) d.clocks
   pub clocks_differ : AllPairs (λ a b. a.name ≢ b.name) d.clocks
   pub clocks_fit : All ClockFits d.clocks
-  pub clock_limit : length d.clocks ≤ 65536
   pub clocks_owned : length d.owners ≡ length d.clocks
-  pub own_names : map (λ c. c.name) d.clocks ≡ d.hosts
-  pub own_clocks : d.owners ≡ one_clock_each 0 d.hosts
+  pub source_true : IfSome d.source (IsSource d.clocks)
+
+-- no two addresses are the same, and each is one of a host
+pub record HasLawfulAddresses (d : Declaration) : Type 0 where
   pub address_hosts : All (λ a. a.host < length d.hosts) d.addresses
-  pub addresses_fit : All (λ a. a.address < 2 ^ 32) d.addresses
+  pub addresses_fit : All (λ a. a.address < address_limit) d.addresses
   pub addresses_differ : AllPairs (λ a b. a.address ≢ b.address) d.addresses
+
+-- labels rise by their names, and each is of a host and of a clock of that host
+pub record HasLawfulLabels (d : Declaration) : Type 0 where
   pub label_names : All (λ l. IsClockName l.name) d.labels
   pub labels_rise : AllPairs (λ a b. Precedes a.name b.name) d.labels
   pub label_hosts : All (λ l. l.host < length d.hosts) d.labels
   pub label_clocks : All (λ l. IsClockOf d.owners l.host l.clock) d.labels
-  pub label_limit : length d.labels ≤ 65536
+
+-- links join hosts, no two of them the same in the same order, and have numbers in their ranges
+pub record HasLawfulLinks (d : Declaration) : Type 0 where
   pub link_starts : All (λ l. l.from < length d.hosts) d.links
   pub link_ends : All (λ l. l.to < length d.hosts) d.links
   pub links_differ : AllPairs (λ a b. (a.from ≡ b.from) → (a.to ≡ b.to) → ⊥) d.links
   pub links_fit : All LinkFits d.links
-  pub link_limit : length d.links ≤ 65536
-  pub payload_limit : d.payload_bytes ≤ 64
-  pub source_true : IfSome d.source (IsSource d.clocks)
+
+-- there is not too much of anything
+pub record KeepsLimits (d : Declaration) : Type 0 where
+  pub host_limit : length d.hosts ≤ most_entries
+  pub clock_limit : length d.clocks ≤ most_clocks
+  pub label_limit : length d.labels ≤ most_entries
+  pub link_limit : length d.links ≤ most_entries
+  pub payload_limit : d.payload_bytes ≤ most_payload
+
+-- a declaration: each part of it is lawful, and it is not too large
+pub record IsDeclaration (d : Declaration) : Type 0 where
+  pub hosts : HasLawfulHosts d
+  pub clocks : HasLawfulClocks d
+  pub addresses : HasLawfulAddresses d
+  pub labels : HasLawfulLabels d
+  pub links : HasLawfulLinks d
+  pub limits : KeepsLimits d
 
 -- the host of the first of these addresses with this value
 abbrev pub host_among : List Address → ℕ → Option ℕ

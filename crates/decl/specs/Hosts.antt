@@ -1,5 +1,5 @@
 -- What is wrong with hosts, and what they declare.
-use Rattle.std.specs.Prelude.{ℕ, ◌+◌, ◌-◌, ◌^◌, Bool, not, ◌&&◌, ◌||◌, nat_lt, nat_le, List, [], ◌∷◌, ◌++◌, length, codes, Option, Some, None, unwrap_or}
+use Rattle.std.specs.Prelude.{ℕ, ◌+◌, ◌-◌, Bool, not, ◌&&◌, ◌||◌, nat_lt, nat_le, List, [], ◌∷◌, ◌++◌, length, codes, Option, Some, None, unwrap_or}
 use Rattle.std.specs.List.{list_all}
 use Rattle.atto.specs.Span.{RateParts}
 use Rattle.problem_model.specs.Name.{is_clock_byte}
@@ -8,6 +8,7 @@ use Rattle.toml.specs.Data.{Data, as_table, Members, no_members, member}
 use Rattle.decl.specs.Addresses.{texts_of, written, has_bad_address, at_host}
 use Rattle.decl.specs.Causes.{when, at}
 use Rattle.decl.specs.Keys.{table_causes}
+use Rattle.decl.specs.Limits.{most_entries, most_short, most_long, nano_limit}
 use Rattle.decl.specs.Values.{whole_or_zero, number_at, is_up_to, items_or_none}
 use Rattle.decl.specs.declared.cause.Cause.{Cause}
 use Rattle.decl.specs.declared.cause.Cause.TheVariants.{Shape, Name, Number, Address}
@@ -21,11 +22,11 @@ is_clock_name text = nat_lt 0 (length text) && nat_le (length text) 32 && list_a
 
 -- a part per billion of a host is out of its range
 abbrev pub has_wild_rate : Members → Bool
-has_wild_rate ms = not (is_up_to 999999999 (whole_or_zero (codes "short") ms)) || not (is_up_to 1000000000 (whole_or_zero (codes "long") ms))
+has_wild_rate ms = not (is_up_to most_short (whole_or_zero (codes "short") ms)) || not (is_up_to most_long (whole_or_zero (codes "long") ms))
 
 -- some number of a host is out of its range
 abbrev pub has_wild_number : Members → Bool
-has_wild_number ms = has_wild_rate ms || not (is_up_to (2 ^ 62 - 1) (whole_or_zero (codes "early") ms)) || not (is_up_to (2 ^ 62 - 1) (whole_or_zero (codes "late") ms))
+has_wild_number ms = has_wild_rate ms || not (is_up_to (nano_limit - 1) (whole_or_zero (codes "early") ms)) || not (is_up_to (nano_limit - 1) (whole_or_zero (codes "late") ms))
 
 -- the rate of a host's clock
 abbrev pub rate_of : Members → RateParts
@@ -44,9 +45,9 @@ clock_of name ms = record {
 abbrev pub address_texts : Members → List (List ℕ)
 address_texts ms = texts_of (items_or_none (codes "addresses") ms)
 
--- an entry has this index, and there may be no more than 65,536
+-- an entry of this index is one more than there may be
 abbrev pub is_one_too_many : ℕ → Bool
-is_one_too_many index = nat_lt 65536 index
+is_one_too_many index = nat_lt most_entries index
 
 -- what is wrong with the clock of a host
 abbrev pub clock_causes : ℕ → List ℕ → Members → List Cause

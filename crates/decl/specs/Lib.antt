@@ -1,3 +1,4 @@
+pub mod Limits
 pub mod Declaration
 pub mod Causes
 pub mod Keys

@@ -1,11 +1,12 @@
 -- What is wrong with links, and what they declare.
-use Rattle.std.specs.Prelude.{ℕ, ◌+◌, ◌-◌, ◌^◌, Bool, true, not, ◌&&◌, ◌||◌, ◌==◌, List, [], ◌∷◌, ◌++◌, codes, Option, Some, None, unwrap_or, option_map, nat_abs}
+use Rattle.std.specs.Prelude.{ℕ, ◌+◌, ◌-◌, Bool, true, not, ◌&&◌, ◌||◌, ◌==◌, List, [], ◌∷◌, ◌++◌, codes, Option, Some, None, unwrap_or, option_map, nat_abs}
 use Rattle.std.specs.List.{list_any}
 use Rattle.toml.specs.Data.{as_table, Items, no_items, item, Members}
 use Rattle.decl.specs.Causes.{when, at}
 use Rattle.decl.specs.Hosts.{entry_of, is_one_too_many}
 use Rattle.decl.specs.Keys.{table_causes}
 use Rattle.decl.specs.Labels.{entry_causes, host_at_key}
+use Rattle.decl.specs.Limits.{nano_limit}
 use Rattle.decl.specs.Values.{whole_at, whole_or_zero, number_at, is_up_to}
 use Rattle.decl.specs.declared.cause.Cause.{Cause}
 use Rattle.decl.specs.declared.cause.Cause.TheVariants.{Name, Number}
@@ -25,7 +26,7 @@ is_astray before (Some from) (Some to) = has_link before from to
 
 -- some delay of a link is out of its range
 abbrev pub has_wild_delay : Members → Bool
-has_wild_delay ms = not (is_up_to (2 ^ 62 - 1) (whole_or_zero (codes "least") ms)) || not (is_up_to (2 ^ 62 - 1) (whole_or_zero (codes "most") ms))
+has_wild_delay ms = not (is_up_to (nano_limit - 1) (whole_or_zero (codes "least") ms)) || not (is_up_to (nano_limit - 1) (whole_or_zero (codes "most") ms))
 
 -- what is wrong with the table of a link, behind these links
 abbrev pub link_causes : List (List ℕ) → ℕ → List Link → Members → List Cause

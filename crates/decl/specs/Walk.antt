@@ -1,5 +1,5 @@
 -- What a document declares, and its first fault.
-use Rattle.std.specs.Prelude.{◌≡◌, ℕ, ◌^◌, nat_lt, Bool, false, not, ◌&&◌, ◌==◌, if◌then◌else◌, List, [], ◌∷◌, ◌++◌, length, codes, slice_get, Option, Some, None, option_and_then, option_map}
+use Rattle.std.specs.Prelude.{◌≡◌, ℕ, nat_lt, Bool, false, not, ◌&&◌, ◌==◌, if◌then◌else◌, List, [], ◌∷◌, ◌++◌, length, codes, slice_get, Option, Some, None, option_and_then, option_map}
 use Rattle.std.specs.Str.{is_utf8}
 use Rattle.problem_model.specs.declared.items.Clock.{Clock}
 use Rattle.toml.specs.Data.{Items, Members}
@@ -9,6 +9,7 @@ use Rattle.decl.specs.Declaration.{Declaration, one_clock_each}
 use Rattle.decl.specs.Hosts.{hosts_of, clocks_of, addresses_from, hosts_faults}
 use Rattle.decl.specs.Keys.{table_causes}
 use Rattle.decl.specs.Labels.{labels_of, labels_faults}
+use Rattle.decl.specs.Limits.{most_bytes, most_payload}
 use Rattle.decl.specs.Links.{links_of, links_faults}
 use Rattle.decl.specs.Places.{clock_place}
 use Rattle.decl.specs.Values.{whole_or_zero, number_at, is_up_to, text_at, table_or_empty, items_or_none}
@@ -46,7 +47,7 @@ source_causes clocks (Some name) = when (not (is_true_at clocks (clock_place clo
 
 -- what is wrong with the document's own keys
 abbrev pub top_causes : Members → List Cause
-top_causes ms = table_causes Top ms ++ when (not (is_up_to 64 (whole_or_zero (codes "payload_bytes") ms))) Number
+top_causes ms = table_causes Top ms ++ when (not (is_up_to most_payload (whole_or_zero (codes "payload_bytes") ms))) Number
 
 -- all that is wrong with a document, in the order in which it is looked through
 abbrev pub faults : Members → List DeclError
@@ -80,7 +81,7 @@ faults_read (Some document) = faults document
 
 -- all that is wrong with bytes: they are too many, or no document, or one with these faults
 abbrev pub faults_in : List ℕ → List DeclError
-faults_in bytes = if nat_lt (2 ^ 24) (length bytes) then error_at Top 0 Size ∷ [] else faults_read (document_of bytes)
+faults_in bytes = if nat_lt most_bytes (length bytes) then error_at Top 0 Size ∷ [] else faults_read (document_of bytes)
 
 -- the bytes are a document without a fault, which declares this
 abbrev pub Declares : List ℕ → Declaration → Type 0

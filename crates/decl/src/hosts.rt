@@ -6,19 +6,18 @@ ghost use Rattle.decl.specs.Addresses.{numbers_of, at_host};
 ghost use Rattle.decl.specs.Causes.{Tells, IsFirstOf, at};
 ghost use Rattle.decl.specs.Declaration.{Precedes, one_clock_each};
 ghost use Rattle.decl.specs.Hosts.{is_clock_name, has_wild_rate, has_wild_number, rate_of, clock_of, clock_causes, host_causes, hosts_faults, entry_of, addresses_in, hosts_of, clocks_of, addresses_from};
+ghost use Rattle.decl.specs.Limits.{most_entries};
 
 use crate::addresses::AddressBook;
 use crate::cause::Cause;
 use crate::keys::check_table;
+use crate::limits::{MOST_ENTRIES, MOST_LONG, MOST_SHORT};
 use crate::values::{items_or_none, nano_at, number_up_to};
 use crate::{Address, DeclError, Owner, Section};
 use atto::{Nano, Rate};
 use problem_model::{Clock, Name};
 use std::alloc::Global;
 use toml::{Table, Value};
-
-// How many entries of a kind there may be.
-pub(crate) const LIMIT: u32 = 65_536;
 
 // The hosts of a declaration, in the byte order of their names: their names, their clocks, and their addresses.
 #[derive(Debug, Drop)]
@@ -44,10 +43,10 @@ pub(crate) fn read_clock_name(text: &[u8]) -> Option<Name>
 fn read_rate(table: &Table) -> Option<Rate>
     ensures { result ≡ (if has_wild_rate (table_view table.now) then None else Some (rate_of (table_view table.now))) }
 {
-    let Some(short) = number_up_to(table, "short", 999_999_999) else {
+    let Some(short) = number_up_to(table, "short", MOST_SHORT) else {
         return None;
     };
-    let Some(long) = number_up_to(table, "long", 1_000_000_000) else {
+    let Some(long) = number_up_to(table, "long", MOST_LONG) else {
         return None;
     };
     Rate::new(short as u32, long as u32)
@@ -82,7 +81,7 @@ fn read_clock(index: u32, name: &str, table: &Table) -> Result<Clock, Cause>
     let Some(name) = read_clock_name(name.as_bytes()) else {
         return Err(Cause::Name);
     };
-    if index > LIMIT {
+    if index > MOST_ENTRIES {
         return Err(Cause::Number);
     }
     match read_numbers(name, table) {
@@ -135,7 +134,7 @@ pub(crate) fn read_hosts(alloc: Global, table: &Table) -> Result<Hosts, DeclErro
     ensures owners { IfOk result (λ hosts. hosts.owners.items ≡ one_clock_each 0 (hosts_of (table_view table.now))) }
     ensures addresses { IfOk result (λ hosts. hosts.addresses.items ≡ addresses_from 0 (table_view table.now)) }
     ensures rising { IfOk result (λ hosts. AllPairs Precedes hosts.names.items) }
-    ensures few { IfOk result (λ hosts. length hosts.names.items ≤ 65536) }
+    ensures few { IfOk result (λ hosts. length hosts.names.items ≤ most_entries) }
 {
     let mut names = Vec::new(alloc);
     let mut clocks = Vec::new(alloc);

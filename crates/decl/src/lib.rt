@@ -32,6 +32,7 @@ mod hosts;
 mod items;
 mod keys;
 mod labels;
+mod limits;
 mod links;
 mod lookups;
 mod places;

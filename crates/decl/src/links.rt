@@ -1,18 +1,19 @@
 // The links of a declaration.
-ghost use Rattle.std.specs.Prelude.{◌≡◌, ◌-◌, ◌^◌, ◌≤◌, ◌++◌, ◌∷◌, [], Some, None, if◌then◌else◌, unwrap_or, codes, length, AllPairs, IfOk, IfErr, OnOk};
+ghost use Rattle.std.specs.Prelude.{◌≡◌, ◌-◌, ◌≤◌, ◌++◌, ◌∷◌, [], Some, None, if◌then◌else◌, unwrap_or, codes, length, AllPairs, IfOk, IfErr, OnOk};
 ghost use Rattle.toml.specs.Data.{as_table};
 ghost use Rattle.toml.specs.View.{view, table_view, items_view};
 ghost use Rattle.decl.specs.Causes.{Tells, IsFirstOf};
 ghost use Rattle.decl.specs.Declaration.{Precedes};
 ghost use Rattle.decl.specs.Hosts.{entry_of};
 ghost use Rattle.decl.specs.Labels.{host_at_key, entry_causes};
+ghost use Rattle.decl.specs.Limits.{most_entries, nano_limit};
 ghost use Rattle.decl.specs.Links.{has_link, is_astray, most_at, link_causes, link_of, links_faults, links_of};
 ghost use Rattle.decl.specs.Values.{is_up_to, whole_or_zero};
 
 use crate::cause::Cause;
-use crate::hosts::LIMIT;
 use crate::keys::check_table;
 use crate::labels::host_at_key;
+use crate::limits::MOST_ENTRIES;
 use crate::values::{nano_at, whole_at};
 use crate::{DeclError, Link, Section};
 use atto::Nano;
@@ -86,7 +87,7 @@ impl LinkBook {
 // The places of the hosts of a link, if it names two and goes otherwise than the links in the book.
 fn read_ends(hosts: &[Name], book: &LinkBook, table: &Table) -> Option<(u32, u32)>
     requires rising { AllPairs Precedes hosts.now }
-    requires few { length hosts.now ≤ 65536 }
+    requires few { length hosts.now ≤ most_entries }
     ensures { let from = host_at_key hosts.now (codes "from") (table_view table.now) in
         let to = host_at_key hosts.now (codes "to") (table_view table.now) in
         result ≡ (if is_astray book.now from to then None else Some (unwrap_or from 0, unwrap_or to 0)) }
@@ -105,7 +106,7 @@ fn read_ends(hosts: &[Name], book: &LinkBook, table: &Table) -> Option<(u32, u32
 
 // The greatest delay of a link, if it has one, if that is in its range.
 fn read_most(table: &Table) -> Option<Option<Nano>>
-    ensures { result ≡ (if is_up_to (2 ^ 62 - 1) (whole_or_zero (codes "most") (table_view table.now)) then Some (most_at (table_view table.now)) else None) }
+    ensures { result ≡ (if is_up_to (nano_limit - 1) (whole_or_zero (codes "most") (table_view table.now)) then Some (most_at (table_view table.now)) else None) }
 {
     let Some(most) = nano_at(table, "most") else {
         return None;
@@ -119,14 +120,14 @@ fn read_most(table: &Table) -> Option<Option<Nano>>
 // The link with this index.
 fn read_link(hosts: &[Name], book: &LinkBook, index: u32, table: &Table) -> Result<Link, Cause>
     requires rising { AllPairs Precedes hosts.now }
-    requires few { length hosts.now ≤ 65536 }
+    requires few { length hosts.now ≤ most_entries }
     ensures { Tells (link_causes hosts.now index book.now (table_view table.now)) (link_of hosts.now (table_view table.now)) result }
 {
     check_table(Section::Links, table)?;
     let Some((from, to)) = read_ends(hosts, book, table) else {
         return Err(Cause::Name);
     };
-    if index > LIMIT {
+    if index > MOST_ENTRIES {
         return Err(Cause::Number);
     }
     let Some(least) = nano_at(table, "least") else {
@@ -146,7 +147,7 @@ fn read_link(hosts: &[Name], book: &LinkBook, index: u32, table: &Table) -> Resu
 // The link with this index, if it is a table.
 fn read_entry(hosts: &[Name], book: &LinkBook, index: u32, value: &Value) -> Result<Link, Cause>
     requires rising { AllPairs Precedes hosts.now }
-    requires few { length hosts.now ≤ 65536 }
+    requires few { length hosts.now ≤ most_entries }
     ensures { Tells (entry_causes (link_causes hosts.now index book.now) (as_table (view value.now))) (link_of hosts.now (entry_of (view value.now))) result }
 {
     match value.as_table() {
@@ -162,7 +163,7 @@ pub(crate) fn read_links(
     items: &[Value],
 ) -> Result<Vec<Link>, DeclError>
     requires rising { AllPairs Precedes hosts.now }
-    requires few { length hosts.now ≤ 65536 }
+    requires few { length hosts.now ≤ most_entries }
     ensures fault { IfErr result (λ e. IsFirstOf (links_faults hosts.now 1 [] (items_view items.now)) e) }
     ensures sound { OnOk result (links_faults hosts.now 1 [] (items_view items.now) ≡ []) }
     ensures links { IfOk result (λ links. links.items ≡ links_of hosts.now (items_view items.now)) }

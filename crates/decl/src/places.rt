@@ -3,6 +3,7 @@ ghost use Rattle.std.specs.Prelude.{◌≡◌, ◌≤◌, length, map, AllPairs}
 ghost use Rattle.std.specs.Ordering.{nat_cmp};
 ghost use Rattle.std.specs.Cmp.Lexicographic.{slice_cmp};
 ghost use Rattle.decl.specs.Declaration.{Precedes};
+ghost use Rattle.decl.specs.Limits.{most_entries};
 ghost use Rattle.decl.specs.Places.{place_of, clock_place};
 
 use problem_model::{Clock, Name};
@@ -18,7 +19,7 @@ fn compare(host: &Name, name: &[u8]) -> Ordering
 // The place of the host of this name, if there is one.
 pub(crate) fn place_of(hosts: &[Name], name: &[u8]) -> Option<u32>
     requires rising { AllPairs Precedes hosts.now }
-    requires few { length hosts.now ≤ 65536 }
+    requires few { length hosts.now ≤ most_entries }
     ensures { result ≡ place_of hosts.now name.now }
 {
     match hosts.binary_search_by(|host| compare(host, name)) {
@@ -30,7 +31,7 @@ pub(crate) fn place_of(hosts: &[Name], name: &[u8]) -> Option<u32>
 /// The place of the clock of this name, if there is one. Each clock has the name of the host at its place.
 pub(crate) fn clock_place(hosts: &[Name], clocks: &[Clock], name: &[u8]) -> Option<u32>
     requires rising { AllPairs Precedes hosts.now }
-    requires few { length hosts.now ≤ 65536 }
+    requires few { length hosts.now ≤ most_entries }
     requires own_names { map (λ c. c.name) clocks.now ≡ hosts.now }
     ensures { result ≡ clock_place clocks.now name.now }
 {

@@ -3,6 +3,7 @@ ghost use Rattle.std.specs.Prelude.{◌≡◌, ◌≤◌, [], Some, None, option
 ghost use Rattle.toml.specs.View.{table_view};
 ghost use Rattle.decl.specs.Causes.{Tells, IsFirstOf};
 ghost use Rattle.decl.specs.Declaration.{Precedes, declaration_of, IsDeclaration};
+ghost use Rattle.decl.specs.Limits.{most_entries};
 ghost use Rattle.decl.specs.Places.{clock_place};
 ghost use Rattle.decl.specs.Values.{number_at, text_at};
 ghost use Rattle.decl.specs.Walk.{Declares, IsFirstFault, declared, faults, is_true_at, shows_true, source_causes, top_causes};
@@ -11,6 +12,7 @@ use crate::cause::Cause;
 use crate::hosts::read_hosts;
 use crate::keys::check_table;
 use crate::labels::read_labels;
+use crate::limits::{MOST_BYTES, MOST_PAYLOAD};
 use crate::links::read_links;
 use crate::places::clock_place;
 use crate::values::{items_or_none, number_up_to, table_or_empty, text_at};
@@ -19,15 +21,12 @@ use problem_model::{Clock, Name};
 use std::alloc::Global;
 use toml::Table;
 
-// How many bytes a declaration may have.
-const MOST_BYTES: usize = 1 << 24;
-
 // Looks through the document's own keys; how many bytes of a payload tell a packet.
 fn read_top(table: &Table) -> Result<u8, Cause>
     ensures { Tells (top_causes (table_view table.now)) (number_at (codes "payload_bytes") (table_view table.now)) result }
 {
     check_table(Section::Top, table)?;
-    match number_up_to(table, "payload_bytes", 64) {
+    match number_up_to(table, "payload_bytes", MOST_PAYLOAD) {
         Some(bytes) => Ok(bytes as u8),
         None => Err(Cause::Number),
     }
@@ -55,7 +54,7 @@ fn is_true_at(clocks: &[Clock], place: Option<u32>) -> bool
 // The place of the source, if one is named.
 fn read_source(hosts: &[Name], clocks: &[Clock], table: &Table) -> Result<Option<u32>, Cause>
     requires rising { AllPairs Precedes hosts.now }
-    requires few { length hosts.now ≤ 65536 }
+    requires few { length hosts.now ≤ most_entries }
     requires own_names { map (λ c. c.name) clocks.now ≡ hosts.now }
     ensures { let name = text_at (codes "source") (table_view table.now) in
         Tells (source_causes clocks.now name) (option_and_then (clock_place clocks.now) name) result }

@@ -1,9 +1,11 @@
 // What stands at the keys of a table.
-ghost use Rattle.std.specs.Prelude.{◌≡◌, ◌-◌, ◌^◌, Some, None, Option, option_map, if◌then◌else◌, nat_abs};
+ghost use Rattle.std.specs.Prelude.{◌≡◌, ◌-◌, Some, None, Option, option_map, if◌then◌else◌, nat_abs};
 ghost use Rattle.toml.specs.Data.{get_member, no_members};
 ghost use Rattle.toml.specs.View.{view, table_view, array_view, items_view};
+ghost use Rattle.decl.specs.Limits.{nano_limit};
 ghost use Rattle.decl.specs.Values.{whole_at, whole_or_zero, text_at, text_or_empty, table_or_empty, array_at, items_or_none, is_up_to, number_at};
 
+use crate::limits::NANO_LIMIT;
 use atto::Nano;
 use toml::value::Array;
 use toml::{Table, Value};
@@ -106,9 +108,9 @@ pub(crate) fn number_up_to(table: &Table, key: &str, limit: u64) -> Option<u64>
 
 // The same for a number of ns, which is below 2^62.
 pub(crate) fn nano_at(table: &Table, key: &str) -> Option<Nano>
-    ensures { result ≡ (if is_up_to (2 ^ 62 - 1) (whole_or_zero key.now (table_view table.now)) then Some (number_at key.now (table_view table.now)) else None) }
+    ensures { result ≡ (if is_up_to (nano_limit - 1) (whole_or_zero key.now (table_view table.now)) then Some (number_at key.now (table_view table.now)) else None) }
 {
-    match number_up_to(table, key, (1 << 62) - 1) {
+    match number_up_to(table, key, NANO_LIMIT - 1) {
         Some(n) => Nano::new(n),
         None => None,
     }

@@ -1,7 +1,7 @@
 // The lines of merged events.
 ghost use Rattle.std.specs.Prelude.{◌≡◌, ◌<◌, ◌≤◌, ◌++◌, true, All, length};
 ghost use Rattle.ports.specs.Content.{Writes};
-ghost use Rattle.decl.specs.Declaration.{IsDeclaration, declaration_of};
+ghost use Rattle.decl.specs.Declaration.{HasLawfulLabels, declaration_of};
 ghost use Rattle.trace_event.specs.Seen.{seen_event};
 ghost use Rattle.traces.specs.Traces.{name_of};
 ghost use Rattle.traces.specs.Held.{placed_in};
@@ -22,7 +22,7 @@ use traces::{EventId, PlacedEvent};
 
 // The name of an event.
 fn name_of(decl: &Decl, id: EventId) -> Name
-    requires declared { IsDeclaration (declaration_of decl.now) }
+    requires labels { HasLawfulLabels (declaration_of decl.now) }
     requires label { id.label < length decl.now.labels.items }
     ensures { result ≡ name_of (declaration_of decl.now) id }
 {
@@ -47,7 +47,7 @@ fn write_event<O: Sink>(
     value: i128,
     out: &mut O,
 ) -> Result<(), Failed>
-    requires declared { IsDeclaration (declaration_of decl.now) }
+    requires labels { HasLawfulLabels (declaration_of decl.now) }
     requires label { event.now.id.label < length decl.now.labels.items }
     ensures { Writes (merge_line value (name_of (declaration_of decl.now) event.now.id) (seen_event event.now.event.now).text) (O.told out.old) (O.told out.new) result }
 {
@@ -63,7 +63,7 @@ fn write_line_at<O: Sink>(
     place: u32,
     out: &mut O,
 ) -> Result<(), Failed>
-    requires declared { IsDeclaration (declaration_of decl.now) }
+    requires labels { HasLawfulLabels (declaration_of decl.now) }
     requires events { AreEvents (declaration_of decl.now) (placed_in events.now) }
     requires solved { e.now.is_solved ≡ true }
     requires values { length events.now ≤ length e.now.values }
@@ -82,7 +82,7 @@ fn write_lines<O: Sink>(
     order: &[u32],
     out: &mut O,
 ) -> Result<(), Failed>
-    requires declared { IsDeclaration (declaration_of decl.now) }
+    requires labels { HasLawfulLabels (declaration_of decl.now) }
     requires events { AreEvents (declaration_of decl.now) (placed_in events.now) }
     requires solved { e.now.is_solved ≡ true }
     requires values { length events.now ≤ length e.now.values }
@@ -115,7 +115,7 @@ pub(crate) fn write_ordered<O: Sink>(
     order: &[u32],
     out: &mut O,
 ) -> Result<(), Failed>
-    requires declared { IsDeclaration (declaration_of decl.now) }
+    requires labels { HasLawfulLabels (declaration_of decl.now) }
     requires events { AreEvents (declaration_of decl.now) (placed_in events.now) }
     requires solved { e.now.is_solved ≡ true }
     requires values { length events.now ≤ length e.now.values }

@@ -37,7 +37,7 @@ pub accepted_each : (d : Declaration) (accepted : List Accepted) → IsHeld (hel
 accepted_each d accepted held = sym (length-map accepted under_of) ∙ held.each
 
 pub labels_few : (d : Declaration) (accepted : List Accepted) → IsHeld (held_of d accepted) → length accepted ≤ 65536
-labels_few d accepted held = let each = accepted_each d accepted held in let few = held.declared.label_limit in omega (arith, each, few)
+labels_few d accepted held = let each = accepted_each d accepted held in let few = held.declared.limits.label_limit in omega (arith, each, few)
 
 -- whether there is room for more events, by what the code holds
 pub room_by : (accepted : List Accepted) (n : ℕ) (r b : Bool) → r ≡ nat_le (event_count (seen_in accepted) + n) (2 ^ 20) → r ≡ b →

@@ -64,7 +64,7 @@ problem_accepted d accepted p is = is ∙ ap (λ (seen : List (List Seen)). prob
 
 -- the clock of a declared source is never short or long in the problem of what is held
 pub source_keeps : (d : Declaration) (accepted : List Accepted) (p : ProblemLists) → IsDeclaration d → p ≡ problem_of_seen d (seen_in accepted) → IfSome d.source (λ clock. KeepsTime p clock)
-source_keeps d accepted p declared is = subst (λ (q : ProblemLists). IfSome d.source (λ clock. KeepsTime q clock)) (sym is) declared.source_true
+source_keeps d accepted p declared is = subst (λ (q : ProblemLists). IfSome d.source (λ clock. KeepsTime q clock)) (sym is) declared.clocks.source_true
 
 -- what `time` says of all events
 abbrev TimeSays : List ℕ → Declaration → List (List Seen) → List ℕ → Type 0

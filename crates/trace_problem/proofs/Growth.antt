@@ -8,12 +8,12 @@ use Rattle.problem_model.specs.declared.items.Clock.{Clock}
 use Rattle.problem_model.specs.declared.items.Event.{Event}
 use Rattle.problem_model.specs.declared.items.Message.{Message}
 use Rattle.problem_model.specs.Name.{IsClockName, IsEventName}
-use Rattle.problem_model.specs.Problem.{ProblemLists, IsProblem, MessageFits}
+use Rattle.problem_model.specs.Problem.{ProblemLists, IsProblem, MessageFits, most_clocks}
 use Rattle.problem.specs.Line.{HasEvent}
 use Rattle.problem.specs.Growing.{IsNewClock, IsNewEvent, IsNewMessage, HasRoomForClock, HasRoomForEvent, HasRoomForMessage, with_clock, with_event, with_message}
 use Rattle.decl.specs.declared.items.Label.{Label}
 use Rattle.decl.specs.declared.items.Link.{Link}
-use Rattle.decl.specs.Declaration.{Declaration, IsDeclaration, IsClockOf, LinkFits, bounds_among, link_bounds}
+use Rattle.decl.specs.Declaration.{Declaration, IsDeclaration, HasLawfulClocks, HasLawfulLabels, KeepsLimits, IsClockOf, LinkFits, bounds_among, link_bounds}
 use Rattle.traces.specs.declared.event.EventId.{EventId}
 use Rattle.traces.specs.declared.event.Couple.{Couple}
 use Rattle.traces.specs.declared.event.PlacedEvent.{PlacedEvent}
@@ -33,41 +33,40 @@ taken_less xs k x n at most = omega (arith, length-take k xs, slice_get_within x
 abbrev pub clocks_alone : List Clock → ProblemLists
 clocks_alone clocks = record { clocks = clocks; follows = []; events = []; messages = [] }
 
-module _ (d : Declaration) (lawful : IsDeclaration d) where
-  pub clock_new : (k : ℕ) (c : Clock) → slice_get d.clocks k ≡ Some c → IsNewClock (clocks_alone (take k d.clocks)) c
-  clock_new k c at = record {
-    named = all_at (λ (c : Clock). IsClockName c.name) d.clocks k c lawful.clock_names at;
-    new = pairs_before (λ (a b : Clock). a.name ≢ b.name) d.clocks k c lawful.clocks_differ at;
-  }
+pub clock_new : (d : Declaration) → HasLawfulClocks d → (k : ℕ) (c : Clock) → slice_get d.clocks k ≡ Some c → IsNewClock (clocks_alone (take k d.clocks)) c
+clock_new d lawful k c at = record {
+  named = all_at (λ (c : Clock). IsClockName c.name) d.clocks k c lawful.clock_names at;
+  new = pairs_before (λ (a b : Clock). a.name ≢ b.name) d.clocks k c lawful.clocks_differ at;
+}
 
-  pub clock_room : (k : ℕ) (c : Clock) → slice_get d.clocks k ≡ Some c → HasRoomForClock (clocks_alone (take k d.clocks))
-  clock_room k c at = taken_less d.clocks k c 65536 at lawful.clock_limit
+pub clock_room : (d : Declaration) → KeepsLimits d → (k : ℕ) (c : Clock) → slice_get d.clocks k ≡ Some c → HasRoomForClock (clocks_alone (take k d.clocks))
+clock_room d limits k c at = taken_less d.clocks k c most_clocks at limits.clock_limit
 
 pub clock_more : (clocks : List Clock) (k : ℕ) (c : Clock) → slice_get clocks k ≡ Some c → with_clock (clocks_alone (take k clocks)) c ≡ clocks_alone (take (k + 1) clocks)
 clock_more clocks k c at = ap clocks_alone (sym (take_next clocks k c at))
 
 -- ---- events
-clock_there : (d : Declaration) (id : EventId) → IsDeclaration d → id.label < length d.labels → clock_of d id < length d.clocks
-clock_there d id lawful within =
+clock_there : (d : Declaration) (id : EventId) → HasLawfulClocks d → HasLawfulLabels d → id.label < length d.labels → clock_of d id < length d.clocks
+clock_there d id clocks labels within =
     let l : (l : Label) × (slice_get d.labels id.label ≡ Some l) = got d.labels id.label within in
-    let own : IsClockOf d.owners l.0.host l.0.clock = all_at (λ (l : Label). IsClockOf d.owners l.host l.clock) d.labels id.label l.0 lawful.label_clocks l.1 in
-    rw l.1 (omega (arith, slice_get_within d.owners l.0.clock own.0 own.1, lawful.clocks_owned))
+    let own : IsClockOf d.owners l.0.host l.0.clock = all_at (λ (l : Label). IsClockOf d.owners l.host l.clock) d.labels id.label l.0 labels.label_clocks l.1 in
+    rw l.1 (omega (arith, slice_get_within d.owners l.0.clock own.0 own.1, clocks.clocks_owned))
 
-event_named : (d : Declaration) (id : EventId) → IsDeclaration d → id.label < length d.labels → id.number ≤ 2 ^ 20 → IsEventName (name_of d id)
-event_named d id lawful within small =
+event_named : (d : Declaration) (id : EventId) → HasLawfulLabels d → id.label < length d.labels → id.number ≤ 2 ^ 20 → IsEventName (name_of d id)
+event_named d id labels within small =
     let l : (l : Label) × (slice_get d.labels id.label ≡ Some l) = got d.labels id.label within in
-    rw (name_at d id l.0 l.1) (named l.0.name id.number (all_at (λ (l : Label). IsClockName l.name) d.labels id.label l.0 lawful.label_names l.1) (omega (arith, small)))
+    rw (name_at d id l.0 l.1) (named l.0.name id.number (all_at (λ (l : Label). IsClockName l.name) d.labels id.label l.0 labels.label_names l.1) (omega (arith, small)))
 
 module _ (d : Declaration) (lawful : IsDeclaration d) (events : List Placed) (are : AreEvents d events) where
   all_names_differ : AllPairs (λ (a b : Placed). name_of d a.id ≢ name_of d b.id) events
   all_names_differ i j x less within =
-      names_differ d _ _ lawful.label_names lawful.labels_rise (are.labels i x (omega (arith, less, within))) (are.labels j x within) (are.differ i j x less within)
+      names_differ d _ _ lawful.labels.label_names lawful.labels.labels_rise (are.labels i x (omega (arith, less, within))) (are.labels j x within) (are.differ i j x less within)
 
   pub event_new : (k : ℕ) (e : Placed) → slice_get events k ≡ Some e → IsNewEvent (problem_by d (take k events) []) (event_with d e)
   event_new k e at = record {
     new = All-map (λ (x : Event). x.name ≢ name_of d e.id) (event_with d) (take k events)
         (pairs_before (λ (a b : Placed). name_of d a.id ≢ name_of d b.id) events k e all_names_differ at);
-    clock = clock_there d e.id lawful (all_at (λ (x : Placed). x.id.label < length d.labels) events k e are.labels at);
+    clock = clock_there d e.id lawful.clocks lawful.labels (all_at (λ (x : Placed). x.id.label < length d.labels) events k e are.labels at);
   }
 
   pub event_room : (k : ℕ) (e : Placed) → slice_get events k ≡ Some e → HasRoomForEvent (problem_by d (take k events) [])
@@ -131,12 +130,12 @@ module _ (d : Declaration) (lawful : IsDeclaration d) (events : List Placed) (co
   pub is_problem : All (λ (e : Placed). e.seen.stamp < 2 ^ 62) events → IsProblem (problem_by d events couples)
   is_problem stamps = record {
     formed = record {
-      clock_names = lawful.clock_names;
-      clocks_differ = lawful.clocks_differ;
+      clock_names = lawful.clocks.clock_names;
+      clocks_differ = lawful.clocks.clocks_differ;
       no_follows = refl;
-      event_names = All-map (λ (e : Event). IsEventName e.name) (event_with d) events (λ k x within. event_named d (get_or events k x).id lawful (are.labels k x within) (are.numbers k x within));
+      event_names = All-map (λ (e : Event). IsEventName e.name) (event_with d) events (λ k x within. event_named d (get_or events k x).id lawful.labels (are.labels k x within) (are.numbers k x within));
       events_differ = pairs_map (λ (a b : Event). a.name ≢ b.name) (event_with d) events (all_names_differ d lawful events are);
-      event_clocks = All-map (λ (e : Event). e.clock < length d.clocks) (event_with d) events (λ k x within. clock_there d (get_or events k x).id lawful (are.labels k x within));
+      event_clocks = All-map (λ (e : Event). e.clock < length d.clocks) (event_with d) events (λ k x within. clock_there d (get_or events k x).id lawful.clocks lawful.labels (are.labels k x within));
       sends = All-map (λ (m : Message). m.send < length (map (event_with d) events)) (linked d events) couples
           (λ k x within. rw length-map (place_within events _ are.differ (messages.sends k x within)));
       receives = All-map (λ (m : Message). m.receive < length (map (event_with d) events)) (linked d events) couples
@@ -146,11 +145,11 @@ module _ (d : Declaration) (lawful : IsDeclaration d) (events : List Placed) (co
       messages_differ = pairs_map (λ (a b : Message). (a.send ≡ b.send) → (a.receive ≡ b.receive) → ⊥) (linked d events) couples (apart d events couples are messages);
     };
     fits = record {
-      clocks_fit = lawful.clocks_fit;
-      clock_limit = lawful.clock_limit;
+      clocks_fit = lawful.clocks.clocks_fit;
+      clock_limit = lawful.limits.clock_limit;
       stamps_fit = All-map (λ (e : Event). e.stamp < 2 ^ 62) (event_with d) events stamps;
       event_limit = rw length-map are.limit;
-      messages_fit = All-map MessageFits (linked d events) couples (λ k x within. bounds_fit d.links _ _ lawful.links_fit);
+      messages_fit = All-map MessageFits (linked d events) couples (λ k x within. bounds_fit d.links _ _ lawful.links.links_fit);
       message_limit = rw length-map messages.limit;
     };
   }
@@ -164,16 +163,16 @@ same_message : (s t r u l n : ℕ) (o q : Option ℕ) → s ≡ t → r ≡ u �
 same_message s t r u l n o q e f g h = rw (e, f, g, h) refl
 
 -- a message between the events of a couple's names, with the bounds of their hosts' link, is that of the couple
-pub linked_is : (d : Declaration) (events : List Placed) (couples : List Couple) (k : ℕ) (m : Couple) (p : ProblemLists) (message : Message) → IsDeclaration d → AreEvents d events
+pub linked_is : (d : Declaration) (events : List Placed) (couples : List Couple) (k : ℕ) (m : Couple) (p : ProblemLists) (message : Message) → HasLawfulLabels d → AreEvents d events
     → AreMessages events couples → slice_get couples k ≡ Some m → p ≡ problem_by d events (take k couples)
     → HasEvent p message.send (name_of d m.send) → HasEvent p message.receive (name_of d m.receive)
     → ◌≡◌ {A = ℕ × Option ℕ} (message.least, message.most) (link_bounds d (host_of d m.send) (host_of d m.receive)) → message ≡ linked d events m
-linked_is d events couples k m p message lawful are messages at stands send receive bounds =
+linked_is d events couples k m p message labels are messages at stands send receive bounds =
     let there : HasEvent (problem_by d events (take k couples)) message.send (name_of d m.send) = subst (λ (q : ProblemLists). HasEvent q message.send (name_of d m.send)) stands send in
     let behind : HasEvent (problem_by d events (take k couples)) message.receive (name_of d m.receive) = subst (λ (q : ProblemLists). HasEvent q message.receive (name_of d m.receive)) stands receive in
     same_message _ _ _ _ _ _ _ _
-    (the_place d events (take k couples) m.send message.send lawful are (send_of d events couples are messages k m at) there)
-    (the_place d events (take k couples) m.receive message.receive lawful are (receive_of d events couples are messages k m at) behind)
+    (the_place d events (take k couples) m.send message.send labels are (send_of d events couples are messages k m at) there)
+    (the_place d events (take k couples) m.receive message.receive labels are (receive_of d events couples are messages k m at) behind)
     (ap (λ (b : ℕ × Option ℕ). b.0) bounds) (ap (λ (b : ℕ × Option ℕ). b.1) bounds)
 
 -- what is made of the couple at place k may be added

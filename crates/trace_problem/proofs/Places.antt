@@ -6,7 +6,7 @@ use Rattle.std.proofs.lemmas.List.{length-map}
 use Rattle.std.proofs.lemmas.Option.{slice_get-map, slice_get_within, same_Some}
 use Rattle.problem_model.specs.declared.items.Event.{Event}
 use Rattle.problem.specs.Line.{HasEvent}
-use Rattle.decl.specs.Declaration.{Declaration, IsDeclaration}
+use Rattle.decl.specs.Declaration.{Declaration, HasLawfulLabels}
 use Rattle.traces.specs.declared.event.EventId.{EventId}
 use Rattle.traces.specs.declared.event.Couple.{Couple}
 use Rattle.traces.specs.Traces.{Placed, is_same, name_of}
@@ -79,15 +79,15 @@ known d events ms id are one =
     (there.0, subst (λ (x : EventId). HasEvent (problem_by d events ms) there.0 (name_of d x)) one.2 (name_there d events ms there.0 one.0 there.1))
 
 -- the event of a name stands at the place of its id
-pub the_place : (d : Declaration) (events : List Placed) (ms : List Couple) (id : EventId) (k : ℕ) → IsDeclaration d → AreEvents d events → IsOneOf events id
+pub the_place : (d : Declaration) (events : List Placed) (ms : List Couple) (id : EventId) (k : ℕ) → HasLawfulLabels d → AreEvents d events → IsOneOf events id
     → HasEvent (problem_by d events ms) k (name_of d id) → k ≡ place_of events id
-the_place d events ms id k lawful are one has =
+the_place d events ms id k labels are one has =
     let within : k < length events = omega (arith, length-map events (event_with d), length-map (map (event_with d) events) (λ (x : Event). x.name), slice_get_within _ k _ has) in
     let e : (x : Placed) × (slice_get events k ≡ Some x) = got events k within in
     let mine : k ≡ place_of events e.0.id = sym (place_is events k e.0 are.differ e.1) in
     let same : name_of d e.0.id ≡ name_of d id = same_Some _ _ (sym (name_there d events ms k e.0 e.1) ∙ has) in
     elim (ids_tell e.0.id id) [
       | inl w ↦ subst (λ (x : EventId). k ≡ place_of events x) w.1 mine
-      | inr w ↦ absurd (names_differ d e.0.id id lawful.label_names lawful.labels_rise
+      | inr w ↦ absurd (names_differ d e.0.id id labels.label_names labels.labels_rise
           (all_at (λ (x : Placed). x.id.label < length d.labels) events k e.0 are.labels e.1) (label_of d events id are one) w.1 same)
     ]

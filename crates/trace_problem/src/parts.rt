@@ -1,6 +1,6 @@
 // The events and messages of a problem, by the labels of their declaration.
 ghost use Rattle.std.specs.Prelude.{◌≡◌, ◌<◌, ℕ, length};
-ghost use Rattle.decl.specs.Declaration.{IsDeclaration, declaration_of, link_bounds};
+ghost use Rattle.decl.specs.Declaration.{HasLawfulLabels, declaration_of, link_bounds};
 ghost use Rattle.problem.specs.Line.{HasEvent};
 ghost use Rattle.trace_problem.specs.Making.{IsKnown};
 ghost use Rattle.traces.specs.Traces.{name_of, host_of, clock_of};
@@ -31,7 +31,7 @@ fn clock_of(decl: &Decl, id: EventId) -> u32
 
 // The name of an event.
 fn name_of(decl: &Decl, id: EventId) -> Name
-    requires lawful { IsDeclaration (declaration_of decl.now) }
+    requires labels { HasLawfulLabels (declaration_of decl.now) }
     requires label { id.label < length decl.now.labels.items }
     ensures { result ≡ name_of (declaration_of decl.now) id }
 {
@@ -41,7 +41,7 @@ fn name_of(decl: &Decl, id: EventId) -> Name
 
 /// An event with its name, on the clock of its label.
 pub fn event_of(decl: &Decl, e: &PlacedEvent) -> Event
-    requires lawful { IsDeclaration (declaration_of decl.now) }
+    requires labels { HasLawfulLabels (declaration_of decl.now) }
     requires label { e.now.id.label < length decl.now.labels.items }
     ensures { result ≡ event_with (declaration_of decl.now) (placed_of e.now) }
 {
@@ -54,7 +54,7 @@ pub fn event_of(decl: &Decl, e: &PlacedEvent) -> Event
 
 // The place of an event in a problem that has it.
 fn place_of(decl: &Decl, p: &Problem, id: EventId) -> u32
-    requires lawful { IsDeclaration (declaration_of decl.now) }
+    requires labels { HasLawfulLabels (declaration_of decl.now) }
     requires label { id.label < length decl.now.labels.items }
     requires known { IsKnown (declaration_of decl.now) p.now id }
     ensures { HasEvent p.now result (name_of (declaration_of decl.now) id) }
@@ -64,7 +64,7 @@ fn place_of(decl: &Decl, p: &Problem, id: EventId) -> u32
 
 /// A message of a problem that has its events, with the bounds of the link from the one's host to the other's.
 pub fn message_of(decl: &Decl, p: &Problem, m: &Couple) -> Message
-    requires lawful { IsDeclaration (declaration_of decl.now) }
+    requires labels { HasLawfulLabels (declaration_of decl.now) }
     requires send_label { m.now.send.label < length decl.now.labels.items }
     requires receive_label { m.now.receive.label < length decl.now.labels.items }
     requires send_known { IsKnown (declaration_of decl.now) p.now m.now.send }

@@ -1,6 +1,6 @@
 // The ambiguous keys, with the names of their events.
 ghost use Rattle.std.specs.Prelude.{◌≡◌, ◌<◌, ◌++◌, ◌∷◌, [], length, map, filter, All, IfOk, OnOk};
-ghost use Rattle.decl.specs.Declaration.{IsDeclaration, declaration_of};
+ghost use Rattle.decl.specs.Declaration.{HasLawfulLabels, declaration_of};
 ghost use Rattle.traces.specs.Traces.{name_of};
 ghost use Rattle.traces.specs.Held.{placed_in};
 ghost use Rattle.msg_match.specs.Groups.{is_ambiguous};
@@ -20,7 +20,7 @@ use traces::{EventId, PlacedEvent};
 
 // The name of an event.
 fn name_of(decl: &Decl, id: EventId) -> Name
-    requires lawful { IsDeclaration (declaration_of decl.now) }
+    requires lawful { HasLawfulLabels (declaration_of decl.now) }
     requires label { id.label < length decl.now.labels.items }
     ensures { result ≡ name_of (declaration_of decl.now) id }
 {
@@ -30,7 +30,7 @@ fn name_of(decl: &Decl, id: EventId) -> Name
 
 // The name of the event at a place.
 fn name_at(decl: &Decl, events: &[PlacedEvent], place: u32) -> Name
-    requires lawful { IsDeclaration (declaration_of decl.now) }
+    requires lawful { HasLawfulLabels (declaration_of decl.now) }
     requires labels { AreLabelled (declaration_of decl.now) (placed_in events.now) }
     requires place { place < length events.now }
     ensures { result ≡ name_at (declaration_of decl.now) (placed_in events.now) place }
@@ -45,7 +45,7 @@ fn names_at(
     events: &[PlacedEvent],
     places: &[u32],
 ) -> Result<Vec<Name>, AllocError>
-    requires lawful { IsDeclaration (declaration_of decl.now) }
+    requires lawful { HasLawfulLabels (declaration_of decl.now) }
     requires labels { AreLabelled (declaration_of decl.now) (placed_in events.now) }
     requires places { All (λ place. place < length events.now) places.now }
     ensures { IfOk result (λ names. names.items ≡ map (name_at (declaration_of decl.now) (placed_in events.now)) places.now) }
@@ -64,7 +64,7 @@ fn named(
     events: &[PlacedEvent],
     group: &Group,
 ) -> Result<NamedGroup, AllocError>
-    requires lawful { IsDeclaration (declaration_of decl.now) }
+    requires lawful { HasLawfulLabels (declaration_of decl.now) }
     requires labels { AreLabelled (declaration_of decl.now) (placed_in events.now) }
     requires places { HasPlaces (length events.now) (seen_group group.now) }
     ensures named { IfOk result (λ g. reported_key g ≡ named (declaration_of decl.now) (placed_in events.now) (seen_group group.now)) }
@@ -84,7 +84,7 @@ fn push_ambiguous(
     events: &[PlacedEvent],
     group: &Group,
 ) -> Result<(), AllocError>
-    requires lawful { IsDeclaration (declaration_of decl.now) }
+    requires lawful { HasLawfulLabels (declaration_of decl.now) }
     requires labels { AreLabelled (declaration_of decl.now) (placed_in events.now) }
     requires places { HasPlaces (length events.now) (seen_group group.now) }
     requires ascii { All HasAsciiKey found.old.items }
@@ -107,7 +107,7 @@ pub(crate) fn ambiguous_keys(
     events: &[PlacedEvent],
     groups: &[Group],
 ) -> Result<Vec<NamedGroup>, AllocError>
-    requires lawful { IsDeclaration (declaration_of decl.now) }
+    requires lawful { HasLawfulLabels (declaration_of decl.now) }
     requires labels { AreLabelled (declaration_of decl.now) (placed_in events.now) }
     requires places { All (HasPlaces (length events.now)) (seen_groups groups.now) }
     ensures named { IfOk result (λ gs. map reported_key gs.items ≡ map (named (declaration_of decl.now) (placed_in events.now)) (filter is_ambiguous (seen_groups groups.now))) }

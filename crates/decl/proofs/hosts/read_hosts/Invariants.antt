@@ -3,6 +3,7 @@ use Rattle.toml.specs.View.{members_view}
 use Rattle.decl.specs.Addresses.{numbers_of}
 use Rattle.decl.specs.Declaration.{one_clock_each}
 use Rattle.decl.specs.Hosts.{hosts_faults, hosts_of, clocks_of, addresses_from}
+use Rattle.decl.specs.Limits.{most_entries}
 use Rattle.decl.proofs.hosts.read_hosts.Given as goal
 
 abbrev pub invariant-loop-name : goal.invariant-loop-name
@@ -13,5 +14,5 @@ invariant-loop-name l = record {
   booked : addresses_from 0 (members_view l.table.entries) ≡ l.book ++ addresses_from l.index (members_view l.name-iterator);
   owned : one_clock_each 0 l.names.items ≡ l.owners.items;
   counted : l.index ≡ length l.names.items;
-  few : l.index ≤ 65536;
+  few : l.index ≤ most_entries;
 }

@@ -26,7 +26,7 @@ add_clock-requires-clause-new c =
     let clock : Clock = c.clock-item.result in
     let read : slice_get c.deref-clock-items.result.now k ≡ Some clock = slice_get_read _ _ k clock refl c.loop-clock-test.true c.clock-item.is in
     let at : slice_get d.clocks k ≡ Some clock = subst (λ (xs : List Clock). slice_get xs k ≡ Some clock) c.deref-clock-items.ensures.value read in
-    subst (λ (p : ProblemLists). IsNewClock p clock) (sym c.loop-clock.invariant) (clock_new d c.requires.lawful k clock at)
+    subst (λ (p : ProblemLists). IsNewClock p clock) (sym c.loop-clock.invariant) (clock_new d c.requires.lawful.clocks k clock at)
 
 pub event_of-event-requires-clause-label : goal.event_of-event-requires-clause-label
 event_of-event-requires-clause-label c =
@@ -85,7 +85,7 @@ add_message-requires-clause-new c =
     let at : slice_get couples k ≡ Some m = slice_get-get_or couples k no_couple c.loop-couple-test.true in
     let made = c.message_of-message.ensures in
     let is : c.message_of-message.result ≡ linked d events m =
-    linked_is d events couples k m _ _ c.requires.lawful c.requires.events c.requires.messages at c.loop-couple.invariant made.send made.receive made.bounds in
+    linked_is d events couples k m _ _ c.requires.lawful.labels c.requires.events c.requires.messages at c.loop-couple.invariant made.send made.receive made.bounds in
     made_new d events couples k m _ _ c.requires.events c.requires.messages at c.loop-couple.invariant is
 
 pub loop-couple-preserved : goal.loop-couple-preserved
@@ -98,5 +98,5 @@ loop-couple-preserved c =
     let at : slice_get couples k ≡ Some m = slice_get-get_or couples k no_couple c.loop-couple-test.true in
     let made = c.message_of-message.ensures in
     let is : c.message_of-message.result ≡ linked d events m =
-    linked_is d events couples k m _ _ c.requires.lawful c.requires.events c.requires.messages at c.loop-couple.invariant made.send made.receive made.bounds in
+    linked_is d events couples k m _ _ c.requires.lawful.labels c.requires.events c.requires.messages at c.loop-couple.invariant made.send made.receive made.bounds in
     c.in_ok-add_message.ensures ∙ made_more d events couples k m _ _ at c.loop-couple.invariant is

@@ -1,0 +1,31 @@
+-- How much a declaration may say.
+use Rattle.std.specs.Prelude.{ℕ, ◌^◌}
+use Rattle.problem_model.specs.Problem.{most_clocks}
+
+-- the most bytes of a document, which is held in memory whole, beside its values
+abbrev pub most_bytes : ℕ
+most_bytes = 2 ^ 24
+
+-- the most hosts, the most labels and the most links: as many as a problem has clocks, since each host has one
+abbrev pub most_entries : ℕ
+most_entries = most_clocks
+
+-- the most bytes of a payload that belong to the key of a packet: as many as a key has room for
+abbrev pub most_payload : ℕ
+most_payload = 64
+
+-- the most parts per billion by which a clock is short: real time never stands still
+abbrev pub most_short : ℕ
+most_short = 999999999
+
+-- the most parts per billion by which it is long: real time is never more than twice what it shows
+abbrev pub most_long : ℕ
+most_long = 1000000000
+
+-- each number of nanoseconds is below this, as those of `Nano` are
+abbrev pub nano_limit : ℕ
+nano_limit = 2 ^ 62
+
+-- each address is below this, for it has four bytes
+abbrev pub address_limit : ℕ
+address_limit = 2 ^ 32
