@@ -1,4 +1,4 @@
--- The row of an event tells its greatest differences over all executions of the problem.
+-- The rows of an event tell its greatest differences over all executions of the problem.
 use Rattle.std.proofs.Common.{◌≡◌, ◌<◌, ◌≤◌, ◌*◌, ◌^◌, ℕ, Bool, true, false, List, length, slice_get, Some, map, refl, sym, ◌∙◌, ap, subst, arith}
 use Rattle.std.specs.Prelude.{ℤ, pos, neg_ℤ, ◌≤ℤ◌, ◌<ℤ◌}
 use Rattle.std.proofs.lemmas.Int.{ints}
@@ -18,16 +18,27 @@ use Rattle.difference_bounds.specs.Parents.{Cells, IsRow}
 use Rattle.difference_bounds.specs.Problems.{IsNodeAt, IsGreatestOf, IsUnboundedOf}
 use Rattle.difference_bounds.specs.Tables.{reversed_table}
 use Rattle.difference_bounds.proofs.Parents.{row_path, row_greatest, row_unbounded, towards_path, towards_row_greatest, towards_row_unbounded}
+use Rattle.difference_bounds.proofs.Paths.{greatest_one, unbounded_not_greatest}
 use Rattle.difference_bounds.proofs.Problems.{within, same_executions, same_greatest, same_unbounded}
 use Rattle.difference_bounds.proofs.SimplePaths.{short_sum}
 use Rattle.sync_graph.specs.declared.arc.Arc as graphs
 use Rattle.sync_graph.specs.Graph.{GraphLists, IsGraph, IsSound, most_nodes, table_of, unnamed}
 use Rattle.difference_bounds.proofs.Heights.{height_low}
 use Rattle.earliest.specs.Values.{Values}
-use Rattle.intervals.specs.Ends.{IsSmall, FitsReach}
-use Rattle.intervals.specs.Executions.{IsReachOf}
+use Rattle.sync_graph.specs.InForce.{arcs_of}
+use Rattle.intervals.specs.Ends.{IsSmall, FitsReach, FitsPair}
+use Rattle.intervals.specs.Executions.{IsReachOf, IsPairOf}
 use Rattle.solver.specs.Solution.{IsGraphOf, IsSolved}
+use Rattle.row_pool.specs.declared.cell.Reach.{Reach}
+use Rattle.row_pool.specs.declared.cell.Reach.TheVariants as reaches
+use Rattle.row_pool.specs.declared.cell.Pair.{Pair}
 use Rattle.row_pool.specs.Reach.{known_reach, reach_of}
+use Rattle.row_pool.specs.Row.{cells_of}
+use Rattle.row_pool.specs.Pool.{Pool, row_of}
+use Rattle.repair.specs.declared.slot.Slot.{Slot}
+use Rattle.repair.specs.Slots.{IsRowsOf}
+use Rattle.repair.specs.Pairs.{IsReachIn, IsPairIn, pair_in}
+use Rattle.repair.proofs.Looking.{pair_told}
 
 -- ---- sizes
 small_sum : (n : ℕ) (z : ℤ) → n ≤ most_nodes → neg_ℤ (pos (n * 2 ^ 93)) ≤ℤ z → z ≤ℤ pos (n * 2 ^ 93) → IsSmall z
@@ -50,6 +61,13 @@ path_small : (g : GraphLists) (p q : ℕ) (steps : List Arc) (z : ℤ) → IsGra
 path_small g p q steps z is path sum short =
     let bounds = short_sum (length g.nodes) (map unnamed g.arcs) p q steps (2 ^ 93) (arcs_light g is) path (let le : length steps ≤ length g.nodes = omega (arith, short) in le) in
     subst IsSmall sum (small_sum (length g.nodes) (sum_of steps) is.node_limit bounds.0 bounds.1)
+
+-- ---- one greatest difference
+reach_one : (g : GraphLists) (p q : ℕ) (r r' : Reach) → IsReachIn g p q r → IsReachIn g p q r' → r ≡ r'
+reach_one g p q (reaches.At h) (reaches.At h') is is' = ap reaches.At (greatest_one (length g.nodes) (arcs_of g) p q h h' is is')
+reach_one g p q (reaches.At h) reaches.Never is is' = absurd (unbounded_not_greatest (length g.nodes) (arcs_of g) p q h is' is)
+reach_one g p q reaches.Never (reaches.At h) is is' = absurd (unbounded_not_greatest (length g.nodes) (arcs_of g) p q h is is')
+reach_one g p q reaches.Never reaches.Never is is' = refl
 
 -- ---- nodes of the graph
 module _ (p : ProblemLists) (readings : List Reading) (are : AreReadings p readings) (g : GraphLists) (graph : IsGraphOf p g) where
@@ -129,3 +147,27 @@ module _ (p : ProblemLists) (readings : List Reading) (are : AreReadings p readi
 
     pub back_fits : IsRow (length g.nodes) (reversed_table (table_of g)) from c → FitsReach (reach_of c to)
     back_fits row = back_fits_by row (c.known to) refl
+
+  -- rows that are kept, of which one slot tells the greatest differences in both directions
+  module _ (is : IsGraph g) (pool : Pool) (slot : Slot) (rows : IsRowsOf (length g.nodes) (table_of g) pool slot)
+      (to : ℕ) (below : to < length g.nodes) (pair : Pair) (told : IsPairIn g slot.node to pair) where
+    own : IsPairIn g slot.node to (pair_in pool slot to)
+    own = pair_told g is e.values solved.of_graph.execution pool slot rows to
+
+    up_is : (pair_in pool slot to).up ≡ pair.up
+    up_is = reach_one g slot.node to (pair_in pool slot to).up pair.up (own.up below) (told.up below)
+
+    down_is : (pair_in pool slot to).down ≡ pair.down
+    down_is = reach_one g to slot.node (pair_in pool slot to).down pair.down (own.down below) (told.down below)
+
+    pub kept_pair : (m n : Node) → IsNodeAt p readings slot.node m → IsNodeAt p readings to n → IsPairOf p m n pair
+    kept_pair m n at at' = record {
+      there = subst (IsReachOf p m n) up_is (reach_there slot.node to m n at at' (cells_of (row_of pool slot.from)) rows.from);
+      back = subst (IsReachOf p n m) down_is (reach_back slot.node to m n at at' (cells_of (row_of pool slot.to)) rows.to);
+    }
+
+    pub kept_fits : FitsPair pair
+    kept_fits = (
+      subst FitsReach up_is (there_fits is slot.node to (cells_of (row_of pool slot.from)) rows.from),
+      subst FitsReach down_is (back_fits is slot.node to (cells_of (row_of pool slot.to)) rows.to),
+    )

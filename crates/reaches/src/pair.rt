@@ -3,46 +3,41 @@ ghost use Rattle.std.specs.Prelude.{◌≡◌, ◌<◌, ◌≤◌, length, slice
 ghost use Rattle.problem_model.specs.declared.items.Node.{Node};
 ghost use Rattle.problem_model.specs.declared.items.Node.TheVariants as nodes;
 ghost use Rattle.frontier.specs.Keys.{IsEmpty};
-ghost use Rattle.row_pool.specs.Row.{cells_of};
+ghost use Rattle.row_pool.specs.Pool.{free_rows};
+ghost use Rattle.repair.specs.Slots.{nothing_kept};
 ghost use Rattle.intervals.specs.Ends.{FitsPair};
 ghost use Rattle.intervals.specs.Executions.{IsPairOf};
 ghost use Rattle.solver.specs.Solution.{IsSolved};
-ghost use Rattle.row_pool.specs.Reach.{reach_of};
 
-use crate::room::new_row;
 use atto::Steps;
-use distances::{row_from, row_to};
 use earliest::Earliest;
 use frontier::Frontier;
 use problem::Problem;
-use row_pool::{Cell, Pair, Reach};
+use repair::Kept;
+use row_pool::{Pair, RowPool};
 use std::alloc::{AllocError, Global};
 use std::sync::ledger::Ledger;
 use sync_graph::Graph;
 
-// The greatest difference that a row tells of a node.
-fn reach_in(row: &[Cell], node: u32) -> Reach
-    requires { node < length row.now }
-    ensures { result ≡ reach_of (cells_of row.now) node }
-{
-    row[node as usize].reach()
-}
-
-// The greatest differences of two nodes, which are given by their numbers, by rows that are made in this one.
+// The greatest differences of two nodes, which are given by their numbers. The first one is kept, and its rows are looked
+// at.
 fn pair_in<L: Ledger>(
     p: &Problem,
     g: &Graph,
     e: &Earliest,
     from: u32,
     to: u32,
-    row: &mut [Cell],
+    kept: &mut Kept,
+    pool: &mut RowPool,
     front: &mut Frontier,
     steps: &mut Steps<L>,
 ) -> Pair
     requires solved { IsSolved p.now g.now e.now }
     requires from { from < length g.now.nodes }
     requires to { to < length g.now.nodes }
-    requires cells { length g.now.nodes ≤ length row.old }
+    requires nothing { kept.old ≡ nothing_kept }
+    requires free { 2 ≤ free_rows pool.old }
+    requires wide { length g.now.nodes ≤ pool.old.width }
     requires empty { IsEmpty front.old }
     requires room { length g.now.nodes ≤ length front.old }
     ensures pair { (m n : Node) → slice_get g.now.nodes from ≡ Some m → slice_get g.now.nodes to ≡ Some n
@@ -51,14 +46,16 @@ fn pair_in<L: Ledger>(
 {
     let _ = p.readings();
     g.exact();
-    row_from(g, e, from, row, front, steps);
-    let up = reach_in(row, to);
-    row_to(g, e, from, row, front, steps);
-    let down = reach_in(row, to);
-    Pair { up, down }
+    let Ok(_) = kept.keep(g, e, from, pool, front, steps) else {
+        unreachable!()
+    };
+    match kept.look(pool, from, to) {
+        Some(pair) => pair,
+        None => unreachable!(),
+    }
 }
 
-// The greatest differences of two nodes, which are given by their numbers. It makes a row for the first one.
+// The greatest differences of two nodes, which are given by their numbers. It makes two rows for the first one.
 pub(crate) fn pair_between<L: Ledger>(
     alloc: Global,
     p: &Problem,
@@ -75,13 +72,16 @@ pub(crate) fn pair_between<L: Ledger>(
         → IfOk result (IsPairOf p.now m n) }
     ensures fits { IfOk result FitsPair }
 {
+    g.exact();
     let mut front = Frontier::with_room(alloc, g.nodes())?;
-    let mut row = new_row(alloc, g.nodes())?;
-    Ok(pair_in(p, g, e, from, to, &mut row, &mut front, steps))
+    let mut pool = RowPool::new(alloc);
+    pool.reserve(2, g.nodes())?;
+    let mut kept = Kept::new(alloc);
+    Ok(pair_in(p, g, e, from, to, &mut kept, &mut pool, &mut front, steps))
 }
 
 /// The greatest differences of two events of a problem in both directions, in units of 1e-9 ns and below 2^120 in
-/// absolute value, by its graph and its earliest execution. It makes a row for the first event, and answers an error
+/// absolute value, by its graph and its earliest execution. It makes two rows for the first event, and answers an error
 /// only where memory runs out.
 pub fn pair_of<L: Ledger>(
     alloc: Global,

@@ -27,7 +27,7 @@ fn number_of(p: &Problem, g: &Graph, clock: u32, stamp: Nano) -> u32
 }
 
 /// The greatest differences of a clock's reading of a stamp, in ns, and an event, in both directions, in units of 1e-9 ns
-/// and below 2^120 in absolute value. It makes a row for the reading, and answers an error only where memory runs out.
+/// and below 2^120 in absolute value. It makes two rows for the reading, and answers an error only where memory runs out.
 pub fn pair_of_reading<L: Ledger>(
     alloc: Global,
     p: &Problem,
