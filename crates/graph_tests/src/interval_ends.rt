@@ -14,13 +14,125 @@ fn reach(units: Option<i16>) -> Reach
     }
 }
 
-// Whether greatest differences up and down have these ends and this order.
-fn answers(up: Option<i16>, down: Option<i16>, ends: Ends, order: Order) -> bool {
+// Greatest differences up and down, the ends of the interval, and the order of the two events.
+struct Interval {
+    up: Option<i16>,
+    down: Option<i16>,
+    least: Option<i16>,
+    greatest: Option<i16>,
+    order: Order,
+}
+
+// Intervals and their orders.
+const INTERVALS: [Interval; 11] = [
+    Interval {
+        up: Some(9),
+        down: Some(-4),
+        least: Some(4),
+        greatest: Some(9),
+        order: Order::Before,
+    },
+    Interval {
+        up: Some(9),
+        down: Some(0),
+        least: Some(0),
+        greatest: Some(9),
+        order: Order::Undecided,
+    },
+    Interval {
+        up: Some(9),
+        down: Some(4),
+        least: Some(-4),
+        greatest: Some(9),
+        order: Order::Undecided,
+    },
+    Interval {
+        up: Some(0),
+        down: Some(0),
+        least: Some(0),
+        greatest: Some(0),
+        order: Order::Same,
+    },
+    Interval {
+        up: Some(0),
+        down: Some(4),
+        least: Some(-4),
+        greatest: Some(0),
+        order: Order::Undecided,
+    },
+    Interval {
+        up: Some(-1),
+        down: Some(4),
+        least: Some(-4),
+        greatest: Some(-1),
+        order: Order::After,
+    },
+    Interval {
+        up: None,
+        down: Some(-1),
+        least: Some(1),
+        greatest: None,
+        order: Order::Before,
+    },
+    Interval {
+        up: None,
+        down: Some(0),
+        least: Some(0),
+        greatest: None,
+        order: Order::Undecided,
+    },
+    Interval {
+        up: Some(-1),
+        down: None,
+        least: None,
+        greatest: Some(-1),
+        order: Order::After,
+    },
+    Interval {
+        up: Some(0),
+        down: None,
+        least: None,
+        greatest: Some(0),
+        order: Order::Undecided,
+    },
+    Interval {
+        up: None,
+        down: None,
+        least: None,
+        greatest: None,
+        order: Order::Undecided,
+    },
+];
+
+// An end of an interval, where it is there.
+fn end(units: Option<i16>) -> End {
+    match units {
+        Some(units) => End::At(i128::from(units)),
+        None => End::Unbounded,
+    }
+}
+
+// Whether the greatest differences of an interval have its ends and its order.
+fn is_interval(case: &Interval) -> bool {
     let pair = Pair {
-        up: reach(up),
-        down: reach(down),
+        up: reach(case.up),
+        down: reach(case.down),
     };
-    ends_from(pair) == ends && order_of(&ends) == order
+    let ends = Ends {
+        least: end(case.least),
+        greatest: end(case.greatest),
+    };
+    ends_from(pair) == ends && order_of(&ends) == case.order
+}
+
+// The first of these intervals that has other ends or another order.
+fn first_wrong(cases: &[Interval]) -> Option<usize> {
+    for (k, case) in cases.iter().enumerate() {
+        if !is_interval(case) {
+            return Some(k);
+        }
+    }
+    None
 }
 
 // Whether an event with these greatest differences from and to a reading of this stamp has these ends of its source time.
@@ -62,25 +174,7 @@ fn up_to(greatest: i128) -> Ends {
 // The order of two events is that of the interval of their difference, with its ends.
 #[test]
 fn intervals_and_orders(rt: HostRuntime) {
-    let free = Ends {
-        least: End::Unbounded,
-        greatest: End::Unbounded,
-    };
-    for (up, down, ends, order) in [
-        (Some(9), Some(-4), between(4, 9), Order::Before),
-        (Some(9), Some(0), between(0, 9), Order::Undecided),
-        (Some(9), Some(4), between(-4, 9), Order::Undecided),
-        (Some(0), Some(0), between(0, 0), Order::Same),
-        (Some(0), Some(4), between(-4, 0), Order::Undecided),
-        (Some(-1), Some(4), between(-4, -1), Order::After),
-        (None, Some(-1), from(1), Order::Before),
-        (None, Some(0), from(0), Order::Undecided),
-        (Some(-1), None, up_to(-1), Order::After),
-        (Some(0), None, up_to(0), Order::Undecided),
-        (None, None, free, Order::Undecided),
-    ] {
-        assert!(rt; answers(up, down, ends, order));
-    }
+    assert_eq!(rt; first_wrong(&INTERVALS), None);
 }
 
 // A stamp counts 10^9 units for each ns, and an end that is not there stays away.

@@ -1,8 +1,9 @@
 //! Tests of graphs and of what is solved on them, each by public calls.
 //!
 //! `graphs` has the graph of a problem (`sync_graph`); `waiting_nodes` the order in which nodes are taken (`frontier`);
-//! `insertions` arcs that are brought in (`earliest`); `distance_rows` rows of a graph (`distances`); `cells` what a cell
-//! tells and `row_pools` rows that are lent (`row_pool`); `interval_ends` the ends and the order of two events (`intervals`); `empty_certificates` and
+//! `insertions` arcs that are brought in (`earliest`), and `insertion_orders` the order in which they are (`solver`);
+//! `distance_rows` rows of a graph (`distances`); `cells` what a cell tells and `row_pools` rows that are lent
+//! (`row_pool`); `interval_ends` the ends and the order of two events (`intervals`); `empty_certificates` and
 //! `interval_certificates` certificates that are made (`attain`); `greatest_differences` those of two events (`reaches`);
 //! `solutions` problems that are solved (`solver`); `fixtures` has problems that several of them use.
 #![tactic(auto)]
@@ -19,6 +20,8 @@ mod fixtures;
 mod graphs;
 #[cfg(test)]
 mod greatest_differences;
+#[cfg(test)]
+mod insertion_orders;
 #[cfg(test)]
 mod insertions;
 #[cfg(test)]

@@ -1,17 +1,12 @@
 ghost use Rattle.std.specs.Prelude.{◌≡◌, ◌≤◌, true, length};
 
-use crate::fixtures::{LATE_LOGS_PROBLEM, solve_alone};
+use crate::fixtures::{CIRCLE_PROBLEM, LATE_LOGS_PROBLEM, solve_alone};
 use atto::{NsText, write_decimal};
 use earliest::Earliest;
 use problem::{Problem, read_problem};
 use solver::Solution;
 use std::alloc::{AllocError, Global};
 use std::test::*;
-
-// The same logs, but each begins with a receive of what the other one sends last.
-const CIRCLE_PROBLEM: &str =
-    "problem 1\nclock a 0 0 0 0\nclock b 0 0 3 7\nevent a#1 a 100\nevent a#2 a 180\nevent b#1 b 250\nevent b#2 b 300\n\
-    message a#2 b#1 10 20\nmessage b#2 a#1 10 20\nend\n";
 
 // Whether the first values are these, in units.
 fn begins_with(e: &Earliest, nodes: u32, want: &[i128]) -> bool

@@ -18,6 +18,3 @@ mod solving;
 pub use order::insertion_order;
 pub use solution::{GraphSolution, Solution};
 pub use solving::{solve, solve_graph};
-
-#[cfg(test)]
-mod tests;
