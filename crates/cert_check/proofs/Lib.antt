@@ -1,6 +1,7 @@
 pub mod Judging
 pub mod Times
 pub mod Loops
+pub mod Widening
 pub mod Messages
 pub mod Walking
 pub mod Joining

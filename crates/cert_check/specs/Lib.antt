@@ -4,4 +4,5 @@ pub mod Faults
 pub mod Reasons
 pub mod Verdict
 pub mod Walks
+pub mod Widened
 pub mod Sizes

@@ -1,21 +1,24 @@
 // Checks certificates of a problem.
-ghost use Rattle.std.specs.Prelude.{◌≡◌, ◌≢◌, ◌<◌, length};
+ghost use Rattle.std.specs.Prelude.{◌≡◌, ◌≢◌, ◌<◌, length, All};
 ghost use Rattle.cert.specs.declared.certificate.Cert.TheVariants as certs;
-ghost use Rattle.cert.specs.CertificateText.{IsEndOf, IsCertOf};
+ghost use Rattle.cert.specs.CertificateText.{IsStepOf, IsEndOf, IsCertOf};
 ghost use Rattle.cert.specs.Shows.{Shows};
 ghost use Rattle.cert_check.specs.declared.answer.Part.TheVariants as parts;
 ghost use Rattle.cert_check.specs.declared.answer.Answer.TheVariants as answers;
 ghost use Rattle.cert_check.specs.Reasons.{EndIs, IsAnswer};
 ghost use Rattle.cert_check.specs.Faults.{FindsFault, ShowsEnd, answer_of};
 ghost use Rattle.cert_check.specs.Sizes.{IsSmallReason, IsSmallAnswer};
+ghost use Rattle.cert_check.specs.Widened.{widened};
 ghost use Rattle.std.specs.Prelude.{IfSome};
 
 use crate::answer::{Answer, Part, Reason};
 use crate::attained::{attained_fault, run_fault};
 use crate::cut::cut_fault;
 use crate::cycle::cycle_fault;
+use crate::declared::no_extra;
 use crate::path::path_fault;
-use cert::{Cert, EndProof, Execution};
+use atto::Nano;
+use cert::{Cert, Chain, EndProof, Execution};
 use problem::Problem;
 
 // What is wrong with one end of the interval from the first event to the second.
@@ -69,6 +72,19 @@ fn ends_answer(p: &Problem, first: u32, second: u32, upper: &EndProof, lower: &E
     }
 }
 
+/// Whether a cycle is a contradiction of `p` where each greatest delay of a message is `extra` ns greater, or the first reason
+/// why it is not: no steps, then for each step its weight, which is to be the greater one, and its join, then the sum, which
+/// is below 2^115 in absolute value. It takes no memory.
+pub fn check_cycle(p: &Problem, extra: Nano, c: &Chain) -> Answer
+    requires { All (IsStepOf p.now) c.now }
+    ensures answer { IsAnswer (widened p.now extra) (certs.Cycle c.now) result }
+    ensures exact { Shows (widened p.now extra) (certs.Cycle c.now) → result ≡ answers.Yes }
+    ensures small { IsSmallAnswer result }
+{
+    let _ = p.events();
+    answer(Part::Cycle, cycle_fault(p, extra, c))
+}
+
 /// Whether a certificate of `p` shows what it should, or the first reason why it does not: in a cycle no steps, then for
 /// each step its weight and its join, then the sum; of an execution the first bound of the short list that it breaks; of
 /// the end of an interval, the upper one first, for each step its join and its weight, then the last join, the sum, the
@@ -82,7 +98,7 @@ pub fn check(p: &Problem, c: &Cert) -> Answer
 {
     let _ = p.events();
     match c {
-        Cert::Cycle(chain) => answer(Part::Cycle, cycle_fault(p, chain)),
+        Cert::Cycle(chain) => check_cycle(p, no_extra(), chain),
         Cert::Run(execution) => answer(Part::Run, run_fault(p, execution)),
         Cert::Ends {
             p: first,

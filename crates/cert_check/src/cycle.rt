@@ -12,11 +12,13 @@ ghost use Rattle.cert_check.specs.Walks.{IsWalk};
 ghost use Rattle.cert_check.specs.Reasons.{CycleIs};
 ghost use Rattle.cert_check.specs.Faults.{FindsFault};
 ghost use Rattle.cert_check.specs.Sizes.{IsSmallReason};
+ghost use Rattle.cert_check.specs.Widened.{widened};
 ghost use Rattle.std.specs.Prelude.{IfSome};
 
 use crate::answer::{Part, Reason};
 use crate::declared::declared;
 use crate::walk::{Held, Walk, walk_over};
+use atto::Nano;
 use cert::Chain;
 use problem::{Node, Problem};
 
@@ -37,28 +39,28 @@ fn closing_fault(start: &Node, held: Held, count: u32) -> Option<Reason>
 }
 
 // Where the first step comes from.
-fn start_of(p: &Problem, chain: &Chain) -> Node
+fn start_of(p: &Problem, extra: Nano, chain: &Chain) -> Node
     requires steps { All (IsStepOf p.now) chain.now }
     requires some { 0 < length chain.now }
-    ensures { (f : Step) × (a : Constraint) × (slice_get chain.now 0 ≡ Some f) × Declares p.now f.bound a × (a.from ≡ result) }
+    ensures { (f : Step) × (a : Constraint) × (slice_get chain.now 0 ≡ Some f) × Declares (widened p.now extra) f.bound a × (a.from ≡ result) }
 {
     let first = &chain.steps()[0];
-    let bound = declared(p, &first.bound);
+    let bound = declared(p, extra, &first.bound);
     bound.from
 }
 
-/// What is wrong with a cycle.
-pub fn cycle_fault(p: &Problem, chain: &Chain) -> Option<Reason>
+/// What is wrong with a cycle of a problem that is widened.
+pub fn cycle_fault(p: &Problem, extra: Nano, chain: &Chain) -> Option<Reason>
     requires { All (IsStepOf p.now) chain.now }
-    ensures found { FindsFault parts.Cycle (CycleIs p.now chain.now) (IsContradictionOf p.now (weighed_bounds chain.now)) result }
+    ensures found { FindsFault parts.Cycle (CycleIs (widened p.now extra) chain.now) (IsContradictionOf (widened p.now extra) (weighed_bounds chain.now)) result }
     ensures small { IfSome result IsSmallReason }
 {
     let _ = p.events();
     if chain.is_empty() {
         return Some(Reason::Empty);
     }
-    let start = start_of(p, chain);
-    match walk_over(p, Part::Cycle, &start, chain) {
+    let start = start_of(p, extra, chain);
+    match walk_over(p, extra, Part::Cycle, &start, chain) {
         Walk::Astray(step) => Some(Reason::Join(step - 1)),
         Walk::Misweighed(step) => Some(Reason::Weight(step)),
         Walk::Arrived(held) => closing_fault(&start, held, chain.len()),

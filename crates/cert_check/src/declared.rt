@@ -1,10 +1,11 @@
 // What a problem declares under the name of a bound.
-ghost use Rattle.std.specs.Prelude.{◌≡◌, ◌<◌, ◌^◌, ℕ, Some, length, Contains, unsigned_abs};
+ghost use Rattle.std.specs.Prelude.{◌≡◌, ◌<◌, ◌^◌, ◌+◌, ◌*◌, ℕ, pos, Some, length, Contains, unsigned_abs};
 ghost use Rattle.problem_model.specs.declared.items.Bound.TheVariants as bounds;
 ghost use Rattle.problem_model.specs.Problem.{ProblemLists, IsWellFormed};
 ghost use Rattle.problem_model.specs.Bounds.{Constraint, Declares, ClockAt, EventAt, IsReading};
 ghost use Rattle.problem.specs.Line.{HasMessage};
 ghost use Rattle.cert_check.specs.Walks.{constraint, HasMessageBetween};
+ghost use Rattle.cert_check.specs.Widened.{widened};
 
 use atto::{Nano, delay_units, span_least, span_most};
 use problem::{Bound, Clock, Event, Message, Node, Problem};
@@ -15,6 +16,24 @@ pub struct Declaration {
     pub from: Node,
     pub to: Node,
     pub weight: i128,
+}
+
+/// The widening of a problem that is not widened.
+pub fn no_extra() -> Nano
+    ensures { result ≡ 0 }
+{
+    match Nano::new(0) {
+        Some(none) => none,
+        None => unreachable!(),
+    }
+}
+
+/// A greatest delay that is `extra` ns greater, in units of 1e-9 ns.
+pub fn widened_units(most: Nano, extra: Nano) -> i128
+    ensures exact { result ≡ pos ((most + extra) * 1000000000) }
+    ensures below { unsigned_abs result < 2 ^ 93 }
+{
+    delay_units(most) + delay_units(extra)
 }
 
 // The greatest real time of a span.
@@ -67,22 +86,22 @@ fn earliest(place: u32, event: &Event, clock: &Clock) -> Declaration
     }
 }
 
-// The greatest delay of a message.
-fn slowest(message: &Message, most: Nano) -> Declaration
+// The greatest delay of a message in a problem that is widened.
+fn slowest(message: &Message, most: Nano, extra: Nano) -> Declaration
     requires { message.now.most ≡ Some most }
-    ensures declares { (p : ProblemLists) → Contains p.messages message.now → Declares p (bounds.DelayMost message.now.send message.now.receive) (constraint result) }
+    ensures declares { (p : ProblemLists) → Contains p.messages message.now → Declares (widened p extra) (bounds.DelayMost message.now.send message.now.receive) (constraint result) }
     ensures below { unsigned_abs result.weight < 2 ^ 93 }
 {
     Declaration {
         from: Node::Event(message.send),
         to: Node::Event(message.receive),
-        weight: delay_units(most),
+        weight: widened_units(most, extra),
     }
 }
 
-// The least delay of a message.
+// The least delay of a message, which is the same however the problem is widened.
 fn quickest(message: &Message) -> Declaration
-    ensures declares { (p : ProblemLists) → Contains p.messages message.now → Declares p (bounds.DelayLeast message.now.send message.now.receive) (constraint result) }
+    ensures declares { (p : ProblemLists) (extra : ℕ) → Contains p.messages message.now → Declares (widened p extra) (bounds.DelayLeast message.now.send message.now.receive) (constraint result) }
     ensures below { unsigned_abs result.weight < 2 ^ 93 }
 {
     Declaration {
@@ -131,23 +150,23 @@ fn message_between(p: &Problem, send: u32, receive: u32) -> &Message
     &p.messages()[message_place(p, send, receive) as usize]
 }
 
-// The greatest delay of the message from one event to another, which has one.
-fn slowest_between(p: &Problem, send: u32, receive: u32) -> Declaration
+// The greatest delay of the message from one event to another, which has one, in a problem that is widened.
+fn slowest_between(p: &Problem, extra: Nano, send: u32, receive: u32) -> Declaration
     requires { (c : Constraint) × Declares p.now (bounds.DelayMost send receive) c }
-    ensures declares { Declares p.now (bounds.DelayMost send receive) (constraint result) }
+    ensures declares { Declares (widened p.now extra) (bounds.DelayMost send receive) (constraint result) }
     ensures below { unsigned_abs result.weight < 2 ^ 93 }
 {
     let message = message_between(p, send, receive);
     match message.most {
-        Some(most) => slowest(message, most),
+        Some(most) => slowest(message, most, extra),
         None => quickest(message),
     }
 }
 
 // Clocks of a problem do not follow each other, so it declares no such bound.
-fn no_follow(p: &Problem, earlier: u32, s: Nano, later: u32, t: Nano) -> Declaration
+fn no_follow(p: &Problem, extra: Nano, earlier: u32, s: Nano, later: u32, t: Nano) -> Declaration
     requires { (c : Constraint) × Declares p.now (bounds.Follow earlier s later t) c }
-    ensures declares { Declares p.now (bounds.Follow earlier s later t) (constraint result) }
+    ensures declares { Declares (widened p.now extra) (bounds.Follow earlier s later t) (constraint result) }
     ensures below { unsigned_abs result.weight < 2 ^ 93 }
 {
     let _ = p.events();
@@ -158,10 +177,11 @@ fn no_follow(p: &Problem, earlier: u32, s: Nano, later: u32, t: Nano) -> Declara
     }
 }
 
-/// What `p` declares under the name of a bound: its ends, and its weight, which is below 2^93 in absolute value.
-pub fn declared(p: &Problem, bound: &Bound) -> Declaration
+/// What `p` declares under the name of a bound, where each greatest delay of a message is `extra` ns greater: its ends, and
+/// its weight, which is below 2^93 in absolute value.
+pub fn declared(p: &Problem, extra: Nano, bound: &Bound) -> Declaration
     requires { (c : Constraint) × Declares p.now bound.now c }
-    ensures declares { Declares p.now bound.now (constraint result) }
+    ensures declares { Declares (widened p.now extra) bound.now (constraint result) }
     ensures below { unsigned_abs result.weight < 2 ^ 93 }
 {
     match *bound {
@@ -180,8 +200,8 @@ pub fn declared(p: &Problem, bound: &Bound) -> Declaration
             s,
             later,
             t,
-        } => no_follow(p, earlier, s, later, t),
-        Bound::DelayMost { send, receive } => slowest_between(p, send, receive),
+        } => no_follow(p, extra, earlier, s, later, t),
+        Bound::DelayMost { send, receive } => slowest_between(p, extra, send, receive),
         Bound::DelayLeast { send, receive } => quickest(message_between(p, send, receive)),
     }
 }

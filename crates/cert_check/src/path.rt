@@ -16,6 +16,7 @@ ghost use Rattle.std.specs.Prelude.{IfSome};
 ghost use Rattle.cert.specs.Sizes.{most_steps};
 
 use crate::answer::{Part, Reason};
+use crate::declared::no_extra;
 use crate::walk::{Held, Walk, walk_over};
 use atto::Units;
 use cert::Chain;
@@ -66,7 +67,7 @@ pub fn path_fault(
     ensures small { IfSome result IsSmallReason }
 {
     let _ = p.events();
-    match walk_over(p, part, &Node::Event(second), path) {
+    match walk_over(p, no_extra(), part, &Node::Event(second), path) {
         Walk::Astray(step) => Some(Reason::Join(step)),
         Walk::Misweighed(step) => Some(Reason::Weight(step)),
         Walk::Arrived(held) => arrival_fault(part, held, first, value, path.len()),

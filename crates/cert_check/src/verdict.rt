@@ -10,7 +10,9 @@ ghost use Rattle.problem_model.specs.declared.items.Bound.TheVariants.{Late, Ear
 ghost use Rattle.cert.specs.CertificateText.{HasOneEach};
 ghost use Rattle.cert_check.specs.Verdict.{Judges, IsVerdict, AreTimes};
 ghost use Rattle.cert_check.specs.Sizes.{IsSmallVerdict};
+ghost use Rattle.cert_check.specs.Widened.{widened};
 
+use crate::declared::{no_extra, widened_units};
 use atto::{Nano, Units, delay_units, span_least, span_most};
 use cert::Execution;
 use problem::{Bound, Clock, Event, Message, Problem};
@@ -83,10 +85,10 @@ fn judge_stamp(place: u32, event: &Event, clock: &Clock, reading: Units, time: U
     }
 }
 
-// Judges the bound on the greatest delay of a message, where there is one.
-fn judge_most(message: &Message, send: Units, receive: Units) -> Verdict
+// Judges the bound on the greatest delay of a message, where there is one, in a problem that is widened.
+fn judge_most(message: &Message, extra: Nano, send: Units, receive: Units) -> Verdict
     ensures verdict { (p : ProblemLists) (x : Times) → IsWellFormed p → Contains p.messages message.now → x (nodes.Event message.now.send) ≡ send → x (nodes.Event message.now.receive) ≡ receive
-        → Judges p x (most_bound message.now message.now.most) result }
+        → Judges (widened p extra) x (most_bound message.now message.now.most) result }
     ensures small { IsSmallVerdict result }
 {
     match message.most {
@@ -95,19 +97,19 @@ fn judge_most(message: &Message, send: Units, receive: Units) -> Verdict
                 send: message.send,
                 receive: message.receive,
             };
-            judge(bound, delay_units(most), send, receive)
+            judge(bound, widened_units(most, extra), send, receive)
         }
         None => Verdict::Obeys,
     }
 }
 
-// Judges the bounds on the delay of a message.
-fn judge_message(message: &Message, send: Units, receive: Units) -> Verdict
+// Judges the bounds on the delay of a message in a problem that is widened.
+fn judge_message(message: &Message, extra: Nano, send: Units, receive: Units) -> Verdict
     ensures verdict { (p : ProblemLists) (x : Times) → IsWellFormed p → Contains p.messages message.now → x (nodes.Event message.now.send) ≡ send → x (nodes.Event message.now.receive) ≡ receive
-        → Judges p x (message_bounds message.now) result }
+        → Judges (widened p extra) x (message_bounds message.now) result }
     ensures small { IsSmallVerdict result }
 {
-    match judge_most(message, send, receive) {
+    match judge_most(message, extra, send, receive) {
         Verdict::Obeys => {
             let bound = Bound::DelayLeast {
                 send: message.send,
@@ -168,10 +170,10 @@ pub(crate) fn event_time(p: &Problem, e: &Execution, place: u32) -> Units
     e.value(place)
 }
 
-// Judges the bounds over the spans of neighbouring readings.
+// Judges the bounds over the spans of neighbouring readings, which are those of the problem however it is widened.
 fn judge_spans(p: &Problem, e: &Execution) -> Verdict
     requires { HasOneEach p.now e.now }
-    ensures verdict { (x : Times) (readings : List Reading) → AreTimes p.now x readings e.now → Judges p.now x (span_bounds readings) result }
+    ensures verdict { (extra : ℕ) (x : Times) (readings : List Reading) → AreTimes p.now x readings e.now → Judges (widened p.now extra) x (span_bounds readings) result }
     ensures small { IsSmallVerdict result }
 {
     let clocks = p.clocks();
@@ -188,10 +190,10 @@ fn judge_spans(p: &Problem, e: &Execution) -> Verdict
     Verdict::Obeys
 }
 
-// Judges the bounds on the stamps of events.
+// Judges the bounds on the stamps of events, which are those of the problem however it is widened.
 fn judge_stamps(p: &Problem, e: &Execution) -> Verdict
     requires { HasOneEach p.now e.now }
-    ensures verdict { (x : Times) (readings : List Reading) → AreTimes p.now x readings e.now → Judges p.now x (event_bounds 0 p.now.events) result }
+    ensures verdict { (extra : ℕ) (x : Times) (readings : List Reading) → AreTimes p.now x readings e.now → Judges (widened p.now extra) x (event_bounds 0 p.now.events) result }
     ensures small { IsSmallVerdict result }
 {
     let clocks = p.clocks();
@@ -207,21 +209,39 @@ fn judge_stamps(p: &Problem, e: &Execution) -> Verdict
     Verdict::Obeys
 }
 
-// Judges the bounds on the delays of messages.
-fn judge_messages(p: &Problem, e: &Execution) -> Verdict
+// Judges the bounds on the delays of messages in a problem that is widened.
+fn judge_messages(p: &Problem, extra: Nano, e: &Execution) -> Verdict
     requires { HasOneEach p.now e.now }
-    ensures verdict { (x : Times) (readings : List Reading) → AreTimes p.now x readings e.now → Judges p.now x (flat_map message_bounds p.now.messages) result }
+    ensures verdict { (x : Times) (readings : List Reading) → AreTimes p.now x readings e.now → Judges (widened p.now extra) x (flat_map message_bounds p.now.messages) result }
     ensures small { IsSmallVerdict result }
 {
     for message in p.messages() {
         let send = event_time(p, e, message.send);
         let receive = event_time(p, e, message.receive);
-        match judge_message(message, send, receive) {
+        match judge_message(message, extra, send, receive) {
             Verdict::Obeys => {}
             broken => return broken,
         }
     }
     Verdict::Obeys
+}
+
+/// Whether an execution of `p` obeys every bound that `p` declares where each greatest delay of a message is `extra` ns
+/// greater, between every two readings of a clock; else the first bound of the short list that it breaks. Its weight, which
+/// is then the greater one, is below 2^93 in absolute value, and the difference at most 2^121. It takes no memory.
+pub fn obeys_widened(p: &Problem, extra: Nano, e: &Execution) -> Verdict
+    requires { HasOneEach p.now e.now }
+    ensures verdict { (x : Times) → Lists p.now x e.now → IsVerdict (widened p.now extra) x result }
+    ensures small { IsSmallVerdict result }
+{
+    let _ = p.events();
+    match judge_spans(p, e) {
+        Verdict::Obeys => match judge_stamps(p, e) {
+            Verdict::Obeys => judge_messages(p, extra, e),
+            broken => broken,
+        },
+        broken => broken,
+    }
 }
 
 /// Whether an execution of `p` obeys every bound that `p` declares, between every two readings of a clock; else the
@@ -232,12 +252,5 @@ pub fn obeys(p: &Problem, e: &Execution) -> Verdict
     ensures verdict { (x : Times) → Lists p.now x e.now → IsVerdict p.now x result }
     ensures small { IsSmallVerdict result }
 {
-    let _ = p.events();
-    match judge_spans(p, e) {
-        Verdict::Obeys => match judge_stamps(p, e) {
-            Verdict::Obeys => judge_messages(p, e),
-            broken => broken,
-        },
-        broken => broken,
-    }
+    obeys_widened(p, no_extra(), e)
 }

@@ -3,10 +3,12 @@ ghost use Rattle.std.specs.Prelude.{◌≡◌, ◌<◌, ◌≤◌, ◌^◌, ◌*
 ghost use Rattle.cert_check.specs.Walks.{constraint, entry_of, exit_of, IsWalk};
 ghost use Rattle.cert.specs.CertificateText.{IsStepOf};
 ghost use Rattle.cert_check.specs.Sizes.{IsSmallWalk};
+ghost use Rattle.cert_check.specs.Widened.{widened};
 ghost use Rattle.cert.specs.Sizes.{most_steps};
 
 use crate::answer::Part;
 use crate::declared::{Declaration, declared};
+use atto::Nano;
 use cert::Chain;
 use problem::{Node, Problem};
 
@@ -64,11 +66,11 @@ fn onward(part: Part, held: Held, bound: &Declaration, taken: usize) -> Held
 }
 
 /// Walks over the steps from a node, in an upper part against their bounds and elsewhere along them. Each step must be
-/// entered where the walk has come to, and have the weight of its bound. The sum of all is below 2^115 in absolute value.
-/// It takes no memory.
-pub fn walk_over(p: &Problem, part: Part, start: &Node, chain: &Chain) -> Walk
+/// entered where the walk has come to, and have the weight of its bound where each greatest delay of a message is `extra` ns
+/// greater. The sum of all is below 2^115 in absolute value. It takes no memory.
+pub fn walk_over(p: &Problem, extra: Nano, part: Part, start: &Node, chain: &Chain) -> Walk
     requires { All (IsStepOf p.now) chain.now }
-    ensures walk { IsWalk p.now part start.now chain.now result }
+    ensures walk { IsWalk (widened p.now extra) part start.now chain.now result }
     ensures small { IsSmallWalk result }
 {
     let count = chain.len();
@@ -79,7 +81,7 @@ pub fn walk_over(p: &Problem, part: Part, start: &Node, chain: &Chain) -> Walk
     };
     for k in 0..count {
         let step = &steps[k as usize];
-        let bound = declared(p, &step.bound);
+        let bound = declared(p, extra, &step.bound);
         if entry(part, &bound) != held.node {
             return Walk::Astray(k + 1);
         }

@@ -1,25 +1,31 @@
-use Rattle.std.proofs.Common.{sym, subst}
+use Rattle.std.proofs.Common.{◌≡◌, ◌∙◌, sym, ap, subst}
+use Rattle.problem_model.specs.Problem.{ProblemLists}
 use Rattle.cert.specs.declared.certificate.Cert.{Cert}
+use Rattle.cert.specs.declared.certificate.Cert.TheVariants as certs
 use Rattle.cert_check.specs.declared.answer.Part.TheVariants.{Run}
 use Rattle.cert_check.specs.Reasons.{IsAnswer}
-use Rattle.cert_check.proofs.Answering.{yes_of, cycle_answer, run_answer}
+use Rattle.cert_check.specs.Widened.{widened}
+use Rattle.cert_check.proofs.Answering.{yes_of, run_answer}
+use Rattle.cert_check.proofs.Widening.{not_widened}
 use Rattle.cert_check.proofs.checking.check.Goals as goal
 
 pub returns-in-Cycle-clause-answer : goal.returns-in-Cycle-clause-answer
 returns-in-Cycle-clause-answer c =
     let p = c.args.p.now in
-    subst (λ (k : Cert). IsAnswer p k c.answer.result) (sym c.in-Cycle.is) (rw c.answer.ensures (cycle_answer p c.events.ensures.lawful.formed c.in-Cycle.chain c.cycle_fault.result c.cycle_fault.ensures.found))
+    let same : widened p c.no_extra.result ≡ p = ap (widened p) c.no_extra.ensures ∙ not_widened p in
+    let answered = subst (λ (q : ProblemLists). IsAnswer q (certs.Cycle c.in-Cycle.chain) c.check_cycle.result) same c.check_cycle.ensures.answer in
+    subst (λ (k : Cert). IsAnswer p k c.check_cycle.result) (sym c.in-Cycle.is) answered
 
 pub returns-in-Cycle-clause-exact : goal.returns-in-Cycle-clause-exact
-returns-in-Cycle-clause-exact c = λ shown. yes_of c.args.p.now c.events.ensures.lawful.formed c.args.c.now c.answer.result c.requires (returns-in-Cycle-clause-answer c) shown
+returns-in-Cycle-clause-exact c = λ shown. yes_of c.args.p.now c.events.ensures.lawful.formed c.args.c.now c.check_cycle.result c.requires (returns-in-Cycle-clause-answer c) shown
 
 pub returns-in-Run-clause-answer : goal.returns-in-Run-clause-answer
 returns-in-Run-clause-answer c =
     let p = c.args.p.now in
-    subst (λ (k : Cert). IsAnswer p k c.answer-in-Run.result) (sym c.in-Run.is) (rw c.answer-in-Run.ensures (run_answer p c.events.ensures.lawful.formed c.in-Run.execution c.run_fault.result (c.run_fault.ensures.found Run)))
+    subst (λ (k : Cert). IsAnswer p k c.answer.result) (sym c.in-Run.is) (rw c.answer.ensures (run_answer p c.events.ensures.lawful.formed c.in-Run.execution c.run_fault.result (c.run_fault.ensures.found Run)))
 
 pub returns-in-Run-clause-exact : goal.returns-in-Run-clause-exact
-returns-in-Run-clause-exact c = λ shown. yes_of c.args.p.now c.events.ensures.lawful.formed c.args.c.now c.answer-in-Run.result c.requires (returns-in-Run-clause-answer c) shown
+returns-in-Run-clause-exact c = λ shown. yes_of c.args.p.now c.events.ensures.lawful.formed c.args.c.now c.answer.result c.requires (returns-in-Run-clause-answer c) shown
 
 pub returns-in-Ends-clause-answer : goal.returns-in-Ends-clause-answer
 returns-in-Ends-clause-answer c =

@@ -3,6 +3,7 @@ use Rattle.problem_model.specs.declared.items.Message.{Message}
 use Rattle.problem_model.specs.declared.items.Bound.TheVariants as bounds
 use Rattle.problem_model.specs.Bounds.{Declares}
 use Rattle.cert_check.specs.Walks.{constraint}
+use Rattle.cert_check.specs.Widened.{widened}
 use Rattle.cert_check.proofs.Messages.{message_one}
 use Rattle.cert_check.proofs.declared.slowest_between.Goals as goal
 
@@ -10,8 +11,8 @@ pub returns-in-Some-clause-declares : goal.returns-in-Some-clause-declares
 returns-in-Some-clause-declares c =
     let p = c.args.p.now in
     let m : Message = c.message_between-message.result.now in
-    subst (λ (send : ℕ). Declares p (bounds.DelayMost send c.args.receive) (constraint c.slowest.result)) c.message_between-message.ensures.send
-    (subst (λ (receive : ℕ). Declares p (bounds.DelayMost m.send receive) (constraint c.slowest.result)) c.message_between-message.ensures.receive (c.slowest.ensures.declares p c.message_between-message.ensures.message))
+    subst (λ (send : ℕ). Declares (widened p c.args.extra) (bounds.DelayMost send c.args.receive) (constraint c.slowest.result)) c.message_between-message.ensures.send
+    (subst (λ (receive : ℕ). Declares (widened p c.args.extra) (bounds.DelayMost m.send receive) (constraint c.slowest.result)) c.message_between-message.ensures.receive (c.slowest.ensures.declares p c.message_between-message.ensures.message))
 
 pub returns-in-None-clause-declares : goal.returns-in-None-clause-declares
 returns-in-None-clause-declares c =

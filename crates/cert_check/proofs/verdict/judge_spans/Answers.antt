@@ -5,8 +5,10 @@ use Rattle.problem_model.specs.ShortList.{span_bounds, neighbour_bounds}
 use Rattle.problem_model.proofs.OneList.{readings_one}
 use Rattle.cert_check.specs.declared.verdict.Verdict.TheVariants as verdicts
 use Rattle.cert_check.specs.Verdict.{Judges, AreTimes}
+use Rattle.cert_check.specs.Widened.{widened}
 use Rattle.problem_model.proofs.Walking.{spans_more, spans_all, reading_there, clock_there}
 use Rattle.cert_check.proofs.Loops.{on, out, done}
+use Rattle.cert_check.proofs.Widening.{formed}
 use Rattle.cert_check.proofs.verdict.judge_spans.Goals as goal
 
 pub reading_time-from-requires-clause-within : goal.reading_time-from-requires-clause-within
@@ -28,8 +30,9 @@ judge_neighbours-requires-clause-clock c =
     omega (arith, inside, same)
 
 pub returns-in_default-clause-verdict : goal.returns-in_default-clause-verdict
-returns-in_default-clause-verdict c = λ x readings times.
+returns-in_default-clause-verdict c = λ extra x readings times.
     let p = c.args.p.now in
+    let q = widened p extra in
     let rs = c.readings-readings.result.now in
     let k = c.loop-place.place in
     let a = c.index-readings-place.result in
@@ -40,13 +43,14 @@ returns-in_default-clause-verdict c = λ x readings times.
     let at' : slice_get {X = Reading} rs (k + 1) ≡ Some b = slice_get_read rs (length rs) (k + 1) b refl (omega (arith, c.loop-place-test.true, c.saturating_sub-last.ensures)) c.index-readings-place-in-loop-place.is in
     let there = reading_there p rs k a c.readings-readings.ensures (omega (arith, c.loop-place-test.true, c.saturating_sub-last.ensures)) c.index-readings-place.is in
     let there' = reading_there p rs (k + 1) b c.readings-readings.ensures (omega (arith, c.loop-place-test.true, c.saturating_sub-last.ensures)) c.index-readings-place-in-loop-place.is in
-    let judged = c.judge_neighbours.ensures.verdict p x c.clocks-clocks.ensures.lawful.formed c.clocks-clocks.ensures.value there there' (c.reading_time-from.ensures x rs a times' at) (c.reading_time-to.ensures x rs b times' at') in
-    let all : Judges p x (span_bounds rs) c.judge_neighbours.result = out p x (span_bounds rs) (span_bounds (drop k rs)) (c.loop-place.invariant x times') (neighbour_bounds a b) (span_bounds (drop (k + 1) rs)) (spans_more rs k a b at at') c.judge_neighbours.result c.in_default.not-Obeys judged in
-    subst (λ (l : List Reading). Judges p x (span_bounds l) c.judge_neighbours.result) same all
+    let judged = c.judge_neighbours.ensures.verdict q x (formed p extra c.clocks-clocks.ensures.lawful.formed) c.clocks-clocks.ensures.value there there' (c.reading_time-from.ensures x rs a times' at) (c.reading_time-to.ensures x rs b times' at') in
+    let all : Judges q x (span_bounds rs) c.judge_neighbours.result = out q x (span_bounds rs) (span_bounds (drop k rs)) (c.loop-place.invariant extra x times') (neighbour_bounds a b) (span_bounds (drop (k + 1) rs)) (spans_more rs k a b at at') c.judge_neighbours.result c.in_default.not-Obeys judged in
+    subst (λ (l : List Reading). Judges q x (span_bounds l) c.judge_neighbours.result) same all
 
 pub loop-place-preserved : goal.loop-place-preserved
-loop-place-preserved c = λ x times'.
+loop-place-preserved c = λ extra x times'.
     let p = c.args.p.now in
+    let q = widened p extra in
     let rs = c.readings-readings.result.now in
     let k = c.loop-place.place in
     let a = c.index-readings-place.result in
@@ -55,15 +59,16 @@ loop-place-preserved c = λ x times'.
     let at' : slice_get {X = Reading} rs (k + 1) ≡ Some b = slice_get_read rs (length rs) (k + 1) b refl (omega (arith, c.loop-place-test.true, c.saturating_sub-last.ensures)) c.index-readings-place-in-loop-place.is in
     let there = reading_there p rs k a c.readings-readings.ensures (omega (arith, c.loop-place-test.true, c.saturating_sub-last.ensures)) c.index-readings-place.is in
     let there' = reading_there p rs (k + 1) b c.readings-readings.ensures (omega (arith, c.loop-place-test.true, c.saturating_sub-last.ensures)) c.index-readings-place-in-loop-place.is in
-    let judged = c.judge_neighbours.ensures.verdict p x c.clocks-clocks.ensures.lawful.formed c.clocks-clocks.ensures.value there there' (c.reading_time-from.ensures x rs a times' at) (c.reading_time-to.ensures x rs b times' at') in
-    on p x (span_bounds rs) (span_bounds (drop k rs)) (c.loop-place.invariant x times') (neighbour_bounds a b) (span_bounds (drop (k + 1) rs)) (spans_more rs k a b at at') (rw c.in-Obeys.is at judged)
+    let judged = c.judge_neighbours.ensures.verdict q x (formed p extra c.clocks-clocks.ensures.lawful.formed) c.clocks-clocks.ensures.value there there' (c.reading_time-from.ensures x rs a times' at) (c.reading_time-to.ensures x rs b times' at') in
+    on q x (span_bounds rs) (span_bounds (drop k rs)) (c.loop-place.invariant extra x times') (neighbour_bounds a b) (span_bounds (drop (k + 1) rs)) (spans_more rs k a b at at') (rw c.in-Obeys.is at judged)
 
 pub returns-clause-verdict : goal.returns-clause-verdict
-returns-clause-verdict c = λ x readings times.
+returns-clause-verdict c = λ extra x readings times.
     let p = c.args.p.now in
+    let q = widened p extra in
     let rs = c.readings-readings.result.now in
     let k = c.loop-place.place in
     let same : rs ≡ readings = readings_one p rs readings c.readings-readings.ensures times.are_readings in
     let times' : AreTimes p x rs c.args.e.now = subst (λ (l : List Reading). AreTimes p x l c.args.e.now) (sym same) times in
-    subst (λ (l : List Reading). Judges p x (span_bounds l) verdicts.Obeys) same
-    (done p x (span_bounds rs) (span_bounds (drop k rs)) (c.loop-place.invariant x times') (spans_all rs k (omega (arith, c.loop-place-test.false, c.saturating_sub-last.ensures))))
+    subst (λ (l : List Reading). Judges q x (span_bounds l) verdicts.Obeys) same
+    (done q x (span_bounds rs) (span_bounds (drop k rs)) (c.loop-place.invariant extra x times') (spans_all rs k (omega (arith, c.loop-place-test.false, c.saturating_sub-last.ensures))))

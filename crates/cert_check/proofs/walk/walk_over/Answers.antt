@@ -4,6 +4,7 @@ use Rattle.problem_model.specs.declared.items.Node.{Node}
 use Rattle.cert.specs.declared.chain.Step.{Step}
 use Rattle.cert.specs.Shows.{weighed_bounds}
 use Rattle.cert_check.specs.Walks.{constraint, Goes}
+use Rattle.cert_check.specs.Widened.{widened}
 use Rattle.cert_check.proofs.Walking.{goes_on, sum_on, step_at, step_of, all_taken}
 use Rattle.cert_check.proofs.walk.walk_over.Goals as goal
 
@@ -17,7 +18,7 @@ declared-bound-requires c =
 
 pub returns-then-ne-clause-walk : goal.returns-then-ne-clause-walk
 returns-then-ne-clause-walk c =
-    let p = c.args.p.now in
+    let p = widened c.args.p.now c.args.extra in
     let k = c.loop-k.k in
     let chain : List Step = c.args.chain.now in
     let inside : k < length chain = omega (arith, c.loop-k-test.true, c.len-count.ensures.count) in
@@ -36,7 +37,7 @@ returns-then-ne-clause-walk c =
 
 pub returns-then-get-bound-clause-walk : goal.returns-then-get-bound-clause-walk
 returns-then-get-bound-clause-walk c =
-    let p = c.args.p.now in
+    let p = widened c.args.p.now c.args.extra in
     let k = c.loop-k.k in
     let chain : List Step = c.args.chain.now in
     let inside : k < length chain = omega (arith, c.loop-k-test.true, c.len-count.ensures.count) in
@@ -60,7 +61,7 @@ onward-held-requires-clause-small c = c.loop-k.invariant.2
 
 pub loop-k-preserved : goal.loop-k-preserved
 loop-k-preserved c =
-    let p = c.args.p.now in
+    let p = widened c.args.p.now c.args.extra in
     let k = c.loop-k.k in
     let steps : List Step = c.steps-steps.result.now in
     let s : Step = c.index-steps-k.result in
@@ -81,7 +82,7 @@ loop-k-preserved c =
 pub returns-clause-walk : goal.returns-clause-walk
 returns-clause-walk c =
     let past = c.loop-k-test.false in
-    all_taken c.args.p.now c.args.part c.args.start.now c.loop-k.held.node c.steps-steps.result.now c.args.chain.now c.loop-k.k c.loop-k.held.sum c.steps-steps.ensures (omega (arith, past, c.len-count.ensures.count)) c.loop-k.invariant.0 c.loop-k.invariant.1
+    all_taken (widened c.args.p.now c.args.extra) c.args.part c.args.start.now c.loop-k.held.node c.steps-steps.result.now c.args.chain.now c.loop-k.k c.loop-k.held.sum c.steps-steps.ensures (omega (arith, past, c.len-count.ensures.count)) c.loop-k.invariant.0 c.loop-k.invariant.1
 
 pub returns-clause-small : goal.returns-clause-small
 returns-clause-small c = omega (arith, c.loop-k.invariant.2, c.loop-k.invariant.3, c.len-count.ensures.limit)
