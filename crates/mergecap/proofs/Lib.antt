@@ -1,0 +1,6 @@
+mod Links
+mod OneOrder
+mod Orders
+mod ReadBack
+mod Records
+mod Worked

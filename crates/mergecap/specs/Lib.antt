@@ -1,0 +1,3 @@
+pub mod MergedCapture
+pub mod Packets
+pub mod Reading

@@ -1,0 +1,19 @@
+-- A merged capture that is read.
+use Rattle.std.specs.Prelude.{◌≡◌, ◌<◌, List, [], map}
+use Rattle.pcap_stream.specs.Capture.{Capture, Reads, Seen, packets_of}
+use Rattle.mergecap.specs.MergedCapture.{Timed, merged_capture, whole_nanos}
+
+-- link types have 16 bits
+abbrev pub HasLinkType : Timed → Type 0
+HasLinkType t = t.packet.link < 65536
+
+-- the packet with its time, in whole ns, as its stamp
+abbrev pub stamped : Timed → Seen
+stamped t = record { stamp = whole_nanos t.key.value; link = t.packet.link; bytes = t.packet.bytes }
+
+-- the merged capture says these packets at their times, in their order, and nothing is left of it
+pub record IsReadBack (ts : List Timed) : Type 0 where
+  pub capture : Capture
+  pub reads : Reads (merged_capture ts) capture
+  pub packets : packets_of capture ≡ map stamped ts
+  pub no_rest : capture.rest ≡ []

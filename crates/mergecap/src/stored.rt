@@ -1,0 +1,15 @@
+// Packets that are merged.
+use pcap_stream::Packet;
+
+/// A packet of a capture, and what it is merged by.
+#[derive(Debug, Drop)]
+pub struct Stored {
+    /// The place of its label, from 0 on.
+    pub place: u32,
+    /// Its number there, from 1 on.
+    pub n: u32,
+    /// Its time in the earliest execution, in units of 1e-9 ns.
+    pub value: i128,
+    /// What was captured. The stamp of its host's clock is not written.
+    pub packet: Packet,
+}
