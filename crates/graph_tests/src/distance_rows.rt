@@ -1,8 +1,8 @@
-ghost use Rattle.std.specs.Prelude.{◌≡◌, ◌+◌, ◌^◌, ◌<◌, ◌≤◌, false, true, IfOk, IfSome, OnOk, Some, length, pos, neg_ℤ, ◌<ℤ◌, slice_get, slice_index_or};
+ghost use Rattle.std.specs.Prelude.{◌≡◌, ◌+◌, ◌^◌, ◌<◌, ◌≤◌, [], ◌∷◌, false, true, IfOk, IfSome, OnOk, Some, length, pos, neg_ℤ, ◌<ℤ◌, slice_get, slice_index_or};
 ghost use Rattle.problem_model.specs.declared.items.Node.TheVariants as nodes;
 ghost use Rattle.frontier.specs.Keys.{IsEmpty};
 ghost use Rattle.sync_graph.specs.declared.arc.Arc.{Arc};
-ghost use Rattle.sync_graph.specs.Graph.{with_arc};
+ghost use Rattle.sync_graph.specs.Graph.{no_graph, with_arc};
 ghost use Rattle.earliest.specs.Values.{IsEarliestOf};
 
 use atto::Steps;
@@ -62,17 +62,37 @@ fn push(g: &mut Graph, from: u32, to: u32, weight: i128) -> Result<(), AllocErro
     Ok(())
 }
 
-// Three nodes, and arcs of weight 5 from 0 to 1, of 2 from 0 to 2, and of -1 from 2 to 1.
+// Three nodes, the events 0 to 2.
+fn push_nodes(g: &mut Graph) -> Result<(), AllocError>
+    requires { g.old ≡ no_graph }
+    ensures nodes { OnOk result (g.new.nodes ≡ nodes.Event 0 ∷ nodes.Event 1 ∷ nodes.Event 2 ∷ []) }
+    ensures arcs { OnOk result (length g.new.arcs ≡ 0) }
+{
+    g.push_node(Node::Event(0))?;
+    g.push_node(Node::Event(1))?;
+    g.push_node(Node::Event(2))?;
+    Ok(())
+}
+
+// Arcs of weight 5 from 0 to 1, of 2 from 0 to 2, and of -1 from 2 to 1.
+fn push_arcs(g: &mut Graph) -> Result<(), AllocError>
+    requires nodes { g.old.nodes ≡ nodes.Event 0 ∷ nodes.Event 1 ∷ nodes.Event 2 ∷ [] }
+    requires arcs { length g.old.arcs ≡ 0 }
+    ensures { OnOk result (length g.new.nodes ≡ 3) }
+{
+    push(g, 0, 1, 5)?;
+    push(g, 0, 2, 2)?;
+    push(g, 2, 1, -1)?;
+    Ok(())
+}
+
+// These nodes and arcs.
 fn three(alloc: Global) -> Result<Graph, AllocError>
     ensures { IfOk result (λ g. length g.nodes ≡ 3) }
 {
     let mut g = Graph::new(alloc);
-    g.push_node(Node::Event(0))?;
-    g.push_node(Node::Event(1))?;
-    g.push_node(Node::Event(2))?;
-    push(&mut g, 0, 1, 5)?;
-    push(&mut g, 0, 2, 2)?;
-    push(&mut g, 2, 1, -1)?;
+    push_nodes(&mut g)?;
+    push_arcs(&mut g)?;
     Ok(g)
 }
 
