@@ -1,12 +1,12 @@
 -- From the parts of a session to what is said of it.
-use Rattle.std.proofs.Common.{◌≡◌, inl, inr, ℕ, ◌^◌, ◌<◌, ◌≤◌, List, [], ◌++◌, length, take, Option, Some, codes, sym, ◌∙◌, subst}
+use Rattle.std.proofs.Common.{◌≡◌, inl, inr, ℕ, ◌<◌, ◌≤◌, List, [], ◌++◌, length, take, Option, Some, codes, sym, ◌∙◌, subst}
 use Rattle.std.specs.List.{concat}
 use Rattle.ports.specs.Content.{Appends, AppendsPrefix, SourceTold, SinkTold}
 use Rattle.ports.specs.Files.{Content, FilesTold, Keeps}
 use Rattle.ports.proofs.Appending.{rose_later}
 use Rattle.ports.proofs.Writing.{appends_then, prefix_then}
 use Rattle.decl.specs.Declaration.{Declaration}
-use Rattle.line_reader.specs.Lines.{whole_lines, lines_of}
+use Rattle.line_reader.specs.Lines.{whole_lines, lines_of, most_taken}
 use Rattle.session.specs.Sessions.{Session, start}
 use Rattle.script.specs.declared.ended.Ended.{Ended}
 use Rattle.script.specs.declared.ended.Ended.TheVariants as ended
@@ -34,8 +34,8 @@ module _ (d : Declaration) (files begun after : FilesTold) (input input' : Sourc
   }
 
   done_on : IsDone d (devices begun input out) (devices after input' mid) First → IsDone d (devices files input out) (devices after input' new) Whole
-  done_on is = of_script input.left (λ script. (length script ≤ 2 ^ 30) × (input'.left ≡ Some []) × Replied d (devices begun input out) (devices after input' mid) (lines_of script) First)
-      (λ script. (length script ≤ 2 ^ 30) × (input'.left ≡ Some []) × Replied d (devices files input out) (devices after input' new) (lines_of script) Whole)
+  done_on is = of_script input.left (λ script. (length script ≤ most_taken) × (input'.left ≡ Some []) × Replied d (devices begun input out) (devices after input' mid) (lines_of script) First)
+      (λ script. (length script ≤ most_taken) × (input'.left ≡ Some []) × Replied d (devices files input out) (devices after input' new) (lines_of script) Whole)
       (λ script r. (r.0, r.1, replied_on (lines_of script) r.2)) is
 
   taken_on : (script : List ℕ) → IsTaken d (devices begun input out) (devices after input' mid) First script → IsTaken d (devices files input out) (devices after input' new) Whole script
@@ -45,9 +45,9 @@ module _ (d : Declaration) (files begun after : FilesTold) (input input' : Sourc
   fault_on is = (is.0, of_script input.left (IsTaken d (devices begun input out) (devices after input' mid) First) (IsTaken d (devices files input out) (devices after input' new) Whole) taken_on is.1)
 
   limit_on : IsTooLong d (devices begun input out) (devices after input' mid) First → IsTooLong d (devices files input out) (devices after input' new) Whole
-  limit_on is = of_script input.left (λ script. (2 ^ 30 < length script) × Replied d (devices begun input out) (devices after input' mid) (whole_lines (take (2 ^ 30) script)) First)
-      (λ script. (2 ^ 30 < length script) × Replied d (devices files input out) (devices after input' new) (whole_lines (take (2 ^ 30) script)) Whole)
-      (λ script r. (r.0, replied_on (whole_lines (take (2 ^ 30) script)) r.1)) is
+  limit_on is = of_script input.left (λ script. (most_taken < length script) × Replied d (devices begun input out) (devices after input' mid) (whole_lines (take most_taken script)) First)
+      (λ script. (most_taken < length script) × Replied d (devices files input out) (devices after input' new) (whole_lines (take most_taken script)) Whole)
+      (λ script r. (r.0, replied_on (whole_lines (take most_taken script)) r.1)) is
 
   begun_on : OfScript input.left (IsBegun d (devices begun input out) (devices after input' mid) First) → OfScript input.left (IsBegun d (devices files input out) (devices after input' new) Whole)
   begun_on is = of_script input.left (IsBegun d (devices begun input out) (devices after input' mid) First) (IsBegun d (devices files input out) (devices after input' new) Whole)

@@ -3,4 +3,3 @@ pub mod Going
 pub mod Instances
 pub mod LinesOf
 pub mod Pieces
-pub mod Told

@@ -1,6 +1,7 @@
 -- What the answers of a reader say of the lines of a script.
-use Rattle.std.proofs.Common.{◌≡◌, ◌≢◌, ℕ, ◌<◌, List, [], ◌∷◌, ◌++◌, length, Bool, true, false, Option, cond, nat_eq, refl, sym, ◌∙◌, ap, arith, append-nil, append_assoc}
+use Rattle.std.proofs.Common.{◌≡◌, ◌≢◌, ℕ, ◌<◌, List, [], ◌∷◌, ◌++◌, length, Bool, true, false, cond, nat_eq, refl, sym, ◌∙◌, ap, arith, append-nil, append_assoc}
 use Rattle.std.specs.List.{onto_first}
+use Rattle.ports.specs.Content.{SourceTold}
 use Rattle.line_reader.specs.Lines.{NoFeed, parts, before_last, with_last, last_line, whole_lines, lines_of}
 use Rattle.line_reader.specs.Reader.{Reader, IsFirst, Gives, BreaksOff}
 
@@ -81,20 +82,20 @@ first_more all line rest more true first none =
 
 -- a line that is given is the first of the bytes held, those that came and any more, of which there are none behind a
 -- line with no line feed
-pub gives_first : (old new : Reader) (left after : Option (List ℕ)) (came line more : List ℕ) → Gives old new left after came line → (new.ended ≡ true → more ≡ []) →
+pub gives_first : (old new : Reader) (before after : SourceTold) (came line more : List ℕ) → Gives old new before after came line → (new.ended ≡ true → more ≡ []) →
     IsFirst (old.held ++ came ++ more) line (new.held ++ more) new.ended
-gives_first old new left after came line more gives none = first_more (old.held ++ came) line new.held more new.ended gives.first none
+gives_first old new before after came line more gives none = first_more (old.held ++ came) line new.held more new.ended gives.first none
 
 -- so it is taken off their lines
-pub gives_line : (old new : Reader) (left after : Option (List ℕ)) (came line more : List ℕ) → Gives old new left after came line → (new.ended ≡ true → more ≡ []) →
+pub gives_line : (old new : Reader) (before after : SourceTold) (came line more : List ℕ) → Gives old new before after came line → (new.ended ≡ true → more ≡ []) →
     lines_of (old.held ++ came ++ more) ≡ line ∷ lines_of (new.held ++ more)
-gives_line old new left after came line more gives none = lines_first _ line _ new.ended (gives_first old new left after came line more gives none)
+gives_line old new before after came line more gives none = lines_first _ line _ new.ended (gives_first old new before after came line more gives none)
 
 -- and off their whole lines, where it had a line feed
-pub gives_whole : (old new : Reader) (left after : Option (List ℕ)) (came line more : List ℕ) → Gives old new left after came line → new.ended ≡ false →
+pub gives_whole : (old new : Reader) (before after : SourceTold) (came line more : List ℕ) → Gives old new before after came line → new.ended ≡ false →
     whole_lines (old.held ++ came ++ more) ≡ line ∷ whole_lines (new.held ++ more)
-gives_whole old new left after came line more gives ended =
-    let first = gives_first old new left after came line more gives (λ is. absurd (let e : true ≡ false = sym is ∙ ended in cc)) in
+gives_whole old new before after came line more gives ended =
+    let first = gives_first old new before after came line more gives (λ is. absurd (let e : true ≡ false = sym is ∙ ended in cc)) in
     let whole : IsFirst (old.held ++ came ++ more) line (new.held ++ more) false = rw ended at first in
     whole_lines_first _ line _ whole
 

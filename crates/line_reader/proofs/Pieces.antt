@@ -2,7 +2,8 @@
 use Rattle.std.proofs.Common.{◌≡◌, ℕ, zero, suc, ◌+◌, ◌-◌, ◌<◌, ◌≤◌, List, [], ◌∷◌, ◌++◌, length, take, drop, position, slice_range, ◌==◌, Bool, true, false, Option, Some, None, refl, sym, ◌∙◌, ap, arith, append_assoc}
 use Rattle.std.proofs.lemmas.List.{take-take, drop-drop, length-take-le, length-drop, take_all}
 use Rattle.std.proofs.lemmas.Grind.{common_steps}
-use Rattle.ports.specs.Content.{Takes}
+use Rattle.std.specs.Prelude.{IfSome}
+use Rattle.ports.specs.Content.{SourceTold, Takes}
 use Rattle.line_reader.specs.declared.line.Line.{Line}
 use Rattle.line_reader.specs.Lines.{NoFeed}
 use Rattle.line_reader.specs.Reader.{Came, NoneLeft}
@@ -53,40 +54,80 @@ piece_whole block front line start end k long found le fits is kept told =
 pub no_range : (block : List ℕ) (at : ℕ) → slice_range block at at ≡ []
 no_range block at = let e : at - at ≡ 0 = omega arith in rw e refl
 
--- what came into the front of a block
-pub came_in : (left after : Option (List ℕ)) (block : List ℕ) (n : ℕ) → Takes left after block n → Came left after (take n block)
-came_in None after block n takes = tt
-came_in (Some left) after block n takes = (drop n left, cut, takes.2)
+-- ---- what a source has left, where it tells
+-- bytes that came, and that nothing is left, by what a source has left alone
+abbrev CameOff : Option (List ℕ) → Option (List ℕ) → List ℕ → Type 0
+CameOff left after bytes = IfSome left (λ left. (rest : List ℕ) × (left ≡ bytes ++ rest) × (after ≡ Some rest))
+
+abbrev NoneOff : Option (List ℕ) → Option (List ℕ) → Type 0
+NoneOff left after = IfSome left (λ left. after ≡ Some [])
+
+in_front : (left after : Option (List ℕ)) (block : List ℕ) (n : ℕ) → Takes left after block n → CameOff left after (take n block)
+in_front None after block n takes = tt
+in_front (Some left) after block n takes = (drop n left, cut, takes.2)
   where
     cut : left ≡ take n block ++ drop n left
     cut = rw takes.1 (grind (arith, common_steps))
 
--- no byte is the end
-pub none_in : (left after : Option (List ℕ)) (block : List ℕ) → 0 < length block → Takes left after block 0 → NoneLeft left after
-none_in None after block some takes = tt
-none_in (Some left) after block some takes = let e = takes.3 refl some in takes.2 ∙ ap Some e
+no_front : (left after : Option (List ℕ)) (block : List ℕ) → 0 < length block → Takes left after block 0 → NoneOff left after
+no_front None after block some takes = tt
+no_front (Some left) after block some takes = let e = takes.3 refl some in takes.2 ∙ ap Some e
 
-pub nothing_came : (left : Option (List ℕ)) → Came left left []
-nothing_came None = tt
-nothing_came (Some left) = (left, refl, refl)
+none_off : (left : Option (List ℕ)) → CameOff left left []
+none_off None = tt
+none_off (Some left) = (left, refl, refl)
 
-pub came_same : (left after : Option (List ℕ)) → after ≡ left → Came left after []
-came_same left after same = rw same (nothing_came left)
-
-pub came_more : (left mid after : Option (List ℕ)) (a b : List ℕ) → Came left mid a → Came mid after b → Came left after (a ++ b)
-came_more None mid after a b first next = tt
-came_more (Some left) mid after a b first next =
-    let rest : Came (Some first.0) after b = rw first.2 at next in
+more_off : (left mid after : Option (List ℕ)) (a b : List ℕ) → CameOff left mid a → CameOff mid after b → CameOff left after (a ++ b)
+more_off None mid after a b first next = tt
+more_off (Some left) mid after a b first next =
+    let rest : CameOff (Some first.0) after b = rw first.2 at next in
     (rest.0, first.1 ∙ ap (λ (l : List ℕ). a ++ l) rest.1 ∙ sym (append_assoc a b rest.0), rest.2)
 
-pub none_later : (left mid after : Option (List ℕ)) (a : List ℕ) → Came left mid a → NoneLeft mid after → NoneLeft left after
-none_later None mid after a came none = tt
-none_later (Some left) mid after a came none = rw came.2 at none
+later_off : (left mid after : Option (List ℕ)) (a : List ℕ) → CameOff left mid a → NoneOff mid after → NoneOff left after
+later_off None mid after a came none = tt
+later_off (Some left) mid after a came none = rw came.2 at none
+
+one_off : (left after : Option (List ℕ)) (block : List ℕ) (n : ℕ) → n ≡ 1 → 0 < length block → Takes left after block n → (another : ℕ) × CameOff left after (another ∷ [])
+one_off left after [] n one some takes = absurd (omega (arith, some))
+one_off left after (b ∷ bs) n one some takes = (b, let came : Takes left after (b ∷ bs) 1 = rw one at takes in in_front left after (b ∷ bs) 1 came)
+
+end_off : (left after : Option (List ℕ)) (all : List ℕ) → left ≡ Some all → NoneOff left after → after ≡ Some []
+end_off left after all is none = rw is at none
+
+told_off : (left after : Option (List ℕ)) (all bytes : List ℕ) → left ≡ Some all → CameOff left after bytes → CameOff (Some all) after bytes
+told_off left after all bytes is came = rw is at came
+
+-- what came into the front of a block
+pub came_in : (before after : SourceTold) (block : List ℕ) (n : ℕ) → Takes before.left after.left block n → Came before after (take n block)
+came_in before after = in_front before.left after.left
+
+-- no byte is the end
+pub none_in : (before after : SourceTold) (block : List ℕ) → 0 < length block → Takes before.left after.left block 0 → NoneLeft before after
+none_in before after = no_front before.left after.left
+
+pub nothing_came : (now : SourceTold) → Came now now []
+nothing_came now = none_off now.left
+
+pub came_same : (before after : SourceTold) → after.left ≡ before.left → Came before after []
+came_same before after same = let none : CameOff before.left after.left [] = rw same (none_off before.left) in none
+
+pub came_more : (begun before after : SourceTold) (a b : List ℕ) → Came begun before a → Came before after b → Came begun after (a ++ b)
+came_more begun before after = more_off begun.left before.left after.left
+
+pub none_later : (begun before after : SourceTold) (a : List ℕ) → Came begun before a → NoneLeft before after → NoneLeft begun after
+none_later begun before after = later_off begun.left before.left after.left
 
 -- one byte came
-pub one_came : (left after : Option (List ℕ)) (block : List ℕ) (n : ℕ) → n ≡ 1 → 0 < length block → Takes left after block n → (another : ℕ) × Came left after (another ∷ [])
-one_came left after [] n one some takes = absurd (omega (arith, some))
-one_came left after (b ∷ bs) n one some takes = (b, let came : Takes left after (b ∷ bs) 1 = rw one at takes in came_in left after (b ∷ bs) 1 came)
+pub one_came : (before after : SourceTold) (block : List ℕ) (n : ℕ) → n ≡ 1 → 0 < length block → Takes before.left after.left block n → (another : ℕ) × Came before after (another ∷ [])
+one_came before after = one_off before.left after.left
+
+-- the bytes that came off a source that tells what it has left, and the rest
+pub came_off : (before after : SourceTold) (left bytes : List ℕ) → before.left ≡ Some left → Came before after bytes → (rest : List ℕ) × (left ≡ bytes ++ rest) × (after.left ≡ Some rest)
+came_off before after left bytes is came = told_off before.left after.left left bytes is came
+
+-- such a source has nothing left
+pub nothing_left : (before after : SourceTold) (left : List ℕ) → before.left ≡ Some left → NoneLeft before after → after.left ≡ Some []
+nothing_left before after left is none = end_off before.left after.left left is none
 
 -- a range of a block that has no bytes
 pub empty_range : (block : List ℕ) (start end : ℕ) → start ≡ end → slice_range block start end ≡ []

@@ -1,5 +1,6 @@
 -- The steps of a call: a piece is taken from the bytes held, and others are read.
-use Rattle.std.specs.Prelude.{◌≡◌, ℕ, ◌+◌, ◌<◌, ◌≤◌, List, [], ◌∷◌, ◌++◌, length, Option, Bool, true, false, Result, Ok, Err}
+use Rattle.std.specs.Prelude.{◌≡◌, ℕ, ◌+◌, ◌<◌, ◌≤◌, List, [], ◌∷◌, ◌++◌, length, Bool, true, false, Result, Ok, Err, IsErrOf}
+use Rattle.ports.specs.Content.{SourceTold, Rose}
 use Rattle.line_reader.specs.declared.line.Line.{Line}
 use Rattle.line_reader.specs.declared.line.Line.TheVariants.{Text, TooLong, End}
 use Rattle.line_reader.specs.declared.line.LineFault.{LineFault}
@@ -31,13 +32,19 @@ TakesPiece old new front line (Whole found) = (piece : List ℕ) × NoFeed piece
 TakesPiece old new front line (Part long) = NoFeed old.held × (new.held ≡ []) × IsKept (front ++ old.held) line long
 
 -- bytes are read and held, or there are none, or none may be held
-abbrev pub Refills : Reader → Reader → Option (List ℕ) → Option (List ℕ) → Result Bool LineFault → Type 0
-Refills old new left after (Ok true) = Came left after new.held × (0 < length new.held) × (old.taken + length new.held ≤ most_taken)
+abbrev pub IsRefilled : Reader → Reader → SourceTold → SourceTold → Result Bool LineFault → Type 0
+IsRefilled old new before after (Ok true) = Came before after new.held × (0 < length new.held) × (old.taken + length new.held ≤ most_taken)
     × (new ≡ record old { held = new.held; taken = old.taken + length new.held })
-Refills old new left after (Ok false) = Came left after [] × NoneLeft left after × (new ≡ record old { ended = true })
-Refills old new left after (Err Read) = Came left after [] × (new ≡ record old { over = true })
-Refills old new left after (Err Limit) = (another : ℕ) × Came left after (another ∷ []) × (old.taken ≡ most_taken)
+IsRefilled old new before after (Ok false) = Came before after [] × NoneLeft before after × (new ≡ record old { ended = true })
+IsRefilled old new before after (Err Read) = Came before after [] × (new ≡ record old { over = true })
+IsRefilled old new before after (Err Limit) = (another : ℕ) × Came before after (another ∷ []) × (old.taken ≡ most_taken)
     × (new ≡ record old { taken = old.taken + 1; over = true })
+
+-- so a block is filled again; reading fails only where the source's count of faults rose
+pub record Refills (old new : Reader) (before after : SourceTold) (result : Result Bool LineFault) : Type 0 where
+  pub read : IsRefilled old new before after result
+  pub cause : IsErrOf result Read → Rose before.faults after.faults
+  pub no_fall : before.faults ≤ after.faults
 
 -- what the end of the source answers behind the front of a line
 abbrev pub EndsLine : Reader → Reader → List ℕ → List ℕ → Line → Type 0

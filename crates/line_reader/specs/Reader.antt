@@ -1,5 +1,6 @@
 -- A reader of lines, and what a call of it answers.
-use Rattle.std.specs.Prelude.{◌≡◌, ℕ, ◌+◌, ◌-◌, ◌<◌, ◌≤◌, ◌⊎◌, List, [], ◌∷◌, ◌++◌, length, Option, Some, None, Bool, true, false, Contains, Result, Ok, Err}
+use Rattle.std.specs.Prelude.{◌≡◌, ℕ, ◌+◌, ◌-◌, ◌<◌, ◌≤◌, ◌⊎◌, List, [], ◌∷◌, ◌++◌, length, Some, Bool, true, false, Contains, Result, Ok, Err, IfSome, IsErrOf}
+use Rattle.ports.specs.Content.{SourceTold, Rose}
 use Rattle.line_reader.specs.declared.line.Line.{Line}
 use Rattle.line_reader.specs.declared.line.Line.TheVariants.{Text, TooLong, End}
 use Rattle.line_reader.specs.declared.line.LineFault.{LineFault}
@@ -19,14 +20,12 @@ abbrev pub fresh : Reader
 fresh = record { held = []; taken = 0; ended = false; over = false }
 
 -- bytes came off the front of what a source has left, where it tells
-abbrev pub Came : Option (List ℕ) → Option (List ℕ) → List ℕ → Type 0
-Came None after bytes = Unit {0}
-Came (Some left) after bytes = (left' : List ℕ) × (left ≡ bytes ++ left') × (after ≡ Some left')
+abbrev pub Came : SourceTold → SourceTold → List ℕ → Type 0
+Came before after bytes = IfSome before.left (λ left. (rest : List ℕ) × (left ≡ bytes ++ rest) × (after.left ≡ Some rest))
 
 -- nothing is left of what a source had, where it tells
-abbrev pub NoneLeft : Option (List ℕ) → Option (List ℕ) → Type 0
-NoneLeft None after = Unit {0}
-NoneLeft (Some left) after = after ≡ Some []
+abbrev pub NoneLeft : SourceTold → SourceTold → Type 0
+NoneLeft before after = IfSome before.left (λ left. after.left ≡ Some [])
 
 -- the first line of some bytes and what follows it; whether it is a last line, with bytes and no line feed
 abbrev pub IsFirst : List ℕ → List ℕ → List ℕ → Bool → Type 0
@@ -34,16 +33,16 @@ IsFirst all line rest false = NoFeed line × (all ≡ line ++ 10 ∷ rest)
 IsFirst all line rest true = NoFeed line × (0 < length line) × (all ≡ line) × (rest ≡ [])
 
 -- the first line of the bytes held and those that came is given; where it has no line feed, nothing is left
-pub record Gives (old new : Reader) (left after : Option (List ℕ)) (came line : List ℕ) : Type 0 where
+pub record Gives (old new : Reader) (before after : SourceTold) (came line : List ℕ) : Type 0 where
   pub going : old.ended ≡ false
   pub first : IsFirst (old.held ++ came) line new.held new.ended
-  pub last : new.ended ≡ true → NoneLeft left after
+  pub last : new.ended ≡ true → NoneLeft before after
 
 -- no byte was held and none came; none is left, or the end was found before
-pub record Ends (old : Reader) (left after : Option (List ℕ)) (came : List ℕ) : Type 0 where
+pub record Ends (old : Reader) (before after : SourceTold) (came : List ℕ) : Type 0 where
   pub held : old.held ≡ []
   pub none : came ≡ []
-  pub last : old.ended ≡ false → NoneLeft left after
+  pub last : old.ended ≡ false → NoneLeft before after
 
 -- a line was broken off: the bytes held and those that came have no line feed, nor have those held then
 pub record BreaksOff (old new : Reader) (came : List ℕ) : Type 0 where
@@ -60,19 +59,21 @@ pub record GoesPast (old new : Reader) (came : List ℕ) : Type 0 where
   pub broken : BreaksOff old new front
 
 -- what a call answers by the bytes that came in it from a source
-abbrev pub IsNext : Reader → Reader → Option (List ℕ) → Option (List ℕ) → List ℕ → List ℕ → Result Line LineFault → Type 0
-IsNext old new left after came line (Ok Text) = (length line ≤ most_line) × Gives old new left after came line
-IsNext old new left after came line (Ok TooLong) = (long : List ℕ) × (most_line < length long) × Gives old new left after came long
-IsNext old new left after came line (Ok End) = Ends old left after came
-IsNext old new left after came line (Err Read) = BreaksOff old new came
-IsNext old new left after came line (Err Limit) = GoesPast old new came
+abbrev pub IsNext : Reader → Reader → SourceTold → SourceTold → List ℕ → List ℕ → Result Line LineFault → Type 0
+IsNext old new before after came line (Ok Text) = (length line ≤ most_line) × Gives old new before after came line
+IsNext old new before after came line (Ok TooLong) = (long : List ℕ) × (most_line < length long) × Gives old new before after came long
+IsNext old new before after came line (Ok End) = Ends old before after came
+IsNext old new before after came line (Err Read) = BreaksOff old new came
+IsNext old new before after came line (Err Limit) = GoesPast old new came
 
--- a call answers so by the bytes that came in it, and counts them
-pub record Answers (old new : Reader) (left after : Option (List ℕ)) (line : List ℕ) (result : Result Line LineFault) : Type 0 where
+-- a call answers so by the bytes that came in it, and counts them; it finds a fault only where the source's count of them rose
+pub record Answers (old new : Reader) (before after : SourceTold) (line : List ℕ) (result : Result Line LineFault) : Type 0 where
   pub bytes : List ℕ
-  pub came : Came left after bytes
+  pub came : Came before after bytes
   pub counted : new.taken ≡ old.taken + length bytes
-  pub next : IsNext old new left after bytes line result
+  pub next : IsNext old new before after bytes line result
+  pub cause : IsErrOf result Read → Rose before.faults after.faults
+  pub no_fall : before.faults ≤ after.faults
 
 -- a line feed is held, or the end was found
 abbrev pub NeedsNoRead : Reader → Type 0

@@ -1,6 +1,6 @@
 // Blocks of bytes: where a line feed is, what is kept of a line, and a read from a source.
-ghost use Rattle.std.specs.Prelude.{◌≡◌, ◌≤◌, ◌<◌, ◌++◌, ◌==◌, ℕ, List, length, position, IfOk, OnErr};
-ghost use Rattle.ports.specs.Content.{Rose, Takes};
+ghost use Rattle.std.specs.Prelude.{◌≡◌, ◌≤◌, ◌<◌, ◌++◌, ◌==◌, ℕ, List, length, position, take};
+ghost use Rattle.ports.specs.Content.{TakesSome};
 ghost use Rattle.line_reader.specs.Block.{IsKept};
 
 use crate::LineText;
@@ -24,11 +24,7 @@ pub fn keep(line: &mut LineText, long: bool, piece: &[u8]) -> bool
 pub fn read_block<S: Source>(source: &mut S, block: &mut [u8], want: usize) -> Result<usize, Failed>
     requires some { 0 < want }
     requires fits { want ≤ length block.old }
-    ensures count { IfOk result (λ n. n ≤ want) }
-    ensures taken { IfOk result (λ n. Takes (S.told source.old).left (S.told source.new).left block.new n) }
-    ensures same { OnErr result ((S.told source.new).left ≡ (S.told source.old).left) }
-    ensures cause { OnErr result (Rose (S.told source.old).faults (S.told source.new).faults) }
-    ensures no_fall { (S.told source.old).faults ≤ (S.told source.new).faults }
+    ensures { TakesSome (S.told source.old) (S.told source.new) (take want block.old) block.new result }
 {
     source.read(&mut block[..want])
 }

@@ -1,6 +1,5 @@
 // A reader of lines.
 ghost use Rattle.std.specs.Prelude.{◌≡◌, ◌<◌, ◌≤◌, ◌^◌, ◌⊎◌, ◌↔◌, ℕ, List, [], true, false, IfOk, IsErrOf};
-ghost use Rattle.ports.specs.Content.{Rose};
 ghost use Rattle.line_reader.specs.Reader.{Answers, NeedsNoRead, fresh, is_final, room};
 ghost use Rattle.line_reader.specs.Block.{EndsLine, IsKept, Refills, TakesPiece, found_as};
 ghost use Rattle.line_reader.specs.Lines.{most_taken};
@@ -80,13 +79,11 @@ impl LineReader {
         line: &mut LineText,
     ) -> Result<Line, LineFault>
         requires { self.old.over ≡ false }
-        ensures next { Answers self.old self.new (S.told source.old).left (S.told source.new).left line.new.items result }
+        ensures next { Answers self.old self.new (S.told source.old) (S.told source.new) line.new.items result }
         ensures unread { NeedsNoRead self.old → (source.new ≡ source.old) × (self.new.taken ≡ self.old.taken) }
         ensures limit { IsErrOf result LineFault.Limit ↔ (most_taken < self.new.taken) }
         ensures over { self.new.over ≡ is_final result }
         ensures progress { IfOk result (λ found. (found ≡ Line.End) ⊎ (room self.new < room self.old)) }
-        ensures cause { IsErrOf result LineFault.Read → Rose (S.told source.old).faults (S.told source.new).faults }
-        ensures no_fall { (S.told source.old).faults ≤ (S.told source.new).faults }
     {
         if self.is_ended() {
             self.close();
@@ -148,9 +145,7 @@ impl LineReader {
         requires none { self.old.held ≡ [] }
         requires going { self.old.ended ≡ false }
         requires more { self.old.over ≡ false }
-        ensures read { Refills self.old self.new (S.told source.old).left (S.told source.new).left result }
-        ensures cause { IsErrOf result LineFault.Read → Rose (S.told source.old).faults (S.told source.new).faults }
-        ensures no_fall { (S.told source.old).faults ≤ (S.told source.new).faults }
+        ensures { Refills self.old self.new (S.told source.old) (S.told source.new) result }
     {
         self.start = 0;
         self.end = 0;

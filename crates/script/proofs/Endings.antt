@@ -1,12 +1,13 @@
 -- How a session over a script ends.
-use Rattle.std.proofs.Common.{◌≡◌, ℕ, ◌+◌, ◌^◌, ◌<◌, ◌≤◌, List, [], ◌∷◌, ◌++◌, length, take, Option, Some, Bool, true, false, refl, sym, ◌∙◌, ap, subst, Result, Ok, Err, arith, append_assoc, length-append}
+use Rattle.std.proofs.Common.{◌≡◌, ℕ, ◌+◌, ◌<◌, ◌≤◌, List, [], ◌∷◌, ◌++◌, length, take, Some, Bool, true, false, refl, sym, ◌∙◌, ap, subst, Result, Ok, Err, arith, append_assoc, length-append}
 use Rattle.std.specs.Prelude.{IfErr}
-use Rattle.ports.specs.Content.{Rose, Appends, AppendsPrefix}
+use Rattle.ports.specs.Content.{SourceTold, Rose, Appends, AppendsPrefix}
 use Rattle.ports.specs.Files.{Keeps}
 use Rattle.ports.proofs.Appending.{rose_later}
 use Rattle.decl.specs.Declaration.{Declaration}
-use Rattle.line_reader.specs.Lines.{whole_lines, lines_of}
-use Rattle.line_reader.specs.Reader.{Reader, Came, Ends, NoneLeft}
+use Rattle.line_reader.specs.Lines.{whole_lines, lines_of, most_taken}
+use Rattle.line_reader.specs.Reader.{Reader, Ends}
+use Rattle.line_reader.proofs.Pieces.{came_off, nothing_left}
 use Rattle.session.specs.Stands.{Held}
 use Rattle.queries.specs.declared.stop.Stop.{Stop}
 use Rattle.queries.specs.declared.stop.Stop.TheVariants as stops
@@ -15,7 +16,7 @@ use Rattle.script.specs.declared.ended.Ended.TheVariants.{Done, ReadFault, Limit
 use Rattle.script.specs.Script.{Devices, OfScript, Replied, IsTaken, ScriptAnswered}
 use Rattle.script.specs.Stopping.{ended_of}
 use Rattle.script.specs.Turns.{AnswersLine, HasNoLine, FailsInLine, IsPastMost, HasNoReply}
-use Rattle.script.proofs.Scripts.{feeds, NoFeeds, whole_broken, lines_end, feeds_cut, take_front}
+use Rattle.script.proofs.Scripts.{feeds, NoFeeds, whole_broken, lines_end, feeds_cut, tail_none, take_front}
 use Rattle.script.proofs.Replies.{counted_later}
 use Rattle.script.proofs.Places.{IsPlace, IsAt, of_script, cut_at_line}
 
@@ -34,18 +35,13 @@ replied d old now now' held r script lines here is silent keeps = record {
 same_some : (x y : List ℕ) → Some x ≡ Some y → x ≡ y
 same_some x y e = cc
 
-tail_none : (held left : List ℕ) → held ++ left ≡ [] → left ≡ []
-tail_none [] left none = none
-tail_none (b ∷ bs) left none = absurd cc
-
 -- where no line is left, no byte is left
-none_left : (r : Reader) (script left : List ℕ) (after : Option (List ℕ)) (bytes : List ℕ) (done : List (List ℕ)) (ended : Bool) → r.ended ≡ ended →
-    IsPlace script done (r.held ++ left) ended → Came (Some left) after bytes → Ends r (Some left) after bytes → (r.held ++ left ≡ []) × (left ≡ [])
-none_left r script left after bytes done true is place came ends = (place.1, tail_none r.held left place.1)
-none_left r script left after bytes done false is place came ends =
-    let none : NoneLeft (Some left) after = ends.last is in
-    let rest : came.0 ≡ [] = same_some _ _ (sym came.2 ∙ none) in
-    let all : left ≡ [] = came.1 ∙ rw (ends.none, rest) refl in
+none_left : (r : Reader) (script left rest bytes : List ℕ) (before after : SourceTold) (done : List (List ℕ)) (ended : Bool) → r.ended ≡ ended →
+    IsPlace script done (r.held ++ left) ended → before.left ≡ Some left → left ≡ bytes ++ rest → after.left ≡ Some rest → Ends r before after bytes → (r.held ++ left ≡ []) × (left ≡ [])
+none_left r script left rest bytes before after done true is place told cut behind ends = (place.1, tail_none r.held left place.1)
+none_left r script left rest bytes before after done false is place told cut behind ends =
+    let none : rest ≡ [] = same_some rest [] (sym behind ∙ nothing_left before after left told (ends.last is)) in
+    let all : left ≡ [] = cut ∙ rw (ends.none, none) refl in
     (rw (ends.held, all) refl, all)
 
 lines_done : (script : List ℕ) (done : List (List ℕ)) (rest : List ℕ) (ended : Bool) → rest ≡ [] → IsPlace script done rest ended → lines_of script ≡ done
@@ -56,13 +52,12 @@ few : (most taken : ℕ) (left script : List ℕ) → taken + length left ≡ le
 few most taken left script count none within = omega (arith, count, ap length none, within)
 
 done_at : (d : Declaration) (old now now' : Devices) (held : Held) (r r' : Reader) (script : List ℕ) → IsAt d old now held r script → HasNoLine r r' now now' →
-    Keeps now.files now'.files → (length script ≤ 2 ^ 30) × (now'.input.left ≡ Some []) × Replied d old now' (lines_of script) (Appends old.out.written now'.out.written)
+    Keeps now.files now'.files → (length script ≤ most_taken) × (now'.input.left ≡ Some []) × Replied d old now' (lines_of script) (Appends old.out.written now'.out.written)
 done_at d old now now' held r r' script here turn keeps =
-    let came : Came (Some here.left) now'.input.left turn.bytes = rw here.left_is at turn.counts.came in
-    let ends : Ends r (Some here.left) now'.input.left turn.bytes = rw here.left_is at turn.ends in
-    let none = none_left r script here.left now'.input.left turn.bytes here.done r.ended refl here.place came ends in
+    let came = came_off now.input now'.input here.left turn.bytes here.left_is turn.counts.came in
+    let none = none_left r script here.left came.0 turn.bytes now.input now'.input here.done r.ended refl here.place here.left_is came.1 came.2 turn.ends in
     let after : came.0 ≡ [] = tail_none turn.bytes came.0 (sym came.1 ∙ none.1) in (
-      few (2 ^ 30) r.taken here.left script here.count none.1 here.within,
+      few most_taken r.taken here.left script here.count none.1 here.within,
       came.2 ∙ ap Some after,
       replied d old now now' held r script (lines_of script) here (lines_done script here.done (r.held ++ here.left) r.ended none.0 here.place) turn.silent keeps,
     )
@@ -84,7 +79,7 @@ length_taken front left more left' script taken count cut is =
 fault_at : (d : Declaration) (old now now' : Devices) (held : Held) (r r' : Reader) (script : List ℕ) → IsAt d old now held r script → FailsInLine r r' now now' →
     Keeps now.files now'.files → IsTaken d old now' (Appends old.out.written now'.out.written) script
 fault_at d old now now' held r r' script here turn keeps =
-    let came : Came (Some here.left) now'.input.left turn.bytes = rw here.left_is at turn.counts.came in
+    let came = came_off now.input now'.input here.left turn.bytes here.left_is turn.counts.came in
     let place = open_place script here.done (r.held ++ here.left) r.ended turn.breaks.going here.place in
     let front = feeds here.done (r.held ++ turn.bytes) in
     let cut : script ≡ front ++ came.0 = cut_at script r.held here.left turn.bytes came.0 here.done place.0 came.1 in
@@ -106,18 +101,18 @@ past most script front back another is long =
     (omega (arith, ap length is, length-append front (another ∷ back), long), rw is (take_front front (another ∷ back) most long))
 
 limit_at : (d : Declaration) (old now now' : Devices) (held : Held) (r r' : Reader) (script : List ℕ) → IsAt d old now held r script → IsPastMost r r' now now' →
-    Keeps now.files now'.files → (2 ^ 30 < length script) × Replied d old now' (whole_lines (take (2 ^ 30) script)) (Appends old.out.written now'.out.written)
+    Keeps now.files now'.files → (most_taken < length script) × Replied d old now' (whole_lines (take most_taken script)) (Appends old.out.written now'.out.written)
 limit_at d old now now' held r r' script here turn keeps =
-    let came : Came (Some here.left) now'.input.left turn.bytes = rw here.left_is at turn.came in
+    let came = came_off now.input now'.input here.left turn.bytes here.left_is turn.came in
     let goes = turn.goes in
     let place = open_place script here.done (r.held ++ here.left) r.ended goes.broken.going here.place in
     let left_is : here.left ≡ goes.front ++ goes.another ∷ came.0 = one_more turn.bytes goes.front here.left came.0 goes.another came.1 goes.came_is in
     let front = feeds here.done (r.held ++ goes.front) in
     let cut : script ≡ front ++ goes.another ∷ came.0 = cut_at script r.held here.left goes.front (goes.another ∷ came.0) here.done place.0 left_is in
     let long = length_taken front here.left goes.front (goes.another ∷ came.0) script r.taken here.count left_is cut in
-    let over = past (2 ^ 30) script front came.0 goes.another cut (long ∙ goes.most) in (
+    let over = past most_taken script front came.0 goes.another cut (long ∙ goes.most) in (
       over.0,
-      replied d old now now' held r script (whole_lines (take (2 ^ 30) script)) here
+      replied d old now now' held r script (whole_lines (take most_taken script)) here
           (ap whole_lines over.1 ∙ whole_broken here.done (r.held ++ goes.front) place.1 goes.broken.part) turn.silent keeps,
     )
 

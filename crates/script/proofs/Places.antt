@@ -1,20 +1,21 @@
 -- How far a session over a script is.
-use Rattle.std.proofs.Common.{◌≡◌, ◌↔◌, inl, inr, ℕ, ◌+◌, ◌^◌, ◌<◌, ◌≤◌, List, [], ◌∷◌, ◌++◌, length, Option, Some, None, Bool, true, false, refl, sym, ◌∙◌, ap, subst, arith, length-append, append_assoc, append-nil}
+use Rattle.std.proofs.Common.{◌≡◌, ◌↔◌, inl, inr, ℕ, ◌+◌, ◌-◌, ◌<◌, ◌≤◌, nat_le, if◌then◌else◌, List, [], ◌∷◌, ◌++◌, length, take, Option, Some, None, Bool, true, false, refl, sym, ◌∙◌, ap, subst, arith, length-append, append_assoc, append-nil}
 use Rattle.std.proofs.lemmas.Bool.{cases_lt}
 use Rattle.std.specs.List.{concat}
-use Rattle.ports.specs.Content.{Appends, AppendsPrefix}
+use Rattle.ports.specs.Content.{SourceTold, Appends, AppendsPrefix}
 use Rattle.ports.specs.Files.{Content, Keeps}
 use Rattle.ports.proofs.Writing.{appends_then, appends_none, prefix_then}
 use Rattle.decl.specs.Declaration.{Declaration}
-use Rattle.line_reader.specs.Lines.{lines_of}
-use Rattle.line_reader.specs.Reader.{Reader, Came, IsFirst, Gives, fresh}
+use Rattle.line_reader.specs.Lines.{lines_of, whole_lines, most_taken}
+use Rattle.line_reader.specs.Reader.{Reader, IsFirst, Gives, fresh}
+use Rattle.line_reader.proofs.Pieces.{came_off, nothing_left}
 use Rattle.line_reader.proofs.LinesOf.{gives_first}
 use Rattle.session.specs.Reply.{State, Found}
 use Rattle.session.specs.Sessions.{Session, LineReply, AreCounted, start}
 use Rattle.session.specs.Stands.{Held, StandsFor}
-use Rattle.script.specs.Script.{Devices, OfScript, IsBegun}
+use Rattle.script.specs.Script.{Devices, OfScript, IsBegun, lines_within}
 use Rattle.script.specs.Turns.{AnswersLine}
-use Rattle.script.proofs.Scripts.{feeds, NoFeeds, lines_feeds, lines_last, feeds_more, none_more}
+use Rattle.script.proofs.Scripts.{feeds, NoFeeds, whole_feeds, lines_feeds, lines_last, feeds_more, feeds_cut, none_more, tail_none, take_feeds}
 use Rattle.script.proofs.Replies.{session_more, counted_more, counted_none, concat_more}
 
 -- the lines that are done, and the rest of the script; or all lines are done
@@ -36,7 +37,7 @@ pub record IsAt (d : Declaration) (old now : Devices) (held : Held) (r : Reader)
   pub left_is : now.input.left ≡ Some left
   pub place : IsPlace script done (r.held ++ left) r.ended
   pub count : r.taken + length left ≡ length script
-  pub within : r.taken ≤ 2 ^ 30
+  pub within : r.taken ≤ most_taken
 
 at_fresh : (d : Declaration) (t : Devices) (held : Held) (script : List ℕ) → StandsFor held d (start d) → t.input.left ≡ Some script → IsAt d t t held fresh script
 at_fresh d t held script stands told = record {
@@ -71,15 +72,34 @@ lines_behind : (script : List ℕ) (done : List (List ℕ)) (rest : List ℕ) (e
 lines_behind script done rest false place = (lines_of rest, ap lines_of place.0 ∙ lines_feeds done rest place.1)
 lines_behind script done rest true place = ([], place.0 ∙ sym (append-nil done))
 
+-- where the script is longer than what may be taken, and no last line was given, so are its first bytes
+lines_cut : (script : List ℕ) (done : List (List ℕ)) (held rest : List ℕ) (ended : Bool) (taken most : ℕ) → IsPlace script done (held ++ rest) ended → taken + length rest ≡ length script → taken ≤ most →
+    most < length script → (more : List (List ℕ)) × (whole_lines (take most script) ≡ done ++ more)
+lines_cut script done held rest true taken most place count few long = absurd (omega (arith, ap length (tail_none held rest place.1), count, few, long))
+lines_cut script done held rest false taken most place count few long =
+    let sizes : length (feeds done held) + length rest ≡ length script = sym (length-append (feeds done held) rest) ∙ ap length (sym (feeds_cut done held rest)) ∙ ap length (sym place.0) in
+    let cut = ap (take most) place.0 ∙ take_feeds done held rest most (omega (arith, sizes, count, few)) in
+    let more = held ++ take (most - length (feeds done held)) rest in
+    (whole_lines more, ap whole_lines cut ∙ whole_feeds done more place.1)
+
+-- the lines that have replies where nothing fails are those that are done and others
+within_behind : (script : List ℕ) (done : List (List ℕ)) (held rest : List ℕ) (ended : Bool) (taken : ℕ) → IsPlace script done (held ++ rest) ended → taken + length rest ≡ length script → taken ≤ most_taken →
+    (more : List (List ℕ)) × (lines_within script ≡ done ++ more)
+within_behind script done held rest ended taken place count few = go (nat_le (length script) most_taken) refl
+  where
+    go : (short : Bool) → nat_le (length script) most_taken ≡ short → (more : List (List ℕ)) × ((if short then lines_of script else whole_lines (take most_taken script)) ≡ done ++ more)
+    go true is = lines_behind script done (held ++ rest) ended place
+    go false is = lines_cut script done held rest ended taken most_taken place count few (grind (arith, is))
+
 same_some : (x y : List ℕ) → Some x ≡ Some y → x ≡ y
 same_some x y e = cc
 
 -- a line that is given is the first of the bytes held and left
-given_first : (r r' : Reader) (left : List ℕ) (after : Option (List ℕ)) (bytes line : List ℕ) (came : Came (Some left) after bytes) → Gives r r' (Some left) after bytes line →
-    IsFirst (r.held ++ left) line (r'.held ++ came.0) r'.ended
-given_first r r' left after bytes line came gives =
-    let first = gives_first r r' (Some left) after bytes line came.0 gives (λ ended. same_some came.0 [] (sym came.2 ∙ gives.last ended)) in
-    let all : r.held ++ left ≡ (r.held ++ bytes) ++ came.0 = ap (λ (l : List ℕ). r.held ++ l) came.1 ∙ sym (append_assoc r.held bytes came.0) in
+given_first : (r r' : Reader) (before after : SourceTold) (left rest bytes line : List ℕ) → before.left ≡ Some left → left ≡ bytes ++ rest → after.left ≡ Some rest → Gives r r' before after bytes line →
+    IsFirst (r.held ++ left) line (r'.held ++ rest) r'.ended
+given_first r r' before after left rest bytes line told cut behind gives =
+    let first = gives_first r r' before after bytes line rest gives (λ ended. same_some rest [] (sym behind ∙ nothing_left before after left told (gives.last ended))) in
+    let all : r.held ++ left ≡ (r.held ++ bytes) ++ rest = ap (λ (l : List ℕ). r.held ++ l) cut ∙ sym (append_assoc r.held bytes rest) in
     rw all first
 
 count_on : (bytes left left' script : List ℕ) (taken taken' : ℕ) → taken + length left ≡ length script → left ≡ bytes ++ left' → taken' ≡ taken + length bytes →
@@ -89,18 +109,17 @@ count_on bytes left left' script taken taken' count cut counted = omega (arith, 
 -- one more line was taken off, and its reply stands written so
 module _ (d : Declaration) (old now now' : Devices) (held held' : Held) (r r' : Reader) (script : List ℕ) (here : IsAt d old now held r script)
     (same : now.files.content ≡ old.files.content) (keeps : Keeps now.files now'.files) where
-  came_at : (bytes : List ℕ) → Came now.input.left now'.input.left bytes → Came (Some here.left) now'.input.left bytes
-  came_at bytes came = rw here.left_is at came
-
   module _ (IsWritten : List ℕ → Type 0) (turn : AnswersLine held held' r r' now now' IsWritten) where
-    came_of : Came (Some here.left) now'.input.left turn.bytes
-    came_of = came_at turn.bytes turn.counts.came
+    came_of : (rest : List ℕ) × (here.left ≡ turn.bytes ++ rest) × (now'.input.left ≡ Some rest)
+    came_of = came_off now.input now'.input here.left turn.bytes here.left_is turn.counts.came
 
     place_of : IsPlace script (here.done ++ turn.line ∷ []) (r'.held ++ came_of.0) r'.ended
     place_of =
-        let gives : Gives r r' (Some here.left) now'.input.left turn.bytes turn.line = rw here.left_is at turn.gives in
-        place_more script here.done (r.held ++ here.left) (r'.held ++ came_of.0) turn.line r.ended r'.ended gives.going here.place
-        (given_first r r' here.left now'.input.left turn.bytes turn.line came_of gives)
+        place_more script here.done (r.held ++ here.left) (r'.held ++ came_of.0) turn.line r.ended r'.ended turn.gives.going here.place
+        (given_first r r' now.input now'.input here.left came_of.0 turn.bytes turn.line here.left_is came_of.1 came_of.2 turn.gives)
+
+    count_of : r'.taken + length came_of.0 ≡ length script
+    count_of = count_on turn.bytes here.left came_of.0 script r.taken r'.taken here.count came_of.1 turn.counts.counted
 
     -- what is found at its path, its reply, and what the session then has
     replied_of : (found : Found) × (text : List ℕ) × (s' : State) × LineReply d old.files.content here.state turn.line found text s'
@@ -133,7 +152,7 @@ module _ (d : Declaration) (old now now' : Devices) (held held' : Held) (r r' : 
         left = came.0;
         left_is = came.2;
         place = place_of Whole turn;
-        count = count_on turn.bytes here.left came.0 script r.taken r'.taken here.count came.1 turn.counts.counted;
+        count = count_of Whole turn;
         within = turn.counts.within;
       }
 
@@ -143,7 +162,7 @@ module _ (d : Declaration) (old now now' : Devices) (held held' : Held) (r r' : 
       let Front : List ℕ → Type 0 = AppendsPrefix now.out.written now'.out.written in
       let came = came_of Front turn in
       let replied = replied_of Front turn in
-      let more = lines_behind script (here.done ++ turn.line ∷ []) (r'.held ++ came.0) r'.ended (place_of Front turn) in
+      let more = within_behind script (here.done ++ turn.line ∷ []) r'.held came.0 r'.ended r'.taken (place_of Front turn) (count_of Front turn) turn.counts.within in
       record {
         lines = here.done ++ turn.line ∷ [];
         more = more.0;

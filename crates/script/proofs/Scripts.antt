@@ -1,5 +1,5 @@
 -- Lines that were taken off a script, and the bytes that follow them.
-use Rattle.std.proofs.Common.{◌≡◌, ℕ, ◌<◌, List, [], ◌∷◌, ◌++◌, length, take, refl, sym, ◌∙◌, ap, arith, append_assoc, append-nil}
+use Rattle.std.proofs.Common.{◌≡◌, ℕ, zero, suc, ◌-◌, ◌<◌, ◌≤◌, List, [], ◌∷◌, ◌++◌, length, take, refl, sym, ◌∙◌, ap, arith, append_assoc, append-nil}
 use Rattle.std.proofs.lemmas.Grind.{common_steps}
 use Rattle.line_reader.specs.Lines.{NoFeed, whole_lines, lines_of}
 use Rattle.line_reader.proofs.LinesOf.{whole_line, first_line, no_whole_line, only_line}
@@ -14,7 +14,8 @@ abbrev pub NoFeeds : List (List ℕ) → Type 0
 NoFeeds [] = Unit {0}
 NoFeeds (line ∷ lines) = NoFeed line × NoFeeds lines
 
-whole_feeds : (done : List (List ℕ)) (rest : List ℕ) → NoFeeds done → whole_lines (feeds done rest) ≡ done ++ whole_lines rest
+-- the whole lines of a script whose first lines are taken off
+pub whole_feeds : (done : List (List ℕ)) (rest : List ℕ) → NoFeeds done → whole_lines (feeds done rest) ≡ done ++ whole_lines rest
 whole_feeds [] rest none = refl
 whole_feeds (line ∷ done) rest none = whole_line line (feeds done rest) none.0 ∙ ap (λ ls. line ∷ ls) (whole_feeds done rest none.1)
 
@@ -46,6 +47,22 @@ none_more (first ∷ done) line none no_feed = (none.0, none_more done line none
 pub feeds_cut : (done : List (List ℕ)) (x y : List ℕ) → feeds done (x ++ y) ≡ feeds done x ++ y
 feeds_cut [] x y = refl
 feeds_cut (line ∷ done) x y = rw (feeds_cut done x y) (sym (append_assoc line (10 ∷ feeds done x) y))
+
+-- what is behind no bytes is none
+pub tail_none : (held left : List ℕ) → held ++ left ≡ [] → left ≡ []
+tail_none [] left none = none
+tail_none (b ∷ bs) left none = absurd cc
+
+take_over : (front back : List ℕ) (n : ℕ) → length front ≤ n → take n (front ++ back) ≡ front ++ take (n - length front) back
+take_over [] back n le = let all : n - 0 ≡ n = omega arith in rw all refl
+take_over (b ∷ front) back zero le = absurd (omega (arith, le))
+take_over (b ∷ front) back (suc n) le =
+    let less : suc n - suc (length front) ≡ n - length front = omega arith in
+    rw less (ap (λ (l : List ℕ). b ∷ l) (take_over front back n (omega (arith, le))))
+
+-- the first bytes of a script reach behind lines that are as short as they
+pub take_feeds : (done : List (List ℕ)) (held rest : List ℕ) (n : ℕ) → length (feeds done held) ≤ n → take n (feeds done (held ++ rest)) ≡ feeds done (held ++ take (n - length (feeds done held)) rest)
+take_feeds done held rest n le = ap (take n) (feeds_cut done held rest) ∙ take_over (feeds done held) rest n le ∙ sym (feeds_cut done held (take (n - length (feeds done held)) rest))
 
 pub take_front : (front back : List ℕ) (n : ℕ) → length front ≡ n → take n (front ++ back) ≡ front
 take_front front back n is = grind (arith, common_steps, is)

@@ -1,10 +1,10 @@
 -- A session over the lines of a script, and how it ends.
-use Rattle.std.specs.Prelude.{◌≡◌, ℕ, ◌^◌, ◌<◌, ◌≤◌, List, [], ◌++◌, length, take, Option, Some, None}
+use Rattle.std.specs.Prelude.{◌≡◌, ◌<◌, ◌≤◌, nat_le, if◌then◌else◌, ℕ, List, [], ◌++◌, length, take, Option, Some, None}
 use Rattle.std.specs.List.{concat}
 use Rattle.ports.specs.Content.{Rose, Appends, AppendsPrefix, SourceTold, SinkTold}
 use Rattle.ports.specs.Files.{FilesTold}
 use Rattle.decl.specs.Declaration.{Declaration}
-use Rattle.line_reader.specs.Lines.{whole_lines, lines_of}
+use Rattle.line_reader.specs.Lines.{whole_lines, lines_of, most_taken}
 use Rattle.session.specs.Reply.{State, Found}
 use Rattle.session.specs.Sessions.{Session, AreCounted, start}
 use Rattle.script.specs.declared.ended.Ended.{Ended}
@@ -36,7 +36,7 @@ OfScript (Some script) P = P script
 
 -- the script was read to its end, so that nothing of it is left, and the replies to its lines stand written so
 abbrev pub IsDone : Declaration → Devices → Devices → (List ℕ → Type 0) → Type 0
-IsDone d old new IsWritten = OfScript old.input.left (λ script. (length script ≤ 2 ^ 30) × (new.input.left ≡ Some []) × Replied d old new (lines_of script) IsWritten)
+IsDone d old new IsWritten = OfScript old.input.left (λ script. (length script ≤ most_taken) × (new.input.left ≡ Some []) × Replied d old new (lines_of script) IsWritten)
 
 -- so much of a script was taken, and the replies to its whole lines stand written so
 pub record IsTaken (d : Declaration) (old new : Devices) (IsWritten : List ℕ → Type 0) (script : List ℕ) : Type 0 where
@@ -44,7 +44,7 @@ pub record IsTaken (d : Declaration) (old new : Devices) (IsWritten : List ℕ �
   pub rest : List ℕ
   pub is : script ≡ taken ++ rest
   pub left : new.input.left ≡ Some rest
-  pub short : length taken ≤ 2 ^ 30
+  pub short : length taken ≤ most_taken
   pub replied : Replied d old new (whole_lines taken) IsWritten
 
 -- reading the script failed, and the replies to the whole lines that were taken stand written so
@@ -53,16 +53,20 @@ IsScriptFault d old new IsWritten = Rose old.input.faults new.input.faults × Of
 
 -- the script is too long, and the replies to the whole lines of its first bytes stand written so
 abbrev pub IsTooLong : Declaration → Devices → Devices → (List ℕ → Type 0) → Type 0
-IsTooLong d old new IsWritten = OfScript old.input.left (λ script. (2 ^ 30 < length script) × Replied d old new (whole_lines (take (2 ^ 30) script)) IsWritten)
+IsTooLong d old new IsWritten = OfScript old.input.left (λ script. (most_taken < length script) × Replied d old new (whole_lines (take most_taken script)) IsWritten)
 
--- the replies to the first lines of a script, which are some of its lines, stand written so
+-- the lines that have replies where nothing fails: those of a script, or where it is too long the whole ones of its first bytes
+abbrev pub lines_within : List ℕ → List (List ℕ)
+lines_within script = if nat_le (length script) most_taken then lines_of script else whole_lines (take most_taken script)
+
+-- the replies to the first of these lines stand written so
 pub record IsBegun (d : Declaration) (old new : Devices) (IsWritten : List ℕ → Type 0) (script : List ℕ) : Type 0 where
   pub lines : List (List ℕ)
   pub more : List (List ℕ)
-  pub are : lines_of script ≡ lines ++ more
+  pub are : lines_within script ≡ lines ++ more
   pub replied : Replied d old new lines IsWritten
 
--- a write failed, and a front of the replies to the first lines of the script is written
+-- a write failed, and a front of the replies to the first of these lines is written
 abbrev pub IsCutOff : Declaration → Devices → Devices → Type 0
 IsCutOff d old new = Rose old.out.faults new.out.faults × OfScript old.input.left (IsBegun d old new (AppendsPrefix old.out.written new.out.written))
 

@@ -1,31 +1,32 @@
 -- One turn of a session over a script: a line is taken off and answered, or none is.
-use Rattle.std.specs.Prelude.{◌≡◌, ℕ, ◌+◌, ◌^◌, ◌≤◌, List, length}
+use Rattle.std.specs.Prelude.{◌≡◌, ℕ, ◌+◌, ◌≤◌, List, length}
 use Rattle.ports.specs.Content.{Rose, AppendsPrefix}
+use Rattle.line_reader.specs.Lines.{most_taken}
 use Rattle.line_reader.specs.Reader.{Reader, Came, Gives, Ends, BreaksOff, GoesPast}
 use Rattle.session.specs.Stands.{Held, Stepped}
 use Rattle.script.specs.Script.{Devices}
 use Rattle.script.specs.declared.ended.Ended.{Ended}
 use Rattle.script.specs.declared.ended.Ended.TheVariants.{Done, ReadFault, Limit, WriteFault, Memory}
 
--- these bytes came off the script and were counted, and no more than 2^30 were taken in all
+-- these bytes came off the script and were counted, and no more than the most were taken in all
 pub record Counts (r r' : Reader) (old new : Devices) (bytes : List ℕ) : Type 0 where
-  pub came : Came old.input.left new.input.left bytes
+  pub came : Came old.input new.input bytes
   pub counted : r'.taken ≡ r.taken + length bytes
-  pub within : r'.taken ≤ 2 ^ 30
+  pub within : r'.taken ≤ most_taken
 
 -- the next line of the script was taken off, and its reply stands written so
 pub record AnswersLine (h h' : Held) (r r' : Reader) (old new : Devices) (IsWritten : List ℕ → Type 0) : Type 0 where
   pub bytes : List ℕ
   pub line : List ℕ
   pub counts : Counts r r' old new bytes
-  pub gives : Gives r r' old.input.left new.input.left bytes line
+  pub gives : Gives r r' old.input new.input bytes line
   pub stepped : Stepped line old.files new.files h h' IsWritten
 
 -- no line is left
 pub record HasNoLine (r r' : Reader) (old new : Devices) : Type 0 where
   pub bytes : List ℕ
   pub counts : Counts r r' old new bytes
-  pub ends : Ends r old.input.left new.input.left bytes
+  pub ends : Ends r old.input new.input bytes
   pub silent : new.out.written ≡ old.out.written
 
 -- reading failed in the middle of a line, or before it
@@ -39,7 +40,7 @@ pub record FailsInLine (r r' : Reader) (old new : Devices) : Type 0 where
 -- the most bytes were taken before the line ended, and another came
 pub record IsPastMost (r r' : Reader) (old new : Devices) : Type 0 where
   pub bytes : List ℕ
-  pub came : Came old.input.left new.input.left bytes
+  pub came : Came old.input new.input bytes
   pub goes : GoesPast r r' bytes
   pub silent : new.out.written ≡ old.out.written
 

@@ -1,7 +1,8 @@
-use Rattle.std.proofs.Common.{◌≡◌, ◌^◌, ℕ, List, Err, ap, sym, subst, rules}
+use Rattle.std.proofs.Common.{◌≡◌, ℕ, List, Err, ap, sym, subst, rules}
 use Rattle.std.specs.Prelude.{IfErr}
 use Rattle.ports.specs.Content.{AppendsPrefix}
 use Rattle.ports.specs.Files.{FilesTold}
+use Rattle.line_reader.specs.Lines.{most_taken}
 use Rattle.queries.specs.declared.stop.Stop.{Stop}
 use Rattle.session.specs.Stands.{Held, Stepped}
 use Rattle.script.specs.declared.ended.Ended.{Ended}
@@ -19,7 +20,7 @@ returns-in_ok-step-in-Ok-Text-clause-ok g c =
     record {
       bytes = next.bytes;
       line = c.as_slice.result.now;
-      counts = record { came = next.came; counted = next.counted; within = within_most (2 ^ 30) _ c.in-Ok-Text.ensures.limit (λ over. absurd cc) };
+      counts = record { came = next.came; counted = next.counted; within = within_most most_taken _ c.in-Ok-Text.ensures.limit (λ over. absurd cc) };
       gives = rw c.as_slice.ensures.value next.next.1;
       stepped = c.in_ok-step-in-Ok-Text.ensures.writes.reply;
     }
@@ -38,7 +39,7 @@ returns-in_err-step-in-Ok-Text-clause-err g c =
       record {
         bytes = next.bytes;
         line = c.as_slice.result.now;
-        counts = record { came = next.came; counted = next.counted; within = within_most (2 ^ 30) _ c.in-Ok-Text.ensures.limit (λ over. absurd cc) };
+        counts = record { came = next.came; counted = next.counted; within = within_most most_taken _ c.in-Ok-Text.ensures.limit (λ over. absurd cc) };
         gives = rw c.as_slice.ensures.value next.next.1;
         stepped = writes.front (ap Err is);
       },
@@ -63,7 +64,7 @@ returns-in_err-too_long-in-Ok-TooLong-clause-err g c =
       record {
         bytes = next.bytes;
         line = next.next.0;
-        counts = record { came = next.came; counted = next.counted; within = within_most (2 ^ 30) _ c.in-Ok-TooLong.ensures.limit (λ over. absurd cc) };
+        counts = record { came = next.came; counted = next.counted; within = within_most most_taken _ c.in-Ok-TooLong.ensures.limit (λ over. absurd cc) };
         gives = next.next.2;
         stepped = stepped;
       },

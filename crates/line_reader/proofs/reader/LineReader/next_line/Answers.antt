@@ -1,4 +1,4 @@
-use Rattle.std.proofs.Common.{◌≡◌, ◌∙◌, inl, sym, ap, arith, rules, true, false, Err, List, ℕ, ◌++◌}
+use Rattle.std.proofs.Common.{◌≡◌, ◌∙◌, inl, sym, ap, rules, true, false, Err, List, ℕ, ◌++◌}
 use Rattle.line_reader.specs.Reader.{Reader}
 use Rattle.line_reader.proofs.Going.{ended_answered, whole_answered, going_behind, going_on, none_held, end_answered, fault_answered, untouched, needed}
 use Rattle.line_reader.proofs.reader.LineReader.next_line.Goals as goal
@@ -15,7 +15,7 @@ returns-in-Whole-clause-next g c =
 
 pub returns-in-Whole-clause-unread : goal.returns-in-Whole-clause-unread
 returns-in-Whole-clause-unread g c =
-    untouched c.args.self.now c.pieces.self c.take_piece.new.self _ _ c.pieces.invariant.0.began (ap (λ (r : Reader). r.taken) c.in-Whole.ensures.same) c.pieces.invariant.2
+    untouched c.args.self.now c.pieces.self c.take_piece.new.self _ _ c.pieces.invariant.0.began (ap (λ (r : Reader). r.taken) c.in-Whole.ensures.same) c.pieces.invariant.1
 
 pub returns-in-Whole-clause-over : goal.returns-in-Whole-clause-over
 returns-in-Whole-clause-over g c =
@@ -37,7 +37,7 @@ returns-in_err-refill-clause-next g c =
     let going = c.pieces.invariant.0 in
     let behind = going_behind c.args.self.now c.pieces.self c.take_piece.new.self _ _ _ _ _ _ going (c.in-Part.ensures.piece going.front going.kept) c.in-Part.ensures.same in
     let from : c.from_residual.result ≡ Err c.in_err-refill.field-0.0 = search rules in
-    rw from (fault_answered c.args.self.now c.take_piece.new.self c.refill.new.self _ _ _ _ _ _ _ behind c.in_err-refill.ensures.read).next
+    rw from (fault_answered c.args.self.now c.take_piece.new.self c.refill.new.self _ _ _ _ _ _ _ behind c.in_err-refill.ensures).next
 
 pub returns-in_err-refill-clause-unread : goal.returns-in_err-refill-clause-unread
 returns-in_err-refill-clause-unread g c =
@@ -49,7 +49,7 @@ returns-then-not-branch-clause-next g c =
     let going = c.pieces.invariant.0 in
     let behind = going_behind c.args.self.now c.pieces.self c.take_piece.new.self _ _ _ _ _ _ going (c.in-Part.ensures.piece going.front going.kept) c.in-Part.ensures.same in
     let no : c.in_ok-refill.field-0 ≡ false = search rules in
-    let none = rw no at c.in_ok-refill.ensures.read in
+    let none = rw no at c.in_ok-refill.ensures in
     let front : List ℕ = going.front ++ c.pieces.self.held in
     (end_answered c.args.self.now c.take_piece.new.self c.refill.new.self c.end_line.new.self _ _ _ _ _ _ _ behind none (c.end_line.ensures front behind.kept)).next
 
@@ -63,7 +63,7 @@ returns-then-not-branch-clause-limit g c =
     let going = c.pieces.invariant.0 in
     let behind = going_behind c.args.self.now c.pieces.self c.take_piece.new.self _ _ _ _ _ _ going (c.in-Part.ensures.piece going.front going.kept) c.in-Part.ensures.same in
     let no : c.in_ok-refill.field-0 ≡ false = search rules in
-    let none = rw no at c.in_ok-refill.ensures.read in
+    let none = rw no at c.in_ok-refill.ensures in
     let front : List ℕ = going.front ++ c.pieces.self.held in
     (end_answered c.args.self.now c.take_piece.new.self c.refill.new.self c.end_line.new.self _ _ _ _ _ _ _ behind none (c.end_line.ensures front behind.kept)).limit
 
@@ -72,7 +72,7 @@ returns-then-not-branch-clause-over g c =
     let going = c.pieces.invariant.0 in
     let behind = going_behind c.args.self.now c.pieces.self c.take_piece.new.self _ _ _ _ _ _ going (c.in-Part.ensures.piece going.front going.kept) c.in-Part.ensures.same in
     let no : c.in_ok-refill.field-0 ≡ false = search rules in
-    let none = rw no at c.in_ok-refill.ensures.read in
+    let none = rw no at c.in_ok-refill.ensures in
     let front : List ℕ = going.front ++ c.pieces.self.held in
     (end_answered c.args.self.now c.take_piece.new.self c.refill.new.self c.end_line.new.self _ _ _ _ _ _ _ behind none (c.end_line.ensures front behind.kept)).over
 
@@ -81,7 +81,7 @@ returns-then-not-branch-clause-progress g c =
     let going = c.pieces.invariant.0 in
     let behind = going_behind c.args.self.now c.pieces.self c.take_piece.new.self _ _ _ _ _ _ going (c.in-Part.ensures.piece going.front going.kept) c.in-Part.ensures.same in
     let no : c.in_ok-refill.field-0 ≡ false = search rules in
-    let none = rw no at c.in_ok-refill.ensures.read in
+    let none = rw no at c.in_ok-refill.ensures in
     let front : List ℕ = going.front ++ c.pieces.self.held in
     (end_answered c.args.self.now c.take_piece.new.self c.refill.new.self c.end_line.new.self _ _ _ _ _ _ _ behind none (c.end_line.ensures front behind.kept)).progress
 
@@ -90,8 +90,7 @@ pieces-preserved g c =
     let going = c.pieces.invariant.0 in
     let part = c.in-Part.ensures.piece going.front going.kept in
     let yes_read : c.in_ok-refill.field-0 ≡ true = search rules in
-    let read = rw yes_read at c.in_ok-refill.ensures.read in (
+    let read = rw yes_read at c.in_ok-refill.ensures in (
       going_on c.args.self.now c.pieces.self c.take_piece.new.self c.refill.new.self _ _ _ _ _ _ _ going part c.in-Part.ensures.same read,
-      omega (arith, c.pieces.invariant.1, c.refill.ensures.no_fall),
       inl (none_held c.args.self.now c.pieces.self c.take_piece.new.self _ _ _ _ _ _ going part),
     )

@@ -1,11 +1,10 @@
-use Rattle.std.proofs.Common.{◌≡◌, ◌≤◌, ◌-◌, ◌⊎◌}
+use Rattle.std.proofs.Common.{◌≡◌, ◌-◌, ◌⊎◌}
 use Rattle.line_reader.specs.Lines.{NoFeed, most_taken}
 use Rattle.line_reader.proofs.Going.{IsGoing}
 use Rattle.line_reader.proofs.reader.LineReader.next_line.Given as goal
 
 abbrev pub invariant-pieces : goal.invariant-pieces
-invariant-pieces g l = IsGoing l.initial.self l.self (g.S.Source.told l.initial.source).left (g.S.Source.told l.source).left l.line.items l.long
-    × ((g.S.Source.told l.initial.source).faults ≤ (g.S.Source.told l.source).faults)
+invariant-pieces g l = IsGoing l.initial.self l.self (g.S.Source.told l.initial.source) (g.S.Source.told l.source) l.line.items l.long
     × (NoFeed l.initial.self.held ⊎ ((l.source ≡ l.initial.source) × (l.self ≡ l.initial.self)))
 
 abbrev pub decreases-pieces : goal.decreases-pieces

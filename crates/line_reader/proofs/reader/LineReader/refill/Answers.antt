@@ -1,18 +1,23 @@
 use Rattle.std.proofs.Common.{◌≡◌, ◌≤◌, ◌<◌, ◌∙◌, sym, ap, length, arith, rules, false, refl}
+use Rattle.std.proofs.lemmas.List.{length-take}
 use Rattle.line_reader.specs.Reader.{Reader}
 use Rattle.line_reader.proofs.Pieces.{one_came}
 use Rattle.line_reader.proofs.reader.LineReader.refill.Goals as goal
 use Rattle.line_reader.specs.Lines.{most_taken}
 
-pub returns-in-Ok-clause-read : goal.returns-in-Ok-clause-read
-returns-in-Ok-clause-read g c =
+pub returns-in-Ok : goal.returns-in-Ok
+returns-in-Ok g c =
     let inside = c.self.inside in
-    let one : c.in-Ok.field-0 ≡ 1 = omega (arith, c.in-Ok.ensures.count, c.clamp.ensures, c.if-may-eq0.true, c.in-Ok.field-0-test.1) in
+    let one : c.in-Ok.field-0 ≡ 1 = omega (arith, length-take c.clamp.result inside.block, c.in-Ok.ensures.count, c.clamp.ensures, c.if-may-eq0.true, c.in-Ok.field-0-test.1) in
     let some : 0 < length c.read_block.new.block = search rules in
-    let byte = one_came _ _ c.read_block.new.block c.in-Ok.field-0 one some c.in-Ok.ensures.taken in
+    let byte = one_came (g.S.Source.told c.args.source.now) (g.S.Source.told c.read_block.new.source) c.read_block.new.block c.in-Ok.field-0 one some c.in-Ok.ensures.taken in
     let taken : c.args.self.now.taken ≡ inside.taken = sym (ap (λ (r : Reader). r.taken) c.self.view_is) in
     let ended : c.args.self.now.ended ≡ inside.ended = sym (ap (λ (r : Reader). r.ended) c.self.view_is) in
     let more : inside.over ≡ false = ap (λ (r : Reader). r.over) c.self.view_is ∙ c.requires.more in
     let few : inside.taken ≤ most_taken = c.self.invariant.2 more in
     let most : c.args.self.now.taken ≡ most_taken = omega (arith, taken, few, c.if-may-eq0.true) in
-    (byte.0, byte.1, most, rw (c.requires.none, taken, ended) refl)
+    record {
+      read = (byte.0, byte.1, most, rw (c.requires.none, taken, ended) refl);
+      cause = λ is. absurd cc;
+      no_fall = c.in-Ok.ensures.no_fall;
+    }
