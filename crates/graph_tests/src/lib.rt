@@ -2,7 +2,7 @@
 //!
 //! `graphs` has the graph of a problem (`sync_graph`); `waiting_nodes` the order in which nodes are taken (`frontier`);
 //! `insertions` arcs that are brought in (`earliest`), and `insertion_orders` the order in which they are (`solver`);
-//! `distance_rows` rows of a graph (`distances`); `cells` what a cell tells and `row_pools` rows that are lent
+//! `distance_rows` rows of a graph (`distances`); `kept_rows` rows that are kept and repaired (`repair`); `cells` what a cell tells and `row_pools` rows that are lent
 //! (`row_pool`); `interval_ends` the ends and the order of two events (`intervals`); `empty_certificates` and
 //! `interval_certificates` certificates that are made (`attain`); `greatest_differences` those of two events (`reaches`);
 //! `solutions` problems that are solved (`solver`); `fixtures` has problems that several of them use.
@@ -28,6 +28,8 @@ mod insertions;
 mod interval_certificates;
 #[cfg(test)]
 mod interval_ends;
+#[cfg(test)]
+mod kept_rows;
 #[cfg(test)]
 mod row_pools;
 #[cfg(test)]
