@@ -1,0 +1,48 @@
+-- What is read of a solver that has an execution.
+use Rattle.std.proofs.Common.{◌≡◌, ℕ, List, [], length, Option, Some, None, subst}
+use Rattle.std.specs.Prelude.{ℤ, MatchOption}
+use Rattle.difference_bounds.specs.Executions.{IsExecution}
+use Rattle.difference_bounds.specs.Parents.{IsRow}
+use Rattle.difference_bounds.specs.Tables.{reversed_table}
+use Rattle.sync_graph.specs.Graph.{GraphLists, IsGraph, table_of}
+use Rattle.sync_graph.specs.InForce.{arcs_of}
+use Rattle.row_pool.specs.Row.{cells_of}
+use Rattle.row_pool.specs.Pool.{row_of}
+use Rattle.row_pool.specs.declared.cell.Pair.{Pair}
+use Rattle.repair.specs.declared.slot.Slot.{Slot}
+use Rattle.repair.specs.Slots.{slot_of, HasRows, IsRowsOf, AreRowsOf}
+use Rattle.repair.specs.Pairs.{IsPairIn}
+use Rattle.repair.proofs.Found.{found, of_events}
+use Rattle.engine.specs.Solver.{SolverLists}
+use Rattle.engine.specs.Current.{IsCurrent, IsSolvedNow}
+use Rattle.engine.proofs.Staying.{solved_now}
+
+module _ (s : SolverLists) (current : IsCurrent s) (none : s.contradiction ≡ []) where
+  now : IsSolvedNow s
+  now = solved_now s current none
+
+  -- what holds for every graph with an execution and these rows holds for this one
+  pub of_this : (P : GraphLists → Type 0) → ((g : GraphLists) (xs : List ℤ) → IsGraph g → IsExecution (length g.nodes) (arcs_of g) xs → AreRowsOf g s.kept s.pool → P g) → P s.graph
+  of_this P of_all = of_all s.graph s.earliest.values current.set_up.graph now.earliest.execution now.rows
+
+  pub source_told : (q : ℕ) (r : Option Pair)
+      → MatchOption r (s.kept.source ≡ None) (λ pair. (slot : Slot) × (s.kept.source ≡ Some slot)
+      × ((g : GraphLists) (xs : List ℤ) → IsGraph g → IsExecution (length g.nodes) (arcs_of g) xs → AreRowsOf g s.kept s.pool → IsPairIn g slot.node q pair))
+      → MatchOption r (s.kept.source ≡ None) (λ pair. (slot : Slot) × (s.kept.source ≡ Some slot) × IsPairIn s.graph slot.node q pair)
+  source_told q None told = told
+  source_told q (Some pair) told = (told.0, told.1, of_this (λ g. IsPairIn g told.0.node q pair) told.2)
+
+  -- the rows of a slot
+  module _ (p : ℕ) (slot : Slot) (is : slot_of s.kept p ≡ Some slot) where
+    pub slot_has : HasRows s.pool slot
+    slot_has = (found (HasRows s.pool) p s.kept.slots slot is (of_events (HasRows s.pool) s.kept.source s.kept.slots current.set_up.own.taken)).0
+
+    its : IsRowsOf (length s.graph.nodes) (table_of s.graph) s.pool slot × (slot.node ≡ p)
+    its = found (IsRowsOf (length s.graph.nodes) (table_of s.graph) s.pool) p s.kept.slots slot is
+        (of_events (IsRowsOf (length s.graph.nodes) (table_of s.graph) s.pool) s.kept.source s.kept.slots now.rows)
+
+    pub from_is : IsRow (length s.graph.nodes) (table_of s.graph) p (cells_of (row_of s.pool slot.from))
+    from_is = subst (λ (n : ℕ). IsRow (length s.graph.nodes) (table_of s.graph) n (cells_of (row_of s.pool slot.from))) its.1 its.0.from
+
+    pub to_is : IsRow (length s.graph.nodes) (reversed_table (table_of s.graph)) p (cells_of (row_of s.pool slot.to))
+    to_is = subst (λ (n : ℕ). IsRow (length s.graph.nodes) (reversed_table (table_of s.graph)) n (cells_of (row_of s.pool slot.to))) its.1 its.0.to

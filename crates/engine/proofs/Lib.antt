@@ -1,0 +1,7 @@
+mod Staying
+mod Longer
+mod Fewer
+mod Lending
+mod Telling
+mod KeptSlots
+mod Asked

@@ -1,0 +1,10 @@
+use Rattle.std.proofs.Common.{◌≡◌, ◌+◌, subst}
+use Rattle.row_pool.specs.Pool.{free_rows}
+use Rattle.engine.specs.Solver.{SolverLists}
+use Rattle.engine.proofs.Lending.{two_less}
+use Rattle.engine.proofs.solver.Solver.keep_source.Goals as goal
+
+pub returns-clause-free : goal.returns-clause-free
+returns-clause-free g c =
+    subst (λ (s : SolverLists). free_rows c.keep_source.new.pool + 2 ≡ free_rows s.pool) c.self.view_is
+    (two_less c.self.inside.pool c.keep_source.new.pool c.keep_source.ensures.takes.0 c.keep_source.ensures.takes.3)

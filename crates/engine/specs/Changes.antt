@@ -1,0 +1,33 @@
+-- What a call leaves as it was.
+use Rattle.std.specs.Prelude.{◌≡◌, ℕ, ◌∷◌, [], Bool, false, List, length, slice_set}
+use Rattle.row_pool.specs.Pool.{Pool, row_at, row_of, IsTaken, free_rows}
+use Rattle.repair.specs.Slots.{all_slots, ChangesRowsOf}
+use Rattle.engine.specs.Solver.{SolverLists}
+
+-- the same nodes are kept with the same rows, no other row is changed, and there is as much room as before
+pub record KeepsSlots (old new : SolverLists) : Type 0 where
+  pub slots : new.kept.slots ≡ old.kept.slots
+  pub source : new.kept.source ≡ old.kept.source
+  pub found : new.kept.room ≡ old.kept.room
+  pub front : length new.front ≡ length old.front
+  pub rows : ChangesRowsOf (all_slots old.kept) old.pool new.pool
+  pub free : free_rows new.pool ≡ free_rows old.pool
+
+-- the graph and what is held of it are as before
+pub record KeepsAnswer (old new : SolverLists) : Type 0 where
+  pub graph : new.graph ≡ old.graph
+  pub earliest : new.earliest ≡ old.earliest
+  pub contradiction : new.contradiction ≡ old.contradiction
+
+-- rows that are free may have other cells, and nothing else is changed
+pub record LeavesTaken (old new : Pool) : Type 0 where
+  pub width : new.width ≡ old.width
+  pub count : length new.rows ≡ length old.rows
+  pub taken : (k : ℕ) → (row_at new k).taken ≡ (row_at old k).taken
+  pub cells : (k : ℕ) → IsTaken old k → row_of new k ≡ row_of old k
+  pub free : free_rows new ≡ free_rows old
+
+-- the flags with those of these numbers false
+abbrev pub withdrawn : List Bool → List ℕ → List Bool
+withdrawn flags [] = flags
+withdrawn flags (k ∷ numbers) = withdrawn (slice_set flags k false) numbers

@@ -1,0 +1,5 @@
+pub mod Solver
+pub mod Current
+pub mod Changes
+pub mod Costs
+pub mod Pushed
