@@ -1,0 +1,14 @@
+use Rattle.std.proofs.Common.{◌≡◌, ℕ, Bool, length}
+use Rattle.row_pool.specs.Row.{cells_of}
+use Rattle.distances.specs.Changes.{AreBlank}
+use Rattle.row_withdrawal.specs.Clearings.{IsRowBefore, AreSeeded}
+use Rattle.row_withdrawal.proofs.affected.clear_heads.Given as goal
+
+abbrev pub invariant-loop-i : goal.invariant-loop-i
+invariant-loop-i l = record {
+  seeded : (was : ℕ → Bool) (p : ℕ) → IsRowBefore l.g l.outward was l.removed p (cells_of l.initial.row)
+      → (marks : ℕ → Bool) × AreSeeded l.g l.outward l.i l.removed p (cells_of l.initial.row) l.row marks l.found l.count;
+  blank : AreBlank l.initial.row → AreBlank l.row;
+  cells : length l.row ≡ length l.initial.row;
+  found : length l.found ≡ length l.initial.found;
+}
