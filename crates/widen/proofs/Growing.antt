@@ -1,0 +1,61 @@
+-- What one line more does to the text of a widening.
+use Rattle.std.proofs.Common.{◌≡◌, ◌+◌, ℕ, List, [], ◌∷◌, ◌++◌, length, Option, Some, None, codes, refl, sym, ◌∙◌, ap, arith, ℤ, append_assoc, append-nil, length-append}
+use Rattle.std.specs.List.{flat_map}
+use Rattle.line_format.specs.Words.{line_of}
+use Rattle.line_format.specs.Format.{Grows}
+use Rattle.problem_model.specs.Problem.{ProblemLists}
+use Rattle.problem_model.specs.Nodes.{Reading}
+use Rattle.cert.specs.declared.chain.Step.{Step}
+use Rattle.cert.specs.ExecutionFormat.{execution_format}
+use Rattle.cert.specs.CertificateText.{step_line}
+use Rattle.cert.proofs.CertGrowing.{lines_push, values_text, values_none, values_grow}
+use Rattle.widen.specs.WideningText.{widening_head, least_words, cycle_lines}
+use Rattle.widen.specs.WideningFormat.{WideningSaid, line_words, widening_format}
+use Rattle.widen.specs.WideningFormat.WideningLine.{LeastLine, CycleLine}
+use Rattle.widen.specs.WideningFormat.WideningSaid.{NoneSaid, Said}
+
+-- a piece more behind all
+behind_all : (h a b l m : List ℕ) → m ≡ b ++ l → h ++ (a ++ m) ≡ (h ++ (a ++ b)) ++ l
+behind_all h a b l m is = rw is (ap (λ (t : List ℕ). h ++ t) (sym (append_assoc a b l)) ∙ sym (append_assoc h (a ++ b) l))
+
+-- a piece more behind the last of four
+last_of_four : (h a b c d l : List ℕ) → d ≡ c ++ l → h ++ ((a ++ b) ++ d) ≡ (h ++ ((a ++ b) ++ c)) ++ l
+last_of_four h a b c d l is = behind_all h (a ++ b) c l d is
+
+-- a piece more behind the third, where the last is empty
+third_of_four : (h a b b' l : List ℕ) → b' ≡ b ++ l → h ++ ((a ++ b') ++ []) ≡ (h ++ ((a ++ b) ++ [])) ++ l
+third_of_four h a b b' l is = rw (is, append-nil (a ++ (b ++ l)), append-nil (a ++ b)) (ap (λ (t : List ℕ). h ++ t) (sym (append_assoc a b l)) ∙ sym (append_assoc h (a ++ b) l))
+
+module _ (p : ProblemLists) (readings : List Reading) where
+  abbrev pub GrowsTo : WideningSaid → WideningSaid → List ℕ → Type 0
+  GrowsTo = Grows (widening_format p readings)
+
+  pub least_begins : (extra : Option ℕ) → GrowsTo NoneSaid (Said extra [] None) (line_of (line_words (LeastLine extra)))
+  least_begins extra = record {
+    text = first_only (line_of widening_head) (line_of (least_words extra)) (values_text p readings []) (values_none p readings);
+    lines = refl;
+  }
+    where
+      first_only : (h a b : List ℕ) → b ≡ [] → h ++ ((a ++ b) ++ []) ≡ (h ++ []) ++ a
+      first_only h a b none = rw (none, append-nil h, append-nil (a ++ []), append-nil a) refl
+
+  pub times_grow : (extra : Option ℕ) (vs ws : List ℤ) (line : List ℕ) → Grows (execution_format p readings) vs ws line → GrowsTo (Said extra vs None) (Said extra ws None) line
+  times_grow extra vs ws line grows =
+      let g = values_grow p readings vs ws line grows in record {
+        text = third_of_four (line_of widening_head) (line_of (least_words extra)) (values_text p readings vs) (values_text p readings ws) line g.0;
+        lines = omega (arith, g.1);
+      }
+
+  pub cycle_begins : (extra : Option ℕ) (vs : List ℤ) → GrowsTo (Said extra vs None) (Said extra vs (Some [])) (line_of (line_words CycleLine))
+  cycle_begins extra vs = record {
+    text = last_of_four (line_of widening_head) (line_of (least_words extra)) (values_text p readings vs) [] (cycle_lines p (Some [])) (line_of (codes "cycle" ∷ [])) refl;
+    lines = omega arith;
+  }
+
+  pub steps_grow : (extra : Option ℕ) (vs : List ℤ) (steps : List Step) (s : Step) (line : List ℕ) → line ≡ step_line p s → GrowsTo (Said extra vs (Some steps)) (Said extra vs (Some (steps ++ s ∷ []))) line
+  steps_grow extra vs steps s line is = record {
+    text = last_of_four (line_of widening_head) (line_of (least_words extra)) (values_text p readings vs) (cycle_lines p (Some steps)) (cycle_lines p (Some (steps ++ s ∷ []))) line
+        (ap (λ (t : List ℕ). line_of (codes "cycle" ∷ []) ++ t) (lines_push (step_line p) steps s ∙ ap (λ (t : List ℕ). flat_map (step_line p) steps ++ t) (sym is))
+        ∙ sym (append_assoc (line_of (codes "cycle" ∷ [])) (flat_map (step_line p) steps) line));
+    lines = omega (arith, length-append steps (s ∷ []));
+  }

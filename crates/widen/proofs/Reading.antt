@@ -1,0 +1,219 @@
+-- From the lines of a text to what the whole text answers.
+use Rattle.std.proofs.Common.{◌≡◌, ◌≢◌, ◌↔◌, ◌<◌, ◌≤◌, ◌+◌, ◌^◌, ℕ, List, [], ◌∷◌, ◌++◌, length, All, Option, Some, None, Result, Ok, Err, codes, refl, sym, ◌∙◌, ap, subst, arith, ℤ, append_assoc, append-nil}
+use Rattle.atto.specs.Number.{FitsUnits}
+use Rattle.line_format.specs.Words.{words, line_of}
+use Rattle.line_format.specs.Cut.{cut}
+use Rattle.line_format.specs.Format.{Format, Answers, Takes, whole_text, most_bytes}
+use Rattle.line_format.specs.Format.Front.{Open, Closed}
+use Rattle.line_format.specs.Format.Answer.{Found, Faulty}
+use Rattle.line_format.specs.declared.fault.FaultKind.{FaultKind}
+use Rattle.line_format.specs.declared.fault.FaultKind.TheVariants as kinds
+use Rattle.line_format.specs.declared.fault.LineError.{LineError}
+use Rattle.line_format.specs.declared.fault.LineError.TheVariants as lines
+use Rattle.line_format.specs.declared.fault.Taken.TheVariants as taken
+use Rattle.line_format.proofs.Reading.{Stands, fault_answers, cut_answers, stands_on}
+use Rattle.problem_model.specs.declared.items.Node.TheVariants as nodes
+use Rattle.problem_model.specs.Problem.{ProblemLists}
+use Rattle.problem_model.specs.Nodes.{Reading, AreReadings, nodes_of}
+use Rattle.problem_model.proofs.OneList.{readings_one}
+use Rattle.std.proofs.lemmas.Option.{slice_get_within}
+use Rattle.cert.specs.declared.chain.Step.{Step}
+use Rattle.cert.specs.declared.error.CertError.TheVariants as errors
+use Rattle.cert.specs.ExecutionFormat.{AreValues}
+use Rattle.cert.specs.ExecutionFormat.ExecutionLine.{EventLine, ReadingLine, EndLine}
+use Rattle.cert.specs.CertificateText.{HasOneEach}
+use Rattle.cert.specs.CertificateFormat.{AreSteps}
+use Rattle.cert.specs.ReadsExecution.{error_at}
+use Rattle.cert.proofs.CertGrowing.{values_text, values_none}
+use Rattle.widen.specs.declared.widening.Widening.{Widening}
+use Rattle.widen.specs.declared.widening.Widening.TheVariants.{Least, Never}
+use Rattle.widen.specs.Widening.{IsWideningOf}
+use Rattle.widen.specs.WideningText.{widening_head, least_words, cycle_lines, widening_lines, widening_text}
+use Rattle.widen.specs.WideningFormat.{WideningLine, WideningSaid, line_words, IsSpelled, IsWhole, MayBegin, MayStand, AreTimes, IsSound, said, said_lines, widening_format}
+use Rattle.widen.specs.WideningFormat.WideningLine.{LeastLine, NodeLine, CycleLine, StepLine}
+use Rattle.widen.specs.WideningFormat.WideningSaid.{NoneSaid, Said}
+use Rattle.widen.specs.ReadsWidening.{FitsWidening, IsWideningTextOf, RefusesText}
+use Rattle.widen.specs.declared.read.Stated.{Stated}
+use Rattle.widen.specs.declared.read.Stated.TheVariants as stated
+use Rattle.widen.specs.declared.read.Stated.TheVariants.{Of, TooMuch}
+use Rattle.widen.specs.ReadsLines.{IsStated, IsStatedIn, IsBehind}
+use Rattle.widen.proofs.Lines.{widening_lacks}
+use Rattle.widen.proofs.Growing.{GrowsTo, least_begins, cycle_begins}
+
+module _ (p : ProblemLists) (readings : List Reading) where
+  abbrev format : Format WideningSaid WideningLine
+  format = widening_format p readings
+
+  abbrev text_of : WideningSaid → List ℕ
+  text_of s = line_of widening_head ++ said_lines p readings s
+
+  abbrev Behind : List ℕ → List ℕ → WideningSaid → ℕ → Type 0
+  Behind = IsBehind p readings
+
+  pub stands_of : (text rest : List ℕ) (s : WideningSaid) (n : ℕ) → Behind text rest s n → Stands format widening_lacks text rest s n
+  stands_of text rest s n b = record { is = b.is; number = omega (arith, b.number); sound = b.sound; short = b.short }
+
+  pub behind_of : (text rest : List ℕ) (s : WideningSaid) (n : ℕ) → Stands format widening_lacks text rest s n → Behind text rest s n
+  behind_of text rest s n b = record { is = b.is; number = omega (arith, b.number); sound = b.sound; short = b.short }
+
+  -- ---- a line of known words
+  pub word_on : (text rest more : List ℕ) (s t : WideningSaid) (n : ℕ) (ws : List (List ℕ)) → Behind text rest s n → rest ≡ line_of ws ++ more → GrowsTo p readings s t (line_of ws) → IsSound p readings t → Behind text more t (n + 1)
+  word_on text rest more s t n ws b is grows sound = record {
+    is = b.is ∙ ap (λ (r : List ℕ). text_of s ++ r) is ∙ sym (append_assoc (text_of s) (line_of ws) more) ∙ ap (λ (x : List ℕ). x ++ more) (sym grows.text);
+    number = omega (arith, b.number, grows.lines);
+    sound = sound;
+    short = b.short;
+  }
+
+  pub only_line : (text rest : List ℕ) (s : WideningSaid) (n : ℕ) (ws : List (List ℕ)) → Behind text rest s n → ((line : WideningLine) → MayStand p readings s line → line_words line ≡ ws) → ((more : List ℕ) → rest ≡ line_of ws ++ more → ⊥) → Answers format text (Faulty kinds.Syntax n)
+  only_line text rest s n ws b only none = (
+    b.short,
+    record {
+      front = Open s;
+      sound = b.sound;
+      rest = rest;
+      is = b.is;
+      number = omega (arith, b.number);
+      fault = λ line begins. none begins.more (begins.is ∙ ap (λ (w : List (List ℕ)). line_of w ++ begins.more) (only line begins.may));
+    },
+  )
+
+  pub end_found : (text rest after : List ℕ) (s : WideningSaid) (n : ℕ) → Behind text rest s n → rest ≡ line_of (codes "end" ∷ []) ++ after → after ≡ [] → MayStand p readings s (NodeLine EndLine) → Answers format text (Found s)
+  end_found text rest after s n b is none may =
+      (b.short, b.sound, may, b.is ∙ ap (λ (r : List ℕ). text_of s ++ r) (is ∙ ap (λ (x : List ℕ). line_of (codes "end" ∷ []) ++ x) none ∙ append-nil (line_of (codes "end" ∷ []))))
+
+  pub end_more : (text rest after : List ℕ) (s : WideningSaid) (n : ℕ) → Behind text rest s n → rest ≡ line_of (codes "end" ∷ []) ++ after → after ≢ [] → MayStand p readings s (NodeLine EndLine) → Answers format text (Faulty kinds.Syntax (n + 1))
+  end_more text rest after s n b is some may = (
+    b.short,
+    record {
+      front = Closed s;
+      sound = (b.sound, may);
+      rest = after;
+      is = b.is ∙ ap (λ (r : List ℕ). text_of s ++ r) is ∙ sym (append_assoc (text_of s) (line_of (codes "end" ∷ [])) after);
+      number = omega (arith, b.number);
+      fault = (refl, some);
+    },
+  )
+
+  -- ---- what alone may stand
+  pub only_cycle : (line : WideningLine) → MayStand p readings (Said None [] None) line → line_words line ≡ codes "cycle" ∷ []
+  only_cycle (LeastLine e) may = absurd may
+  only_cycle (NodeLine l) may = absurd may
+  only_cycle CycleLine may = refl
+  only_cycle (StepLine n z) may = absurd may
+
+  pub only_cycle_above : (extra : ℕ) (vs : List ℤ) → 0 < extra → IsWhole p readings vs → (line : WideningLine) → MayStand p readings (Said (Some extra) vs None) line → line_words line ≡ codes "cycle" ∷ []
+  only_cycle_above extra vs above whole (LeastLine e) may = absurd may
+  only_cycle_above extra vs above whole (NodeLine (EventLine name z)) may = absurd (let within = slice_get_within (nodes_of p readings) (length vs) (nodes.Event may.0) may.1 in omega (arith, within, whole))
+  only_cycle_above extra vs above whole (NodeLine (ReadingLine clock m z)) may = absurd (let within = slice_get_within (nodes_of p readings) (length vs) (nodes.Reading may.0 may.1) may.2 in omega (arith, within, whole))
+  only_cycle_above extra vs above whole (NodeLine EndLine) may = absurd (let none : extra ≡ 0 = may.0 in omega (arith, above, none))
+  only_cycle_above extra vs above whole CycleLine may = refl
+  only_cycle_above extra vs above whole (StepLine n z) may = absurd may
+
+  pub only_end : (vs : List ℤ) → IsWhole p readings vs → (line : WideningLine) → MayStand p readings (Said (Some 0) vs None) line → line_words line ≡ codes "end" ∷ []
+  only_end vs whole (LeastLine e) may = absurd may
+  only_end vs whole (NodeLine (EventLine name z)) may = absurd (let within = slice_get_within (nodes_of p readings) (length vs) (nodes.Event may.0) may.1 in omega (arith, within, whole))
+  only_end vs whole (NodeLine (ReadingLine clock m z)) may = absurd (let within = slice_get_within (nodes_of p readings) (length vs) (nodes.Reading may.0 may.1) may.2 in omega (arith, within, whole))
+  only_end vs whole (NodeLine EndLine) may = refl
+  only_end vs whole CycleLine may = absurd (omega (arith, may.0))
+  only_end vs whole (StepLine n z) may = absurd may
+
+  -- ---- faults of lines
+  kind_refuses : (text : List ℕ) (kind : FaultKind) (n : ℕ) → Answers format text (Faulty kind n) → RefusesText p readings text (error_at (lines.Fault kind) n)
+  kind_refuses text kinds.Syntax n fault = fault
+  kind_refuses text kinds.Name n fault = fault
+  kind_refuses text kinds.Range n fault = fault
+  kind_refuses text kinds.Limit n fault = fault
+
+  pub fault_refuses : (text rest body after : List ℕ) (s t : WideningSaid) (n : ℕ) (e : LineError) → Behind text rest s n → cut 10 rest ≡ Some (body, after) → Takes format s body (Err e) t → RefusesText p readings text (error_at e n)
+  fault_refuses text rest body after s t n lines.Memory b parts r = tt
+  fault_refuses text rest body after s t n (lines.Fault kind) b parts r = kind_refuses text kind n (fault_answers format widening_lacks text rest body after s t n kind (stands_of text rest s n b) parts r)
+
+  pub cut_refuses : (text rest : List ℕ) (s : WideningSaid) (n : ℕ) → Behind text rest s n → cut 10 rest ≡ None → Answers format text (Faulty kinds.Syntax n)
+  cut_refuses text rest s n b none = cut_answers format widening_lacks text rest s n (stands_of text rest s n b) none
+
+  pub line_on : (text rest body after : List ℕ) (s t : WideningSaid) (n : ℕ) → Behind text rest s n → cut 10 rest ≡ Some (body, after) → Takes format s body (Ok taken.Line) t → IsSound p readings t → Behind text after t (n + 1)
+  line_on text rest body after s t n b parts r sound = behind_of text after t (n + 1) (stands_on format widening_lacks text rest body after s t n (stands_of text rest s n b) parts r sound)
+
+  pub no_times : AreValues (length (nodes_of p readings)) []
+  no_times = record { fit = λ k d inside. absurd (omega (arith, inside)); few = omega arith }
+
+  -- ---- a cycle begins
+  no_steps : AreSteps p []
+  no_steps = record { declared = λ k d inside. absurd (omega (arith, inside)); weights = λ k d inside. absurd (omega (arith, inside)); few = omega arith }
+
+  pub cycle_on : (text rest more : List ℕ) (extra : Option ℕ) (vs : List ℤ) (n : ℕ) → Behind text rest (Said extra vs None) n → rest ≡ line_of (codes "cycle" ∷ []) ++ more → MayBegin p readings extra vs → Behind text more (Said extra vs (Some [])) (n + 1)
+  cycle_on text rest more extra vs n b is may = word_on text rest more (Said extra vs None) (Said extra vs (Some [])) n (codes "cycle" ∷ []) b is (cycle_begins p readings extra vs) (b.sound.0, (may, no_steps))
+
+  -- ---- the text of what is said is that of the widening
+  text_is : (w : Widening) → whole_text format (said w) ≡ widening_text p (nodes_of p readings) w
+  text_is (Least extra execution cycle) = refl
+  text_is (Never cycle) = ap (λ (t : List ℕ). (line_of widening_head ++ (t ++ cycle_lines p (Some cycle))) ++ line_of (codes "end" ∷ []))
+      (ap (λ (v : List ℕ). line_of (least_words None) ++ v) (values_none p readings) ∙ append-nil (line_of (least_words None)))
+
+  module _ (are : AreReadings p readings) where
+    whole_from : (values : List ℤ) → HasOneEach p values → IsWhole p readings values
+    whole_from values (rs, are', same) = same ∙ ap (λ (r : List Reading). length (nodes_of p r)) (readings_one p rs readings are' are)
+
+    values_from : (values : List ℤ) → HasOneEach p values → All FitsUnits values → AreValues (length (nodes_of p readings)) values
+    values_from values each fit = record { fit = fit; few = let same = whole_from values each in omega (arith, same) }
+
+    sound_from : (w : Widening) → IsWideningOf p w → FitsWidening w → IsSound p readings (said w) × MayStand p readings (said w) (NodeLine EndLine)
+    sound_from (Least extra execution None) of fits = (((fits.0, values_from execution of.0 fits.1), tt), (of.1, whole_from execution of.0))
+    sound_from (Least extra execution (Some cycle)) of fits =
+        (((fits.0, values_from execution of.0 fits.1), ((of.1.0, whole_from execution of.0), record { declared = of.1.1; weights = fits.2.0; few = fits.2.1 })), tt)
+    sound_from (Never cycle) of fits = ((refl, (tt, record { declared = of; weights = fits.0; few = fits.1 })), tt)
+
+    sound_back : (w : Widening) → IsSound p readings (said w) → MayStand p readings (said w) (NodeLine EndLine) → IsWideningOf p w × FitsWidening w
+    sound_back (Least extra execution None) sound may = (((readings, are, may.1), may.0), (sound.0.0, sound.0.1.fit, tt))
+    sound_back (Least extra execution (Some cycle)) sound may =
+        (((readings, are, sound.1.0.1), (sound.1.0.0, sound.1.1.declared)), (sound.0.0, sound.0.1.fit, (sound.1.1.weights, sound.1.1.few)))
+    sound_back (Never cycle) sound may = (sound.1.1.declared, (sound.1.1.weights, sound.1.1.few))
+
+    pub found_is : (w : Widening) (text : List ℕ) → IsWideningTextOf p readings w text ↔ Answers format text (Found (said w))
+    found_is w text = (
+      λ is. let s = sound_from w is.1 is.2 in (is.0, s.0, s.1, is.3 ∙ sym (text_is w)),
+      λ found. let s = sound_back w found.1 found.2 in (found.0, s.0, s.1, found.3 ∙ text_is w),
+    )
+
+-- ---- the line of the widening
+module _ (p : ProblemLists) (readings : List Reading) (text whole body rest : List ℕ) (b : IsBehind p readings text whole NoneSaid 2) (parts : cut 10 whole ≡ Some (body, rest)) where
+  pub least_on : (extra : Option ℕ) → body ≡ words (least_words extra) → AreTimes p readings extra [] → IsBehind p readings text rest (Said extra [] None) 3
+  least_on extra is times =
+      line_on p readings text whole body rest NoneSaid (Said extra [] None) 2 b parts (subst (λ (w : List ℕ). GrowsTo p readings NoneSaid (Said extra [] None) (w ++ 10 ∷ [])) (sym is) (least_begins p readings extra)) (times, tt)
+
+  pub least_over : (extra : ℕ) → body ≡ words (least_words (Some extra)) → 2 ^ 62 ≤ extra → Answers (widening_format p readings) text (Faulty kinds.Range 2)
+  least_over extra is over =
+      fault_refuses p readings text whole body rest NoneSaid NoneSaid 2 (lines.Fault kinds.Range) b parts (LeastLine (Some extra), tt, tt, is, (tt, (λ less. let under : extra < 2 ^ 62 = less in omega (arith, under, over))))
+
+  pub not_least : ((extra : Option ℕ) → body ≡ words (least_words extra) → ⊥) → Answers (widening_format p readings) text (Faulty kinds.Syntax 2)
+  not_least none = fault_refuses p readings text whole body rest NoneSaid NoneSaid 2 (lines.Fault kinds.Syntax) b parts misspelled
+    where
+      misspelled : (line : WideningLine) → MayStand p readings NoneSaid line → IsSpelled line → body ≡ words (line_words line) → ⊥
+      misspelled (LeastLine extra) may spelled is = none extra is
+      misspelled (NodeLine l) may spelled is = may
+      misspelled CycleLine may spelled is = may
+      misspelled (StepLine n z) may spelled is = may
+
+-- what the line states
+pub stated_in : (p : ProblemLists) (readings : List Reading) (text whole body rest : List ℕ) → IsBehind p readings text whole NoneSaid 2 → cut 10 whole ≡ Some (body, rest)
+    → (s : Stated) (extra : Option ℕ) → body ≡ words (least_words extra) → IsStated extra s → IsStatedIn p readings text rest s
+stated_in p readings text whole body rest b parts (Of e) extra is (same, within) =
+    least_on p readings text whole body rest b parts (Some e) (is ∙ ap (λ (o : Option ℕ). words (least_words o)) same) (within, no_times p readings)
+stated_in p readings text whole body rest b parts TooMuch extra is (e, same, over) =
+    least_over p readings text whole body rest b parts e (is ∙ ap (λ (o : Option ℕ). words (least_words o)) same) over
+stated_in p readings text whole body rest b parts stated.Never extra is same =
+    least_on p readings text whole body rest b parts None (is ∙ ap (λ (o : Option ℕ). words (least_words o)) same) refl
+
+pub first_line : (p : ProblemLists) (readings : List Reading) (rest : List ℕ) → length (line_of widening_head ++ rest) ≤ most_bytes → IsBehind p readings (line_of widening_head ++ rest) rest NoneSaid 2
+first_line p readings rest short = record { is = refl; number = refl; sound = tt; short = short }
+
+-- ---- a widening of 0
+pub zero_on : (p : ProblemLists) (readings : List Reading) (text rest : List ℕ) (extra n m : ℕ) (values : List ℤ) → extra ≡ 0 → n ≡ m → IsBehind p readings text rest (Said (Some extra) values None) n → IsBehind p readings text rest (Said (Some 0) values None) m
+zero_on p readings text rest extra n m values zero same b =
+    subst (λ (k : ℕ). IsBehind p readings text rest (Said (Some 0) values None) k) same (subst (λ (e : ℕ). IsBehind p readings text rest (Said (Some e) values None) n) zero b)
+
+pub zero_found : (p : ProblemLists) (readings : List Reading) → AreReadings p readings → (text : List ℕ) (extra : ℕ) (values : List ℤ) → extra ≡ 0 → Answers (widening_format p readings) text (Found (Said (Some 0) values None))
+    → IsWideningTextOf p readings (Least extra values None) text
+zero_found p readings are text extra values zero found =
+    (found_is p readings are (Least extra values None) text).1 (subst (λ (e : ℕ). Answers (widening_format p readings) text (Found (Said (Some e) values None))) (sym zero) found)

@@ -1,0 +1,23 @@
+-- The least widening of a problem.
+use Rattle.std.specs.Prelude.{ℕ, ◌<◌, ◌-◌, ◌^◌}
+use Rattle.problem_model.specs.Problem.{ProblemLists}
+use Rattle.problem_model.specs.Bounds.{Times, IsExecution}
+use Rattle.cert_check.specs.Widened.{widened}
+
+-- the greatest widening
+abbrev pub most_extra : ℕ
+most_extra = 2 ^ 62 - 1
+
+-- real times obey all bounds of the problem where each greatest delay is e ns greater
+abbrev pub HasExecution : ProblemLists → ℕ → Type 0
+HasExecution p e = (x : Times) × IsExecution (widened p e) x
+
+-- with e there is an execution, and with less there is none
+pub record IsLeastWidening (p : ProblemLists) (e : ℕ) : Type 0 where
+  pub within : e < 2 ^ 62
+  pub heals : HasExecution p e
+  pub least : (f : ℕ) → f < e → HasExecution p f → ⊥
+
+-- no widening heals
+abbrev pub HasNoWidening : ProblemLists → Type 0
+HasNoWidening p = (e : ℕ) → e < 2 ^ 62 → HasExecution p e → ⊥

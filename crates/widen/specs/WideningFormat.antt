@@ -1,0 +1,151 @@
+-- The lines of a widening's text, and when one may stand behind what is said so far.
+use Rattle.std.specs.Prelude.{◌≡◌, ℕ, ◌+◌, ◌<◌, ◌^◌, List, [], ◌∷◌, ◌++◌, length, codes, Option, Some, None, IfSome, ℤ}
+use Rattle.atto.specs.Number.{FitsUnits}
+use Rattle.line_format.specs.Words.{line_of}
+use Rattle.line_format.specs.Format.{Format}
+use Rattle.problem_model.specs.declared.items.Bound.{Bound}
+use Rattle.problem_model.specs.Problem.{ProblemLists}
+use Rattle.problem_model.specs.Nodes.{Reading, nodes_of}
+use Rattle.problem_model.specs.ExecutionText.{value_lines}
+use Rattle.cert.specs.Sizes.{most_steps}
+use Rattle.cert.specs.declared.chain.Step.{Step}
+use Rattle.cert.specs.ExecutionFormat as executions
+use Rattle.cert.specs.ExecutionFormat.{ExecutionLine, AreValues}
+use Rattle.cert.specs.ExecutionFormat.ExecutionLine.{EndLine}
+use Rattle.cert.specs.CertificateFormat as certificates
+use Rattle.cert.specs.CertificateFormat.{CertLine, NamedBound, Names, IsDeclared, IsBoundSpelled, AreSteps}
+use Rattle.widen.specs.declared.widening.Widening.{Widening}
+use Rattle.widen.specs.declared.widening.Widening.TheVariants.{Least, Never}
+use Rattle.widen.specs.WideningText.{widening_head, least_words, cycle_lines}
+
+-- ---- lines
+-- numbers are as large as they are written; the end is the line of no node
+pub data WideningLine : Type 0 where
+  LeastLine : Option ℕ → WideningLine
+  NodeLine : ExecutionLine → WideningLine
+  CycleLine : WideningLine
+  StepLine : NamedBound → ℤ → WideningLine
+
+-- the words of a line
+abbrev pub line_words : WideningLine → List (List ℕ)
+line_words (LeastLine extra) = least_words extra
+line_words (NodeLine line) = executions.line_words line
+line_words CycleLine = codes "cycle" ∷ []
+line_words (StepLine bound weight) = certificates.cert_words (CertLine.StepLine bound weight)
+
+-- each name is spelled as one of its kind
+abbrev pub IsSpelled : WideningLine → Type 0
+IsSpelled (NodeLine line) = executions.IsSpelled line
+IsSpelled (StepLine bound weight) = IsBoundSpelled bound
+IsSpelled line = Unit {0}
+
+-- each number is in its range
+abbrev pub NumbersFit : WideningLine → Type 0
+NumbersFit (LeastLine extra) = IfSome extra (λ e. e < 2 ^ 62)
+NumbersFit (NodeLine line) = executions.NumbersFit line
+NumbersFit (StepLine bound weight) = FitsUnits weight
+NumbersFit CycleLine = Unit {0}
+
+-- ---- what is said so far
+-- nothing; or a widening or none, so many real times, and the steps of a cycle where it has begun
+pub data WideningSaid : Type 0 where
+  NoneSaid : WideningSaid
+  Said : Option ℕ → List ℤ → Option (List Step) → WideningSaid
+
+-- what a widening says
+abbrev pub said : Widening → WideningSaid
+said (Least extra execution cycle) = Said (Some extra) execution cycle
+said (Never cycle) = Said None [] (Some cycle)
+
+-- the real times so far
+abbrev pub values_of : WideningSaid → List ℤ
+values_of NoneSaid = []
+values_of (Said extra values cycle) = values
+
+-- the steps so far
+abbrev pub steps_of : WideningSaid → List Step
+steps_of NoneSaid = []
+steps_of (Said extra values None) = []
+steps_of (Said extra values (Some steps)) = steps
+
+-- the number of lines of a cycle, and of all lines behind the head
+abbrev pub cycle_size : Option (List Step) → ℕ
+cycle_size None = 0
+cycle_size (Some steps) = 1 + length steps
+
+abbrev pub said_size : WideningSaid → ℕ
+said_size NoneSaid = 0
+said_size (Said extra values cycle) = 1 + length values + cycle_size cycle
+
+-- ---- the format
+module _ (p : ProblemLists) (readings : List Reading) where
+  -- each node has its real time
+  abbrev pub IsWhole : List ℤ → Type 0
+  IsWhole values = length values ≡ length (nodes_of p readings)
+
+  -- a cycle may begin where no widening heals, or behind all nodes where the widening is above 0
+  abbrev pub MayBegin : Option ℕ → List ℤ → Type 0
+  MayBegin None values = Unit {0}
+  MayBegin (Some extra) values = (0 < extra) × IsWhole values
+
+  -- the line of the node whose turn it is, or the end behind all nodes where the widening is 0
+  abbrev pub MayRun : Option ℕ → List ℤ → ExecutionLine → Type 0
+  MayRun None values line = ⊥
+  MayRun (Some extra) values EndLine = (extra ≡ 0) × IsWhole values
+  MayRun (Some extra) values line = executions.MayStand p readings values line
+
+  -- the widening first, then its real times, then its cycle
+  abbrev pub MayStand : WideningSaid → WideningLine → Type 0
+  MayStand NoneSaid (LeastLine extra) = Unit {0}
+  MayStand (Said extra values None) (NodeLine line) = MayRun extra values line
+  MayStand (Said extra values None) CycleLine = MayBegin extra values
+  MayStand (Said extra values (Some steps)) (StepLine bound weight) = Unit {0}
+  MayStand (Said extra values (Some steps)) (NodeLine EndLine) = Unit {0}
+  MayStand state line = ⊥
+
+  -- the node whose turn it is; a bound that the problem declares
+  abbrev pub NamesFit : WideningSaid → WideningLine → Type 0
+  NamesFit state (NodeLine line) = executions.NamesFit p readings (values_of state) line
+  NamesFit state (StepLine bound weight) = (b : Bound) × Names p bound b × IsDeclared p b
+  NamesFit state line = Unit {0}
+
+  -- there is room for one more step
+  abbrev pub HasRoom : WideningSaid → WideningLine → Type 0
+  HasRoom state (StepLine bound weight) = length (steps_of state) < most_steps
+  HasRoom state line = Unit {0}
+
+  -- real times are at most those of all nodes, and there are none where no widening heals
+  abbrev pub AreTimes : Option ℕ → List ℤ → Type 0
+  AreTimes None values = values ≡ []
+  AreTimes (Some extra) values = (extra < 2 ^ 62) × AreValues (length (nodes_of p readings)) values
+
+  -- a cycle begins where it may, and has steps of the problem
+  abbrev pub IsCycle : Option ℕ → List ℤ → Option (List Step) → Type 0
+  IsCycle extra values None = Unit {0}
+  IsCycle extra values (Some steps) = MayBegin extra values × AreSteps p steps
+
+  -- all so far is lawful
+  abbrev pub IsSound : WideningSaid → Type 0
+  IsSound NoneSaid = Unit {0}
+  IsSound (Said extra values cycle) = AreTimes extra values × IsCycle extra values cycle
+
+  -- the lines behind the head
+  abbrev pub said_lines : WideningSaid → List ℕ
+  said_lines NoneSaid = []
+  said_lines (Said extra values cycle) = line_of (least_words extra) ++ value_lines p (nodes_of p readings) values ++ cycle_lines p cycle
+
+  -- the format of widening texts
+  abbrev pub widening_format : Format WideningSaid WideningLine
+  widening_format = record {
+    head = widening_head;
+    end = NodeLine EndLine;
+    line_words = line_words;
+    IsSpelled = IsSpelled;
+    MayStand = MayStand;
+    NamesFit = NamesFit;
+    NumbersFit = NumbersFit;
+    HasRoom = HasRoom;
+    IsSound = IsSound;
+    text_of = λ s. line_of widening_head ++ said_lines s;
+    lines_of = λ s. said_size s + 1;
+  }

@@ -1,0 +1,39 @@
+-- The text of a widening.
+use Rattle.std.specs.Prelude.{ℕ, List, [], ◌∷◌, ◌++◌, codes, Option, Some, None}
+use Rattle.std.specs.List.{flat_map}
+use Rattle.atto.specs.Decimal.{decimal_of}
+use Rattle.line_format.specs.Words.{line_of}
+use Rattle.problem_model.specs.declared.items.Node.{Node}
+use Rattle.problem_model.specs.Problem.{ProblemLists}
+use Rattle.problem_model.specs.ExecutionText.{value_lines}
+use Rattle.cert.specs.declared.chain.Step.{Step}
+use Rattle.cert.specs.CertificateText.{step_line}
+use Rattle.widen.specs.declared.widening.Widening.{Widening}
+use Rattle.widen.specs.declared.widening.Widening.TheVariants.{Least, Never}
+
+-- the words of the first line
+abbrev pub widening_head : List (List ℕ)
+widening_head = codes "widening" ∷ codes "1" ∷ []
+
+-- by how many ns, or the word for no number
+abbrev pub least_word : Option ℕ → List ℕ
+least_word None = codes "none"
+least_word (Some extra) = decimal_of extra
+
+-- the words of the line that says it
+abbrev pub least_words : Option ℕ → List (List ℕ)
+least_words extra = codes "least" ∷ least_word extra ∷ []
+
+-- the lines of a cycle, where there is one
+abbrev pub cycle_lines : ProblemLists → Option (List Step) → List ℕ
+cycle_lines p None = []
+cycle_lines p (Some cycle) = line_of (codes "cycle" ∷ []) ++ flat_map (step_line p) cycle
+
+-- what stands between the first line and the end
+abbrev pub widening_lines : ProblemLists → List Node → Widening → List ℕ
+widening_lines p nodes (Least extra execution cycle) = line_of (least_words (Some extra)) ++ value_lines p nodes execution ++ cycle_lines p cycle
+widening_lines p nodes (Never cycle) = line_of (least_words None) ++ cycle_lines p (Some cycle)
+
+-- the only text of a widening, over the nodes in their order
+abbrev pub widening_text : ProblemLists → List Node → Widening → List ℕ
+widening_text p nodes w = line_of widening_head ++ widening_lines p nodes w ++ line_of (codes "end" ∷ [])

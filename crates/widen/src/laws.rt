@@ -1,0 +1,40 @@
+// What a widening says of a problem, in laws. None of them does anything.
+ghost use Rattle.std.specs.Prelude.{◌≡◌, ◌≤◌, ◌<◌, ◌^◌, ◌↔◌, ◌⊎◌, ℕ, ℤ, List, Option, Result, Ok, Err};
+ghost use Rattle.line_format.specs.Format.{Answers, Answer};
+ghost use Rattle.line_format.specs.Format.Answer.{Found};
+ghost use Rattle.problem_model.specs.Problem.{ProblemLists, IsWellFormed, IsProblem};
+ghost use Rattle.problem_model.specs.Bounds.{Times, IsExecution};
+ghost use Rattle.problem_model.specs.Nodes.{Reading, AreReadings};
+ghost use Rattle.cert.specs.declared.chain.Step.{Step};
+ghost use Rattle.cert.specs.declared.error.CertError.{CertError};
+ghost use Rattle.cert.specs.declared.error.CertError.TheVariants as errors;
+ghost use Rattle.cert_check.specs.declared.answer.Answer as judged;
+ghost use Rattle.cert_check.specs.Widened.{widened};
+ghost use Rattle.widen.specs.declared.widening.Widening.{Widening};
+ghost use Rattle.widen.specs.declared.widening.Widening.TheVariants.{Least, Never};
+ghost use Rattle.widen.specs.Least.{IsLeastWidening, HasNoWidening};
+ghost use Rattle.widen.specs.Widening.{IsWideningOf, ShowsWidening, IsJudged};
+ghost use Rattle.widen.specs.WideningFormat.{WideningSaid, said, widening_format};
+ghost use Rattle.widen.specs.ReadsWidening.{IsWideningTextOf, ReadsWideningOver};
+
+/// A law, which does nothing when it runs. What is an execution where greatest delays are some ns greater is one where they are
+/// still greater. So a widening that shows what it should is the least one, or there is none; a problem has one least
+/// widening or none, and not both. A widening has one answer.
+pub fn least()
+    ensures rises { (p : ProblemLists) (e f : ℕ) (x : Times) → e ≤ f → IsExecution (widened p e) x → IsExecution (widened p f) x }
+    ensures shown { (p : ProblemLists) (extra : ℕ) (execution : List ℤ) (cycle : Option (List Step)) → extra < 2 ^ 62
+        → IsWideningOf p (Least extra execution cycle) → ShowsWidening p (Least extra execution cycle) → IsLeastWidening p extra }
+    ensures never { (p : ProblemLists) (cycle : List Step) → ShowsWidening p (Never cycle) → HasNoWidening p }
+    ensures one { (p : ProblemLists) (e f : ℕ) → IsLeastWidening p e → IsLeastWidening p f → e ≡ f }
+    ensures not_both { (p : ProblemLists) (e : ℕ) → IsLeastWidening p e → HasNoWidening p → ⊥ }
+    ensures answer { (p : ProblemLists) (w : Widening) (a b : judged.Answer) → IsWellFormed p → IsWideningOf p w → IsJudged p w a → IsJudged p w b → a ≡ b }
+{}
+
+/// A law, which does nothing when it runs: for a lawful problem each text has one answer, and the text of a widening whose
+/// numbers are in range is read, where it is not too long, as that widening, and is refused for want of memory alone.
+pub fn widening_answers_are_one()
+    ensures one { (p : ProblemLists) (readings : List Reading) (text : List ℕ) (a b : Answer WideningSaid) → IsProblem p → AreReadings p readings → Answers (widening_format p readings) text a → Answers (widening_format p readings) text b → a ≡ b }
+    ensures found { (p : ProblemLists) (readings : List Reading) (text : List ℕ) (w : Widening) → AreReadings p readings → (IsWideningTextOf p readings w text ↔ Answers (widening_format p readings) text (Found (said w))) }
+    ensures read_again { (p : ProblemLists) (readings : List Reading) (text : List ℕ) (w : Widening) (result : Result Widening CertError) → IsProblem p → AreReadings p readings → IsWideningTextOf p readings w text
+        → ReadsWideningOver p readings text result → (result ≡ Ok w) ⊎ (result ≡ Err errors.Memory) }
+{}

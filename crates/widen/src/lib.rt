@@ -1,0 +1,21 @@
+//! The least widening that heals a contradiction: by how many nanoseconds each greatest delay of a message must be greater at
+//! least, so that an execution exists.
+//!
+//! A `Widening` says so with what shows it from both sides: an execution of the problem that is widened by that much, and a
+//! contradiction of the one that is widened by 1 ns less; or a contradiction of the one that is widened by as much as can be.
+//! `judge` checks one and trusts no solver; `read_widening` and `write_widening` have its text.
+#![tactic(auto)]
+
+mod judging;
+mod laws;
+mod read;
+mod text;
+mod widening;
+mod write;
+
+pub use judging::judge;
+pub use laws::{least, widening_answers_are_one};
+pub use read::read_widening;
+pub use text::judge_text;
+pub use widening::Widening;
+pub use write::write_widening;

@@ -1,0 +1,312 @@
+// The text of a widening, line by line.
+ghost use Rattle.std.specs.Prelude.{◌≡◌, ◌≢◌, ◌≤◌, ◌<◌, ◌^◌, ◌+◌, ◌++◌, ◌∷◌, [], ℕ, ℤ, List, length, Option, Some, None, IfSome, IfNone, OnOk};
+ghost use Rattle.line_format.specs.Words.{words, line_of};
+ghost use Rattle.line_format.specs.Cut.{Lacks};
+ghost use Rattle.line_format.specs.Format.{Takes, most_bytes};
+ghost use Rattle.problem_model.specs.Problem.{ProblemLists};
+ghost use Rattle.problem_model.specs.Nodes.{Reading, nodes_of};
+ghost use Rattle.problem.specs.Listing.{all_readings};
+ghost use Rattle.cert.specs.CertificateFormat.{AreSteps};
+ghost use Rattle.cert.specs.ExecutionFormat.{AreValues};
+ghost use Rattle.cert.specs.ReadsExecution.{error_at};
+ghost use Rattle.widen.specs.WideningText.{widening_head, least_word, least_words};
+ghost use Rattle.widen.specs.WideningFormat.{widening_format, IsWhole};
+ghost use Rattle.widen.specs.WideningFormat.WideningSaid.{Said};
+ghost use Rattle.widen.specs.ReadsWidening.{ReadsWidening, ReadsWideningOver};
+ghost use Rattle.widen.specs.ReadsLines.{IsStated, IsBehind, IsStatedIn, ReadsTime, ReadsTimes, ReadsEnd, ReadsCycle};
+
+use crate::widening::Widening;
+use atto::{Nano, NumFault, read_decimal};
+use cert::steps::step_words;
+use cert::take_part::{push_step, take_value};
+use cert::{CertError, Chain, Execution};
+use line_format::{FaultKind, LineError, MOST_BYTES, Taken, cut};
+use problem::Problem;
+use std::alloc::Global;
+
+/// What the line of the widening says.
+#[derive(Clone, Copy)]
+pub enum Stated {
+    /// So many ns.
+    Of(Nano),
+    /// 2^62 ns or more.
+    TooMuch,
+    /// That no widening heals.
+    Never,
+}
+
+// The error of a text by that of a line.
+fn error_at(fault: LineError, line: u32) -> CertError
+    ensures { result ≡ error_at fault line }
+{
+    match fault {
+        LineError::Memory => CertError::Memory,
+        LineError::Fault(FaultKind::Syntax) => CertError::Syntax(line),
+        LineError::Fault(FaultKind::Name) => CertError::Name(line),
+        LineError::Fault(FaultKind::Range) => CertError::Range(line),
+        LineError::Fault(FaultKind::Limit) => CertError::Limit(line),
+    }
+}
+
+// What follows a first line of this word alone.
+fn behind<'a>(word: &[u8], lines: &'a [u8]) -> Option<&'a [u8]>
+    requires { Lacks 10 word.now }
+    ensures some { IfSome result (λ rest. lines.now ≡ line_of (word.now ∷ []) ++ rest.now) }
+    ensures none { IfNone result ((more : List ℕ) → lines.now ≡ line_of (word.now ∷ []) ++ more → ⊥) }
+{
+    match cut(b'\n', lines) {
+        Some((first, rest)) => { if first == word { Some(rest) } else { None } }
+        None => None,
+    }
+}
+
+// The widening that a word spells.
+fn extra_of(word: &[u8]) -> Option<Stated>
+    ensures some { IfSome result (λ s. (extra : Option ℕ) × (word.now ≡ least_word extra) × IsStated extra s) }
+    ensures none { IfNone result ((extra : Option ℕ) → word.now ≡ least_word extra → ⊥) }
+{
+    if word == b"none".as_slice() {
+        return Some(Stated::Never);
+    }
+    match read_decimal(word) {
+        Ok(extra) => match Nano::new(extra) {
+            Some(extra) => Some(Stated::Of(extra)),
+            None => Some(Stated::TooMuch),
+        },
+        Err(NumFault::Range) => Some(Stated::TooMuch),
+        Err(NumFault::Spelling) => None,
+    }
+}
+
+// The widening of a line `least E` or `least none`.
+fn stated_by(body: &[u8]) -> Option<Stated>
+    ensures some { IfSome result (λ s. (extra : Option ℕ) × (body.now ≡ words (least_words extra)) × IsStated extra s) }
+    ensures none { IfNone result ((extra : Option ℕ) → body.now ≡ words (least_words extra) → ⊥) }
+{
+    match cut(b' ', body) {
+        Some((word, extra)) => {
+            if word != b"least".as_slice() {
+                return None;
+            }
+            extra_of(extra)
+        }
+        None => None,
+    }
+}
+
+// A step of a cycle, or the end.
+fn take_step(p: &Problem, cycle: &mut Chain, body: &[u8]) -> Result<Taken, LineError>
+    ensures takes { (extra : Option ℕ) (values : List ℤ) → Takes (widening_format p.now (all_readings p.now.events)) (Said extra values (Some cycle.old)) body.now result (Said extra values (Some cycle.new)) }
+    ensures sound { AreSteps p.now cycle.old → OnOk result (AreSteps p.now cycle.new) }
+{
+    match step_words(body) {
+        Some(words) => match push_step(p, cycle, &words) {
+            Ok(()) => Ok(Taken::Line),
+            Err(fault) => Err(fault),
+        },
+        None => {
+            if body == b"end".as_slice() {
+                Ok(Taken::End)
+            } else {
+                Err(LineError::Fault(FaultKind::Syntax))
+            }
+        }
+    }
+}
+
+// The steps of a cycle up to the end of the text, where the first line has this number.
+fn read_steps(alloc: Global, p: &Problem, lines: &[u8], first: u32) -> Result<Chain, CertError>
+    requires { first ≤ 2 ^ 23 }
+    ensures { (extra : Option ℕ) (values : List ℤ) (text : List ℕ) → IsBehind p.now (all_readings p.now.events) text lines.now (Said extra values (Some [])) first
+        → ReadsCycle p.now (all_readings p.now.events) text extra values result }
+{
+    let mut cycle = Chain::new(alloc);
+    let mut rest = lines;
+    while let Some((body, after)) = cut(b'\n', rest) {
+        let line = first + cycle.len();
+        match take_step(p, &mut cycle, body) {
+            Ok(Taken::Line) => {}
+            Ok(Taken::End) => {
+                if after.is_empty() {
+                    return Ok(cycle);
+                }
+                return Err(CertError::Syntax(line + 1));
+            }
+            Err(fault) => return Err(error_at(fault, line)),
+        }
+        rest = after;
+    }
+    Err(CertError::Syntax(first + cycle.len()))
+}
+
+// The real time of the next node, and what follows its line.
+fn next_time<'a>(p: &Problem, times: &mut Execution, lines: &'a [u8]) -> Result<&'a [u8], CertError>
+    requires values { AreValues (length (nodes_of p.now (all_readings p.now.events))) times.old }
+    requires more { IsWhole p.now (all_readings p.now.events) times.old → ⊥ }
+    ensures read { (extra : ℕ) (text : List ℕ) → IsBehind p.now (all_readings p.now.events) text lines.now (Said (Some extra) times.old None) (length times.old + 3)
+        → ReadsTime p.now (all_readings p.now.events) text extra times.new result }
+    ensures values { AreValues (length (nodes_of p.now (all_readings p.now.events))) times.new }
+    ensures one { OnOk result (length times.new ≡ length times.old + 1) }
+{
+    let line = times.len() + 3;
+    match cut(b'\n', lines) {
+        Some((body, rest)) => match take_value(p, times, body) {
+            Ok(_) => Ok(rest),
+            Err(fault) => Err(error_at(fault, line)),
+        },
+        None => Err(CertError::Syntax(line)),
+    }
+}
+
+// The real time of each node, the first one in line 3, and what follows them.
+fn read_times<'a>(
+    p: &Problem,
+    times: &mut Execution,
+    lines: &'a [u8],
+) -> Result<&'a [u8], CertError>
+    requires { times.old ≡ [] }
+    ensures { (extra : ℕ) (text : List ℕ) → IsBehind p.now (all_readings p.now.events) text lines.now (Said (Some extra) [] None) 3
+        → ReadsTimes p.now (all_readings p.now.events) text extra times.new result }
+{
+    let count = p.events().len() + p.readings().len();
+    let mut rest = lines;
+    'nodes: while (times.len() as usize) < count {
+        match next_time(p, times, rest) {
+            Ok(after) => rest = after,
+            Err(error) => return Err(error),
+        }
+    }
+    Ok(rest)
+}
+
+// The end of the text behind the real times, where the widening is 0.
+fn read_end(lines: &[u8], line: u32) -> Result<(), CertError>
+    requires { line ≤ 2 ^ 23 }
+    ensures { (p : ProblemLists) (readings : List Reading) (values : List ℤ) (text : List ℕ) → IsBehind p readings text lines.now (Said (Some 0) values None) line → IsWhole p readings values
+        → ReadsEnd p readings text values result }
+{
+    match behind(b"end", lines) {
+        Some(rest) => {
+            if rest.is_empty() {
+                Ok(())
+            } else {
+                Err(CertError::Syntax(line + 1))
+            }
+        }
+        None => Err(CertError::Syntax(line)),
+    }
+}
+
+// What follows the real times of all nodes.
+fn read_rest(
+    alloc: Global,
+    p: &Problem,
+    extra: Nano,
+    execution: Execution,
+    lines: &[u8],
+) -> Result<Widening, CertError>
+    ensures { (text : List ℕ) → IsBehind p.now (all_readings p.now.events) text lines.now (Said (Some extra) execution None) (length execution + 3) → IsWhole p.now (all_readings p.now.events) execution
+        → ReadsWideningOver p.now (all_readings p.now.events) text result }
+{
+    let _ = p.readings();
+    let line = execution.len() + 3;
+    if extra.get() == 0 {
+        return match read_end(lines, line) {
+            Ok(()) => Ok(Widening::Least {
+                extra,
+                execution,
+                cycle: None,
+            }),
+            Err(error) => Err(error),
+        };
+    }
+    match behind(b"cycle", lines) {
+        Some(rest) => match read_steps(alloc, p, rest, line + 1) {
+            Ok(cycle) => Ok(Widening::Least {
+                extra,
+                execution,
+                cycle: Some(cycle),
+            }),
+            Err(error) => Err(error),
+        },
+        None => Err(CertError::Syntax(line)),
+    }
+}
+
+// What follows the line of a widening by so many ns.
+fn read_least(alloc: Global, p: &Problem, extra: Nano, lines: &[u8]) -> Result<Widening, CertError>
+    ensures { (text : List ℕ) → IsBehind p.now (all_readings p.now.events) text lines.now (Said (Some extra) [] None) 3 → ReadsWideningOver p.now (all_readings p.now.events) text result }
+{
+    let mut execution = Execution::new(alloc);
+    match read_times(p, &mut execution, lines) {
+        Ok(rest) => read_rest(alloc, p, extra, execution, rest),
+        Err(error) => Err(error),
+    }
+}
+
+// What follows the line that no widening heals.
+fn read_never(alloc: Global, p: &Problem, lines: &[u8]) -> Result<Widening, CertError>
+    ensures { (text : List ℕ) → IsBehind p.now (all_readings p.now.events) text lines.now (Said None [] None) 3 → ReadsWideningOver p.now (all_readings p.now.events) text result }
+{
+    let _ = p.readings();
+    match behind(b"cycle", lines) {
+        Some(rest) => match read_steps(alloc, p, rest, 4) {
+            Ok(cycle) => Ok(Widening::Never(cycle)),
+            Err(error) => Err(error),
+        },
+        None => Err(CertError::Syntax(3)),
+    }
+}
+
+// What follows the line that states the widening.
+fn read_stated(
+    alloc: Global,
+    p: &Problem,
+    stated: Stated,
+    lines: &[u8],
+) -> Result<Widening, CertError>
+    ensures { (text : List ℕ) → IsStatedIn p.now (all_readings p.now.events) text lines.now stated → ReadsWideningOver p.now (all_readings p.now.events) text result }
+{
+    match stated {
+        Stated::Of(extra) => read_least(alloc, p, extra, lines),
+        Stated::TooMuch => Err(CertError::Range(2)),
+        Stated::Never => read_never(alloc, p, lines),
+    }
+}
+
+// The lines behind the head, which is line 1.
+fn read_lines(alloc: Global, p: &Problem, lines: &[u8]) -> Result<Widening, CertError>
+    requires { length (line_of widening_head ++ lines.now) ≤ most_bytes }
+    ensures { ReadsWideningOver p.now (all_readings p.now.events) (line_of widening_head ++ lines.now) result }
+{
+    match cut(b'\n', lines) {
+        Some((body, rest)) => match stated_by(body) {
+            Some(stated) => read_stated(alloc, p, stated, rest),
+            None => Err(CertError::Syntax(2)),
+        },
+        None => Err(CertError::Syntax(2)),
+    }
+}
+
+fn read_text(alloc: Global, p: &Problem, text: &[u8]) -> Result<Widening, CertError>
+    ensures { ReadsWideningOver p.now (all_readings p.now.events) text.now result }
+{
+    if text.len() > MOST_BYTES {
+        return Err(CertError::Long);
+    }
+    match behind(b"widening 1", text) {
+        Some(lines) => read_lines(alloc, p, lines),
+        None => Err(CertError::Syntax(1)),
+    }
+}
+
+/// The widening of a problem that a text spells, or the first fault of the text with its line: `Syntax` where a line is none
+/// of the forms that may stand there, which a cycle does behind `least none` and, behind the real times of all nodes, where
+/// the widening is above 0; else `Name` where a name is not the one that stands there or not the problem's; else `Range`
+/// where a real time or a weight is past 2^120 units in absolute value, or the widening 2^62 ns or more; else `Limit` behind
+/// 2^22 steps. `Long` comes beyond 2^30 bytes, and `Memory` only where memory runs out.
+pub fn read_widening(alloc: Global, p: &Problem, text: &[u8]) -> Result<Widening, CertError>
+    ensures { ReadsWidening p.now text.now result }
+{
+    read_text(alloc, p, text)
+}

@@ -1,0 +1,22 @@
+// A widening's text, read and judged at once.
+ghost use Rattle.widen.specs.JudgedText.{JudgesText};
+
+use crate::judging::judge;
+use crate::read::read_widening;
+use cert::CertError;
+use cert_check::Answer;
+use problem::Problem;
+use std::alloc::Global;
+
+/// Reads a widening's text of `p`, and answers whether the widening shows what it should, or the first reason why it does not,
+/// as `judge` does. Errors are those of reading: the first fault of the text with its line, or that the text has more than
+/// 2^30 bytes, or want of memory.
+pub fn judge_text(alloc: Global, p: &Problem, text: &[u8]) -> Result<Answer, CertError>
+    ensures { JudgesText p.now text.now result }
+{
+    let _readings = p.readings();
+    match read_widening(alloc, p, text) {
+        Ok(w) => Ok(judge(p, &w)),
+        Err(error) => Err(error),
+    }
+}

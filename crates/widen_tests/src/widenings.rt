@@ -1,0 +1,327 @@
+// Worked texts of widenings: what judging them answers, why others are refused, and that they are written as they are read.
+use cert::CertError;
+use cert_check::{Answer, Part, Reason};
+use problem::{Bound, Problem, read_problem};
+use std::alloc::{AllocError, Global};
+use std::test::*;
+use widen::judge_text;
+
+// One ns, in units of 1e-9 ns.
+const NS: i128 = 1_000_000_000;
+
+// Two clocks without error, and a message each way with 10 to 20 ns of delay. By the first clock both messages and the 50 ns
+// between them take 95 ns, so the messages together take 45.
+const CONTRADICTING: &str =
+    "problem 1\nclock a 0 0 0 0\nclock b 0 0 0 0\nevent a#1 a 100\nevent a#2 a 195\nevent b#1 b 250\nevent b#2 b 300\n\
+    message a#1 b#1 10 20\nmessage b#2 a#2 10 20\nend\n";
+
+// With 3 ns more each they can; with 2 ns more they take 44 at most.
+const THREE: [&str; 20] = [
+    "widening 1\n",
+    "least 3\n",
+    "event a#1 0.000000000\n",
+    "event a#2 95.000000000\n",
+    "event b#1 22.000000000\n",
+    "event b#2 72.000000000\n",
+    "reading a 100 0.000000000\n",
+    "reading a 195 95.000000000\n",
+    "reading b 250 22.000000000\n",
+    "reading b 300 72.000000000\n",
+    "cycle\n",
+    "step delay-most a#1 b#1 22.000000000\n",
+    "step early b#1 0.000000000\n",
+    "step span-most b 250 300 50.000000000\n",
+    "step late b#2 0.000000000\n",
+    "step delay-most b#2 a#2 22.000000000\n",
+    "step early a#2 0.000000000\n",
+    "step span-least a 100 195 -95.000000000\n",
+    "step late a#1 0.000000000\n",
+    "end\n",
+];
+
+// The same with 80 ns by the first clock, which leaves 30 for the messages.
+const HEALTHY: &str =
+    "problem 1\nclock a 0 0 0 0\nclock b 0 0 0 0\nevent a#1 a 100\nevent a#2 a 180\nevent b#1 b 250\nevent b#2 b 300\n\
+    message a#1 b#1 10 20\nmessage b#2 a#2 10 20\nend\n";
+
+const ZERO: [&str; 11] = [
+    "widening 1\n",
+    "least 0\n",
+    "event a#1 0.000000000\n",
+    "event a#2 80.000000000\n",
+    "event b#1 10.000000000\n",
+    "event b#2 60.000000000\n",
+    "reading a 100 0.000000000\n",
+    "reading a 180 80.000000000\n",
+    "reading b 250 10.000000000\n",
+    "reading b 300 60.000000000\n",
+    "end\n",
+];
+
+// A message takes 20 ns at least between events that are 10 ns apart.
+const HOPELESS: &str =
+    "problem 1\nclock c 0 0 0 0\nevent p c 0\nevent q c 10\nmessage p q 20 none\nend\n";
+
+const NONE: [&str; 8] = [
+    "widening 1\n",
+    "least none\n",
+    "cycle\n",
+    "step delay-least p q -20.000000000\n",
+    "step early p 0.000000000\n",
+    "step span-most c 0 10 10.000000000\n",
+    "step late q 0.000000000\n",
+    "end\n",
+];
+
+// Two events lie 2^62 - 1 ns apart. A message leaves with the first, takes 0 ns, and arrives 10 ns behind the second.
+const FAR: &str =
+    "problem 1\nclock c 0 0 0 0\nclock d 0 0 0 0\nevent p c 0\nevent q c 4611686018427387903\nevent r d 0\n\
+    message q r 10 none\nmessage p r 0 0\nend\n";
+
+// 2^62 - 1 ns more are 10 too few.
+const FAR_NONE: [&str; 9] = [
+    "widening 1\n",
+    "least none\n",
+    "cycle\n",
+    "step delay-most p r 4611686018427387903.000000000\n",
+    "step delay-least q r -10.000000000\n",
+    "step early q 0.000000000\n",
+    "step span-least c 0 4611686018427387903 -4611686018427387903.000000000\n",
+    "step late p 0.000000000\n",
+    "end\n",
+];
+
+// Appends the lines, with another text in the place of one.
+fn push_lines(
+    bytes: &mut Vec<u8>,
+    lines: &[&str],
+    place: usize,
+    text: &str,
+) -> Result<(), AllocError> {
+    for (k, line) in lines.iter().enumerate() {
+        let line = if k + 1 == place { text } else { *line };
+        bytes.extend_from_slice(line.as_bytes())?;
+    }
+    Ok(())
+}
+
+// The answer of the lines with another text in the place of one.
+fn answer_with(
+    alloc: Global,
+    p: &Problem,
+    lines: &[&str],
+    place: usize,
+    text: &str,
+) -> Result<Answer, CertError> {
+    let mut bytes = Vec::new(alloc);
+    match push_lines(&mut bytes, lines, place, text) {
+        Ok(()) => judge_text(alloc, p, &bytes),
+        Err(_) => Err(CertError::Memory),
+    }
+}
+
+// Whether the lines of a problem, each time with another text in the place of one, have these answers.
+fn have_answers(
+    alloc: Global,
+    problem: &str,
+    lines: &[&str],
+    cases: &[(usize, &str, Answer)],
+) -> bool {
+    let Ok(p) = read_problem(alloc, problem.as_bytes()) else {
+        return false;
+    };
+    cases.iter().all(|(place, text, answer)| answer_with(alloc, &p, lines, *place, text)
+        == Ok(*answer))
+}
+
+// Whether they have these faults.
+fn have_faults(
+    alloc: Global,
+    problem: &str,
+    lines: &[&str],
+    cases: &[(usize, &str, CertError)],
+) -> bool {
+    let Ok(p) = read_problem(alloc, problem.as_bytes()) else {
+        return false;
+    };
+    cases.iter().all(|(place, text, fault)| answer_with(alloc, &p, lines, *place, text)
+        == Err(*fault))
+}
+
+const fn cycle(reason: Reason) -> Answer {
+    Answer::No {
+        part: Part::Cycle,
+        reason,
+    }
+}
+
+const fn broken(bound: Bound, weight: i128, difference: i128) -> Answer {
+    Answer::No {
+        part: Part::Run,
+        reason: Reason::Broken {
+            bound,
+            weight,
+            difference,
+        },
+    }
+}
+
+#[test]
+fn widening_by_three_is_judged_from_both_sides(rt: HostRuntime) {
+    let back = Bound::DelayMost {
+        send: 3,
+        receive: 1,
+    };
+    let cases = [
+        (0, "", Answer::Yes),
+        // With 4 ns more the execution stands, but the cycle is not one of 3.
+        (2, "least 4\n", cycle(Reason::Weight(1))),
+        (2, "least 4611686018427387903\n", cycle(Reason::Weight(1))),
+        // With 2 ns more the second message may take 22 ns, and takes 23.
+        (2, "least 2\n", broken(back, 22 * NS, 23 * NS)),
+        // An event before the reading of its stamp is looked at behind the spans and before the messages.
+        (5, "event b#1 23.000000000\n", broken(Bound::Late(2), 0, NS)),
+        // The weights that are declared, and those of 3.
+        (
+            12,
+            "step delay-most a#1 b#1 20.000000000\n",
+            cycle(Reason::Weight(1)),
+        ),
+        (
+            12,
+            "step delay-most a#1 b#1 23.000000000\n",
+            cycle(Reason::Weight(1)),
+        ),
+        (
+            16,
+            "step delay-most b#2 a#2 23.000000000\n",
+            cycle(Reason::Weight(5)),
+        ),
+        (
+            18,
+            "step span-least a 100 195 -93.000000000\n",
+            cycle(Reason::Weight(7)),
+        ),
+        // The least delay is as it is declared, and leads elsewhere.
+        (
+            13,
+            "step delay-least a#1 b#1 -10.000000000\n",
+            cycle(Reason::Join(2)),
+        ),
+        (
+            13,
+            "step delay-least a#1 b#1 -12.000000000\n",
+            cycle(Reason::Weight(2)),
+        ),
+        (15, "", cycle(Reason::Join(3))),
+        (19, "", cycle(Reason::Join(7))),
+    ];
+    assert!(rt; have_answers(rt.alloc(), CONTRADICTING, &THREE, &cases));
+}
+
+#[test]
+fn texts_of_widenings_have_their_faults(rt: HostRuntime) {
+    let cases = [
+        (1, "widening 2\n", CertError::Syntax(1)),
+        (1, "certificate 1\n", CertError::Syntax(1)),
+        (2, "least 03\n", CertError::Syntax(2)),
+        (2, "least -3\n", CertError::Syntax(2)),
+        (2, "least\n", CertError::Syntax(2)),
+        (2, "least 4611686018427387904\n", CertError::Range(2)),
+        (2, "least 99999999999999999999\n", CertError::Range(2)),
+        (2, "least none\n", CertError::Syntax(3)),
+        (2, "least 0\n", CertError::Syntax(11)),
+        (3, "reading a 100 0.000000000\n", CertError::Syntax(3)),
+        (4, "event b#1 95.000000000\n", CertError::Name(4)),
+        (10, "", CertError::Syntax(10)),
+        (11, "", CertError::Syntax(11)),
+        (11, "end\n", CertError::Syntax(11)),
+        (11, "cycle\ncycle\n", CertError::Syntax(12)),
+        (
+            12,
+            "step delay-most a#1 b#2 22.000000000\n",
+            CertError::Name(12),
+        ),
+        (
+            12,
+            "step delay-most a#1 b#1 1329227995784915872903807060.280344577\n",
+            CertError::Range(12),
+        ),
+        (20, "", CertError::Syntax(20)),
+        (20, "end", CertError::Syntax(20)),
+        (20, "end\nend\n", CertError::Syntax(21)),
+    ];
+    assert!(rt; have_faults(rt.alloc(), CONTRADICTING, &THREE, &cases));
+}
+
+#[test]
+fn nothing_is_widened_where_an_execution_exists(rt: HostRuntime) {
+    let cases = [
+        (0, "", Answer::Yes),
+        (
+            6,
+            "event b#2 59.000000000\n",
+            broken(Bound::Early(3), 0, NS),
+        ),
+        (4, "event a#2 80.000000001\n", broken(Bound::Late(1), 0, 1)),
+    ];
+    assert!(rt; have_answers(rt.alloc(), HEALTHY, &ZERO, &cases));
+}
+
+#[test]
+fn cycle_stands_behind_a_widening_above_0_alone(rt: HostRuntime) {
+    let cases = [
+        (2, "least 1\n", CertError::Syntax(11)),
+        (11, "cycle\nend\n", CertError::Syntax(11)),
+        (
+            11,
+            "step late a#1 0.000000000\nend\n",
+            CertError::Syntax(11),
+        ),
+    ];
+    assert!(rt; have_faults(rt.alloc(), HEALTHY, &ZERO, &cases));
+}
+
+#[test]
+fn no_widening_is_judged_by_the_greatest(rt: HostRuntime) {
+    let cases = [
+        (0, "", Answer::Yes),
+        (
+            4,
+            "step delay-least p q -19.000000000\n",
+            cycle(Reason::Weight(1)),
+        ),
+        (6, "", cycle(Reason::Join(2))),
+    ];
+    assert!(rt; have_answers(rt.alloc(), HOPELESS, &NONE, &cases));
+}
+
+#[test]
+fn weights_of_no_widening_are_the_greatest(rt: HostRuntime) {
+    let cases = [
+        (0, "", Answer::Yes),
+        (
+            4,
+            "step delay-most p r 0.000000000\n",
+            cycle(Reason::Weight(1)),
+        ),
+        (
+            4,
+            "step delay-most p r 4611686018427387902.000000000\n",
+            cycle(Reason::Weight(1)),
+        ),
+    ];
+    assert!(rt; have_answers(rt.alloc(), FAR, &FAR_NONE, &cases));
+}
+
+#[test]
+fn no_widening_has_no_real_times(rt: HostRuntime) {
+    let cases = [
+        (2, "least 1\n", CertError::Syntax(3)),
+        (3, "event p 0.000000000\n", CertError::Syntax(3)),
+        (3, "", CertError::Syntax(3)),
+        (3, "end\n", CertError::Syntax(3)),
+        (4, "step delay-most p q 0.000000000\n", CertError::Name(4)),
+    ];
+    assert!(rt; have_faults(rt.alloc(), HOPELESS, &NONE, &cases));
+}
