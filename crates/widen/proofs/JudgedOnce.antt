@@ -1,5 +1,5 @@
 -- What judging answers is yes exactly where the widening shows what it should, and is one.
-use Rattle.std.proofs.Common.{◌≡◌, ◌≢◌, ◌-◌, ◌⊎◌, ◌↔◌, ℕ, List, Option, Some, None, sym, ◌∙◌, subst, inl, inr}
+use Rattle.std.proofs.Common.{◌≡◌, ◌-◌, ◌↔◌, ℕ, List, Option, Some, None, sym, ◌∙◌, subst, inl, inr}
 use Rattle.std.specs.Prelude.{ℤ, All}
 use Rattle.problem_model.specs.Problem.{ProblemLists, IsWellFormed}
 use Rattle.problem_model.specs.Bounds.{Times}

@@ -3,7 +3,6 @@ use Rattle.std.proofs.Common.{◌≡◌, ◌⊎◌, ◌<◌, ◌^◌, inl, inr, 
 use Rattle.std.specs.Prelude.{IfSome}
 use Rattle.std.proofs.Math.ListN.{get_or-append}
 use Rattle.atto.specs.Number.{FitsUnits}
-use Rattle.line_format.specs.Words.{line_of}
 use Rattle.line_format.specs.Format.{Answers, Answer}
 use Rattle.line_format.specs.Format.Answer.{Found, Faulty}
 use Rattle.line_format.specs.declared.fault.FaultKind.TheVariants as kinds
@@ -25,7 +24,7 @@ use Rattle.cert.proofs.Executions as timed
 use Rattle.cert.proofs.CertGrowing.{names_one, declared_named, step_spelled}
 use Rattle.widen.specs.declared.widening.Widening.{Widening}
 use Rattle.widen.specs.declared.widening.Widening.TheVariants.{Least, Never}
-use Rattle.widen.specs.WideningFormat.{WideningLine, WideningSaid, line_words, AreTimes, IsCycle, IsSound, said, said_size, widening_format}
+use Rattle.widen.specs.WideningFormat.{WideningLine, WideningSaid, AreTimes, IsCycle, IsSound, said, said_size, widening_format}
 use Rattle.widen.specs.WideningFormat.WideningLine.{LeastLine, NodeLine, CycleLine, StepLine}
 use Rattle.widen.specs.WideningFormat.WideningSaid.{NoneSaid, Said}
 use Rattle.widen.specs.ReadsWidening.{IsWideningTextOf, ReadsWideningOver}

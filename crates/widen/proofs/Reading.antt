@@ -1,5 +1,5 @@
 -- From the lines of a text to what the whole text answers.
-use Rattle.std.proofs.Common.{◌≡◌, ◌≢◌, ◌↔◌, ◌<◌, ◌≤◌, ◌+◌, ◌^◌, ℕ, List, [], ◌∷◌, ◌++◌, length, All, Option, Some, None, Result, Ok, Err, codes, refl, sym, ◌∙◌, ap, subst, arith, ℤ, append_assoc, append-nil}
+use Rattle.std.proofs.Common.{◌≡◌, ◌≢◌, ◌↔◌, ◌<◌, ◌≤◌, ◌+◌, ◌^◌, ℕ, List, [], ◌∷◌, ◌++◌, length, All, Option, Some, None, Ok, Err, codes, refl, sym, ◌∙◌, ap, subst, arith, ℤ, append_assoc, append-nil}
 use Rattle.atto.specs.Number.{FitsUnits}
 use Rattle.line_format.specs.Words.{words, line_of}
 use Rattle.line_format.specs.Cut.{cut}
@@ -17,18 +17,16 @@ use Rattle.problem_model.specs.Problem.{ProblemLists}
 use Rattle.problem_model.specs.Nodes.{Reading, AreReadings, nodes_of}
 use Rattle.problem_model.proofs.OneList.{readings_one}
 use Rattle.std.proofs.lemmas.Option.{slice_get_within}
-use Rattle.cert.specs.declared.chain.Step.{Step}
-use Rattle.cert.specs.declared.error.CertError.TheVariants as errors
 use Rattle.cert.specs.ExecutionFormat.{AreValues}
 use Rattle.cert.specs.ExecutionFormat.ExecutionLine.{EventLine, ReadingLine, EndLine}
 use Rattle.cert.specs.CertificateText.{HasOneEach}
 use Rattle.cert.specs.CertificateFormat.{AreSteps}
 use Rattle.cert.specs.ReadsExecution.{error_at}
-use Rattle.cert.proofs.CertGrowing.{values_text, values_none}
+use Rattle.cert.proofs.CertGrowing.{values_none}
 use Rattle.widen.specs.declared.widening.Widening.{Widening}
 use Rattle.widen.specs.declared.widening.Widening.TheVariants.{Least, Never}
 use Rattle.widen.specs.Widening.{IsWideningOf}
-use Rattle.widen.specs.WideningText.{widening_head, least_words, cycle_lines, widening_lines, widening_text}
+use Rattle.widen.specs.WideningText.{widening_head, least_words, cycle_lines, widening_text}
 use Rattle.widen.specs.WideningFormat.{WideningLine, WideningSaid, line_words, IsSpelled, IsWhole, MayBegin, MayStand, AreTimes, IsSound, said, said_lines, widening_format}
 use Rattle.widen.specs.WideningFormat.WideningLine.{LeastLine, NodeLine, CycleLine, StepLine}
 use Rattle.widen.specs.WideningFormat.WideningSaid.{NoneSaid, Said}

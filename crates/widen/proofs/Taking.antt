@@ -8,9 +8,9 @@ use Rattle.line_format.specs.declared.fault.LineError.TheVariants as errors
 use Rattle.line_format.specs.declared.fault.Taken.{Taken}
 use Rattle.line_format.specs.declared.fault.Taken.TheVariants as taken
 use Rattle.problem_model.specs.Problem.{ProblemLists}
-use Rattle.problem_model.specs.Nodes.{Reading, nodes_of}
+use Rattle.problem_model.specs.Nodes.{Reading}
 use Rattle.cert.specs.declared.chain.Step.{Step}
-use Rattle.cert.specs.ExecutionFormat.{ExecutionLine, execution_format, AreValues}
+use Rattle.cert.specs.ExecutionFormat.{execution_format}
 use Rattle.cert.specs.ExecutionFormat.ExecutionLine.{EventLine, ReadingLine, EndLine}
 use Rattle.cert.specs.CertificateFormat.{CertLine, NamedBound, cert_words, IsBoundSpelled}
 use Rattle.cert.specs.SaidStep.{NoStep}
@@ -18,7 +18,7 @@ use Rattle.cert.specs.TakesPart.{TakesStep}
 use Rattle.cert.proofs.CertGrowing.{step_spelled}
 use Rattle.widen.specs.WideningFormat.{WideningLine, WideningSaid, IsWhole, widening_format}
 use Rattle.widen.specs.WideningFormat.WideningLine.{LeastLine, NodeLine, CycleLine, StepLine}
-use Rattle.widen.specs.WideningFormat.WideningSaid.{NoneSaid, Said}
+use Rattle.widen.specs.WideningFormat.WideningSaid.{Said}
 use Rattle.widen.proofs.Growing.{times_grow, steps_grow}
 
 module _ (p : ProblemLists) (readings : List Reading) where

@@ -1,7 +1,5 @@
-use Rattle.std.proofs.Common.{◌++◌, sym}
-use Rattle.line_format.specs.Words.{line_of}
+use Rattle.std.proofs.Common.{sym}
 use Rattle.problem.specs.Listing.{all_readings}
-use Rattle.widen.specs.WideningText.{widening_head}
 use Rattle.widen.specs.WideningFormat.WideningSaid.{NoneSaid}
 use Rattle.widen.proofs.Reading.{first_line, stated_in, not_least, cut_refuses}
 use Rattle.widen.proofs.read.read_lines.Goals as goal

@@ -1,7 +1,6 @@
-use Rattle.std.proofs.Common.{◌≤◌, ◌+◌, ◌^◌, ℕ, List, [], length, Option, Some}
+use Rattle.std.proofs.Common.{◌+◌, ℕ, List, [], length, Option, Some}
 use Rattle.std.specs.Prelude.{ℤ}
 use Rattle.problem.specs.Listing.{all_readings}
-use Rattle.cert.specs.CertificateFormat.{AreSteps}
 use Rattle.widen.specs.WideningFormat.WideningSaid.{Said}
 use Rattle.widen.specs.ReadsLines.{IsBehind}
 use Rattle.widen.proofs.read.read_steps.Given as goal

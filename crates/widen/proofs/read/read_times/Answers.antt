@@ -1,5 +1,4 @@
-use Rattle.std.proofs.Common.{◌≡◌, ◌+◌, [], length, ap, arith}
-use Rattle.problem_model.specs.Nodes.{nodes_of}
+use Rattle.std.proofs.Common.{length, ap, arith}
 use Rattle.problem.specs.Listing.{all_readings}
 use Rattle.problem.proofs.AllReadings.{readings_are}
 use Rattle.cert.proofs.Places.{length-nodes_of}

@@ -1,4 +1,4 @@
-use Rattle.std.proofs.Common.{◌≤◌, ◌+◌, ◌-◌, ℕ, List, [], length, Some, None}
+use Rattle.std.proofs.Common.{◌+◌, ◌-◌, ℕ, List, [], length, Some, None}
 use Rattle.problem_model.specs.Nodes.{nodes_of}
 use Rattle.problem.specs.Listing.{all_readings}
 use Rattle.cert.specs.ExecutionFormat.{AreValues}

@@ -1,7 +1,6 @@
-use Rattle.std.proofs.Common.{◌≡◌, codes, rules}
 use Rattle.problem.specs.Listing.{all_readings}
 use Rattle.cert.proofs.PartTaking.{steps_more}
-use Rattle.widen.proofs.Taking.{step_taken, step_refused, no_line}
+use Rattle.widen.proofs.Taking.{step_taken, step_refused}
 use Rattle.widen.proofs.read.take_step.Goals as goal
 
 pub returns-in-Ok-clause-takes : goal.returns-in-Ok-clause-takes
