@@ -3,3 +3,4 @@ pub mod Current
 pub mod Changes
 pub mod Costs
 pub mod Pushed
+pub mod Lending

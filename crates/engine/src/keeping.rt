@@ -1,9 +1,9 @@
 // Nodes that are kept from now on.
-ghost use Rattle.std.specs.Prelude.{◌≡◌, ◌+◌, ◌<◌, ◌≤◌, length, None, IfOk, IfErr, OnOk, OnErr};
+ghost use Rattle.std.specs.Prelude.{◌≡◌, ◌+◌, ◌<◌, ◌≤◌, length, None, MatchOption, IfOk, IfErr, OnOk, OnErr};
 ghost use Rattle.row_pool.specs.Pool.{free_rows};
 ghost use Rattle.repair.specs.declared.slot.Slot as slots;
 ghost use Rattle.repair.specs.Slots.{slot_of};
-ghost use Rattle.repair.specs.Keeping.{TakesRows, with_slot, with_source, IsRefused};
+ghost use Rattle.repair.specs.Keeping.{TakesRows, with_slot, with_source, IsPlaceOf, IsRefused};
 ghost use Rattle.engine.specs.Changes.{KeepsAnswer};
 ghost use Rattle.engine.specs.Current.{IsCurrent};
 
@@ -13,6 +13,13 @@ use repair::KeepError;
 use std::sync::ledger::Ledger;
 
 impl Solver {
+    /// The number of a node's slot, from 1. It is `None` where the node has no slot, and only there.
+    pub fn slot_of(&self, node: u32) -> Option<u32>
+        ensures { MatchOption result (slot_of self.now.kept node ≡ None) (λ place. IsPlaceOf self.now.kept node place) }
+    {
+        self.kept.place_of(node)
+    }
+
     /// Keeps a node's two rows from now on, and answers the number of its slot, from 1. An error leaves all as it was: the
     /// node has a slot already, or else eight nodes have one. It takes no memory.
     pub fn keep<L: Ledger>(&mut self, node: u32, steps: &mut Steps<L>) -> Result<u32, KeepError>

@@ -10,8 +10,10 @@
 
 mod asking;
 mod keeping;
+mod lending;
 mod pushing;
 mod solver;
 mod withdrawing;
 
+pub use lending::Lent;
 pub use solver::Solver;

@@ -9,7 +9,7 @@ ghost use Rattle.frontier.specs.Keys.{IsEmpty};
 ghost use Rattle.earliest.specs.Values.{IsEarliestOf};
 ghost use Rattle.row_pool.specs.Pool.{free_rows};
 ghost use Rattle.repair.specs.Slots.{nothing_kept, with_presence, with_room, slot_of, all_slots, AreNodes, AreOwnRows, AreRowsOf, AreRowsBut, ChangesRowsOf};
-ghost use Rattle.repair.specs.Keeping.{TakesRows, with_slot, with_source, IsRefused};
+ghost use Rattle.repair.specs.Keeping.{TakesRows, with_slot, with_source, IsPlaceOf, IsRefused};
 ghost use Rattle.repair.specs.Renewals.{TakesFewSteps};
 ghost use Rattle.repair.specs.Pairs.{IsPairIn};
 
@@ -132,6 +132,13 @@ impl Kept {
             None => None,
             Some(slot) => Some((&slot.from, &slot.to)),
         }
+    }
+
+    /// The number of a node's slot, from 1. It is `None` where the node has no slot, and only there.
+    pub fn place_of(&self, p: u32) -> Option<u32>
+        ensures { MatchOption result (slot_of self.now p ≡ None) (λ place. IsPlaceOf self.now p place) }
+    {
+        place_of(&self.slots, p)
     }
 
     /// Gives a node of the graph a slot with two free rows of the pool, and makes these where an execution exists. The

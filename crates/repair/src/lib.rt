@@ -12,6 +12,7 @@ mod look;
 mod renew;
 mod slot;
 
-pub use keep::KeepError;
+pub use keep::{KeepError, new_slot};
 pub use kept::Kept;
 pub use laws::{rows_in_a_grown_pool, rows_of_a_grown_graph};
+pub use slot::Slot;

@@ -1,3 +1,4 @@
+pub mod Bounds
 pub mod Order
 pub mod Solution
 pub mod GraphSolution

@@ -1,33 +1,27 @@
 -- What solving a problem answers.
-use Rattle.std.specs.Prelude.{◌≡◌, ◌≤◌, true, List, length, map}
+use Rattle.std.specs.Prelude.{◌≡◌, ◌≤◌, List, length, map, All}
 use Rattle.problem_model.specs.Problem.{ProblemLists}
 use Rattle.problem_model.specs.Bounds.{Times, IsExecution}
-use Rattle.problem_model.specs.Nodes as nodes
 use Rattle.problem_model.specs.Nodes.{Reading, AreReadings, nodes_of}
-use Rattle.problem_model.specs.ShortList.{short_list}
-use Rattle.difference_bounds.specs.Problems.{StandsFor}
-use Rattle.difference_bounds.specs.Solutions.{IsEarliestExecution, WeighedBound, IsContradictionOf}
-use Rattle.difference_bounds.specs.Tables.{Lists}
+use Rattle.difference_bounds.specs.Solutions.{WeighedBound, IsContradictionOf}
+use Rattle.problem.specs.Listing.{Listed, listing_of}
+use Rattle.cert.specs.Listed.{IsNamed}
+use Rattle.cert.specs.Shows.{weighed_bounds}
+use Rattle.cert.specs.declared.chain.Step.{Step}
+use Rattle.attain.specs.ListedProblem.{AreCarried}
 use Rattle.sync_graph.specs.declared.arc.Arc.{Arc}
-use Rattle.sync_graph.specs.Graph.{GraphLists, table_of, unnamed}
-use Rattle.sync_graph.specs.Standing.{HasBounds}
-use Rattle.earliest.specs.Values.{Values, IsEarliestOf}
-use Rattle.solver.specs.declared.solution.Solution.{Solution}
-use Rattle.solver.specs.declared.solution.Solution.TheVariants.{Execution, Contradiction}
+use Rattle.sync_graph.specs.ListedStanding.{StandsForListed}
+use Rattle.engine.specs.Solver.{SolverLists}
+use Rattle.engine.specs.Current.{IsCurrent}
 
--- the nodes are those of the problem, the arcs are its short list, all in force, and stand for the problem
-pub record IsGraphOf (p : ProblemLists) (g : GraphLists) : Type 0 where
-  pub bounds : (readings : List Reading) → AreReadings p readings → HasBounds p readings (short_list p readings) g
-  pub stands : (readings : List Reading) → AreReadings p readings → StandsFor p readings (map unnamed g.arcs)
-  pub lists : Lists (table_of g) (map unnamed g.arcs)
+-- what is held is of the present graph, and the graph stands for the problem that the listing lists
+pub record IsSolutionBy (l : Listed) (p : ProblemLists) (s : SolverLists) : Type 0 where
+  pub current : IsCurrent s
+  pub stands : (readings : List Reading) → AreReadings p readings → StandsForListed l p readings s.graph
 
--- the graph is that of the problem, and its values, one for each node, are the earliest execution of both
-pub record IsSolved (p : ProblemLists) (g : GraphLists) (e : Values) : Type 0 where
-  pub graph : IsGraphOf p g
-  pub solved : e.is_solved ≡ true
-  pub one_each : length e.values ≡ length g.nodes
-  pub of_graph : IsEarliestOf g e.values
-  pub of_problem : (x : Times) → nodes.Lists p x e.values → IsEarliestExecution p x
+-- the same of a problem in its own order
+abbrev pub IsSolution : ProblemLists → SolverLists → Type 0
+IsSolution p s = IsSolutionBy (listing_of p) p s
 
 -- the names and the weights of arcs
 abbrev pub steps_of : List Arc → List WeighedBound
@@ -39,7 +33,12 @@ pub record HasContradiction (p : ProblemLists) (arcs : List Arc) : Type 0 where
   pub short : (readings : List Reading) → AreReadings p readings → length arcs ≤ length (nodes_of p readings)
   pub no_execution : (x : Times) → IsExecution p x → ⊥
 
--- the earliest execution, or else a contradiction
-abbrev pub IsSolution : ProblemLists → Solution → Type 0
-IsSolution p (Execution g e) = IsSolved p g e
-IsSolution p (Contradiction steps) = HasContradiction p steps.items
+-- the listing names the arcs, and with events by their places they are a contradiction of the problem, no longer than it
+-- has nodes; so it has no execution
+pub record HasContradictionBy (l : Listed) (p : ProblemLists) (arcs : List Arc) : Type 0 where
+  pub named : All (λ (a : Arc). IsNamed l a.name) arcs
+  pub steps : List Step
+  pub carried : AreCarried l (steps_of arcs) steps
+  pub contradiction : IsContradictionOf p (weighed_bounds steps)
+  pub short : (readings : List Reading) → AreReadings p readings → length steps ≤ length (nodes_of p readings)
+  pub no_execution : (x : Times) → IsExecution p x → ⊥

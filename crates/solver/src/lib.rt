@@ -8,6 +8,7 @@
 //! is promised.
 #![tactic(auto)]
 
+mod laws;
 mod offsets;
 mod order;
 mod queue;
@@ -15,6 +16,7 @@ mod ranks;
 mod solution;
 mod solving;
 
+pub use laws::{contradictions, executions, own_graphs, pairs};
 pub use order::insertion_order;
-pub use solution::{GraphSolution, Solution};
+pub use solution::GraphSolution;
 pub use solving::{solve, solve_graph};

@@ -1,15 +1,6 @@
-// What solving found.
+// What solving a graph found.
 use earliest::Earliest;
-use sync_graph::{Arc, Graph};
-
-/// What solving a problem found.
-#[derive(Drop)]
-pub enum Solution {
-    /// There is an execution: the graph of the problem's bounds, and its earliest execution, one value for each node.
-    Execution(Graph, Earliest),
-    /// There is none: a closed chain of declared bounds with a negative sum, at most as many as there are nodes.
-    Contradiction(Vec<Arc>),
-}
+use sync_graph::Arc;
 
 /// What solving a graph found.
 #[derive(Drop)]

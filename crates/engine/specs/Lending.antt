@@ -1,0 +1,27 @@
+-- Two rows of a solver's pool that are lent for a question.
+use Rattle.std.specs.Prelude.{◌≢◌, ℕ, length, All}
+use Rattle.difference_bounds.specs.Parents.{IsRow}
+use Rattle.difference_bounds.specs.Tables.{reversed_table}
+use Rattle.sync_graph.specs.Graph.{table_of}
+use Rattle.row_pool.specs.Row.{cells_of}
+use Rattle.row_pool.specs.Pool.{row_of, IsTaken}
+use Rattle.repair.specs.Slots.{all_slots}
+use Rattle.engine.specs.Solver.{SolverLists}
+use Rattle.engine.specs.declared.lending.Lent.{Lent}
+
+-- the row of this number is of no slot
+abbrev pub IsOfNoSlot : SolverLists → ℕ → Type 0
+IsOfNoSlot s k = All (λ slot. (slot.from ≢ k) × (slot.to ≢ k)) (all_slots s.kept)
+
+-- both rows are taken, they differ, and no slot has one of them
+pub record IsLent (lent : Lent) (s : SolverLists) : Type 0 where
+  pub from : IsTaken s.pool lent.from
+  pub to : IsTaken s.pool lent.to
+  pub two : lent.from ≢ lent.to
+  pub apart_from : IsOfNoSlot s lent.from
+  pub apart_to : IsOfNoSlot s lent.to
+
+-- they are the row of the distances from a node and the row towards it, in the present graph
+pub record AreRowsFor (p : ℕ) (lent : Lent) (s : SolverLists) : Type 0 where
+  pub from : IsRow (length s.graph.nodes) (table_of s.graph) p (cells_of (row_of s.pool lent.from))
+  pub to : IsRow (length s.graph.nodes) (reversed_table (table_of s.graph)) p (cells_of (row_of s.pool lent.to))
