@@ -1,7 +1,8 @@
-mod Staying
+pub mod Staying
 mod Longer
 mod Fewer
 mod Lending
 mod Telling
 mod KeptSlots
 mod Asked
+mod Lent

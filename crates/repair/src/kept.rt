@@ -138,7 +138,10 @@ impl Kept {
     pub fn place_of(&self, p: u32) -> Option<u32>
         ensures { MatchOption result (slot_of self.now p ≡ None) (λ place. IsPlaceOf self.now p place) }
     {
-        place_of(&self.slots, p)
+        match place_of(&self.slots, p) {
+            None => None,
+            Some(place) => Some(place),
+        }
     }
 
     /// Gives a node of the graph a slot with two free rows of the pool, and makes these where an execution exists. The

@@ -1,3 +1,6 @@
 pub mod Orders
-pub mod Answering
 pub mod Counting
+pub mod OwnStanding
+pub mod GreatHeights
+pub mod ListedAnswers
+pub mod ListedPairs

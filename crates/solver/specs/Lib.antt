@@ -1,4 +1,6 @@
 pub mod Bounds
+pub mod Items
+pub mod Pushing
 pub mod Order
 pub mod Solution
 pub mod GraphSolution

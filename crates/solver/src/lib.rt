@@ -8,9 +8,11 @@
 //! is promised.
 #![tactic(auto)]
 
+mod items;
 mod laws;
 mod offsets;
 mod order;
+mod pushing;
 mod queue;
 mod ranks;
 mod solution;

@@ -179,12 +179,14 @@ fn event_order<L: Ledger>(
     Ok(order)
 }
 
-// The rank of each event: its place in the order of all of them.
-fn event_ranks<L: Ledger>(
+/// The rank of each event: its place in the order of all of them.
+pub fn event_ranks<L: Ledger>(
     alloc: Global,
     p: &Problem,
     steps: &mut Steps<L>,
-) -> Result<Vec<u32>, AllocError> {
+) -> Result<Vec<u32>, AllocError>
+    ensures { IfOk result (λ ranks. length ranks.items ≡ length p.now.events) }
+{
     let order = event_order(alloc, p, steps)?;
     let mut ranks = Vec::new(alloc);
     ranks.resize(p.events().len(), 0)?;

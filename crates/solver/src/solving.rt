@@ -1,15 +1,18 @@
 // The solving of a problem.
 ghost use Rattle.std.specs.Prelude.{◌≡◌, ◌+◌, ◌≤◌, [], List, None, length, IfOk, OnOk};
-ghost use Rattle.problem_model.specs.Nodes.{Reading, AreReadings, nodes_of};
+ghost use Rattle.problem_model.specs.Nodes.{Reading, AreReadings, nodes_of, most_nodes};
 ghost use Rattle.sync_graph.specs.Graph.{GraphLists};
 ghost use Rattle.row_pool.specs.Pool.{free_rows};
 ghost use Rattle.earliest.specs.Inserted.{IsInserted};
 ghost use Rattle.solver.specs.Order.{AreAllArcs, AreAllInForce};
+ghost use Rattle.solver.specs.Pushing.{NodesCome};
 ghost use Rattle.solver.specs.Solution.{IsSolution};
 ghost use Rattle.solver.specs.GraphSolution.{IsGraphSolution};
 
+use crate::items::ordered_items;
+use crate::pushing::{push_items, push_nodes};
 use crate::solution::GraphSolution;
-use atto::Steps;
+use atto::{Nano, Steps};
 use earliest::{Earliest, Inserted};
 use engine::Solver;
 use frontier::Frontier;
@@ -83,6 +86,30 @@ pub fn solve_graph<L: Ledger>(
     Ok(kept_or_cycle(e, found))
 }
 
+// How many nodes a problem has.
+fn node_count(p: &Problem, readings: &[(u32, Nano)]) -> u32
+    requires { AreReadings p.now readings.now }
+    ensures count { result ≡ length (nodes_of p.now readings.now) }
+    ensures few { result ≤ most_nodes }
+{
+    (p.events().len() + readings.len()) as u32
+}
+
+// A solver of the nodes of a problem, without arcs.
+fn start(alloc: Global, p: &Problem, rows: u32) -> Result<Solver, AllocError>
+    requires rows { rows ≤ 32 }
+    ensures come { IfOk result (λ s. (readings : List Reading) → AreReadings p.now readings → NodesCome p.now readings [] s) }
+    ensures free { IfOk result (λ s. free_rows s.pool ≡ rows) }
+    ensures slots { IfOk result (λ s. s.kept.slots ≡ []) }
+    ensures source { IfOk result (λ s. s.kept.source ≡ None) }
+{
+    let readings = p.readings();
+    let mut s = Solver::new(alloc);
+    s.reserve(rows, node_count(p, readings))?;
+    push_nodes(&mut s, p, readings)?;
+    Ok(s)
+}
+
 /// Finds the earliest execution of a problem, or a contradiction where it has none, and holds it over a graph of the
 /// problem: its nodes are those of the problem in their order, so a node's number is its place. So many rows are free, of
 /// which each node that is kept or asked for takes two. It answers an error only where memory runs out.
@@ -99,5 +126,9 @@ pub fn solve<L: Ledger>(
     ensures slots { IfOk result (λ s. s.kept.slots ≡ []) }
     ensures source { IfOk result (λ s. s.kept.source ≡ None) }
 {
-    Err(AllocError)
+    let readings = p.readings();
+    let items = ordered_items(alloc, p, readings, steps)?;
+    let mut s = start(alloc, p, rows)?;
+    push_items(&mut s, p, readings, &items, steps)?;
+    Ok(s)
 }

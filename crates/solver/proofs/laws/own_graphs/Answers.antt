@@ -1,0 +1,5 @@
+use Rattle.solver.proofs.OwnStanding.{own_standing}
+use Rattle.solver.proofs.laws.own_graphs.Goals as goal
+
+pub returns : goal.returns
+returns c = λ p readings bounds g lawful are is has short. own_standing p readings lawful are g is bounds has short

@@ -1,0 +1,35 @@
+-- Nodes and bounds of a problem that come one after another.
+use Rattle.std.specs.Prelude.{◌≡◌, ℕ, ◌+◌, List, [], ◌++◌, length}
+use Rattle.problem_model.specs.declared.items.Node.{Node}
+use Rattle.problem_model.specs.declared.items.Bound.{Bound}
+use Rattle.problem_model.specs.Problem.{ProblemLists}
+use Rattle.problem_model.specs.Nodes.{Reading, AreReadings, nodes_of}
+use Rattle.sync_graph.specs.declared.arc.Arc.{Arc}
+use Rattle.sync_graph.specs.Standing.{HasBounds, IsDeclared, NodesLeft}
+use Rattle.row_pool.specs.Pool.{free_rows}
+use Rattle.engine.specs.Solver.{SolverLists, HasRoom}
+use Rattle.engine.specs.Current.{IsCurrent}
+
+-- the nodes are those of the problem in their order
+abbrev pub HasNodesOf : ProblemLists → SolverLists → Type 0
+HasNodesOf p s = (readings : List Reading) → AreReadings p readings → s.graph.nodes ≡ nodes_of p readings
+
+-- the arc is a bound of the problem, between the numbers of its nodes
+abbrev pub IsDeclaredArc : ProblemLists → Arc → Type 0
+IsDeclaredArc p a = (readings : List Reading) → AreReadings p readings → IsDeclared p readings a
+
+-- there is no arc, the nodes of the problem are there but for these, its last, and there is room for all
+pub record NodesCome (p : ProblemLists) (readings : List Reading) (rest : List Node) (s : SolverLists) : Type 0 where
+  pub current : IsCurrent s
+  pub left : NodesLeft p readings rest s.graph
+  pub room : HasRoom (length (nodes_of p readings)) s
+
+-- these bounds are arcs in force behind those that were there; nodes, slots and the number of free rows are as before
+pub record AddsBounds (p : ProblemLists) (bounds : List Bound) (old new : SolverLists) : Type 0 where
+  pub current : IsCurrent new
+  pub nodes : new.graph.nodes ≡ old.graph.nodes
+  pub count : length new.graph.arcs ≡ length old.graph.arcs + length bounds
+  pub added : (readings : List Reading) (done : List Bound) → AreReadings p readings → HasBounds p readings done old.graph → HasBounds p readings (done ++ bounds) new.graph
+  pub slots : new.kept.slots ≡ old.kept.slots
+  pub source : new.kept.source ≡ old.kept.source
+  pub free : free_rows new.pool ≡ free_rows old.pool
