@@ -5,4 +5,4 @@ mod Lending
 mod Telling
 mod KeptSlots
 mod Asked
-mod Lent
+mod Loans

@@ -7,7 +7,7 @@ use Rattle.row_pool.specs.Row.{cells_of}
 use Rattle.row_pool.specs.Pool.{row_of, IsTaken}
 use Rattle.repair.specs.Slots.{all_slots}
 use Rattle.engine.specs.Solver.{SolverLists}
-use Rattle.engine.specs.declared.lending.Lent.{Lent}
+use Rattle.engine.specs.declared.loan.Lent.{Lent}
 
 -- the row of this number is of no slot
 abbrev pub IsOfNoSlot : SolverLists → ℕ → Type 0

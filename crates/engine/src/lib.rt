@@ -10,10 +10,10 @@
 
 mod asking;
 mod keeping;
-mod lending;
+mod loan;
 mod pushing;
 mod solver;
 mod withdrawing;
 
-pub use lending::Lent;
+pub use loan::Lent;
 pub use solver::Solver;

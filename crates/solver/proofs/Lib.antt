@@ -4,3 +4,7 @@ pub mod OwnStanding
 pub mod GreatHeights
 pub mod ListedAnswers
 pub mod ListedPairs
+pub mod ItemSteps
+pub mod Covering
+pub mod Bringing
+pub mod DeclaredArcs

@@ -17,7 +17,7 @@ use Rattle.repair.specs.Slots.{all_slots, HasRows, AreApart, AreOwn, IsRowsOf}
 use Rattle.repair.specs.Keeping.{TakesRows}
 use Rattle.repair.proofs.Slotting.{own_first, rows_first}
 use Rattle.repair.proofs.Taking.{apart_of, marked_own, marked_other, marked_free}
-use Rattle.engine.specs.declared.lending.Lent.{Lent}
+use Rattle.engine.specs.declared.loan.Lent.{Lent}
 use Rattle.engine.specs.Solver.{SolverLists}
 use Rattle.engine.specs.Current.{IsCurrent}
 use Rattle.engine.specs.Lending.{IsOfNoSlot, IsLent}

@@ -1,0 +1,17 @@
+use Rattle.std.proofs.Common.{◌≡◌, false, sym, subst, ap, ◌∙◌}
+use Rattle.row_pool.specs.Pool.{Pool, marked}
+use Rattle.engine.specs.Solver.{SolverLists}
+use Rattle.engine.specs.Current.{IsCurrent}
+use Rattle.engine.specs.Lending.{IsLent}
+use Rattle.engine.specs.contracts.solver.Solver.{the_view}
+use Rattle.engine.proofs.Loans.{back_current}
+use Rattle.engine.proofs.Staying.{with_rows}
+use Rattle.engine.proofs.solver.Solver.give_back.Goals as goal
+
+pub returns-clause-current : goal.returns-clause-current
+returns-clause-current c =
+    let s : SolverLists = the_view c.self.inside in
+    let current : IsCurrent s = subst IsCurrent (sym c.self.view_is) c.requires.current in
+    let lent : IsLent c.args.lent s = subst (IsLent c.args.lent) (sym c.self.view_is) c.requires.lent in
+    let is : c.give-2.new.self ≡ marked (marked s.pool c.args.lent.from false) c.args.lent.to false = c.give-2.ensures ∙ ap (λ (p : Pool). marked p c.args.lent.to false) c.give.ensures in
+    subst (λ (p : Pool). IsCurrent (with_rows s p s.kept s.front)) (sym is) (back_current s current c.args.lent lent)

@@ -1,0 +1,162 @@
+-- Nodes and bounds of a problem that are brought in.
+use Rattle.std.proofs.Common.{◌≡◌, ◌<◌, ◌≤◌, ◌+◌, ◌-◌, ℕ, zero, suc, true, false, List, [], ◌∷◌, ◌++◌, length, map, max, not, replicate, count_by, cond, slice_get, Some, None, refl, sym, ◌∙◌, ap, subst, arith, append_assoc, append-nil, length-append}
+use Rattle.std.specs.Prelude.{All, ℤ, Option}
+use Rattle.std.proofs.lemmas.Int.{ints}
+use Rattle.std.proofs.lemmas.List.{length-map}
+use Rattle.std.proofs.lemmas.List.Elements.{All-append, All-nil, All-cons}
+use Rattle.std.proofs.lemmas.List.Sums.{sum_by-cons}
+use Rattle.std.proofs.lemmas.Option.{slice_get_within}
+use Rattle.problem_model.specs.declared.items.Node.{Node}
+use Rattle.problem_model.specs.declared.items.Node.TheVariants as nodes
+use Rattle.problem_model.specs.declared.items.Bound.{Bound}
+use Rattle.problem_model.specs.declared.items.Bound.TheVariants.{SpanMost, SpanLeast, Late, Early, Follow, DelayMost, DelayLeast}
+use Rattle.problem_model.specs.Problem.{ProblemLists, IsProblem}
+use Rattle.problem_model.specs.Bounds.{Constraint, Declares}
+use Rattle.problem_model.specs.Nodes.{Reading, AreReadings, nodes_of}
+use Rattle.problem_model.proofs.OneList.{readings_one}
+use Rattle.attain.proofs.DeclaredBounds.{declared_small}
+use Rattle.sync_graph.specs.declared.arc.Arc.{Arc}
+use Rattle.sync_graph.specs.Graph.{GraphLists, IsSound, with_arc, with_node, no_graph, most_nodes}
+use Rattle.sync_graph.specs.Names.{Joins, IsNamed}
+use Rattle.sync_graph.specs.Standing.{HasBounds, IsDeclared, NodesLeft}
+use Rattle.sync_graph.proofs.Numbering.{next_less, all_left}
+use Rattle.row_pool.specs.Pool.{PoolRow, Pool, free_rows, free_row, grown}
+use Rattle.engine.specs.Solver.{SolverLists, HasRoom, with_new_node}
+use Rattle.engine.specs.Changes.{KeepsSlots}
+use Rattle.engine.specs.Current.{IsCurrent}
+use Rattle.solver.specs.Bounds.{HasShortList}
+use Rattle.solver.specs.Solution.{IsSolution}
+use Rattle.solver.specs.Pushing.{HasNodesOf, NodesCome, AddsBounds}
+use Rattle.solver.proofs.OwnStanding.{own_standing}
+
+-- ---- a declared arc
+joins_of : (p : ProblemLists) (b : Bound) (c : Constraint) → Declares p b c → Joins b c.from c.to
+joins_of p (SpanMost clock s t) c d = (ap (λ (v : Constraint). v.from) d.5, ap (λ (v : Constraint). v.to) d.5)
+joins_of p (SpanLeast clock s t) c d = (ap (λ (v : Constraint). v.from) d.5, ap (λ (v : Constraint). v.to) d.5)
+joins_of p (Late e) c d = (d.0.clock, d.0.stamp, ap (λ (v : Constraint). v.from) d.4, ap (λ (v : Constraint). v.to) d.4)
+joins_of p (Early e) c d = (d.0.clock, d.0.stamp, ap (λ (v : Constraint). v.from) d.4, ap (λ (v : Constraint). v.to) d.4)
+joins_of p (Follow b s e t) c d = (ap (λ (v : Constraint). v.from) d.6, ap (λ (v : Constraint). v.to) d.6)
+joins_of p (DelayMost send receive) c d = (ap (λ (v : Constraint). v.from) d.6, ap (λ (v : Constraint). v.to) d.6)
+joins_of p (DelayLeast send receive) c d = (ap (λ (v : Constraint). v.from) d.4, ap (λ (v : Constraint). v.to) d.4)
+
+module _ (p : ProblemLists) (readings : List Reading) (g : GraphLists) (is : g.nodes ≡ nodes_of p readings) (a : Arc) (declared : IsDeclared p readings a) where
+  tail_at : slice_get g.nodes a.from ≡ Some declared.0.from
+  tail_at = subst (λ (ns : List Node). slice_get ns a.from ≡ Some declared.0.from) (sym is) declared.2.tail
+
+  head_at : slice_get g.nodes a.to ≡ Some declared.0.to
+  head_at = subst (λ (ns : List Node). slice_get ns a.to ≡ Some declared.0.to) (sym is) declared.2.head
+
+  pub arc_named : IsNamed g.nodes a
+  arc_named = record { tail = declared.0.from; head = declared.0.to; from = tail_at; to = head_at; joins = joins_of p a.name declared.0 declared.1 }
+
+  pub arc_sound : IsProblem p → IsSound (length g.nodes) a
+  arc_sound lawful =
+      let small = declared_small p lawful a.name declared.0 declared.1 in
+      let weighs : a.weight ≡ declared.0.weight = declared.2.weighs in
+      record {
+        from = slice_get_within g.nodes a.from declared.0.from tail_at;
+        to = slice_get_within g.nodes a.to declared.0.to head_at;
+        low = omega (arith, ints, weighs, small.0);
+        high = omega (arith, ints, weighs, small.1);
+      }
+
+map_end : {X Y : Type 0} (f : X → Y) (xs : List X) (x : X) → map f (xs ++ x ∷ []) ≡ map f xs ++ f x ∷ []
+map_end f [] x = refl
+map_end f (y ∷ xs) x = ap (λ v. f y ∷ v) (map_end f xs x)
+
+-- one more bound is an arc
+has_one_more : (p : ProblemLists) (readings : List Reading) (done : List Bound) (g : GraphLists) (a : Arc) → IsDeclared p readings a → HasBounds p readings done g → HasBounds p readings (done ++ a.name ∷ []) (with_arc g a)
+has_one_more p readings done g a declared has = record {
+  nodes_are = has.nodes_are;
+  all_in_force = ap (λ v. v ++ true ∷ []) has.all_in_force ∙ sym (map_end (λ (b : Arc). true) g.arcs a);
+  named = map_end (λ (b : Arc). b.name) g.arcs a ∙ ap (λ v. v ++ a.name ∷ []) has.named;
+  declared = All-append (IsDeclared p readings) g.arcs (a ∷ []) has.declared (All-cons (IsDeclared p readings) a [] declared (All-nil (IsDeclared p readings)));
+}
+
+pub adds_one : (p : ProblemLists) (a : Arc) (old new : SolverLists) → ((readings : List Reading) → AreReadings p readings → IsDeclared p readings a)
+    → new.graph ≡ with_arc old.graph a → IsCurrent new → KeepsSlots old new → AddsBounds p (a.name ∷ []) old new
+adds_one p a old new declared is current keeps = record {
+  current = current;
+  nodes = ap (λ (g : GraphLists). g.nodes) is;
+  count = ap (λ (g : GraphLists). length g.arcs) is ∙ length-append old.graph.arcs (a ∷ []);
+  added = λ readings done are has. subst (HasBounds p readings (done ++ a.name ∷ [])) (sym is) (has_one_more p readings done old.graph a (declared readings are) has);
+  slots = keeps.slots;
+  source = keeps.source;
+  free = keeps.free;
+}
+
+pub adds_none : (p : ProblemLists) (s : SolverLists) → IsCurrent s → AddsBounds p [] s s
+adds_none p s current = record {
+  current = current;
+  nodes = refl;
+  count = omega arith;
+  added = λ readings done are has. subst (λ (bs : List Bound). HasBounds p readings bs s.graph) (sym (append-nil done)) has;
+  slots = refl;
+  source = refl;
+  free = refl;
+}
+
+pub adds_then : (p : ProblemLists) (first second : List Bound) (old mid new : SolverLists) → AddsBounds p first old mid → AddsBounds p second mid new → AddsBounds p (first ++ second) old new
+adds_then p first second old mid new one two = record {
+  current = two.current;
+  nodes = two.nodes ∙ one.nodes;
+  count = omega (arith, one.count, two.count, length-append first second);
+  added = λ readings done are has. subst (λ (bs : List Bound). HasBounds p readings bs new.graph) (append_assoc done first second) (two.added readings (done ++ first) are (one.added readings done are has));
+  slots = two.slots ∙ one.slots;
+  source = two.source ∙ one.source;
+  free = two.free ∙ one.free;
+}
+
+pub nodes_still : (p : ProblemLists) (bounds : List Bound) (old new : SolverLists) → AddsBounds p bounds old new → HasNodesOf p old → HasNodesOf p new
+nodes_still p bounds old new adds nodes readings are = adds.nodes ∙ nodes readings are
+
+-- ---- nodes
+module _ (p : ProblemLists) (readings : List Reading) (n : Node) (rest : List Node) (s : SolverLists) (come : NodesCome p readings (n ∷ rest) s) where
+  pub room_next : HasRoom (length s.graph.nodes + 1) s
+  room_next =
+      let whole : length (s.graph.nodes ++ n ∷ rest) ≡ length (nodes_of p readings) = ap length come.left.nodes_are in
+      let long = length-append s.graph.nodes (n ∷ rest) in
+      record {
+        rows = omega (arith, whole, long, come.room.rows);
+        found = omega (arith, whole, long, come.room.found);
+        front = omega (arith, whole, long, come.room.front);
+      }
+
+  pub come_next : (new : SolverLists) → new ≡ with_new_node s n → IsCurrent new → NodesCome p readings rest new
+  come_next new is current = record {
+    current = current;
+    left = subst (λ (v : SolverLists). NodesLeft p readings rest v.graph) (sym is) (next_less p readings n rest s.graph come.left);
+    room = subst (HasRoom (length (nodes_of p readings))) (sym is) (record { rows = come.room.rows; found = come.room.found; front = come.room.front });
+  }
+
+-- where all nodes are there, they are those of the problem, and no bound is an arc
+pub nodes_there : (p : ProblemLists) (readings : List Reading) (s : SolverLists) → NodesCome p readings [] s → HasBounds p readings [] s.graph
+nodes_there p readings s come = (all_left p readings s.graph come.left).2
+
+-- ---- the start
+count_free : (n : ℕ) (width : ℕ) → count_by (λ (row : PoolRow). not row.taken) (replicate n (free_row width)) ≡ n
+count_free zero width = refl
+count_free (suc n) width =
+    let f : PoolRow → ℕ = λ r. cond (not r.taken) 1 0 in
+    let one : count_by (λ (row : PoolRow). not row.taken) (free_row width ∷ replicate n (free_row width)) ≡ f (free_row width) + count_by (λ (row : PoolRow). not row.taken) (replicate n (free_row width)) =
+    sum_by-cons f (free_row width) (replicate n (free_row width)) in
+    let rest = count_free n width in
+    omega (arith, one, rest)
+
+pub all_free : (pool new : Pool) (rows nodes : ℕ) → pool.rows ≡ [] → new ≡ grown pool rows nodes → free_rows new ≡ rows
+all_free pool new rows nodes none is =
+    ap free_rows is
+    ∙ subst (λ (rs : List PoolRow). free_rows (grown (record { width = pool.width; rows = rs }) rows nodes) ≡ rows) (sym none)
+    (let all : rows - 0 ≡ rows = omega arith in
+    ap (λ (n : ℕ). count_by (λ (row : PoolRow). not row.taken) (replicate n (free_row (max pool.width nodes)))) all ∙ count_free rows (max pool.width nodes))
+
+-- ---- the end
+pub is_solution : (p : ProblemLists) (readings : List Reading) (bounds : List Bound) (start s : SolverLists) → IsProblem p → AreReadings p readings → NodesCome p readings [] start
+    → AddsBounds p bounds start s → HasShortList p readings bounds → IsSolution p s
+is_solution p readings bounds start s lawful are come adds short = record {
+  current = adds.current;
+  stands = λ others are'.
+      let one : readings ≡ others = readings_one p readings others are are' in
+      let has : HasBounds p others bounds s.graph = adds.added others [] are' (subst (λ (rs : List Reading). HasBounds p rs [] start.graph) one (nodes_there p readings start come)) in
+      own_standing p others lawful are' s.graph adds.current.set_up.graph bounds has (subst (λ (rs : List Reading). HasShortList p rs bounds) one short);
+}

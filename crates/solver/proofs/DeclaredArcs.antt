@@ -1,0 +1,116 @@
+-- Arcs that are bounds of a problem.
+use Rattle.std.proofs.Common.{◌≡◌, ◌<◌, ◌+◌, ◌-◌, ◌*◌, ℕ, List, length, slice_get, Some, refl, sym, ◌∙◌, ap, subst, arith, inl, inr}
+use Rattle.std.specs.Prelude.{pos, neg_ℤ, Contains}
+use Rattle.std.proofs.lemmas.Option.{slice_get_within, slice_get-get_or}
+use Rattle.std.proofs.lemmas.List.Elements.{All-contains, Contains-get_or}
+use Rattle.atto.specs.Span.{most_of, least_of}
+use Rattle.problem_model.specs.declared.items.Clock.{Clock}
+use Rattle.problem_model.specs.declared.items.Event.{Event}
+use Rattle.problem_model.specs.declared.items.Message.{Message}
+use Rattle.problem_model.specs.declared.items.Node.{Node}
+use Rattle.problem_model.specs.declared.items.Node.TheVariants as nodes
+use Rattle.problem_model.specs.declared.items.Bound.{Bound}
+use Rattle.problem_model.specs.declared.items.Bound.TheVariants.{SpanMost, SpanLeast, Late, Early, DelayMost, DelayLeast}
+use Rattle.problem_model.specs.Problem.{ProblemLists, IsProblem}
+use Rattle.problem_model.specs.Bounds.{Constraint, Declares, ClockAt, EventAt, IsReading}
+use Rattle.problem_model.specs.Nodes.{Reading, ComesBefore, AreReadings, nodes_of}
+use Rattle.problem_model.proofs.OneList.{readings_one}
+use Rattle.problem_model.proofs.Places.{event_stands, reading_stands}
+use Rattle.sync_graph.specs.declared.arc.Arc.{Arc}
+use Rattle.sync_graph.specs.Standing.{IsDeclared}
+use Rattle.solver.specs.declared.items.Item.TheVariants as items
+use Rattle.solver.specs.Items.{reading_at, IsItem, most_span, least_span}
+use Rattle.solver.specs.Pushing.{IsDeclaredArc}
+
+module _ (p : ProblemLists) (readings : List Reading) (are : AreReadings p readings) where
+  -- over the problem's own readings, so over every such list
+  over_all : (a : Arc) → IsDeclared p readings a → IsDeclaredArc p a
+  over_all a declared others are' = subst (λ (rs : List Reading). IsDeclared p rs a) (readings_one p readings others are are') declared
+
+  declared_by : (a : Arc) (b : Bound) (c : Constraint) → Declares p b c → a.name ≡ b → slice_get (nodes_of p readings) a.from ≡ Some c.from → slice_get (nodes_of p readings) a.to ≡ Some c.to → a.weight ≡ c.weight
+      → IsDeclaredArc p a
+  declared_by a b c declares name from to weighs =
+      over_all a (c, subst (λ (v : Bound). Declares p v c) (sym name) declares, record { tail = from; head = to; weighs = weighs })
+
+  -- ---- spans
+  module _ (k : ℕ) (item : IsItem p readings (items.Span k)) where
+    abbrev first : Reading
+    first = reading_at readings k
+
+    abbrev second : Reading
+    second = reading_at readings (k + 1)
+
+    first_there : slice_get readings k ≡ Some first
+    first_there = slice_get-get_or readings k (0, 0) (let inside = item.0 in omega (arith, inside))
+
+    second_there : slice_get readings (k + 1) ≡ Some second
+    second_there = slice_get-get_or readings (k + 1) (0, 0) item.0
+
+    pub first_reading : IsReading p first.0 first.1
+    first_reading = are.each first.0 first.1 (Contains-get_or readings k (0, 0) (let inside = item.0 in omega (arith, inside)))
+
+    second_reading : IsReading p first.0 second.1
+    second_reading = subst (λ (n : ℕ). IsReading p n second.1) (sym item.1) (are.each second.0 second.1 (Contains-get_or readings (k + 1) (0, 0) item.0))
+
+    pub stamps_rise : first.1 < second.1
+    stamps_rise =
+        let before : ComesBefore first second = are.rising k (k + 1) (0, 0) (omega arith) item.0 in
+        elim before [
+          | inl less ↦ absurd (omega (arith, less, item.1))
+          | inr later ↦ later.1
+        ]
+
+    module _ (c : Clock) (at : ClockAt p first.0 c) (a : Arc) where
+      at_first : (n : ℕ) → n ≡ length p.events + k → slice_get (nodes_of p readings) n ≡ Some (nodes.Reading first.0 first.1)
+      at_first n is = ap (slice_get (nodes_of p readings)) is ∙ reading_stands p readings k first first_there
+
+      at_second : (n : ℕ) → n ≡ length p.events + k + 1 → slice_get (nodes_of p readings) n ≡ Some (nodes.Reading first.0 second.1)
+      at_second n is =
+          let there : n ≡ length p.events + (k + 1) = omega (arith, is) in
+          ap (slice_get (nodes_of p readings)) there ∙ reading_stands p readings (k + 1) second second_there ∙ ap (λ (m : ℕ). Some (nodes.Reading m second.1)) (sym item.1)
+
+      pub most_declared : a.name ≡ most_span readings k → a.from ≡ length p.events + k → a.to ≡ length p.events + k + 1 → a.weight ≡ pos (most_of c.rate (second.1 - first.1)) → IsDeclaredArc p a
+      most_declared name from to weighs =
+          declared_by a (most_span readings k) (record { from = nodes.Reading first.0 first.1; to = nodes.Reading first.0 second.1; weight = pos (most_of c.rate (second.1 - first.1)) })
+          (c, at, first_reading, second_reading, stamps_rise, refl) name (at_first a.from from) (at_second a.to to) weighs
+
+      pub least_declared : a.name ≡ least_span readings k → a.from ≡ length p.events + k + 1 → a.to ≡ length p.events + k → a.weight ≡ neg_ℤ (pos (least_of c.rate (second.1 - first.1))) → IsDeclaredArc p a
+      least_declared name from to weighs =
+          declared_by a (least_span readings k) (record { from = nodes.Reading first.0 second.1; to = nodes.Reading first.0 first.1; weight = neg_ℤ (pos (least_of c.rate (second.1 - first.1))) })
+          (c, at, first_reading, second_reading, stamps_rise, refl) name (at_second a.from from) (at_first a.to to) weighs
+
+  -- ---- stamps
+  module _ (e : ℕ) (v : Event) (there : EventAt p e v) (c : Clock) (at : ClockAt p v.clock c) (k : ℕ) (reading : slice_get readings k ≡ Some (v.clock, v.stamp)) (a : Arc) where
+    at_event : (n : ℕ) → n ≡ e → slice_get (nodes_of p readings) n ≡ Some (nodes.Event e)
+    at_event n is = ap (slice_get (nodes_of p readings)) is ∙ event_stands p readings e (slice_get_within p.events e v there)
+
+    at_reading : (n : ℕ) → n ≡ length p.events + k → slice_get (nodes_of p readings) n ≡ Some (nodes.Reading v.clock v.stamp)
+    at_reading n is = ap (slice_get (nodes_of p readings)) is ∙ reading_stands p readings k (v.clock, v.stamp) reading
+
+    pub late_declared : a.name ≡ Late e → a.from ≡ length p.events + k → a.to ≡ e → a.weight ≡ pos (c.late * 1000000000) → IsDeclaredArc p a
+    late_declared name from to weighs =
+        declared_by a (Late e) (record { from = nodes.Reading v.clock v.stamp; to = nodes.Event e; weight = pos (c.late * 1000000000) })
+        (v, c, there, at, refl) name (at_reading a.from from) (at_event a.to to) weighs
+
+    pub early_declared : a.name ≡ Early e → a.from ≡ e → a.to ≡ length p.events + k → a.weight ≡ pos (c.early * 1000000000) → IsDeclaredArc p a
+    early_declared name from to weighs =
+        declared_by a (Early e) (record { from = nodes.Event e; to = nodes.Reading v.clock v.stamp; weight = pos (c.early * 1000000000) })
+        (v, c, there, at, refl) name (at_event a.from from) (at_reading a.to to) weighs
+
+  -- ---- delays
+  module _ (lawful : IsProblem p) (m : Message) (has : Contains p.messages m) (a : Arc) where
+    at_send : (n : ℕ) → n ≡ m.send → slice_get (nodes_of p readings) n ≡ Some (nodes.Event m.send)
+    at_send n is = ap (slice_get (nodes_of p readings)) is ∙ event_stands p readings m.send (All-contains (λ (w : Message). w.send < length p.events) p.messages m lawful.formed.sends has)
+
+    at_receive : (n : ℕ) → n ≡ m.receive → slice_get (nodes_of p readings) n ≡ Some (nodes.Event m.receive)
+    at_receive n is = ap (slice_get (nodes_of p readings)) is ∙ event_stands p readings m.receive (All-contains (λ (w : Message). w.receive < length p.events) p.messages m lawful.formed.receives has)
+
+    pub delay_most_declared : (most : ℕ) → m.most ≡ Some most → a.name ≡ DelayMost m.send m.receive → a.from ≡ m.send → a.to ≡ m.receive → a.weight ≡ pos (most * 1000000000) → IsDeclaredArc p a
+    delay_most_declared most is name from to weighs =
+        declared_by a (DelayMost m.send m.receive) (record { from = nodes.Event m.send; to = nodes.Event m.receive; weight = pos (most * 1000000000) })
+        (m, most, has, refl, refl, is, refl) name (at_send a.from from) (at_receive a.to to) weighs
+
+    pub delay_least_declared : a.name ≡ DelayLeast m.send m.receive → a.from ≡ m.receive → a.to ≡ m.send → a.weight ≡ neg_ℤ (pos (m.least * 1000000000)) → IsDeclaredArc p a
+    delay_least_declared name from to weighs =
+        declared_by a (DelayLeast m.send m.receive) (record { from = nodes.Event m.receive; to = nodes.Event m.send; weight = neg_ℤ (pos (m.least * 1000000000)) })
+        (m, has, refl, refl, refl) name (at_receive a.from from) (at_send a.to to) weighs
