@@ -24,7 +24,10 @@ use Rattle.row_pool.specs.Pool.{PoolRow, Pool, free_rows, free_row, grown}
 use Rattle.engine.specs.Solver.{SolverLists, HasRoom, with_new_node}
 use Rattle.engine.specs.Changes.{KeepsSlots}
 use Rattle.engine.specs.Current.{IsCurrent}
+use Rattle.problem_model.proofs.Walking.{neighbours_are}
+use Rattle.solver.specs.declared.items.Item.TheVariants as items
 use Rattle.solver.specs.Bounds.{HasShortList}
+use Rattle.solver.specs.Items.{reading_at, IsItem, bounds_of, most_span, least_span}
 use Rattle.solver.specs.Solution.{IsSolution}
 use Rattle.solver.specs.Pushing.{HasNodesOf, NodesCome, AddsBounds}
 use Rattle.solver.proofs.OwnStanding.{own_standing}
@@ -160,3 +163,24 @@ is_solution p readings bounds start s lawful are come adds short = record {
       let has : HasBounds p others bounds s.graph = adds.added others [] are' (subst (λ (rs : List Reading). HasBounds p rs [] start.graph) one (nodes_there p readings start come)) in
       own_standing p others lawful are' s.graph adds.current.set_up.graph bounds has (subst (λ (rs : List Reading). HasShortList p rs bounds) one short);
 }
+
+-- ---- the bounds of an item
+two_added : (p : ProblemLists) (b b' : Bound) (old mid new : SolverLists) (a a' : Arc) → a.name ≡ b → a'.name ≡ b' → AddsBounds p (a.name ∷ []) old mid → AddsBounds p (a'.name ∷ []) mid new
+    → AddsBounds p (b ∷ b' ∷ []) old new
+two_added p b b' old mid new a a' name name' one two =
+    subst (λ (v : Bound). AddsBounds p (v ∷ b' ∷ []) old new) name
+    (subst (λ (v : Bound). AddsBounds p (a.name ∷ v ∷ []) old new) name' (adds_then p (a.name ∷ []) (a'.name ∷ []) old mid new one two))
+
+pub span_added : (p : ProblemLists) (readings : List Reading) (k : ℕ) → IsItem p readings (items.Span k) → (old mid new : SolverLists) (a a' : Arc) → a.name ≡ most_span readings k → a'.name ≡ least_span readings k
+    → AddsBounds p (a.name ∷ []) old mid → AddsBounds p (a'.name ∷ []) mid new → AddsBounds p (bounds_of p readings (items.Span k)) old new
+span_added p readings k item old mid new a a' name name' one two =
+    subst (λ (bs : List Bound). AddsBounds p bs old new) (sym (neighbours_are (reading_at readings k).0 (reading_at readings (k + 1)).0 (reading_at readings k).1 (reading_at readings (k + 1)).1 item.1))
+    (two_added p (most_span readings k) (least_span readings k) old mid new a a' name name' one two)
+
+pub event_added : (p : ProblemLists) (e : ℕ) (old mid new : SolverLists) (a a' : Arc) → a.name ≡ Late e → a'.name ≡ Early e
+    → AddsBounds p (a.name ∷ []) old mid → AddsBounds p (a'.name ∷ []) mid new → AddsBounds p (Late e ∷ Early e ∷ []) old new
+event_added p e old mid new a a' name name' one two = two_added p (Late e) (Early e) old mid new a a' name name' one two
+
+-- the arcs are as many as there were and these
+pub room_after : (p : ProblemLists) (bounds : List Bound) (old mid : SolverLists) (most : ℕ) → AddsBounds p bounds old mid → length bounds ≤ 1 → length old.graph.arcs + 2 ≤ most → length mid.graph.arcs < most
+room_after p bounds old mid most adds one room = omega (arith, adds.count, one, room)

@@ -83,7 +83,7 @@ if_two : (b : Bool) (x y : Bound) → length (if b then x ∷ y ∷ [] else []) 
 if_two true x y = omega arith
 if_two false x y = omega arith
 
-most_one : (m : Message) (o : Option ℕ) → length (most_bound m o) ≤ 1
+pub most_one : (m : Message) (o : Option ℕ) → length (most_bound m o) ≤ 1
 most_one m None = omega arith
 most_one m (Some most) = omega arith
 

@@ -8,3 +8,4 @@ pub mod ItemSteps
 pub mod Covering
 pub mod Bringing
 pub mod DeclaredArcs
+pub mod PushedItems

@@ -162,6 +162,8 @@ fn push_most<L: Ledger>(
     requires few { length s.old.graph.arcs < most_arcs }
     ensures { OnOk result (AddsBounds p.now (most_bound message.now message.now.most) s.old s.new) }
 {
+    let _ = p.readings();
+    let _ = p.events();
     let (send, receive) = (message.send, message.receive);
     match message.most {
         Some(most) => {
@@ -190,6 +192,8 @@ fn push_least<L: Ledger>(
     requires few { length s.old.graph.arcs < most_arcs }
     ensures { OnOk result (AddsBounds p.now (DelayLeast message.now.send message.now.receive ∷ []) s.old s.new) }
 {
+    let _ = p.readings();
+    let _ = p.events();
     let (send, receive) = (message.send, message.receive);
     let arc = Arc {
         from: receive,
@@ -265,7 +269,7 @@ pub fn push_items<L: Ledger>(
 pub fn push_nodes(s: &mut Solver, p: &Problem, readings: &[(u32, Nano)]) -> Result<(), AllocError>
     requires readings { AreReadings p.now readings.now }
     requires start { NodesCome p.now readings.now (nodes_of p.now readings.now) s.old }
-    ensures { OnOk result (NodesCome p.now readings.now [] s.new) }
+    ensures come { OnOk result (NodesCome p.now readings.now [] s.new) }
     ensures pool { OnOk result (s.new.pool ≡ s.old.pool) }
     ensures kept { OnOk result (s.new.kept ≡ s.old.kept) }
 {
