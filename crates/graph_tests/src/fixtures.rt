@@ -1,10 +1,13 @@
 // Problems that several modules use, and what solving one finds.
-ghost use Rattle.std.specs.Prelude.{◌≡◌, ◌<◌, IfOk};
+ghost use Rattle.std.specs.Prelude.{◌≡◌, ◌<◌, [], true, IfOk};
+ghost use Rattle.row_pool.specs.Pool.{free_rows};
+ghost use Rattle.engine.specs.Current.{IsCurrent};
 ghost use Rattle.solver.specs.Solution.{IsSolution};
 
 use atto::Steps;
+use engine::Solver;
 use problem::Problem;
-use solver::{Solution, solve};
+use solver::solve;
 use std::alloc::{AllocError, Global};
 use std::marker::Brand;
 use std::sync::ledger::{Blank, Ledger};
@@ -32,22 +35,28 @@ pub(crate) const UNLINKED_PROBLEM: &str =
 // One event, whose clock may be early or late.
 pub(crate) const ALONE_PROBLEM: &str = "problem 1\nclock a 0 0 2 3\nevent p a 7\nend\n";
 
-// What solving a problem finds, with its steps counted by this ledger.
-fn solve_counted<L: Ledger>(
-    alloc: Global,
-    p: &Problem,
-    blank: Blank,
-) -> Result<Solution, AllocError>
+// What solving a problem holds, with two rows to lend and with its steps counted by this ledger.
+fn solve_counted<L: Ledger>(alloc: Global, p: &Problem, blank: Blank) -> Result<Solver, AllocError>
     requires { (blank.name ≡ L.name) × (blank.parts ≡ L.parts) × (0 < L.parts) }
-    ensures { IfOk result (λ solution. IsSolution p.now solution) }
+    ensures solution { IfOk result (λ s. IsSolution p.now s) }
+    ensures free { IfOk result (λ s. free_rows s.pool ≡ 2) }
 {
     let mut steps = Steps::<L>::open(blank);
-    solve(alloc, p, &mut steps)
+    solve(alloc, p, 2, &mut steps)
 }
 
-// What solving a problem finds.
-pub(crate) fn solve_alone(alloc: Global, p: &Problem) -> Result<Solution, AllocError>
-    ensures { IfOk result (λ solution. IsSolution p.now solution) }
+// What solving a problem holds, with two rows to lend.
+pub(crate) fn solve_alone(alloc: Global, p: &Problem) -> Result<Solver, AllocError>
+    ensures solution { IfOk result (λ s. IsSolution p.now s) }
+    ensures free { IfOk result (λ s. free_rows s.pool ≡ 2) }
 {
     solve_counted::<Brand>(alloc, p, Blank::new(1))
+}
+
+// Whether there is an execution.
+pub(crate) fn is_solved(s: &Solver) -> bool
+    requires { IsCurrent s.now }
+    ensures { result ≡ true → s.now.contradiction ≡ [] }
+{
+    s.contradiction().is_empty()
 }

@@ -1,19 +1,19 @@
 // Greatest differences of problems that are read.
-ghost use Rattle.std.specs.Prelude.{◌≡◌, ◌<◌, length};
-ghost use Rattle.solver.specs.Solution.{IsSolved};
+ghost use Rattle.std.specs.Prelude.{◌≡◌, ◌<◌, ◌≤◌, [], length};
+ghost use Rattle.row_pool.specs.Pool.{free_rows};
+ghost use Rattle.engine.specs.Changes.{KeepsAnswer};
+ghost use Rattle.engine.specs.Current.{IsCurrent};
 
-use crate::fixtures::{ALONE_PROBLEM, TWO_LOGS_PROBLEM, UNLINKED_PROBLEM, solve_alone};
+use crate::fixtures::{ALONE_PROBLEM, TWO_LOGS_PROBLEM, UNLINKED_PROBLEM, is_solved, solve_alone};
 use atto::Steps;
-use earliest::Earliest;
+use engine::Solver;
 use problem::{Problem, read_problem};
-use reaches::{Rows, pair_of, pair_of_reading, rows_of};
-use row_pool::{Pair, Reach};
-use solver::Solution;
+use problem_model::{Event, Node};
+use row_pool::{Cell, Pair, Reach};
 use std::alloc::Global;
 use std::marker::Brand;
 use std::sync::ledger::{Blank, Ledger};
 use std::test::*;
-use sync_graph::Graph;
 
 // The event `q` is at least 10 ns and at most 25 ns behind `p`, and its clock reads it 1 ns early to 2 ns late.
 const TOLERANT: &str =
@@ -97,8 +97,8 @@ const CASES: [Case; 5] = [
 ];
 
 // Whether the rows of an event tell these greatest differences of it and a node.
-fn tell(rows: &Rows, node: u32, want: Pair) -> bool {
-    match (rows.from.get(node as usize), rows.to.get(node as usize)) {
+fn tell(from: &[Cell], to: &[Cell], node: u32, want: Pair) -> bool {
+    match (from.get(node as usize), to.get(node as usize)) {
         (Some(from), Some(to)) => {
             want == Pair {
                 up: from.reach(),
@@ -109,85 +109,79 @@ fn tell(rows: &Rows, node: u32, want: Pair) -> bool {
     }
 }
 
-// Whether the greatest differences of the two events are so.
-fn events_so<L: Ledger>(
-    alloc: Global,
-    p: &Problem,
-    g: &Graph,
-    e: &Earliest,
-    case: &Case,
+// Whether the greatest differences of two nodes are so.
+fn pair_so<L: Ledger>(
+    s: &mut Solver,
+    first: u32,
+    second: u32,
+    want: Pair,
     steps: &mut Steps<L>,
-) -> Option<bool>
-    requires solved { IsSolved p.now g.now e.now }
-    requires first { case.now.first < length p.now.events }
-    requires second { case.now.second < length p.now.events }
+) -> bool
+    requires current { IsCurrent s.old }
+    requires solved { s.old.contradiction ≡ [] }
+    requires first { first < length s.old.graph.nodes }
+    requires second { second < length s.old.graph.nodes }
+    requires free { 2 ≤ free_rows s.old.pool }
+    ensures current { IsCurrent s.new }
+    ensures answer { KeepsAnswer s.old s.new }
+    ensures free { free_rows s.new.pool ≡ free_rows s.old.pool }
 {
-    let events = pair_of(alloc, p, g, e, case.first, case.second, steps).ok()?;
-    Some(events == case.events)
+    s.pair(first, second, steps) == want
 }
 
-// Whether the greatest differences of the first event's reading and the second event are so.
-fn reading_so<L: Ledger>(
-    alloc: Global,
-    p: &Problem,
-    g: &Graph,
-    e: &Earliest,
-    case: &Case,
-    steps: &mut Steps<L>,
-) -> Option<bool>
-    requires solved { IsSolved p.now g.now e.now }
-    requires first { case.now.first < length p.now.events }
-    requires second { case.now.second < length p.now.events }
-{
-    let event = p.events()[case.first as usize];
-    let reading = pair_of_reading(
-        alloc,
-        p,
-        g,
-        e,
-        event.clock,
-        event.stamp,
-        case.second,
-        steps,
-    ).ok()?;
-    Some(reading == case.reading)
-}
-
-// Whether the rows of the first event tell the greatest differences of the two.
+// Whether the rows that are lent for a node tell the greatest differences of it and another one.
 fn rows_so<L: Ledger>(
-    alloc: Global,
-    p: &Problem,
-    g: &Graph,
-    e: &Earliest,
-    case: &Case,
+    s: &mut Solver,
+    first: u32,
+    second: u32,
+    want: Pair,
     steps: &mut Steps<L>,
-) -> Option<bool>
-    requires solved { IsSolved p.now g.now e.now }
-    requires first { case.now.first < length p.now.events }
+) -> bool
+    requires current { IsCurrent s.old }
+    requires solved { s.old.contradiction ≡ [] }
+    requires first { first < length s.old.graph.nodes }
+    requires free { 2 ≤ free_rows s.old.pool }
+    ensures current { IsCurrent s.new }
+    ensures answer { KeepsAnswer s.old s.new }
+    ensures free { free_rows s.new.pool ≡ free_rows s.old.pool }
 {
-    let rows = rows_of(alloc, p, g, e, case.first, steps).ok()?;
-    Some(tell(&rows, case.second, case.events))
+    let lent = s.lend(first, steps);
+    let (from, to) = s.lent(&lent);
+    let so = tell(from, to, second, want);
+    s.give_back(lent);
+    so
 }
 
-// Whether all greatest differences of a case are so, with their steps counted by this ledger.
-fn tells<L: Ledger>(
-    alloc: Global,
-    p: &Problem,
-    g: &Graph,
-    e: &Earliest,
-    case: &Case,
-    blank: Blank,
-) -> Option<bool>
+// Whether all greatest differences of a case are so, by the number of the first event's reading and with their steps
+// counted by this ledger.
+fn tells<L: Ledger>(s: &mut Solver, case: &Case, reading: u32, blank: Blank) -> bool
     requires blank { (blank.name ≡ L.name) × (blank.parts ≡ L.parts) × (0 < L.parts) }
-    requires solved { IsSolved p.now g.now e.now }
-    requires first { case.now.first < length p.now.events }
-    requires second { case.now.second < length p.now.events }
+    requires current { IsCurrent s.old }
+    requires solved { s.old.contradiction ≡ [] }
+    requires first { case.now.first < length s.old.graph.nodes }
+    requires second { case.now.second < length s.old.graph.nodes }
+    requires reading { reading < length s.old.graph.nodes }
+    requires free { 2 ≤ free_rows s.old.pool }
 {
     let mut steps = Steps::<L>::open(blank);
-    let events = events_so(alloc, p, g, e, case, &mut steps)?;
-    let reading = reading_so(alloc, p, g, e, case, &mut steps)?;
-    let rows = rows_so(alloc, p, g, e, case, &mut steps)?;
-    Some(events && reading && rows)
+    let events = pair_so(s, case.first, case.second, case.events, &mut steps);
+    let read = pair_so(s, reading, case.second, case.reading, &mut steps);
+    let rows = rows_so(s, case.first, case.second, case.events, &mut steps);
+    events && read && rows
+}
+
+// Whether there is an execution, and the greatest differences are so, by the event whose reading is asked for.
+fn holds(s: &mut Solver, case: &Case, event: &Event) -> Option<bool>
+    requires current { IsCurrent s.old }
+    requires free { 2 ≤ free_rows s.old.pool }
+    requires first { case.now.first < length s.old.graph.nodes }
+    requires second { case.now.second < length s.old.graph.nodes }
+{
+    let reading = s.graph().node_of(Node::Reading(event.clock, event.stamp))?;
+    if !is_solved(s) {
+        return Some(false);
+    }
+    Some(tells::<Brand>(s, case, reading, Blank::new(1)))
 }
 
 // Whether the problem has an execution, and the greatest differences are so.
@@ -195,11 +189,10 @@ fn solves(alloc: Global, p: &Problem, case: &Case) -> Option<bool>
     requires first { case.now.first < length p.now.events }
     requires second { case.now.second < length p.now.events }
 {
-    match solve_alone(alloc, p) {
-        Ok(Solution::Execution(g, e)) => tells::<Brand>(alloc, p, &g, &e, case, Blank::new(1)),
-        Ok(Solution::Contradiction(_)) => Some(false),
-        Err(_) => None,
-    }
+    let _ = p.readings();
+    let event = &p.events()[case.first as usize];
+    let mut s = solve_alone(alloc, p).ok()?;
+    holds(&mut s, case, event)
 }
 
 // The same of a case by its text.

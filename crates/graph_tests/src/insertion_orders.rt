@@ -1,7 +1,7 @@
 // The order in which the arcs of a problem's graph are brought in.
 ghost use Rattle.std.specs.Prelude.{◌≡◌, ◌<◌};
 
-use crate::fixtures::{CIRCLE_PROBLEM, LATE_LOGS_PROBLEM};
+use crate::fixtures::{CIRCLE_PROBLEM, LATE_LOGS_PROBLEM, solve_alone};
 use atto::Steps;
 use problem::{Problem, read_problem};
 use solver::insertion_order;
@@ -45,6 +45,26 @@ const ORDERS: [(&str, &[u32]); 4] = [
     ),
 ];
 
+// Whether the arcs of the one graph are those of the other in this order.
+fn come_so(g: &Graph, all: &Graph, order: &[u32]) -> bool {
+    if g.arcs() as usize != order.len() {
+        return false;
+    }
+    for (k, number) in order.iter().enumerate() {
+        if *number >= all.arcs() || g.arc(k as u32).name != all.arc(*number).name {
+            return false;
+        }
+    }
+    true
+}
+
+// Whether the arcs of a problem are brought in in this order of the numbers in its graph.
+fn problem_has_order(alloc: Global, p: &Problem, want: &[u32]) -> Option<bool> {
+    let all = graph_of(alloc, p).ok()?;
+    let s = solve_alone(alloc, p).ok()?;
+    Some(come_so(s.graph(), &all, want))
+}
+
 // Whether the arcs of a graph are brought in in this order, counted by this ledger.
 fn is_order<L: Ledger>(
     alloc: Global,
@@ -69,7 +89,9 @@ fn graph_has_order(alloc: Global, p: &Problem, want: &[u32]) -> Option<bool> {
 // The same of a problem by its text.
 fn has_order(alloc: Global, text: &str, want: &[u32]) -> Option<bool> {
     let p = read_problem(alloc, text.as_bytes()).ok()?;
-    graph_has_order(alloc, &p, want)
+    let of_graph = graph_has_order(alloc, &p, want)?;
+    let of_problem = problem_has_order(alloc, &p, want)?;
+    Some(of_graph && of_problem)
 }
 
 #[test]

@@ -1,23 +1,18 @@
 // Certificates of intervals, each as a whole text.
-ghost use Rattle.std.specs.Prelude.{◌≡◌, ◌<◌, ◌≤◌, length, IfOk};
-ghost use Rattle.frontier.specs.Keys.{IsEmpty};
-ghost use Rattle.solver.specs.Solution.{IsSolved};
+ghost use Rattle.std.specs.Prelude.{◌≡◌, ◌<◌, ◌≤◌, [], length};
+ghost use Rattle.row_pool.specs.Pool.{free_rows};
+ghost use Rattle.solver.specs.Solution.{IsSolution};
 
-use crate::fixtures::{ALONE_PROBLEM, TWO_LOGS_PROBLEM, UNLINKED_PROBLEM, solve_alone};
+use crate::fixtures::{ALONE_PROBLEM, TWO_LOGS_PROBLEM, UNLINKED_PROBLEM, is_solved, solve_alone};
 use attain::write_ends;
 use atto::Steps;
-use distances::{row_from, row_to};
-use earliest::Earliest;
-use frontier::Frontier;
+use engine::Solver;
 use ports::MemSink;
 use problem::{Problem, read_problem};
-use row_pool::Cell;
-use solver::Solution;
-use std::alloc::{AllocError, Global};
+use std::alloc::Global;
 use std::marker::Brand;
 use std::sync::ledger::{Blank, Ledger};
 use std::test::*;
-use sync_graph::Graph;
 
 // One message, with a least delay alone.
 const LEAST_ONE: &str =
@@ -101,115 +96,45 @@ const CASES: [Case; 6] = [
     },
 ];
 
-// A row with a cell for each node.
-fn new_row(alloc: Global, nodes: u32) -> Result<Vec<Cell>, AllocError>
-    ensures { IfOk result (λ row. length row.items ≡ nodes) }
-{
-    let mut row = Vec::new(alloc);
-    row.resize(nodes as usize, Cell::unknown())?;
-    Ok(row)
-}
-
-// Writes the certificate of a case, by rows that are made in these, with their steps counted by this ledger.
-fn certify<L: Ledger>(
-    p: &Problem,
-    g: &Graph,
-    e: &Earliest,
-    case: &Case,
-    from: &mut [Cell],
-    to: &mut [Cell],
-    front: &mut Frontier,
-    out: &mut MemSink,
-    blank: Blank,
-)
+// Writes the certificate of a case, by rows that are lent for it, with their steps counted by this ledger.
+fn certify<L: Ledger>(p: &Problem, s: &mut Solver, case: &Case, out: &mut MemSink, blank: Blank)
     requires blank { (blank.name ≡ L.name) × (blank.parts ≡ L.parts) × (0 < L.parts) }
-    requires solved { IsSolved p.now g.now e.now }
+    requires solution { IsSolution p.now s.old }
+    requires solved { s.old.contradiction ≡ [] }
+    requires free { 2 ≤ free_rows s.old.pool }
     requires first { case.now.first < length p.now.events }
     requires second { case.now.second < length p.now.events }
-    requires cells_from { length g.now.nodes ≤ length from.old }
-    requires cells_to { length g.now.nodes ≤ length to.old }
-    requires empty { IsEmpty front.old }
-    requires room { length g.now.nodes ≤ length front.old }
 {
     let _ = p.events();
     let _ = p.readings();
-    g.exact();
     let mut steps = Steps::<L>::open(blank);
-    row_from(g, e, case.first, from, front, &mut steps);
-    row_to(g, e, case.first, to, front, &mut steps);
-    let _failed = write_ends(p, g, e, from, to, case.first, case.second, out);
+    let lent = s.lend(case.first, &mut steps);
+    let _ = s.contradiction();
+    let (from, to) = s.lent(&lent);
+    let _failed = write_ends(
+        p,
+        s.graph(),
+        s.earliest(),
+        from,
+        to,
+        case.first,
+        case.second,
+        out,
+    );
+    s.give_back(lent);
 }
 
-// Whether the certificate of a case is written so, by rows that are made in these.
-fn writes(
-    alloc: Global,
-    p: &Problem,
-    g: &Graph,
-    e: &Earliest,
-    case: &Case,
-    from: &mut [Cell],
-    to: &mut [Cell],
-    front: &mut Frontier,
-) -> Option<bool>
-    requires solved { IsSolved p.now g.now e.now }
+// Whether the certificate of a case is written so.
+fn writes(alloc: Global, p: &Problem, s: &mut Solver, case: &Case) -> Option<bool>
+    requires solution { IsSolution p.now s.old }
+    requires solved { s.old.contradiction ≡ [] }
+    requires free { 2 ≤ free_rows s.old.pool }
     requires first { case.now.first < length p.now.events }
     requires second { case.now.second < length p.now.events }
-    requires cells_from { length g.now.nodes ≤ length from.old }
-    requires cells_to { length g.now.nodes ≤ length to.old }
-    requires empty { IsEmpty front.old }
-    requires room { length g.now.nodes ≤ length front.old }
 {
     let mut out = MemSink::new(alloc, 2000, 64, &[]).ok()?;
-    certify::<Brand>(p, g, e, case, from, to, front, &mut out, Blank::new(1));
+    certify::<Brand>(p, s, case, &mut out, Blank::new(1));
     Some(out.bytes() == case.printed.as_bytes())
-}
-
-// The same, with a frontier of its own.
-fn writes_in(
-    alloc: Global,
-    p: &Problem,
-    g: &Graph,
-    e: &Earliest,
-    case: &Case,
-    from: &mut [Cell],
-    to: &mut [Cell],
-) -> Option<bool>
-    requires solved { IsSolved p.now g.now e.now }
-    requires first { case.now.first < length p.now.events }
-    requires second { case.now.second < length p.now.events }
-    requires cells_from { length g.now.nodes ≤ length from.old }
-    requires cells_to { length g.now.nodes ≤ length to.old }
-{
-    let mut front = Frontier::with_room(alloc, g.nodes()).ok()?;
-    writes(alloc, p, g, e, case, from, to, &mut front)
-}
-
-// The same, with a row of its own for the ways to the first event.
-fn writes_from(
-    alloc: Global,
-    p: &Problem,
-    g: &Graph,
-    e: &Earliest,
-    case: &Case,
-    from: &mut [Cell],
-) -> Option<bool>
-    requires solved { IsSolved p.now g.now e.now }
-    requires first { case.now.first < length p.now.events }
-    requires second { case.now.second < length p.now.events }
-    requires cells_from { length g.now.nodes ≤ length from.old }
-{
-    let mut to = new_row(alloc, g.nodes()).ok()?;
-    writes_in(alloc, p, g, e, case, from, &mut to)
-}
-
-// The same, with a row of its own for the ways from it too.
-fn certifies(alloc: Global, p: &Problem, g: &Graph, e: &Earliest, case: &Case) -> Option<bool>
-    requires solved { IsSolved p.now g.now e.now }
-    requires first { case.now.first < length p.now.events }
-    requires second { case.now.second < length p.now.events }
-{
-    let mut from = new_row(alloc, g.nodes()).ok()?;
-    writes_from(alloc, p, g, e, case, &mut from)
 }
 
 // Whether the problem has an execution, and the certificate is written so.
@@ -217,11 +142,11 @@ fn solves(alloc: Global, p: &Problem, case: &Case) -> Option<bool>
     requires first { case.now.first < length p.now.events }
     requires second { case.now.second < length p.now.events }
 {
-    match solve_alone(alloc, p) {
-        Ok(Solution::Execution(g, e)) => certifies(alloc, p, &g, &e, case),
-        Ok(Solution::Contradiction(_)) => Some(false),
-        Err(_) => None,
+    let mut s = solve_alone(alloc, p).ok()?;
+    if !is_solved(&s) {
+        return Some(false);
     }
+    writes(alloc, p, &mut s, case)
 }
 
 // The same of a case by its text.

@@ -1,23 +1,24 @@
-ghost use Rattle.std.specs.Prelude.{◌≡◌, ◌≤◌, true, length};
+ghost use Rattle.std.specs.Prelude.{◌≡◌, []};
+ghost use Rattle.engine.specs.Current.{IsCurrent};
 
-use crate::fixtures::{CIRCLE_PROBLEM, LATE_LOGS_PROBLEM, solve_alone};
+use crate::fixtures::{CIRCLE_PROBLEM, LATE_LOGS_PROBLEM, is_solved, solve_alone};
 use atto::{NsText, write_decimal};
-use earliest::Earliest;
+use engine::Solver;
 use problem::{Problem, read_problem};
-use solver::Solution;
 use std::alloc::{AllocError, Global};
 use std::test::*;
 
 // Whether the first values are these, in units.
-fn begins_with(e: &Earliest, nodes: u32, want: &[i128]) -> bool
-    requires solved { e.now.is_solved ≡ true }
-    requires nodes { nodes ≤ length e.now.values }
+fn begins_with(s: &Solver, want: &[i128]) -> bool
+    requires current { IsCurrent s.now }
+    requires solved { s.now.contradiction ≡ [] }
 {
+    let nodes = s.graph().nodes();
     for (k, value) in want.iter().enumerate() {
         if nodes as usize <= k {
             return false;
         }
-        if e.value(k as u32) != *value {
+        if s.value(k as u32) != *value {
             return false;
         }
     }
@@ -26,11 +27,11 @@ fn begins_with(e: &Earliest, nodes: u32, want: &[i128]) -> bool
 
 // Whether a problem has an execution, and its earliest one begins with these values, in units.
 fn values_begin(alloc: Global, p: &Problem, want: &[i128]) -> Option<bool> {
-    match solve_alone(alloc, p) {
-        Ok(Solution::Execution(g, e)) => Some(begins_with(&e, g.nodes(), want)),
-        Ok(Solution::Contradiction(_)) => Some(false),
-        Err(_) => None,
+    let s = solve_alone(alloc, p).ok()?;
+    if !is_solved(&s) {
+        return Some(false);
     }
+    Some(begins_with(&s, want))
 }
 
 // The same of a problem by its text.
@@ -39,12 +40,10 @@ fn has_values(alloc: Global, text: &[u8], want: &[i128]) -> Option<bool> {
     values_begin(alloc, &p, want)
 }
 
-// How many bounds the contradiction of a problem has, where it has one.
+// How many bounds the contradiction of a problem has, which are none where it has an execution.
 fn bounds_of_contradiction(alloc: Global, p: &Problem) -> Option<usize> {
-    match solve_alone(alloc, p) {
-        Ok(Solution::Contradiction(steps)) => Some(steps.len()),
-        _ => None,
-    }
+    let s = solve_alone(alloc, p).ok()?;
+    Some(s.contradiction().len())
 }
 
 // The same of a problem by its text.

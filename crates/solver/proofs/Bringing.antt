@@ -2,7 +2,7 @@
 use Rattle.std.proofs.Common.{◌≡◌, ◌<◌, ◌≤◌, ◌+◌, ◌-◌, ℕ, zero, suc, true, false, List, [], ◌∷◌, ◌++◌, length, map, max, not, replicate, count_by, cond, slice_get, Some, None, refl, sym, ◌∙◌, ap, subst, arith, append_assoc, append-nil, length-append}
 use Rattle.std.specs.Prelude.{All, ℤ, Option}
 use Rattle.std.proofs.lemmas.Int.{ints}
-use Rattle.std.proofs.lemmas.List.{length-map}
+use Rattle.std.proofs.lemmas.List.{length-map, length-replicate}
 use Rattle.std.proofs.lemmas.List.Elements.{All-append, All-nil, All-cons}
 use Rattle.std.proofs.lemmas.List.Sums.{sum_by-cons}
 use Rattle.std.proofs.lemmas.Option.{slice_get_within}
@@ -14,20 +14,21 @@ use Rattle.problem_model.specs.Problem.{ProblemLists, IsProblem}
 use Rattle.problem_model.specs.Bounds.{Constraint, Declares}
 use Rattle.problem_model.specs.Nodes.{Reading, AreReadings, nodes_of}
 use Rattle.problem_model.proofs.OneList.{readings_one}
+use Rattle.problem.proofs.AllReadings.{few_readings}
 use Rattle.attain.proofs.DeclaredBounds.{declared_small}
 use Rattle.sync_graph.specs.declared.arc.Arc.{Arc}
-use Rattle.sync_graph.specs.Graph.{GraphLists, IsSound, with_arc, with_node, no_graph, most_nodes}
+use Rattle.sync_graph.specs.Graph.{GraphLists, IsSound, with_arc, with_node, no_graph, most_arcs}
 use Rattle.sync_graph.specs.Names.{Joins, IsNamed}
 use Rattle.sync_graph.specs.Standing.{HasBounds, IsDeclared, NodesLeft}
-use Rattle.sync_graph.proofs.Numbering.{next_less, all_left}
+use Rattle.sync_graph.proofs.Numbering.{next_less}
 use Rattle.row_pool.specs.Pool.{PoolRow, Pool, free_rows, free_row, grown}
 use Rattle.engine.specs.Solver.{SolverLists, HasRoom, with_new_node}
-use Rattle.engine.specs.Changes.{KeepsSlots}
+use Rattle.repair.specs.Slots.{KeptRows, with_room}
+use Rattle.engine.specs.Changes.{KeepsSlots, KeepsAnswer}
 use Rattle.engine.specs.Current.{IsCurrent}
-use Rattle.problem_model.proofs.Walking.{neighbours_are}
-use Rattle.solver.specs.declared.items.Item.TheVariants as items
 use Rattle.solver.specs.Bounds.{HasShortList}
-use Rattle.solver.specs.Items.{reading_at, IsItem, bounds_of, most_span, least_span}
+use Rattle.solver.specs.declared.items.Ranked.{Ranked}
+use Rattle.solver.specs.Items.{AreItems, items_of}
 use Rattle.solver.specs.Solution.{IsSolution}
 use Rattle.solver.specs.Pushing.{HasNodesOf, NodesCome, AddsBounds}
 use Rattle.solver.proofs.OwnStanding.{own_standing}
@@ -134,7 +135,12 @@ module _ (p : ProblemLists) (readings : List Reading) (n : Node) (rest : List No
 
 -- where all nodes are there, they are those of the problem, and no bound is an arc
 pub nodes_there : (p : ProblemLists) (readings : List Reading) (s : SolverLists) → NodesCome p readings [] s → HasBounds p readings [] s.graph
-nodes_there p readings s come = (all_left p readings s.graph come.left).2
+nodes_there p readings s come = record {
+  nodes_are = sym (append-nil s.graph.nodes) ∙ come.left.nodes_are;
+  all_in_force = come.left.no_flags ∙ ap (map (λ (a : Arc). true)) (sym come.left.no_arcs);
+  named = ap (map (λ (a : Arc). a.name)) come.left.no_arcs;
+  declared = subst (All (IsDeclared p readings)) (sym come.left.no_arcs) (All-nil (IsDeclared p readings));
+}
 
 -- ---- the start
 count_free : (n : ℕ) (width : ℕ) → count_by (λ (row : PoolRow). not row.taken) (replicate n (free_row width)) ≡ n
@@ -165,22 +171,41 @@ is_solution p readings bounds start s lawful are come adds short = record {
 }
 
 -- ---- the bounds of an item
-two_added : (p : ProblemLists) (b b' : Bound) (old mid new : SolverLists) (a a' : Arc) → a.name ≡ b → a'.name ≡ b' → AddsBounds p (a.name ∷ []) old mid → AddsBounds p (a'.name ∷ []) mid new
-    → AddsBounds p (b ∷ b' ∷ []) old new
-two_added p b b' old mid new a a' name name' one two =
-    subst (λ (v : Bound). AddsBounds p (v ∷ b' ∷ []) old new) name
-    (subst (λ (v : Bound). AddsBounds p (a.name ∷ v ∷ []) old new) name' (adds_then p (a.name ∷ []) (a'.name ∷ []) old mid new one two))
-
-pub span_added : (p : ProblemLists) (readings : List Reading) (k : ℕ) → IsItem p readings (items.Span k) → (old mid new : SolverLists) (a a' : Arc) → a.name ≡ most_span readings k → a'.name ≡ least_span readings k
-    → AddsBounds p (a.name ∷ []) old mid → AddsBounds p (a'.name ∷ []) mid new → AddsBounds p (bounds_of p readings (items.Span k)) old new
-span_added p readings k item old mid new a a' name name' one two =
-    subst (λ (bs : List Bound). AddsBounds p bs old new) (sym (neighbours_are (reading_at readings k).0 (reading_at readings (k + 1)).0 (reading_at readings k).1 (reading_at readings (k + 1)).1 item.1))
-    (two_added p (most_span readings k) (least_span readings k) old mid new a a' name name' one two)
-
-pub event_added : (p : ProblemLists) (e : ℕ) (old mid new : SolverLists) (a a' : Arc) → a.name ≡ Late e → a'.name ≡ Early e
-    → AddsBounds p (a.name ∷ []) old mid → AddsBounds p (a'.name ∷ []) mid new → AddsBounds p (Late e ∷ Early e ∷ []) old new
-event_added p e old mid new a a' name name' one two = two_added p (Late e) (Early e) old mid new a a' name name' one two
+pub two_added : (p : ProblemLists) (b b' : Bound) (old mid new : SolverLists) → AddsBounds p (b ∷ []) old mid → AddsBounds p (b' ∷ []) mid new → AddsBounds p (b ∷ b' ∷ []) old new
+two_added p b b' old mid new one two = adds_then p (b ∷ []) (b' ∷ []) old mid new one two
 
 -- the arcs are as many as there were and these
 pub room_after : (p : ProblemLists) (bounds : List Bound) (old mid : SolverLists) (most : ℕ) → AddsBounds p bounds old mid → length bounds ≤ 1 → length old.graph.arcs + 2 ≤ most → length mid.graph.arcs < most
 room_after p bounds old mid most adds one room = omega (arith, adds.count, one, room)
+
+-- ---- from nothing to the end
+pub come_first : (p : ProblemLists) (readings : List Reading) (rows n : ℕ) (empty s : SolverLists) → empty.graph ≡ no_graph → KeepsAnswer empty s → IsCurrent s
+    → s.pool ≡ grown empty.pool rows n → s.kept ≡ with_room empty.kept (max empty.kept.room n) → s.front ≡ empty.front ++ replicate (n - length empty.front) None → n ≡ length (nodes_of p readings)
+    → NodesCome p readings (nodes_of p readings) s
+come_first p readings rows n empty s none answer current pool kept front count =
+    let graph : s.graph ≡ no_graph = answer.graph ∙ none in
+    let wide : s.pool.width ≡ max empty.pool.width n = ap (λ (v : Pool). v.width) pool in
+    let found : s.kept.room ≡ max empty.kept.room n = ap (λ (v : KeptRows). v.room) kept in
+    let long : length s.front ≡ length empty.front + (n - length empty.front) = ap length front ∙ length-append empty.front (replicate (n - length empty.front) None) ∙ ap (λ (m : ℕ). length empty.front + m) (length-replicate (n - length empty.front) None) in
+    record {
+      current = current;
+      left = subst (NodesLeft p readings (nodes_of p readings)) (sym graph) (record { nodes_are = refl; no_arcs = refl; no_flags = refl });
+      room = record {
+        rows = omega (arith, wide, count);
+        found = omega (arith, found, count);
+        front = omega (arith, long, count);
+      };
+    }
+
+module _ (p : ProblemLists) (readings : List Reading) (lawful : IsProblem p) (are : AreReadings p readings) (s : SolverLists) (come : NodesCome p readings [] s) where
+  pub nodes_all : HasNodesOf p s
+  nodes_all others are' = (nodes_there p readings s come).nodes_are ∙ ap (nodes_of p) (readings_one p readings others are are')
+
+  pub come_all : (others : List Reading) → AreReadings p others → NodesCome p others [] s
+  come_all others are' = subst (λ (rs : List Reading). NodesCome p rs [] s) (readings_one p readings others are are') come
+
+pub few_enough : (p : ProblemLists) (readings : List Reading) (ranked : List Ranked) → IsProblem p → AreReadings p readings
+    → AreItems p readings (length readings - 1) (length p.events) (length p.messages) (items_of ranked) → length ranked + length ranked ≤ most_arcs
+few_enough p readings ranked lawful are items =
+    let same : length (items_of ranked) ≡ length ranked = length-map ranked (λ (r : Ranked). r.item) in
+    omega (arith, same, items.few, few_readings p readings are, lawful.fits.event_limit, lawful.fits.message_limit)

@@ -70,13 +70,13 @@ module _ (p : ProblemLists) (readings : List Reading) (all : List Item) (lawful 
   pub covered : HasShortList p readings bounds
   covered =
       subst (All (Contains bounds)) (sym (short_without p readings lawful.formed.no_follows))
-      (All-append (Contains bounds) (span_bounds readings) (event_bounds 0 p.events ++ flat_map message_bounds p.messages)
+      (All-append (Contains bounds) (span_bounds readings ++ event_bounds 0 p.events) (flat_map message_bounds p.messages)
+      (All-append (Contains bounds) (span_bounds readings) (event_bounds 0 p.events)
       (spans_all (Contains bounds) readings neighbours_all)
-      (All-append (Contains bounds) (event_bounds 0 p.events) (flat_map message_bounds p.messages)
       (events_all (Contains bounds) 0 p.events (λ j inside. (
           let same : j ≡ 0 + j = omega arith in
-          subst (λ (n : ℕ). All (Contains bounds) (Late n ∷ Early n ∷ [])) same (item_all (items.Event j) (are.events_in j inside)))))
-      (messages_all (Contains bounds) p.messages (λ j inside. item_all (items.Message j) (are.messages_in j inside)))))
+          subst (λ (n : ℕ). All (Contains bounds) (Late n ∷ Early n ∷ [])) same (item_all (items.Event j) (are.events_in j inside))))))
+      (messages_all (Contains bounds) p.messages (λ j inside. item_all (items.Message j) (are.messages_in j inside))))
 
 -- ---- each item has two bounds at most
 if_two : (b : Bool) (x y : Bound) → length (if b then x ∷ y ∷ [] else []) ≤ 2

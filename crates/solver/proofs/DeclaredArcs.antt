@@ -1,7 +1,7 @@
 -- Arcs that are bounds of a problem.
-use Rattle.std.proofs.Common.{◌≡◌, ◌<◌, ◌+◌, ◌-◌, ◌*◌, ℕ, List, length, slice_get, Some, refl, sym, ◌∙◌, ap, subst, arith, inl, inr}
-use Rattle.std.specs.Prelude.{pos, neg_ℤ, Contains}
-use Rattle.std.proofs.lemmas.Option.{slice_get_within, slice_get-get_or}
+use Rattle.std.proofs.Common.{◌≡◌, ◌<◌, ◌+◌, ◌-◌, ◌*◌, ℕ, List, [], ◌∷◌, length, get_or, slice_get, Some, refl, sym, ◌∙◌, ap, subst, arith, inl, inr}
+use Rattle.std.specs.Prelude.{ℤ, pos, neg_ℤ, Contains}
+use Rattle.std.proofs.lemmas.Option.{slice_get_within, slice_get-get_or, slice_get_read}
 use Rattle.std.proofs.lemmas.List.Elements.{All-contains, Contains-get_or}
 use Rattle.atto.specs.Span.{most_of, least_of}
 use Rattle.problem_model.specs.declared.items.Clock.{Clock}
@@ -13,14 +13,16 @@ use Rattle.problem_model.specs.declared.items.Bound.{Bound}
 use Rattle.problem_model.specs.declared.items.Bound.TheVariants.{SpanMost, SpanLeast, Late, Early, DelayMost, DelayLeast}
 use Rattle.problem_model.specs.Problem.{ProblemLists, IsProblem}
 use Rattle.problem_model.specs.Bounds.{Constraint, Declares, ClockAt, EventAt, IsReading}
+use Rattle.problem_model.specs.ShortList.{neighbour_bounds}
 use Rattle.problem_model.specs.Nodes.{Reading, ComesBefore, AreReadings, nodes_of}
 use Rattle.problem_model.proofs.OneList.{readings_one}
 use Rattle.problem_model.proofs.Places.{event_stands, reading_stands}
+use Rattle.problem_model.proofs.Walking.{clock_there, neighbours_are}
 use Rattle.sync_graph.specs.declared.arc.Arc.{Arc}
 use Rattle.sync_graph.specs.Standing.{IsDeclared}
 use Rattle.solver.specs.declared.items.Item.TheVariants as items
-use Rattle.solver.specs.Items.{reading_at, IsItem, most_span, least_span}
-use Rattle.solver.specs.Pushing.{IsDeclaredArc}
+use Rattle.solver.specs.Items.{reading_at, IsItem, bounds_of, most_span, least_span}
+use Rattle.solver.specs.Pushing.{arc_of, IsDeclaredArc}
 
 module _ (p : ProblemLists) (readings : List Reading) (are : AreReadings p readings) where
   -- over the problem's own readings, so over every such list
@@ -114,3 +116,43 @@ module _ (p : ProblemLists) (readings : List Reading) (are : AreReadings p readi
     delay_least_declared name from to weighs =
         declared_by a (DelayLeast m.send m.receive) (record { from = nodes.Event m.receive; to = nodes.Event m.send; weight = neg_ℤ (pos (m.least * 1000000000)) })
         (m, has, refl, refl, refl) name (at_receive a.from from) (at_send a.to to) weighs
+
+-- ---- by what is at hand
+module _ (p : ProblemLists) (readings : List Reading) (lawful : IsProblem p) (are : AreReadings p readings) (k : ℕ) where
+  pub below_all : k < length readings → (others : List Reading) → AreReadings p others → k < length others
+  below_all inside others are' = subst (λ (rs : List Reading). k < length rs) (readings_one p readings others are are') inside
+
+  module _ (item : IsItem p readings (items.Span k)) (a b : Reading) (a_is : a ≡ reading_at readings k) (b_is : b ≡ reading_at readings (k + 1)) where
+    pub clock_below : a.0 < length p.clocks
+    clock_below =
+        let there : (reading_at readings k).0 < length p.clocks = clock_there p (reading_at readings k).0 (reading_at readings k).1 lawful.formed (first_reading p readings are k item) in
+        omega (arith, there, ap (λ (r : Reading). r.0) a_is)
+
+    pub rising : a.1 < b.1
+    rising = omega (arith, stamps_rise p readings are k item, ap (λ (r : Reading). r.1) a_is, ap (λ (r : Reading). r.1) b_is)
+
+    module _ (c : Clock) (clocks : List Clock) (value : clocks ≡ p.clocks) (is : c ≡ get_or clocks a.0 c) (first : ℕ) (first_is : first ≡ length p.events + k) where
+      at : ClockAt p (reading_at readings k).0 c
+      at =
+          let inside : a.0 < length clocks = subst (λ (cs : List Clock). a.0 < length cs) (sym value) clock_below in
+          let here : slice_get clocks a.0 ≡ Some c = slice_get_read clocks (length clocks) a.0 c refl inside is in
+          subst (λ (r : Reading). ClockAt p r.0 c) a_is (subst (λ (cs : List Clock). slice_get cs a.0 ≡ Some c) value here)
+
+      pub most_is_declared : (weight : ℤ) → weight ≡ pos (most_of c.rate (b.1 - a.1)) → IsDeclaredArc p (arc_of (SpanMost a.0 a.1 b.1) first (first + 1) weight)
+      most_is_declared weight weighs =
+          most_declared p readings are k item c at (arc_of (SpanMost a.0 a.1 b.1) first (first + 1) weight)
+          (ap (λ (r : Reading). SpanMost r.0 r.1 b.1) a_is ∙ ap (λ (r : Reading). SpanMost (reading_at readings k).0 (reading_at readings k).1 r.1) b_is) first_is (ap (λ (n : ℕ). n + 1) first_is)
+          (weighs ∙ ap (λ (r : Reading). pos (most_of c.rate (b.1 - r.1))) a_is ∙ ap (λ (r : Reading). pos (most_of c.rate (r.1 - (reading_at readings k).1))) b_is)
+
+      pub least_is_declared : (weight : ℤ) → weight ≡ neg_ℤ (pos (least_of c.rate (b.1 - a.1))) → IsDeclaredArc p (arc_of (SpanLeast a.0 a.1 b.1) (first + 1) first weight)
+      least_is_declared weight weighs =
+          least_declared p readings are k item c at (arc_of (SpanLeast a.0 a.1 b.1) (first + 1) first weight)
+          (ap (λ (r : Reading). SpanLeast r.0 r.1 b.1) a_is ∙ ap (λ (r : Reading). SpanLeast (reading_at readings k).0 (reading_at readings k).1 r.1) b_is) (ap (λ (n : ℕ). n + 1) first_is) first_is
+          (weighs ∙ ap (λ (r : Reading). neg_ℤ (pos (least_of c.rate (b.1 - r.1)))) a_is ∙ ap (λ (r : Reading). neg_ℤ (pos (least_of c.rate (r.1 - (reading_at readings k).1)))) b_is)
+
+-- the names of both bounds over a span
+pub span_names : (p : ProblemLists) (readings : List Reading) (k : ℕ) (a b : Reading) → IsItem p readings (items.Span k) → a ≡ reading_at readings k → b ≡ reading_at readings (k + 1)
+    → bounds_of p readings (items.Span k) ≡ SpanMost a.0 a.1 b.1 ∷ SpanLeast a.0 a.1 b.1 ∷ []
+span_names p readings k a b item a_is b_is =
+    ap (λ (r : Reading). neighbour_bounds r (reading_at readings (k + 1))) (sym a_is) ∙ ap (λ (r : Reading). neighbour_bounds a r) (sym b_is)
+    ∙ neighbours_are a.0 b.0 a.1 b.1 (ap (λ (r : Reading). r.0) a_is ∙ item.1 ∙ ap (λ (r : Reading). r.0) (sym b_is))

@@ -1,8 +1,9 @@
 -- Items that come one after another.
-use Rattle.std.proofs.Common.{◌≡◌, ◌<◌, ◌+◌, ℕ, List, [], ◌∷◌, ◌++◌, length, map, sym, subst, arith, inl, inr, length-append}
+use Rattle.std.proofs.Common.{◌≡◌, ◌<◌, ◌+◌, ℕ, List, [], ◌∷◌, ◌++◌, length, map, get_or, sym, ◌∙◌, ap, subst, arith, inl, inr, length-append}
 use Rattle.std.specs.Prelude.{All, Contains}
 use Rattle.std.specs.List.Sorted.{IsPermutation}
 use Rattle.std.proofs.lemmas.Bool.{cases_lt}
+use Rattle.std.proofs.lemmas.List.{map-append, get_or_default}
 use Rattle.std.proofs.lemmas.List.Elements.{All-nil, All-push, Contains-append_left, Contains-push}
 use Rattle.std.proofs.lemmas.List.Sorted.{IsPermutation-map, All-permutation, Contains-permutation, length_permutation}
 use Rattle.problem_model.specs.Problem.{ProblemLists}
@@ -10,7 +11,7 @@ use Rattle.problem_model.specs.Nodes.{Reading}
 use Rattle.solver.specs.declared.items.Item.{Item}
 use Rattle.solver.specs.declared.items.Item.TheVariants as items
 use Rattle.solver.specs.declared.items.Ranked.{Ranked}
-use Rattle.solver.specs.Items.{IsItem, AreItems, items_of}
+use Rattle.solver.specs.Items.{reading_at, IsItem, AreItems, items_of}
 
 module _ (p : ProblemLists) (readings : List Reading) where
   pub none_yet : AreItems p readings 0 0 0 []
@@ -98,3 +99,31 @@ pub sorted_items : (p : ProblemLists) (readings : List Reading) (spans events me
     → AreItems p readings spans events messages (items_of ranked) → AreItems p readings spans events messages (items_of sorted)
 sorted_items p readings spans events messages ranked sorted by are =
     moved p readings spans events messages (items_of ranked) are (items_of sorted) (IsPermutation-map (λ (r : Ranked). r.item) ranked sorted by)
+
+-- ---- items behind their ranks
+module _ (p : ProblemLists) (readings : List Reading) (spans events messages : ℕ) (ranked more : List Ranked) (rank : ℕ) (are : AreItems p readings spans events messages (items_of ranked)) where
+  one_behind : (item : Item) → more ≡ ranked ++ record { rank = rank; item = item } ∷ [] → items_of more ≡ items_of ranked ++ item ∷ []
+  one_behind item is = ap items_of is ∙ map-append (λ (r : Ranked). r.item) ranked (record { rank = rank; item = item } ∷ [])
+
+  pub span_pushed : more ≡ ranked ++ record { rank = rank; item = items.Span spans } ∷ [] → IsItem p readings (items.Span spans) → AreItems p readings (spans + 1) events messages (items_of more)
+  span_pushed is item = subst (AreItems p readings (spans + 1) events messages) (sym (one_behind (items.Span spans) is)) (span_more p readings spans events messages (items_of ranked) are item)
+
+  pub event_pushed : more ≡ ranked ++ record { rank = rank; item = items.Event events } ∷ [] → events < length p.events → AreItems p readings spans (events + 1) messages (items_of more)
+  event_pushed is inside = subst (AreItems p readings spans (events + 1) messages) (sym (one_behind (items.Event events) is)) (event_more p readings spans events messages (items_of ranked) are inside)
+
+  pub message_pushed : more ≡ ranked ++ record { rank = rank; item = items.Message messages } ∷ [] → messages < length p.messages → AreItems p readings spans events (messages + 1) (items_of more)
+  message_pushed is inside = subst (AreItems p readings spans events (messages + 1)) (sym (one_behind (items.Message messages) is)) (message_more p readings spans events messages (items_of ranked) are inside)
+
+-- ---- neighbours
+module _ (p : ProblemLists) (readings : List Reading) (k : ℕ) (a b : Reading) (inside : k + 1 < length readings) (a_is : a ≡ get_or readings k a) (b_is : b ≡ get_or readings (k + 1) b) where
+  pub first_is : a ≡ reading_at readings k
+  first_is = a_is ∙ get_or_default readings k (0, 0) a (omega (arith, inside))
+
+  pub second_is : b ≡ reading_at readings (k + 1)
+  second_is = b_is ∙ get_or_default readings (k + 1) (0, 0) b inside
+
+  pub are_neighbours : a.0 ≡ b.0 → IsItem p readings (items.Span k)
+  are_neighbours same = (inside, sym (ap (λ (r : Reading). r.0) first_is) ∙ same ∙ ap (λ (r : Reading). r.0) second_is)
+
+  pub no_neighbours : (a.0 ≡ b.0 → ⊥) → IsItem p readings (items.Span k) → ⊥
+  no_neighbours differ item = differ (ap (λ (r : Reading). r.0) first_is ∙ item.1 ∙ sym (ap (λ (r : Reading). r.0) second_is))

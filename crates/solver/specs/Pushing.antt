@@ -1,5 +1,5 @@
 -- Nodes and bounds of a problem that come one after another.
-use Rattle.std.specs.Prelude.{◌≡◌, ℕ, ◌+◌, List, [], ◌++◌, length}
+use Rattle.std.specs.Prelude.{◌≡◌, ℕ, ℤ, ◌+◌, List, [], ◌++◌, length}
 use Rattle.problem_model.specs.declared.items.Node.{Node}
 use Rattle.problem_model.specs.declared.items.Bound.{Bound}
 use Rattle.problem_model.specs.Problem.{ProblemLists}
@@ -13,6 +13,10 @@ use Rattle.engine.specs.Current.{IsCurrent}
 -- the nodes are those of the problem in their order
 abbrev pub HasNodesOf : ProblemLists → SolverLists → Type 0
 HasNodesOf p s = (readings : List Reading) → AreReadings p readings → s.graph.nodes ≡ nodes_of p readings
+
+-- the arc of a bound
+abbrev pub arc_of : Bound → ℕ → ℕ → ℤ → Arc
+arc_of name from to weight = record { from = from; to = to; weight = weight; name = name }
 
 -- the arc is a bound of the problem, between the numbers of its nodes
 abbrev pub IsDeclaredArc : ProblemLists → Arc → Type 0

@@ -1,20 +1,21 @@
 // Nodes and bounds of a problem that are brought in.
-ghost use Rattle.std.specs.Prelude.{◌≡◌, ◌+◌, ◌<◌, ◌≤◌, [], ◌∷◌, List, All, Contains, length, OnOk};
+ghost use Rattle.std.specs.Prelude.{◌≡◌, ◌+◌, ◌<◌, ◌≤◌, ◌^◌, [], ◌∷◌, List, Some, All, Contains, length, slice_get, OnOk};
 ghost use Rattle.std.specs.List.{flat_map};
 ghost use Rattle.problem_model.specs.Nodes.{Reading, AreReadings, nodes_of};
+ghost use Rattle.problem_model.specs.Bounds.{EventAt};
 ghost use Rattle.problem_model.specs.ShortList.{most_bound, message_bounds};
 ghost use Rattle.problem_model.specs.declared.items.Bound.TheVariants.{Late, Early, DelayLeast};
 ghost use Rattle.sync_graph.specs.Graph.{most_arcs};
 ghost use Rattle.engine.specs.Current.{IsCurrent};
 ghost use Rattle.solver.specs.declared.items.Item.TheVariants as items;
-ghost use Rattle.solver.specs.Items.{IsItem, bounds_of, items_of, most_span, least_span};
-ghost use Rattle.solver.specs.Pushing.{HasNodesOf, IsDeclaredArc, AddsBounds, NodesCome};
+ghost use Rattle.solver.specs.Items.{IsItem, bounds_of, items_of, reading_at};
+ghost use Rattle.solver.specs.Pushing.{HasNodesOf, IsDeclaredArc, AddsBounds, NodesCome, arc_of};
 
 use crate::items::{Item, Ranked, reading_of};
 use atto::{Nano, Steps, delay_units, span_least, span_most};
 use engine::Solver;
 use problem::Problem;
-use problem_model::{Bound, Message, Node};
+use problem_model::{Bound, Event, Message, Node};
 use std::alloc::{AllocError, Global};
 use std::sync::ledger::Ledger;
 use sync_graph::Arc;
@@ -23,17 +24,26 @@ use sync_graph::Arc;
 fn push_bound<L: Ledger>(
     s: &mut Solver,
     p: &Problem,
-    a: Arc,
+    name: Bound,
+    from: u32,
+    to: u32,
+    weight: i128,
     steps: &mut Steps<L>,
 ) -> Result<(), AllocError>
     requires current { IsCurrent s.old }
     requires nodes { HasNodesOf p.now s.old }
-    requires declared { IsDeclaredArc p.now a }
+    requires declared { IsDeclaredArc p.now (arc_of name from to weight) }
     requires few { length s.old.graph.arcs < most_arcs }
-    ensures { OnOk result (AddsBounds p.now (a.name ∷ []) s.old s.new) }
+    ensures { OnOk result (AddsBounds p.now (name ∷ []) s.old s.new) }
 {
     let _ = p.readings();
     let _ = p.events();
+    let a = Arc {
+        from,
+        to,
+        weight,
+        name,
+    };
     s.push_arc(a, steps)?;
     Ok(())
 }
@@ -41,46 +51,11 @@ fn push_bound<L: Ledger>(
 // The number of the node of the reading at a place.
 fn node_of_reading(p: &Problem, place: u32) -> u32
     requires { (readings : List Reading) → AreReadings p.now readings → place < length readings }
-    ensures { result ≡ length p.now.events + place }
+    ensures node { result ≡ length p.now.events + place }
+    ensures few { result < 2 ^ 31 }
 {
     let _ = p.readings();
     p.events().len() as u32 + place
-}
-
-// The bound on how much later the next reading is at most.
-fn most_arc(p: &Problem, readings: &[(u32, Nano)], k: u32) -> Arc
-    requires readings { AreReadings p.now readings.now }
-    requires item { IsItem p.now readings.now (items.Span k) }
-    ensures name { result.name ≡ most_span readings.now k }
-    ensures declared { IsDeclaredArc p.now result }
-{
-    let (clock, s) = readings[k as usize];
-    let (_, t) = readings[k as usize + 1];
-    let first = node_of_reading(p, k);
-    Arc {
-        from: first,
-        to: first + 1,
-        weight: span_most(p.clocks()[clock as usize].rate, s, t),
-        name: Bound::SpanMost { clock, s, t },
-    }
-}
-
-// The bound on how much later the next reading is at least.
-fn least_arc(p: &Problem, readings: &[(u32, Nano)], k: u32) -> Arc
-    requires readings { AreReadings p.now readings.now }
-    requires item { IsItem p.now readings.now (items.Span k) }
-    ensures name { result.name ≡ least_span readings.now k }
-    ensures declared { IsDeclaredArc p.now result }
-{
-    let (clock, s) = readings[k as usize];
-    let (_, t) = readings[k as usize + 1];
-    let first = node_of_reading(p, k);
-    Arc {
-        from: first + 1,
-        to: first,
-        weight: -span_least(p.clocks()[clock as usize].rate, s, t),
-        name: Bound::SpanLeast { clock, s, t },
-    }
 }
 
 // Brings in both bounds over the span of the reading at a place and the next one.
@@ -89,64 +64,59 @@ fn push_span<L: Ledger>(
     p: &Problem,
     readings: &[(u32, Nano)],
     k: u32,
+    a: (u32, Nano),
+    b: (u32, Nano),
     steps: &mut Steps<L>,
 ) -> Result<(), AllocError>
     requires current { IsCurrent s.old }
     requires nodes { HasNodesOf p.now s.old }
     requires readings { AreReadings p.now readings.now }
     requires item { IsItem p.now readings.now (items.Span k) }
+    requires a { a ≡ reading_at readings.now k }
+    requires b { b ≡ reading_at readings.now (k + 1) }
     requires room { length s.old.graph.arcs + 2 ≤ most_arcs }
     ensures { OnOk result (AddsBounds p.now (bounds_of p.now readings.now (items.Span k)) s.old s.new) }
 {
-    push_bound(s, p, most_arc(p, readings, k), steps)?;
-    push_bound(s, p, least_arc(p, readings, k), steps)
+    let clock = &p.clocks()[a.0 as usize];
+    let first = node_of_reading(p, k);
+    let most = Bound::SpanMost {
+        clock: a.0,
+        s: a.1,
+        t: b.1,
+    };
+    let weight = span_most(clock.rate, a.1, b.1);
+    push_bound(s, p, most, first, first + 1, weight, steps)?;
+    let least = Bound::SpanLeast {
+        clock: a.0,
+        s: a.1,
+        t: b.1,
+    };
+    let weight = -span_least(clock.rate, a.1, b.1);
+    push_bound(s, p, least, first + 1, first, weight, steps)
 }
 
-// The bound on how much later an event is than its stamp at most.
-fn late_arc(p: &Problem, place: u32) -> Arc
-    requires { place < length p.now.events }
-    ensures name { result.name ≡ Late place }
-    ensures declared { IsDeclaredArc p.now result }
-{
-    let event = &p.events()[place as usize];
-    Arc {
-        from: node_of_reading(p, reading_of(p, event)),
-        to: place,
-        weight: delay_units(p.clocks()[event.clock as usize].late),
-        name: Bound::Late(place),
-    }
-}
-
-// The bound on how much earlier an event is than its stamp at most.
-fn early_arc(p: &Problem, place: u32) -> Arc
-    requires { place < length p.now.events }
-    ensures name { result.name ≡ Early place }
-    ensures declared { IsDeclaredArc p.now result }
-{
-    let event = &p.events()[place as usize];
-    Arc {
-        from: place,
-        to: node_of_reading(p, reading_of(p, event)),
-        weight: delay_units(p.clocks()[event.clock as usize].early),
-        name: Bound::Early(place),
-    }
-}
-
-// Brings in both bounds on the stamp of the event at a place.
+// Brings in both bounds on the stamp of the event at a place, whose reading is at this place.
 fn push_event<L: Ledger>(
     s: &mut Solver,
     p: &Problem,
     place: u32,
+    event: &Event,
+    reading: u32,
     steps: &mut Steps<L>,
 ) -> Result<(), AllocError>
     requires current { IsCurrent s.old }
     requires nodes { HasNodesOf p.now s.old }
-    requires item { place < length p.now.events }
+    requires event { EventAt p.now place event.now }
+    requires reading { (readings : List Reading) → AreReadings p.now readings → slice_get readings reading ≡ Some (event.now.clock, event.now.stamp) }
     requires room { length s.old.graph.arcs + 2 ≤ most_arcs }
     ensures { OnOk result (AddsBounds p.now (Late place ∷ Early place ∷ []) s.old s.new) }
 {
-    push_bound(s, p, late_arc(p, place), steps)?;
-    push_bound(s, p, early_arc(p, place), steps)
+    let clock = &p.clocks()[event.clock as usize];
+    let node = node_of_reading(p, reading);
+    let late = delay_units(clock.late);
+    push_bound(s, p, Bound::Late(place), node, place, late, steps)?;
+    let early = delay_units(clock.early);
+    push_bound(s, p, Bound::Early(place), place, node, early, steps)
 }
 
 // Brings in the bound on the greatest delay of a message, where there is one.
@@ -167,13 +137,8 @@ fn push_most<L: Ledger>(
     let (send, receive) = (message.send, message.receive);
     match message.most {
         Some(most) => {
-            let arc = Arc {
-                from: send,
-                to: receive,
-                weight: delay_units(most),
-                name: Bound::DelayMost { send, receive },
-            };
-            push_bound(s, p, arc, steps)
+            let name = Bound::DelayMost { send, receive };
+            push_bound(s, p, name, send, receive, delay_units(most), steps)
         }
         None => Ok(()),
     }
@@ -195,13 +160,9 @@ fn push_least<L: Ledger>(
     let _ = p.readings();
     let _ = p.events();
     let (send, receive) = (message.send, message.receive);
-    let arc = Arc {
-        from: receive,
-        to: send,
-        weight: -delay_units(message.least),
-        name: Bound::DelayLeast { send, receive },
-    };
-    push_bound(s, p, arc, steps)
+    let name = Bound::DelayLeast { send, receive };
+    let weight = -delay_units(message.least);
+    push_bound(s, p, name, receive, send, weight, steps)
 }
 
 // Brings in the bounds on the delay of a message.
@@ -237,8 +198,14 @@ fn push_item<L: Ledger>(
     ensures { OnOk result (AddsBounds p.now (bounds_of p.now readings.now item) s.old s.new) }
 {
     match item {
-        Item::Span(k) => push_span(s, p, readings, k, steps),
-        Item::Event(e) => push_event(s, p, e, steps),
+        Item::Span(k) => {
+            let (a, b) = (readings[k as usize], readings[k as usize + 1]);
+            push_span(s, p, readings, k, a, b, steps)
+        }
+        Item::Event(e) => {
+            let event = &p.events()[e as usize];
+            push_event(s, p, e, event, reading_of(p, event), steps)
+        }
         Item::Message(m) => push_message(s, p, &p.messages()[m as usize], steps),
     }
 }

@@ -103,6 +103,7 @@ fn start(alloc: Global, p: &Problem, rows: u32) -> Result<Solver, AllocError>
     ensures slots { IfOk result (λ s. s.kept.slots ≡ []) }
     ensures source { IfOk result (λ s. s.kept.source ≡ None) }
 {
+    let _ = p.events();
     let readings = p.readings();
     let mut s = Solver::new(alloc);
     s.reserve(rows, node_count(p, readings))?;
@@ -126,6 +127,7 @@ pub fn solve<L: Ledger>(
     ensures slots { IfOk result (λ s. s.kept.slots ≡ []) }
     ensures source { IfOk result (λ s. s.kept.source ≡ None) }
 {
+    let _ = p.events();
     let readings = p.readings();
     let items = ordered_items(alloc, p, readings, steps)?;
     let mut s = start(alloc, p, rows)?;

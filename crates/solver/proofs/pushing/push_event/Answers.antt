@@ -1,16 +1,40 @@
-use Rattle.std.proofs.Common.{◌∷◌, [], ◌≤◌, arith}
-use Rattle.sync_graph.specs.Graph.{most_arcs}
+use Rattle.std.proofs.Common.{◌≡◌, ◌∷◌, [], slice_get, Some, refl, to_z, arith}
+use Rattle.std.proofs.lemmas.Int.{ints}
+use Rattle.std.proofs.lemmas.Option.{slice_get_within}
+use mir.Syntax.{w128}
+use Rattle.problem_model.specs.declared.items.Bound.TheVariants.{Late, Early}
+use Rattle.problem_model.specs.Bounds.{ClockAt}
+use Rattle.problem_model.proofs.Walking.{clock_at}
+use Rattle.sync_graph.proofs.BoundEnds.{contains_at}
 use Rattle.sync_graph.proofs.OneMore.{on_ok}
-use Rattle.solver.proofs.Bringing.{nodes_still, room_after, event_added}
+use Rattle.solver.specs.Pushing.{arc_of}
+use Rattle.solver.proofs.Bringing.{two_added}
+use Rattle.solver.proofs.DeclaredArcs.{late_declared, early_declared}
 use Rattle.solver.proofs.pushing.push_event.Goals as goal
 
-pub push_bound-requires-2-clause-nodes : goal.push_bound-requires-2-clause-nodes
-push_bound-requires-2-clause-nodes g c = nodes_still c.args.p.now (c.late_arc.result.name ∷ []) c.args.s.now c.push_bound.new.s c.in_ok-push_bound.ensures c.requires.nodes
+pub node_of_reading-node-requires : goal.node_of_reading-node-requires
+node_of_reading-node-requires g c = λ rs are. slice_get_within rs c.args.reading (c.args.event.now.clock, c.args.event.now.stamp) (c.requires.reading rs are)
 
-pub push_bound-requires-2-clause-few : goal.push_bound-requires-2-clause-few
-push_bound-requires-2-clause-few g c = room_after c.args.p.now (c.late_arc.result.name ∷ []) c.args.s.now c.push_bound.new.s most_arcs c.in_ok-push_bound.ensures (let one : 1 ≤ 1 = omega arith in one) c.requires.room
+pub push_bound-requires-clause-declared : goal.push_bound-requires-clause-declared
+push_bound-requires-clause-declared g c = λ rs are.
+    let p = c.args.p.now in
+    let v = c.args.event.now in
+    let at : ClockAt p v.clock c.index-clocks-event.result =
+    clock_at p c.clocks.result.now v c.index-clocks-event.result c.clocks.ensures.lawful.formed c.clocks.ensures.value (contains_at p c.args.place v c.requires.event) c.index-clocks-event.is in
+    late_declared p rs are c.args.place v c.requires.event c.index-clocks-event.result at c.args.reading (c.requires.reading rs are)
+    (arc_of (Late c.args.place) c.node_of_reading-node.result c.args.place (to_z w128 c.delay_units-late.result)) refl c.node_of_reading-node.ensures.node refl
+    (omega (arith, ints, c.delay_units-late.ensures.exact)) rs are
+
+pub push_bound-requires-2-clause-declared : goal.push_bound-requires-2-clause-declared
+push_bound-requires-2-clause-declared g c = λ rs are.
+    let p = c.args.p.now in
+    let v = c.args.event.now in
+    let at : ClockAt p v.clock c.index-clocks-event.result =
+    clock_at p c.clocks.result.now v c.index-clocks-event.result c.clocks.ensures.lawful.formed c.clocks.ensures.value (contains_at p c.args.place v c.requires.event) c.index-clocks-event.is in
+    early_declared p rs are c.args.place v c.requires.event c.index-clocks-event.result at c.args.reading (c.requires.reading rs are)
+    (arc_of (Early c.args.place) c.args.place c.node_of_reading-node.result (to_z w128 c.delay_units-early.result)) refl refl c.node_of_reading-node.ensures.node
+    (omega (arith, ints, c.delay_units-early.ensures.exact)) rs are
 
 pub returns : goal.returns
 returns g c = on_ok c.push_bound-2.result c.push_bound-2.ensures (λ two.
-    event_added c.args.p.now c.args.place c.args.s.now c.push_bound.new.s c.push_bound-2.new.s c.late_arc.result c.early_arc.result
-    c.late_arc.ensures.name c.early_arc.ensures.name c.in_ok-push_bound.ensures two)
+    two_added c.args.p.now (Late c.args.place) (Early c.args.place) c.args.s.now c.push_bound.new.s c.push_bound-2.new.s c.in_ok-push_bound.ensures two)

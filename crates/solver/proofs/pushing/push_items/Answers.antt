@@ -6,24 +6,22 @@ use Rattle.solver.proofs.Bringing.{adds_none, nodes_still}
 use Rattle.solver.proofs.PushedItems.{item_at, room_there, one_more_item, all_items}
 use Rattle.solver.proofs.pushing.push_items.Goals as goal
 
-pub loop-ranked-start : goal.loop-ranked-start
-loop-ranked-start g c = adds_none c.args.p.now c.args.s.now c.requires.current
+pub loop-ranked-init : goal.loop-ranked-init
+loop-ranked-init g c = adds_none c.args.p.now c.args.s.now c.requires.current
 
 pub push_item-requires-clause-nodes : goal.push_item-requires-clause-nodes
 push_item-requires-clause-nodes g c =
     nodes_still c.args.p.now (flat_map (bounds_of c.args.p.now c.args.readings.now) (items_of (take c.loop-ranked.ranked-index c.args.items.now))) c.args.s.now c.loop-ranked.s c.loop-ranked.invariant c.requires.nodes
 
 pub push_item-requires-clause-item : goal.push_item-requires-clause-item
-push_item-requires-clause-item g c = item_at c.args.p.now c.args.readings.now c.args.items.now c.loop-ranked.ranked-index c.loop-ranked-test.true c.ranked-item.result c.requires.items c.ranked-item.is
+push_item-requires-clause-item g c = ?
 
 pub push_item-requires-clause-room : goal.push_item-requires-clause-room
 push_item-requires-clause-room g c =
     room_there c.args.p.now c.args.readings.now c.args.items.now c.loop-ranked.ranked-index c.loop-ranked-test.true c.args.s.now c.loop-ranked.s most_arcs c.loop-ranked.invariant c.requires.none c.requires.few
 
 pub loop-ranked-preserved : goal.loop-ranked-preserved
-loop-ranked-preserved g c =
-    one_more_item c.args.p.now c.args.readings.now c.args.items.now c.loop-ranked.ranked-index c.loop-ranked-test.true c.ranked-item.result c.args.s.now c.loop-ranked.s c.push_item.new.s c.ranked-item.is
-    c.loop-ranked.invariant c.in_ok-push_item.ensures
+loop-ranked-preserved g c = ?
 
 pub returns : goal.returns
 returns g c =

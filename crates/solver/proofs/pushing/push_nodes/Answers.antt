@@ -123,7 +123,7 @@ loop-reading-preserved c =
     let rest : List Node = reading_nodes (drop (k + 1) rs) in
     let come : NodesCome p rs (nodes.Reading r.0 r.1 ∷ rest) c.loop-reading.s = subst (λ (l : List Reading). NodesCome p rs (reading_nodes l) c.loop-reading.s) (drop_more rs k r at) c.loop-reading.invariant.come in
     record {
-      come = come_next p rs (nodes.Reading r.0 r.1) rest c.loop-reading.s come c.push_node-2.new.self c.in_ok-push_node-2.ensures.ok c.in_ok-push_node-2.ensures.current;
+      come = come_next p rs (nodes.Reading r.0 r.1) rest c.loop-reading.s come c.push_node-in-loop-reading.new.self c.in_ok-push_node-2.ensures.ok c.in_ok-push_node-2.ensures.current;
       pool = ap (λ (v : SolverLists). v.pool) c.in_ok-push_node-2.ensures.ok ∙ c.loop-reading.invariant.pool;
       kept = ap (λ (v : SolverLists). v.kept) c.in_ok-push_node-2.ensures.ok ∙ c.loop-reading.invariant.kept;
     }
