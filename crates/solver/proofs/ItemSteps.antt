@@ -11,7 +11,7 @@ use Rattle.problem_model.specs.Nodes.{Reading}
 use Rattle.solver.specs.declared.items.Item.{Item}
 use Rattle.solver.specs.declared.items.Item.TheVariants as items
 use Rattle.solver.specs.declared.items.Ranked.{Ranked}
-use Rattle.solver.specs.Items.{reading_at, IsItem, AreItems, items_of}
+use Rattle.solver.specs.Items.{IsItem, AreItems, items_of}
 
 module _ (p : ProblemLists) (readings : List Reading) where
   pub none_yet : AreItems p readings 0 0 0 []
@@ -115,15 +115,8 @@ module _ (p : ProblemLists) (readings : List Reading) (spans events messages : �
   message_pushed is inside = subst (AreItems p readings spans events (messages + 1)) (sym (one_behind (items.Message messages) is)) (message_more p readings spans events messages (items_of ranked) are inside)
 
 -- ---- neighbours
-module _ (p : ProblemLists) (readings : List Reading) (k : ℕ) (a b : Reading) (inside : k + 1 < length readings) (a_is : a ≡ get_or readings k a) (b_is : b ≡ get_or readings (k + 1) b) where
-  pub first_is : a ≡ reading_at readings k
-  first_is = a_is ∙ get_or_default readings k (0, 0) a (omega (arith, inside))
-
-  pub second_is : b ≡ reading_at readings (k + 1)
-  second_is = b_is ∙ get_or_default readings (k + 1) (0, 0) b inside
-
-  pub are_neighbours : a.0 ≡ b.0 → IsItem p readings (items.Span k)
-  are_neighbours same = (inside, sym (ap (λ (r : Reading). r.0) first_is) ∙ same ∙ ap (λ (r : Reading). r.0) second_is)
-
-  pub no_neighbours : (a.0 ≡ b.0 → ⊥) → IsItem p readings (items.Span k) → ⊥
-  no_neighbours differ item = differ (ap (λ (r : Reading). r.0) first_is ∙ item.1 ∙ sym (ap (λ (r : Reading). r.0) second_is))
+pub neighbours_at : (p : ProblemLists) (readings : List Reading) (k : ℕ) (d e : Reading) → k + 1 < length readings → (get_or readings k d).0 ≡ (get_or readings (k + 1) e).0 → IsItem p readings (items.Span k)
+neighbours_at p readings k d e inside same = (
+  inside,
+  ap (λ (r : Reading). r.0) (get_or_default readings k (0, 0) d (omega (arith, inside))) ∙ same ∙ ap (λ (r : Reading). r.0) (get_or_default readings (k + 1) e (0, 0) inside),
+)

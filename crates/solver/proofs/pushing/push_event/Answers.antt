@@ -1,7 +1,8 @@
-use Rattle.std.proofs.Common.{◌≡◌, ◌∷◌, [], slice_get, Some, refl, to_z, arith}
-use Rattle.std.proofs.lemmas.Int.{ints}
+use Rattle.std.proofs.Common.{rules, ◌≡◌, ◌∷◌, [], slice_get, Some, refl, arith}
+use Rattle.std.proofs.lemmas.Int.{ints, to_z-of_z}
 use Rattle.std.proofs.lemmas.Option.{slice_get_within}
 use mir.Syntax.{w128}
+use mir.Val.{SFits}
 use Rattle.problem_model.specs.declared.items.Bound.TheVariants.{Late, Early}
 use Rattle.problem_model.specs.Bounds.{ClockAt}
 use Rattle.problem_model.proofs.Walking.{clock_at}
@@ -21,9 +22,10 @@ push_bound-requires-clause-declared g c = λ rs are.
     let v = c.args.event.now in
     let at : ClockAt p v.clock c.index-clocks-event.result =
     clock_at p c.clocks.result.now v c.index-clocks-event.result c.clocks.ensures.lawful.formed c.clocks.ensures.value (contains_at p c.args.place v c.requires.event) c.index-clocks-event.is in
-    late_declared p rs are c.args.place v c.requires.event c.index-clocks-event.result at c.args.reading (c.requires.reading rs are)
-    (arc_of (Late c.args.place) c.node_of_reading-node.result c.args.place (to_z w128 c.delay_units-late.result)) refl c.node_of_reading-node.ensures.node refl
-    (omega (arith, ints, c.delay_units-late.ensures.exact)) rs are
+    let fits : SFits w128 c.delay_units-late.result = search rules in
+    simp to_z-of_z (late_declared p rs are c.args.place v c.requires.event c.index-clocks-event.result at c.args.reading (c.requires.reading rs are)
+    (arc_of (Late c.args.place) c.node_of_reading-node.result c.args.place c.delay_units-late.result) refl c.node_of_reading-node.ensures.node refl
+    (omega (arith, ints, c.delay_units-late.ensures.exact)) rs are)
 
 pub push_bound-requires-2-clause-declared : goal.push_bound-requires-2-clause-declared
 push_bound-requires-2-clause-declared g c = λ rs are.
@@ -31,9 +33,10 @@ push_bound-requires-2-clause-declared g c = λ rs are.
     let v = c.args.event.now in
     let at : ClockAt p v.clock c.index-clocks-event.result =
     clock_at p c.clocks.result.now v c.index-clocks-event.result c.clocks.ensures.lawful.formed c.clocks.ensures.value (contains_at p c.args.place v c.requires.event) c.index-clocks-event.is in
-    early_declared p rs are c.args.place v c.requires.event c.index-clocks-event.result at c.args.reading (c.requires.reading rs are)
-    (arc_of (Early c.args.place) c.args.place c.node_of_reading-node.result (to_z w128 c.delay_units-early.result)) refl refl c.node_of_reading-node.ensures.node
-    (omega (arith, ints, c.delay_units-early.ensures.exact)) rs are
+    let fits : SFits w128 c.delay_units-early.result = search rules in
+    simp to_z-of_z (early_declared p rs are c.args.place v c.requires.event c.index-clocks-event.result at c.args.reading (c.requires.reading rs are)
+    (arc_of (Early c.args.place) c.args.place c.node_of_reading-node.result c.delay_units-early.result) refl refl c.node_of_reading-node.ensures.node
+    (omega (arith, ints, c.delay_units-early.ensures.exact)) rs are)
 
 pub returns : goal.returns
 returns g c = on_ok c.push_bound-2.result c.push_bound-2.ensures (λ two.

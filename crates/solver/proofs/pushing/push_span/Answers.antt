@@ -1,6 +1,8 @@
-use Rattle.std.proofs.Common.{◌≡◌, ◌<◌, ◌+◌, ◌∷◌, [], ℕ, List, length, refl, sym, subst, to_z, arith}
-use Rattle.std.proofs.lemmas.Int.{ints}
+use Rattle.std.proofs.Common.{rules, ◌≡◌, ◌<◌, ◌+◌, ◌∷◌, [], ℕ, List, length, refl, sym, subst, arith}
+use Rattle.std.specs.Prelude.{pos, ◌-ℤ◌}
+use Rattle.std.proofs.lemmas.Int.{ints, to_z-of_z}
 use mir.Syntax.{w128}
+use mir.Val.{SFits}
 use Rattle.problem_model.specs.declared.items.Bound.{Bound}
 use Rattle.problem_model.specs.declared.items.Bound.TheVariants.{SpanMost, SpanLeast}
 use Rattle.problem_model.specs.declared.items.Clock.{Clock}
@@ -20,15 +22,18 @@ node_of_reading-first-requires g c = below_all c.args.p.now c.args.readings.now 
 
 pub push_bound-requires-clause-declared : goal.push_bound-requires-clause-declared
 push_bound-requires-clause-declared g c =
-    most_is_declared c.args.p.now c.args.readings.now c.clocks.ensures.lawful c.requires.readings c.args.k c.requires.item c.args.a c.args.b c.requires.a c.requires.b
+    let fits : SFits w128 c.span_most-weight.result = search rules in
+    simp to_z-of_z (most_is_declared c.args.p.now c.args.readings.now c.clocks.ensures.lawful c.requires.readings c.args.k c.requires.item c.args.a c.args.b c.requires.a c.requires.b
     c.index-clocks-a.result c.clocks.result.now c.clocks.ensures.value c.index-clocks-a.is c.node_of_reading-first.result c.node_of_reading-first.ensures.node
-    (to_z w128 c.span_most-weight.result) (omega (arith, ints, c.span_most-weight.ensures.exact))
+    c.span_most-weight.result (omega (arith, ints, c.span_most-weight.ensures.exact)))
 
 pub push_bound-requires-2-clause-declared : goal.push_bound-requires-2-clause-declared
 push_bound-requires-2-clause-declared g c =
-    least_is_declared c.args.p.now c.args.readings.now c.clocks.ensures.lawful c.requires.readings c.args.k c.requires.item c.args.a c.args.b c.requires.a c.requires.b
+    let fits : SFits w128 c.span_least-weight.result = search rules in
+    let fits_turned : SFits w128 (pos 0 -ℤ c.span_least-weight.result) = search rules in
+    simp to_z-of_z (least_is_declared c.args.p.now c.args.readings.now c.clocks.ensures.lawful c.requires.readings c.args.k c.requires.item c.args.a c.args.b c.requires.a c.requires.b
     c.index-clocks-a.result c.clocks.result.now c.clocks.ensures.value c.index-clocks-a.is c.node_of_reading-first.result c.node_of_reading-first.ensures.node
-    ? (omega (arith, ints, c.span_least-weight.ensures.exact))
+    (pos 0 -ℤ c.span_least-weight.result) (omega (arith, ints, c.span_least-weight.ensures.exact)))
 
 pub returns : goal.returns
 returns g c = on_ok c.push_bound-2.result c.push_bound-2.ensures (λ two.
