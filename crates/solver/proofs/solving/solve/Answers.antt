@@ -1,7 +1,9 @@
-use Rattle.std.proofs.Common.{◌≡◌, ◌∙◌}
+use Rattle.std.proofs.Common.{◌≡◌, ◌≤◌, ◌+◌, List, length, All, ◌∙◌, sym, subst}
 use Rattle.std.specs.List.{flat_map}
-use Rattle.solver.specs.Items.{bounds_of, items_of}
-use Rattle.solver.specs.Pushing.{NodesCome}
+use Rattle.sync_graph.specs.Graph.{most_arcs}
+use Rattle.solver.specs.declared.items.Ranked.{Ranked}
+use Rattle.solver.specs.Items.{IsItem, bounds_of, items_of}
+use Rattle.solver.specs.Pushing.{AddsBounds}
 use Rattle.solver.proofs.Covering.{covered}
 use Rattle.solver.proofs.Bringing.{nodes_all, few_enough, is_solution}
 use Rattle.solver.proofs.solving.solve.Goals as goal
@@ -18,17 +20,21 @@ pub push_items-requires-clause-none : goal.push_items-requires-clause-none
 push_items-requires-clause-none g c = (c.in_ok-s.ensures.come c.readings-readings.result.now c.readings-readings.ensures).left.no_arcs
 
 pub push_items-requires-clause-items : goal.push_items-requires-clause-items
-push_items-requires-clause-items g c = c.in_ok-items.ensures.each
+push_items-requires-clause-items g c =
+    subst (λ (xs : List Ranked). All (IsItem c.args.p.now c.readings-readings.result.now) (items_of xs)) (sym c.deref.ensures.value) c.in_ok-items.ensures.each
 
 pub push_items-requires-clause-few : goal.push_items-requires-clause-few
-push_items-requires-clause-few g c = few_enough c.args.p.now c.readings-readings.result.now c.in_ok-items.items.items c.events.ensures.lawful c.readings-readings.ensures c.in_ok-items.ensures
+push_items-requires-clause-few g c =
+    subst (λ (xs : List Ranked). length xs + length xs ≤ most_arcs) (sym c.deref.ensures.value)
+    (few_enough c.args.p.now c.readings-readings.result.now c.in_ok-items.items.items c.events.ensures.lawful c.readings-readings.ensures c.in_ok-items.ensures)
 
 pub returns-clause-solution : goal.returns-clause-solution
 returns-clause-solution g c =
     let p = c.args.p.now in
     let rs = c.readings-readings.result.now in
     is_solution p rs (flat_map (bounds_of p rs) (items_of c.in_ok-items.items.items)) c.in_ok-s.s c.push_items.new.s c.events.ensures.lawful c.readings-readings.ensures
-    (c.in_ok-s.ensures.come rs c.readings-readings.ensures) c.in_ok-push_items.ensures (covered p rs (items_of c.in_ok-items.items.items) c.events.ensures.lawful c.in_ok-items.ensures)
+    (c.in_ok-s.ensures.come rs c.readings-readings.ensures)
+    (subst (λ (xs : List Ranked). AddsBounds p (flat_map (bounds_of p rs) (items_of xs)) c.in_ok-s.s c.push_items.new.s) c.deref.ensures.value c.in_ok-push_items.ensures) (covered p rs (items_of c.in_ok-items.items.items) c.events.ensures.lawful c.in_ok-items.ensures)
 
 pub returns-clause-nodes : goal.returns-clause-nodes
 returns-clause-nodes g c = λ others are.
