@@ -5,6 +5,7 @@ use Rattle.difference_bounds.specs.Tables.{reversed_table}
 use Rattle.sync_graph.specs.Graph.{table_of}
 use Rattle.row_pool.specs.Row.{cells_of}
 use Rattle.row_pool.specs.Pool.{row_of, IsTaken}
+use Rattle.repair.specs.declared.slot.Slot.{Slot}
 use Rattle.repair.specs.Slots.{all_slots}
 use Rattle.engine.specs.Solver.{SolverLists}
 use Rattle.engine.specs.declared.loan.Lent.{Lent}
@@ -25,3 +26,7 @@ pub record IsLent (lent : Lent) (s : SolverLists) : Type 0 where
 pub record AreRowsFor (p : ℕ) (lent : Lent) (s : SolverLists) : Type 0 where
   pub from : IsRow (length s.graph.nodes) (table_of s.graph) p (cells_of (row_of s.pool lent.from))
   pub to : IsRow (length s.graph.nodes) (reversed_table (table_of s.graph)) p (cells_of (row_of s.pool lent.to))
+
+-- both rows as those of a node's slot
+abbrev pub lent_slot : ℕ → Lent → Slot
+lent_slot p lent = record { node = p; from = lent.from; to = lent.to }

@@ -40,6 +40,7 @@ impl Solver {
         ensures room { length self.new.front ≡ length self.old.front }
         ensures current { IsCurrent self.new }
         ensures steps { (slot_of self.old.kept p ≡ None → ⊥) → steps.new ≡ steps.old }
+        ensures steps_turned { (slot_of self.old.kept q ≡ None → ⊥) → steps.new ≡ steps.old }
     {
         if let Some(pair) = self.kept.look(&self.pool, p, q) {
             return pair;

@@ -5,9 +5,10 @@ ghost use Rattle.difference_bounds.specs.Tables.{reversed_table};
 ghost use Rattle.sync_graph.specs.Graph.{table_of};
 ghost use Rattle.row_pool.specs.Row.{cells_of};
 ghost use Rattle.row_pool.specs.Pool.{free_rows, marked};
+ghost use Rattle.repair.specs.Keeping.{TakesRows};
 ghost use Rattle.engine.specs.Changes.{KeepsAnswer};
 ghost use Rattle.engine.specs.Current.{IsCurrent};
-ghost use Rattle.engine.specs.Lending.{IsLent, AreRowsFor};
+ghost use Rattle.engine.specs.Lending.{IsLent, AreRowsFor, lent_slot};
 
 use crate::solver::Solver;
 use atto::Steps;
@@ -39,6 +40,7 @@ impl Solver {
         requires free { 2 ≤ free_rows self.old.pool }
         ensures lent { IsLent result self.new }
         ensures rows { AreRowsFor p result self.new }
+        ensures takes { TakesRows self.old.pool self.new.pool (lent_slot p result) }
         ensures free { free_rows self.new.pool + 2 ≡ free_rows self.old.pool }
         ensures answer { KeepsAnswer self.old self.new }
         ensures kept { self.new.kept ≡ self.old.kept }
