@@ -1,20 +1,30 @@
 -- What the parts of a merge promise each other.
-use Rattle.std.specs.Prelude.{◌≡◌, ℕ, List, [], ◌∷◌, ◌++◌, length, codes, ℤ, pos}
+use Rattle.std.specs.Prelude.{◌≡◌, ◌<◌, ℕ, List, [], ◌∷◌, ◌++◌, length, slice_index_or, codes, ℤ, pos}
 use Rattle.std.specs.List.{flat_map}
 use Rattle.atto.specs.Decimal.{decimal_of}
 use Rattle.line_format.specs.Words.{line_of}
 use Rattle.problem_model.specs.declared.items.Node.TheVariants as nodes
 use Rattle.problem_model.specs.Bounds.{Times}
+use Rattle.problem.specs.Listing.{Listed}
 use Rattle.difference_bounds.specs.Executions.{at}
 use Rattle.decl.specs.Declaration.{Declaration}
 use Rattle.traces.specs.Traces.{Placed}
 use Rattle.report.specs.Merging.{IsMergeOrder}
 use Rattle.merging.specs.Merged.{keys_from, line_at}
 
--- the events' real times by a list that begins with them
-abbrev pub times_by : List ℤ → Times
-times_by values (nodes.Event k) = at values k
-times_by values (nodes.Reading clock stamp) = pos 0
+-- the node that a listing gives for the event at a place
+abbrev pub node_at : Listed → ℕ → ℕ
+node_at l place = (slice_index_or l.events place (0, 0)).1
+
+-- the events' real times by the values of their nodes
+abbrev pub times_by : Listed → List ℤ → Times
+times_by l values (nodes.Event k) = at values (node_at l k)
+times_by l values (nodes.Reading clock stamp) = pos 0
+
+-- so many events are listed, and the node of each has a value
+pub record AreValued (l : Listed) (count : ℕ) (values : List ℤ) : Type 0 where
+  pub as_many : length l.events ≡ count
+  pub valued : (place : ℕ) → place < count → node_at l place < length values
 
 -- the line of how many events there are
 abbrev pub count_line : ℕ → List ℕ

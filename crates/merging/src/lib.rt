@@ -1,7 +1,4 @@
-//! The events of all labels in one order: by their times in the earliest execution of their problem.
-//!
-//! `steps` counts each node that is asked for at the frontier and each arc that is asked for at a node. No number of them
-//! is promised.
+//! The events of all labels in one order: by their times in the earliest execution of their problem, as an engine holds it.
 #![tactic(auto)]
 
 mod keys;

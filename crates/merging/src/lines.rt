@@ -1,5 +1,5 @@
 // The lines of merged events.
-ghost use Rattle.std.specs.Prelude.{◌≡◌, ◌<◌, ◌≤◌, ◌++◌, true, All, length};
+ghost use Rattle.std.specs.Prelude.{◌≡◌, ◌<◌, ◌++◌, true, All, length};
 ghost use Rattle.ports.specs.Content.{Writes};
 ghost use Rattle.decl.specs.Declaration.{HasLawfulLabels, declaration_of};
 ghost use Rattle.trace_event.specs.Seen.{seen_event};
@@ -8,12 +8,14 @@ ghost use Rattle.traces.specs.Held.{placed_in};
 ghost use Rattle.report.specs.Merging.{merge_line};
 ghost use Rattle.trace_problem.specs.Making.{AreEvents};
 ghost use Rattle.merging.specs.Merged.{line_at};
-ghost use Rattle.merging.specs.Writing.{count_line, lines_of, times_by};
+ghost use Rattle.merging.specs.Writing.{AreValued, count_line, lines_of, times_by};
 
+use crate::keys::value_at;
 use decl::Decl;
 use earliest::Earliest;
 use line_words::line::{Line, first_word, push_decimal};
 use ports::{Failed, Sink, write_whole};
+use problem::Listing;
 use problem_model::Name;
 use report::write_merge_line;
 use trace_event::Event;
@@ -56,8 +58,9 @@ fn write_event<O: Sink>(
 }
 
 // Writes the line of the event at a place.
-fn write_line_at<O: Sink>(
+fn write_line_at<N: Listing, O: Sink>(
     decl: &Decl,
+    names: &N,
     events: &[PlacedEvent],
     e: &Earliest,
     place: u32,
@@ -66,17 +69,19 @@ fn write_line_at<O: Sink>(
     requires labels { HasLawfulLabels (declaration_of decl.now) }
     requires events { AreEvents (declaration_of decl.now) (placed_in events.now) }
     requires solved { e.now.is_solved ≡ true }
-    requires values { length events.now ≤ length e.now.values }
+    requires valued { AreValued (N.listed names.now) (length events.now) e.now.values }
     requires inside { place < length events.now }
-    ensures { Writes (line_at (declaration_of decl.now) (times_by e.now.values) (placed_in events.now) place) (O.told out.old) (O.told out.new) result }
+    ensures { Writes (line_at (declaration_of decl.now) (times_by (N.listed names.now) e.now.values) (placed_in events.now) place) (O.told out.old) (O.told out.new) result }
 {
     let event = &events[place as usize];
-    write_event(decl, event, e.value(place), out)
+    let value = value_at(names, e, place);
+    write_event(decl, event, value, out)
 }
 
 // Writes the lines of the events at these places.
-fn write_lines<O: Sink>(
+fn write_lines<N: Listing, O: Sink>(
     decl: &Decl,
+    names: &N,
     events: &[PlacedEvent],
     e: &Earliest,
     order: &[u32],
@@ -85,12 +90,12 @@ fn write_lines<O: Sink>(
     requires labels { HasLawfulLabels (declaration_of decl.now) }
     requires events { AreEvents (declaration_of decl.now) (placed_in events.now) }
     requires solved { e.now.is_solved ≡ true }
-    requires values { length events.now ≤ length e.now.values }
+    requires valued { AreValued (N.listed names.now) (length events.now) e.now.values }
     requires inside { All (λ place. place < length events.now) order.now }
-    ensures { Writes (lines_of (declaration_of decl.now) (times_by e.now.values) (placed_in events.now) order.now) (O.told out.old) (O.told out.new) result }
+    ensures { Writes (lines_of (declaration_of decl.now) (times_by (N.listed names.now) e.now.values) (placed_in events.now) order.now) (O.told out.old) (O.told out.new) result }
 {
     for place in order {
-        write_line_at(decl, events, e, *place, out)?;
+        write_line_at(decl, names, events, e, *place, out)?;
     }
     Ok(())
 }
@@ -105,11 +110,12 @@ fn count_line(count: u64) -> Line
     line
 }
 
-/// Writes how many events there are, and then the lines of the events at these places, with their real times by values that
-/// begin with theirs. It takes no memory. After `Failed`, which comes only where the sink's count of faults rose, or stands at
+/// Writes how many events there are, and then the lines of the events at these places, with their real times by the values
+/// of their nodes. It takes no memory. After `Failed`, which comes only where the sink's count of faults rose, or stands at
 /// its last value, some front of them is written.
-pub(crate) fn write_ordered<O: Sink>(
+pub(crate) fn write_ordered<N: Listing, O: Sink>(
     decl: &Decl,
+    names: &N,
     events: &[PlacedEvent],
     e: &Earliest,
     order: &[u32],
@@ -118,11 +124,11 @@ pub(crate) fn write_ordered<O: Sink>(
     requires labels { HasLawfulLabels (declaration_of decl.now) }
     requires events { AreEvents (declaration_of decl.now) (placed_in events.now) }
     requires solved { e.now.is_solved ≡ true }
-    requires values { length events.now ≤ length e.now.values }
+    requires valued { AreValued (N.listed names.now) (length events.now) e.now.values }
     requires inside { All (λ place. place < length events.now) order.now }
-    ensures { Writes (count_line (length events.now) ++ lines_of (declaration_of decl.now) (times_by e.now.values) (placed_in events.now) order.now) (O.told out.old) (O.told out.new) result }
+    ensures { Writes (count_line (length events.now) ++ lines_of (declaration_of decl.now) (times_by (N.listed names.now) e.now.values) (placed_in events.now) order.now) (O.told out.old) (O.told out.new) result }
 {
     let line = count_line(events.len() as u64);
     write_whole(out, line.as_slice())?;
-    write_lines(decl, events, e, order, out)
+    write_lines(decl, names, events, e, order, out)
 }

@@ -1,7 +1,7 @@
 // All events, merged.
-ghost use Rattle.std.specs.Prelude.{◌≡◌, ◌≤◌, ◌^◌, true, length};
+ghost use Rattle.std.specs.Prelude.{◌≡◌, ◌≤◌, ◌^◌, [], true, length};
 ghost use Rattle.ports.specs.Content.{WritesSuch};
-ghost use Rattle.solver.specs.Solution.{IsSolved, IsSolution};
+ghost use Rattle.solver.specs.Solution.{IsSolutionBy};
 ghost use Rattle.decl.specs.Declaration.{IsDeclaration, declaration_of};
 ghost use Rattle.traces.specs.Traces.{event_count};
 ghost use Rattle.traces.specs.Held.{placed_in, seen_in};
@@ -10,27 +10,26 @@ ghost use Rattle.trace_problem.specs.Making.{AreEvents};
 ghost use Rattle.queries.specs.declared.stop.Stop.TheVariants as stops;
 ghost use Rattle.queries.specs.Replies.{Replies};
 ghost use Rattle.merging.specs.Merged.{IsMergeText};
-ghost use Rattle.merging.specs.Writing.{IsTextBy, times_by};
+ghost use Rattle.merging.specs.Writing.{AreValued, IsTextBy, times_by};
 
 use crate::keys::keys_of;
 use crate::lines::write_ordered;
-use atto::Steps;
 use decl::Decl;
 use earliest::Earliest;
+use engine::Solver;
 use ports::Sink;
-use problem::Problem;
+use problem::Listing;
 use queries::{Stop, write_contradiction};
 use report::merge_order;
-use solver::{Solution, solve};
+use solver::executions;
 use std::alloc::Global;
-use std::sync::ledger::Ledger;
-use sync_graph::Graph;
 use traces::{Accepted, PlacedEvent, events};
 
-// Writes these events, merged by values that begin with theirs.
-fn write_merged<O: Sink>(
+// Writes these events, merged by the values of their nodes.
+fn write_merged<N: Listing, O: Sink>(
     alloc: Global,
     decl: &Decl,
+    names: &N,
     events: &[PlacedEvent],
     e: &Earliest,
     out: &mut O,
@@ -38,83 +37,76 @@ fn write_merged<O: Sink>(
     requires declared { IsDeclaration (declaration_of decl.now) }
     requires events { AreEvents (declaration_of decl.now) (placed_in events.now) }
     requires solved { e.now.is_solved ≡ true }
-    requires values { length events.now ≤ length e.now.values }
-    ensures { WritesSuch (IsTextBy (declaration_of decl.now) (times_by e.now.values) (placed_in events.now)) stops.WriteFault (O.told out.old) (O.told out.new) result }
+    requires valued { AreValued (N.listed names.now) (length events.now) e.now.values }
+    ensures { WritesSuch (IsTextBy (declaration_of decl.now) (times_by (N.listed names.now) e.now.values) (placed_in events.now)) stops.WriteFault (O.told out.old) (O.told out.new) result }
 {
-    let keys = keys_of(alloc, events, e)?;
+    let keys = keys_of(alloc, names, events, e)?;
     let order = merge_order(alloc, &keys)?;
-    write_ordered(decl, events, e, &order, out)?;
+    write_ordered(decl, names, events, e, &order, out)?;
     Ok(())
 }
 
 // Writes all events of a problem that has an execution, merged.
-fn write_events<O: Sink>(
+fn write_events<N: Listing, O: Sink>(
     alloc: Global,
     decl: &Decl,
     accepted: &[Accepted],
-    p: &Problem,
-    g: &Graph,
-    e: &Earliest,
+    names: &N,
+    solver: &Solver,
     out: &mut O,
 ) -> Result<(), Stop>
     requires declared { IsDeclaration (declaration_of decl.now) }
     requires labels { length accepted.now ≡ length decl.now.labels.items }
     requires few { event_count (seen_in accepted.now) ≤ 2 ^ 20 }
-    requires problem { p.now ≡ problem_of_seen (declaration_of decl.now) (seen_in accepted.now) }
-    requires solved { IsSolved p.now g.now e.now }
-    ensures { WritesSuch (Replies p.now (IsMergeText (declaration_of decl.now) (seen_in accepted.now))) stops.WriteFault (O.told out.old) (O.told out.new) result }
+    requires solution { IsSolutionBy (N.listed names.now) (problem_of_seen (declaration_of decl.now) (seen_in accepted.now)) solver.now }
+    requires solved { solver.now.contradiction ≡ [] }
+    ensures { WritesSuch (Replies (problem_of_seen (declaration_of decl.now) (seen_in accepted.now)) (IsMergeText (declaration_of decl.now) (seen_in accepted.now))) stops.WriteFault (O.told out.old) (O.told out.new) result }
 {
-    // It tells that the earliest execution is one.
-    let _ = p.readings();
+    executions();
     let events = events(alloc, accepted)?;
-    write_merged(alloc, decl, &events, e, out)
+    write_merged(alloc, decl, names, &events, solver.earliest(), out)
 }
 
-// Writes what a solution says.
-fn write_solution<O: Sink>(
-    alloc: Global,
+// Writes the certificate of the contradiction that is held.
+fn write_held<N: Listing, O: Sink>(
     decl: &Decl,
     accepted: &[Accepted],
-    p: &Problem,
-    solution: &Solution,
+    names: &N,
+    solver: &Solver,
     out: &mut O,
 ) -> Result<(), Stop>
-    requires declared { IsDeclaration (declaration_of decl.now) }
-    requires labels { length accepted.now ≡ length decl.now.labels.items }
-    requires few { event_count (seen_in accepted.now) ≤ 2 ^ 20 }
-    requires problem { p.now ≡ problem_of_seen (declaration_of decl.now) (seen_in accepted.now) }
-    requires solution { IsSolution p.now solution.now }
-    ensures { WritesSuch (Replies p.now (IsMergeText (declaration_of decl.now) (seen_in accepted.now))) stops.WriteFault (O.told out.old) (O.told out.new) result }
+    requires solution { IsSolutionBy (N.listed names.now) (problem_of_seen (declaration_of decl.now) (seen_in accepted.now)) solver.now }
+    requires held { solver.now.contradiction ≡ [] → ⊥ }
+    ensures { WritesSuch (Replies (problem_of_seen (declaration_of decl.now) (seen_in accepted.now)) (IsMergeText (declaration_of decl.now) (seen_in accepted.now))) stops.WriteFault (O.told out.old) (O.told out.new) result }
 {
-    match solution {
-        Solution::Execution(g, e) => write_events(alloc, decl, accepted, p, g, e, out),
-        Solution::Contradiction(steps) => {
-            write_contradiction(p, steps, out)?;
-            Ok(())
-        }
-    }
+    write_contradiction(names, solver.contradiction(), out)?;
+    Ok(())
 }
 
 /// Writes `merge` and the number of all events, and then a line for each: its time in the earliest execution of the problem
 /// as ns text, its name, and what an event log says of it. The lines are sorted by time, then by label, then by number. Where
-/// the problem has no execution, it writes the certificate of a contradiction.
+/// the problem has no execution, it writes the certificate of a contradiction. The engine holds the answer of the problem, and
+/// an event's time is the value of the node that the listing gives for it; so no step is taken.
 ///
 /// `Memory` is answered for want of memory. `WriteFault` is answered only where the sink's count of faults rose, or stands at
 /// its last value; a front of such a reply is then written.
-pub fn write_merge<O: Sink, L: Ledger>(
+pub fn write_merge<N: Listing, O: Sink>(
     alloc: Global,
     decl: &Decl,
     accepted: &[Accepted],
-    p: &Problem,
+    names: &N,
+    solver: &Solver,
     out: &mut O,
-    steps: &mut Steps<L>,
 ) -> Result<(), Stop>
     requires declared { IsDeclaration (declaration_of decl.now) }
     requires labels { length accepted.now ≡ length decl.now.labels.items }
     requires few { event_count (seen_in accepted.now) ≤ 2 ^ 20 }
-    requires problem { p.now ≡ problem_of_seen (declaration_of decl.now) (seen_in accepted.now) }
-    ensures { WritesSuch (Replies p.now (IsMergeText (declaration_of decl.now) (seen_in accepted.now))) stops.WriteFault (O.told out.old) (O.told out.new) result }
+    requires solution { IsSolutionBy (N.listed names.now) (problem_of_seen (declaration_of decl.now) (seen_in accepted.now)) solver.now }
+    ensures { WritesSuch (Replies (problem_of_seen (declaration_of decl.now) (seen_in accepted.now)) (IsMergeText (declaration_of decl.now) (seen_in accepted.now))) stops.WriteFault (O.told out.old) (O.told out.new) result }
 {
-    let solution = solve(alloc, p, steps)?;
-    write_solution(alloc, decl, accepted, p, &solution, out)
+    if solver.contradiction().is_empty() {
+        write_events(alloc, decl, accepted, names, solver, out)
+    } else {
+        write_held(decl, accepted, names, solver, out)
+    }
 }

@@ -2,3 +2,4 @@ pub mod Words
 pub mod Replies
 pub mod Consistent
 pub mod Clocks
+pub mod Asking

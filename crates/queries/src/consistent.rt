@@ -1,35 +1,17 @@
 // Whether a problem has an execution.
-ghost use Rattle.std.specs.Prelude.{IfOk};
-ghost use Rattle.solver.specs.Solution.{IsSolution};
+ghost use Rattle.problem_model.specs.Problem.{ProblemLists};
+ghost use Rattle.problem.specs.Listing.{Listed};
+ghost use Rattle.solver.specs.Solution.{IsSolutionBy};
 ghost use Rattle.queries.specs.Consistent.{IsConsistent};
 
-use atto::Steps;
-use problem::Problem;
-use solver::{Solution, solve};
-use std::alloc::{AllocError, Global};
-use std::sync::ledger::Ledger;
+use engine::Solver;
+use solver::{contradictions, executions};
 
-// Whether the solution is an execution.
-fn is_execution(p: &Problem, solution: &Solution) -> bool
-    requires { IsSolution p.now solution.now }
-    ensures { IsConsistent p.now result }
+/// Whether some execution obeys all bounds of the problem of which the engine holds the answer.
+pub fn is_consistent(solver: &Solver) -> bool
+    ensures { (l : Listed) (p : ProblemLists) → IsSolutionBy l p solver.now → IsConsistent p result }
 {
-    let _ = p.readings();
-    match solution {
-        Solution::Execution(_, _) => true,
-        Solution::Contradiction(_) => false,
-    }
-}
-
-/// Whether some execution obeys all bounds of the problem. It solves the problem, and answers an error only where
-/// memory runs out.
-pub fn is_consistent<L: Ledger>(
-    alloc: Global,
-    p: &Problem,
-    steps: &mut Steps<L>,
-) -> Result<bool, AllocError>
-    ensures { IfOk result (λ b. IsConsistent p.now b) }
-{
-    let solution = solve(alloc, p, steps)?;
-    Ok(is_execution(p, &solution))
+    executions();
+    contradictions();
+    solver.earliest().solved()
 }

@@ -1,8 +1,10 @@
-//! What is asked of a problem and of its events: whether some execution obeys the bounds, the interval of the difference of
-//! two real times and its certificate, their order, and the time of an event by a clock.
+//! What is asked of a problem and of its events, of an engine that holds the problem's answer: whether some execution obeys
+//! the bounds, the interval of the difference of two real times and its certificate, their order, and the time of an event by
+//! a clock.
 //!
-//! `steps` counts each node that is asked for at the frontier and each arc that is asked for at a node. No number of them
-//! is promised.
+//! Events are named by their nodes in the engine's graph, and a listing tells which event of which name a node is. No call
+//! takes memory. What is kept is read and not computed, without a step; what is not is computed in rows that the engine has
+//! free, and then a step is counted for each node that is asked for at the frontier and each arc that is asked for at a node.
 #![tactic(auto)]
 
 mod consistent;

@@ -1,91 +1,149 @@
 // The certificate of the interval of two events.
-ghost use Rattle.std.specs.Prelude.{◌<◌, length};
-ghost use Rattle.ports.specs.Content.{WritesSuch};
-ghost use Rattle.solver.specs.Solution.{IsSolved, IsSolution};
-ghost use Rattle.queries.specs.declared.stop.Stop.TheVariants as stops;
+ghost use Rattle.std.specs.Prelude.{◌≡◌, ◌≤◌, ℕ, List, [], length};
+ghost use Rattle.problem_model.specs.Problem.{ProblemLists};
+ghost use Rattle.ports.specs.Content.{Writes};
+ghost use Rattle.problem.specs.Listing.{Listed};
+ghost use Rattle.sync_graph.specs.ListedStanding.{IsEventAt};
+ghost use Rattle.attain.specs.Ends.{AreRowsOf, AreEventNodes};
+ghost use Rattle.row_pool.specs.Pool.{free_rows};
+ghost use Rattle.engine.specs.Changes.{KeepsAnswer, LeavesTaken};
+ghost use Rattle.engine.specs.Current.{IsCurrent};
+ghost use Rattle.solver.specs.Solution.{IsSolutionBy};
+ghost use Rattle.queries.specs.Asking.{IsAtHand};
 ghost use Rattle.queries.specs.Replies.{IsProofText, Replies};
 
 use crate::contradiction::write_contradiction;
-use crate::stop::Stop;
 use attain::write_ends;
 use atto::Steps;
-use earliest::Earliest;
-use ports::Sink;
-use problem::Problem;
-use reaches::rows_of;
-use solver::{Solution, solve};
-use std::alloc::Global;
+use engine::Solver;
+use ports::{Failed, Sink};
+use problem::Listing;
+use row_pool::Cell;
+use solver::executions;
 use std::sync::ledger::Ledger;
-use sync_graph::Graph;
 
-// Writes the certificate for a problem that has an execution.
-fn write_answer<O: Sink, L: Ledger>(
-    alloc: Global,
-    p: &Problem,
-    g: &Graph,
-    e: &Earliest,
+// Writes the certificate by the rows of the first node.
+fn write_by<N: Listing, O: Sink>(
+    names: &N,
+    solver: &Solver,
+    from: &[Cell],
+    to: &[Cell],
     first: u32,
     second: u32,
     out: &mut O,
-    steps: &mut Steps<L>,
-) -> Result<(), Stop>
-    requires solved { IsSolved p.now g.now e.now }
-    requires first { first < length p.now.events }
-    requires second { second < length p.now.events }
-    ensures { WritesSuch (Replies p.now (IsProofText p.now first second)) stops.WriteFault (O.told out.old) (O.told out.new) result }
+) -> Result<(), Failed>
+    requires solution { (p : ProblemLists) × IsSolutionBy (N.listed names.now) p solver.now }
+    requires solved { solver.now.contradiction ≡ [] }
+    requires rows { AreRowsOf solver.now.graph first from.now to.now }
+    requires events { AreEventNodes (N.listed names.now) first second }
+    ensures { (p : ProblemLists) (i j : ℕ) → IsSolutionBy (N.listed names.now) p solver.now
+        → IsEventAt (N.listed names.now) i first → IsEventAt (N.listed names.now) j second
+        → (text : List ℕ) × Replies p (IsProofText p i j) text × Writes text (O.told out.old) (O.told out.new) result }
 {
-    // They tell that the graph stands for the problem as it lists itself.
-    let _ = p.events();
-    let _ = p.readings();
-    g.exact();
-    let rows = rows_of(alloc, p, g, e, first, steps)?;
-    write_ends(p, g, e, &rows.from, &rows.to, first, second, out)?;
-    Ok(())
+    executions();
+    write_ends(
+        names,
+        solver.graph(),
+        solver.earliest(),
+        from,
+        to,
+        first,
+        second,
+        out,
+    )
 }
 
-// Writes what a solution says.
-fn write_solution<O: Sink, L: Ledger>(
-    alloc: Global,
-    p: &Problem,
-    solution: &Solution,
+// Writes the certificate by rows that are lent for it.
+fn write_lent<N: Listing, O: Sink, L: Ledger>(
+    names: &N,
+    solver: &mut Solver,
     first: u32,
     second: u32,
     out: &mut O,
     steps: &mut Steps<L>,
-) -> Result<(), Stop>
-    requires solution { IsSolution p.now solution.now }
-    requires first { first < length p.now.events }
-    requires second { second < length p.now.events }
-    ensures { WritesSuch (Replies p.now (IsProofText p.now first second)) stops.WriteFault (O.told out.old) (O.told out.new) result }
+) -> Result<(), Failed>
+    requires solution { (p : ProblemLists) × IsSolutionBy (N.listed names.now) p solver.old }
+    requires solved { solver.old.contradiction ≡ [] }
+    requires events { AreEventNodes (N.listed names.now) first second }
+    requires free { 2 ≤ free_rows solver.old.pool }
+    ensures writes { (p : ProblemLists) (i j : ℕ) → IsSolutionBy (N.listed names.now) p solver.old
+        → IsEventAt (N.listed names.now) i first → IsEventAt (N.listed names.now) j second
+        → (text : List ℕ) × Replies p (IsProofText p i j) text × Writes text (O.told out.old) (O.told out.new) result }
+    ensures answer { KeepsAnswer solver.old solver.new }
+    ensures kept { solver.new.kept ≡ solver.old.kept }
+    ensures rows { LeavesTaken solver.old.pool solver.new.pool }
+    ensures room { length solver.new.front ≡ length solver.old.front }
+    ensures current { IsCurrent solver.new }
 {
-    match solution {
-        Solution::Execution(g, e) => write_answer(alloc, p, g, e, first, second, out, steps),
-        Solution::Contradiction(cycle) => {
-            write_contradiction(p, cycle, out)?;
-            Ok(())
-        }
+    let rows = solver.lend(first, steps);
+    let (from, to) = solver.lent(&rows);
+    let written = write_by(names, solver, from, to, first, second, out);
+    solver.give_back(rows);
+    written
+}
+
+// Writes the certificate where there is an execution: by kept rows where the first node has them.
+fn write_answer<N: Listing, O: Sink, L: Ledger>(
+    names: &N,
+    solver: &mut Solver,
+    first: u32,
+    second: u32,
+    out: &mut O,
+    steps: &mut Steps<L>,
+) -> Result<(), Failed>
+    requires solution { (p : ProblemLists) × IsSolutionBy (N.listed names.now) p solver.old }
+    requires solved { solver.old.contradiction ≡ [] }
+    requires events { AreEventNodes (N.listed names.now) first second }
+    requires free { 2 ≤ free_rows solver.old.pool }
+    ensures writes { (p : ProblemLists) (i j : ℕ) → IsSolutionBy (N.listed names.now) p solver.old
+        → IsEventAt (N.listed names.now) i first → IsEventAt (N.listed names.now) j second
+        → (text : List ℕ) × Replies p (IsProofText p i j) text × Writes text (O.told out.old) (O.told out.new) result }
+    ensures answer { KeepsAnswer solver.old solver.new }
+    ensures kept { solver.new.kept ≡ solver.old.kept }
+    ensures rows { LeavesTaken solver.old.pool solver.new.pool }
+    ensures room { length solver.new.front ≡ length solver.old.front }
+    ensures current { IsCurrent solver.new }
+    ensures steps { IsAtHand solver.old first → steps.new ≡ steps.old }
+{
+    match solver.rows_of(first) {
+        Some((from, to)) => write_by(names, solver, from, to, first, second, out),
+        None => write_lent(names, solver, first, second, out, steps),
     }
 }
 
 /// Writes the certificate of the least and the greatest difference from one event to another over all executions: for
 /// each that there is a path of bounds with its sum and an execution that attains it, and for each that there is not a cut;
-/// or the certificate of a contradiction where there is no execution. Events are given by their places in the problem,
-/// counted from 0.
+/// or the certificate of a contradiction where there is no execution. Events are given by their nodes.
 ///
-/// `Memory` is answered for want of memory. `WriteFault` is answered only where the sink's count of faults rose, or stands at
-/// its last value; a front of such a reply is then written.
-pub fn write_proof<O: Sink, L: Ledger>(
-    alloc: Global,
-    p: &Problem,
+/// It takes no memory. No step is taken where the first node is kept, or a contradiction is held; else two free rows of
+/// the engine are filled and given back. `Failed` is answered only where the sink's count of faults rose, or stands at its
+/// last value; a front of such a reply is then written.
+pub fn write_proof<N: Listing, O: Sink, L: Ledger>(
+    names: &N,
+    solver: &mut Solver,
     first: u32,
     second: u32,
     out: &mut O,
     steps: &mut Steps<L>,
-) -> Result<(), Stop>
-    requires first { first < length p.now.events }
-    requires second { second < length p.now.events }
-    ensures { WritesSuch (Replies p.now (IsProofText p.now first second)) stops.WriteFault (O.told out.old) (O.told out.new) result }
+) -> Result<(), Failed>
+    requires solution { (p : ProblemLists) × IsSolutionBy (N.listed names.now) p solver.old }
+    requires events { AreEventNodes (N.listed names.now) first second }
+    requires free { 2 ≤ free_rows solver.old.pool }
+    ensures writes { (p : ProblemLists) (i j : ℕ) → IsSolutionBy (N.listed names.now) p solver.old
+        → IsEventAt (N.listed names.now) i first → IsEventAt (N.listed names.now) j second
+        → (text : List ℕ) × Replies p (IsProofText p i j) text × Writes text (O.told out.old) (O.told out.new) result }
+    ensures answer { KeepsAnswer solver.old solver.new }
+    ensures kept { solver.new.kept ≡ solver.old.kept }
+    ensures rows { LeavesTaken solver.old.pool solver.new.pool }
+    ensures room { length solver.new.front ≡ length solver.old.front }
+    ensures current { IsCurrent solver.new }
+    ensures solution { (l : Listed) (p : ProblemLists) → IsSolutionBy l p solver.old → IsSolutionBy l p solver.new }
+    ensures steps { IsAtHand solver.old first → steps.new ≡ steps.old }
 {
-    let solution = solve(alloc, p, steps)?;
-    write_solution(alloc, p, &solution, first, second, out, steps)
+    let cycle = solver.contradiction();
+    if cycle.is_empty() {
+        write_answer(names, solver, first, second, out, steps)
+    } else {
+        write_contradiction(names, cycle, out)
+    }
 }

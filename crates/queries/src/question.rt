@@ -9,7 +9,7 @@ pub enum Asked {
     Order,
 }
 
-/// A question about two events, each by its place in the problem, counted from 0.
+/// A question about two events, each by its node.
 #[derive(Clone, Copy, Debug, PartialEq, Eq)]
 pub struct Question {
     /// What is asked.

@@ -1,108 +1,131 @@
 // The interval or the order of two events, or a contradiction.
-ghost use Rattle.std.specs.Prelude.{◌<◌, length};
-ghost use Rattle.ports.specs.Content.{WritesSuch};
-ghost use Rattle.solver.specs.Solution.{IsSolved, IsSolution};
-ghost use Rattle.queries.specs.declared.stop.Stop.TheVariants as stops;
-ghost use Rattle.queries.specs.Replies.{IsIntervalLine, IsOrderLine, IsAnswer, Replies};
+ghost use Rattle.std.specs.Prelude.{◌≡◌, ◌<◌, ℕ, List, length};
+ghost use Rattle.problem_model.specs.declared.items.Node.TheVariants as nodes;
+ghost use Rattle.problem_model.specs.Problem.{ProblemLists};
+ghost use Rattle.ports.specs.Content.{Writes};
+ghost use Rattle.problem.specs.Listing.{Listed};
+ghost use Rattle.sync_graph.specs.ListedStanding.{IsEventAt};
+ghost use Rattle.attain.specs.Ends.{AreEventNodes};
+ghost use Rattle.row_pool.specs.Pool.{free_rows};
+ghost use Rattle.intervals.specs.Ends.{FitsPair};
+ghost use Rattle.intervals.specs.Executions.{IsPairOf};
+ghost use Rattle.engine.specs.Changes.{KeepsAnswer, LeavesTaken};
+ghost use Rattle.engine.specs.Current.{IsCurrent};
+ghost use Rattle.solver.specs.Solution.{IsSolutionBy};
+ghost use Rattle.queries.specs.Asking.{IsPairAtHand};
+ghost use Rattle.queries.specs.Replies.{IsIntervalLine, IsOrderLine, IsLineOf, Replies};
 
 use crate::contradiction::write_contradiction;
 use crate::lines::line_for;
 use crate::question::{Asked, Question};
-use crate::stop::Stop;
 use atto::Steps;
-use earliest::Earliest;
-use ports::{Sink, write_whole};
-use problem::Problem;
-use reaches::pair_of;
-use solver::{Solution, solve};
-use std::alloc::Global;
+use engine::Solver;
+use ports::{Failed, Sink, write_whole};
+use problem::Listing;
+use row_pool::Pair;
+use solver::{executions, pairs};
 use std::sync::ledger::Ledger;
-use sync_graph::Graph;
 
-// Writes the answer for a problem that has an execution.
-fn write_answer<O: Sink, L: Ledger>(
-    alloc: Global,
-    p: &Problem,
-    g: &Graph,
-    e: &Earliest,
-    question: Question,
-    out: &mut O,
-    steps: &mut Steps<L>,
-) -> Result<(), Stop>
-    requires solved { IsSolved p.now g.now e.now }
-    requires first { question.first < length p.now.events }
-    requires second { question.second < length p.now.events }
-    ensures { WritesSuch (Replies p.now (IsAnswer p.now question)) stops.WriteFault (O.told out.old) (O.told out.new) result }
+// Writes the line that answers what is asked of two events, by their greatest differences in both directions.
+fn write_line<O: Sink>(asked: Asked, pair: Pair, out: &mut O) -> Result<(), Failed>
+    requires { FitsPair pair }
+    ensures { (p : ProblemLists) (first second : ℕ) → IsPairOf p (nodes.Event first) (nodes.Event second) pair
+        → (text : List ℕ) × IsLineOf asked p first second text × Writes text (O.told out.old) (O.told out.new) result }
 {
-    // It tells that the earliest execution is one.
-    let _ = p.readings();
-    let pair = pair_of(alloc, p, g, e, question.first, question.second, steps)?;
-    let line = line_for(question.asked, pair);
-    write_whole(out, line.as_slice())?;
-    Ok(())
+    let line = line_for(asked, pair);
+    write_whole(out, line.as_slice())
 }
 
-// Writes what a solution says.
-fn write_solution<O: Sink, L: Ledger>(
-    alloc: Global,
-    p: &Problem,
-    solution: &Solution,
+// Writes the answer where there is an execution.
+fn write_answer<N: Listing, O: Sink, L: Ledger>(
+    names: &N,
+    solver: &mut Solver,
     question: Question,
     out: &mut O,
     steps: &mut Steps<L>,
-) -> Result<(), Stop>
-    requires solution { IsSolution p.now solution.now }
-    requires first { question.first < length p.now.events }
-    requires second { question.second < length p.now.events }
-    ensures { WritesSuch (Replies p.now (IsAnswer p.now question)) stops.WriteFault (O.told out.old) (O.told out.new) result }
+) -> Result<(), Failed>
+    requires solution { (p : ProblemLists) × IsSolutionBy (N.listed names.now) p solver.old }
+    requires solved { solver.old.contradiction ≡ [] }
+    requires events { AreEventNodes (N.listed names.now) question.first question.second }
+    requires free { 0 < free_rows solver.old.pool }
+    ensures writes { (p : ProblemLists) (i j : ℕ) → IsSolutionBy (N.listed names.now) p solver.old
+        → IsEventAt (N.listed names.now) i question.first → IsEventAt (N.listed names.now) j question.second
+        → (text : List ℕ) × Replies p (IsLineOf question.asked p i j) text × Writes text (O.told out.old) (O.told out.new) result }
+    ensures answer { KeepsAnswer solver.old solver.new }
+    ensures kept { solver.new.kept ≡ solver.old.kept }
+    ensures rows { LeavesTaken solver.old.pool solver.new.pool }
+    ensures room { length solver.new.front ≡ length solver.old.front }
+    ensures current { IsCurrent solver.new }
+    ensures steps { IsPairAtHand solver.old question.first question.second → steps.new ≡ steps.old }
 {
-    match solution {
-        Solution::Execution(g, e) => write_answer(alloc, p, g, e, question, out, steps),
-        Solution::Contradiction(cycle) => {
-            write_contradiction(p, cycle, out)?;
-            Ok(())
-        }
+    executions();
+    pairs();
+    let pair = solver.pair(question.first, question.second, steps);
+    write_line(question.asked, pair, out)
+}
+
+// Writes the answer, or the contradiction where one is held.
+fn write_reply<N: Listing, O: Sink, L: Ledger>(
+    names: &N,
+    solver: &mut Solver,
+    question: Question,
+    out: &mut O,
+    steps: &mut Steps<L>,
+) -> Result<(), Failed>
+    requires solution { (p : ProblemLists) × IsSolutionBy (N.listed names.now) p solver.old }
+    requires events { AreEventNodes (N.listed names.now) question.first question.second }
+    requires free { 0 < free_rows solver.old.pool }
+    ensures writes { (p : ProblemLists) (i j : ℕ) → IsSolutionBy (N.listed names.now) p solver.old
+        → IsEventAt (N.listed names.now) i question.first → IsEventAt (N.listed names.now) j question.second
+        → (text : List ℕ) × Replies p (IsLineOf question.asked p i j) text × Writes text (O.told out.old) (O.told out.new) result }
+    ensures answer { KeepsAnswer solver.old solver.new }
+    ensures kept { solver.new.kept ≡ solver.old.kept }
+    ensures rows { LeavesTaken solver.old.pool solver.new.pool }
+    ensures room { length solver.new.front ≡ length solver.old.front }
+    ensures current { IsCurrent solver.new }
+    ensures steps { IsPairAtHand solver.old question.first question.second → steps.new ≡ steps.old }
+{
+    let cycle = solver.contradiction();
+    if cycle.is_empty() {
+        write_answer(names, solver, question, out, steps)
+    } else {
+        write_contradiction(names, cycle, out)
     }
-}
-
-// Solves the problem and writes what the solution says.
-fn write_reply<O: Sink, L: Ledger>(
-    alloc: Global,
-    p: &Problem,
-    question: Question,
-    out: &mut O,
-    steps: &mut Steps<L>,
-) -> Result<(), Stop>
-    requires first { question.first < length p.now.events }
-    requires second { question.second < length p.now.events }
-    ensures { WritesSuch (Replies p.now (IsAnswer p.now question)) stops.WriteFault (O.told out.old) (O.told out.new) result }
-{
-    let solution = solve(alloc, p, steps)?;
-    write_solution(alloc, p, &solution, question, out, steps)
 }
 
 /// Writes the line of the least and the greatest difference from one event to another over all executions, in ns, as
 /// `interval LEAST GREATEST`, with `-inf` and `+inf` where there is none; or the certificate of a contradiction where
-/// there is no execution. Events are given by their places in the problem, counted from 0.
+/// there is no execution. Events are given by their nodes.
 ///
-/// `Memory` is answered for want of memory. `WriteFault` is answered only where the sink's count of faults rose, or stands at
-/// its last value; a front of such a reply is then written.
-pub fn write_interval<O: Sink, L: Ledger>(
-    alloc: Global,
-    p: &Problem,
+/// It takes no memory. No step is taken where one of the nodes is kept, or a contradiction is held; else a free row of the
+/// engine is filled and given back. `Failed` is answered only where the sink's count of faults rose, or stands at its last
+/// value; a front of such a reply is then written.
+pub fn write_interval<N: Listing, O: Sink, L: Ledger>(
+    names: &N,
+    solver: &mut Solver,
     first: u32,
     second: u32,
     out: &mut O,
     steps: &mut Steps<L>,
-) -> Result<(), Stop>
-    requires first { first < length p.now.events }
-    requires second { second < length p.now.events }
-    ensures { WritesSuch (Replies p.now (IsIntervalLine p.now first second)) stops.WriteFault (O.told out.old) (O.told out.new) result }
+) -> Result<(), Failed>
+    requires solution { (p : ProblemLists) × IsSolutionBy (N.listed names.now) p solver.old }
+    requires events { AreEventNodes (N.listed names.now) first second }
+    requires free { 0 < free_rows solver.old.pool }
+    ensures writes { (p : ProblemLists) (i j : ℕ) → IsSolutionBy (N.listed names.now) p solver.old
+        → IsEventAt (N.listed names.now) i first → IsEventAt (N.listed names.now) j second
+        → (text : List ℕ) × Replies p (IsIntervalLine p i j) text × Writes text (O.told out.old) (O.told out.new) result }
+    ensures answer { KeepsAnswer solver.old solver.new }
+    ensures kept { solver.new.kept ≡ solver.old.kept }
+    ensures rows { LeavesTaken solver.old.pool solver.new.pool }
+    ensures room { length solver.new.front ≡ length solver.old.front }
+    ensures current { IsCurrent solver.new }
+    ensures solution { (l : Listed) (p : ProblemLists) → IsSolutionBy l p solver.old → IsSolutionBy l p solver.new }
+    ensures steps { IsPairAtHand solver.old first second → steps.new ≡ steps.old }
 {
     let asked = Asked::Interval;
     write_reply(
-        alloc,
-        p,
+        names,
+        solver,
         Question {
             asked,
             first,
@@ -115,26 +138,37 @@ pub fn write_interval<O: Sink, L: Ledger>(
 
 /// Writes the line of the order of two events in every execution, as `order WORD`: `before` where the first one always
 /// comes before the second, `after`, `same`, or `open` where none of these is so in every execution; or the certificate
-/// of a contradiction where there is no execution. Events are given by their places in the problem, counted from 0.
+/// of a contradiction where there is no execution. Events are given by their nodes.
 ///
-/// `Memory` is answered for want of memory. `WriteFault` is answered only where the sink's count of faults rose, or stands at
-/// its last value; a front of such a reply is then written.
-pub fn write_order<O: Sink, L: Ledger>(
-    alloc: Global,
-    p: &Problem,
+/// It takes no memory. No step is taken where one of the nodes is kept, or a contradiction is held; else a free row of the
+/// engine is filled and given back. `Failed` is answered only where the sink's count of faults rose, or stands at its last
+/// value; a front of such a reply is then written.
+pub fn write_order<N: Listing, O: Sink, L: Ledger>(
+    names: &N,
+    solver: &mut Solver,
     first: u32,
     second: u32,
     out: &mut O,
     steps: &mut Steps<L>,
-) -> Result<(), Stop>
-    requires first { first < length p.now.events }
-    requires second { second < length p.now.events }
-    ensures { WritesSuch (Replies p.now (IsOrderLine p.now first second)) stops.WriteFault (O.told out.old) (O.told out.new) result }
+) -> Result<(), Failed>
+    requires solution { (p : ProblemLists) × IsSolutionBy (N.listed names.now) p solver.old }
+    requires events { AreEventNodes (N.listed names.now) first second }
+    requires free { 0 < free_rows solver.old.pool }
+    ensures writes { (p : ProblemLists) (i j : ℕ) → IsSolutionBy (N.listed names.now) p solver.old
+        → IsEventAt (N.listed names.now) i first → IsEventAt (N.listed names.now) j second
+        → (text : List ℕ) × Replies p (IsOrderLine p i j) text × Writes text (O.told out.old) (O.told out.new) result }
+    ensures answer { KeepsAnswer solver.old solver.new }
+    ensures kept { solver.new.kept ≡ solver.old.kept }
+    ensures rows { LeavesTaken solver.old.pool solver.new.pool }
+    ensures room { length solver.new.front ≡ length solver.old.front }
+    ensures current { IsCurrent solver.new }
+    ensures solution { (l : Listed) (p : ProblemLists) → IsSolutionBy l p solver.old → IsSolutionBy l p solver.new }
+    ensures steps { IsPairAtHand solver.old first second → steps.new ≡ steps.old }
 {
     let asked = Asked::Order;
     write_reply(
-        alloc,
-        p,
+        names,
+        solver,
         Question {
             asked,
             first,

@@ -1,25 +1,26 @@
 // The time of an event by a clock that keeps time.
-ghost use Rattle.std.specs.Prelude.{◌≡◌, ◌<◌, length, nat_eq, find, option_map, IfSome, IfNone};
-ghost use Rattle.ports.specs.Content.{WritesSuch};
+ghost use Rattle.std.specs.Prelude.{◌≡◌, ℕ, List, [], nat_eq, find, option_map, IfSome, IfNone};
+ghost use Rattle.problem_model.specs.declared.items.Node.TheVariants as nodes;
+ghost use Rattle.problem_model.specs.Problem.{ProblemLists};
 ghost use Rattle.problem_model.specs.Bounds.{IsReading};
-ghost use Rattle.solver.specs.Solution.{IsSolved, IsSolution};
-ghost use Rattle.queries.specs.declared.stop.Stop.TheVariants as stops;
+ghost use Rattle.ports.specs.Content.{Writes};
+ghost use Rattle.sync_graph.specs.ListedStanding.{IsEventAt};
+ghost use Rattle.intervals.specs.Ends.{FitsPair};
+ghost use Rattle.intervals.specs.Executions.{IsPairOf};
+ghost use Rattle.solver.specs.Solution.{IsSolutionBy};
+ghost use Rattle.queries.specs.Asking.{IsSourceReading};
 ghost use Rattle.queries.specs.Clocks.{KeepsTime};
 ghost use Rattle.queries.specs.Replies.{HasReading, IsTimeLine, Replies};
 
 use crate::contradiction::write_contradiction;
 use crate::lines::time_line;
-use crate::stop::Stop;
-use atto::{Nano, Steps};
-use earliest::Earliest;
+use atto::Nano;
+use engine::Solver;
 use intervals::source_time;
-use ports::{Sink, write_whole};
-use problem::{Event, Problem};
-use reaches::pair_of_reading;
-use solver::{Solution, solve};
-use std::alloc::Global;
-use std::sync::ledger::Ledger;
-use sync_graph::Graph;
+use ports::{Failed, Sink, write_whole};
+use problem::{Event, Listing, Problem};
+use row_pool::Pair;
+use solver::{executions, pairs};
 
 // The stamp of the first of the events that is on the clock.
 fn first_stamp(events: &[Event], clock: u32) -> Option<Nano>
@@ -39,81 +40,68 @@ pub fn reading_of(p: &Problem, clock: u32) -> Option<Nano>
     first_stamp(p.events(), clock)
 }
 
-// Writes the time for a problem that has an execution.
-fn write_answer<O: Sink, L: Ledger>(
-    alloc: Global,
-    p: &Problem,
-    g: &Graph,
-    e: &Earliest,
-    clock: u32,
-    stamp: Nano,
-    event: u32,
-    out: &mut O,
-    steps: &mut Steps<L>,
-) -> Result<(), Stop>
-    requires solved { IsSolved p.now g.now e.now }
-    requires clock { KeepsTime p.now clock }
-    requires reading { IsReading p.now clock stamp }
-    requires event { event < length p.now.events }
-    ensures { WritesSuch (Replies p.now (IsTimeLine p.now clock event)) stops.WriteFault (O.told out.old) (O.told out.new) result }
+// Writes the line of an event's time, by the greatest differences of a reading of this stamp and the event.
+fn write_line<O: Sink>(stamp: Nano, pair: Pair, out: &mut O) -> Result<(), Failed>
+    requires { FitsPair pair }
+    ensures { (p : ProblemLists) (clock event : ℕ) → KeepsTime p clock → IsReading p clock stamp
+        → IsPairOf p (nodes.Reading clock stamp) (nodes.Event event) pair
+        → (text : List ℕ) × IsTimeLine p clock event text × Writes text (O.told out.old) (O.told out.new) result }
 {
-    // It tells that the earliest execution is one.
-    let _ = p.readings();
-    let pair = pair_of_reading(alloc, p, g, e, clock, stamp, event, steps)?;
     let ends = source_time(stamp, pair);
     let line = time_line(&ends);
-    write_whole(out, line.as_slice())?;
-    Ok(())
+    write_whole(out, line.as_slice())
 }
 
-// Writes what a solution says.
-fn write_solution<O: Sink, L: Ledger>(
-    alloc: Global,
-    p: &Problem,
-    solution: &Solution,
-    clock: u32,
+// Writes the time where there is an execution.
+fn write_answer<N: Listing, O: Sink>(
+    names: &N,
+    solver: &Solver,
     stamp: Nano,
     event: u32,
     out: &mut O,
-    steps: &mut Steps<L>,
-) -> Result<(), Stop>
-    requires solution { IsSolution p.now solution.now }
-    requires clock { KeepsTime p.now clock }
-    requires reading { IsReading p.now clock stamp }
-    requires event { event < length p.now.events }
-    ensures { WritesSuch (Replies p.now (IsTimeLine p.now clock event)) stops.WriteFault (O.told out.old) (O.told out.new) result }
+) -> Result<(), Failed>
+    requires solution { (p : ProblemLists) × IsSolutionBy (N.listed names.now) p solver.now }
+    requires solved { solver.now.contradiction ≡ [] }
+    requires source { (clock : ℕ) × IsSourceReading (N.listed names.now) solver.now clock stamp }
+    requires event { (place : ℕ) × IsEventAt (N.listed names.now) place event }
+    ensures { (p : ProblemLists) (clock place : ℕ) → IsSolutionBy (N.listed names.now) p solver.now → KeepsTime p clock
+        → IsSourceReading (N.listed names.now) solver.now clock stamp → IsEventAt (N.listed names.now) place event
+        → (text : List ℕ) × Replies p (IsTimeLine p clock place) text × Writes text (O.told out.old) (O.told out.new) result }
 {
-    match solution {
-        Solution::Execution(g, e) => write_answer(alloc, p, g, e, clock, stamp, event, out, steps),
-        Solution::Contradiction(cycle) => {
-            write_contradiction(p, cycle, out)?;
-            Ok(())
-        }
+    executions();
+    pairs();
+    match solver.source_pair(event) {
+        Some(pair) => write_line(stamp, pair, out),
+        None => unreachable!(),
     }
 }
 
-/// Writes the line of the least and the greatest time of an event by a clock, over all executions, in ns, as
+/// Writes the line of the least and the greatest time of an event by a source's clock, over all executions, in ns, as
 /// `time LEAST GREATEST`, with `-inf` and `+inf` where there is none; or the certificate of a contradiction where there is
 /// no execution. The time by a reading of the clock is its stamp and the real time from that reading to the event; the
-/// clock is never short or long, so it is the same by each of its readings. Clock and event are given by their places in
-/// the problem, counted from 0.
+/// clock is never short or long, so it is the same by each of its readings. It is read off the rows of the source's reading,
+/// which has this stamp, in ns, without a step. The event is given by its node.
 ///
-/// `Memory` is answered for want of memory. `WriteFault` is answered only where the sink's count of faults rose, or stands at
-/// its last value; a front of such a reply is then written.
-pub fn write_time<O: Sink, L: Ledger>(
-    alloc: Global,
-    p: &Problem,
-    clock: u32,
+/// It takes no memory. `Failed` is answered only where the sink's count of faults rose, or stands at its last value; a
+/// front of such a reply is then written.
+pub fn write_time<N: Listing, O: Sink>(
+    names: &N,
+    solver: &Solver,
     stamp: Nano,
     event: u32,
     out: &mut O,
-    steps: &mut Steps<L>,
-) -> Result<(), Stop>
-    requires clock { KeepsTime p.now clock }
-    requires reading { IsReading p.now clock stamp }
-    requires event { event < length p.now.events }
-    ensures { WritesSuch (Replies p.now (IsTimeLine p.now clock event)) stops.WriteFault (O.told out.old) (O.told out.new) result }
+) -> Result<(), Failed>
+    requires solution { (p : ProblemLists) × IsSolutionBy (N.listed names.now) p solver.now }
+    requires source { (clock : ℕ) × IsSourceReading (N.listed names.now) solver.now clock stamp }
+    requires event { (place : ℕ) × IsEventAt (N.listed names.now) place event }
+    ensures { (p : ProblemLists) (clock place : ℕ) → IsSolutionBy (N.listed names.now) p solver.now → KeepsTime p clock
+        → IsSourceReading (N.listed names.now) solver.now clock stamp → IsEventAt (N.listed names.now) place event
+        → (text : List ℕ) × Replies p (IsTimeLine p clock place) text × Writes text (O.told out.old) (O.told out.new) result }
 {
-    let solution = solve(alloc, p, steps)?;
-    write_solution(alloc, p, &solution, clock, stamp, event, out, steps)
+    let cycle = solver.contradiction();
+    if cycle.is_empty() {
+        write_answer(names, solver, stamp, event, out)
+    } else {
+        write_contradiction(names, cycle, out)
+    }
 }

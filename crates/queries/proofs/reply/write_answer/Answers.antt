@@ -1,15 +1,42 @@
-use Rattle.std.proofs.Common.{inl}
-use Rattle.ports.proofs.Writing.{such_failed, such_written, writes_as}
-use Rattle.queries.specs.Replies.{IsAnswer, Replies}
-use Rattle.queries.proofs.Solved.{executes}
+use Rattle.std.proofs.Common.{◌≡◌, inl}
+use Rattle.problem_model.specs.declared.items.Node.TheVariants as nodes
+use Rattle.problem.specs.Listing.{all_readings}
+use Rattle.queries.proofs.SomeReadings.{own_readings}
+use Rattle.queries.proofs.Solutions.{event_by, event_below}
+use Rattle.queries.proofs.Hands.{where_one_kept}
 use Rattle.queries.proofs.reply.write_answer.Goals as goal
 
-pub returns-in_err-write_whole : goal.returns-in_err-write_whole
-returns-in_err-write_whole g c =
-    let p = c.args.p.now in
-    such_failed (Replies p (IsAnswer p c.args.question)) (inl (executes p c.readings.result.now c.readings.ensures c.args.g.now c.args.e.now c.requires.solved, c.line_for-line.ensures p c.args.question.first c.args.question.second c.in_ok-pair.ensures.pair)) c.from_residual-in_err-write_whole.ensures.0 (writes_as c.as_slice.ensures.value c.in_err-write_whole.ensures)
+pub pair-requires-clause-p : goal.pair-requires-clause-p
+pair-requires-clause-p g c =
+    event_below (g.N.Listing.listed c.args.names.now) c.requires.solution.0 c.args.solver.now c.requires.solution.1 c.requires.events.0 c.args.question.first c.requires.events.2
 
-pub returns : goal.returns
-returns g c =
-    let p = c.args.p.now in
-    such_written (Replies p (IsAnswer p c.args.question)) (inl (executes p c.readings.result.now c.readings.ensures c.args.g.now c.args.e.now c.requires.solved, c.line_for-line.ensures p c.args.question.first c.args.question.second c.in_ok-pair.ensures.pair)) (writes_as c.as_slice.ensures.value c.in_ok-write_whole.ensures)
+pub pair-requires-clause-q : goal.pair-requires-clause-q
+pair-requires-clause-q g c =
+    event_below (g.N.Listing.listed c.args.names.now) c.requires.solution.0 c.args.solver.now c.requires.solution.1 c.requires.events.1 c.args.question.second c.requires.events.3
+
+pub write_line-requires : goal.write_line-requires
+write_line-requires g c =
+    let l = g.N.Listing.listed c.args.names.now in
+    let p = c.requires.solution.0 in
+    let s = c.args.solver.now in
+    let solution = c.requires.solution.1 in
+    let events = c.requires.events in
+    c.pairs.ensures.fits l p s c.args.question.first c.args.question.second c.pair-pair.result solution c.requires.solved
+    (event_below l p s solution events.0 c.args.question.first events.2) (event_below l p s solution events.1 c.args.question.second events.3) c.pair-pair.ensures.pair
+
+pub returns-clause-writes : goal.returns-clause-writes
+returns-clause-writes g c = λ p i j solution at at'.
+    let l = g.N.Listing.listed c.args.names.now in
+    let s = c.args.solver.now in
+    let rs = all_readings p.events in
+    let are = own_readings p in
+    let none = c.requires.solved in
+    let some = c.executions.ensures.earliest l p rs s are solution none in
+    let is = c.pairs.ensures.pair l p rs s c.args.question.first c.args.question.second (nodes.Event i) (nodes.Event j) c.pair-pair.result are solution none
+    (event_by l p s solution i c.args.question.first at) (event_by l p s solution j c.args.question.second at') c.pair-pair.ensures.pair in
+    let line = c.write_line.ensures p i j is in
+    (line.0, inl ((some.0, some.2.execution), line.1), line.2)
+
+pub returns-clause-steps : goal.returns-clause-steps
+returns-clause-steps g c =
+    where_one_kept c.args.solver.now c.requires.solved (c.pair-pair.new.steps ≡ c.args.steps.now) c.args.question.first c.args.question.second c.pair-pair.ensures.steps c.pair-pair.ensures.steps_turned

@@ -1,22 +1,42 @@
-use Rattle.std.proofs.Common.{inl}
-use Rattle.ports.proofs.Writing.{such_failed, such_written, writes_as}
-use Rattle.queries.specs.Replies.{IsTimeLine, Replies}
-use Rattle.queries.proofs.KeptTimes.{time_shows}
-use Rattle.queries.proofs.Solved.{executes}
+use Rattle.std.proofs.Common.{◌≡◌, sym, ◌∙◌, inl}
+use Rattle.std.proofs.lemmas.Option.{none-some}
+use Rattle.problem_model.specs.declared.items.Node.TheVariants as nodes
+use Rattle.problem.specs.Listing.{all_readings}
+use Rattle.queries.proofs.SomeReadings.{own_readings}
+use Rattle.queries.proofs.Solutions.{event_by, event_below, reading_by, reading_below, reading_is}
 use Rattle.queries.proofs.time.write_answer.Goals as goal
 
-pub returns-in_err-write_whole : goal.returns-in_err-write_whole
-returns-in_err-write_whole g c =
-    let p = c.args.p.now in
-    such_failed (Replies p (IsTimeLine p c.args.clock c.args.event)) (inl (
-      executes p c.readings.result.now c.readings.ensures c.args.g.now c.args.e.now c.requires.solved,
-      time_shows p c.args.clock c.args.stamp c.args.event c.requires.clock c.requires.reading c.in_ok-pair.pair c.in_ok-pair.ensures.pair c.source_time-ends.result c.source_time-ends.ensures _ c.time_line-line.ensures,
-    )) c.from_residual-in_err-write_whole.ensures.0 (writes_as c.as_slice.ensures.value c.in_err-write_whole.ensures)
+pub source_pair-requires-clause-q : goal.source_pair-requires-clause-q
+source_pair-requires-clause-q g c =
+    event_below (g.N.Listing.listed c.args.names.now) c.requires.solution.0 c.args.solver.now c.requires.solution.1 c.requires.event.0 c.args.event c.requires.event.1
 
-pub returns : goal.returns
-returns g c =
-    let p = c.args.p.now in
-    such_written (Replies p (IsTimeLine p c.args.clock c.args.event)) (inl (
-      executes p c.readings.result.now c.readings.ensures c.args.g.now c.args.e.now c.requires.solved,
-      time_shows p c.args.clock c.args.stamp c.args.event c.requires.clock c.requires.reading c.in_ok-pair.pair c.in_ok-pair.ensures.pair c.source_time-ends.result c.source_time-ends.ensures _ c.time_line-line.ensures,
-    )) (writes_as c.as_slice.ensures.value c.in_ok-write_whole.ensures)
+pub write_line-requires : goal.write_line-requires
+write_line-requires g c =
+    let l = g.N.Listing.listed c.args.names.now in
+    let p = c.requires.solution.0 in
+    let s = c.args.solver.now in
+    let solution = c.requires.solution.1 in
+    let told = c.in-Some.ensures in
+    let reads = slot_reading l p s solution told.0 told.1 c.requires.source.0 c.args.stamp c.requires.source.1 in
+    c.pairs.ensures.fits l p s told.0.node c.args.event c.in-Some.pair solution c.requires.solved
+    (reading_below l p s solution c.requires.source.0 c.args.stamp told.0.node reads) (event_below l p s solution c.requires.event.0 c.args.event c.requires.event.1) told.2
+
+pub unreachable-requires : goal.unreachable-requires
+unreachable-requires g c =
+    let source = c.requires.source.1 in
+    none-some source.0 (sym c.in-None.ensures ∙ source.1)
+
+pub returns-in-Some : goal.returns-in-Some
+returns-in-Some g c = λ p clock place solution keeps source at.
+    let l = g.N.Listing.listed c.args.names.now in
+    let s = c.args.solver.now in
+    let rs = all_readings p.events in
+    let are = own_readings p in
+    let none = c.requires.solved in
+    let told = c.in-Some.ensures in
+    let some = c.executions.ensures.earliest l p rs s are solution none in
+    let reads = slot_reading l p s solution told.0 told.1 clock c.args.stamp source in
+    let is = c.pairs.ensures.pair l p rs s told.0.node c.args.event (nodes.Reading clock c.args.stamp) (nodes.Event place) c.in-Some.pair are solution none
+    (reading_by l p s solution clock c.args.stamp told.0.node reads) (event_by l p s solution place c.args.event at) told.2 in
+    let line = c.write_line.ensures p clock place keeps (reading_is l p s solution clock c.args.stamp told.0.node reads) is in
+    (line.0, inl ((some.0, some.2.execution), line.1), line.2)

@@ -1,0 +1,15 @@
+-- What is at hand takes no step.
+use Rattle.std.proofs.Common.{◌≡◌, ℕ, [], inl, inr}
+use Rattle.engine.specs.Solver.{SolverLists}
+use Rattle.queries.specs.Asking.{IsKept, IsAtHand, IsPairAtHand}
+
+module _ (s : SolverLists) (none : s.contradiction ≡ []) (Same : Type 0) where
+  -- where no contradiction is held the node is kept
+  pub where_kept : (node : ℕ) → (IsKept s node → Same) → IsAtHand s node → Same
+  where_kept node same (inl holds) = absurd (holds none)
+  where_kept node same (inr kept) = same kept
+
+  -- or one of the two is
+  pub where_one_kept : (first second : ℕ) → (IsKept s first → Same) → (IsKept s second → Same) → IsPairAtHand s first second → Same
+  where_one_kept first second same same' (inl hand) = where_kept first same hand
+  where_one_kept first second same same' (inr hand) = where_kept second same' hand

@@ -1,0 +1,37 @@
+-- What an engine that is asked has at hand.
+use Rattle.std.specs.Prelude.{◌≡◌, ◌⊎◌, ℕ, List, [], Option, Some, None, slice_get}
+use Rattle.problem_model.specs.Problem.{ProblemLists}
+use Rattle.problem.specs.Listing.{Listed}
+use Rattle.sync_graph.specs.declared.arc.Arc.{Arc}
+use Rattle.repair.specs.declared.slot.Slot.{Slot}
+use Rattle.repair.specs.Slots.{slot_of}
+use Rattle.engine.specs.Solver.{SolverLists}
+use Rattle.solver.specs.Solution.{IsSolutionBy}
+
+-- the rows of the node are kept
+abbrev pub IsKept : SolverLists → ℕ → Type 0
+IsKept s node = slot_of s.kept node ≡ None → ⊥
+
+-- a contradiction is held
+abbrev pub HoldsContradiction : SolverLists → Type 0
+HoldsContradiction s = s.contradiction ≡ [] → ⊥
+
+-- what there is to say of the node and others needs no row: a contradiction is held, or the node is kept
+abbrev pub IsAtHand : SolverLists → ℕ → Type 0
+IsAtHand s node = HoldsContradiction s ⊎ IsKept s node
+
+-- so it is of one of two nodes
+abbrev pub IsPairAtHand : SolverLists → ℕ → ℕ → Type 0
+IsPairAtHand s first second = IsAtHand s first ⊎ IsAtHand s second
+
+-- an engine that holds the answer of the listed problem holds these arcs as a contradiction
+abbrev pub IsHeldContradiction : Listed → ProblemLists → List Arc → Type 0
+IsHeldContradiction l p cycle = (s : SolverLists) × IsSolutionBy l p s × HoldsContradiction s × (s.contradiction ≡ cycle)
+
+-- the reading of this stamp on this clock is the node of the graph with this number
+abbrev pub IsReadingAt : Listed → ℕ → ℕ → ℕ → Type 0
+IsReadingAt l clock stamp number = (place : ℕ) × (slice_get l.readings place ≡ Some (clock, stamp, number))
+
+-- the source's rows are those of this reading
+abbrev pub IsSourceReading : Listed → SolverLists → ℕ → ℕ → Type 0
+IsSourceReading l s clock stamp = (slot : Slot) × (s.kept.source ≡ Some slot) × IsReadingAt l clock stamp slot.node
