@@ -4,7 +4,6 @@ pub mod Words
 pub mod Naming
 pub mod Obeying
 pub mod Solving
-pub mod Certifying
 pub mod Forms
 pub mod Intervals
 pub mod Verifying

@@ -1,12 +1,13 @@
 // The interval and the order of two events, or a contradiction.
-ghost use Rattle.std.specs.Prelude.{◌≡◌, ◌<◌, ◌⊎◌, ℕ, length, IfSome, IfNone};
+ghost use Rattle.std.specs.Prelude.{◌≡◌, ◌<◌, ◌⊎◌, [], ℕ, length, IfSome, IfNone};
 ghost use Rattle.ports.specs.Files.{Keeps};
 ghost use Rattle.problem_model.specs.declared.items.Node.TheVariants as nodes;
 ghost use Rattle.problem_model.specs.Problem.{ProblemLists};
 ghost use Rattle.problem.specs.Line.{HasEvent, IsUnknown};
 ghost use Rattle.intervals.specs.Ends.{FitsPair};
 ghost use Rattle.intervals.specs.Executions.{IsPairOf};
-ghost use Rattle.solver.specs.Solution.{IsSolved, HasContradiction, IsSolution};
+ghost use Rattle.row_pool.specs.Pool.{free_rows};
+ghost use Rattle.solver.specs.Solution.{IsSolution};
 ghost use Rattle.commands.specs.Printing.{Prints};
 ghost use Rattle.commands.specs.Intervals.{TellsInterval, TellsNamed, IntervalAnswered};
 
@@ -15,17 +16,15 @@ use crate::print::interval_line;
 use crate::status::Status;
 use crate::texts::problem_in;
 use atto::Steps;
-use earliest::Earliest;
+use engine::Solver;
 use intervals::{ends_from, order_of};
 use ports::{Failed, Files, Sink};
 use problem::{Name, Problem};
 use queries::write_contradiction;
-use reaches::pair_of;
 use row_pool::Pair;
-use solver::Solution;
+use solver::pairs;
 use std::alloc::Global;
 use std::sync::ledger::Ledger;
-use sync_graph::{Arc, Graph};
 
 // The place of the event of a name.
 fn event_of(p: &Problem, name: &[u8]) -> Option<u32>
@@ -61,34 +60,36 @@ fn events_of(p: &Problem, first: &str, second: &str) -> Option<(u32, u32)>
     Some((from, to))
 }
 
-// Prints the interval and the order of two events of a problem that has an execution.
+// Prints the interval and the order of two events of a problem that has an execution. An event's node is its place.
 fn interval<O: Sink, L: Ledger>(
-    alloc: Global,
     p: &Problem,
-    g: &Graph,
-    e: &Earliest,
+    solver: &mut Solver,
     from: u32,
     to: u32,
     out: &mut O,
     steps: &mut Steps<L>,
 ) -> Status
-    requires solved { IsSolved p.now g.now e.now }
+    requires solution { IsSolution p.now solver.old }
+    requires solved { solver.old.contradiction ≡ [] }
+    requires free { 0 < free_rows solver.old.pool }
     requires from { from < length p.now.events }
     requires to { to < length p.now.events }
     ensures { Prints (TellsInterval p.now from to) (O.told out.old) (O.told out.new) result }
 {
-    match pair_of(alloc, p, g, e, from, to, steps) {
-        Ok(pair) => answer(pair, out),
-        Err(_) => Status::Memory,
-    }
+    let _ = p.events();
+    let _ = p.readings();
+    pairs();
+    let pair = solver.pair(from, to, steps);
+    answer(pair, out)
 }
 
-// Prints the certificate of a contradiction, whichever events were asked for.
-fn contradict<O: Sink>(p: &Problem, steps: &[Arc], out: &mut O) -> Status
-    requires { HasContradiction p.now steps.now }
+// Prints the certificate of the contradiction that is held, whichever events were asked for.
+fn contradict<O: Sink>(p: &Problem, solver: &Solver, out: &mut O) -> Status
+    requires solution { IsSolution p.now solver.now }
+    requires held { solver.now.contradiction ≡ [] → ⊥ }
     ensures { (from to : ℕ) → Prints (TellsInterval p.now from to) (O.told out.old) (O.told out.new) result }
 {
-    match write_contradiction(p, steps, out) {
+    match write_contradiction(p, solver.contradiction(), out) {
         Ok(()) => Status::Done,
         Err(Failed) => Status::WriteFault,
     }
@@ -96,22 +97,42 @@ fn contradict<O: Sink>(p: &Problem, steps: &[Arc], out: &mut O) -> Status
 
 // Prints what a solution says of two events.
 fn conclude<O: Sink, L: Ledger>(
-    alloc: Global,
     p: &Problem,
-    solution: &Solution,
+    solver: &mut Solver,
     from: u32,
     to: u32,
     out: &mut O,
     steps: &mut Steps<L>,
 ) -> Status
-    requires solution { IsSolution p.now solution.now }
+    requires solution { IsSolution p.now solver.old }
+    requires free { 0 < free_rows solver.old.pool }
     requires from { from < length p.now.events }
     requires to { to < length p.now.events }
     ensures { Prints (TellsInterval p.now from to) (O.told out.old) (O.told out.new) result }
 {
-    match solution {
-        Solution::Execution(g, e) => interval(alloc, p, g, e, from, to, out, steps),
-        Solution::Contradiction(cycle) => contradict(p, cycle, out),
+    if solver.contradiction().is_empty() {
+        interval(p, solver, from, to, out, steps)
+    } else {
+        contradict(p, solver, out)
+    }
+}
+
+// Solves a problem, and prints what it says of two events.
+fn solve_for<O: Sink, L: Ledger>(
+    alloc: Global,
+    p: &Problem,
+    from: u32,
+    to: u32,
+    out: &mut O,
+    steps: &mut Steps<L>,
+) -> Status
+    requires from { from < length p.now.events }
+    requires to { to < length p.now.events }
+    ensures { Prints (TellsInterval p.now from to) (O.told out.old) (O.told out.new) result }
+{
+    match solver::solve(alloc, p, 1, steps) {
+        Ok(mut solver) => conclude(p, &mut solver, from, to, out, steps),
+        Err(_) => Status::Memory,
     }
 }
 
@@ -129,10 +150,7 @@ fn between<O: Sink, L: Ledger>(
     let Some((from, to)) = events_of(p, first, second) else {
         return finish(b"unknown event\n", Status::UnknownEvent, out);
     };
-    match solver::solve(alloc, p, steps) {
-        Ok(solution) => conclude(alloc, p, &solution, from, to, out, steps),
-        Err(_) => Status::Memory,
-    }
+    solve_for(alloc, p, from, to, out, steps)
 }
 
 /// The least and the greatest difference of the real times of two events of the problem in a file, over all

@@ -1,8 +1,8 @@
 // Finds the earliest execution of a problem, or a contradiction.
-ghost use Rattle.std.specs.Prelude.{List, ℕ};
+ghost use Rattle.std.specs.Prelude.{◌≡◌, [], List, ℕ};
 ghost use Rattle.ports.specs.Content.{Writes};
 ghost use Rattle.ports.specs.Files.{Keeps};
-ghost use Rattle.solver.specs.Solution.{IsSolved, IsSolution};
+ghost use Rattle.solver.specs.Solution.{IsSolution};
 ghost use Rattle.commands.specs.Printing.{Prints};
 ghost use Rattle.commands.specs.Solve.{IsEarliestText, IsSolutionText, TellsSolution, Solved};
 
@@ -11,41 +11,44 @@ use crate::status::Status;
 use crate::texts::problem_in;
 use attain::write_run;
 use atto::Steps;
-use earliest::Earliest;
+use engine::Solver;
 use ports::{Failed, Files, Sink};
 use problem::Problem;
 use queries::write_contradiction;
-use solver::Solution;
+use solver::executions;
 use std::alloc::Global;
 use std::sync::ledger::Ledger;
-use sync_graph::Graph;
 
 // Writes the certificate of the earliest execution.
-fn write_earliest<O: Sink>(p: &Problem, g: &Graph, e: &Earliest, out: &mut O) -> Result<(), Failed>
-    requires { IsSolved p.now g.now e.now }
+fn write_earliest<O: Sink>(p: &Problem, solver: &Solver, out: &mut O) -> Result<(), Failed>
+    requires solution { IsSolution p.now solver.now }
+    requires solved { solver.now.contradiction ≡ [] }
     ensures { (text : List ℕ) × IsEarliestText p.now text × Writes text (O.told out.old) (O.told out.new) result }
 {
     let _ = p.readings();
-    write_run(p, e, out)
+    executions();
+    write_run(p, solver.earliest(), out)
 }
 
 // Writes the certificate of a solution.
-fn write_solution<O: Sink>(p: &Problem, solution: &Solution, out: &mut O) -> Result<(), Failed>
-    requires { IsSolution p.now solution.now }
+fn write_solution<O: Sink>(p: &Problem, solver: &Solver, out: &mut O) -> Result<(), Failed>
+    requires { IsSolution p.now solver.now }
     ensures { (text : List ℕ) × IsSolutionText p.now text × Writes text (O.told out.old) (O.told out.new) result }
 {
-    match solution {
-        Solution::Execution(g, e) => write_earliest(p, g, e, out),
-        Solution::Contradiction(cycle) => write_contradiction(p, cycle, out),
+    let cycle = solver.contradiction();
+    if cycle.is_empty() {
+        write_earliest(p, solver, out)
+    } else {
+        write_contradiction(p, cycle, out)
     }
 }
 
 // Prints the certificate of a solution, and answers the status.
-fn certify<O: Sink>(p: &Problem, solution: &Solution, out: &mut O) -> Status
-    requires { IsSolution p.now solution.now }
+fn certify<O: Sink>(p: &Problem, solver: &Solver, out: &mut O) -> Status
+    requires { IsSolution p.now solver.now }
     ensures { Prints (TellsSolution p.now) (O.told out.old) (O.told out.new) result }
 {
-    match write_solution(p, solution, out) {
+    match write_solution(p, solver, out) {
         Ok(()) => Status::Done,
         Err(Failed) => Status::WriteFault,
     }
@@ -60,8 +63,8 @@ fn answer<O: Sink, L: Ledger>(
 ) -> Status
     ensures { Prints (TellsSolution p.now) (O.told out.old) (O.told out.new) result }
 {
-    match solver::solve(alloc, p, steps) {
-        Ok(solution) => certify(p, &solution, out),
+    match solver::solve(alloc, p, 0, steps) {
+        Ok(solver) => certify(p, &solver, out),
         Err(_) => Status::Memory,
     }
 }

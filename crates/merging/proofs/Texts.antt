@@ -1,28 +1,31 @@
 -- A problem that is solved has one merge.
-use Rattle.std.proofs.Common.{◌≡◌, ◌≤◌, ◌+◌, ◌++◌, ℕ, suc, List, [], ◌∷◌, length, ℤ, pos, ◌≤ℤ◌, slice_get, option_map, refl, sym, ◌∙◌, ap, subst, arith, length-append, inl}
+use Rattle.std.proofs.Common.{◌≡◌, ◌<◌, ◌++◌, ℕ, List, length, map, get_or, ℤ, ◌≤ℤ◌, slice_get, Some, All, sym, ◌∙◌, ap, subst, arith, inl}
 use Rattle.std.proofs.lemmas.Int.{ints}
 use Rattle.std.proofs.lemmas.List.{length-map}
-use Rattle.std.proofs.lemmas.Option.{get_or_from_slice_get, slice_get-map}
-use Rattle.problem_model.specs.declared.items.Event.{Event}
+use Rattle.std.proofs.lemmas.Option.{same_Some, slice_get-get_or}
 use Rattle.problem_model.specs.declared.items.Node.TheVariants as nodes
 use Rattle.problem_model.specs.Problem.{ProblemLists}
 use Rattle.problem_model.specs.Bounds.{Times}
-use Rattle.problem_model.specs.Nodes.{Reading, AreReadings, Lists, event_nodes, nodes_of, reading_nodes}
-use Rattle.problem_model.proofs.OneList.{listed}
+use Rattle.problem_model.specs.Nodes.{Reading, nodes_of}
 use Rattle.problem_model.proofs.Places.{event_stands}
+use Rattle.difference_bounds.specs.Executions.{at}
 use Rattle.difference_bounds.specs.Solutions.{IsEarliestExecution}
+use Rattle.problem.specs.Listing.{Listed, all_readings, listed_nodes}
+use Rattle.problem.proofs.ListedNodes.{event_node, map_at}
+use Rattle.attain.proofs.Events.{all_at}
 use Rattle.decl.specs.Declaration.{Declaration}
 use Rattle.trace_event.specs.Seen.{Seen}
 use Rattle.traces.specs.Traces.{Placed, events_of}
 use Rattle.traces.specs.Messages.{event_with, problem_of_seen}
 use Rattle.report.specs.declared.merge.MergeKey.{MergeKey}
 use Rattle.report.specs.Merging.{IsMergeOrder}
-use Rattle.sync_graph.specs.Graph.{GraphLists}
-use Rattle.earliest.specs.Values.{Values}
-use Rattle.solver.specs.Solution.{IsSolved}
+use Rattle.sync_graph.proofs.NodeNumbers.{events_count}
+use Rattle.engine.specs.Solver.{SolverLists}
+use Rattle.solver.specs.Solution.{IsSolutionBy}
 use Rattle.queries.specs.Replies.{Replies}
+use Rattle.queries.proofs.Solutions.{stands}
 use Rattle.merging.specs.Merged.{keys_from, IsMergeText}
-use Rattle.merging.specs.Writing.{IsTextBy, count_line, lines_of, times_by}
+use Rattle.merging.specs.Writing.{AreValued, IsTextBy, count_line, lines_of, node_at, times_by}
 use Rattle.merging.proofs.Agreeing.{Agree, keys_agree, lines_agree}
 use Rattle.merging.proofs.OneOrder.{order_one}
 
@@ -48,44 +51,48 @@ one_merge d seen a b is is' =
     ∙ ap (λ (lines : List ℕ). count_line (length events) ++ lines) (lines_agree d is.times is'.times events is'.order agree) ∙ sym is'.is
 
 -- ---- the merge that is written
-length_nodes : (k : ℕ) (events : List Event) → length (event_nodes k events) ≡ length events
-length_nodes k [] = refl
-length_nodes k (e ∷ more) = ap suc (length_nodes (k + 1) more)
+module _ (d : Declaration) (seen : List (List Seen)) (l : Listed) (s : SolverLists) (solution : IsSolutionBy l (problem_of_seen d seen) s) where
+  abbrev p : ProblemLists
+  p = problem_of_seen d seen
 
-one_each : (p : ProblemLists) (readings : List Reading) → AreReadings p readings → (g : GraphLists) (e : Values) → IsSolved p g e → length e.values ≡ length (nodes_of p readings)
-one_each p readings are g e solved = solved.one_each ∙ ap length (solved.graph.bounds readings are).nodes_are
+  abbrev readings : List Reading
+  readings = all_readings (problem_of_seen d seen).events
 
--- each event of a problem that is solved has a value
-pub values_many : (p : ProblemLists) (readings : List Reading) → AreReadings p readings → (g : GraphLists) (e : Values) → IsSolved p g e → length p.events ≤ length e.values
-values_many p readings are g e solved =
-    omega (arith, one_each p readings are g e solved, length-append (event_nodes 0 p.events) (reading_nodes readings), length_nodes 0 p.events)
+  as_many : length l.events ≡ length (problem_of_seen d seen).events
+  as_many = events_count l p readings s.graph (stands l p s solution)
 
--- values by nodes begin with those of the events
-values_agree : (p : ProblemLists) (values : List ℤ) (x : Times) → Lists p x values → Agree (length p.events) (times_by values) x
-values_agree p values x lists k inside =
-    get_or_from_slice_get values k (x (nodes.Event k)) (pos 0)
-    (ap (λ (xs : List ℤ). slice_get xs k) lists.2 ∙ slice_get-map x (nodes_of p lists.0) k ∙ ap (option_map x) (event_stands p lists.0 k inside))
+  -- the listing gives a node for the event at each place
+  node_there : (k : ℕ) → k < length l.events → slice_get (listed_nodes l) k ≡ Some (node_at l k)
+  node_there k inside = event_node l k (get_or l.events k (0, 0)) (slice_get-get_or l.events k (0, 0) inside)
 
-module _ (d : Declaration) (seen : List (List Seen)) (p : ProblemLists) (problem : p ≡ problem_of_seen d seen) where
-  pub events_total : length p.events ≡ length (events_of seen)
-  events_total = ap (λ (q : ProblemLists). length q.events) problem ∙ event_total d seen
+  -- each event has a value
+  pub valued : (count : ℕ) → length (events_of seen) ≡ count → (values : List ℤ) → All (λ k. k < length values) (listed_nodes l) → AreValued l count values
+  valued count total values all = record {
+    as_many = as_many ∙ event_total d seen ∙ total;
+    valued = λ k inside. all_at (λ n. n < length values) (listed_nodes l) k (node_at l k) all (node_there k (let many = as_many ∙ event_total d seen ∙ total in omega (arith, inside, many)));
+  }
 
-  -- what is merged by the values of a problem that is solved is its reply
-  pub merge_shows : (readings : List Reading) → AreReadings p readings → (g : GraphLists) (e : Values) → IsSolved p g e → (text : List ℕ)
-      → IsTextBy d (times_by e.values) (events_of seen) text → Replies p (IsMergeText d seen) text
-  merge_shows readings are g e solved text by =
-      let events : List Placed = events_of seen in
-      let listed_times = listed p readings e.values are (one_each p readings are g e solved) in
-      let x : Times = listed_times.0 in
-      let earliest : IsEarliestExecution p x = solved.of_problem x listed_times.1 in
-      let agree : Agree (length events) (times_by e.values) x = subst (λ (n : ℕ). Agree n (times_by e.values) x) events_total (values_agree p e.values x listed_times.1) in
-      inl (
-        (x, earliest.execution),
-        record {
-          times = x;
-          earliest = subst (λ (q : ProblemLists). IsEarliestExecution q x) problem earliest;
-          order = by.0;
-          sorted = subst (λ (keys : List MergeKey). IsMergeOrder keys by.0) (keys_agree (times_by e.values) x events agree) by.1;
-          is = by.2 ∙ ap (λ (lines : List ℕ). count_line (length events) ++ lines) (lines_agree d (times_by e.values) x events by.0 agree);
-        },
-      )
+  module _ (values : List ℤ) (x : Times) (is : map (at values) (listed_nodes l) ≡ map x (nodes_of (problem_of_seen d seen) (all_readings (problem_of_seen d seen).events))) where
+    -- the values of the events' nodes are their times
+    values_agree : Agree (length (problem_of_seen d seen).events) (times_by l values) x
+    values_agree k inside =
+        let by_number : slice_get (map (at values) (listed_nodes l)) k ≡ Some (at values (node_at l k)) = map_at (at values) (listed_nodes l) k (node_at l k) (node_there k (let many = as_many in omega (arith, inside, many))) in
+        let by_node : slice_get (map x (nodes_of p readings)) k ≡ Some (x (nodes.Event k)) = map_at x (nodes_of p readings) k (nodes.Event k) (event_stands p readings k inside) in
+        same_Some (at values (node_at l k)) (x (nodes.Event k)) (sym by_number ∙ ap (λ (xs : List ℤ). slice_get xs k) is ∙ by_node)
+
+    -- what is merged by the values of the events' nodes is the reply
+    pub merge_shows : IsEarliestExecution (problem_of_seen d seen) x → (text : List ℕ)
+        → IsTextBy d (times_by l values) (events_of seen) text → Replies (problem_of_seen d seen) (IsMergeText d seen) text
+    merge_shows earliest text by =
+        let events : List Placed = events_of seen in
+        let agree : Agree (length events) (times_by l values) x = subst (λ (n : ℕ). Agree n (times_by l values) x) (event_total d seen) values_agree in
+        inl (
+          (x, earliest.execution),
+          record {
+            times = x;
+            earliest = earliest;
+            order = by.0;
+            sorted = subst (λ (keys : List MergeKey). IsMergeOrder keys by.0) (keys_agree (times_by l values) x events agree) by.1;
+            is = by.2 ∙ ap (λ (lines : List ℕ). count_line (length events) ++ lines) (lines_agree d (times_by l values) x events by.0 agree);
+          },
+        )

@@ -1,13 +1,17 @@
-ghost use Rattle.std.specs.Prelude.{◌≡◌, ◌<◌, ◌↔◌, IsTrue, length};
-ghost use Rattle.queries.specs.Clocks.{KeepsTime};
+ghost use Rattle.std.specs.Prelude.{◌≡◌, ◌<◌, ◌≤◌, None, IfSome};
+ghost use Rattle.problem.specs.Listing.{listing_of};
+ghost use Rattle.sync_graph.specs.ListedStanding.{IsEventAt};
+ghost use Rattle.row_pool.specs.Pool.{free_rows};
+ghost use Rattle.solver.specs.Solution.{IsSolution};
+ghost use Rattle.queries.specs.Asking.{IsReadingAt};
 
 use crate::fixtures::CYCLE;
-use atto::Steps;
-use ports::MemSink;
-use problem::{Problem, read_problem};
-use queries::{
-    Stop, is_consistent, reading_of, write_interval, write_order, write_proof, write_time,
-};
+use atto::{Nano, Steps};
+use engine::Solver;
+use ports::{Failed, MemSink};
+use problem::{Listing, Problem, read_problem};
+use queries::{is_consistent, reading_of, write_interval, write_order, write_proof, write_time};
+use solver::solve;
 use std::alloc::Global;
 use std::marker::Brand;
 use std::sync::ledger::{Blank, Ledger};
@@ -72,6 +76,7 @@ const UNLIMITED: &str =
 enum Question {
     Interval,
     Order,
+    Proof,
 }
 
 // A question on two events of a problem, which writes fail, how it is answered, and what is written by then.
@@ -82,7 +87,7 @@ struct Asked<'a> {
     to: u32,
     question: Question,
     fails: &'a [u32],
-    answer: Result<(), Stop>,
+    answer: Result<(), Failed>,
     written: &'a str,
 }
 
@@ -167,7 +172,7 @@ struct Timed {
     clock: u32,
     event: u32,
     fails: &'static [u32],
-    answer: Result<(), Stop>,
+    answer: Result<(), Failed>,
     written: &'static str,
 }
 
@@ -241,7 +246,7 @@ const TIMES: [Timed; 10] = [
         clock: 0,
         event: 2,
         fails: &[3],
-        answer: Err(Stop::WriteFault),
+        answer: Err(Failed),
         written: "time 1010.0000",
     },
     Timed {
@@ -249,99 +254,137 @@ const TIMES: [Timed; 10] = [
         clock: 0,
         event: 3,
         fails: &[4],
-        answer: Err(Stop::WriteFault),
+        answer: Err(Failed),
         written: "certificate 1\ncycle\n",
     },
 ];
 
-// What is to be written to prove the interval of two events, or so far where these writes fail.
-struct Proved {
-    problem: &'static str,
-    from: u32,
-    to: u32,
-    fails: &'static [u32],
-    answer: Result<(), Stop>,
-    written: &'static str,
-}
-
-const PROOFS: [Proved; 5] = [
-    Proved {
+// Proofs of intervals, and what is written of them where a write fails.
+const PROOFS: [Asked<'static>; 5] = [
+    Asked {
         problem: TWO_LOGS_PROBLEM,
         from: 0,
         to: 2,
+        question: Question::Proof,
         fails: &[],
         answer: Ok(()),
         written: LIMITED,
     },
-    Proved {
+    Asked {
         problem: APART,
         from: 0,
         to: 1,
+        question: Question::Proof,
         fails: &[],
         answer: Ok(()),
         written: UNLIMITED,
     },
-    Proved {
+    Asked {
         problem: CONTRADICTING,
         from: 0,
         to: 3,
+        question: Question::Proof,
         fails: &[],
         answer: Ok(()),
         written: CYCLE,
     },
-    Proved {
+    Asked {
         problem: TWO_LOGS_PROBLEM,
         from: 0,
         to: 2,
+        question: Question::Proof,
         fails: &[4],
-        answer: Err(Stop::WriteFault),
+        answer: Err(Failed),
         written: "certificate 1\nends a#",
     },
-    Proved {
+    Asked {
         problem: CONTRADICTING,
         from: 0,
         to: 3,
+        question: Question::Proof,
         fails: &[1],
-        answer: Err(Stop::WriteFault),
+        answer: Err(Failed),
         written: "",
     },
 ];
 
-fn is_event(p: &Problem, place: u32) -> bool
-    ensures { IsTrue result ↔ (place < length p.now.events) }
-{
-    (place as usize) < p.events().len()
-}
-
-// Whether the clock at this place is never short or long.
-fn keeps_time(p: &Problem, clock: u32) -> bool
-    ensures { IsTrue result → KeepsTime p.now clock }
-{
-    match p.clocks().get(clock as usize) {
-        Some(c) => c.rate.short() == 0 && c.rate.long() == 0,
-        None => false,
-    }
-}
-
 // Whether the answer is this one, and this is written so far.
-fn is_so(out: &MemSink, given: Result<(), Stop>, answer: Result<(), Stop>, written: &str) -> bool {
+fn is_so(
+    out: &MemSink,
+    given: Result<(), Failed>,
+    answer: Result<(), Failed>,
+    written: &str,
+) -> bool {
     given == answer && out.bytes() == written.as_bytes()
 }
 
+// The node of the event at a place.
+fn node_of(p: &Problem, place: u32) -> Option<u32>
+    ensures { IfSome result (λ node. IsEventAt (listing_of p.now) place node) }
+{
+    if place < p.event_count() {
+        let (_, node) = p.event_at(place);
+        return Some(node);
+    }
+    None
+}
+
+// The stamp and the node of the first reading of a clock.
+fn reading_by(p: &Problem, clock: u32) -> Option<(Nano, u32)>
+    ensures { IfSome result (λ r. IsReadingAt (listing_of p.now) clock r.0 r.1) }
+{
+    for place in 0..p.reading_count() {
+        let (own, stamp, node) = p.reading_at(place);
+        if own == clock {
+            return Some((stamp, node));
+        }
+    }
+    None
+}
+
+// Writes what is asked of two events.
+fn ask<L: Ledger>(
+    p: &Problem,
+    solver: &mut Solver,
+    asked: &Asked<'_>,
+    out: &mut MemSink,
+    steps: &mut Steps<L>,
+) -> Option<Result<(), Failed>>
+    requires solution { IsSolution p.now solver.old }
+    requires free { 2 ≤ free_rows solver.old.pool }
+{
+    let first = node_of(p, asked.from)?;
+    let second = node_of(p, asked.to)?;
+    Some(match asked.question {
+        Question::Interval => write_interval(p, solver, first, second, out, steps),
+        Question::Order => write_order(p, solver, first, second, out, steps),
+        Question::Proof => write_proof(p, solver, first, second, out, steps),
+    })
+}
+
 // Whether a question on two events is answered so.
+fn is_answered<L: Ledger>(
+    alloc: Global,
+    p: &Problem,
+    solver: &mut Solver,
+    asked: &Asked<'_>,
+    steps: &mut Steps<L>,
+) -> Option<bool>
+    requires solution { IsSolution p.now solver.old }
+    requires free { 2 ≤ free_rows solver.old.pool }
+{
+    let mut out = MemSink::new(alloc, 2000, 7, asked.fails).ok()?;
+    let given = ask(p, solver, asked, &mut out, steps)?;
+    Some(is_so(&out, given, asked.answer, asked.written))
+}
+
+// The same of a problem that is solved for it.
 fn pair_is<L: Ledger>(alloc: Global, p: &Problem, asked: &Asked<'_>, blank: Blank) -> Option<bool>
     requires blank { (blank.name ≡ L.name) × (blank.parts ≡ L.parts) × (0 < L.parts) }
 {
-    if !is_event(p, asked.from) || !is_event(p, asked.to) {
-        return None;
-    }
-    let mut out = MemSink::new(alloc, 600, 7, asked.fails).ok()?;
     let mut steps = Steps::<L>::open(blank);
-    let given = match asked.question {
-        Question::Interval => write_interval(alloc, p, asked.from, asked.to, &mut out, &mut steps),
-        Question::Order => write_order(alloc, p, asked.from, asked.to, &mut out, &mut steps),
-    };
-    Some(is_so(&out, given, asked.answer, asked.written))
+    let mut solver = solve(alloc, p, 2, &mut steps).ok()?;
+    is_answered(alloc, p, &mut solver, asked, &mut steps)
 }
 
 // The same of a problem by its text.
@@ -350,45 +393,54 @@ fn pair_so(alloc: Global, asked: &Asked<'_>) -> Option<bool> {
     pair_is::<Brand>(alloc, &p, asked, Blank::new(1))
 }
 
+// Writes the time of an event by a clock, of which a reading is kept as the source's.
+fn ask_time<L: Ledger>(
+    p: &Problem,
+    solver: &mut Solver,
+    case: &Timed,
+    out: &mut MemSink,
+    steps: &mut Steps<L>,
+) -> Option<Result<(), Failed>>
+    requires solution { IsSolution p.now solver.old }
+    requires none { solver.old.kept.source ≡ None }
+    requires free { 2 ≤ free_rows solver.old.pool }
+{
+    let (stamp, node) = reading_by(p, case.clock)?;
+    let event = node_of(p, case.event)?;
+    solver.keep_source(node, steps);
+    Some(write_time(p, solver, stamp, event, out))
+}
+
 // Whether the time of an event is answered so.
+fn is_timed<L: Ledger>(
+    alloc: Global,
+    p: &Problem,
+    solver: &mut Solver,
+    case: &Timed,
+    steps: &mut Steps<L>,
+) -> Option<bool>
+    requires solution { IsSolution p.now solver.old }
+    requires none { solver.old.kept.source ≡ None }
+    requires free { 2 ≤ free_rows solver.old.pool }
+{
+    let mut out = MemSink::new(alloc, 600, 7, case.fails).ok()?;
+    let given = ask_time(p, solver, case, &mut out, steps)?;
+    Some(is_so(&out, given, case.answer, case.written))
+}
+
+// The same of a problem that is solved for it.
 fn time_is<L: Ledger>(alloc: Global, p: &Problem, case: &Timed, blank: Blank) -> Option<bool>
     requires blank { (blank.name ≡ L.name) × (blank.parts ≡ L.parts) × (0 < L.parts) }
 {
-    if !is_event(p, case.event) || !keeps_time(p, case.clock) {
-        return None;
-    }
-    let stamp = reading_of(p, case.clock)?;
-    let mut out = MemSink::new(alloc, 600, 7, case.fails).ok()?;
     let mut steps = Steps::<L>::open(blank);
-    let given = write_time(
-        alloc, p, case.clock, stamp, case.event, &mut out, &mut steps,
-    );
-    Some(is_so(&out, given, case.answer, case.written))
+    let mut solver = solve(alloc, p, 2, &mut steps).ok()?;
+    is_timed(alloc, p, &mut solver, case, &mut steps)
 }
 
 // The same of a case by its text.
 fn time_so(alloc: Global, case: &Timed) -> Option<bool> {
     let p = read_problem(alloc, case.problem.as_bytes()).ok()?;
     time_is::<Brand>(alloc, &p, case, Blank::new(1))
-}
-
-// Whether the proof of an interval is answered so.
-fn proof_is<L: Ledger>(alloc: Global, p: &Problem, case: &Proved, blank: Blank) -> Option<bool>
-    requires blank { (blank.name ≡ L.name) × (blank.parts ≡ L.parts) × (0 < L.parts) }
-{
-    if !is_event(p, case.from) || !is_event(p, case.to) {
-        return None;
-    }
-    let mut out = MemSink::new(alloc, 2000, 7, case.fails).ok()?;
-    let mut steps = Steps::<L>::open(blank);
-    let given = write_proof(alloc, p, case.from, case.to, &mut out, &mut steps);
-    Some(is_so(&out, given, case.answer, case.written))
-}
-
-// The same of a case by its text.
-fn proof_so(alloc: Global, case: &Proved) -> Option<bool> {
-    let p = read_problem(alloc, case.problem.as_bytes()).ok()?;
-    proof_is::<Brand>(alloc, &p, case, Blank::new(1))
 }
 
 // Whether the first event of the clock reads this stamp; none stands for a clock without an event.
@@ -402,7 +454,8 @@ fn consistent_is<L: Ledger>(alloc: Global, p: &Problem, blank: Blank) -> Option<
     requires blank { (blank.name ≡ L.name) × (blank.parts ≡ L.parts) × (0 < L.parts) }
 {
     let mut steps = Steps::<L>::open(blank);
-    is_consistent(alloc, p, &mut steps).ok()
+    let solver = solve(alloc, p, 0, &mut steps).ok()?;
+    Some(is_consistent(&solver))
 }
 
 // The same of a problem by its text.
@@ -412,7 +465,7 @@ fn consistent(alloc: Global, problem: &str) -> Option<bool> {
 }
 
 // A question of a case, over a sink where each write succeeds.
-fn whole(case: &Case, question: Question) -> Asked<'static> {
+fn whole(case: &Case, question: Question, written: &'static str) -> Asked<'static> {
     Asked {
         problem: case.problem,
         from: case.from,
@@ -420,10 +473,7 @@ fn whole(case: &Case, question: Question) -> Asked<'static> {
         question,
         fails: &[],
         answer: Ok(()),
-        written: match question {
-            Question::Interval => case.interval,
-            Question::Order => case.order,
-        },
+        written,
     }
 }
 
@@ -431,8 +481,8 @@ fn whole(case: &Case, question: Question) -> Asked<'static> {
 fn intervals_and_orders(rt: HostRuntime) {
     let alloc = rt.alloc();
     for case in &CASES {
-        assert!(rt; pair_so(alloc, &whole(case, Question::Interval)) == Some(true));
-        assert!(rt; pair_so(alloc, &whole(case, Question::Order)) == Some(true));
+        assert!(rt; pair_so(alloc, &whole(case, Question::Interval, case.interval)) == Some(true));
+        assert!(rt; pair_so(alloc, &whole(case, Question::Order, case.order)) == Some(true));
     }
 }
 
@@ -443,7 +493,7 @@ const FAILING: [Asked<'static>; 4] = [
         to: 2,
         question: Question::Interval,
         fails: &[3],
-        answer: Err(Stop::WriteFault),
+        answer: Err(Failed),
         written: "interval 10.00",
     },
     Asked {
@@ -452,7 +502,7 @@ const FAILING: [Asked<'static>; 4] = [
         to: 3,
         question: Question::Interval,
         fails: &[1],
-        answer: Err(Stop::WriteFault),
+        answer: Err(Failed),
         written: "",
     },
     Asked {
@@ -461,7 +511,7 @@ const FAILING: [Asked<'static>; 4] = [
         to: 2,
         question: Question::Order,
         fails: &[2],
-        answer: Err(Stop::WriteFault),
+        answer: Err(Failed),
         written: "order b",
     },
     Asked {
@@ -470,7 +520,7 @@ const FAILING: [Asked<'static>; 4] = [
         to: 3,
         question: Question::Order,
         fails: &[4],
-        answer: Err(Stop::WriteFault),
+        answer: Err(Failed),
         written: "certificate 1\ncycle\n",
     },
 ];
@@ -504,7 +554,7 @@ fn times_by_a_clock(rt: HostRuntime) {
 #[test]
 fn proofs_of_intervals(rt: HostRuntime) {
     for case in &PROOFS {
-        assert!(rt; proof_so(rt.alloc(), case) == Some(true));
+        assert!(rt; pair_so(rt.alloc(), case) == Some(true));
     }
 }
 

@@ -8,6 +8,7 @@ use decl::Decl;
 use merging::write_merge;
 use ports::MemSink;
 use queries::Stop;
+use solver::solve;
 use std::alloc::Global;
 use std::marker::Brand;
 use std::sync::ledger::{Blank, Ledger};
@@ -90,7 +91,8 @@ fn merge<L: Ledger>(
     let messages = messages_in(alloc, logs).ok()?;
     let p = problem_of(alloc, decl, logs, &messages).ok()?;
     let mut steps = Steps::<L>::open(blank);
-    Some(write_merge(alloc, decl, logs, &p, out, &mut steps))
+    let solver = solve(alloc, &p, 0, &mut steps).ok()?;
+    Some(write_merge(alloc, decl, logs, &p, &solver, out))
 }
 
 // Whether logs are answered so over a sink where these writes fail, and written so far.

@@ -11,5 +11,5 @@ returns-in_default g c =
     unknown_name c.args.p.now c.args.first.now c.args.second.now _ _ c.finish.result c.in_default.ensures.none
     (closes_prints (IsOnly (codes "unknown event\n") UnknownEvent) (codes "unknown event\n") UnknownEvent c.finish.result _ _ (refl, refl) c.finish.ensures)
 
-pub returns-in-Ok : goal.returns-in-Ok
-returns-in-Ok g c = known_names c.args.p.now c.args.first.now c.args.second.now _ _ c.conclude.result _ _ c.in-Some.ensures.some.0 c.in-Some.ensures.some.1 c.conclude.ensures
+pub returns : goal.returns
+returns g c = known_names c.args.p.now c.args.first.now c.args.second.now _ _ c.solve_for.result _ _ c.in-Some.ensures.some.0 c.in-Some.ensures.some.1 c.solve_for.ensures

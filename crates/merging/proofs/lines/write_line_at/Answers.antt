@@ -23,7 +23,7 @@ write_event-requires-clause-label g c =
 pub returns : goal.returns
 returns g c =
     let d : Declaration = declaration_of c.args.decl.now in
-    let x : Times = times_by c.args.e.now.values in
+    let x : Times = times_by (g.N.Listing.listed c.args.names.now) c.args.e.now.values in
     let at : slice_get (placed_in c.args.events.now) c.args.place ≡ Some (placed_of c.index-events-place.result) = placed_at c.args.events.now c.args.place c.index-events-place.result c.requires.inside c.index-events-place.is in
-    let value : to_z w128 (of_z w128 c.value.result) ≡ x (nodes.Event c.args.place) = to_z-of_z w128 c.value.result (record { sfits = c.value.type_inv }) ∙ c.value.ensures in
+    let value : to_z w128 (of_z w128 c.value_at-value.result) ≡ x (nodes.Event c.args.place) = to_z-of_z w128 c.value_at-value.result (record { sfits = c.value_at-value.type_inv }) ∙ c.value_at-value.ensures in
     writes_as (ap (λ (v : ℤ). merge_line v (name_of d c.index-events-place.result.id) (placed_of c.index-events-place.result).seen.text) value ∙ ap (line_if d x c.args.place) (sym at)) c.write_event.ensures

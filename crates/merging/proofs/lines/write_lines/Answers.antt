@@ -11,7 +11,7 @@ use Rattle.merging.proofs.lines.write_lines.Goals as goal
 
 pub returns-in_err-write_line_at : goal.returns-in_err-write_line_at
 returns-in_err-write_line_at g c =
-    let line : ℕ → List ℕ = line_at (declaration_of c.args.decl.now) (times_by c.args.e.now.values) (placed_in c.args.events.now) in
+    let line : ℕ → List ℕ = line_at (declaration_of c.args.decl.now) (times_by (g.N.Listing.listed c.args.names.now) c.args.e.now.values) (placed_in c.args.events.now) in
     let order : List ℕ = c.args.order.now in
     let k : ℕ = c.loop-place.place-index in
     let at : slice_get order k ≡ Some (get_or order k 0) = slice_get-get_or order k 0 c.loop-place-test.true in
@@ -19,7 +19,7 @@ returns-in_err-write_line_at g c =
 
 pub loop-place-preserved : goal.loop-place-preserved
 loop-place-preserved g c =
-    let line : ℕ → List ℕ = line_at (declaration_of c.args.decl.now) (times_by c.args.e.now.values) (placed_in c.args.events.now) in
+    let line : ℕ → List ℕ = line_at (declaration_of c.args.decl.now) (times_by (g.N.Listing.listed c.args.names.now) c.args.e.now.values) (placed_in c.args.events.now) in
     let order : List ℕ = c.args.order.now in
     let k : ℕ = c.loop-place.place-index in
     let at : slice_get order k ≡ Some (get_or order k 0) = slice_get-get_or order k 0 c.loop-place-test.true in
@@ -27,5 +27,5 @@ loop-place-preserved g c =
 
 pub returns : goal.returns
 returns g c =
-    let line : ℕ → List ℕ = line_at (declaration_of c.args.decl.now) (times_by c.args.e.now.values) (placed_in c.args.events.now) in
+    let line : ℕ → List ℕ = line_at (declaration_of c.args.decl.now) (times_by (g.N.Listing.listed c.args.names.now) c.args.e.now.values) (placed_in c.args.events.now) in
     leaves_none (leaves_as (lines_none line c.args.order.now c.loop-place.place-index c.loop-place-test.false) c.loop-place.invariant)

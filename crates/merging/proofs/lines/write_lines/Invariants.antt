@@ -9,5 +9,5 @@ use Rattle.merging.proofs.lines.write_lines.Given as goal
 abbrev pub invariant-loop-place : goal.invariant-loop-place
 invariant-loop-place g l =
     Leaves (g.O.Sink.told l.initial.out) (g.O.Sink.told l.out)
-    (lines_of (declaration_of l.decl) (times_by l.e.values) (placed_in l.events) (drop l.place-index l.order))
-    (lines_of (declaration_of l.decl) (times_by l.e.values) (placed_in l.events) l.order)
+    (lines_of (declaration_of l.decl) (times_by (g.N.Listing.listed l.names) l.e.values) (placed_in l.events) (drop l.place-index l.order))
+    (lines_of (declaration_of l.decl) (times_by (g.N.Listing.listed l.names) l.e.values) (placed_in l.events) l.order)

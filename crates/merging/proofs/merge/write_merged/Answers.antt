@@ -18,26 +18,26 @@ keys_of-requires-clause-few g c = omega (arith, c.requires.events.limit, length-
 
 pub merge_order-requires-clause-differ : goal.merge_order-requires-clause-differ
 merge_order-requires-clause-differ g c =
-    let keys : c.deref.result.now ≡ keys_from (times_by c.args.e.now.values) 0 (placed_in c.args.events.now) = c.deref.ensures.value ∙ c.in_ok-keys.ensures in
-    subst AreApart (sym keys) (keys_apart (times_by c.args.e.now.values) 0 (placed_in c.args.events.now) c.requires.events.differ)
+    let keys : c.deref.result.now ≡ keys_from (times_by (g.N.Listing.listed c.args.names.now) c.args.e.now.values) 0 (placed_in c.args.events.now) = c.deref.ensures.value ∙ c.in_ok-keys.ensures in
+    subst AreApart (sym keys) (keys_apart (times_by (g.N.Listing.listed c.args.names.now) c.args.e.now.values) 0 (placed_in c.args.events.now) c.requires.events.differ)
 
 pub merge_order-requires-clause-few : goal.merge_order-requires-clause-few
 merge_order-requires-clause-few g c =
-    let keys : c.deref.result.now ≡ keys_from (times_by c.args.e.now.values) 0 (placed_in c.args.events.now) = c.deref.ensures.value ∙ c.in_ok-keys.ensures in
-    omega (arith, ap length keys, length_keys (times_by c.args.e.now.values) 0 (placed_in c.args.events.now), c.requires.events.limit)
+    let keys : c.deref.result.now ≡ keys_from (times_by (g.N.Listing.listed c.args.names.now) c.args.e.now.values) 0 (placed_in c.args.events.now) = c.deref.ensures.value ∙ c.in_ok-keys.ensures in
+    omega (arith, ap length keys, length_keys (times_by (g.N.Listing.listed c.args.names.now) c.args.e.now.values) 0 (placed_in c.args.events.now), c.requires.events.limit)
 
 pub write_ordered-requires-clause-inside : goal.write_ordered-requires-clause-inside
 write_ordered-requires-clause-inside g c =
-    let keys : c.deref.result.now ≡ keys_from (times_by c.args.e.now.values) 0 (placed_in c.args.events.now) = c.deref.ensures.value ∙ c.in_ok-keys.ensures in
+    let keys : c.deref.result.now ≡ keys_from (times_by (g.N.Listing.listed c.args.names.now) c.args.e.now.values) 0 (placed_in c.args.events.now) = c.deref.ensures.value ∙ c.in_ok-keys.ensures in
     let total : length c.deref.result.now ≡ length c.args.events.now =
-    ap length keys ∙ length_keys (times_by c.args.e.now.values) 0 (placed_in c.args.events.now) ∙ length-map c.args.events.now placed_of in
+    ap length keys ∙ length_keys (times_by (g.N.Listing.listed c.args.names.now) c.args.e.now.values) 0 (placed_in c.args.events.now) ∙ length-map c.args.events.now placed_of in
     let order : IsMergeOrder c.deref.result.now c.deref-2.result.now = subst (IsMergeOrder c.deref.result.now) (sym c.deref-2.ensures.value) c.in_ok-order.ensures in
     subst (λ (n : ℕ). All (λ (k : ℕ). k < n) c.deref-2.result.now) total (order_within c.deref.result.now c.deref-2.result.now order)
 
 pub returns-in_err-write_ordered : goal.returns-in_err-write_ordered
 returns-in_err-write_ordered g c =
     let d : Declaration = declaration_of c.args.decl.now in
-    let x : Times = times_by c.args.e.now.values in
+    let x : Times = times_by (g.N.Listing.listed c.args.names.now) c.args.e.now.values in
     let events : List Placed = placed_in c.args.events.now in
     let keys : c.deref.result.now ≡ keys_from x 0 events = c.deref.ensures.value ∙ c.in_ok-keys.ensures in
     let order : IsMergeOrder c.deref.result.now c.deref-2.result.now = subst (IsMergeOrder c.deref.result.now) (sym c.deref-2.ensures.value) c.in_ok-order.ensures in
@@ -49,7 +49,7 @@ returns-in_err-write_ordered g c =
 pub returns : goal.returns
 returns g c =
     let d : Declaration = declaration_of c.args.decl.now in
-    let x : Times = times_by c.args.e.now.values in
+    let x : Times = times_by (g.N.Listing.listed c.args.names.now) c.args.e.now.values in
     let events : List Placed = placed_in c.args.events.now in
     let keys : c.deref.result.now ≡ keys_from x 0 events = c.deref.ensures.value ∙ c.in_ok-keys.ensures in
     let order : IsMergeOrder c.deref.result.now c.deref-2.result.now = subst (IsMergeOrder c.deref.result.now) (sym c.deref-2.ensures.value) c.in_ok-order.ensures in
