@@ -13,9 +13,10 @@ use Rattle.problem.proofs.ListedNodes.{event_node, reading_node, map_at, stamp_o
 use Rattle.sync_graph.specs.InForce.{IsEarliestOf}
 use Rattle.sync_graph.specs.ListedStanding.{IsNodeBy, IsEventAt, StandsForListed}
 use Rattle.sync_graph.proofs.NodeNumbers.{events_count, number_below}
+use Rattle.row_pool.specs.Pool.{Pool}
 use Rattle.repair.specs.declared.slot.Slot.{Slot}
 use Rattle.engine.specs.Solver.{SolverLists}
-use Rattle.engine.specs.Changes.{KeepsAnswer}
+use Rattle.engine.specs.Changes.{KeepsAnswer, LeavesTaken}
 use Rattle.engine.specs.Current.{IsCurrent}
 use Rattle.solver.specs.Solution.{IsSolutionBy}
 use Rattle.queries.specs.Asking.{IsReadingAt, IsSourceReading}
@@ -27,6 +28,20 @@ goes_on l p old new keeps current solution = record {
   current = current;
   stands = λ readings are. subst (StandsForListed l p readings) (sym keeps.graph) (solution.stands readings are);
 }
+
+pub keeps_both : (old mid new : SolverLists) → KeepsAnswer old mid → KeepsAnswer mid new → KeepsAnswer old new
+keeps_both old mid new first second = record {
+  graph = second.graph ∙ first.graph;
+  earliest = second.earliest ∙ first.earliest;
+  contradiction = second.contradiction ∙ first.contradiction;
+}
+
+-- where nothing is done all stays
+pub keeps_all : (s : SolverLists) → KeepsAnswer s s
+keeps_all s = record { graph = refl; earliest = refl; contradiction = refl }
+
+pub leaves_all : (pool : Pool) → LeavesTaken pool pool
+leaves_all pool = record { width = refl; count = refl; taken = λ k. refl; cells = λ k taken. refl; free = refl }
 
 module _ (l : Listed) (p : ProblemLists) (s : SolverLists) (solution : IsSolutionBy l p s) where
   pub stands : StandsForListed l p (all_readings p.events) s.graph

@@ -1,5 +1,5 @@
 // The interval or the order of two events, or a contradiction.
-ghost use Rattle.std.specs.Prelude.{◌≡◌, ◌<◌, ℕ, List, length};
+ghost use Rattle.std.specs.Prelude.{◌≡◌, ◌<◌, ℕ, List, [], length};
 ghost use Rattle.problem_model.specs.declared.items.Node.TheVariants as nodes;
 ghost use Rattle.problem_model.specs.Problem.{ProblemLists};
 ghost use Rattle.ports.specs.Content.{Writes};
