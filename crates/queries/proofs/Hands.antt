@@ -1,7 +1,14 @@
 -- What is at hand takes no step.
-use Rattle.std.proofs.Common.{◌≡◌, ℕ, [], inl, inr}
+use Rattle.std.proofs.Common.{◌≡◌, ◌==◌, ℕ, false, List, [], length, inl, inr, ◌∙◌, subst}
+use Rattle.sync_graph.specs.declared.arc.Arc.{Arc}
 use Rattle.engine.specs.Solver.{SolverLists}
-use Rattle.queries.specs.Asking.{IsKept, IsAtHand, IsPairAtHand}
+use Rattle.queries.specs.Asking.{IsKept, HoldsContradiction, IsAtHand, IsPairAtHand}
+
+-- what is not empty is a contradiction that is held
+pub some_held : (s : SolverLists) (cycle : List Arc) → cycle ≡ s.contradiction → (length cycle == 0) ≡ false → HoldsContradiction s
+some_held s cycle is some none =
+    let wrong : (0 == 0) ≡ false = subst (λ (arcs : List Arc). (length arcs == 0) ≡ false) (is ∙ none) some in
+    let z : ⊥ = cc in z
 
 module _ (s : SolverLists) (none : s.contradiction ≡ []) (Same : Type 0) where
   -- where no contradiction is held the node is kept

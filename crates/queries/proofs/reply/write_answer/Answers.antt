@@ -6,12 +6,12 @@ use Rattle.queries.proofs.Solutions.{event_by, event_below}
 use Rattle.queries.proofs.Hands.{where_one_kept}
 use Rattle.queries.proofs.reply.write_answer.Goals as goal
 
-pub pair-requires-clause-p : goal.pair-requires-clause-p
-pair-requires-clause-p g c =
+pub pair-pair-requires-clause-p : goal.pair-pair-requires-clause-p
+pair-pair-requires-clause-p g c =
     event_below (g.N.Listing.listed c.args.names.now) c.requires.solution.0 c.args.solver.now c.requires.solution.1 c.requires.events.0 c.args.question.first c.requires.events.2
 
-pub pair-requires-clause-q : goal.pair-requires-clause-q
-pair-requires-clause-q g c =
+pub pair-pair-requires-clause-q : goal.pair-pair-requires-clause-q
+pair-pair-requires-clause-q g c =
     event_below (g.N.Listing.listed c.args.names.now) c.requires.solution.0 c.args.solver.now c.requires.solution.1 c.requires.events.1 c.args.question.second c.requires.events.3
 
 pub write_line-requires : goal.write_line-requires

@@ -3,7 +3,7 @@ use Rattle.std.proofs.lemmas.Option.{none-some}
 use Rattle.problem_model.specs.declared.items.Node.TheVariants as nodes
 use Rattle.problem.specs.Listing.{all_readings}
 use Rattle.queries.proofs.SomeReadings.{own_readings}
-use Rattle.queries.proofs.Solutions.{event_by, event_below, reading_by, reading_below, reading_is}
+use Rattle.queries.proofs.Solutions.{event_by, event_below, reading_by, reading_below, reading_is, slot_reading}
 use Rattle.queries.proofs.time.write_answer.Goals as goal
 
 pub source_pair-requires-clause-q : goal.source_pair-requires-clause-q
@@ -26,8 +26,8 @@ unreachable-requires g c =
     let source = c.requires.source.1 in
     none-some source.0 (sym c.in-None.ensures ∙ source.1)
 
-pub returns-in-Some : goal.returns-in-Some
-returns-in-Some g c = λ p clock place solution keeps source at.
+pub returns : goal.returns
+returns g c = λ p clock place solution keeps source at.
     let l = g.N.Listing.listed c.args.names.now in
     let s = c.args.solver.now in
     let rs = all_readings p.events in
