@@ -5,13 +5,13 @@ use Rattle.queries.proofs.SomeReadings.{own_readings}
 use Rattle.queries.proofs.Solutions.{event_by, event_below}
 use Rattle.commands.proofs.ends.interval.Goals as goal
 
-pub pair-requires-clause-p : goal.pair-requires-clause-p
-pair-requires-clause-p g c =
+pub pair-pair-requires-clause-p : goal.pair-pair-requires-clause-p
+pair-pair-requires-clause-p g c =
     let p = c.args.p.now in
     event_below (listing_of p) p c.args.solver.now c.requires.solution c.args.from c.args.from (c.args.from, own_event p c.readings.result.now c.events.ensures.lawful c.readings.ensures c.args.from c.requires.from)
 
-pub pair-requires-clause-q : goal.pair-requires-clause-q
-pair-requires-clause-q g c =
+pub pair-pair-requires-clause-q : goal.pair-pair-requires-clause-q
+pair-pair-requires-clause-q g c =
     let p = c.args.p.now in
     event_below (listing_of p) p c.args.solver.now c.requires.solution c.args.to c.args.to (c.args.to, own_event p c.readings.result.now c.events.ensures.lawful c.readings.ensures c.args.to c.requires.to)
 
