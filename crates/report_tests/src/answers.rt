@@ -405,10 +405,10 @@ fn ask_time<L: Ledger>(
     requires none { solver.old.kept.source ≡ None }
     requires free { 2 ≤ free_rows solver.old.pool }
 {
-    let (stamp, node) = reading_by(p, case.clock)?;
+    let reading = reading_by(p, case.clock)?;
     let event = node_of(p, case.event)?;
-    solver.keep_source(node, steps);
-    Some(write_time(p, solver, stamp, event, out))
+    solver.keep_source(reading.1, steps);
+    Some(write_time(p, solver, reading.0, event, out))
 }
 
 // Whether the time of an event is answered so.
