@@ -1,5 +1,5 @@
 -- The certificate of a contradiction that is held shows it.
-use Rattle.std.proofs.Common.{◌≡◌, List, map, ap, subst}
+use Rattle.std.proofs.Common.{◌≡◌, List, subst}
 use Rattle.std.specs.Prelude.{All}
 use Rattle.problem_model.specs.Problem.{ProblemLists}
 use Rattle.problem_model.specs.Nodes.{nodes_of}

@@ -15,7 +15,6 @@ use Rattle.intervals.specs.Executions.{difference, time_by, AreEndsOf, IsOrderOf
 use Rattle.attain.specs.Tight.{IsTightText}
 use Rattle.queries.specs.declared.question.Asked.{Asked}
 use Rattle.queries.specs.declared.question.Asked.TheVariants as asked
-use Rattle.queries.specs.declared.question.Question.{Question}
 use Rattle.queries.specs.Words.{end_word, order_word}
 
 -- the line has the least and the greatest difference from one event to another over all executions
@@ -46,10 +45,6 @@ IsProofText p first second text = (readings : List Reading) × AreReadings p rea
 abbrev pub IsLineOf : Asked → ProblemLists → ℕ → ℕ → List ℕ → Type 0
 IsLineOf asked.Interval = IsIntervalLine
 IsLineOf asked.Order = IsOrderLine
-
--- the line answers the question
-abbrev pub IsAnswer : ProblemLists → Question → List ℕ → Type 0
-IsAnswer p question = IsLineOf question.asked p question.first question.second
 
 -- no real times obey the bounds, and the text is the certificate of a contradiction of at most as many steps as nodes
 abbrev pub IsContradictionText : ProblemLists → List ℕ → Type 0

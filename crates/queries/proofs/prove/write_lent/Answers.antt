@@ -1,4 +1,4 @@
-use Rattle.std.proofs.Common.{◌≡◌, sym, ◌∙◌, subst}
+use Rattle.std.proofs.Common.{sym, ◌∙◌, subst}
 use Rattle.row_pool.specs.Pool.{Pool}
 use Rattle.engine.specs.Changes.{LeavesTaken}
 use Rattle.engine.specs.Lending.{lent_slot}

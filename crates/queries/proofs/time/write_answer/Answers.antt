@@ -1,4 +1,4 @@
-use Rattle.std.proofs.Common.{◌≡◌, sym, ◌∙◌, inl}
+use Rattle.std.proofs.Common.{sym, ◌∙◌, inl}
 use Rattle.std.proofs.lemmas.Option.{none-some}
 use Rattle.problem_model.specs.declared.items.Node.TheVariants as nodes
 use Rattle.problem.specs.Listing.{all_readings}
