@@ -1,5 +1,5 @@
 -- Two rows that are lent, and rows that are given back.
-use Rattle.std.proofs.Common.{◌≡◌, ◌≢◌, ◌<◌, ◌≤◌, ◌+◌, ℕ, Bool, true, false, List, [], ◌∷◌, length, get_or, All, refl, sym, ap, subst, ◌∙◌, inl, inr, arith, length-set}
+use Rattle.std.proofs.Common.{◌≡◌, ◌≢◌, ◌<◌, ◌+◌, ℕ, true, false, List, [], length, get_or, All, refl, sym, ap, subst, ◌∙◌, inl, inr, arith, length-set}
 use Rattle.std.specs.Prelude.{ℤ, Option}
 use Rattle.std.proofs.lemmas.Bool.{cases_eq}
 use Rattle.std.proofs.lemmas.List.Elements.{All-tail}
@@ -20,7 +20,7 @@ use Rattle.repair.proofs.Taking.{apart_of, marked_own, marked_other, marked_free
 use Rattle.engine.specs.declared.loan.Lent.{Lent}
 use Rattle.engine.specs.Solver.{SolverLists}
 use Rattle.engine.specs.Current.{IsCurrent}
-use Rattle.engine.specs.Lending.{IsOfNoSlot, IsLent}
+use Rattle.engine.specs.Lending.{IsLent}
 use Rattle.engine.proofs.Lending.{free_same}
 use Rattle.engine.proofs.Staying.{with_rows, current_with_rows, rows_now}
 

@@ -1,4 +1,4 @@
-use Rattle.std.proofs.Common.{◌≡◌, ◌==◌, List, Option, length, slice_get, sym, ap, subst, ◌∙◌}
+use Rattle.std.proofs.Common.{◌==◌, List, Option, slice_get, sym, ap, ◌∙◌}
 use Rattle.std.specs.Prelude.{find}
 use Rattle.repair.specs.declared.slot.Slot.{Slot}
 use Rattle.repair.specs.Slots.{KeptRows, slots_in, slot_of}
