@@ -12,5 +12,6 @@ mod repair;
 mod row;
 mod settle;
 
+pub use relax::{far_end, next_arc, relax_arc, relax_arcs};
 pub use repair::{repair_from, repair_to};
 pub use row::{row_from, row_to};

@@ -33,8 +33,8 @@ pub fn far_end(arc: &Arc, outward: bool) -> u32
     if outward { arc.to } else { arc.from }
 }
 
-// The number of the arc at place `k` of those that are followed from a node, in one step.
-fn next_arc<L: Ledger>(
+/// The number of the arc at place `k` of those that are followed from a node, in one step.
+pub fn next_arc<L: Ledger>(
     g: &Graph,
     outward: bool,
     node: u32,
@@ -151,9 +151,9 @@ pub fn candidate_along(g: &Graph, outward: bool, arc: u32, base: i128) -> Candid
     }
 }
 
-// Gives the end of an arc the distance along it from a node at distance `base`, and lets it wait, where that is
-// shorter.
-fn relax_arc(
+/// Gives the end of an arc the distance along it from a node at distance `base`, and lets it wait, where that is
+/// shorter.
+pub fn relax_arc(
     g: &Graph,
     e: &Earliest,
     outward: bool,

@@ -4,4 +4,5 @@ pub mod Looking
 pub mod Renewing
 pub mod Slotting
 pub mod Taking
+pub mod Withdrawing
 pub mod Writing

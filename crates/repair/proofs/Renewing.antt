@@ -17,7 +17,7 @@ use Rattle.repair.specs.Renewals.{Renews, Repairs, insertion_steps}
 abbrev Misses : ℕ → Slot → Type 0
 Misses k slot = (slot.from ≢ k) × (slot.to ≢ k)
 
-pairs-head : (slot : Slot) (rest : List Slot) → AllPairs AreApart (slot ∷ rest) → All (AreApart slot) rest
+pub pairs-head : (slot : Slot) (rest : List Slot) → AllPairs AreApart (slot ∷ rest) → All (AreApart slot) rest
 pairs-head slot rest pairs k d below = pairs 0 (suc k) d (omega arith) (let b : suc k < suc (length rest) = omega arith in b)
 
 pairs-tail : (slot : Slot) (rest : List Slot) → AllPairs AreApart (slot ∷ rest) → AllPairs AreApart rest
@@ -35,15 +35,15 @@ one : (slot : Slot) (k : ℕ) → Misses k slot → All (Misses k) (slot ∷ [])
 one slot k misses = All-cons (Misses k) slot [] misses (All-nil (Misses k))
 
 -- one slot's rows are as in the other pool
-abbrev IsSame : Pool → Pool → Slot → Type 0
+abbrev pub IsSame : Pool → Pool → Slot → Type 0
 IsSame old new slot = (row_of new slot.from ≡ row_of old slot.from) × (row_of new slot.to ≡ row_of old slot.to)
 
-others_same : (slot : Slot) (rest : List Slot) (old mid : Pool) → All (AreApart slot) rest → ChangesRowsOf (slot ∷ []) old mid → All (IsSame old mid) rest
+pub others_same : (slot : Slot) (rest : List Slot) (old mid : Pool) → All (AreApart slot) rest → ChangesRowsOf (slot ∷ []) old mid → All (IsSame old mid) rest
 others_same slot rest old mid apart changes =
     All-weaker (AreApart slot) (IsSame old mid)
     (λ other a. (changes.others other.from (one slot other.from (a.from_from, a.to_from)), changes.others other.to (one slot other.to (a.from_to, a.to_to)))) rest apart
 
-rows_same : (nodes : ℕ) (table : ArcTable) (old new : Pool) (slot : Slot) → IsSame old new slot → IsRowsOf nodes table old slot → IsRowsOf nodes table new slot
+pub rows_same : (nodes : ℕ) (table : ArcTable) (old new : Pool) (slot : Slot) → IsSame old new slot → IsRowsOf nodes table old slot → IsRowsOf nodes table new slot
 rows_same nodes table old new slot same rows = record {
   from = subst (λ (cs : List Cell). IsRow nodes table slot.node (cells_of cs)) (sym same.0) rows.from;
   to = subst (λ (cs : List Cell). IsRow nodes (reversed_table table) slot.node (cells_of cs)) (sym same.1) rows.to;
@@ -51,7 +51,7 @@ rows_same nodes table old new slot same rows = record {
   blank_to = subst AreBlank (sym same.1) rows.blank_to;
 }
 
-both : (P Q R : Slot → Type 0) (slots : List Slot) → ((slot : Slot) → P slot → Q slot → R slot) → All P slots → All Q slots → All R slots
+pub both : (P Q R : Slot → Type 0) (slots : List Slot) → ((slot : Slot) → P slot → Q slot → R slot) → All P slots → All Q slots → All R slots
 both P Q R slots join p q k d below = join (get_or slots k d) (p k d below) (q k d below)
 
 -- the rest has its own rows still
@@ -145,7 +145,7 @@ renews_one g slot old mid is changes = record {
   changes = changes;
 }
 
-steps_of_one : (f : Slot → ℕ) (slot : Slot) → sum_by f (slot ∷ []) ≡ f slot
+pub steps_of_one : (f : Slot → ℕ) (slot : Slot) → sum_by f (slot ∷ []) ≡ f slot
 steps_of_one f slot = let all : sum_by f (slot ∷ []) ≡ f slot + 0 = sum_by-cons f slot [] in omega (arith, all)
 
 pub repairs_one : (g : GraphLists) (slot : Slot) (old mid : Pool) (before between : ℕ) → IsRowsOf (length g.nodes) (table_of g) mid slot → ChangesRowsOf (slot ∷ []) old mid
@@ -164,7 +164,7 @@ changes_then slots old mid new first then = record {
   others = λ k misses. then.others k misses ∙ first.others k (All-nil (Misses k));
 }
 
-unchanged : (slots : List Slot) (old mid : Pool) → ChangesRowsOf [] old mid → All (IsSame old mid) slots
+pub unchanged : (slots : List Slot) (old mid : Pool) → ChangesRowsOf [] old mid → All (IsSame old mid) slots
 unchanged slots old mid changes k d below =
     let slot : Slot = get_or slots k d in
     (changes.others slot.from (All-nil (Misses slot.from)), changes.others slot.to (All-nil (Misses slot.to)))

@@ -11,12 +11,14 @@ ghost use Rattle.row_pool.specs.Pool.{free_rows};
 ghost use Rattle.repair.specs.Slots.{nothing_kept, with_presence, with_room, slot_of, all_slots, AreNodes, AreOwnRows, AreRowsOf, AreRowsBut, ChangesRowsOf};
 ghost use Rattle.repair.specs.Keeping.{TakesRows, with_slot, with_source, IsPlaceOf, IsRefused};
 ghost use Rattle.repair.specs.Renewals.{TakesFewSteps};
+ghost use Rattle.repair.specs.Withdrawals.{WereRows, TakesFewToWithdraw};
 ghost use Rattle.repair.specs.Pairs.{IsPairIn};
 
 use crate::keep::{KeepError, new_slot};
 use crate::look::look_in;
 use crate::renew::{make_all, make_source, repair_all, repair_source};
 use crate::slot::{Slot, find_slot, place_of};
+use crate::withdrawal::{lay_out, withdraw_all, withdraw_source};
 use arrayvec::ArrayVec;
 use atto::Steps;
 use earliest::Earliest;
@@ -25,7 +27,7 @@ use row_pool::{Pair, RowId, RowPool};
 use std::alloc::{AllocError, Global};
 use std::marker::Model;
 use std::sync::ledger::Ledger;
-use sync_graph::Graph;
+use sync_graph::{Arc, Graph};
 
 /// Up to eight nodes of events and the node of the source's clock, each with two rows of a pool. It is seen as these slots,
 /// with whether their rows are those of the graph, and with the room for the nodes of a graph.
@@ -275,6 +277,64 @@ impl Kept {
     {
         repair_source(&self.source, g, e, arc, pool, front, steps);
         repair_all(&self.slots, g, e, arc, pool, front, steps);
+        self.present = true;
+    }
+
+    /// Repairs the rows of all slots once arcs were withdrawn: they were those of the graph before, and are those of the
+    /// graph now. `removed` are these arcs, or more; `e` is the earliest execution of the graph. It takes no memory, since
+    /// room was reserved for all nodes.
+    ///
+    /// A node is affected in a row where its path by parents had an arc that equals one of those removed. There are few
+    /// steps: for each row two, and for each node that is affected in it five and two for each arc in force that reaches or
+    /// leaves it.
+    pub fn after_withdraw<L: Ledger>(
+        &mut self,
+        g: &Graph,
+        e: &Earliest,
+        removed: &[Arc],
+        pool: &mut RowPool,
+        front: &mut Frontier,
+        steps: &mut Steps<L>,
+    )
+        requires own { AreOwnRows self.old pool.old }
+        requires before { WereRows g.now removed.now pool.old (all_slots self.old) }
+        requires solved { e.now.is_solved ≡ true }
+        requires earliest { IsEarliestOf g.now e.now.values }
+        requires wide { length g.now.nodes ≤ pool.old.width }
+        requires found { length g.now.nodes ≤ self.old.room }
+        requires empty { IsEmpty front.old }
+        requires room { length g.now.nodes ≤ length front.old }
+        ensures slots { self.new ≡ with_presence self.old true }
+        ensures own { AreOwnRows self.new pool.new }
+        ensures rows { AreRowsOf g.now self.new pool.new }
+        ensures others { ChangesRowsOf (all_slots self.old) pool.old pool.new }
+        ensures few { TakesFewToWithdraw g.now removed.now (all_slots self.old) pool.old steps.old steps.new }
+        ensures empty { IsEmpty front.new }
+        ensures front { length front.new ≡ length front.old }
+    {
+        g.exact();
+        lay_out(&mut self.found, g.nodes());
+        withdraw_source(
+            &self.source,
+            g,
+            e,
+            removed,
+            pool,
+            &mut self.found,
+            front,
+            steps,
+        );
+        withdraw_all(
+            &self.slots,
+            g,
+            e,
+            removed,
+            pool,
+            &mut self.found,
+            front,
+            steps,
+        );
+        self.found.clear();
         self.present = true;
     }
 }

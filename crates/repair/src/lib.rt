@@ -2,7 +2,8 @@
 //!
 //! Each kept node has two rows of a pool, one of the distances from it and one of those towards it. While an execution
 //! exists they are the rows of the present graph, so that a greatest difference of a kept node is looked up and not
-//! computed. After an arc that was brought in each row is repaired, and only nodes whose distance it shortens are taken.
+//! computed. After an arc that was brought in each row is repaired, and only nodes whose distance it shortens are taken;
+//! once arcs are withdrawn, only nodes whose path had one of them.
 #![tactic(auto)]
 
 mod keep;
@@ -11,6 +12,7 @@ mod laws;
 mod look;
 mod renew;
 mod slot;
+mod withdrawal;
 
 pub use keep::{KeepError, new_slot};
 pub use kept::Kept;

@@ -11,8 +11,8 @@ ghost use Rattle.row_withdrawal.specs.Withdrawals.{IsRemoved};
 ghost use Rattle.row_withdrawal.specs.Clearings.{IsRowBefore, IsMarkingOf, IsChildBy, IsChildOf, IsClearedAt, IsClearedIf};
 ghost use Rattle.row_withdrawal.specs.Pulling.{onward};
 
-use crate::relax::{far_end, next_arc};
 use atto::Steps;
+use distances::{far_end, next_arc};
 use row_pool::Cell;
 use std::sync::ledger::Ledger;
 use sync_graph::{Arc, Graph};

@@ -9,7 +9,6 @@
 mod affected;
 pub mod laws;
 mod regrow;
-mod relax;
 mod withdraw;
 
 pub use withdraw::{withdraw_from, withdraw_to};

@@ -14,8 +14,8 @@ ghost use Rattle.distances.specs.Relaxed.{waits_of, AreKeyed};
 ghost use Rattle.distances.specs.Changes.{AreBlank, steps_of_changes};
 ghost use Rattle.row_withdrawal.specs.Pulling.{onward, AreSmallAtRest, IsIdle, IsPulledBy, IsTryingIn, IsPullingIn};
 
-use crate::relax::{far_end, next_arc, relax_arc, relax_arcs};
 use atto::Steps;
+use distances::{far_end, next_arc, relax_arc, relax_arcs};
 use earliest::Earliest;
 use frontier::Frontier;
 use row_pool::Cell;

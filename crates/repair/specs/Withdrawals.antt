@@ -1,0 +1,37 @@
+-- Kept rows once arcs are withdrawn, and the steps that it takes.
+use Rattle.std.specs.Prelude.{◌≡◌, ℕ, ◌+◌, ◌*◌, ◌≤◌, Bool, true, List, length, sum_by, All}
+use Rattle.falls.specs.Withdrawals.{flagged_sum}
+use Rattle.sync_graph.specs.declared.arc.Arc.{Arc}
+use Rattle.sync_graph.specs.Graph.{GraphLists, table_of, reaching, departing}
+use Rattle.row_pool.specs.Pool.{Pool, row_of}
+use Rattle.row_withdrawal.specs.Withdrawals.{AreWithdrawn, IsAffectedFrom, IsAffectedTo}
+use Rattle.repair.specs.declared.slot.Slot.{Slot}
+use Rattle.repair.specs.Slots.{IsRowsOf}
+use Rattle.repair.specs.Renewals.{Renews}
+
+-- the rows of these slots were those of the graph before the arcs were withdrawn
+abbrev pub WereRows : GraphLists → List Arc → Pool → List Slot → Type 0
+WereRows g removed pool slots = (before : GraphLists) × AreWithdrawn before removed g × All (IsRowsOf (length before.nodes) (table_of before) pool) slots
+
+-- the flags of the row of this number mark each node whose path by parents there has a removed arc
+pub record MarksAffected (g : GraphLists) (removed : List Arc) (pool : Pool) (marks : ℕ → ℕ → Bool) (slot : Slot) : Type 0 where
+  pub from : (k : ℕ) → IsAffectedFrom g removed slot.node (row_of pool slot.from) k → marks slot.from k ≡ true
+  pub to : (k : ℕ) → IsAffectedTo g removed slot.node (row_of pool slot.to) k → marks slot.to k ≡ true
+
+-- two, and for each marked node five and two for each arc in force that reaches or leaves it
+abbrev pub steps_of_marked : GraphLists → (ℕ → Bool) → ℕ
+steps_of_marked g marked = flagged_sum (length g.nodes) (λ k. 2 * (reaching g k + departing g k) + 5) marked + 2
+
+-- so many for each of both rows
+abbrev pub withdrawal_steps : GraphLists → (ℕ → ℕ → Bool) → Slot → ℕ
+withdrawal_steps g marks slot = steps_of_marked g (marks slot.from) + steps_of_marked g (marks slot.to)
+
+-- the steps before and after are that far apart at most, whichever flags mark the affected nodes of each row
+abbrev pub TakesFewToWithdraw : GraphLists → List Arc → List Slot → Pool → ℕ → ℕ → Type 0
+TakesFewToWithdraw g removed slots old before after =
+    (marks : ℕ → ℕ → Bool) → All (MarksAffected g removed old marks) slots → after ≤ (before + sum_by (withdrawal_steps g marks) slots)
+
+-- the rows of these slots are repaired in few steps
+pub record Withdraws (g : GraphLists) (removed : List Arc) (slots : List Slot) (old new : Pool) (before after : ℕ) : Type 0 where
+  pub renews : Renews g slots old new
+  pub few : TakesFewToWithdraw g removed slots old before after
