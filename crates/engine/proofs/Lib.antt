@@ -7,3 +7,4 @@ mod Telling
 mod KeptSlots
 mod Asked
 mod Loans
+mod Cutting

@@ -4,3 +4,4 @@ pub mod Changes
 pub mod Costs
 pub mod Pushed
 pub mod Lending
+pub mod Withdrawn

@@ -21,6 +21,7 @@ use sync_graph::{Arc, Graph};
 /// each call that answers no want of memory all of it is of the present graph; after want of memory it is used no more.
 #[derive(Drop)]
 pub struct Solver {
+    pub(crate) alloc: Global,
     pub(crate) graph: Graph,
     pub(crate) earliest: Earliest,
     // Empty exactly where there is an execution.
@@ -50,6 +51,7 @@ impl Solver {
         let graph = Graph::new(alloc);
         graph.exact();
         Solver {
+            alloc,
             graph,
             earliest: Earliest::new(alloc),
             contradiction: Vec::new(alloc),

@@ -1,20 +1,33 @@
 // Arcs that go.
-ghost use Rattle.std.specs.Prelude.{◌≡◌, ◌≢◌, ◌<◌, ℕ, false, true, All, AllPairs, Contains, length, slice_index_or, OnOk};
+ghost use Rattle.std.specs.Prelude.{◌≡◌, ◌≢◌, ◌<◌, ◌++◌, ◌∷◌, [], ℕ, ℤ, List, false, true, All, AllPairs, Contains, length, slice_index_or, IfOk, OnOk};
 ghost use Rattle.sync_graph.specs.Graph.{arc_at};
 ghost use Rattle.sync_graph.specs.InForce.{IsEarliestOf};
+ghost use Rattle.earliest.specs.Withdrawn.{IsEarliestWith};
+ghost use Rattle.row_withdrawal.specs.Withdrawals.{AreWithdrawn};
 ghost use Rattle.engine.specs.Changes.{KeepsSlots, withdrawn};
+ghost use Rattle.engine.specs.Costs.{TakesFewToWithdrawAll};
 ghost use Rattle.engine.specs.Current.{IsCurrent, IsSetUp};
+ghost use Rattle.engine.specs.Withdrawn.{arcs_numbered, IsCutDown};
 
 use crate::solver::Solver;
 use atto::Steps;
 use earliest::Inserted;
-use std::alloc::AllocError;
+use earliest::laws::removals;
+use problem_model::Bound;
+use row_withdrawal::laws::withdrawals;
+use std::alloc::{AllocError, Global};
 use std::sync::ledger::Ledger;
 use sync_graph::{Arc, Graph};
 
 impl Solver {
-    /// Takes arcs in force out of force, which are given by their numbers, each once. Where there was an execution, or a
-    /// withdrawn arc was one of the contradiction, values and rows are made anew; else the contradiction stands.
+    /// Takes arcs in force out of force, which are given by their numbers, each once. Where there was an execution there is
+    /// one still, and values and rows are repaired; where a withdrawn arc was one of the contradiction they are made anew;
+    /// else the contradiction stands.
+    ///
+    /// Where there was an execution there are few steps: two for the values and for each row, and for each node that is
+    /// affected there five and two for each arc in force that reaches or leaves it. A node is affected in the values where a
+    /// chain of arcs that the values before meet exactly starts at it and ends by a withdrawn one, and in a row where its
+    /// path by parents had a withdrawn one. Without numbers there is no step, and nothing is changed.
     pub fn withdraw<L: Ledger>(
         &mut self,
         numbers: &[u32],
@@ -28,23 +41,88 @@ impl Solver {
         ensures in_force { self.new.graph.in_force ≡ withdrawn self.old.graph.in_force numbers.now }
         ensures current { OnOk result (IsCurrent self.new) }
         ensures slots { OnOk result (KeepsSlots self.old self.new) }
+        ensures solved { self.old.earliest.is_solved ≡ true → OnOk result (self.new.earliest.is_solved ≡ true) }
+        ensures steps { self.old.earliest.is_solved ≡ true
+            → TakesFewToWithdrawAll self.old self.new (arcs_numbered self.old.graph numbers.now) steps.old steps.new }
+        ensures unchanged { numbers.now ≡ [] → self.new ≡ self.old }
+        ensures nothing { numbers.now ≡ [] → steps.new ≡ steps.old }
+    {
+        if numbers.is_empty() {
+            return Ok(());
+        }
+        if self.earliest.solved() {
+            return self.cut_down(numbers, steps);
+        }
+        self.loosen(numbers, steps)
+    }
+
+    // Takes arcs out of force where there is a contradiction. One that has none of them stands, and else all is made anew.
+    fn loosen<L: Ledger>(&mut self, numbers: &[u32], steps: &mut Steps<L>) -> Result<(), AllocError>
+        requires current { IsCurrent self.old }
+        requires unsolved { self.old.earliest.is_solved ≡ false }
+        requires in_force { All (λ k. slice_index_or self.old.graph.in_force k false ≡ true) numbers.now }
+        requires differ { AllPairs (λ j k. j ≢ k) numbers.now }
+        ensures nodes { self.new.graph.nodes ≡ self.old.graph.nodes }
+        ensures arcs { self.new.graph.arcs ≡ self.old.graph.arcs }
+        ensures in_force { self.new.graph.in_force ≡ withdrawn self.old.graph.in_force numbers.now }
+        ensures current { OnOk result (IsCurrent self.new) }
+        ensures slots { OnOk result (KeepsSlots self.old self.new) }
     {
         take_out(&mut self.graph, numbers);
         self.graph.exact();
-        if self.stands(numbers) {
+        if !are_met(&self.graph, numbers, &self.contradiction) {
             return Ok(());
         }
         self.make_anew(steps)?;
         Ok(())
     }
 
-    // Whether there is a contradiction that has none of the arcs of these numbers.
-    fn stands(&self, numbers: &[u32]) -> bool
-        requires { All (λ k. k < length self.now.graph.arcs) numbers.now }
-        ensures unsolved { result ≡ true → self.now.earliest.is_solved ≡ false }
-        ensures apart { result ≡ true → All (λ k. Contains self.now.contradiction (arc_at self.now.graph.arcs k) → ⊥) numbers.now }
+    // Takes arcs out of force where there is an execution, and repairs all that is held.
+    fn cut_down<L: Ledger>(
+        &mut self,
+        numbers: &[u32],
+        steps: &mut Steps<L>,
+    ) -> Result<(), AllocError>
+        requires current { IsCurrent self.old }
+        requires solved { self.old.earliest.is_solved ≡ true }
+        requires in_force { All (λ k. slice_index_or self.old.graph.in_force k false ≡ true) numbers.now }
+        requires differ { AllPairs (λ j k. j ≢ k) numbers.now }
+        ensures nodes { self.new.graph.nodes ≡ self.old.graph.nodes }
+        ensures arcs { self.new.graph.arcs ≡ self.old.graph.arcs }
+        ensures in_force { self.new.graph.in_force ≡ withdrawn self.old.graph.in_force numbers.now }
+        ensures current { OnOk result (IsCurrent self.new) }
+        ensures slots { OnOk result (KeepsSlots self.old self.new) }
+        ensures solved { OnOk result (self.new.earliest.is_solved ≡ true) }
+        ensures steps { TakesFewToWithdrawAll self.old self.new (arcs_numbered self.old.graph numbers.now) steps.old steps.new }
     {
-        !self.earliest.solved() && !are_met(&self.graph, numbers, &self.contradiction)
+        self.graph.exact();
+        let listed = list_arcs(self.alloc, &self.graph, numbers);
+        take_out(&mut self.graph, numbers);
+        self.graph.exact();
+        let removed = listed?;
+        self.repair(&removed, steps);
+        Ok(())
+    }
+
+    // Repairs the values and the kept rows once these arcs are out of force.
+    fn repair<L: Ledger>(&mut self, removed: &[Arc], steps: &mut Steps<L>)
+        requires { IsCutDown removed.now self.old }
+        ensures graph { self.new.graph ≡ self.old.graph }
+        ensures current { IsCurrent self.new }
+        ensures slots { KeepsSlots self.old self.new }
+        ensures solved { self.new.earliest.is_solved ≡ true }
+        ensures steps { TakesFewToWithdrawAll self.old self.new removed.now steps.old steps.new }
+    {
+        self.earliest
+            .withdraw(&self.graph, removed, &mut self.front, steps);
+        self.kept.after_withdraw(
+            &self.graph,
+            &self.earliest,
+            removed,
+            &mut self.pool,
+            &mut self.front,
+            steps,
+        );
     }
 
     // Makes the values and the kept rows anew, from any state.
@@ -81,6 +159,34 @@ impl Solver {
     }
 }
 
+// The arcs of these numbers.
+fn list_arcs(alloc: Global, g: &Graph, numbers: &[u32]) -> Result<Vec<Arc>, AllocError>
+    requires { All (λ k. k < length g.now.arcs) numbers.now }
+    ensures { IfOk result (λ arcs. arcs.items ≡ arcs_numbered g.now numbers.now) }
+{
+    let mut arcs = Vec::new(alloc);
+    for k in numbers {
+        list_arc(&mut arcs, g, *k)?;
+    }
+    Ok(arcs)
+}
+
+// Appends the arc of a number.
+fn list_arc(arcs: &mut Vec<Arc>, g: &Graph, number: u32) -> Result<(), AllocError>
+    requires { number < length g.now.arcs }
+    ensures { OnOk result (arcs.new.items ≡ arcs.old.items ++ arc_at g.now.arcs number ∷ []) }
+{
+    let a = g.arc(number);
+    let name: Bound = a.name;
+    arcs.push(Arc {
+        from: a.from,
+        to: a.to,
+        weight: a.weight,
+        name,
+    })?;
+    Ok(())
+}
+
 // Takes the arcs of these numbers out of force.
 fn take_out(g: &mut Graph, numbers: &[u32])
     requires in_force { All (λ k. slice_index_or g.old.in_force k false ≡ true) numbers.now }
@@ -88,9 +194,15 @@ fn take_out(g: &mut Graph, numbers: &[u32])
     ensures nodes { g.new.nodes ≡ g.old.nodes }
     ensures arcs { g.new.arcs ≡ g.old.arcs }
     ensures in_force { g.new.in_force ≡ withdrawn g.old.in_force numbers.now }
+    ensures values { (values : List ℤ) → IsEarliestOf g.old values → IsEarliestWith g.new (arcs_numbered g.old numbers.now) values }
+    ensures rows { AreWithdrawn g.old (arcs_numbered g.old numbers.now) g.new }
 {
+    removals();
+    withdrawals();
+    g.exact();
     for k in numbers {
         g.withdraw(*k);
+        g.exact();
     }
 }
 

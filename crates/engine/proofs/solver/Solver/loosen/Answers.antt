@@ -1,5 +1,7 @@
-use Rattle.std.proofs.Common.{◌≡◌, ℕ, true, false, get_or, All, refl, sym, ap, subst, ◌∙◌}
-use Rattle.sync_graph.specs.Graph.{GraphLists}
+use Rattle.std.proofs.Common.{◌≡◌, ℕ, true, false, List, get_or, All, refl, sym, ap, subst, ◌∙◌}
+use Rattle.std.specs.Prelude.{Contains}
+use Rattle.sync_graph.specs.declared.arc.Arc.{Arc}
+use Rattle.sync_graph.specs.Graph.{GraphLists, arc_at}
 use Rattle.repair.specs.Slots.{all_slots}
 use Rattle.engine.specs.Solver.{SolverLists}
 use Rattle.engine.specs.Changes.{KeepsSlots, withdrawn}
@@ -7,10 +9,10 @@ use Rattle.engine.specs.Current.{IsCurrent}
 use Rattle.engine.specs.contracts.solver.Solver.{the_view}
 use Rattle.engine.proofs.Fewer.{set_up_without, current_without, numbers_below}
 use Rattle.engine.proofs.KeptSlots.{keeps_slots, keeps_after, rows_as_before}
-use Rattle.engine.proofs.solver.Solver.withdraw.Goals as goal
+use Rattle.engine.proofs.solver.Solver.loosen.Goals as goal
 
-pub stands-requires : goal.stands-requires
-stands-requires g c =
+pub are_met-requires : goal.are_met-requires
+are_met-requires g c =
     let s : SolverLists = the_view c.self.inside in
     let current : IsCurrent s = subst IsCurrent (sym c.self.view_is) c.requires.current in
     let all : All (λ (k : ℕ). get_or s.graph.in_force k false ≡ true) c.args.numbers.now = subst (λ (x : SolverLists). All (λ (k : ℕ). get_or x.graph.in_force k false ≡ true) c.args.numbers.now) (sym c.self.view_is) c.requires.in_force in
@@ -22,15 +24,16 @@ make_anew-requires g c =
     let current : IsCurrent s = subst IsCurrent (sym c.self.view_is) c.requires.current in
     set_up_without s c.take_out.new.g c.args.numbers.now current.set_up c.exact.ensures c.take_out.ensures.nodes c.take_out.ensures.arcs c.take_out.ensures.in_force
 
-pub returns-then-stands-clause-current : goal.returns-then-stands-clause-current
-returns-then-stands-clause-current g c =
+pub returns-then-not-are_met-clause-current : goal.returns-then-not-are_met-clause-current
+returns-then-not-are_met-clause-current g c =
     let s : SolverLists = the_view c.self.inside in
     let current : IsCurrent s = subst IsCurrent (sym c.self.view_is) c.requires.current in
     current_without s c.take_out.new.g c.args.numbers.now current.set_up c.exact.ensures c.take_out.ensures.nodes c.take_out.ensures.arcs c.take_out.ensures.in_force
-    (c.stands.ensures.apart c.if-stands.true) current (c.stands.ensures.unsolved c.if-stands.true)
+    (subst (λ (steps : List Arc). All (λ (k : ℕ). Contains steps (arc_at c.take_out.new.g.arcs k) → ⊥) c.args.numbers.now) c.deref.ensures.value (c.are_met.ensures c.if-not-are_met.true))
+    current (subst (λ (x : SolverLists). x.earliest.is_solved ≡ false) (sym c.self.view_is) c.requires.unsolved)
 
-pub returns-then-stands-clause-slots : goal.returns-then-stands-clause-slots
-returns-then-stands-clause-slots g c =
+pub returns-then-not-are_met-clause-slots : goal.returns-then-not-are_met-clause-slots
+returns-then-not-are_met-clause-slots g c =
     let s : SolverLists = the_view c.self.inside in
     let new : SolverLists = record { graph = c.take_out.new.g; earliest = s.earliest; contradiction = s.contradiction; pool = s.pool; kept = s.kept; front = s.front } in
     subst (λ (x : SolverLists). KeepsSlots x new) c.self.view_is (keeps_slots s new refl refl refl refl (rows_as_before (all_slots s.kept) s.pool))

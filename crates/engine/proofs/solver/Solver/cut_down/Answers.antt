@@ -1,0 +1,58 @@
+use Rattle.std.proofs.Common.{◌≡◌, ◌<◌, ℕ, true, false, List, length, get_or, All, refl, sym, ap, subst, ◌∙◌}
+use Rattle.sync_graph.specs.declared.arc.Arc.{Arc}
+use Rattle.sync_graph.specs.Graph.{GraphLists}
+use Rattle.engine.specs.Solver.{SolverLists}
+use Rattle.engine.specs.Changes.{KeepsSlots, withdrawn}
+use Rattle.engine.specs.Current.{IsCurrent}
+use Rattle.engine.specs.Costs.{TakesFewToWithdrawAll}
+use Rattle.engine.specs.Withdrawn.{arcs_numbered, IsCutDown}
+use Rattle.engine.specs.contracts.solver.Solver.{the_view}
+use Rattle.engine.proofs.Cutting.{cut_down, few_after}
+use Rattle.engine.proofs.Fewer.{numbers_below}
+use Rattle.engine.proofs.KeptSlots.{keeps_after}
+use Rattle.engine.proofs.solver.Solver.cut_down.Goals as goal
+
+pub list_arcs-listed-requires : goal.list_arcs-listed-requires
+list_arcs-listed-requires g c =
+    let s : SolverLists = the_view c.self.inside in
+    let current : IsCurrent s = subst IsCurrent (sym c.self.view_is) c.requires.current in
+    let all : All (λ (k : ℕ). get_or s.graph.in_force k false ≡ true) c.args.numbers.now = subst (λ (x : SolverLists). All (λ (k : ℕ). get_or x.graph.in_force k false ≡ true) c.args.numbers.now) (sym c.self.view_is) c.requires.in_force in
+    numbers_below s.graph s.graph.arcs c.args.numbers.now current.set_up.graph refl all
+
+pub repair-requires : goal.repair-requires
+repair-requires g c =
+    let s : SolverLists = the_view c.self.inside in
+    let current : IsCurrent s = subst IsCurrent (sym c.self.view_is) c.requires.current in
+    let solved : s.earliest.is_solved ≡ true = subst (λ (x : SolverLists). x.earliest.is_solved ≡ true) (sym c.self.view_is) c.requires.solved in
+    let all : All (λ (k : ℕ). get_or s.graph.in_force k false ≡ true) c.args.numbers.now = subst (λ (x : SolverLists). All (λ (k : ℕ). get_or x.graph.in_force k false ≡ true) c.args.numbers.now) (sym c.self.view_is) c.requires.in_force in
+    let below : All (λ (k : ℕ). k < length s.graph.arcs) c.args.numbers.now = numbers_below s.graph s.graph.arcs c.args.numbers.now current.set_up.graph refl all in
+    subst (λ (xs : List Arc). IsCutDown xs (record { graph = c.take_out.new.g; earliest = s.earliest; contradiction = s.contradiction; pool = s.pool; kept = s.kept; front = s.front }))
+    (sym (c.deref.ensures.value ∙ c.in_ok-removed.ensures))
+    (cut_down s c.take_out.new.g c.args.numbers.now current solved c.exact-2.ensures c.take_out.ensures.nodes c.take_out.ensures.arcs c.take_out.ensures.in_force below c.take_out.ensures.values c.take_out.ensures.rows)
+
+pub returns-clause-slots : goal.returns-clause-slots
+returns-clause-slots g c =
+    let s : SolverLists = the_view c.self.inside in
+    let mid : SolverLists = record { graph = c.take_out.new.g; earliest = s.earliest; contradiction = s.contradiction; pool = s.pool; kept = s.kept; front = s.front } in
+    subst (λ (x : SolverLists). KeepsSlots x c.repair.new.self) c.self.view_is (keeps_after s mid c.repair.new.self refl refl refl c.repair.ensures.slots)
+
+pub returns-clause-nodes : goal.returns-clause-nodes
+returns-clause-nodes g c =
+    subst (λ (x : SolverLists). c.repair.new.self.graph.nodes ≡ x.graph.nodes) c.self.view_is (ap (λ (h : GraphLists). h.nodes) c.repair.ensures.graph ∙ c.take_out.ensures.nodes)
+
+pub returns-clause-arcs : goal.returns-clause-arcs
+returns-clause-arcs g c =
+    subst (λ (x : SolverLists). c.repair.new.self.graph.arcs ≡ x.graph.arcs) c.self.view_is (ap (λ (h : GraphLists). h.arcs) c.repair.ensures.graph ∙ c.take_out.ensures.arcs)
+
+pub returns-clause-in_force : goal.returns-clause-in_force
+returns-clause-in_force g c =
+    subst (λ (x : SolverLists). c.repair.new.self.graph.in_force ≡ withdrawn x.graph.in_force c.args.numbers.now) c.self.view_is
+    (ap (λ (h : GraphLists). h.in_force) c.repair.ensures.graph ∙ c.take_out.ensures.in_force)
+
+pub returns-clause-steps : goal.returns-clause-steps
+returns-clause-steps g c =
+    let s : SolverLists = the_view c.self.inside in
+    let same : c.deref.result.now ≡ arcs_numbered s.graph c.args.numbers.now = c.deref.ensures.value ∙ c.in_ok-removed.ensures in
+    subst (λ (x : SolverLists). TakesFewToWithdrawAll x c.repair.new.self (arcs_numbered x.graph c.args.numbers.now) c.args.steps.now c.repair.new.steps) c.self.view_is
+    (subst (λ (xs : List Arc). TakesFewToWithdrawAll s c.repair.new.self xs c.args.steps.now c.repair.new.steps) same
+    (few_after s c.take_out.new.g c.repair.new.self c.deref.result.now c.args.steps.now c.repair.new.steps c.repair.ensures.steps))
