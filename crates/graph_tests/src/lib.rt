@@ -6,6 +6,9 @@
 //! (`row_pool`); `interval_ends` the ends and the order of two events (`intervals`); `empty_certificates` and
 //! `interval_certificates` certificates that are made (`attain`); `greatest_differences` those of two nodes, asked for and by rows that are lent (`engine`);
 //! `solutions` problems that are solved (`solver`); `fixtures` has problems that several of them use.
+//! `interval_certificates` certificates that are made (`attain`); `greatest_differences` those of two events (`reaches`);
+//! `solutions` problems that are solved (`solver`); `engines` arcs that come and go (`engine`); `fixtures` has problems that
+//! several of them use.
 #![tactic(auto)]
 
 #[cfg(test)]
@@ -14,6 +17,8 @@ mod cells;
 mod distance_rows;
 #[cfg(test)]
 mod empty_certificates;
+#[cfg(test)]
+mod engines;
 #[cfg(test)]
 mod fixtures;
 #[cfg(test)]
