@@ -1,0 +1,104 @@
+-- Groups that are written anew in part.
+use Rattle.std.proofs.Common.{◌≡◌, ℕ, ◌+◌, ◌-◌, ◌<◌, ◌≤◌, List, [], ◌∷◌, ◌++◌, length, take, replicate, length-append, Result, Ok, Err, OnErr, get_or, zero, suc, refl, sym, ◌∙◌, ap, arith, set}
+use Rattle.std.specs.Global.{Vec}
+use Rattle.std.proofs.lemmas.List.{map-set, length-map, length-set, length-take}
+use Rattle.roster.proofs.GroupEnds.{length-ends_from}
+use Rattle.roster.specs.Groups.{ends_from, total, sizes_of, group_at, lists_of}
+
+-- a group of the same size in the place of another
+pub same_sizes : {T : Type 0} (groups : List (List T)) (g : ℕ) (group : List T) → g < length groups → length group ≡ length (group_at groups g) → sizes_of (set groups g group) ≡ sizes_of groups
+same_sizes [] g group inside same = absurd (omega (arith, inside))
+same_sizes (x ∷ groups) zero group inside same = ap (λ (n : ℕ). n ∷ sizes_of groups) same
+same_sizes (x ∷ groups) (suc g) group inside same = ap (λ (ns : List ℕ). length x ∷ ns) (same_sizes groups g group (omega (arith, inside)) same)
+
+-- so many empty groups end at 0
+pub empty_ends : (T : Type 0) (n : ℕ) → replicate n 0 ≡ ends_from 0 (sizes_of (replicate {A = List T} n []))
+empty_ends T zero = refl
+empty_ends T (suc n) = ap (λ (ns : List ℕ). 0 ∷ ns) (empty_ends T n)
+
+-- what lists of the code hold when one of them is written
+pub lists_set : {T : Type 0} (lists : List (Vec T)) (g : ℕ) (list : Vec T) → lists_of (set lists g list) ≡ set (lists_of lists) g list.items
+lists_set {T} lists g list = map-set (λ (l : Vec T). l.items) lists g list
+
+pub lists_kept : {T : Type 0} (lists : List (Vec T)) (g : ℕ) (list d : Vec T) → g < length lists → list.items ≡ (get_or lists g d).items → lists_of (set lists g list) ≡ lists_of lists
+lists_kept {T} [] g list d inside same = absurd (omega (arith, inside))
+lists_kept {T} (x ∷ lists) zero list d inside same = ap (λ (l : List T). l ∷ lists_of lists) same
+lists_kept {T} (x ∷ lists) (suc g) list d inside same = ap (λ (ls : List (List T)). x.items ∷ ls) (lists_kept lists g list d (omega (arith, inside)) same)
+
+pub list_at : {T : Type 0} (lists : List (Vec T)) (g : ℕ) (d : Vec T) → g < length lists → (get_or lists g d).items ≡ group_at (lists_of lists) g
+list_at [] g d inside = absurd (omega (arith, inside))
+list_at (x ∷ lists) zero d inside = refl
+list_at (x ∷ lists) (suc g) d inside = list_at lists g d (omega (arith, inside))
+
+-- no more than all before and what is put
+pub tail_few : {T : Type 0} (groups : List (List T)) (g k most : ℕ) (tail : List T) → g < length groups → total (sizes_of groups) + length tail < most → total (sizes_of (set groups g (take k (group_at groups g) ++ tail))) < most
+tail_few [] g k most tail inside few = absurd (omega (arith, inside))
+tail_few (x ∷ groups) zero k most tail inside few =
+    omega (arith, few, length-append (take k x) tail, length-take k x)
+tail_few (x ∷ groups) (suc g) k most tail inside few =
+    let more = tail_few groups g k (most - length x) tail (omega (arith, inside)) (omega (arith, few)) in
+    omega (arith, more, few)
+
+pub size_at : {T : Type 0} (lists : List (Vec T)) (g : ℕ) (v : Vec T) → g < length lists → v ≡ get_or lists g v → get_or (sizes_of (lists_of lists)) g 0 ≡ length v.items
+size_at [] g v inside is = absurd (omega (arith, inside))
+size_at {T} (x ∷ lists) zero v inside is = ap (λ (l : Vec T). length l.items) (sym is)
+size_at (x ∷ lists) (suc g) v inside is = size_at lists g v (omega (arith, inside)) is
+
+pub length-sizes : {T : Type 0} (lists : List (Vec T)) → length (sizes_of (lists_of lists)) ≡ length lists
+length-sizes [] = refl
+length-sizes (x ∷ lists) = ap suc (length-sizes lists)
+
+length-groups : {T : Type 0} (groups : List (List T)) → length (sizes_of groups) ≡ length groups
+length-groups [] = refl
+length-groups (x ∷ groups) = ap suc (length-groups groups)
+
+set_same : {T : Type 0} (groups : List (List T)) (g : ℕ) → set groups g (group_at groups g) ≡ groups
+set_same [] zero = refl
+set_same [] (suc g) = refl
+set_same (x ∷ groups) zero = refl
+set_same {T} (x ∷ groups) (suc g) = ap (λ (l : List (List T)). x ∷ l) (set_same groups g)
+
+total_sets : {T : Type 0} (groups : List (List T)) (g : ℕ) (group : List T) → g < length groups → total (sizes_of (set groups g group)) + length (group_at groups g) ≡ total (sizes_of groups) + length group
+total_sets [] g group inside = absurd (omega (arith, inside))
+total_sets (x ∷ groups) zero group inside = omega arith
+total_sets (x ∷ groups) (suc g) group inside = let more = total_sets groups g group (omega (arith, inside)) in omega (arith, more)
+
+-- one list of the code is written anew
+module _ {T : Type 0} (lists : List (Vec T)) (ends : List ℕ) (now : List (List T)) (g : ℕ) (old new : Vec T) (en : lists_of lists ≡ now) (here : old ≡ get_or lists g old) (inside : g < length now) (are : ends ≡ ends_from 0 (sizes_of (lists_of lists))) where
+  within : g < length lists
+  within = omega (arith, inside, ap length en, length-map lists (λ (l : Vec T). l.items))
+
+  pub group_is : old.items ≡ group_at now g
+  group_is = ap (λ (l : Vec T). l.items) here ∙ list_at lists g old within ∙ ap (λ (gs : List (List T)). group_at gs g) en
+
+  pub write_is : (f : List T → List T) → new.items ≡ f old.items → lists_of (set lists g new) ≡ set now g (f (group_at now g))
+  write_is f is = lists_set lists g new ∙ ap (λ (l : List T). set (lists_of lists) g l) (is ∙ ap f group_is) ∙ ap (λ (gs : List (List T)). set gs g (f (group_at now g))) en
+
+  pub write_none : new.items ≡ old.items → lists_of (set lists g new) ≡ now
+  write_none is = write_is (λ (l : List T). l) is ∙ set_same now g
+
+  pub as_many : length ends ≡ length (set lists g new)
+  as_many = omega (arith, ap length are, length-ends_from 0 (sizes_of (lists_of lists)), length-sizes lists, length-set lists g new)
+
+  pub few_then : (f : List T → List T) (more most : ℕ) → new.items ≡ f old.items → length (f (group_at now g)) ≤ length (group_at now g) + more → total (sizes_of now) + more < most → total (sizes_of (lists_of (set lists g new))) < most
+  few_then f more most is fits few =
+      let t = total_sets now g (f (group_at now g)) inside in
+      let e : total (sizes_of (lists_of (set lists g new))) ≡ total (sizes_of (set now g (f (group_at now g)))) = ap (λ (gs : List (List T)). total (sizes_of gs)) (write_is f is) in
+      omega (arith, t, e, fits, few)
+
+  pub sizes_stay : (f : List T → List T) → new.items ≡ f old.items → length (f (group_at now g)) ≡ length (group_at now g) → ends ≡ ends_from 0 (sizes_of (lists_of (set lists g new)))
+  sizes_stay f is same =
+      are ∙ ap (λ (gs : List (List T)). ends_from 0 (sizes_of gs)) en ∙ ap (ends_from 0) (sym (same_sizes now g (f (group_at now g)) inside same)) ∙ ap (λ (gs : List (List T)). ends_from 0 (sizes_of gs)) (sym (write_is f is))
+
+  pub still_few : length (lists_of lists) ≤ 65536 → length (lists_of (set lists g new)) ≤ 65536
+  still_few few = omega (arith, few, length-map lists (λ (l : Vec T). l.items), length-map (set lists g new) (λ (l : Vec T). l.items), length-set lists g new)
+
+pub tail_fits : {T : Type 0} (from : ℕ) (l tail : List T) → length (take from l ++ tail) ≤ length l + length tail
+tail_fits from l tail = omega (arith, length-append (take from l) tail, length-take from l)
+
+pub cut_fits : {T : Type 0} (from : ℕ) (l : List T) → length (take from l) ≤ length l + 0
+cut_fits from l = omega (arith, length-take from l)
+
+pub in_err : {V E : Type 0} (r : Result V E) (P : Type 0) → P → OnErr r P
+in_err (Ok v) P p = tt
+in_err (Err e) P p = p

@@ -1,0 +1,14 @@
+pub mod GroupEnds
+pub mod GroupSizes
+pub mod GroupTails
+pub mod Stamps
+pub mod Pushing
+pub mod Pushed
+pub mod Turns
+pub mod Problem
+pub mod Holding
+pub mod EventNames
+pub mod Labels
+pub mod Telling
+pub mod Starting
+pub mod ListedPlaces

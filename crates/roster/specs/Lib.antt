@@ -1,0 +1,4 @@
+pub mod Groups
+pub mod Readings
+pub mod Roster
+pub mod Names

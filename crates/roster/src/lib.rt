@@ -1,0 +1,17 @@
+//! The events of a session, by the number in which they came, by label and by name, and the readings of its clocks, listed
+//! as they are printed.
+#![tactic(auto)]
+
+mod came;
+mod ends;
+mod groups;
+mod growing;
+mod laws;
+mod listing;
+mod naming;
+mod readings;
+mod roster;
+
+pub use came::{Came, Partner};
+pub use laws::{roster_lists_its_problem, rosters_grow, telling_keeps_events};
+pub use roster::Roster;
