@@ -1,7 +1,7 @@
 -- Names of events: a label's name, `#`, and a number.
-use Rattle.std.proofs.Common.{◌≡◌, ◌≢◌, ℕ, ◌+◌, ◌<◌, ◌≤◌, ◌^◌, zero, suc, List, [], ◌∷◌, ◌++◌, length, take, drop, get_or, slice_get, Option, Some, None, All, IfSome, IfNone, IsTrue, option_map, refl, sym, ◌∙◌, ap, subst, arith}
+use Rattle.std.proofs.Common.{◌≡◌, ◌≢◌, ℕ, ◌+◌, ◌<◌, ◌≤◌, ◌^◌, zero, suc, List, [], ◌∷◌, ◌++◌, length, take, drop, slice_get, Option, Some, None, All, IfSome, IfNone, IsTrue, option_map, refl, sym, ◌∙◌, ap, subst, arith}
 use Rattle.std.specs.List.{AllByRecursion}
-use Rattle.std.proofs.lemmas.List.{get_or-take, length-take, length-map}
+use Rattle.std.proofs.lemmas.List.{length-map}
 use Rattle.std.proofs.lemmas.List.Elements.{All-weaker, recursion_from_All}
 use Rattle.std.proofs.lemmas.Option.{none-some, same_Some, slice_get-map, slice_get_within, get_or_from_slice_get}
 use Rattle.atto.specs.Decimal.{decimal_of}
@@ -42,20 +42,6 @@ cut_by (x ∷ xs) (y ∷ ys) us vs p q e =
 
 cut : (xs ys us vs : List ℕ) → Lacks xs → Lacks ys → xs ++ 35 ∷ us ≡ ys ++ 35 ∷ vs → (xs ≡ ys) × (us ≡ vs)
 cut xs ys us vs p q e = cut_by xs ys us vs (recursion_from_All (λ (b : ℕ). b ≢ 35) xs p) (recursion_from_All (λ (b : ℕ). b ≢ 35) ys q) e
-
-split_next : (xs : List ℕ) (k d b : ℕ) → k < length xs → get_or xs k d ≡ b → xs ≡ take k xs ++ b ∷ drop (suc k) xs
-split_next [] k d b inside is = absurd (omega (arith, inside))
-split_next (x ∷ xs) zero d b inside is = ap (λ (y : ℕ). y ∷ xs) is
-split_next (x ∷ xs) (suc k) d b inside is = ap (λ (ys : List ℕ). x ∷ ys) (split_next xs k d b (omega (arith, inside)) is)
-
-pub split_there : (xs : List ℕ) (k d b : ℕ) → k < length xs → get_or xs k d ≡ b → xs ≡ take k xs ++ b ∷ drop (k + 1) xs
-split_there xs k d b inside is = let on : suc k ≡ k + 1 = omega arith in split_next xs k d b inside is ∙ ap (λ (n : ℕ). take k xs ++ b ∷ drop n xs) on
-
-pub lacks_before : (xs : List ℕ) (k : ℕ) → ((j d : ℕ) → j < k → j < length xs → get_or xs j d ≢ 35) → Lacks (take k xs)
-lacks_before xs k none j d inside =
-    let less : j < k = omega (arith, inside, length-take k xs) in
-    let within : j < length xs = omega (arith, inside, length-take k xs) in
-    subst (λ (b : ℕ). b ≢ 35) (sym (get_or-take k xs j d less)) (none j d less within)
 
 has_sharp : (label rest : List ℕ) → Lacks (label ++ 35 ∷ rest) → ⊥
 has_sharp [] rest lacks = lacks 0 0 (omega arith) refl

@@ -94,12 +94,6 @@ total_part [] (suc g) = omega arith
 total_part (size ∷ sizes) zero = omega arith
 total_part (size ∷ sizes) (suc g) = let more = total_part sizes g in omega (arith, more)
 
-pub total_set : (sizes : List ℕ) (g n : ℕ) → total (set sizes g n) ≤ total sizes + n
-total_set [] zero n = omega arith
-total_set [] (suc g) n = omega arith
-total_set (size ∷ sizes) zero n = omega arith
-total_set (size ∷ sizes) (suc g) n = let more = total_set sizes g n in omega (arith, more)
-
 pub last_start : (n : ℕ) (sizes : List ℕ) → start_at n (ends_from n sizes) (length (ends_from n sizes)) ≡ n + total sizes
 last_start n [] = omega arith
 last_start n (size ∷ sizes) = let more = last_start (n + size) sizes in omega (arith, more)

@@ -20,11 +20,6 @@ empty_ends T (suc n) = ap (λ (ns : List ℕ). 0 ∷ ns) (empty_ends T n)
 pub lists_set : {T : Type 0} (lists : List (Vec T)) (g : ℕ) (list : Vec T) → lists_of (set lists g list) ≡ set (lists_of lists) g list.items
 lists_set {T} lists g list = map-set (λ (l : Vec T). l.items) lists g list
 
-pub lists_kept : {T : Type 0} (lists : List (Vec T)) (g : ℕ) (list d : Vec T) → g < length lists → list.items ≡ (get_or lists g d).items → lists_of (set lists g list) ≡ lists_of lists
-lists_kept {T} [] g list d inside same = absurd (omega (arith, inside))
-lists_kept {T} (x ∷ lists) zero list d inside same = ap (λ (l : List T). l ∷ lists_of lists) same
-lists_kept {T} (x ∷ lists) (suc g) list d inside same = ap (λ (ls : List (List T)). x.items ∷ ls) (lists_kept lists g list d (omega (arith, inside)) same)
-
 pub list_at : {T : Type 0} (lists : List (Vec T)) (g : ℕ) (d : Vec T) → g < length lists → (get_or lists g d).items ≡ group_at (lists_of lists) g
 list_at [] g d inside = absurd (omega (arith, inside))
 list_at (x ∷ lists) zero d inside = refl
@@ -48,17 +43,13 @@ pub length-sizes : {T : Type 0} (lists : List (Vec T)) → length (sizes_of (lis
 length-sizes [] = refl
 length-sizes (x ∷ lists) = ap suc (length-sizes lists)
 
-length-groups : {T : Type 0} (groups : List (List T)) → length (sizes_of groups) ≡ length groups
-length-groups [] = refl
-length-groups (x ∷ groups) = ap suc (length-groups groups)
-
 set_same : {T : Type 0} (groups : List (List T)) (g : ℕ) → set groups g (group_at groups g) ≡ groups
 set_same [] zero = refl
 set_same [] (suc g) = refl
 set_same (x ∷ groups) zero = refl
 set_same {T} (x ∷ groups) (suc g) = ap (λ (l : List (List T)). x ∷ l) (set_same groups g)
 
-total_sets : {T : Type 0} (groups : List (List T)) (g : ℕ) (group : List T) → g < length groups → total (sizes_of (set groups g group)) + length (group_at groups g) ≡ total (sizes_of groups) + length group
+pub total_sets : {T : Type 0} (groups : List (List T)) (g : ℕ) (group : List T) → g < length groups → total (sizes_of (set groups g group)) + length (group_at groups g) ≡ total (sizes_of groups) + length group
 total_sets [] g group inside = absurd (omega (arith, inside))
 total_sets (x ∷ groups) zero group inside = omega arith
 total_sets (x ∷ groups) (suc g) group inside = let more = total_sets groups g group (omega (arith, inside)) in omega (arith, more)

@@ -13,8 +13,9 @@ use Rattle.traces.specs.Traces.{clock_by, clock_of}
 use Rattle.traces.proofs.Members.{here, there, head_or_tail, none_in}
 use Rattle.trace_problem.proofs.Lists.{all_at}
 use Rattle.roster.specs.declared.came.Came.{Came}
-use Rattle.roster.specs.Groups.{total, sizes_of, group_at}
+use Rattle.roster.specs.Groups.{group_at}
 use Rattle.roster.specs.Readings.{Stamped, Rise, HasStamp, Joins}
+use Rattle.roster.proofs.GroupSizes.{total_sets}
 use Rattle.roster.specs.Roster.{RosterLists, id_of, IsNumbered, IsUnder, IsStamp, AreOnClocks, IsRoster, IsGrown, came_from}
 
 -- ---- lists in a row
@@ -79,12 +80,6 @@ stamp_came label n (s ∷ stamps) stamp c = elim (head_or_tail s stamp stamps c)
 length-came_from : (label n : ℕ) (stamps : List ℕ) → length (came_from label n stamps) ≡ length stamps
 length-came_from label n [] = refl
 length-came_from label n (s ∷ stamps) = ap suc (length-came_from label (n + 1) stamps)
-
--- ---- groups
-pub total_with : {T : Type 0} (groups : List (List T)) (g : ℕ) (group : List T) → g < length groups → total (sizes_of (set groups g group)) + length (group_at groups g) ≡ total (sizes_of groups) + length group
-total_with [] g group inside = absurd (omega (arith, inside))
-total_with (x ∷ groups) zero group inside = omega arith
-total_with (x ∷ groups) (suc g) group inside = let more = total_with groups g group (omega (arith, inside)) in omega (arith, more)
 
 pub on_clock_of : (d : Declaration) (l : Label) (label : ℕ) → slice_get d.labels label ≡ Some l → (e : Came) → e.label ≡ label → clock_of d (id_of e) ≡ l.clock
 on_clock_of d l label own e same = ap (λ (k : ℕ). clock_by (slice_get d.labels k)) same ∙ ap clock_by own
@@ -212,7 +207,7 @@ module _ (r : RosterLists) (is : IsRoster r) (label clock : ℕ) (stamps : List 
           subst (λ (rs : List Stamped). HasStamp rs s) (sym (ap (group_at pushed.readings) same ∙ readings_here)) (joins.added s (subst (Contains stamps) stamped.3 e.1)))
     ];
     few =
-        let a = total_with r.readings clock now on in
+        let a = total_sets r.readings clock now on in
         let b = joins.few in
         let c = is.on_clocks.few in
         omega (arith, a, b, c, length-append r.came more, length-came_from label (length (group_at r.under label) + 1) stamps);
@@ -226,7 +221,7 @@ module _ (r : RosterLists) (is : IsRoster r) (label clock : ℕ) (stamps : List 
     numbered = pushed_numbered;
     every = pushed_every;
     count =
-        let a = total_with r.under label (group_at r.under label ++ range_with_len (length r.came) (length stamps)) inside in
+        let a = total_sets r.under label (group_at r.under label ++ range_with_len (length r.came) (length stamps)) inside in
         let b = is.count in
         omega (
           arith,

@@ -76,13 +76,6 @@ pairs_parted R (x ∷ xs) ys pairs =
     (AllPairs-cons R x xs first.0 more.0, more.1, All-cons (λ z. All (R z) ys) x xs first.1 more.2)
 
 -- ---- fresh readings
-pub none_fresh : (old : List Stamped) → AreFresh old [] []
-none_fresh old = record {
-  each = λ r c. absurd (none_in r c);
-  every = λ stamp c. absurd (none_in stamp c);
-  few = omega arith;
-}
-
 last_is : {X : Type 0} (xs : List X) (x y : X) → Contains (xs ++ x ∷ []) y → Contains xs y ⊎ (y ≡ x)
 last_is xs x y c = elim (Contains-append_cases xs (x ∷ []) y c) [
   | inl before ↦ inl before

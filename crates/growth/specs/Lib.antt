@@ -1,0 +1,5 @@
+pub mod Entered
+pub mod Growing
+pub mod Withdrawing
+pub mod Entering
+pub mod ByNumber

@@ -1,0 +1,43 @@
+// What is true of graphs that grow.
+ghost use Rattle.std.specs.Prelude.{◌≡◌, ◌∷◌, ℕ, Bool, List, [], length, Option};
+ghost use Rattle.problem_model.specs.declared.items.Event.{Event};
+ghost use Rattle.problem_model.specs.declared.items.Message.{Message};
+ghost use Rattle.problem_model.specs.declared.items.Bound.{Bound};
+ghost use Rattle.problem_model.specs.Problem.{ProblemLists, IsProblem};
+ghost use Rattle.problem_model.specs.Bounds.{EventAt};
+ghost use Rattle.problem_model.specs.Nodes.{Reading, AreReadings};
+ghost use Rattle.problem.specs.Listing.{Listed};
+ghost use Rattle.sync_graph.specs.declared.arc.Arc.{Arc};
+ghost use Rattle.sync_graph.specs.Graph.{GraphLists, IsGraph, with_arc};
+ghost use Rattle.sync_graph.specs.ListedProblem.{IsListedBy};
+ghost use Rattle.sync_graph.specs.ListedStanding.{StandsForListed};
+ghost use Rattle.growth.specs.Entered.{all_events, events_below, and_event};
+ghost use Rattle.growth.specs.Growing.{IsGrowing, IsGrownTo, IsBoundOf};
+ghost use Rattle.growth.specs.Withdrawing.{IsMore, Withdraws};
+ghost use Rattle.growth.specs.Entering.{Enters, AreMessagesOf, AreNearest, entry_bounds};
+ghost use Rattle.growth.specs.ByNumber.{IsByNumber, TellsNodes};
+
+/// A law, which does nothing when it runs: once the arcs of withdrawn messages are out of force, a graph that had grown to all
+/// events has grown to these events of the problem with more events.
+pub fn messages_are_withdrawn()
+    ensures { (before after : ProblemLists) (withdrawn : List Message) (g h : GraphLists) → IsMore before after withdrawn → Withdraws withdrawn g h → IsGrownTo before all_events g
+        → IsGrownTo after (events_below (length before.events)) h }
+{}
+
+/// A law, which does nothing when it runs: once the nodes of an event are there, whichever it is, the graph is growing to those that
+/// had entered and this one, and what is left are its own bounds.
+pub fn an_event_enters()
+    ensures { (p : ProblemLists) (entered : ℕ → Bool) (v : ℕ) (e : Event) (below above : Option ℕ) (messages : List Message) (g h : GraphLists) → EventAt p v e → AreNearest g e below above → AreMessagesOf p entered v messages
+        → Enters v e g h → IsGrownTo p entered g → IsGrowing p (and_event entered v) (entry_bounds v e below above messages) h }
+{}
+
+/// A law, which does nothing when it runs: a bound that is pushed is no longer left.
+pub fn a_bound_is_pushed()
+    ensures { (p : ProblemLists) (entered : ℕ → Bool) (b : Bound) (rest : List Bound) (g : GraphLists) (a : Arc) → IsGraph g → IsBoundOf p g a → a.name ≡ b → IsGrowing p entered (b ∷ rest) g → IsGrowing p entered rest (with_arc g a) }
+{}
+
+/// A law, which does nothing when it runs: a graph that has grown to all events of a problem stands for the problem as it is listed.
+pub fn the_whole_stands_for_its_problem()
+    ensures { (l : Listed) (p q : ProblemLists) (readings : List Reading) (g : GraphLists) → IsGraph g → IsProblem q → AreReadings q readings → IsListedBy l q readings → IsByNumber l p q → TellsNodes l g → IsGrownTo p all_events g
+        → StandsForListed l q readings g }
+{}

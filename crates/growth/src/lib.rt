@@ -1,0 +1,8 @@
+//! Graphs that grow event by event: what holds of one between two additions, and while events enter it, whatever their order.
+#![tactic(auto)]
+
+mod laws;
+
+pub use laws::{
+    a_bound_is_pushed, an_event_enters, messages_are_withdrawn, the_whole_stands_for_its_problem,
+};
