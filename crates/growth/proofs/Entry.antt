@@ -1,5 +1,5 @@
 -- An event enters a graph.
-use Rattle.std.proofs.Common.{◌≡◌, ◌≢◌, ◌⊎◌, ◌<◌, ◌≤◌, ◌==◌, ◌||◌, ℕ, Bool, true, false, List, [], ◌∷◌, ◌++◌, Option, Some, None, slice_get, get_or, Contains, refl, sym, ◌∙◌, ap, subst, arith, inl, inr}
+use Rattle.std.proofs.Common.{◌≡◌, ◌⊎◌, ◌≤◌, ◌==◌, ◌||◌, ℕ, Bool, true, false, List, [], ◌∷◌, ◌++◌, Option, Some, None, slice_get, get_or, Contains, refl, sym, ◌∙◌, ap, subst, arith, inl, inr}
 use Rattle.std.specs.List.{flat_map}
 use Rattle.std.proofs.lemmas.Bool.{cases_eq, eq-eqb, ne_eqb}
 use Rattle.std.proofs.lemmas.List.Elements.{Contains-append_left, Contains-append_right}
@@ -19,8 +19,8 @@ use Rattle.sync_graph.specs.Graph.{GraphLists, arc_at}
 use Rattle.sync_graph.specs.InForce.{IsInForce}
 use Rattle.sync_graph.specs.Standing.{HasNode}
 use Rattle.traces.proofs.Members.{here, there, none_in, given_by}
-use Rattle.growth.specs.Entered.{HasEntered, IsReadingOf, IsNodeOf, AreNeighbours, IsMessageOf, IsDue, and_event}
-use Rattle.growth.specs.Growing.{IsGrowing, IsGrownTo, IsBoundOf}
+use Rattle.growth.specs.Entered.{IsReadingOf, IsNodeOf, AreNeighbours, IsMessageOf, IsDue, and_event}
+use Rattle.growth.specs.Growing.{IsGrowing, IsGrownTo}
 use Rattle.growth.specs.Entering.{Enters, AreMessagesOf, AreNearest, IsStampBelow, IsStampAbove, span_below, span_above, entry_bounds}
 
 -- ---- what has entered

@@ -1,7 +1,8 @@
 -- A graph with one arc more.
-use Rattle.std.proofs.Common.{◌≡◌, ◌⊎◌, ◌<◌, ◌≤◌, ℕ, Bool, true, false, List, [], ◌∷◌, ◌++◌, length, get_or, Contains, sym, ◌∙◌, ap, subst, arith, inl, inr, length-append}
+use Rattle.std.proofs.Common.{◌≡◌, ◌⊎◌, ◌<◌, ℕ, Bool, true, false, List, [], ◌∷◌, ◌++◌, length, get_or, sym, ◌∙◌, ap, subst, arith, inl, inr, length-append}
 use Rattle.std.proofs.lemmas.Bool.{cases_lt, cases_eq}
-use Rattle.std.proofs.lemmas.List.{get_or_append_left, get_or_past, get_or-append_seam}
+use Rattle.std.proofs.Math.Seq.{get_or-append_seam}
+use Rattle.std.proofs.lemmas.List.{get_or_append_left, get_or_past}
 use Rattle.problem_model.specs.declared.items.Bound.{Bound}
 use Rattle.problem_model.specs.Problem.{ProblemLists}
 use Rattle.sync_graph.specs.declared.arc.Arc.{Arc}
@@ -36,10 +37,10 @@ module _ (g : GraphLists) (a : Arc) (flags : length g.in_force ≡ length g.arcs
   pub was : (b : Arc) → IsInForce (with_arc g a) b → IsInForce g b ⊎ (b ≡ a)
   was b (j, force, is) = elim (cases_lt j (length g.arcs)) [
     | inl inside ↦ inl (
-        j,
-        sym (get_or_append_left g.in_force (true ∷ []) false j (omega (arith, inside, flags))) ∙ force,
-        sym (get_or_append_left g.arcs (a ∷ []) no_arc j inside) ∙ is,
-      )
+      j,
+      sym (get_or_append_left g.in_force (true ∷ []) false j (omega (arith, inside, flags))) ∙ force,
+      sym (get_or_append_left g.arcs (a ∷ []) no_arc j inside) ∙ is,
+    )
     | inr past ↦ elim (cases_eq j (length g.arcs)) [
       | inl same ↦ inr (sym is ∙ ap (arc_at (g.arcs ++ a ∷ [])) same ∙ get_or-append_seam g.arcs a [] no_arc)
       | inr other ↦ absurd (

@@ -1,5 +1,5 @@
 -- Arcs of withdrawn messages are out of force.
-use Rattle.std.proofs.Common.{◌≡◌, ◌⊎◌, ◌<◌, ℕ, zero, suc, Bool, true, List, [], ◌∷◌, ◌++◌, length, slice_get, Some, Contains, refl, sym, ◌∙◌, ap, subst, arith, inl, inr}
+use Rattle.std.proofs.Common.{◌≡◌, ◌<◌, ℕ, zero, suc, Bool, true, List, [], ◌∷◌, ◌++◌, length, slice_get, Some, Contains, refl, sym, ◌∙◌, ap, subst, arith, inl, inr}
 use Rattle.std.specs.Prelude.{nat_lt}
 use Rattle.std.proofs.lemmas.Bool.Decides.{nat_tests}
 use Rattle.std.proofs.lemmas.List.Elements.{Contains-append_left}
@@ -134,13 +134,13 @@ module _ (before after : ProblemLists) (withdrawn : List Message) (more : IsMore
       nodes = λ n (k, at). node_after n (grown.nodes n (k, subst (λ (ns : List Node). slice_get ns k ≡ Some n) went.nodes at));
       every_node = λ n is. (let has = grown.every_node n (node_before n is) in (has.0, subst (λ (ns : List Node). slice_get ns has.0 ≡ Some n) (sym went.nodes) has.1));
       each = λ a force. (
-        let b = grown.each a (went.each a force) in (
-          b.0,
-          declared_after a.name b.0 b.1 (went.gone a force),
-          subst (λ (ns : List Node). slice_get ns a.from ≡ Some b.0.from) (sym went.nodes) b.2,
-          subst (λ (ns : List Node). slice_get ns a.to ≡ Some b.0.to) (sym went.nodes) b.3,
-          b.4,
-        ));
+          let b = grown.each a (went.each a force) in (
+            b.0,
+            declared_after a.name b.0 b.1 (went.gone a force),
+            subst (λ (ns : List Node). slice_get ns a.from ≡ Some b.0.from) (sym went.nodes) b.2,
+            subst (λ (ns : List Node). slice_get ns a.to ≡ Some b.0.to) (sym went.nodes) b.3,
+            b.4,
+          ));
       every = λ b due. elim (grown.every b (due_before b due)) [
         | inl none ↦ absurd (none_in b none)
         | inr (a, force, name) ↦ elim (went.every a force) [

@@ -9,11 +9,9 @@ use Rattle.problem_model.specs.declared.items.Bound.{Bound}
 use Rattle.problem_model.specs.declared.items.Bound.TheVariants.{SpanMost, SpanLeast, Late, Early}
 use Rattle.problem_model.specs.Problem.{ProblemLists}
 use Rattle.problem_model.specs.ShortList.{message_bounds}
-use Rattle.sync_graph.specs.declared.arc.Arc.{Arc}
 use Rattle.sync_graph.specs.Graph.{GraphLists}
-use Rattle.sync_graph.specs.InForce.{IsInForce}
 use Rattle.sync_graph.specs.Standing.{HasNode}
-use Rattle.growth.specs.Entered.{HasEntered, IsMessageOf, and_event}
+use Rattle.growth.specs.Entered.{IsMessageOf, and_event}
 
 -- the nodes of an event come, its own and that of its reading, where it is not there; arcs stay
 pub record Enters (v : ℕ) (e : Event) (g h : GraphLists) : Type 0 where
