@@ -78,14 +78,14 @@ module _ (l : Listed) (p q : ProblemLists) (readings : List Reading) (listed : I
   due_by_number (Early place) (e, has) = let v = number_at place e has.0 in (Early v.0, (place, v.1, refl), (e, (v.2, refl)))
   due_by_number (bounds.Follow c s d t) due = absurd due
   due_by_number (DelayMost send receive) (n, most, is, most_is) =
-      let m = by.every_message n is.among in
+      let m = by.messages.back n is.among in
       let c = m.2 in (
         DelayMost m.0.send m.0.receive,
         (send, receive, subst (StandsAt l m.0.send) is.send_is c.send, subst (StandsAt l m.0.receive) is.receive_is c.receive, refl),
         (m.0, most, record { among = m.1; send_is = refl; receive_is = refl; send_in = refl; receive_in = refl }, sym c.most ∙ most_is),
       )
   due_by_number (DelayLeast send receive) (n, is) =
-      let m = by.every_message n is.among in
+      let m = by.messages.back n is.among in
       let c = m.2 in (
         DelayLeast m.0.send m.0.receive,
         (send, receive, subst (StandsAt l m.0.send) is.send_is c.send, subst (StandsAt l m.0.receive) is.receive_is c.receive, refl),
@@ -98,7 +98,7 @@ module _ (l : Listed) (p q : ProblemLists) (readings : List Reading) (listed : I
 
   message_there : (m : Message) (j k : ℕ) → Contains p.messages m → StandsAt l m.send j → StandsAt l m.receive k → (n : Message) × Contains q.messages n × IsCarriedMessage l m n × (n.send ≡ j) × (n.receive ≡ k)
   message_there m j k among from to =
-      let n = by.messages m among in
+      let n = by.messages.forth m among in
       (n.0, n.1, n.2, one_place_of m.send n.0.send j n.2.send from, one_place_of m.receive n.0.receive k n.2.receive to)
 
   module _ (no_follows : p.follows ≡ []) where
@@ -109,10 +109,10 @@ module _ (l : Listed) (p q : ProblemLists) (readings : List Reading) (listed : I
     carried (Early v) c (e, k, at, on, is) = let place = by.every_event v e at in (Early place.0, (place.0, place.1, refl))
     carried (bounds.Follow b s d t) c (f, among, later, comes, first, second, is) = absurd (none_in f (subst (λ (fs : List Follow). Contains fs f) no_follows among))
     carried (DelayMost send receive) c (m, most, among, from, to, most_is, is) =
-        let n = by.messages m among in
+        let n = by.messages.forth m among in
         (DelayMost n.0.send n.0.receive, (n.0.send, n.0.receive, subst (λ (v : ℕ). StandsAt l v n.0.send) from n.2.send, subst (λ (v : ℕ). StandsAt l v n.0.receive) to n.2.receive, refl))
     carried (DelayLeast send receive) c (m, among, from, to, is) =
-        let n = by.messages m among in
+        let n = by.messages.forth m among in
         (DelayLeast n.0.send n.0.receive, (n.0.send, n.0.receive, subst (λ (v : ℕ). StandsAt l v n.0.send) from n.2.send, subst (λ (v : ℕ). StandsAt l v n.0.receive) to n.2.receive, refl))
 
     as_declared : (b : Bound) (c k : Constraint) → c ≡ k → DeclaresSame l q k b → DeclaresSame l q c b

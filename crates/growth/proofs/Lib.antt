@@ -5,3 +5,4 @@ pub mod DueShort
 pub mod Counting
 pub mod Carrying
 pub mod Whole
+pub mod Rosters

@@ -67,11 +67,11 @@ module _ (before after : ProblemLists) (withdrawn : List Message) (more : IsMore
   declared_after (Early e) c (v, k, at, on, is) stays = (v, k, event_after e v at, clock_after v.clock k on, is)
   declared_after (bounds.Follow b s d t) c (f, among, later, comes, first, second, is) stays =
       (f, follow_after f among, later, (comes.0, comes.1, lines_after (comes.0 ∷ comes.1) b d comes.2), read_after b s first, read_after d t second, is)
-  declared_after (DelayMost send receive) c (m, most, among, from, to, most_is, is) stays = elim (more.kept m among) [
+  declared_after (DelayMost send receive) c (m, most, among, from, to, most_is, is) stays = elim (more.messages.kept m among) [
     | inl has ↦ (m, most, has, from, to, most_is, is)
     | inr went ↦ absurd (stays (m, went, from, to))
   ]
-  declared_after (DelayLeast send receive) c (m, among, from, to, is) stays = elim (more.kept m among) [
+  declared_after (DelayLeast send receive) c (m, among, from, to, is) stays = elim (more.messages.kept m among) [
     | inl has ↦ (m, has, from, to, is)
     | inr went ↦ absurd (stays (m, went, from, to))
   ]
@@ -108,7 +108,7 @@ module _ (before after : ProblemLists) (withdrawn : List Message) (more : IsMore
   message_before send receive m is =
       let from : m.send < length before.events = below_is m.send (length before.events) (ap old is.send_is ∙ is.send_in) in
       let to : m.receive < length before.events = below_is m.receive (length before.events) (ap old is.receive_is ∙ is.receive_in) in
-      record { among = more.none m is.among from to; send_is = is.send_is; receive_is = is.receive_is; send_in = refl; receive_in = refl }
+      record { among = more.messages.none m is.among from to; send_is = is.send_is; receive_is = is.receive_is; send_in = refl; receive_in = refl }
 
   due_before : (b : Bound) → IsDue after old b → IsDue before all_events b
   due_before (SpanMost clock s t) due = neighbours_before clock s t due
@@ -125,8 +125,8 @@ module _ (before after : ProblemLists) (withdrawn : List Message) (more : IsMore
   not_gone (Late v) due went = went
   not_gone (Early v) due went = went
   not_gone (bounds.Follow c s d t) due went = went
-  not_gone (DelayMost send receive) (m, most, is, most_is) (n, among, from, to) = more.gone n m among is.among (is.send_is ∙ sym from) (is.receive_is ∙ sym to)
-  not_gone (DelayLeast send receive) (m, is) (n, among, from, to) = more.gone n m among is.among (is.send_is ∙ sym from) (is.receive_is ∙ sym to)
+  not_gone (DelayMost send receive) (m, most, is, most_is) (n, among, from, to) = more.messages.gone n m among is.among (is.send_is ∙ sym from) (is.receive_is ∙ sym to)
+  not_gone (DelayLeast send receive) (m, is) (n, among, from, to) = more.messages.gone n m among is.among (is.send_is ∙ sym from) (is.receive_is ∙ sym to)
 
   module _ (g h : GraphLists) (went : Withdraws withdrawn g h) (grown : IsGrownTo before all_events g) where
     pub grown_after : IsGrownTo after (events_below (length before.events)) h

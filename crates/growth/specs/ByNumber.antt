@@ -1,5 +1,5 @@
 -- A problem whose events stand by number, beside that with its events by place.
-use Rattle.std.specs.Prelude.{◌≡◌, ◌≢◌, ℕ, map, slice_get, Some, AllPairs, Contains}
+use Rattle.std.specs.Prelude.{◌≡◌, ◌≢◌, ℕ, List, map, slice_get, Some, AllPairs, Contains}
 use Rattle.problem_model.specs.declared.items.Event.{Event}
 use Rattle.problem_model.specs.declared.items.Message.{Message}
 use Rattle.problem_model.specs.declared.items.Node.TheVariants as nodes
@@ -16,6 +16,11 @@ pub record IsCarriedMessage (l : Listed) (m n : Message) : Type 0 where
   pub least : n.least ≡ m.least
   pub most : n.most ≡ m.most
 
+-- the second messages are the first ones
+pub record AreCarriedMessages (l : Listed) (messages others : List Message) : Type 0 where
+  pub forth : (m : Message) → Contains messages m → (n : Message) × Contains others n × IsCarriedMessage l m n
+  pub back : (n : Message) → Contains others n → (m : Message) × Contains messages m × IsCarriedMessage l m n
+
 -- the second problem has the events of the first one, each at the place where its number is listed, and the same messages
 pub record IsByNumber (l : Listed) (p q : ProblemLists) : Type 0 where
   pub clocks : q.clocks ≡ p.clocks
@@ -24,8 +29,7 @@ pub record IsByNumber (l : Listed) (p q : ProblemLists) : Type 0 where
   pub placed : (v place : ℕ) (e : Event) → StandsAt l v place → EventAt p v e → EventAt q place e
   pub every_event : (v : ℕ) (e : Event) → EventAt p v e → (place : ℕ) × StandsAt l v place
   pub numbered : (v place : ℕ) → StandsAt l v place → (e : Event) × EventAt p v e
-  pub messages : (m : Message) → Contains p.messages m → (n : Message) × Contains q.messages n × IsCarriedMessage l m n
-  pub every_message : (n : Message) → Contains q.messages n → (m : Message) × Contains p.messages m × IsCarriedMessage l m n
+  pub messages : AreCarriedMessages l p.messages q.messages
 
 -- each listed event and each listed reading is the node of the graph that is listed with it
 pub record TellsNodes (l : Listed) (g : GraphLists) : Type 0 where

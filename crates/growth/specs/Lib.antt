@@ -3,3 +3,4 @@ pub mod Growing
 pub mod Withdrawing
 pub mod Entering
 pub mod ByNumber
+pub mod Rosters

@@ -10,15 +10,19 @@ use Rattle.sync_graph.specs.declared.arc.Arc.{Arc}
 use Rattle.sync_graph.specs.Graph.{GraphLists}
 use Rattle.sync_graph.specs.InForce.{IsInForce}
 
--- the problem with events behind all that it had: of its messages these are withdrawn, and none came between events that it had
+-- of messages among so many events these are withdrawn, and those that come have an end behind them
+pub record AreMore (before after : List Message) (events : ℕ) (withdrawn : List Message) : Type 0 where
+  pub kept : (m : Message) → Contains before m → Contains after m ⊎ Contains withdrawn m
+  pub gone : (m n : Message) → Contains withdrawn m → Contains after n → n.send ≡ m.send → n.receive ≡ m.receive → ⊥
+  pub none : (m : Message) → Contains after m → m.send < events → m.receive < events → Contains before m
+
+-- the problem with events behind all that it had, of whose messages these are withdrawn
 pub record IsMore (before after : ProblemLists) (withdrawn : List Message) : Type 0 where
   pub clocks : after.clocks ≡ before.clocks
   pub follows : after.follows ≡ before.follows
   pub more : List Event
   pub events : after.events ≡ before.events ++ more
-  pub kept : (m : Message) → Contains before.messages m → Contains after.messages m ⊎ Contains withdrawn m
-  pub gone : (m n : Message) → Contains withdrawn m → Contains after.messages n → n.send ≡ m.send → n.receive ≡ m.receive → ⊥
-  pub none : (m : Message) → Contains after.messages m → m.send < length before.events → m.receive < length before.events → Contains before.messages m
+  pub messages : AreMore before.messages after.messages (length before.events) withdrawn
 
 -- one of the messages leads from one event to the other
 abbrev pub HasMessage : List Message → ℕ → ℕ → Type 0

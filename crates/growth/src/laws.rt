@@ -13,9 +13,13 @@ ghost use Rattle.sync_graph.specs.ListedProblem.{IsListedBy};
 ghost use Rattle.sync_graph.specs.ListedStanding.{StandsForListed};
 ghost use Rattle.growth.specs.Entered.{all_events, events_below, and_event};
 ghost use Rattle.growth.specs.Growing.{IsGrowing, IsGrownTo, IsBoundOf};
-ghost use Rattle.growth.specs.Withdrawing.{IsMore, Withdraws};
+ghost use Rattle.growth.specs.Withdrawing.{IsMore, AreMore, Withdraws};
 ghost use Rattle.growth.specs.Entering.{Enters, AreMessagesOf, AreNearest, entry_bounds};
-ghost use Rattle.growth.specs.ByNumber.{IsByNumber, TellsNodes};
+ghost use Rattle.growth.specs.ByNumber.{IsByNumber, AreCarriedMessages, TellsNodes};
+ghost use Rattle.growth.specs.Rosters.{problem_by_number, KnowsNodes};
+ghost use Rattle.trace_event.specs.Seen.{Seen};
+ghost use Rattle.traces.specs.Messages.{problem_of_seen};
+ghost use Rattle.roster.specs.Roster.{RosterLists, IsRoster, IsGrown, Holds, listed};
 
 /// A law, which does nothing when it runs: once the arcs of withdrawn messages are out of force, a graph that had grown to all
 /// events has grown to these events of the problem with more events.
@@ -40,4 +44,19 @@ pub fn a_bound_is_pushed()
 pub fn the_whole_stands_for_its_problem()
     ensures { (l : Listed) (p q : ProblemLists) (readings : List Reading) (g : GraphLists) → IsGraph g → IsProblem q → AreReadings q readings → IsListedBy l q readings → IsByNumber l p q → TellsNodes l g → IsGrownTo p all_events g
         → StandsForListed l q readings g }
+{}
+
+/// A law, which does nothing when it runs: with events that are pushed, the problem of a roster by number has more events behind those
+/// that it had.
+pub fn a_push_brings_events()
+    ensures { (old new : RosterLists) (label : ℕ) (stamps : List ℕ) (before after withdrawn : List Message) → IsGrown old new label stamps → AreMore before after (length old.came) withdrawn
+        → IsMore (problem_by_number old before) (problem_by_number new after) withdrawn }
+{}
+
+/// A law, which does nothing when it runs: a graph that has grown to all events of a roster, which knows its nodes, stands for the problem
+/// of the declaration and the events as the roster lists it.
+pub fn a_graph_stands_for_its_roster()
+    ensures { (r : RosterLists) (seen : List (List Seen)) (messages : List Message) (readings : List Reading) (g : GraphLists) → IsRoster r → Holds r seen → AreCarriedMessages (listed r) messages (problem_of_seen r.declaration seen).messages
+        → KnowsNodes r g → IsGraph g → IsProblem (problem_of_seen r.declaration seen) → AreReadings (problem_of_seen r.declaration seen) readings → IsGrownTo (problem_by_number r messages) all_events g
+        → StandsForListed (listed r) (problem_of_seen r.declaration seen) readings g }
 {}
