@@ -141,17 +141,17 @@ module _ (p : ProblemLists) (entered : ℕ → Bool) (v : ℕ) (e : Event) (at :
 
     both_below : (s : ℕ) → AreNeighbours p (and_event entered v) e.clock s e.stamp → IsReadingOf p entered e.clock s → AreNeighbours p entered e.clock s e.stamp ⊎ (Left (SpanMost e.clock s e.stamp) × Left (SpanLeast e.clock s e.stamp))
     both_below s are old = elim nearest [
-      | inl known ↦ inl (were e.clock s e.stamp are old (grown.nodes (nodes.Reading e.clock e.stamp) known))
+      | inl known ↦ inl (were e.clock s e.stamp are old (grown.nodes (nodes.Reading e.clock e.stamp) known.0))
       | inr sides ↦ (
-          let has = below_has e.clock e.stamp s below (nearest_below s below sides.0 are old) in
+          let has = below_has e.clock e.stamp s below (nearest_below s below sides.1 are old) in
           inr (in_below v e below above messages (SpanMost e.clock s e.stamp) has.0, in_below v e below above messages (SpanLeast e.clock s e.stamp) has.1))
     ]
 
     both_above : (t : ℕ) → AreNeighbours p (and_event entered v) e.clock e.stamp t → IsReadingOf p entered e.clock t → AreNeighbours p entered e.clock e.stamp t ⊎ (Left (SpanMost e.clock e.stamp t) × Left (SpanLeast e.clock e.stamp t))
     both_above t are old = elim nearest [
-      | inl known ↦ inl (were e.clock e.stamp t are (grown.nodes (nodes.Reading e.clock e.stamp) known) old)
+      | inl known ↦ inl (were e.clock e.stamp t are (grown.nodes (nodes.Reading e.clock e.stamp) known.0) old)
       | inr sides ↦ (
-          let has = above_has e.clock e.stamp t above (nearest_above t above sides.1 are old) in
+          let has = above_has e.clock e.stamp t above (nearest_above t above sides.2 are old) in
           inr (in_above v e below above messages (SpanMost e.clock e.stamp t) has.0, in_above v e below above messages (SpanLeast e.clock e.stamp t) has.1))
     ]
 

@@ -6,3 +6,4 @@ pub mod Counting
 pub mod Carrying
 pub mod Whole
 pub mod Rosters
+pub mod Once

@@ -49,6 +49,7 @@ abbrev pub IsStampAbove : GraphLists → ℕ → ℕ → Option ℕ → Type 0
 IsStampAbove g clock stamp (Some s) = HasNode g (nodes.Reading clock s) × (stamp < s) × ((t : ℕ) → HasNode g (nodes.Reading clock t) → stamp < t → s ≤ t)
 IsStampAbove g clock stamp None = (t : ℕ) → HasNode g (nodes.Reading clock t) → stamp < t → ⊥
 
--- the nearest stamps of a reading that comes, or none where it is there already
+-- the nearest stamps of a reading that comes, and none where it is there already
 abbrev pub AreNearest : GraphLists → Event → Option ℕ → Option ℕ → Type 0
-AreNearest g e below above = HasNode g (nodes.Reading e.clock e.stamp) ⊎ (IsStampBelow g e.clock e.stamp below × IsStampAbove g e.clock e.stamp above)
+AreNearest g e below above = (HasNode g (nodes.Reading e.clock e.stamp) × (below ≡ None) × (above ≡ None))
+    ⊎ ((HasNode g (nodes.Reading e.clock e.stamp) → ⊥) × IsStampBelow g e.clock e.stamp below × IsStampAbove g e.clock e.stamp above)

@@ -4,3 +4,4 @@ pub mod Withdrawing
 pub mod Entering
 pub mod ByNumber
 pub mod Rosters
+pub mod Once

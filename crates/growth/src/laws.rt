@@ -1,5 +1,5 @@
 // What is true of graphs that grow.
-ghost use Rattle.std.specs.Prelude.{◌≡◌, ◌∷◌, ℕ, Bool, List, [], length, Option};
+ghost use Rattle.std.specs.Prelude.{◌≡◌, ◌∷◌, ℕ, Bool, false, List, [], length, Option};
 ghost use Rattle.problem_model.specs.declared.items.Event.{Event};
 ghost use Rattle.problem_model.specs.declared.items.Message.{Message};
 ghost use Rattle.problem_model.specs.declared.items.Bound.{Bound};
@@ -15,6 +15,7 @@ ghost use Rattle.growth.specs.Entered.{all_events, events_below, and_event};
 ghost use Rattle.growth.specs.Growing.{IsGrowing, IsGrownTo, IsBoundOf};
 ghost use Rattle.growth.specs.Withdrawing.{IsMore, AreMore, Withdraws};
 ghost use Rattle.growth.specs.Entering.{Enters, AreMessagesOf, AreNearest, entry_bounds};
+ghost use Rattle.growth.specs.Once.{HasEachOnce, AreApart, TakesOut};
 ghost use Rattle.growth.specs.ByNumber.{IsByNumber, AreCarriedMessages, TellsNodes};
 ghost use Rattle.growth.specs.Rosters.{problem_by_number, KnowsNodes};
 ghost use Rattle.trace_event.specs.Seen.{Seen};
@@ -38,6 +39,15 @@ pub fn an_event_enters()
 /// A law, which does nothing when it runs: a bound that is pushed is no longer left.
 pub fn a_bound_is_pushed()
     ensures { (p : ProblemLists) (entered : ℕ → Bool) (b : Bound) (rest : List Bound) (g : GraphLists) (a : Arc) → IsGraph g → IsBoundOf p g a → a.name ≡ b → IsGrowing p entered (b ∷ rest) g → IsGrowing p entered rest (with_arc g a) }
+{}
+
+/// A law, which does nothing when it runs: no bound is in force twice, while arcs are taken out of force, events enter and bounds are
+/// pushed. So the arcs of withdrawn messages are known by their numbers.
+pub fn bounds_are_in_force_once()
+    ensures withdrawn { (messages : List Message) (numbers : List ℕ) (g h : GraphLists) → TakesOut messages numbers g h → HasEachOnce [] g → Withdraws messages g h × HasEachOnce [] h }
+    ensures entered { (p : ProblemLists) (entered : ℕ → Bool) (v : ℕ) (e : Event) (below above : Option ℕ) (messages : List Message) (g h : GraphLists) → entered v ≡ false → AreNearest g e below above → AreApart v messages
+        → Enters v e g h → IsGrownTo p entered g → HasEachOnce [] g → HasEachOnce (entry_bounds v e below above messages) h }
+    ensures pushed { (b : Bound) (rest : List Bound) (g : GraphLists) (a : Arc) → IsGraph g → a.name ≡ b → HasEachOnce (b ∷ rest) g → HasEachOnce rest (with_arc g a) }
 {}
 
 /// A law, which does nothing when it runs: a graph that has grown to all events of a problem stands for the problem as it is listed.

@@ -14,6 +14,7 @@ const DECLARATION: &str = "[hosts.a]\n[hosts.b]\n[labels.p]\nhost = \"b\"\nkind 
     [labels.q]\nhost = \"a\"\nkind = \"log\"\n[labels.r]\nhost = \"b\"\nkind = \"log\"\n";
 
 // What is listed: the names of events by place, and clocks and stamps of readings by place.
+#[derive(Drop)]
 struct Wanted {
     events: &'static [(&'static str, u32)],
     readings: &'static [(u32, u64)],
@@ -104,8 +105,8 @@ fn lists_reading(roster: &Roster, place: u32, wanted: &(u32, u64)) -> bool {
 }
 
 fn lists(roster: &Roster, wanted: &Wanted) -> bool {
-    let events = wanted.events.iter().enumerate();
-    let readings = wanted.readings.iter().enumerate();
+    let mut events = wanted.events.iter().enumerate();
+    let mut readings = wanted.readings.iter().enumerate();
     roster.event_count() as usize == wanted.events.len()
         && roster.reading_count() as usize == wanted.readings.len()
         && events.all(|(k, event)| lists_event(roster, k as u32, event))
