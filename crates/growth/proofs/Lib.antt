@@ -7,3 +7,4 @@ pub mod Carrying
 pub mod Whole
 pub mod Rosters
 pub mod Once
+pub mod Loop

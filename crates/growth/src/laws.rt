@@ -1,5 +1,6 @@
 // What is true of graphs that grow.
-ghost use Rattle.std.specs.Prelude.{◌≡◌, ◌∷◌, ℕ, Bool, false, List, [], length, Option};
+ghost use Rattle.std.specs.Prelude.{◌≡◌, ◌∷◌, ◌<◌, ℕ, Bool, false, List, [], length, Option, All};
+ghost use Rattle.problem_model.specs.declared.items.Node.TheVariants as nodes;
 ghost use Rattle.problem_model.specs.declared.items.Event.{Event};
 ghost use Rattle.problem_model.specs.declared.items.Message.{Message};
 ghost use Rattle.problem_model.specs.declared.items.Bound.{Bound};
@@ -8,7 +9,8 @@ ghost use Rattle.problem_model.specs.Bounds.{EventAt};
 ghost use Rattle.problem_model.specs.Nodes.{Reading, AreReadings};
 ghost use Rattle.problem.specs.Listing.{Listed};
 ghost use Rattle.sync_graph.specs.declared.arc.Arc.{Arc};
-ghost use Rattle.sync_graph.specs.Graph.{GraphLists, IsGraph, with_arc};
+ghost use Rattle.sync_graph.specs.Graph.{GraphLists, IsGraph, no_graph, with_arc, with_node};
+ghost use Rattle.sync_graph.specs.Standing.{HasNode};
 ghost use Rattle.sync_graph.specs.ListedProblem.{IsListedBy};
 ghost use Rattle.sync_graph.specs.ListedStanding.{StandsForListed};
 ghost use Rattle.growth.specs.Entered.{all_events, events_below, and_event};
@@ -22,6 +24,14 @@ ghost use Rattle.trace_event.specs.Seen.{Seen};
 ghost use Rattle.traces.specs.Messages.{problem_of_seen};
 ghost use Rattle.roster.specs.Roster.{RosterLists, IsRoster, IsGrown, Holds, listed};
 
+/// A law, which does nothing when it runs: without events the empty graph has grown to all of them; and flags that say the same of
+/// each event are as good as one another.
+pub fn growth_begins_with_nothing()
+    ensures nothing { (p : ProblemLists) → p.events ≡ [] → p.messages ≡ [] → IsGrownTo p all_events no_graph × HasEachOnce [] no_graph }
+    ensures alike { (p : ProblemLists) (one other : ℕ → Bool) (left : List Bound) (g : GraphLists) → ((v : ℕ) → v < length p.events → one v ≡ other v)
+        → All (λ m. m.send < length p.events) p.messages → All (λ m. m.receive < length p.events) p.messages → IsGrowing p one left g → IsGrowing p other left g }
+{}
+
 /// A law, which does nothing when it runs: once the arcs of withdrawn messages are out of force, a graph that had grown to all
 /// events has grown to these events of the problem with more events.
 pub fn messages_are_withdrawn()
@@ -34,6 +44,12 @@ pub fn messages_are_withdrawn()
 pub fn an_event_enters()
     ensures { (p : ProblemLists) (entered : ℕ → Bool) (v : ℕ) (e : Event) (below above : Option ℕ) (messages : List Message) (g h : GraphLists) → EventAt p v e → AreNearest g e below above → AreMessagesOf p entered v messages
         → Enters v e g h → IsGrownTo p entered g → IsGrowing p (and_event entered v) (entry_bounds v e below above messages) h }
+{}
+
+/// A law, which does nothing when it runs: an event's nodes come by one push, or by two where its reading is new.
+pub fn nodes_are_pushed()
+    ensures one { (v : ℕ) (e : Event) (g : GraphLists) → HasNode g (nodes.Reading e.clock e.stamp) → Enters v e g (with_node g (nodes.Event v)) }
+    ensures two { (v : ℕ) (e : Event) (g : GraphLists) → Enters v e g (with_node (with_node g (nodes.Event v)) (nodes.Reading e.clock e.stamp)) }
 {}
 
 /// A law, which does nothing when it runs: a bound that is pushed is no longer left.
