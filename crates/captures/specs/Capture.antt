@@ -1,9 +1,10 @@
 -- Captures as whole streams of bytes: what they stand for, and how they are refused.
 use Rattle.std.specs.Prelude.{◌≡◌, ℕ, List, [], ⊤}
-use Rattle.pcap_stream.specs.Capture as pcap
+use Rattle.pcapng_stream.specs.declared.errors.CaptureError.TheVariants as faults
+use Rattle.pcapng_stream.specs.Capture as format
 pub use Rattle.pcap_stream.specs.Capture.{Seen}
 use Rattle.captures.specs.declared.errors.CaptureError.{CaptureError}
-use Rattle.captures.specs.declared.errors.CaptureError.TheVariants.{Magic, Version, Length, Memory}
+use Rattle.captures.specs.declared.errors.CaptureError.TheVariants.{Magic, Version, Length, Block, Memory}
 
 -- what a stream says: its packets, and the bytes behind them, which wait for more
 pub record Capture : Type 0 where
@@ -14,19 +15,20 @@ pub record Capture : Type 0 where
 abbrev pub nothing : Capture
 nothing = record { packets = []; rest = [] }
 
--- what a classic pcap capture says
-abbrev pub of_pcap : pcap.Capture → Capture
-of_pcap c = record { packets = pcap.packets_of c; rest = c.rest }
+-- what a capture says in either format
+abbrev pub of_format : format.Capture → Capture
+of_format c = record { packets = format.packets_of c; rest = format.rest_of c }
 
 -- the stream stands for this capture
 pub record Reads (s : List ℕ) (c : Capture) : Type 0 where
-  pub read : pcap.Capture
-  pub reads : pcap.Reads s read
-  pub says : c ≡ of_pcap read
+  pub read : format.Capture
+  pub reads : format.Reads s read
+  pub says : c ≡ of_format read
 
--- why a stream is refused; a fault of a record is told by its place
+-- why a stream is refused, in the format that its first byte tells; a fault of a record or block is told by its place
 abbrev pub IsFault : List ℕ → CaptureError → Type 0
-IsFault s Magic = pcap.LacksMagic s
-IsFault s Version = pcap.LacksVersion s
-IsFault s (Length place) = pcap.IsTooLongAt s place
+IsFault s Magic = format.IsFault s faults.Magic
+IsFault s Version = format.IsFault s faults.Version
+IsFault s (Length place) = format.IsFault s (faults.Length place)
+IsFault s (Block place) = format.IsFault s (faults.Block place)
 IsFault s Memory = ⊤

@@ -1,12 +1,13 @@
 -- Why a capture is refused, by what its format says.
-use Rattle.pcap_stream.specs.declared.errors.PcapError.{PcapError}
-use Rattle.pcap_stream.specs.declared.errors.PcapError.TheVariants as pcap
+use Rattle.pcapng_stream.specs.declared.errors.CaptureError as format
+use Rattle.pcapng_stream.specs.declared.errors.CaptureError.TheVariants as faults
 use Rattle.captures.specs.declared.errors.CaptureError.{CaptureError}
-use Rattle.captures.specs.declared.errors.CaptureError.TheVariants.{Magic, Version, Length, Memory}
+use Rattle.captures.specs.declared.errors.CaptureError.TheVariants.{Magic, Version, Length, Block, Memory}
 
--- a fault of a classic pcap capture
-abbrev pub capture_error : PcapError → CaptureError
-capture_error pcap.Magic = Magic
-capture_error pcap.Version = Version
-capture_error (pcap.Length place) = Length place
-capture_error pcap.Memory = Memory
+-- a fault of a capture in either format
+abbrev pub capture_error : format.CaptureError → CaptureError
+capture_error faults.Magic = Magic
+capture_error faults.Version = Version
+capture_error (faults.Length place) = Length place
+capture_error (faults.Block place) = Block place
+capture_error faults.Memory = Memory

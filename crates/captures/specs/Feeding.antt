@@ -1,42 +1,32 @@
 -- A stream that comes in pieces: what is kept of it, and what a piece adds.
-use Rattle.std.specs.Prelude.{◌≡◌, ℕ, ◌+◌, List, [], ◌++◌, length, ⊤}
-use Rattle.pcap_stream.specs.Capture as pcap
-use Rattle.pcap_stream.specs.Feeding as pcap_feeding
+use Rattle.std.specs.Prelude.{◌≡◌, ℕ, List, ◌++◌}
+use Rattle.pcapng_stream.specs.Capture as format
+use Rattle.pcapng_stream.specs.Feeding as format_feeding
 pub use Rattle.pcap_stream.specs.declared.packet.Packet.{Packet}
 pub use Rattle.pcap_stream.specs.Feeding.{seen_packet, seen_packets}
-use Rattle.captures.specs.declared.stream.Kept.{Kept}
-use Rattle.captures.specs.declared.stream.Kept.TheVariants.{Nothing, Pcap}
-use Rattle.captures.specs.Capture.{Capture, Seen, nothing, of_pcap}
+use Rattle.captures.specs.Capture.{Capture, Seen, of_format}
 
--- what is kept of a stream, by its format
+-- what is kept of a stream
 abbrev pub Tail : Type 0
-Tail = Kept
+Tail = format_feeding.Tail
 
 -- how many bytes of the stream came
 abbrev pub taken : Tail → ℕ
-taken Nothing = 0
-taken (Pcap tail) = tail.offset + length tail.rest
+taken tail = format_feeding.size_of tail
 
 -- those of them that wait for more
 abbrev pub rest_of : Tail → List ℕ
-rest_of Nothing = []
-rest_of (Pcap tail) = tail.rest
+rest_of tail = format_feeding.rest_in tail
 
 -- the tail is that of nothing
 abbrev pub IsNew : Tail → Type 0
-IsNew Nothing = ⊤
-IsNew (Pcap tail) = ⊥
-
--- the tail is that of a classic pcap capture
-pub record IsPcapTail (tail : pcap_feeding.Tail) (s : List ℕ) (c : Capture) : Type 0 where
-  pub read : pcap.Capture
-  pub stands : pcap_feeding.StandsFor tail s read
-  pub says : c ≡ of_pcap read
+IsNew tail = format_feeding.IsNew tail
 
 -- the tail is that of this stream, which stands for this
-abbrev pub StandsFor : Tail → List ℕ → Capture → Type 0
-StandsFor Nothing s c = (s ≡ []) × (c ≡ nothing)
-StandsFor (Pcap tail) s c = IsPcapTail tail s c
+pub record StandsFor (tail : Tail) (s : List ℕ) (c : Capture) : Type 0 where
+  pub read : format.Capture
+  pub stands : format_feeding.StandsFor tail s read
+  pub says : c ≡ of_format read
 
 -- the tail is that of this stream, which goes on from what stood for c, and the packets that were added are those that it has more
 pub record Grows (t : Tail) (s : List ℕ) (c : Capture) (old new : List Seen) : Type 0 where

@@ -1,7 +1,7 @@
 //! Captures of packets, read piece by piece however they are cut, whatever format they are in.
 //!
 //! The bytes of a capture stand for packets, and for a rest that waits for more bytes. Nothing that a format has beside
-//! these passes this door; today there is one format, classic pcap.
+//! these passes this door. There are two formats, classic pcap and pcapng, and the first byte tells which it is.
 #![tactic(auto)]
 
 mod errors;

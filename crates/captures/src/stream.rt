@@ -1,31 +1,19 @@
 // Captures that come in pieces.
 ghost use Rattle.std.specs.Prelude.{◌≡◌, ◌≢◌, ◌≤◌, ◌+◌, ◌^◌, ◌++◌, ℕ, List, length, IfOk, IfErr, OnErr};
 ghost use Rattle.captures.specs.declared.errors.CaptureError.TheVariants as errors;
-ghost use Rattle.captures.specs.declared.stream.Kept.TheVariants.{Pcap};
 ghost use Rattle.captures.specs.Capture.{Capture, IsFault};
 ghost use Rattle.captures.specs.Feeding.{StandsFor, IsNew, Grows, taken, rest_of, seen_packets};
 
 use crate::{CaptureError, Packet};
-use pcap_stream::PcapStream;
 use std::alloc::Global;
 use std::marker::Model;
-
-/// What is kept of a capture, by its format.
-#[derive(Drop)]
-pub enum Kept {
-    /// Nothing came yet, so its format is not known.
-    Nothing,
-    /// What is kept of a classic pcap capture.
-    Pcap(PcapStream),
-}
 
 /// A capture so far: what is kept of it, so that the next piece can be read.
 ///
 /// It keeps no byte of a packet that was given. A piece may end anywhere.
 #[derive(Drop)]
 pub struct CaptureStream {
-    alloc: Global,
-    kept: Kept,
+    stream: pcapng_stream::CaptureStream,
 }
 
 impl Model for CaptureStream {
@@ -34,7 +22,7 @@ impl Model for CaptureStream {
 
     ghost Value = { Tail };
 
-    ghost view = { λ s. s.kept };
+    ghost view = { λ s. s.stream };
 
     ghost invariant = { λ s. ⊤ };
 }
@@ -45,19 +33,15 @@ impl CaptureStream {
         ensures { IsNew result }
     {
         CaptureStream {
-            alloc,
-            kept: Kept::Nothing,
+            stream: pcapng_stream::CaptureStream::new(alloc),
         }
     }
 
-    /// How many bytes came that wait for more: below 262,160.
+    /// How many bytes came that wait for more: below 2^24.
     pub fn pending(&self) -> u32
         ensures { result ≡ length (rest_of self.now) }
     {
-        match &self.kept {
-            Kept::Nothing => 0,
-            Kept::Pcap(stream) => stream.pending(),
-        }
+        self.stream.pending()
     }
 
     /// Reads the next piece of a capture of at most 2^30 bytes: answers what is then kept of it, and appends the packets
@@ -72,29 +56,7 @@ impl CaptureStream {
         ensures size { IfOk result (λ next. taken next ≡ taken self.now + length piece.now) }
         ensures unchanged { OnErr result (out.new.items ≡ out.old.items) }
     {
-        match &self.kept {
-            Kept::Nothing => feed_pcap(self.alloc, &PcapStream::new(self.alloc), piece, out),
-            Kept::Pcap(stream) => feed_pcap(self.alloc, stream, piece, out),
-        }
+        let next = self.stream.feed(piece, out)?;
+        Ok(CaptureStream { stream: next })
     }
-}
-
-// Reads the next piece of a classic pcap capture.
-fn feed_pcap(
-    alloc: Global,
-    stream: &PcapStream,
-    piece: &[u8],
-    out: &mut Vec<Packet>,
-) -> Result<CaptureStream, CaptureError>
-    requires { taken (Pcap stream.now) + length piece.now ≤ 2 ^ 30 }
-    ensures ok { IfOk result (λ next. (s : List ℕ) (c : Capture) → StandsFor (Pcap stream.now) s c → Grows next (s ++ piece.now) c (seen_packets out.old.items) (seen_packets out.new.items)) }
-    ensures fault { IfErr result (λ e. e ≢ errors.Memory → (s : List ℕ) (c : Capture) → StandsFor (Pcap stream.now) s c → IsFault (s ++ piece.now) e) }
-    ensures size { IfOk result (λ next. taken next ≡ taken (Pcap stream.now) + length piece.now) }
-    ensures unchanged { OnErr result (out.new.items ≡ out.old.items) }
-{
-    let next = stream.feed(piece, out)?;
-    Ok(CaptureStream {
-        alloc,
-        kept: Kept::Pcap(next),
-    })
 }

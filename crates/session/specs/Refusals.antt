@@ -7,7 +7,7 @@ use Rattle.event_log.specs.declared.errors.LogError.TheVariants as faults
 use Rattle.captures.specs.declared.errors.CaptureError.{CaptureError}
 use Rattle.captures.specs.declared.errors.CaptureError.TheVariants as refused
 use Rattle.session.specs.declared.refusal.Refusal.{Refusal}
-use Rattle.session.specs.declared.refusal.Refusal.TheVariants.{NoCommand, UnknownLabel, UnreadFile, TooManyBytes, CaptureMagic, CaptureVersion, CaptureRecord, LogRow, TooManyEvents, UnknownEvent, NoSourceTime}
+use Rattle.session.specs.declared.refusal.Refusal.TheVariants.{NoCommand, UnknownLabel, UnreadFile, TooManyBytes, CaptureMagic, CaptureVersion, CaptureRecord, CaptureBlock, LogRow, TooManyEvents, UnknownEvent, NoSourceTime}
 
 -- the number of a refusal
 abbrev pub number_of : Refusal → ℕ
@@ -18,6 +18,7 @@ number_of TooManyBytes = 23
 number_of CaptureMagic = 24
 number_of CaptureVersion = 24
 number_of (CaptureRecord place) = 25
+number_of (CaptureBlock place) = 31
 number_of (LogRow row lack) = 26
 number_of TooManyEvents = 27
 number_of UnknownEvent = 28
@@ -32,6 +33,7 @@ details TooManyBytes = []
 details CaptureMagic = decimal_of 1 ∷ []
 details CaptureVersion = decimal_of 2 ∷ []
 details (CaptureRecord place) = decimal_of place ∷ []
+details (CaptureBlock place) = decimal_of place ∷ []
 details (LogRow row lack) = decimal_of row ∷ decimal_of lack ∷ []
 details TooManyEvents = []
 details UnknownEvent = []
@@ -54,4 +56,5 @@ abbrev pub capture_refusal : CaptureError → Option Refusal
 capture_refusal refused.Magic = Some CaptureMagic
 capture_refusal refused.Version = Some CaptureVersion
 capture_refusal (refused.Length place) = Some (CaptureRecord place)
+capture_refusal (refused.Block place) = Some (CaptureBlock place)
 capture_refusal refused.Memory = None

@@ -28,9 +28,14 @@ pub enum Refusal {
     CaptureMagic,
     /// The capture is of a version that is not read.
     CaptureVersion,
-    /// A record of the capture is too long.
+    /// A packet of the capture is too long.
     CaptureRecord {
-        /// The place of the record, in bytes from the start of the capture.
+        /// The place of its record or block, in bytes from the start of the capture.
+        place: u32,
+    },
+    /// A block of the capture is malformed.
+    CaptureBlock {
+        /// The place of the block, in bytes from the start of the capture.
         place: u32,
     },
     /// A record of the log is no row.
@@ -61,6 +66,7 @@ impl Refusal {
             Refusal::CaptureMagic => 24,
             Refusal::CaptureVersion => 24,
             Refusal::CaptureRecord { .. } => 25,
+            Refusal::CaptureBlock { .. } => 31,
             Refusal::LogRow { .. } => 26,
             Refusal::TooManyEvents => 27,
             Refusal::UnknownEvent => 28,
@@ -90,6 +96,7 @@ fn push_details(line: &mut Line, refusal: Refusal)
         Refusal::CaptureMagic => push_decimal(line, 1),
         Refusal::CaptureVersion => push_decimal(line, 2),
         Refusal::CaptureRecord { place } => push_decimal(line, u64::from(place)),
+        Refusal::CaptureBlock { place } => push_decimal(line, u64::from(place)),
         Refusal::LogRow { row, lack } => push_both(line, u64::from(row), u64::from(lack)),
         _ => {}
     }
@@ -133,6 +140,7 @@ pub(crate) fn capture_refusal(e: CaptureError) -> Option<Refusal>
         CaptureError::Magic => Some(Refusal::CaptureMagic),
         CaptureError::Version => Some(Refusal::CaptureVersion),
         CaptureError::Length(place) => Some(Refusal::CaptureRecord { place }),
+        CaptureError::Block(place) => Some(Refusal::CaptureBlock { place }),
         CaptureError::Memory => None,
     }
 }

@@ -97,9 +97,11 @@ const FILES: [(&str, &str); 11] = [
     ("empty.csv", ""),
 ];
 
-// Pieces of captures by their paths: no magic number, version 2.3, a record of 2^32 - 1 bytes, a byte.
-const PIECES: [(&str, &[u8]); 4] = [
-    ("no.pcap", &[0x0a, 0x0d]),
+// Pieces of captures by their paths: no magic number in either format, version 2.3, a record of 2^32 - 1 bytes, a byte, and two bytes
+// that may begin a section header.
+const PIECES: [(&str, &[u8]); 6] = [
+    ("no.pcap", &[0x0b, 0x0d]),
+    ("no.pcapng", &[0x0a, 0x0d, 0x0d, 0x0d]),
     ("old.pcap", &[0x4d, 0x3c, 0xb2, 0xa1, 2, 0, 3, 0]),
     (
         "endless.pcap",
@@ -109,6 +111,7 @@ const PIECES: [(&str, &[u8]); 4] = [
         ],
     ),
     ("zero.pcap", &[0]),
+    ("begun.pcapng", &[0x0a, 0x0d]),
 ];
 
 // A session over a declaration: lines with their replies. Reads with these numbers fail, counted from 1.
@@ -118,7 +121,7 @@ struct Case {
     lines: &'static [(&'static str, &'static str)],
 }
 
-const CASES: [Case; 9] = [
+const CASES: [Case; 10] = [
     // Two logs with a message each way. What is refused changes nothing.
     Case {
         declaration: TWO_LOGS_DECLARATION,
@@ -225,6 +228,7 @@ const CASES: [Case; 9] = [
         lines: &[
             ("add c nofile", "refused 22\n"),
             ("add c no.pcap", "refused 24 1\n"),
+            ("add c no.pcapng", "refused 24 1\n"),
             ("add c old.pcap", "refused 24 2\n"),
             ("add c endless.pcap", "refused 25 24\n"),
             ("add c toolong.pcap", "refused 25 68\n"),
@@ -235,6 +239,18 @@ const CASES: [Case; 9] = [
             ("add c zero.pcap", NO_EVENT),
             ("add l a.csv", TWO_EVENTS),
             ("interval l#1 l#2", "interval 80.000000000 80.000000000\n"),
+        ],
+    },
+    // A capture in pcapng that may have begun, and does not go on.
+    Case {
+        declaration: CAPTURE_DECLARATION,
+        fails: &[],
+        lines: &[
+            (
+                "add c begun.pcapng",
+                "added events 0 messages 0 withdrawn 0 pending 2 consistent\n",
+            ),
+            ("add c zero.pcap", "refused 24 1\n"),
         ],
     },
     // A record that is refused, and whole captures.
@@ -335,7 +351,7 @@ fn is_answered_when_cut(
     second: &'static str,
 ) -> Result<bool, Stop> {
     let mut files = MemFiles::new(alloc, &[])?;
-    let is_put = put_cut(&mut files, cut)?;
+    let is_put = put_cut(&mut files, &CAPTURE_A, cut)?;
     let additions = [
         ("add a front", first),
         ("add a back", second),

@@ -1,6 +1,7 @@
-// Captures cut at each byte, and the longest record.
+// Captures cut at each byte, stamps and faults in pcapng, and the longest record.
 use crate::fixtures::{
-    CAPTURE_A, TWO_CAPTURES_DECLARATION, TWO_MESSAGES, put_cut, session_over, step,
+    BLOCKS_A, CAPTURE_A, TWO_CAPTURES_DECLARATION, TWO_EVENTS, TWO_MESSAGES, put_cut, replies_over,
+    session_over, step,
 };
 use atto::{NsText, write_decimal};
 use ports::{MemFiles, MemSink};
@@ -18,17 +19,31 @@ const REPORT: &str =
     "{\"ambiguous\":[],\"consistent\":true,\"events\":1,\"messages\":0,\"nokey\":{\"fragment\":0,\"header\":0,\
     \"length\":0,\"link\":0,\"local\":0,\"other\":1,\"short\":0,\"side\":0},\"unmatched\":0}\n";
 
-// How many records of the capture are whole before a cut, and how many bytes then wait.
-fn parts_at(cut: u64) -> (u64, u64) {
-    if cut < 24 {
-        (0, cut)
-    } else if cut < 68 {
-        (0, cut.saturating_sub(24))
-    } else if cut < 112 {
-        (1, cut.saturating_sub(68))
-    } else {
-        (2, 0)
+// A capture, and the places at which a header, a record or a block of it ends, each with how many packets are whole there.
+struct Whole {
+    bytes: &'static [u8],
+    ends: &'static [(u64, u64)],
+}
+
+const CLASSIC: Whole = Whole {
+    bytes: &CAPTURE_A,
+    ends: &[(24, 0), (68, 1), (112, 2)],
+};
+
+const BLOCKS: Whole = Whole {
+    bytes: &BLOCKS_A,
+    ends: &[(28, 0), (60, 0), (120, 1), (180, 2)],
+};
+
+// How many packets are whole before a cut, and how many bytes then wait.
+fn parts_at(ends: &[(u64, u64)], cut: u64) -> (u64, u64) {
+    let mut parts = (0, cut);
+    for (end, packets) in ends {
+        if *end <= cut {
+            parts = (*packets, cut.saturating_sub(*end));
+        }
     }
+    parts
 }
 
 // Appends the reply to an addition without messages.
@@ -44,9 +59,9 @@ fn push_added(text: &mut Vec<u8>, events: u64, pending: u64) -> Result<(), Alloc
 }
 
 // All replies of a session whose first capture was cut there.
-fn wanted_at(alloc: Global, cut: u64) -> Result<Vec<u8>, AllocError> {
+fn wanted_at(alloc: Global, ends: &[(u64, u64)], cut: u64) -> Result<Vec<u8>, AllocError> {
     let mut text = Vec::new(alloc);
-    let (events, pending) = parts_at(cut);
+    let (events, pending) = parts_at(ends, cut);
     push_added(&mut text, events, pending)?;
     push_added(&mut text, 2_u64.saturating_sub(events), 0)?;
     text.extend_from_slice(TWO_MESSAGES.as_bytes())?;
@@ -105,21 +120,103 @@ const LINES: [&str; 7] = [
 ];
 
 // Whether a capture that is cut there is answered as if it were whole.
-fn whole_over(alloc: Global, files: &mut MemFiles, cut: usize) -> Result<bool, Stop> {
-    let wanted = wanted_at(alloc, cut as u64)?;
+fn whole_over(
+    alloc: Global,
+    files: &mut MemFiles,
+    ends: &[(u64, u64)],
+    cut: usize,
+) -> Result<bool, Stop> {
+    let wanted = wanted_at(alloc, ends, cut as u64)?;
     are_replies(alloc, files, &LINES, &wanted)
 }
 
-fn is_whole(alloc: Global, cut: usize) -> Result<bool, Stop> {
+fn is_whole(alloc: Global, whole: &Whole, cut: usize) -> Result<bool, Stop> {
     let mut files = MemFiles::new(alloc, &[])?;
-    let is_put = put_cut(&mut files, cut)?;
-    Ok(is_put && whole_over(alloc, &mut files, cut)?)
+    let is_put = put_cut(&mut files, whole.bytes, cut)?;
+    Ok(is_put && whole_over(alloc, &mut files, whole.ends, cut)?)
 }
 
 #[test]
 fn cuts_at_each_byte(rt: HostRuntime) {
     for cut in 0..113_usize {
-        assert!(rt; is_whole(rt.alloc(), cut) == Ok(true), "cut {cut}");
+        assert!(rt;
+            is_whole(rt.alloc(), &CLASSIC, cut) == Ok(true),
+            "cut {cut}"
+        );
+    }
+}
+
+#[test]
+fn cuts_between_blocks(rt: HostRuntime) {
+    for cut in 0..181_usize {
+        assert!(rt; is_whole(rt.alloc(), &BLOCKS, cut) == Ok(true), "cut {cut}");
+    }
+}
+
+// Bytes that are altered, each at its place, and the replies to `add` and to `problem`.
+const ALTERED: [(&[(usize, u8)], &str, &str); 6] = [
+    // Microseconds: 5 of them.
+    (
+        &[(48, 6), (76, 5)],
+        TWO_EVENTS,
+        "problem 1\nclock a 0 0 0 0\nclock b 0 0 0 0\nevent a#1 a 5000\nevent a#2 a 180000\nend\n",
+    ),
+    // 1,024 parts of a second: all of them.
+    (
+        &[(48, 0x8a), (76, 0), (77, 4)],
+        TWO_EVENTS,
+        "problem 1\nclock a 0 0 0 0\nclock b 0 0 0 0\nevent a#1 a 1000000000\nevent a#2 a 175781250\nend\n",
+    ),
+    // And one.
+    (
+        &[(48, 0x8a), (76, 1)],
+        TWO_EVENTS,
+        "problem 1\nclock a 0 0 0 0\nclock b 0 0 0 0\nevent a#1 a 976562\nevent a#2 a 175781250\nend\n",
+    ),
+    // A block of 13 bytes, a section of another version, and a packet of too many bytes.
+    (&[(32, 13)], "refused 31 28\n", NO_PROBLEM),
+    (&[(12, 2)], "refused 24 2\n", NO_PROBLEM),
+    (&[(82, 5)], "refused 25 60\n", NO_PROBLEM),
+];
+
+const NO_PROBLEM: &str = "problem 1\nclock a 0 0 0 0\nclock b 0 0 0 0\nend\n";
+
+// The first capture in pcapng with these bytes at these places.
+fn altered(alloc: Global, changes: &[(usize, u8)]) -> Result<Vec<u8>, AllocError> {
+    let mut bytes = Vec::from_slice(alloc, &BLOCKS_A)?;
+    for (place, byte) in changes {
+        if *place < bytes.len() {
+            bytes[*place] = *byte;
+        }
+    }
+    Ok(bytes)
+}
+
+fn put_altered(
+    alloc: Global,
+    files: &mut MemFiles,
+    changes: &[(usize, u8)],
+) -> Result<(), AllocError> {
+    let bytes = altered(alloc, changes)?;
+    files.put("a", &bytes)
+}
+
+fn replies_to(
+    alloc: Global,
+    changes: &[(usize, u8)],
+    added: &str,
+    problem: &str,
+) -> Result<bool, Stop> {
+    let mut files = MemFiles::new(alloc, &[])?;
+    put_altered(alloc, &mut files, changes)?;
+    let lines = [("add a a", added), ("problem", problem)];
+    replies_over(alloc, TWO_CAPTURES_DECLARATION, &mut files, &lines)
+}
+
+#[test]
+fn altered_blocks(rt: HostRuntime) {
+    for (changes, added, problem) in &ALTERED {
+        assert!(rt; replies_to(rt.alloc(), changes, added, problem) == Ok(true));
     }
 }
 

@@ -43,6 +43,21 @@ pub(crate) const CAPTURE_B: [u8; 112] = [
     0x88, 0, 8, 0, 0, //
 ];
 
+// The packets of the first capture at the same times, in pcapng: a section of little-endian numbers, and an interface of link type 101
+// that counts nanoseconds.
+pub(crate) const BLOCKS_A: [u8; 180] = [
+    0x0a, 0x0d, 0x0d, 0x0a, 28, 0, 0, 0, 0x4d, 0x3c, 0x2b, 0x1a, 1, 0, 0, 0, //
+    255, 255, 255, 255, 255, 255, 255, 255, 28, 0, 0, 0, //
+    1, 0, 0, 0, 32, 0, 0, 0, 101, 0, 0, 0, 0, 0, 4, 0, 9, 0, 1, 0, 9, 0, 0, 0, 0, 0, 0, 0, 32, 0,
+    0, 0, //
+    6, 0, 0, 0, 60, 0, 0, 0, 0, 0, 0, 0, 0, 0, 0, 0, 100, 0, 0, 0, 28, 0, 0, 0, 28, 0, 0, 0, //
+    0x45, 0, 0, 0x1c, 0, 7, 0, 0, 0x40, 0x11, 0, 0, 10, 0, 0, 1, 10, 0, 0, 2, 0x13, 0x88, 0x17,
+    0x70, 0, 8, 0, 0, 60, 0, 0, 0, //
+    6, 0, 0, 0, 60, 0, 0, 0, 0, 0, 0, 0, 0, 0, 0, 0, 180, 0, 0, 0, 28, 0, 0, 0, 28, 0, 0, 0, //
+    0x45, 0, 0, 0x1c, 0, 8, 0, 0, 0x40, 0x11, 0, 0, 10, 0, 0, 2, 10, 0, 0, 1, 0x17, 0x70, 0x13,
+    0x88, 0, 8, 0, 0, 60, 0, 0, 0, //
+];
+
 // The replies to additions of no event, of one, of two, and of two that make two messages with those before.
 pub(crate) const NO_EVENT: &str = "added events 0 messages 0 withdrawn 0 pending 0 consistent\n";
 
@@ -67,12 +82,16 @@ pub(crate) const CYCLE: &str =
     step delay-most a#1 b#1 20.000000000\nstep early b#1 0.000000000\nstep span-most b 250 300 50.000000000\n\
     step late b#2 0.000000000\nstep delay-most b#2 a#2 20.000000000\nend\n";
 
-// The first capture in two pieces, and the other one.
-pub(crate) fn put_cut(files: &mut MemFiles, cut: usize) -> Result<bool, AllocError> {
-    if cut > CAPTURE_A.len() {
+// A capture of the first host in two pieces, and the one of the other.
+pub(crate) fn put_cut(
+    files: &mut MemFiles,
+    capture: &[u8],
+    cut: usize,
+) -> Result<bool, AllocError> {
+    if cut > capture.len() {
         return Ok(false);
     }
-    let (front, back) = CAPTURE_A.split_at(cut);
+    let (front, back) = capture.split_at(cut);
     files.put("front", front)?;
     files.put("back", back)?;
     files.put("b", &CAPTURE_B)?;

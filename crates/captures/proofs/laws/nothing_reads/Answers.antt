@@ -1,5 +1,5 @@
 use Rattle.std.proofs.Common.{refl}
-use Rattle.pcap_stream.specs.Capture.{nothing}
+use Rattle.pcapng_stream.specs.Capture.{nothing}
 use Rattle.captures.proofs.laws.nothing_reads.Goals as goal
 
 pub returns : goal.returns

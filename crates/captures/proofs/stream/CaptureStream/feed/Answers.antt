@@ -1,16 +1,21 @@
-use Rattle.std.proofs.Common.{◌≢◌, ◌++◌, sym, ◌∙◌}
-use Rattle.captures.specs.declared.errors.CaptureError.TheVariants as errors
-use Rattle.captures.specs.Capture.{IsFault}
-use Rattle.captures.specs.Feeding.{Grows, seen_packets}
-use Rattle.captures.proofs.Standing.{begun_ok, begun_fault}
+use Rattle.std.proofs.Common.{ℕ, List, ◌≢◌, ◌++◌, subst}
+use Rattle.pcapng_stream.specs.declared.errors.CaptureError.TheVariants as faults
+use Rattle.pcapng_stream.specs.Capture as format
+use Rattle.pcapng_stream.specs.Feeding as feeding
+use Rattle.captures.specs.Capture.{Capture}
+use Rattle.captures.specs.Feeding.{Tail, StandsFor, Grows, seen_packets}
+use Rattle.captures.proofs.Standing.{grown_by, refused_so}
 use Rattle.captures.proofs.stream.CaptureStream.feed.Goals as goal
 
-pub returns-in-Nothing-clause-ok : goal.returns-in-Nothing-clause-ok
-returns-in-Nothing-clause-ok c =
-    begun_ok c.args.self.now c.new.result c.feed_pcap-in-Nothing.result (λ next s capture. Grows next (s ++ c.args.piece.now) capture (seen_packets c.args.out.now.items) (seen_packets c.feed_pcap-in-Nothing.new.out.items))
-    (sym c.self.view_is ∙ c.in-Nothing.is) c.new.ensures c.feed_pcap-in-Nothing.ensures.ok
+pub returns-clause-ok : goal.returns-clause-ok
+returns-clause-ok c =
+    let old = seen_packets c.args.out.now.items in
+    let new = seen_packets c.feed.new.out.items in
+    subst (λ (t : Tail). (s : List ℕ) (capture : Capture) → StandsFor t s capture → Grows c.in_ok-next.next (s ++ c.args.piece.now) capture old new) c.self.view_is
+    (grown_by c.self.inside.stream c.args.piece.now c.in_ok-next.next old new c.in_ok-next.ensures.ok)
 
-pub returns-in-Nothing-clause-fault : goal.returns-in-Nothing-clause-fault
-returns-in-Nothing-clause-fault c =
-    begun_fault c.args.self.now c.new.result c.feed_pcap-in-Nothing.result (λ e. e ≢ errors.Memory) (λ e s capture. IsFault (s ++ c.args.piece.now) e)
-    (sym c.self.view_is ∙ c.in-Nothing.is) c.new.ensures c.feed_pcap-in-Nothing.ensures.fault
+pub returns-in_err-next-clause-fault : goal.returns-in_err-next-clause-fault
+returns-in_err-next-clause-fault c =
+    refused_so c.args.self.now c.args.piece.now c.from_residual.result c.in_err-next.field-0.0 (c.from_residual.ensures.1)
+    (subst (λ (t : Tail). c.in_err-next.field-0.0 ≢ faults.Memory → (s : List ℕ) (capture : format.Capture) → feeding.StandsFor t s capture → format.IsFault (s ++ c.args.piece.now) c.in_err-next.field-0.0) c.self.view_is
+    c.in_err-next.ensures.fault)
