@@ -4,7 +4,7 @@
 #
 #     bench/run_captures.sh [MEGABYTES..]
 #
-# With no sizes 100, 200 and 400. FRAMES names other frame sizes than 60,000 and 1,500 bytes. Each capture is added in pieces
+# With no sizes 100, 200 and 400. FRAMES names other frame sizes than 60,000 and 1,500 bytes, and FORMAT=pcapng the other format. Each capture is added in pieces
 # of 128 MiB, cut anywhere; `capinfos -c`, which counts the packets, reads the same bytes as one file. RUNS runs are made, 3 if
 # it is not set, of which the least processor time counts.
 set -euo pipefail
@@ -45,7 +45,7 @@ echo '| MB | frame, bytes | packets | tracesync, s | capinfos, s | tracesync, Ki
 echo '|---:|---:|---:|---:|---:|---:|'
 for size in "${sizes[@]}"; do
     for frame in "${frames[@]}"; do
-        read -r pieces packets < <(python3 "$bench/captures.py" "$size" "$frame" "$out")
+        read -r pieces packets < <(python3 "$bench/captures.py" "$size" "$frame" "$out" "${FORMAT:-pcap}")
         for ((k = 1; k <= pieces; k++)); do
             echo "add c $out/part$k.pcap"
         done >"$out/script.txt"
