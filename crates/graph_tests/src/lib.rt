@@ -5,8 +5,6 @@
 //! `distance_rows` rows of a graph (`distances`); `kept_rows` rows that are kept and repaired (`repair`); `cells` what a cell tells and `row_pools` rows that are lent
 //! (`row_pool`); `interval_ends` the ends and the order of two events (`intervals`); `empty_certificates` and
 //! `interval_certificates` certificates that are made (`attain`); `greatest_differences` those of two nodes, asked for and by rows that are lent (`engine`);
-//! `solutions` problems that are solved (`solver`); `fixtures` has problems that several of them use.
-//! `interval_certificates` certificates that are made (`attain`); `greatest_differences` those of two events (`reaches`);
 //! `solutions` problems that are solved (`solver`); `engines` arcs that come and go (`engine`); `fixtures` has problems that
 //! several of them use.
 #![tactic(auto)]
