@@ -1,13 +1,12 @@
 -- Nodes and bounds of a problem that are brought in.
-use Rattle.std.proofs.Common.{◌≡◌, ◌<◌, ◌≤◌, ◌+◌, ◌-◌, ℕ, zero, suc, true, false, List, [], ◌∷◌, ◌++◌, length, map, max, not, replicate, count_by, cond, slice_get, Some, None, refl, sym, ◌∙◌, ap, subst, arith, append_assoc, append-nil, length-append}
-use Rattle.std.specs.Prelude.{All, ℤ, Option}
+use Rattle.std.proofs.Common.{◌≡◌, ◌<◌, ◌≤◌, ◌+◌, ◌-◌, ℕ, zero, suc, true, List, [], ◌∷◌, ◌++◌, length, map, max, not, replicate, count_by, cond, slice_get, Some, None, refl, sym, ◌∙◌, ap, subst, arith, append_assoc, append-nil, length-append}
+use Rattle.std.specs.Prelude.{All}
 use Rattle.std.proofs.lemmas.Int.{ints}
 use Rattle.std.proofs.lemmas.List.{length-map, length-replicate}
 use Rattle.std.proofs.lemmas.List.Elements.{All-append, All-nil, All-cons}
 use Rattle.std.proofs.lemmas.List.Sums.{sum_by-cons}
 use Rattle.std.proofs.lemmas.Option.{slice_get_within}
 use Rattle.problem_model.specs.declared.items.Node.{Node}
-use Rattle.problem_model.specs.declared.items.Node.TheVariants as nodes
 use Rattle.problem_model.specs.declared.items.Bound.{Bound}
 use Rattle.problem_model.specs.declared.items.Bound.TheVariants.{SpanMost, SpanLeast, Late, Early, Follow, DelayMost, DelayLeast}
 use Rattle.problem_model.specs.Problem.{ProblemLists, IsProblem}
@@ -17,7 +16,7 @@ use Rattle.problem_model.proofs.OneList.{readings_one}
 use Rattle.problem.proofs.AllReadings.{few_readings}
 use Rattle.attain.proofs.DeclaredBounds.{declared_small}
 use Rattle.sync_graph.specs.declared.arc.Arc.{Arc}
-use Rattle.sync_graph.specs.Graph.{GraphLists, IsSound, with_arc, with_node, no_graph, most_arcs}
+use Rattle.sync_graph.specs.Graph.{GraphLists, IsSound, with_arc, no_graph, most_arcs}
 use Rattle.sync_graph.specs.Names.{Joins, IsNamed}
 use Rattle.sync_graph.specs.Standing.{HasBounds, IsDeclared, NodesLeft}
 use Rattle.sync_graph.proofs.Numbering.{next_less}

@@ -1,5 +1,5 @@
 -- The bounds of all items are those of the short list.
-use Rattle.std.proofs.Common.{◌≡◌, ◌≢◌, ◌<◌, ◌≤◌, ◌+◌, ◌-◌, ◌==◌, ℕ, zero, suc, Bool, true, false, List, [], ◌∷◌, ◌++◌, length, get_or, if◌then◌else◌, Option, Some, None, sym, subst, arith, inl, inr, length-append}
+use Rattle.std.proofs.Common.{◌≡◌, ◌<◌, ◌≤◌, ◌+◌, ◌-◌, ◌==◌, ℕ, zero, suc, Bool, true, false, List, [], ◌∷◌, ◌++◌, length, get_or, if◌then◌else◌, Option, Some, None, sym, subst, arith, inl, inr, length-append}
 use Rattle.std.specs.Prelude.{All, Contains}
 use Rattle.std.specs.List.{flat_map}
 use Rattle.std.proofs.lemmas.Bool.{cases_eq, ne_eqb, cond-false}
@@ -10,7 +10,7 @@ use Rattle.problem_model.specs.declared.items.Bound.{Bound}
 use Rattle.problem_model.specs.declared.items.Bound.TheVariants.{SpanMost, SpanLeast, Late, Early, DelayLeast}
 use Rattle.problem_model.specs.Problem.{ProblemLists, IsProblem}
 use Rattle.problem_model.specs.Nodes.{Reading}
-use Rattle.problem_model.specs.ShortList.{short_list, neighbour_bounds, span_bounds, event_bounds, most_bound, message_bounds}
+use Rattle.problem_model.specs.ShortList.{neighbour_bounds, span_bounds, event_bounds, most_bound, message_bounds}
 use Rattle.problem_model.proofs.Walking.{short_without}
 use Rattle.solver.specs.declared.items.Item.{Item}
 use Rattle.solver.specs.declared.items.Item.TheVariants as items
@@ -31,8 +31,8 @@ events_all P k (e ∷ es) each =
     All-append P (Late k ∷ Early k ∷ []) (event_bounds (k + 1) es)
     (subst (λ (n : ℕ). All P (Late n ∷ Early n ∷ [])) first (each 0 (omega arith)))
     (events_all P (k + 1) es (λ j inside. (
-        let next : k + suc j ≡ k + 1 + j = omega arith in
-        subst (λ (n : ℕ). All P (Late n ∷ Early n ∷ [])) next (each (suc j) (omega (arith, inside))))))
+    let next : k + suc j ≡ k + 1 + j = omega arith in
+    subst (λ (n : ℕ). All P (Late n ∷ Early n ∷ [])) next (each (suc j) (omega (arith, inside))))))
 
 messages_all : (P : Bound → Type 0) (ms : List Message) → ((j : ℕ) → j < length ms → All P (message_bounds (message_at ms j))) → All P (flat_map message_bounds ms)
 messages_all P [] each = All-nil P
@@ -74,8 +74,8 @@ module _ (p : ProblemLists) (readings : List Reading) (all : List Item) (lawful 
       (All-append (Contains bounds) (span_bounds readings) (event_bounds 0 p.events)
       (spans_all (Contains bounds) readings neighbours_all)
       (events_all (Contains bounds) 0 p.events (λ j inside. (
-          let same : j ≡ 0 + j = omega arith in
-          subst (λ (n : ℕ). All (Contains bounds) (Late n ∷ Early n ∷ [])) same (item_all (items.Event j) (are.events_in j inside))))))
+      let same : j ≡ 0 + j = omega arith in
+      subst (λ (n : ℕ). All (Contains bounds) (Late n ∷ Early n ∷ [])) same (item_all (items.Event j) (are.events_in j inside))))))
       (messages_all (Contains bounds) p.messages (λ j inside. item_all (items.Message j) (are.messages_in j inside))))
 
 -- ---- each item has two bounds at most

@@ -1,9 +1,9 @@
 -- No greatest difference of two nodes is above the number of nodes times the greatest weight.
-use Rattle.std.proofs.Common.{◌≡◌, ℕ, zero, suc, ◌+◌, ◌*◌, ◌<◌, ◌≤◌, true, false, cond, List, [], ◌∷◌, length, get_or, refl, ap, subst, arith, inl, inr, ◌⊎◌}
-use Rattle.std.specs.Prelude.{ℤ, pos, neg_ℤ, ◌+ℤ◌, ◌-ℤ◌, ◌≤ℤ◌, ◌<ℤ◌, All, int_lt, if◌then◌else◌}
+use Rattle.std.proofs.Common.{◌≡◌, ℕ, zero, suc, ◌+◌, ◌*◌, ◌<◌, ◌≤◌, true, false, cond, List, [], ◌∷◌, length, get_or, ap, subst, arith, inl, inr, ◌⊎◌}
+use Rattle.std.specs.Prelude.{ℤ, pos, ◌+ℤ◌, ◌-ℤ◌, ◌≤ℤ◌, ◌<ℤ◌, All, int_lt, if◌then◌else◌}
 use Rattle.std.proofs.lemmas.Int.{ints}
-use Rattle.std.proofs.lemmas.Bool.{cases_Bool, cond-true, cond-false, cases_lt}
-use Rattle.difference_bounds.specs.Executions.{Arc, at, difference, Obeys, IsExecution, AreWithin, values_by}
+use Rattle.std.proofs.lemmas.Bool.{cases_Bool, cond-true, cond-false}
+use Rattle.difference_bounds.specs.Executions.{Arc, at, Obeys, IsExecution, AreWithin, values_by}
 use Rattle.difference_bounds.specs.Differences.{IsGreatest}
 use Rattle.difference_bounds.proofs.Executions.{at-values_by, execution_by}
 
@@ -97,73 +97,73 @@ raised-high t xs k h = cond-true (int_lt t (at xs k)) (at xs k +ℤ pos 1) (at x
 module _ (nodes : ℕ) (arcs : List Arc) (height : ℕ) (within : AreWithin nodes arcs) (low_enough : All (λ a. a.weight ≤ℤ pos height) arcs) (p q : ℕ) (h : ℤ)
     (p_below : p < nodes) (q_below : q < nodes) (greatest : IsGreatest nodes arcs p q h)
   where
-  abbrev xs : List ℤ
-  xs = greatest.attained.0
+    abbrev xs : List ℤ
+    xs = greatest.attained.0
 
-  execution : IsExecution nodes arcs xs
-  execution = greatest.attained.1
+    execution : IsExecution nodes arcs xs
+    execution = greatest.attained.1
 
-  -- where no value lies between, all above it could come later
-  module _ (t : ℤ) (from : at xs p ≤ℤ t) (split : (k : ℕ) → k < nodes → (at xs k ≤ℤ t) ⊎ ((t +ℤ pos height) <ℤ at xs k)) where
-    raised_arc : (a : Arc) → a.from < nodes → a.to < nodes → a.weight ≤ℤ pos height → Obeys (at xs) a → Obeys (raised t xs) a
-    raised_arc a lf lt w o = elim (split a.from lf) [
-      | inl f ↦
-          let ef : raised t xs a.from ≡ at xs a.from = raised-low t xs a.from f in
-          elim (split a.to lt) [
-            | inl g ↦ omega (arith, ints, raised-low t xs a.to g)
-            | inr g ↦ absurd (omega (arith, ints))
-          ]
-      | inr f ↦
-          let ef : raised t xs a.from ≡ at xs a.from +ℤ pos 1 = raised-high t xs a.from (omega (arith, ints)) in
-          elim (split a.to lt) [
-            | inl g ↦ omega (arith, ints, raised-low t xs a.to g)
-            | inr g ↦ omega (arith, ints, raised-high t xs a.to (omega (arith, ints)))
-          ]
-    ]
-
-    raised_execution : IsExecution nodes arcs (values_by (raised t xs) nodes)
-    raised_execution = execution_by (raised t xs) nodes arcs within (λ k d l. raised_arc (get_or arcs k d) (within k d l).0 (within k d l).1 (low_enough k d l) (execution.obeys k d l))
-
-    not_above : at xs q ≤ℤ t
-    not_above = elim (split q q_below) [
-      | inl f ↦ f
-      | inr f ↦
-          let one : at (values_by (raised t xs) nodes) q ≡ raised t xs q = at-values_by (raised t xs) nodes q q_below in
-          let other : at (values_by (raised t xs) nodes) p ≡ raised t xs p = at-values_by (raised t xs) nodes p p_below in
-          let later : raised t xs q ≡ at xs q +ℤ pos 1 = raised-high t xs q (omega (arith, ints)) in
-          let same : raised t xs p ≡ at xs p = raised-low t xs p from in
-          let is : (at xs q -ℤ at xs p) ≡ h = greatest.attained.2 in
-          let most : (at (values_by (raised t xs) nodes) q -ℤ at (values_by (raised t xs) nodes) p) ≤ℤ h = greatest.most (values_by (raised t xs) nodes) raised_execution in
-          absurd (omega (arith, ints))
-    ]
-
-  abbrev level : ℕ → ℤ
-  level j = at xs p +ℤ pos (j * height)
-
-  -- at each level fewer values are left, or the second node is not above it
-  levels : (j : ℕ) → (above (level j) xs + j ≤ nodes) ⊎ (at xs q ≤ℤ level j)
-  levels zero = inl (omega (arith, above-le (level 0) xs, execution.one_each))
-  levels (suc j) =
-      let more : pos (suc j * height) ≡ pos (j * height) +ℤ pos height = (let m : suc j * height ≡ j * height + height = omega arith in ap pos m) in
-      let next : level (suc j) ≡ level j +ℤ pos height = omega (arith, ints, more) in
-      let up : level j ≤ℤ level (suc j) = omega (arith, ints, next) in
-      elim (levels j) [
-        | inr z ↦ inr (omega (arith, ints, up, z))
-        | inl fewer ↦ elim (gap (level j) (level (suc j)) xs up) [
-          | inl f ↦ inl (omega (arith, f, fewer))
-          | inr g ↦
-              let split : (k : ℕ) → k < nodes → (at xs k ≤ℤ level j) ⊎ ((level j +ℤ pos height) <ℤ at xs k) =
-              (λ k l. subst (λ v. (at xs k ≤ℤ level j) ⊎ (v <ℤ at xs k)) next (g k (omega (arith, l, execution.one_each)))) in
-              let no_more : at xs q ≤ℤ level j = not_above (level j) (omega (arith, ints)) split in
-              inr (omega (arith, ints, up, no_more))
-        ]
+    -- where no value lies between, all above it could come later
+    module _ (t : ℤ) (from : at xs p ≤ℤ t) (split : (k : ℕ) → k < nodes → (at xs k ≤ℤ t) ⊎ ((t +ℤ pos height) <ℤ at xs k)) where
+      raised_arc : (a : Arc) → a.from < nodes → a.to < nodes → a.weight ≤ℤ pos height → Obeys (at xs) a → Obeys (raised t xs) a
+      raised_arc a lf lt w o = elim (split a.from lf) [
+        | inl f ↦
+            let ef : raised t xs a.from ≡ at xs a.from = raised-low t xs a.from f in
+            elim (split a.to lt) [
+              | inl g ↦ omega (arith, ints, raised-low t xs a.to g)
+              | inr g ↦ absurd (omega (arith, ints))
+            ]
+        | inr f ↦
+            let ef : raised t xs a.from ≡ at xs a.from +ℤ pos 1 = raised-high t xs a.from (omega (arith, ints)) in
+            elim (split a.to lt) [
+              | inl g ↦ omega (arith, ints, raised-low t xs a.to g)
+              | inr g ↦ omega (arith, ints, raised-high t xs a.to (omega (arith, ints)))
+            ]
       ]
 
-  pub greatest_height : h ≤ℤ pos (nodes * height)
-  greatest_height =
-      let below : at xs q ≤ℤ level nodes = elim (levels nodes) [
-        | inl few ↦ from_none_above (level nodes) xs (omega (arith, few)) q (omega (arith, q_below, execution.one_each))
-        | inr is ↦ is
-      ] in
-      let is : (at xs q -ℤ at xs p) ≡ h = greatest.attained.2 in
-      omega (arith, ints, below, is)
+      raised_execution : IsExecution nodes arcs (values_by (raised t xs) nodes)
+      raised_execution = execution_by (raised t xs) nodes arcs within (λ k d l. raised_arc (get_or arcs k d) (within k d l).0 (within k d l).1 (low_enough k d l) (execution.obeys k d l))
+
+      not_above : at xs q ≤ℤ t
+      not_above = elim (split q q_below) [
+        | inl f ↦ f
+        | inr f ↦
+            let one : at (values_by (raised t xs) nodes) q ≡ raised t xs q = at-values_by (raised t xs) nodes q q_below in
+            let other : at (values_by (raised t xs) nodes) p ≡ raised t xs p = at-values_by (raised t xs) nodes p p_below in
+            let later : raised t xs q ≡ at xs q +ℤ pos 1 = raised-high t xs q (omega (arith, ints)) in
+            let same : raised t xs p ≡ at xs p = raised-low t xs p from in
+            let is : (at xs q -ℤ at xs p) ≡ h = greatest.attained.2 in
+            let most : (at (values_by (raised t xs) nodes) q -ℤ at (values_by (raised t xs) nodes) p) ≤ℤ h = greatest.most (values_by (raised t xs) nodes) raised_execution in
+            absurd (omega (arith, ints))
+      ]
+
+    abbrev level : ℕ → ℤ
+    level j = at xs p +ℤ pos (j * height)
+
+    -- at each level fewer values are left, or the second node is not above it
+    levels : (j : ℕ) → (above (level j) xs + j ≤ nodes) ⊎ (at xs q ≤ℤ level j)
+    levels zero = inl (omega (arith, above-le (level 0) xs, execution.one_each))
+    levels (suc j) =
+        let more : pos (suc j * height) ≡ pos (j * height) +ℤ pos height = (let m : suc j * height ≡ j * height + height = omega arith in ap pos m) in
+        let next : level (suc j) ≡ level j +ℤ pos height = omega (arith, ints, more) in
+        let up : level j ≤ℤ level (suc j) = omega (arith, ints, next) in
+        elim (levels j) [
+          | inr z ↦ inr (omega (arith, ints, up, z))
+          | inl fewer ↦ elim (gap (level j) (level (suc j)) xs up) [
+            | inl f ↦ inl (omega (arith, f, fewer))
+            | inr g ↦
+                let split : (k : ℕ) → k < nodes → (at xs k ≤ℤ level j) ⊎ ((level j +ℤ pos height) <ℤ at xs k) =
+                (λ k l. subst (λ v. (at xs k ≤ℤ level j) ⊎ (v <ℤ at xs k)) next (g k (omega (arith, l, execution.one_each)))) in
+                let no_more : at xs q ≤ℤ level j = not_above (level j) (omega (arith, ints)) split in
+                inr (omega (arith, ints, up, no_more))
+          ]
+        ]
+
+    pub greatest_height : h ≤ℤ pos (nodes * height)
+    greatest_height =
+        let below : at xs q ≤ℤ level nodes = elim (levels nodes) [
+          | inl few ↦ from_none_above (level nodes) xs (omega (arith, few)) q (omega (arith, q_below, execution.one_each))
+          | inr is ↦ is
+        ] in
+        let is : (at xs q -ℤ at xs p) ≡ h = greatest.attained.2 in
+        omega (arith, ints, below, is)

@@ -1,15 +1,13 @@
 -- What is held of a graph that stands for a listed problem, of the problem.
-use Rattle.std.proofs.Common.{◌≡◌, ◌<◌, ◌≤◌, ◌*◌, ◌^◌, ℕ, suc, true, List, [], ◌∷◌, length, map, refl, sym, ◌∙◌, ap, subst, arith}
-use Rattle.std.specs.Prelude.{ℤ, pos, neg_ℤ, ◌+ℤ◌, ◌-ℤ◌, ◌≤ℤ◌, ◌<ℤ◌, All}
+use Rattle.std.proofs.Common.{◌≡◌, ◌<◌, ℕ, suc, List, [], ◌∷◌, length, map, refl, sym, ◌∙◌, ap, subst, arith}
+use Rattle.std.specs.Prelude.{ℤ, pos, ◌+ℤ◌, ◌<ℤ◌, All}
 use Rattle.std.proofs.lemmas.Int.{ints}
 use Rattle.std.proofs.lemmas.List.Elements.{All-head, All-tail}
 use Rattle.problem_model.specs.declared.items.Node.{Node}
-use Rattle.problem_model.specs.declared.items.Bound.{Bound}
 use Rattle.problem_model.specs.Problem.{ProblemLists}
-use Rattle.problem_model.specs.Bounds.{Times, IsExecution}
+use Rattle.problem_model.specs.Bounds.{Times}
 use Rattle.problem_model.specs.Nodes.{Reading, AreReadings, nodes_of}
 use Rattle.difference_bounds.specs.Executions.{at}
-use Rattle.difference_bounds.specs.Executions as bounds
 use Rattle.difference_bounds.specs.Paths.{Joins, sum_of}
 use Rattle.difference_bounds.specs.Solutions.{IsEarliestExecution, Leads, weight_of, IsContradictionOf}
 use Rattle.difference_bounds.proofs.Solutions.{no_execution}
@@ -23,7 +21,7 @@ use Rattle.attain.specs.ListedProblem.{AreCarried}
 use Rattle.attain.proofs.ListedProblems.{cycle_carried, run_listed}
 use Rattle.attain.proofs.NamedBounds.{named}
 use Rattle.sync_graph.specs.declared.arc.Arc.{Arc}
-use Rattle.sync_graph.specs.Graph.{GraphLists, IsGraph, unnamed}
+use Rattle.sync_graph.specs.Graph.{GraphLists, unnamed}
 use Rattle.sync_graph.specs.InForce.{IsInForce}
 use Rattle.sync_graph.specs.ListedStanding.{IsNodeBy, StandsForListed}
 use Rattle.sync_graph.proofs.NodeNumbers.{node_count, one_node, times_by}

@@ -1,6 +1,6 @@
 -- The greatest differences of two nodes of a graph that stands for a listed problem.
-use Rattle.std.proofs.Common.{◌≡◌, ◌<◌, ◌≤◌, ◌*◌, ◌^◌, ℕ, List, [], length, get_or, sym, ◌∙◌, subst, arith}
-use Rattle.std.specs.Prelude.{ℤ, pos, neg_ℤ, ◌-ℤ◌, ◌≤ℤ◌, ◌<ℤ◌, All}
+use Rattle.std.proofs.Common.{◌≡◌, ◌<◌, ◌≤◌, ◌*◌, ◌^◌, ℕ, List, [], length, get_or, subst, arith}
+use Rattle.std.specs.Prelude.{ℤ, pos, neg_ℤ, ◌-ℤ◌, ◌≤ℤ◌, ◌<ℤ◌}
 use Rattle.std.proofs.lemmas.Int.{ints}
 use Rattle.std.proofs.lemmas.List.Elements.{Contains-get_or}
 use Rattle.problem_model.specs.declared.items.Node.{Node}
@@ -32,9 +32,9 @@ use Rattle.solver.proofs.GreatHeights.{greatest_height}
 module _ (l : Listed) (p : ProblemLists) (readings : List Reading) (g : GraphLists) (stands : StandsForListed l p readings g) (is : IsGraph g)
     (j k : ℕ) (m n : Node) (by : IsNodeBy l p readings j m) (by' : IsNodeBy l p readings k n)
   where
-  there : (r : Reach) → IsReachIn g j k r → IsReachOf p m n r
-  there (reaches.At h) greatest = greatest_of l p readings g stands is j k m n by by' h greatest
-  there reaches.Never unbounded = unbounded_of l p readings g stands is j k m n by by' unbounded
+    there : (r : Reach) → IsReachIn g j k r → IsReachOf p m n r
+    there (reaches.At h) greatest = greatest_of l p readings g stands is j k m n by by' h greatest
+    there reaches.Never unbounded = unbounded_of l p readings g stands is j k m n by by' unbounded
 
 pub pair_of : (l : Listed) (p : ProblemLists) (readings : List Reading) (s : SolverLists) (j k : ℕ) (m n : Node) (pair : Pair) → AreReadings p readings → IsSolutionBy l p s
     → IsNodeBy l p readings j m → IsNodeBy l p readings k n → IsPairIn s.graph j k pair → IsPairOf p m n pair

@@ -1,5 +1,5 @@
 -- Items that are brought in one after another.
-use Rattle.std.proofs.Common.{◌≡◌, ◌<◌, ◌≤◌, ◌+◌, ℕ, zero, suc, List, [], ◌∷◌, ◌++◌, length, map, take, get_or, refl, sym, ◌∙◌, ap, subst, arith, append-nil}
+use Rattle.std.proofs.Common.{◌≡◌, ◌<◌, ◌≤◌, ◌+◌, ℕ, zero, suc, List, [], ◌∷◌, ◌++◌, length, take, get_or, refl, sym, ◌∙◌, ap, subst, arith, append-nil}
 use Rattle.std.specs.Prelude.{All}
 use Rattle.std.specs.List.{flat_map}
 use Rattle.std.proofs.lemmas.List.{length-map, get_or-map, map-append, take_more}
@@ -8,7 +8,6 @@ use Rattle.problem_model.specs.declared.items.Bound.{Bound}
 use Rattle.problem_model.specs.Problem.{ProblemLists}
 use Rattle.problem_model.specs.Nodes.{Reading}
 use Rattle.engine.specs.Solver.{SolverLists}
-use Rattle.solver.specs.declared.items.Item.{Item}
 use Rattle.solver.specs.declared.items.Ranked.{Ranked}
 use Rattle.solver.specs.Items.{IsItem, bounds_of, items_of}
 use Rattle.solver.specs.Pushing.{AddsBounds}

@@ -1,5 +1,5 @@
 -- What solving a problem answers.
-use Rattle.std.specs.Prelude.{◌≡◌, ◌≤◌, List, length, map, All}
+use Rattle.std.specs.Prelude.{◌≤◌, List, length, map, All}
 use Rattle.problem_model.specs.Problem.{ProblemLists}
 use Rattle.problem_model.specs.Bounds.{Times, IsExecution}
 use Rattle.problem_model.specs.Nodes.{Reading, AreReadings, nodes_of}

@@ -1,4 +1,4 @@
-use Rattle.std.proofs.Common.{take, get_or, ℕ, length, arith}
+use Rattle.std.proofs.Common.{take, get_or, ℕ, arith}
 use Rattle.std.proofs.lemmas.List.{get_or_default}
 use Rattle.std.specs.List.{flat_map}
 use Rattle.sync_graph.specs.Graph.{most_arcs}

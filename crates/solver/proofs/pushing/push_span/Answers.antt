@@ -1,4 +1,4 @@
-use Rattle.std.proofs.Common.{rules, ◌≡◌, ◌<◌, ◌+◌, ◌∷◌, [], ℕ, List, length, refl, sym, subst, arith}
+use Rattle.std.proofs.Common.{rules, ◌<◌, List, length, sym, subst, arith}
 use Rattle.std.specs.Prelude.{pos, ◌-ℤ◌}
 use Rattle.std.proofs.lemmas.Int.{ints, to_z-of_z}
 use mir.Syntax.{w128}
@@ -7,9 +7,9 @@ use Rattle.problem_model.specs.declared.items.Bound.{Bound}
 use Rattle.problem_model.specs.declared.items.Bound.TheVariants.{SpanMost, SpanLeast}
 use Rattle.problem_model.specs.declared.items.Clock.{Clock}
 use Rattle.sync_graph.proofs.OneMore.{on_ok}
-use Rattle.solver.specs.Pushing.{arc_of, AddsBounds}
+use Rattle.solver.specs.Pushing.{AddsBounds}
 use Rattle.solver.proofs.Bringing.{two_added}
-use Rattle.solver.proofs.DeclaredArcs.{below_all, clock_below, rising, most_is_declared, least_is_declared, span_names}
+use Rattle.solver.proofs.DeclaredArcs.{below_all, clock_below, most_is_declared, least_is_declared, span_names}
 use Rattle.solver.proofs.pushing.push_span.Goals as goal
 
 pub bounds-clocks-a : goal.bounds-clocks-a

@@ -1,4 +1,4 @@
-use Rattle.std.proofs.Common.{◌≡◌, ◌≤◌, ◌+◌, List, length, All, ◌∙◌, sym, subst}
+use Rattle.std.proofs.Common.{◌≤◌, ◌+◌, List, length, All, ◌∙◌, sym, subst}
 use Rattle.std.specs.List.{flat_map}
 use Rattle.sync_graph.specs.Graph.{most_arcs}
 use Rattle.solver.specs.declared.items.Ranked.{Ranked}

@@ -1,4 +1,4 @@
-use Rattle.std.proofs.Common.{◌≡◌, [], ap, ◌∙◌}
+use Rattle.std.proofs.Common.{ap, ◌∙◌}
 use Rattle.row_pool.specs.Pool.{free_rows}
 use Rattle.repair.specs.Slots.{KeptRows}
 use Rattle.solver.proofs.Bringing.{come_first, come_all, all_free}
