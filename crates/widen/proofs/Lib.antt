@@ -7,4 +7,13 @@ pub mod Taking
 pub mod Reading
 pub mod Readable
 pub mod Writing
+pub mod Raising
+pub mod AnyOrder
+pub mod Solved
+pub mod RaisedGraphs
+pub mod FoundTexts
+pub mod Summing
+pub mod Concluding
+pub mod Lasting
+pub mod Ground
 mod Worked

@@ -20,7 +20,7 @@ use Rattle.widen.specs.Least.{most_extra, HasExecution, IsLeastWidening, HasNoWi
 use Rattle.widen.specs.Widening.{IsWideningOf, ShowsWidening}
 
 -- the greatest delay that was widened
-unwidened : (e most : ℕ) (o : Option ℕ) → widened_most e o ≡ Some most → (n : ℕ) × (o ≡ Some n) × (most ≡ n + e)
+pub unwidened : (e most : ℕ) (o : Option ℕ) → widened_most e o ≡ Some most → (n : ℕ) × (o ≡ Some n) × (most ≡ n + e)
 unwidened e most None is = absurd cc
 unwidened e most (Some n) is = (n, refl, cc)
 
@@ -57,7 +57,7 @@ pub rises : (p : ProblemLists) (e f : ℕ) (x : Times) → e ≤ f → IsExecuti
 rises p e f x le execution = further p e f le x execution
 
 -- where a widening leaves a contradiction, a lesser one has no execution
-none_below : (p : ProblemLists) (cycle : List Step) (e f : ℕ) → IsContradictionOf (widened p f) (weighed_bounds cycle) → e ≤ f → HasExecution p e → ⊥
+pub none_below : (p : ProblemLists) (cycle : List Step) (e f : ℕ) → IsContradictionOf (widened p f) (weighed_bounds cycle) → e ≤ f → HasExecution p e → ⊥
 none_below p cycle e f shown le (x, execution) = no_execution (widened p f) (weighed_bounds cycle) x shown (rises p e f x le execution)
 
 pub shown_least : (p : ProblemLists) (extra : ℕ) (execution : List ℤ) (cycle : Option (List Step)) → extra < 2 ^ 62

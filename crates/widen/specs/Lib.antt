@@ -5,3 +5,6 @@ pub mod WideningFormat
 pub mod ReadsWidening
 pub mod ReadsLines
 pub mod JudgedText
+pub mod Raised
+pub mod Found
+pub mod Search

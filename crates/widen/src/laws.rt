@@ -4,18 +4,22 @@ ghost use Rattle.line_format.specs.Format.{Answers, Answer};
 ghost use Rattle.line_format.specs.Format.Answer.{Found};
 ghost use Rattle.problem_model.specs.Problem.{ProblemLists, IsWellFormed, IsProblem};
 ghost use Rattle.problem_model.specs.Bounds.{Times, IsExecution};
-ghost use Rattle.problem_model.specs.Nodes.{Reading, AreReadings};
+ghost use Rattle.problem_model.specs.Nodes.{Reading, AreReadings, nodes_of};
 ghost use Rattle.cert.specs.declared.chain.Step.{Step};
 ghost use Rattle.cert.specs.declared.error.CertError.{CertError};
 ghost use Rattle.cert.specs.declared.error.CertError.TheVariants as errors;
 ghost use Rattle.cert_check.specs.declared.answer.Answer as judged;
+ghost use Rattle.cert_check.specs.declared.answer.Answer.TheVariants as answers;
 ghost use Rattle.cert_check.specs.Widened.{widened};
 ghost use Rattle.widen.specs.declared.widening.Widening.{Widening};
 ghost use Rattle.widen.specs.declared.widening.Widening.TheVariants.{Least, Never};
 ghost use Rattle.widen.specs.Least.{IsLeastWidening, HasNoWidening};
 ghost use Rattle.widen.specs.Widening.{IsWideningOf, ShowsWidening, IsJudged};
+ghost use Rattle.widen.specs.WideningText.{widening_text};
 ghost use Rattle.widen.specs.WideningFormat.{WideningSaid, said, widening_format};
 ghost use Rattle.widen.specs.ReadsWidening.{IsWideningTextOf, ReadsWideningOver};
+ghost use Rattle.widen.specs.JudgedText.{JudgesText};
+ghost use Rattle.widen.specs.Found.{FindsWidening};
 
 /// A law, which does nothing when it runs. What is an execution where greatest delays are some ns greater is one where they are
 /// still greater. So a widening that shows what it should is the least one, or there is none; a problem has one least
@@ -37,4 +41,15 @@ pub fn widening_answers_are_one()
     ensures found { (p : ProblemLists) (readings : List Reading) (text : List ℕ) (w : Widening) → AreReadings p readings → (IsWideningTextOf p readings w text ↔ Answers (widening_format p readings) text (Found (said w))) }
     ensures read_again { (p : ProblemLists) (readings : List Reading) (text : List ℕ) (w : Widening) (result : Result Widening CertError) → IsProblem p → AreReadings p readings → IsWideningTextOf p readings w text
         → ReadsWideningOver p readings text result → (result ≡ Ok w) ⊎ (result ≡ Err errors.Memory) }
+{}
+
+/// A law, which does nothing when it runs: what `least_widening` finds is the least widening, or there is none. Its text is not
+/// too long and its numbers are in range, and what reading and judging it answers is yes, or that memory ran out.
+pub fn found_widenings()
+    ensures least { (p : ProblemLists) (extra : ℕ) (execution : List ℤ) (cycle : Option (List Step)) → FindsWidening p (Least extra execution cycle) → IsLeastWidening p extra }
+    ensures never { (p : ProblemLists) (cycle : List Step) → FindsWidening p (Never cycle) → HasNoWidening p }
+    ensures fits { (p : ProblemLists) (readings : List Reading) (w : Widening) → IsProblem p → AreReadings p readings → FindsWidening p w
+        → IsWideningTextOf p readings w (widening_text p (nodes_of p readings) w) }
+    ensures accepted { (p : ProblemLists) (readings : List Reading) (w : Widening) (result : Result judged.Answer CertError) → IsProblem p → AreReadings p readings → FindsWidening p w
+        → JudgesText p (widening_text p (nodes_of p readings) w) result → (result ≡ Ok answers.Yes) ⊎ (result ≡ Err errors.Memory) }
 {}

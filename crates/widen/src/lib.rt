@@ -6,15 +6,23 @@
 //! `judge` checks one and trusts no solver; `read_widening` and `write_widening` have its text.
 #![tactic(auto)]
 
+mod choice;
+mod cycles;
+mod finding;
 mod judging;
+mod known;
 mod laws;
+mod raised;
 mod read;
 mod text;
+mod tried;
+mod trying;
 mod widening;
 mod write;
 
+pub use finding::least_widening;
 pub use judging::judge;
-pub use laws::{least, widening_answers_are_one};
+pub use laws::{found_widenings, least, widening_answers_are_one};
 pub use read::read_widening;
 pub use text::judge_text;
 pub use widening::Widening;

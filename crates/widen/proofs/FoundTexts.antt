@@ -1,0 +1,182 @@
+-- What is found is a widening of the problem that shows what it should, and its text is one that is read again.
+use Rattle.std.proofs.Common.{◌≡◌, ◌<◌, ◌≤◌, ◌+◌, ◌-◌, ◌*◌, ◌^◌, ℕ, List, [], ◌∷◌, ◌++◌, length, get_or, codes, Option, Some, None, Result, Ok, Err, refl, sym, ◌∙◌, ap, subst, arith, inl, inr, length-append}
+use Rattle.std.specs.Prelude.{ℤ, pos, neg_ℤ, ◌⊎◌, All}
+use Rattle.std.specs.List.{flat_map}
+use Rattle.std.proofs.lemmas.Int.{ints}
+use Rattle.std.proofs.lemmas.List.{length-map}
+use Rattle.std.proofs.lemmas.List.Elements.{All-nil, All-cons}
+use Rattle.atto.specs.Number.{FitsUnits}
+use Rattle.atto.specs.Decimal.{decimal_of}
+use Rattle.atto.proofs.DecimalLemmas.{length-decimal_of-le}
+use Rattle.line_format.specs.Words.{line_of}
+use Rattle.line_format.specs.Format.{most_bytes}
+use Rattle.problem_model.specs.declared.items.Message.{Message}
+use Rattle.problem_model.specs.declared.items.Node.{Node}
+use Rattle.problem_model.specs.declared.items.Node.TheVariants as nodes
+use Rattle.problem_model.specs.declared.items.Bound.{Bound}
+use Rattle.problem_model.specs.declared.items.Bound.TheVariants.{SpanMost, SpanLeast, Late, Early, Follow, DelayMost, DelayLeast}
+use Rattle.problem_model.specs.Problem.{ProblemLists, IsProblem}
+use Rattle.problem_model.specs.Bounds.{Constraint, Declares}
+use Rattle.problem_model.specs.ExecutionText.{value_lines}
+use Rattle.problem_model.specs.Nodes.{Reading, AreReadings, nodes_of}
+use Rattle.problem.proofs.ListedNodes.{few_nodes}
+use Rattle.difference_bounds.specs.Numbers.{IsUpTo}
+use Rattle.difference_bounds.specs.Solutions.{Leads}
+use Rattle.cert.specs.declared.chain.Step.{Step}
+use Rattle.cert.specs.declared.error.CertError.{CertError}
+use Rattle.cert.specs.declared.error.CertError.TheVariants as errors
+use Rattle.cert.specs.CertificateText.{IsStepOf, HasOneEach, step_line}
+use Rattle.cert.specs.ReadsCert.{FitsSteps}
+use Rattle.cert.specs.Shows.{weighed_bounds, IsExecutionOf}
+use Rattle.cert.proofs.TextLengths.{line_size, steps_short, values_short}
+use Rattle.cert_check.specs.declared.answer.Answer as judged
+use Rattle.cert_check.specs.declared.answer.Answer.TheVariants.{Yes}
+use Rattle.cert_check.specs.Widened.{widened}
+use Rattle.cert_check.proofs.Widening.{widened_from, readings_back}
+use Rattle.widen.specs.declared.widening.Widening.{Widening}
+use Rattle.widen.specs.declared.widening.Widening.TheVariants.{Least, Never}
+use Rattle.widen.specs.Least.{most_extra, IsLeastWidening, HasNoWidening}
+use Rattle.widen.specs.Widening.{HasCycle, IsWideningOf, ShowsBelow, ShowsWidening}
+use Rattle.widen.specs.WideningText.{widening_head, least_words, cycle_lines, widening_lines, widening_text}
+use Rattle.widen.specs.ReadsWidening.{FitsCycle, FitsWidening, IsWideningTextOf}
+use Rattle.widen.specs.JudgedText.{JudgesText}
+use Rattle.widen.specs.Found.{IsRunAt, IsCycleAt, IsFoundBelow, FindsWidening}
+use Rattle.widen.proofs.Rising.{unwidened, shown_least, shown_never}
+use Rattle.widen.proofs.Readable.{read_again}
+
+-- ---- bounds of the widened problem are bounds of the problem
+module _ (p : ProblemLists) (e : ℕ) where
+  pub declared_back : (b : Bound) (c : Constraint) → Declares (widened p e) b c → (d : Constraint) × Declares p b d
+  declared_back (SpanMost clock s t) c d = (c, d)
+  declared_back (SpanLeast clock s t) c d = (c, d)
+  declared_back (Late k) c d = (c, d)
+  declared_back (Early k) c d = (c, d)
+  declared_back (Follow k s l t) c d = (c, d)
+  declared_back (DelayMost send receive) c (m, most, has, from, to, at, is) =
+      let origin = widened_from e p.messages m has in
+      let plain = unwidened e most origin.0.most (ap (λ (v : Message). v.most) (sym origin.2) ∙ at) in (
+        record { from = nodes.Event send; to = nodes.Event receive; weight = pos (plain.0 * 1000000000) },
+        (origin.0, plain.0, origin.1, sym (ap (λ (v : Message). v.send) origin.2) ∙ from, sym (ap (λ (v : Message). v.receive) origin.2) ∙ to, plain.1, refl),
+      )
+  declared_back (DelayLeast send receive) c (m, has, from, to, is) =
+      let origin = widened_from e p.messages m has in (
+        record { from = nodes.Event receive; to = nodes.Event send; weight = neg_ℤ (pos (origin.0.least * 1000000000)) },
+        (origin.0, origin.1, sym (ap (λ (v : Message). v.send) origin.2) ∙ from, sym (ap (λ (v : Message). v.receive) origin.2) ∙ to, refl),
+      )
+
+  led_back : (steps : List Step) (m n : Node) → Leads (widened p e) m (weighed_bounds steps) n → All (IsStepOf p) steps
+  led_back [] m n leads = All-nil (IsStepOf p)
+  led_back (s ∷ steps) m n (c, declares, weighs, begins, rest) = All-cons (IsStepOf p) s steps (declared_back s.bound c declares) (led_back steps c.to n rest)
+
+  steps_back : (cycle : List Step) → IsCycleAt p e cycle → All (IsStepOf p) cycle
+  steps_back cycle found = let n = found.contradiction.closed.0 in led_back cycle n n found.contradiction.closed.1
+
+  one_each : (execution : List ℤ) → IsRunAt p e execution → HasOneEach p execution
+  one_each execution found =
+      let listed = found.earliest.1 in
+      (listed.0, readings_back p e listed.0 listed.1, ap length listed.2 ∙ length-map (nodes_of p listed.0) found.earliest.0)
+
+  runs : (execution : List ℤ) → IsRunAt p e execution → IsExecutionOf (widened p e) execution
+  runs execution found = (found.earliest.0, found.earliest.1, found.earliest.2.execution)
+
+has_cycle : (p : ProblemLists) (extra : ℕ) (cycle : Option (List Step)) → IsFoundBelow p extra cycle → HasCycle p extra cycle
+has_cycle p extra None found = found
+has_cycle p extra (Some cycle) found = (found.0, steps_back p (extra - 1) cycle found.1)
+
+shows_below : (p : ProblemLists) (extra : ℕ) (cycle : Option (List Step)) → IsFoundBelow p extra cycle → ShowsBelow p extra cycle
+shows_below p extra None found = tt
+shows_below p extra (Some cycle) found = found.1.contradiction
+
+pub widening_of : (p : ProblemLists) (w : Widening) → FindsWidening p w → IsWideningOf p w
+widening_of p (Least extra execution cycle) found = (one_each p extra execution found.1, has_cycle p extra cycle found.2)
+widening_of p (Never cycle) found = steps_back p most_extra cycle found
+
+pub shows : (p : ProblemLists) (w : Widening) → FindsWidening p w → ShowsWidening p w
+shows p (Least extra execution cycle) found = (runs p extra execution found.1, shows_below p extra cycle found.2)
+shows p (Never cycle) found = found.contradiction
+
+pub least_found : (p : ProblemLists) (extra : ℕ) (execution : List ℤ) (cycle : Option (List Step)) → FindsWidening p (Least extra execution cycle) → IsLeastWidening p extra
+least_found p extra execution cycle found = shown_least p extra execution cycle found.0 (widening_of p (Least extra execution cycle) found) (shows p (Least extra execution cycle) found)
+
+pub never_found : (p : ProblemLists) (cycle : List Step) → FindsWidening p (Never cycle) → HasNoWidening p
+never_found p cycle found = shown_never p cycle found.contradiction
+
+-- ---- numbers are in range
+fits_from : (bits : ℕ) (z : ℤ) → 2 ^ bits ≤ 2 ^ 120 → IsUpTo bits z → FitsUnits z
+fits_from bits z few (low, high) = omega (arith, ints, few, low, high)
+
+weights_fit : (steps : List Step) → All (λ s. IsUpTo 93 s.weight) steps → All (λ s. FitsUnits s.weight) steps
+weights_fit steps small i d inside = fits_from 93 (get_or steps i d).weight (omega arith) (small i d inside)
+
+values_fit : (xs : List ℤ) → All (IsUpTo 117) xs → All FitsUnits xs
+values_fit xs small i d inside = fits_from 117 (get_or xs i d) (omega arith) (small i d inside)
+
+-- ---- texts
+three : (a b c : List ℕ) → length (a ++ b ++ c) ≡ length a + (length b + length c)
+three a b c = omega (arith, length-append (a ++ b) c, length-append a b)
+
+module _ (p : ProblemLists) (readings : List Reading) (lawful : IsProblem p) (are : AreReadings p readings) where
+  steps_fit : (e : ℕ) (cycle : List Step) → IsCycleAt p e cycle → FitsSteps cycle
+  steps_fit e cycle found = (weights_fit cycle found.small, (let few = few_nodes p readings lawful are in let short = found.short readings are in omega (arith, few, short)))
+
+  cycle_fits : (extra : ℕ) (cycle : Option (List Step)) → IsFoundBelow p extra cycle → FitsCycle cycle
+  cycle_fits extra None found = tt
+  cycle_fits extra (Some cycle) found = steps_fit (extra - 1) cycle found.1
+
+  fits : (w : Widening) → FindsWidening p w → FitsWidening w
+  fits (Least extra execution cycle) found = (found.0, values_fit execution found.1.small, cycle_fits extra cycle found.2)
+  fits (Never cycle) found = steps_fit most_extra cycle found
+
+  -- of the 2 ^ 21 nodes at most each has a line of 100 bytes at most, and each step one of 149
+  steps_text : (e : ℕ) (cycle : List Step) → IsCycleAt p e cycle → length (cycle_lines p (Some cycle)) ≤ 2 ^ 21 * 149 + 6
+  steps_text e cycle found =
+      let head : length (line_of (codes "cycle" ∷ [])) ≡ 5 + 1 + 0 = line_size (codes "cycle") [] in
+      let lines = steps_short p lawful cycle (steps_back p e cycle found) found.small in
+      let few = few_nodes p readings lawful are in
+      let short = found.short readings are in
+      omega (arith, length-append (line_of (codes "cycle" ∷ [])) (flat_map (step_line p) cycle), head, lines, few, short)
+
+  cycle_text : (extra : ℕ) (cycle : Option (List Step)) → IsFoundBelow p extra cycle → length (cycle_lines p cycle) ≤ 2 ^ 21 * 149 + 6
+  cycle_text extra None found = omega arith
+  cycle_text extra (Some cycle) found = steps_text (extra - 1) cycle found.1
+
+  least_line_short : (extra : ℕ) → extra < 2 ^ 62 → length (line_of (least_words (Some extra))) ≤ 26
+  least_line_short extra within =
+      let size : length (line_of (least_words (Some extra))) ≡ 5 + 1 + (length (decimal_of extra) + 1 + 0) = line_size (codes "least") (decimal_of extra ∷ []) in
+      let digits = length-decimal_of-le 19 extra (omega arith) (let below : 2 ^ 62 ≤ 10 ^ 19 = omega arith in omega (arith, within)) in
+      omega (arith, size, digits)
+
+  lines_short : (w : Widening) → FindsWidening p w → length (widening_lines p (nodes_of p readings) w) ≤ 2 ^ 21 * 249 + 32
+  lines_short (Least extra execution cycle) found =
+      let values = values_short p lawful readings execution are found.1.small in
+      let few = few_nodes p readings lawful are in
+      omega (arith, three (line_of (least_words (Some extra))) (value_lines p (nodes_of p readings) execution) (cycle_lines p cycle), least_line_short extra found.0, values, few, cycle_text extra cycle found.2)
+  lines_short (Never cycle) found =
+      let size : length (line_of (least_words None)) ≡ 5 + 1 + (4 + 1 + 0) = line_size (codes "least") (codes "none" ∷ []) in
+      omega (arith, length-append (line_of (least_words None)) (cycle_lines p (Some cycle)), size, steps_text most_extra cycle found)
+
+  text_short : (w : Widening) → FindsWidening p w → length (widening_text p (nodes_of p readings) w) ≤ most_bytes
+  text_short w found =
+      let head : length (line_of widening_head) ≡ 8 + 1 + (1 + 1 + 0) = line_size (codes "widening") (codes "1" ∷ []) in
+      let end : length (line_of (codes "end" ∷ [])) ≡ 3 + 1 + 0 = line_size (codes "end") [] in
+      omega (arith, three (line_of widening_head) (widening_lines p (nodes_of p readings) w) (line_of (codes "end" ∷ [])), head, end, lines_short w found)
+
+  pub text_of : (w : Widening) → FindsWidening p w → IsWideningTextOf p readings w (widening_text p (nodes_of p readings) w)
+  text_of w found = (text_short w found, widening_of p w found, fits w found, refl)
+
+  -- ---- what is written is read again and judged
+  same_widening : (v w : Widening) → ◌≡◌ {A = Result Widening CertError} (Ok v) (Ok w) → v ≡ w
+  same_widening v w is = cc
+
+  same_error : (e : CertError) → ◌≡◌ {A = Result Widening CertError} (Err e) (Err errors.Memory) → e ≡ errors.Memory
+  same_error e is = cc
+
+  pub accepted : (w : Widening) (result : Result judged.Answer CertError) → FindsWidening p w → JudgesText p (widening_text p (nodes_of p readings) w) result → (result ≡ Ok Yes) ⊎ (result ≡ Err errors.Memory)
+  accepted w (Ok answer) found (v, reads, is) = elim (read_again p readings lawful are w (widening_text p (nodes_of p readings) w) (Ok v) (text_of w found) (reads readings are)) [
+    | inl same ↦ inl (ap Ok (is.exact.0 (subst (ShowsWidening p) (sym (same_widening v w same)) (shows p w found))))
+    | inr other ↦ absurd cc
+  ]
+  accepted w (Err e) found reads = elim (read_again p readings lawful are w (widening_text p (nodes_of p readings) w) (Err e) (text_of w found) (reads readings are)) [
+    | inl other ↦ absurd cc
+    | inr same ↦ inr (ap Err (same_error e same))
+  ]

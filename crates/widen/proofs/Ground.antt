@@ -1,0 +1,38 @@
+-- What solving the graph of a widened problem says of the problem.
+use Rattle.std.proofs.Common.{◌≡◌, ◌∙◌, ℕ, List, length, map, get_or, sym, ap, subst}
+use Rattle.std.specs.Prelude.{ℤ}
+use Rattle.std.specs.List.{range_with_len}
+use Rattle.std.specs.List.Sorted.{IsPermutation}
+use Rattle.std.proofs.lemmas.List.{length-map}
+use Rattle.problem_model.specs.Problem.{ProblemLists, IsProblem}
+use Rattle.problem_model.specs.Nodes.{Reading, AreReadings}
+use Rattle.sync_graph.specs.declared.arc.Arc.{Arc}
+use Rattle.sync_graph.specs.Graph.{GraphLists, IsGraph}
+use Rattle.sync_graph.specs.InForce.{IsEarliestOf}
+use Rattle.earliest.specs.Inserted.{IsNegativeCycle}
+use Rattle.solver.specs.Order.{AreAllArcs}
+use Rattle.cert_check.specs.Widened.{widened}
+use Rattle.cert_check.proofs.Widening.{formed, readings_on}
+use Rattle.widen.specs.Raised.{raised_arc}
+use Rattle.widen.specs.Found.{HoldsShortList, IsRunAt, IsCycleFor}
+use Rattle.widen.proofs.Solved.{earliest_of, values_small, sound_arc, cycle_contradicts, cycle_short}
+
+pub arcs_long : (e : ℕ) (g h : GraphLists) → h.arcs ≡ map (raised_arc e) g.arcs → length h.arcs ≡ length g.arcs
+arcs_long e g h arcs = ap length arcs ∙ length-map g.arcs (raised_arc e)
+
+pub all_arcs : (e : ℕ) (g h : GraphLists) (order : List ℕ) → h.arcs ≡ map (raised_arc e) g.arcs → AreAllArcs g order → AreAllArcs h order
+all_arcs e g h order arcs all = subst (λ (n : ℕ). IsPermutation (range_with_len 0 n) order) (sym (arcs_long e g h arcs)) all
+
+module _ (p : ProblemLists) (e : ℕ) (g : GraphLists) (lawful : IsProblem p) (is : IsGraph g) (readings : List Reading) (are : AreReadings p readings) (holds : HoldsShortList (widened p e) g) where
+  pub run_found : (values : List ℤ) → IsEarliestOf g values → IsRunAt p e values
+  run_found values earliest = record {
+    earliest = earliest_of (widened p e) g (formed p e lawful.formed) is readings (readings_on p e readings are) holds values earliest;
+    small = values_small g is values earliest;
+  }
+
+  pub cycle_found : (arcs : List Arc) → IsNegativeCycle g arcs → IsCycleFor p e arcs
+  cycle_found arcs cycle = record {
+    contradiction = cycle_contradicts (widened p e) g is readings (readings_on p e readings are) holds arcs cycle;
+    short = λ rs are'. cycle_short (widened p e) g is readings (readings_on p e readings are) holds arcs cycle rs (readings_on p e rs are');
+    small = λ i d inside. sound_arc (widened p e) g is readings (readings_on p e readings are) holds (get_or arcs i d) (cycle.in_force i d inside);
+  }
