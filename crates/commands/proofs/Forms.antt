@@ -1,15 +1,16 @@
 -- The words of each form.
-use Rattle.std.proofs.Common.{◌≡◌, ℕ, List, [], ◌∷◌, length, Some, slice_get, codes, refl, sym, ◌∙◌, ap, subst, arith}
+use Rattle.std.proofs.Common.{◌≡◌, ℕ, List, [], ◌∷◌, length, get_or, Some, slice_get, codes, refl, sym, ◌∙◌, ap, subst, arith}
 use Rattle.ports.specs.Content.{SinkTold}
 use Rattle.ports.specs.Files.{FilesTold}
 use Rattle.script.specs.Script.{Devices}
-use Rattle.commands.specs.Run.{obey_words, solve_words, ends_words, verify_words, session_words}
+use Rattle.commands.specs.Run.{obey_words, solve_words, ends_words, verify_words, session_words, widen_words, judge_words}
 use Rattle.commands.specs.Printing.{Prints}
 use Rattle.commands.specs.Obey.{Obeyed}
 use Rattle.commands.specs.Solve.{Solved}
 use Rattle.commands.specs.Intervals.{IntervalAnswered}
 use Rattle.commands.specs.Verify.{Verified}
 use Rattle.commands.specs.Sessions.{Conducted}
+use Rattle.commands.specs.Widening.{WideningFound, WideningJudged}
 use Rattle.commands.specs.declared.status.Status.{Status}
 
 -- three words, the first of which is `obey`
@@ -42,6 +43,21 @@ is_session (x ∷ []) a long e is = absurd (omega (arith, long))
 is_session (x ∷ y ∷ []) a long e is = (y, cc)
 is_session (x ∷ y ∷ z ∷ ws) a long e is = absurd (omega (arith, long))
 
+-- two words, the first of which is `widen`
+pub is_widen : (ws : List (List ℕ)) (a : List ℕ) → length ws ≡ 2 → slice_get ws 0 ≡ Some a → a ≡ codes "widen" → (problem : List ℕ) × (ws ≡ widen_words problem)
+is_widen [] a long e is = absurd (omega (arith, long))
+is_widen (x ∷ []) a long e is = absurd (omega (arith, long))
+is_widen (x ∷ y ∷ []) a long e is = (y, cc)
+is_widen (x ∷ y ∷ z ∷ ws) a long e is = absurd (omega (arith, long))
+
+-- three words, the first of which is `judge`
+pub is_judge : (ws : List (List ℕ)) (a : List ℕ) → length ws ≡ 3 → slice_get ws 0 ≡ Some a → a ≡ codes "judge" → (problem : List ℕ) × (widening : List ℕ) × (ws ≡ judge_words problem widening)
+is_judge [] a long e is = absurd (omega (arith, long))
+is_judge (x ∷ []) a long e is = absurd (omega (arith, long))
+is_judge (x ∷ y ∷ []) a long e is = absurd (omega (arith, long))
+is_judge (x ∷ y ∷ z ∷ []) a long e is = (y, z, cc)
+is_judge (x ∷ y ∷ z ∷ w ∷ ws) a long e is = absurd (omega (arith, long))
+
 -- four words, the first of which is `ends`
 pub is_ends : (ws : List (List ℕ)) (a : List ℕ) → length ws ≡ 4 → slice_get ws 0 ≡ Some a → a ≡ codes "ends"
     → (problem : List ℕ) × (first : List ℕ) × (second : List ℕ) × (ws ≡ ends_words problem first second)
@@ -67,6 +83,12 @@ verify_three ws problem cert is = ap length is
 pub session_two : (ws : List (List ℕ)) (decl : List ℕ) → ws ≡ session_words decl → length ws ≡ 2
 session_two ws decl is = ap length is
 
+pub widen_two : (ws : List (List ℕ)) (problem : List ℕ) → ws ≡ widen_words problem → length ws ≡ 2
+widen_two ws problem is = ap length is
+
+pub judge_three : (ws : List (List ℕ)) (problem widening : List ℕ) → ws ≡ judge_words problem widening → length ws ≡ 3
+judge_three ws problem widening is = ap length is
+
 -- words have one length
 pub other_length : (ws : List (List ℕ)) (m n : ℕ) → length ws ≡ m → length ws ≡ n → (m ≡ n → ⊥) → ⊥
 other_length ws m n a b differ = differ (sym a ∙ b)
@@ -86,6 +108,35 @@ solve_or_session ws problem decl a b =
     let first : codes "solve" ≡ codes "session" = some_same (codes "solve") (codes "session") (sym (ap (λ (v : List (List ℕ)). slice_get v 0) a) ∙ ap (λ (v : List (List ℕ)). slice_get v 0) b) in
     let size : 5 ≡ 7 = ap length first in
     omega (arith, size)
+
+-- the first words of two forms are one
+first_word_one : (ws form form' : List (List ℕ)) (a b : List ℕ) → ws ≡ form → ws ≡ form' → slice_get form 0 ≡ Some a → slice_get form' 0 ≡ Some b → a ≡ b
+first_word_one ws form form' a b is is' first first' =
+    some_same a b (sym first ∙ sym (ap (λ (v : List (List ℕ)). slice_get v 0) is) ∙ ap (λ (v : List (List ℕ)). slice_get v 0) is' ∙ first')
+
+pub solve_or_widen : (ws : List (List ℕ)) (problem problem' : List ℕ) → ws ≡ solve_words problem → ws ≡ widen_words problem' → ⊥
+solve_or_widen ws problem problem' a b =
+    let same = first_word_one ws (solve_words problem) (widen_words problem') (codes "solve") (codes "widen") a b refl refl in
+    let letter : 115 ≡ 119 = ap (λ (w : List ℕ). get_or w 0 0) same in
+    omega (arith, letter)
+
+pub session_or_widen : (ws : List (List ℕ)) (decl problem : List ℕ) → ws ≡ session_words decl → ws ≡ widen_words problem → ⊥
+session_or_widen ws decl problem a b =
+    let same = first_word_one ws (session_words decl) (widen_words problem) (codes "session") (codes "widen") a b refl refl in
+    let letter : 115 ≡ 119 = ap (λ (w : List ℕ). get_or w 0 0) same in
+    omega (arith, letter)
+
+pub obey_or_judge : (ws : List (List ℕ)) (problem exec problem' widening : List ℕ) → ws ≡ obey_words problem exec → ws ≡ judge_words problem' widening → ⊥
+obey_or_judge ws problem exec problem' widening a b =
+    let same = first_word_one ws (obey_words problem exec) (judge_words problem' widening) (codes "obey") (codes "judge") a b refl refl in
+    let letter : 111 ≡ 106 = ap (λ (w : List ℕ). get_or w 0 0) same in
+    omega (arith, letter)
+
+pub verify_or_judge : (ws : List (List ℕ)) (problem cert problem' widening : List ℕ) → ws ≡ verify_words problem cert → ws ≡ judge_words problem' widening → ⊥
+verify_or_judge ws problem cert problem' widening a b =
+    let same = first_word_one ws (verify_words problem cert) (judge_words problem' widening) (codes "verify") (codes "judge") a b refl refl in
+    let letter : 118 ≡ 106 = ap (λ (w : List ℕ). get_or w 0 0) same in
+    omega (arith, letter)
 
 -- a word is that of the form
 pub word_is : (ws form : List (List ℕ)) (k : ℕ) (a b : List ℕ) → slice_get ws k ≡ Some a → ws ≡ form → slice_get form k ≡ Some b → a ≡ b
@@ -129,3 +180,17 @@ verify_by ws a b problem cert files files' out out' result e f is said =
 pub session_by : (ws : List (List ℕ)) (a decl : List ℕ) (old new : Devices) (result : Status) → slice_get ws 1 ≡ Some a → ws ≡ session_words decl
     → Conducted a old new result → Conducted decl old new result
 session_by ws a decl old new result e is said = subst (λ (v : List ℕ). Conducted v old new result) (word_is ws (session_words decl) 1 a decl e is refl) said
+
+-- what `widen` says of the second word
+pub widen_by : (ws : List (List ℕ)) (a problem : List ℕ) (files files' : FilesTold) (out out' : SinkTold) (result : Status) → slice_get ws 1 ≡ Some a → ws ≡ widen_words problem
+    → Prints (WideningFound a files files') out out' result → Prints (WideningFound problem files files') out out' result
+widen_by ws a problem files files' out out' result e is said =
+    subst (λ (v : List ℕ). Prints (WideningFound v files files') out out' result) (word_is ws (widen_words problem) 1 a problem e is refl) said
+
+-- what `judge` says of the second and the third word
+pub judge_by : (ws : List (List ℕ)) (a b problem widening : List ℕ) (files files' : FilesTold) (out out' : SinkTold) (result : Status) → slice_get ws 1 ≡ Some a → slice_get ws 2 ≡ Some b → ws ≡ judge_words problem widening
+    → Prints (WideningJudged a b files files') out out' result → Prints (WideningJudged problem widening files files') out out' result
+judge_by ws a b problem widening files files' out out' result e f is said =
+    let first : a ≡ problem = word_is ws (judge_words problem widening) 1 a problem e is refl in
+    let second : b ≡ widening = word_is ws (judge_words problem widening) 2 b widening f is refl in
+    subst (λ (v : List ℕ). Prints (WideningJudged v widening files files') out out' result) first (subst (λ (v : List ℕ). Prints (WideningJudged a v files files') out out' result) second said)

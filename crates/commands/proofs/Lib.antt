@@ -9,3 +9,4 @@ pub mod Intervals
 pub mod Verifying
 pub mod Declaring
 pub mod Conducting
+pub mod Widenings

@@ -84,7 +84,7 @@ pub has_mapped : (files : Content) (path : List ℕ) (P Q : List ℕ → Type 0)
 has_mapped None path P Q on has = tt
 has_mapped (Some files) path P Q on has = (has.0, has.1, on has.0 has.2)
 
-unread_as : (P Q : List ℕ → Refusal → Type 0) (path : List ℕ) (old new : FilesTold) (u : Unread) → ((text : List ℕ) (refusal : Refusal) → P text refusal → Q text refusal)
+pub unread_as : (P Q : List ℕ → Refusal → Type 0) (path : List ℕ) (old new : FilesTold) (u : Unread) → ((text : List ℕ) (refusal : Refusal) → P text refusal → Q text refusal)
     → IsUnread P path old new u → IsUnread Q path old new u
 unread_as P Q path old new (unread.Refused refusal) on is = has_mapped old.content path (λ text. P text refusal) (λ text. Q text refusal) (λ text. on text refusal) is
 unread_as P Q path old new unread.Fault on is = is

@@ -1,7 +1,7 @@
 -- The words of a run and the statuses that it ends with.
 use Rattle.std.specs.Prelude.{◌≡◌, ◌∷◌, [], ℕ, List, codes}
 use Rattle.commands.specs.declared.form.Form.{Form}
-use Rattle.commands.specs.declared.form.Form.TheVariants.{Obey, Solve, Ends, Verify, Session, Unknown}
+use Rattle.commands.specs.declared.form.Form.TheVariants.{Obey, Solve, Ends, Verify, Session, Widen, Judge, Unknown}
 use Rattle.commands.specs.declared.status.Status.{Status}
 use Rattle.commands.specs.declared.status.Status.TheVariants.{Done, No, Usage, BadDecl, BadProblem, BadExec, BadCert, ReadFault, WriteFault, Memory, ScriptLimit, UnknownEvent}
 
@@ -36,6 +36,12 @@ verify_words problem cert = codes "verify" ∷ problem ∷ cert ∷ []
 abbrev pub session_words : List ℕ → List (List ℕ)
 session_words decl = codes "session" ∷ decl ∷ []
 
+abbrev pub widen_words : List ℕ → List (List ℕ)
+widen_words problem = codes "widen" ∷ problem ∷ []
+
+abbrev pub judge_words : List ℕ → List ℕ → List (List ℕ)
+judge_words problem widening = codes "judge" ∷ problem ∷ widening ∷ []
+
 -- the words are of no session
 abbrev pub IsNoSession : List (List ℕ) → Type 0
 IsNoSession ws = (decl : List ℕ) → ws ≡ session_words decl → ⊥
@@ -47,6 +53,8 @@ pub record IsNoCommand (ws : List (List ℕ)) : Type 0 where
   pub ends : (problem first second : List ℕ) → ws ≡ ends_words problem first second → ⊥
   pub verify : (problem cert : List ℕ) → ws ≡ verify_words problem cert → ⊥
   pub session : IsNoSession ws
+  pub widen : (problem : List ℕ) → ws ≡ widen_words problem → ⊥
+  pub judge : (problem widening : List ℕ) → ws ≡ judge_words problem widening → ⊥
 
 -- the words are of this form
 abbrev pub IsForm : List (List ℕ) → Form → Type 0
@@ -55,8 +63,10 @@ IsForm ws Solve = (problem : List ℕ) × (ws ≡ solve_words problem)
 IsForm ws Ends = (problem : List ℕ) × (first : List ℕ) × (second : List ℕ) × (ws ≡ ends_words problem first second)
 IsForm ws Verify = (problem : List ℕ) × (cert : List ℕ) × (ws ≡ verify_words problem cert)
 IsForm ws Session = (decl : List ℕ) × (ws ≡ session_words decl)
+IsForm ws Widen = (problem : List ℕ) × (ws ≡ widen_words problem)
+IsForm ws Judge = (problem : List ℕ) × (widening : List ℕ) × (ws ≡ judge_words problem widening)
 IsForm ws Unknown = IsNoCommand ws
 
 -- what is printed where the words are of none of the forms
 abbrev pub usage_line : List ℕ
-usage_line = codes "usage: tracesync obey PROBLEM EXEC | solve PROBLEM | ends PROBLEM P Q | verify PROBLEM CERT | session DECL | trial N\n"
+usage_line = codes "usage: tracesync obey PROBLEM EXEC | solve PROBLEM | ends PROBLEM P Q | verify PROBLEM CERT | session DECL | trial N | widen PROBLEM | judge PROBLEM WIDENING\n"

@@ -16,6 +16,10 @@ pub enum Form {
     Verify,
     /// `session DECL`.
     Session,
+    /// `widen PROBLEM`.
+    Widen,
+    /// `judge PROBLEM WIDENING`.
+    Judge,
     /// None of the forms.
     Unknown,
 }
@@ -39,6 +43,12 @@ pub fn form_of(words: &Words) -> Form
     }
     if count == 2 && words.word(0) == "session" {
         return Form::Session;
+    }
+    if count == 2 && words.word(0) == "widen" {
+        return Form::Widen;
+    }
+    if count == 3 && words.word(0) == "judge" {
+        return Form::Judge;
     }
     Form::Unknown
 }

@@ -6,6 +6,7 @@ mod declaration;
 mod ending;
 mod ends;
 mod form;
+mod judging;
 mod obey;
 mod print;
 mod program;
@@ -15,6 +16,7 @@ mod solve;
 mod status;
 mod texts;
 mod verify;
+mod widening;
 
 pub use crate::program::run;
 pub use crate::status::Status;

@@ -45,7 +45,8 @@ fn unread_problem(error: ProblemError) -> Unread
     }
 }
 
-fn unread_cert(error: CertError) -> Unread
+/// Why a file gave no value, by the error of reading its text as an execution, a certificate or a widening.
+pub fn unread_cert(error: CertError) -> Unread
     ensures { result ≡ unread_cert error }
 {
     match error {
@@ -58,8 +59,8 @@ fn unread_cert(error: CertError) -> Unread
     }
 }
 
-// The whole text of a file, unless it is too long.
-fn text_in<F: Files>(alloc: Global, files: &mut F, path: &str) -> Result<Vec<u8>, Unread>
+/// The whole text of a file, unless it is too long.
+pub fn text_in<F: Files>(alloc: Global, files: &mut F, path: &str) -> Result<Vec<u8>, Unread>
     ensures ok { IfOk result (λ text. HasBytes (F.told files.old).content path.now (λ all. (length all ≤ most_bytes) × (text.items ≡ all))) }
     ensures err { IfErr result (IsUnread IsLong path.now (F.told files.old) (F.told files.new)) }
     ensures keeps { Keeps (F.told files.old) (F.told files.new) }

@@ -12,8 +12,8 @@ use ports::{Files, Sink};
 use problem::Problem;
 use std::alloc::Global;
 
-// Prints an answer, and answers the status.
-fn answer<O: Sink>(p: &Problem, answer: &Answer, out: &mut O) -> Status
+/// Prints an answer, and answers the status.
+pub fn answer<O: Sink>(p: &Problem, answer: &Answer, out: &mut O) -> Status
     requires { NamesAnswer p.now answer.now }
     ensures { Prints (TellsAnswer p.now answer.now) (O.told out.old) (O.told out.new) result }
 {

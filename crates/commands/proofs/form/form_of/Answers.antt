@@ -1,5 +1,5 @@
 use Rattle.std.proofs.Common.{◌≡◌, length, rules, sym, ◌∙◌, codes}
-use Rattle.commands.proofs.Forms.{is_obey, is_solve, is_ends, is_verify, is_session}
+use Rattle.commands.proofs.Forms.{is_obey, is_solve, is_ends, is_verify, is_session, is_widen, is_judge}
 use Rattle.commands.proofs.form.form_of.Goals as goal
 
 pub returns-then-eq : goal.returns-then-eq
@@ -31,3 +31,15 @@ returns-then-eq-5 c =
     let same : c.word-then-count-eq2-2.result.now ≡ codes "session" = search rules in
     let long : length c.args.words.now ≡ 2 = sym c.len-count.ensures ∙ c.if-count-eq2-2.true in
     is_session c.args.words.now c.word-then-count-eq2-2.result.now long c.word-then-count-eq2-2.ensures same
+
+pub returns-then-eq-6 : goal.returns-then-eq-6
+returns-then-eq-6 c =
+    let same : c.word-then-count-eq2-3.result.now ≡ codes "widen" = search rules in
+    let long : length c.args.words.now ≡ 2 = sym c.len-count.ensures ∙ c.if-count-eq2-3.true in
+    is_widen c.args.words.now c.word-then-count-eq2-3.result.now long c.word-then-count-eq2-3.ensures same
+
+pub returns-then-eq-7 : goal.returns-then-eq-7
+returns-then-eq-7 c =
+    let same : c.word-then-count-eq3-3.result.now ≡ codes "judge" = search rules in
+    let long : length c.args.words.now ≡ 3 = sym c.len-count.ensures ∙ c.if-count-eq3-3.true in
+    is_judge c.args.words.now c.word-then-count-eq3-3.result.now long c.word-then-count-eq3-3.ensures same

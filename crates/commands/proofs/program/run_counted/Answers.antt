@@ -1,6 +1,6 @@
 use Rattle.std.proofs.Common.{arith, refl}
 use Rattle.script.specs.Script.{devices}
-use Rattle.commands.proofs.Forms.{obey_by, solve_by, ends_by, verify_by, session_by, other_length, obey_or_verify, solve_or_session, obey_three, solve_two, ends_four, verify_three, session_two}
+use Rattle.commands.proofs.Forms.{obey_by, solve_by, ends_by, verify_by, session_by, widen_by, judge_by, other_length, obey_or_verify, solve_or_session, solve_or_widen, session_or_widen, obey_or_judge, verify_or_judge, obey_three, solve_two, ends_four, verify_three, session_two, widen_two, judge_three}
 use Rattle.commands.proofs.program.run_counted.Goals as goal
 
 pub returns-in-Obey-clause-obey : goal.returns-in-Obey-clause-obey
@@ -154,3 +154,103 @@ returns-in-Session-clause-unread g c = λ none. absurd (none.session _ c.in-Sess
 
 pub returns-clause-unread : goal.returns-clause-unread
 returns-clause-unread g c = λ none. refl
+
+pub returns-in-Obey-clause-widen : goal.returns-in-Obey-clause-widen
+returns-in-Obey-clause-widen g c = λ problem is. absurd (other_length c.args.words.now 3 2 (obey_three c.args.words.now _ _ c.in-Obey.ensures.2) (widen_two c.args.words.now problem is) (λ e. omega (arith, e)))
+
+pub returns-in-Obey-clause-judge : goal.returns-in-Obey-clause-judge
+returns-in-Obey-clause-judge g c = λ problem widening is. absurd (obey_or_judge c.args.words.now _ _ problem widening c.in-Obey.ensures.2 is)
+
+pub returns-in-Solve-clause-widen : goal.returns-in-Solve-clause-widen
+returns-in-Solve-clause-widen g c = λ problem is. absurd (solve_or_widen c.args.words.now _ problem c.in-Solve.ensures.1 is)
+
+pub returns-in-Solve-clause-judge : goal.returns-in-Solve-clause-judge
+returns-in-Solve-clause-judge g c = λ problem widening is. absurd (other_length c.args.words.now 2 3 (solve_two c.args.words.now _ c.in-Solve.ensures.1) (judge_three c.args.words.now problem widening is) (λ e. omega (arith, e)))
+
+pub returns-in-Ends-clause-widen : goal.returns-in-Ends-clause-widen
+returns-in-Ends-clause-widen g c = λ problem is. absurd (other_length c.args.words.now 4 2 (ends_four c.args.words.now _ _ _ c.in-Ends.ensures.3) (widen_two c.args.words.now problem is) (λ e. omega (arith, e)))
+
+pub returns-in-Ends-clause-judge : goal.returns-in-Ends-clause-judge
+returns-in-Ends-clause-judge g c = λ problem widening is. absurd (other_length c.args.words.now 4 3 (ends_four c.args.words.now _ _ _ c.in-Ends.ensures.3) (judge_three c.args.words.now problem widening is) (λ e. omega (arith, e)))
+
+pub returns-in-Verify-clause-widen : goal.returns-in-Verify-clause-widen
+returns-in-Verify-clause-widen g c = λ problem is. absurd (other_length c.args.words.now 3 2 (verify_three c.args.words.now _ _ c.in-Verify.ensures.2) (widen_two c.args.words.now problem is) (λ e. omega (arith, e)))
+
+pub returns-in-Verify-clause-judge : goal.returns-in-Verify-clause-judge
+returns-in-Verify-clause-judge g c = λ problem widening is. absurd (verify_or_judge c.args.words.now _ _ problem widening c.in-Verify.ensures.2 is)
+
+pub returns-in-Session-clause-widen : goal.returns-in-Session-clause-widen
+returns-in-Session-clause-widen g c = λ problem is. absurd (session_or_widen c.args.words.now _ problem c.in-Session.ensures.1 is)
+
+pub returns-in-Session-clause-judge : goal.returns-in-Session-clause-judge
+returns-in-Session-clause-judge g c = λ problem widening is. absurd (other_length c.args.words.now 2 3 (session_two c.args.words.now _ c.in-Session.ensures.1) (judge_three c.args.words.now problem widening is) (λ e. omega (arith, e)))
+
+pub returns-in-Widen-clause-obey : goal.returns-in-Widen-clause-obey
+returns-in-Widen-clause-obey g c = λ problem exec is. absurd (other_length c.args.words.now 2 3 (widen_two c.args.words.now _ c.in-Widen.ensures.1) (obey_three c.args.words.now problem exec is) (λ e. omega (arith, e)))
+
+pub returns-in-Widen-clause-solve : goal.returns-in-Widen-clause-solve
+returns-in-Widen-clause-solve g c = λ problem is. absurd (solve_or_widen c.args.words.now problem _ is c.in-Widen.ensures.1)
+
+pub returns-in-Widen-clause-ends : goal.returns-in-Widen-clause-ends
+returns-in-Widen-clause-ends g c = λ problem first second is. absurd (other_length c.args.words.now 2 4 (widen_two c.args.words.now _ c.in-Widen.ensures.1) (ends_four c.args.words.now problem first second is) (λ e. omega (arith, e)))
+
+pub returns-in-Widen-clause-verify : goal.returns-in-Widen-clause-verify
+returns-in-Widen-clause-verify g c = λ problem cert is. absurd (other_length c.args.words.now 2 3 (widen_two c.args.words.now _ c.in-Widen.ensures.1) (verify_three c.args.words.now problem cert is) (λ e. omega (arith, e)))
+
+pub returns-in-Widen-clause-session : goal.returns-in-Widen-clause-session
+returns-in-Widen-clause-session g c = λ decl is. absurd (session_or_widen c.args.words.now decl _ is c.in-Widen.ensures.1)
+
+pub returns-in-Widen-clause-judge : goal.returns-in-Widen-clause-judge
+returns-in-Widen-clause-judge g c = λ problem widening is. absurd (other_length c.args.words.now 2 3 (widen_two c.args.words.now _ c.in-Widen.ensures.1) (judge_three c.args.words.now problem widening is) (λ e. omega (arith, e)))
+
+pub returns-in-Judge-clause-obey : goal.returns-in-Judge-clause-obey
+returns-in-Judge-clause-obey g c = λ problem exec is. absurd (obey_or_judge c.args.words.now problem exec _ _ is c.in-Judge.ensures.2)
+
+pub returns-in-Judge-clause-solve : goal.returns-in-Judge-clause-solve
+returns-in-Judge-clause-solve g c = λ problem is. absurd (other_length c.args.words.now 3 2 (judge_three c.args.words.now _ _ c.in-Judge.ensures.2) (solve_two c.args.words.now problem is) (λ e. omega (arith, e)))
+
+pub returns-in-Judge-clause-ends : goal.returns-in-Judge-clause-ends
+returns-in-Judge-clause-ends g c = λ problem first second is. absurd (other_length c.args.words.now 3 4 (judge_three c.args.words.now _ _ c.in-Judge.ensures.2) (ends_four c.args.words.now problem first second is) (λ e. omega (arith, e)))
+
+pub returns-in-Judge-clause-verify : goal.returns-in-Judge-clause-verify
+returns-in-Judge-clause-verify g c = λ problem cert is. absurd (verify_or_judge c.args.words.now problem cert _ _ is c.in-Judge.ensures.2)
+
+pub returns-in-Judge-clause-session : goal.returns-in-Judge-clause-session
+returns-in-Judge-clause-session g c = λ decl is. absurd (other_length c.args.words.now 3 2 (judge_three c.args.words.now _ _ c.in-Judge.ensures.2) (session_two c.args.words.now decl is) (λ e. omega (arith, e)))
+
+pub returns-in-Judge-clause-widen : goal.returns-in-Judge-clause-widen
+returns-in-Judge-clause-widen g c = λ problem is. absurd (other_length c.args.words.now 3 2 (judge_three c.args.words.now _ _ c.in-Judge.ensures.2) (widen_two c.args.words.now problem is) (λ e. omega (arith, e)))
+
+pub returns-in-Widen-clause-usage : goal.returns-in-Widen-clause-usage
+returns-in-Widen-clause-usage g c = λ none. absurd (none.widen _ c.in-Widen.ensures.1)
+
+pub returns-in-Widen-clause-unread : goal.returns-in-Widen-clause-unread
+returns-in-Widen-clause-unread g c = λ none. absurd (none.widen _ c.in-Widen.ensures.1)
+
+pub returns-in-Widen-clause-input : goal.returns-in-Widen-clause-input
+returns-in-Widen-clause-input g c = λ none. refl
+
+pub returns-clause-widen : goal.returns-clause-widen
+returns-clause-widen g c = λ problem is. absurd (c.in-Unknown.ensures.widen problem is)
+
+pub returns-in-Judge-clause-usage : goal.returns-in-Judge-clause-usage
+returns-in-Judge-clause-usage g c = λ none. absurd (none.judge _ _ c.in-Judge.ensures.2)
+
+pub returns-in-Judge-clause-unread : goal.returns-in-Judge-clause-unread
+returns-in-Judge-clause-unread g c = λ none. absurd (none.judge _ _ c.in-Judge.ensures.2)
+
+pub returns-in-Judge-clause-input : goal.returns-in-Judge-clause-input
+returns-in-Judge-clause-input g c = λ none. refl
+
+pub returns-clause-judge : goal.returns-clause-judge
+returns-clause-judge g c = λ problem widening is. absurd (c.in-Unknown.ensures.judge problem widening is)
+
+pub returns-in-Widen-clause-widen : goal.returns-in-Widen-clause-widen
+returns-in-Widen-clause-widen g c = λ problem is. widen_by c.args.words.now _ problem
+    (g.F.Files.told c.args.files.now) (g.F.Files.told c.widen.new.files) (g.O.Sink.told c.args.out.now) (g.O.Sink.told c.widen.new.out)
+    _ c.word-in-Widen.ensures is c.widen.ensures.found
+
+pub returns-in-Judge-clause-judge : goal.returns-in-Judge-clause-judge
+returns-in-Judge-clause-judge g c = λ problem widening is. judge_by c.args.words.now _ _ problem widening
+    (g.F.Files.told c.args.files.now) (g.F.Files.told c.judge.new.files) (g.O.Sink.told c.args.out.now) (g.O.Sink.told c.judge.new.out)
+    _ c.word-in-Judge.ensures c.word-in-Judge-2.ensures is c.judge.ensures.judged

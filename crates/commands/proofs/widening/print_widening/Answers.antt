@@ -1,0 +1,20 @@
+use Rattle.std.proofs.Common.{refl}
+use Rattle.widen.proofs.FoundTexts.{widening_of}
+use Rattle.commands.specs.Widening.{TellsLeast}
+use Rattle.commands.specs.declared.status.Status.TheVariants.{Done}
+use Rattle.commands.proofs.Printing.{written_prints, failed_prints}
+use Rattle.commands.proofs.Widenings.{least_text}
+use Rattle.commands.proofs.widening.print_widening.Goals as goal
+
+pub write_widening-requires : goal.write_widening-requires
+write_widening-requires g c = widening_of c.args.p.now c.args.w.now c.requires
+
+pub returns-in-Ok : goal.returns-in-Ok
+returns-in-Ok g c =
+    let text = c.in-Ok.ensures in
+    written_prints (TellsLeast c.args.p.now) _ Done _ _ (refl, least_text c.args.p.now text.0 c.args.w.now c.events.ensures.lawful text.1 c.requires) text.2
+
+pub returns-in-Err : goal.returns-in-Err
+returns-in-Err g c =
+    let text = c.in-Err.ensures in
+    failed_prints (TellsLeast c.args.p.now) _ Done _ _ (refl, least_text c.args.p.now text.0 c.args.w.now c.events.ensures.lawful text.1 c.requires) text.2

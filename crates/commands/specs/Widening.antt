@@ -1,0 +1,68 @@
+-- What `widen` and `judge` print and answer.
+use Rattle.std.specs.Prelude.{◌≡◌, ℕ, List, codes}
+use Rattle.ports.specs.Files.{FilesTold, HasBytes}
+use Rattle.line_format.specs.Format.{Answers}
+use Rattle.problem_model.specs.Problem.{ProblemLists}
+use Rattle.problem_model.specs.Nodes.{Reading, AreReadings}
+use Rattle.cert_check.specs.declared.answer.Part.{Part}
+use Rattle.cert_check.specs.declared.answer.Reason.{Reason}
+use Rattle.cert_check.specs.declared.answer.Answer.TheVariants as answers
+use Rattle.widen.specs.declared.widening.Widening.{Widening}
+use Rattle.widen.specs.declared.widening.Widening.TheVariants.{Least, Never}
+use Rattle.widen.specs.Least.{IsLeastWidening, HasNoWidening}
+use Rattle.widen.specs.Widening.{ShowsWidening, IsJudged}
+use Rattle.widen.specs.WideningFormat.{widening_format}
+use Rattle.widen.specs.ReadsWidening.{IsWideningTextOf}
+use Rattle.widen.specs.Found.{FindsWidening}
+use Rattle.commands.specs.Refusal.{answer_of, refusal_line}
+use Rattle.commands.specs.Texts.{SpellsProblem, IsMissed, IsBadProblem, BothHave, MissesOne}
+use Rattle.commands.specs.Verify.{no_line}
+use Rattle.commands.specs.declared.refusal.Refusal.{Refusal}
+use Rattle.commands.specs.declared.status.Status.{Status}
+use Rattle.commands.specs.declared.status.Status.TheVariants.{Done, No, BadProblem, BadCert, ReadFault}
+
+-- ---- texts
+-- the text is that of this widening of the problem
+abbrev pub SpellsWidening : ProblemLists → Widening → List ℕ → Type 0
+SpellsWidening p w text = (readings : List Reading) × AreReadings p readings × IsWideningTextOf p readings w text
+
+-- the text is that of no widening of p, for this cause
+abbrev pub RefusesWidening : ProblemLists → List ℕ → Refusal → Type 0
+RefusesWidening p text refusal = (readings : List Reading) × AreReadings p readings × Answers (widening_format p readings) text (answer_of refusal)
+
+-- what a widening says: that it is the least one, or that there is none
+abbrev pub IsTrueOf : ProblemLists → Widening → Type 0
+IsTrueOf p (Least extra execution cycle) = IsLeastWidening p extra
+IsTrueOf p (Never cycle) = HasNoWidening p
+
+-- ---- widen
+-- the text of the least widening, with the earliest execution and the contradiction that show it, or that there is none
+abbrev pub IsLeastText : ProblemLists → List ℕ → Type 0
+IsLeastText p text = (w : Widening) × IsTrueOf p w × FindsWidening p w × SpellsWidening p w text
+
+-- what is printed of a problem
+abbrev pub TellsLeast : ProblemLists → Status → List ℕ → Type 0
+TellsLeast p status text = (status ≡ Done) × IsLeastText p text
+
+-- what `widen` prints, with which status, and when
+abbrev pub WideningFound : List ℕ → FilesTold → FilesTold → Status → List ℕ → Type 0
+WideningFound problem old new Done text = (p : ProblemLists) × HasBytes old.content problem (SpellsProblem p) × IsLeastText p text
+WideningFound problem old new BadProblem text = IsBadProblem problem old.content text
+WideningFound problem old new ReadFault text = IsMissed problem old new × (text ≡ codes "read fault\n")
+WideningFound problem old new _ text = ⊥
+
+-- ---- judge
+-- what `judge` prints, with which status, and when
+abbrev pub WideningJudged : List ℕ → List ℕ → FilesTold → FilesTold → Status → List ℕ → Type 0
+WideningJudged problem widening old new Done line = (p : ProblemLists) × (w : Widening)
+    × BothHave old.content problem widening (λ text more. SpellsProblem p text × SpellsWidening p w more × ShowsWidening p w × IsTrueOf p w)
+    × (line ≡ codes "yes\n")
+WideningJudged problem widening old new No line = (p : ProblemLists) × (w : Widening) × (part : Part) × (reason : Reason)
+    × BothHave old.content problem widening (λ text more. SpellsProblem p text × SpellsWidening p w more × (ShowsWidening p w → ⊥) × IsJudged p w (answers.No part reason))
+    × (line ≡ no_line p part reason)
+WideningJudged problem widening old new BadProblem line = IsBadProblem problem old.content line
+WideningJudged problem widening old new BadCert line = (p : ProblemLists) × (refusal : Refusal)
+    × BothHave old.content problem widening (λ text more. SpellsProblem p text × RefusesWidening p more refusal)
+    × (line ≡ refusal_line (codes "certificate") refusal)
+WideningJudged problem widening old new ReadFault line = MissesOne problem widening old new × (line ≡ codes "read fault\n")
+WideningJudged problem widening old new _ line = ⊥

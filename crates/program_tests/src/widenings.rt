@@ -1,0 +1,165 @@
+// The least widening of a problem is printed, and judged.
+use crate::fixtures::{CONTRADICTING_PROBLEM, TWO_LOGS_PROBLEM};
+use crate::running::{Wanted, answers, prints, run_over};
+use commands::Status;
+use ports::{MemFiles, MemSink};
+use std::alloc::{AllocError, Global};
+use std::test::Fail;
+
+// A message takes 20 ns at least between events that are 10 ns apart.
+const HOPELESS: &str =
+    "problem 1\nclock c 0 0 0 0\nevent p c 0\nevent q c 10\nmessage p q 20 none\nend\n";
+
+// How the text of the widening of the contradicting problem begins.
+const THREE: &str =
+    "event a#1 0.000000000\nevent a#2 95.000000000\nevent b#1 22.000000000\nevent b#2 72.000000000\n\
+    reading a 100 0.000000000\nreading a 195 95.000000000\nreading b 250 22.000000000\nreading b 300 72.000000000\n";
+
+const CYCLE: &str =
+    "cycle\nstep delay-most a#1 b#1 22.000000000\nstep early b#1 0.000000000\nstep span-most b 250 300 50.000000000\n\
+    step late b#2 0.000000000\nstep delay-most b#2 a#2 22.000000000\nstep early a#2 0.000000000\n\
+    step span-least a 100 195 -95.000000000\nstep late a#1 0.000000000\nend\n";
+
+const ZERO: &str =
+    "widening 1\nleast 0\nevent a#1 0.000000000\nevent a#2 80.000000000\nevent b#1 10.000000000\nevent b#2 60.000000000\n\
+    reading a 100 0.000000000\nreading a 180 80.000000000\nreading b 250 10.000000000\nreading b 300 60.000000000\nend\n";
+
+// The text of a widening of the contradicting problem with this first line.
+fn put_widening(alloc: Global, files: &mut MemFiles, least: &str) -> Result<(), AllocError> {
+    let mut text = Vec::new(alloc);
+    text.extend_from_slice(b"widening 1\n")?;
+    text.extend_from_slice(least.as_bytes())?;
+    text.extend_from_slice(THREE.as_bytes())?;
+    text.extend_from_slice(CYCLE.as_bytes())?;
+    files.put("w", &text)
+}
+
+// Whether judging such a text ends so.
+fn judged_so(
+    alloc: Global,
+    least: &str,
+    status: Status,
+    printed: &str,
+) -> Result<bool, AllocError> {
+    let mut files = MemFiles::new(alloc, &[])?;
+    files.put("p", CONTRADICTING_PROBLEM.as_bytes())?;
+    put_widening(alloc, &mut files, least)?;
+    let wanted = Wanted {
+        words: &["judge", "p", "w"],
+        status,
+        printed,
+    };
+    prints(alloc, &wanted, &mut files, &[])
+}
+
+// Prints the least widening of a problem.
+fn widen_into(alloc: Global, problem: &str, out: &mut MemSink) -> Result<(), AllocError> {
+    let mut files = MemFiles::new(alloc, &[])?;
+    files.put("p", problem.as_bytes())?;
+    run_over(alloc, &["widen", "p"], &mut files, b"", &[], out)?;
+    Ok(())
+}
+
+// Whether these bytes are judged yes.
+fn holds(alloc: Global, problem: &str, widening: &[u8]) -> Result<bool, AllocError> {
+    let mut files = MemFiles::new(alloc, &[])?;
+    files.put("p", problem.as_bytes())?;
+    files.put("w", widening)?;
+    let wanted = Wanted {
+        words: &["judge", "p", "w"],
+        status: Status::Done,
+        printed: "yes\n",
+    };
+    prints(alloc, &wanted, &mut files, &[])
+}
+
+// Whether what `widen` prints of a problem begins so, and is judged yes.
+fn widens_so(alloc: Global, problem: &str, head: &str) -> Result<bool, AllocError> {
+    let mut out = MemSink::new(alloc, 1000, 7, &[])?;
+    widen_into(alloc, problem, &mut out)?;
+    Ok(out.bytes().starts_with(head.as_bytes()) && holds(alloc, problem, out.bytes())?)
+}
+
+// How a run with these words ends where the problem is there and the widening is not.
+fn ends_so(
+    alloc: Global,
+    words: &[&str],
+    problem: &str,
+    status: Status,
+    printed: &str,
+) -> Result<bool, AllocError> {
+    let mut files = MemFiles::new(alloc, &[])?;
+    files.put("p", problem.as_bytes())?;
+    let wanted = Wanted {
+        words,
+        status,
+        printed,
+    };
+    let mut out = MemSink::new(alloc, 1000, 7, &[])?;
+    answers(alloc, &wanted, &mut files, b"", &[], &mut out)
+}
+
+#[test]
+fn least_widening_is_printed_and_judged(rt: HostRuntime) -> Result<(), Fail> {
+    let alloc = rt.alloc();
+    assert!(rt;
+        widens_so(
+            alloc,
+            CONTRADICTING_PROBLEM,
+            "widening 1\nleast 3\nevent a#1 0.000000000\nevent a#2 95.000000000\n"
+        )?
+    );
+    assert!(rt; widens_so(alloc, HOPELESS, "widening 1\nleast none\ncycle\n")?);
+    assert!(rt; widens_so(alloc, TWO_LOGS_PROBLEM, ZERO)?);
+    Ok(())
+}
+
+#[test]
+fn widening_is_judged_from_both_sides(rt: HostRuntime) -> Result<(), Fail> {
+    let alloc = rt.alloc();
+    assert!(rt; judged_so(alloc, "least 3\n", Status::Done, "yes\n")?);
+    assert!(rt; judged_so(alloc, "least 4\n", Status::No, "no cycle weight 1\n")?);
+    assert!(rt;
+        judged_so(
+            alloc,
+            "least 2\n",
+            Status::No,
+            "no run broken delay-most b#2 a#2 22.000000000 23.000000000\n"
+        )?
+    );
+    assert!(rt; judged_so(alloc, "least none\n", Status::BadCert, "certificate 1 3\n")?);
+    Ok(())
+}
+
+#[test]
+fn what_is_not_there_is_not_widened(rt: HostRuntime) -> Result<(), Fail> {
+    let alloc = rt.alloc();
+    assert!(rt;
+        ends_so(
+            alloc,
+            &["widen", "q"],
+            HOPELESS,
+            Status::ReadFault,
+            "read fault\n"
+        )?
+    );
+    assert!(rt;
+        ends_so(
+            alloc,
+            &["widen", "p"],
+            "problem 2\n",
+            Status::BadProblem,
+            "problem 1 1\n"
+        )?
+    );
+    assert!(rt;
+        ends_so(
+            alloc,
+            &["judge", "p", "w"],
+            HOPELESS,
+            Status::ReadFault,
+            "read fault\n"
+        )?
+    );
+    Ok(())
+}
