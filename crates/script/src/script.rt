@@ -5,7 +5,7 @@ ghost use Rattle.ports.specs.Files.{Keeps};
 ghost use Rattle.decl.specs.Declaration.{Declaration, IsDeclaration, declaration_of};
 ghost use Rattle.line_reader.specs.Reader.{fresh, room};
 ghost use Rattle.session.specs.Sessions.{start};
-ghost use Rattle.session.specs.Stands.{StandsFor};
+ghost use Rattle.session.specs.Stands.{StandsFor, IsReady};
 ghost use Rattle.script.specs.Script.{ScriptAnswered, devices};
 ghost use Rattle.script.specs.Turns.{AnswersLine, HasNoReply};
 
@@ -28,13 +28,15 @@ fn answer_line<F: Files, I: Source, O: Sink, L: Ledger>(
     out: &mut O,
     steps: &mut Steps<L>,
 ) -> Result<(), Ended>
-    requires { reader.old.over ≡ false }
+    requires going { reader.old.over ≡ false }
+    requires ready { IsReady session.old }
     ensures ok { OnOk result (AnswersLine session.old session.new reader.old reader.new
         (devices (F.told files.old) (I.told input.old) (O.told out.old)) (devices (F.told files.new) (I.told input.new) (O.told out.new))
         (Appends (O.told out.old).written (O.told out.new).written)) }
     ensures err { IfErr result (HasNoReply session.old session.new reader.old reader.new
         (devices (F.told files.old) (I.told input.old) (O.told out.old)) (devices (F.told files.new) (I.told input.new) (O.told out.new))) }
     ensures going { OnOk result (reader.new.over ≡ false) }
+    ensures ready { OnOk result (IsReady session.new) }
     ensures progress { OnOk result (room reader.new < room reader.old) }
     ensures keeps { Keeps (F.told files.old) (F.told files.new) }
     ensures no_fall { ((I.told input.old).faults ≤ (I.told input.new).faults) × ((O.told out.old).faults ≤ (O.told out.new).faults) }
@@ -57,7 +59,8 @@ fn answer_lines<F: Files, I: Source, O: Sink, L: Ledger>(
     out: &mut O,
     steps: &mut Steps<L>,
 ) -> Ended
-    requires { reader.old ≡ fresh }
+    requires fresh { reader.old ≡ fresh }
+    requires ready { IsReady session.old }
     ensures ended { (d : Declaration) → StandsFor session.old d (start d) → ScriptAnswered d
         (devices (F.told files.old) (I.told input.old) (O.told out.old)) (devices (F.told files.new) (I.told input.new) (O.told out.new)) result }
     ensures keeps { Keeps (F.told files.old) (F.told files.new) }

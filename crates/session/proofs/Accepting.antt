@@ -1,5 +1,5 @@
 -- Events that are accepted under a label.
-use Rattle.std.proofs.Common.{◌≡◌, ◌≢◌, ◌⊎◌, inl, inr, ℕ, zero, suc, ◌+◌, ◌-◌, ◌^◌, ◌<◌, List, [], ◌∷◌, ◌++◌, length, map, slice_get, slice_set, Some, Bool, true, false, nat_le, option_map, refl, sym, ◌∙◌, ap, subst, arith, MatchBool, length-set}
+use Rattle.std.proofs.Common.{◌≡◌, ◌≢◌, ◌⊎◌, inl, inr, ℕ, zero, suc, ◌+◌, ◌-◌, ◌^◌, ◌<◌, ◌≤◌, List, [], ◌∷◌, ◌++◌, length, map, slice_get, slice_set, Option, Some, None, Bool, true, false, nat_le, option_map, refl, sym, ◌∙◌, ap, subst, arith, MatchBool, length-set}
 use Rattle.std.proofs.lemmas.Option.{slice_get-map}
 use Rattle.std.proofs.Math.Seq.{map-set}
 use Rattle.problem_model.specs.Problem.{ProblemLists}
@@ -7,20 +7,25 @@ use Rattle.decl.specs.declared.items.Label.{Label}
 use Rattle.decl.specs.Declaration.{Declaration}
 use Rattle.trace_event.specs.Seen.{Seen}
 use Rattle.traces.specs.declared.accepted.Accepted.{Accepted}
+use Rattle.traces.specs.declared.event.EventId.{EventId}
+use Rattle.engine.specs.Solver.{SolverLists}
 use Rattle.traces.specs.declared.accepted.Stream.{Stream}
 use Rattle.traces.specs.Held.{seen_in}
 use Rattle.traces.specs.Traces.{Trace, Traces, size_of, seen_of, seen_under, seen_by, IsOfKind, event_count, events_of}
 use Rattle.traces.specs.Messages.{messages_of, missing, problem_of, problem_of_seen}
 use Rattle.trace_match.specs.declared.matcher.Changed.{Changed}
+use Rattle.std.specs.Prelude.{IfSome}
+use Rattle.session.specs.declared.answers.Answers.{Answers}
 use Rattle.trace_match.specs.Ends.{End, AreEndsOf, IsChange}
 use Rattle.queries.specs.Consistent.{IsConsistent}
 use Rattle.session.specs.declared.refusal.Refusal.TheVariants.{TooManyEvents}
 use Rattle.session.specs.Refusals.{refusal_line}
 use Rattle.session.specs.Reply.{State, IsAdded, added_line, count_by, messages_by, pending_of}
-use Rattle.session.specs.Stands.{Held, Under, IsHeld, StandsFor, held_of, under_of, problem_held, seen_held, waiting, IsStreamOf}
+use Rattle.session.specs.Stands.{Held, Under, IsHeld, AreKept, AreAnswersOf, StandsFor, held_of, under_of, problem_held, seen_held, waiting, IsStreamOf}
 use Rattle.session.specs.Inside.{AcceptAnswered, HasPlace, IsStreamWithin, IsAddedTo, IsGrownAt, IsGrownTrace, grown}
+use Rattle.session.proofs.Slotting.{kept_grown}
 use Rattle.session.proofs.Telling.{Told}
-use Rattle.session.proofs.Holding.{count_grown, held_grown, room_by, room_few, seen_accepted, some_same, there_some}
+use Rattle.session.proofs.Holding.{accepted_few, held_same, count_grown, held_grown, room_by, room_few, seen_accepted, some_same, there_some}
 
 pub choose : (b b' : Bool) (P Q : Type 0) → b ≡ b' → MatchBool b' P Q → MatchBool b P Q
 choose b b' P Q e m = rw e m
@@ -112,8 +117,8 @@ module _ (held : Held) (d : Declaration) (s : State) (k : ℕ) (label : Label) (
   stream_of u j v t (inr p) (inl q) = absurd (p.0 q.0)
   stream_of u j v t (inr p) (inr q) = stands.streams j v t p.1 q.1
 
-  stands_then : (held' : Held) → held'.declaration ≡ held.declaration → IsGrownAt held.under held'.under k events size stream → StandsFor held' d (record s { traces = slice_set s.traces k new })
-  stands_then held' same grew =
+  stands_then : (held' : Held) → held'.declaration ≡ held.declaration → held'.kept ≡ held.kept → IsGrownAt held.under held'.under k events size stream → StandsFor held' d (record s { traces = slice_set s.traces k new })
+  stands_then held' same same_kept grew =
       let set = slice_set held.under k (grown grew.at events size stream) in
       record {
         declaration = same ∙ stands.declaration;
@@ -124,7 +129,7 @@ module _ (held : Held) (d : Declaration) (s : State) (k : ℕ) (label : Label) (
         streams = λ j v t at_v at_t. stream_of grew.at j v t
             (set_or_same held.under k j (grown grew.at events size stream) v (ap (λ (us : List Under). slice_get us j) (sym grew.is) ∙ at_v))
             (set_or_same s.traces k j new t at_t);
-        kept = stands.kept;
+        kept = stands.kept ∙ sym same_kept;
       }
 
   added_then : (held' : Held) (p : ProblemLists) (changed : Changed) (text : List ℕ) → k < length held.under → held'.declaration ≡ held.declaration → p ≡ problem_held held' →
@@ -156,16 +161,16 @@ accept_refused held k events size stream IsWritten inside room written d s label
     (_, s, choose _ false _ _ (room_is held d s k label old new events size stream stands at_label at_old g false inside room) (refl, refl), written, stands)
 
 pub accept_added : (held held' : Held) (k : ℕ) (events : List Seen) (size : ℕ) (stream : Stream) (p : ProblemLists) (changed : Changed) (IsWritten : List ℕ → Type 0) → k < length held.under →
-    nat_le (event_count (seen_held held.under) + length events) (2 ^ 20) ≡ true → held'.declaration ≡ held.declaration → p ≡ problem_held held' →
+    nat_le (event_count (seen_held held.under) + length events) (2 ^ 20) ≡ true → held'.declaration ≡ held.declaration → held'.kept ≡ held.kept → p ≡ problem_held held' →
     IsChange (seen_held held.under) (seen_held held'.under) changed → IsGrownAt held.under held'.under k events size stream →
     Told (IsAddedTo p changed (length events) (waiting stream)) IsWritten → AcceptAnswered held held' k events size stream IsWritten
-accept_added held held' k events size stream p changed IsWritten inside room same p_is change grew says d s label old new stands at_label at_old g = (
+accept_added held held' k events size stream p changed IsWritten inside room same same_kept p_is change grew says d s label old new stands at_label at_old g = (
   says.0,
   record s { traces = slice_set s.traces k new },
   choose _ true _ _ (room_is held d s k label old new events size stream stands at_label at_old g true inside room)
       (refl, added_then held d s k label old new events size stream stands at_label at_old g held' p changed says.0 inside same p_is change grew says.1),
   says.2,
-  stands_then held d s k label old new events size stream stands at_label at_old g held' same grew,
+  stands_then held d s k label old new events size stream stands at_label at_old g held' same same_kept grew,
 )
 
 -- the line of an addition, by what was found out for it
@@ -175,27 +180,28 @@ added_says p changed b events new gone pending line consistent new_is gone_is li
     (b, consistent, line_is ∙ ap (λ (n : ℕ). added_line events n gone pending b) new_is ∙ ap (λ (n : ℕ). added_line events changed.messages n pending b) gone_is)
 
 -- ---- the same by what the code holds
-pub refused_in : (d : Declaration) (accepted : List Accepted) (held : Held) (k n : ℕ) (events : List Seen) (size : ℕ) (stream : Stream) (r : Bool) (IsWritten : List ℕ → Type 0) → held_of d accepted ≡ held →
-    k < length held.under → n ≡ length events → r ≡ nat_le (event_count (seen_in accepted) + n) (2 ^ 20) → r ≡ false → IsWritten (refusal_line TooManyEvents) →
+pub refused_in : (d : Declaration) (accepted : List Accepted) (kept : List EventId) (answers : Option SolverLists) (held : Held) (k n : ℕ) (events : List Seen) (size : ℕ) (stream : Stream) (r : Bool) (IsWritten : List ℕ → Type 0) →
+    held_of d accepted kept answers ≡ held → k < length held.under → n ≡ length events → r ≡ nat_le (event_count (seen_in accepted) + n) (2 ^ 20) → r ≡ false → IsWritten (refusal_line TooManyEvents) →
     AcceptAnswered held held k events size stream IsWritten
-refused_in d accepted held k n events size stream r IsWritten same inside n_is r_is full written =
+refused_in d accepted kept answers held k n events size stream r IsWritten same inside n_is r_is full written =
     let P : Held → Type 0 = λ h. k < length h.under → AcceptAnswered h h k events size stream IsWritten in
     let room = room_by accepted (length events) r false (r_is ∙ ap (λ (m : ℕ). nat_le (event_count (seen_in accepted) + m) (2 ^ 20)) n_is) full in
-    subst P same (λ within. accept_refused (held_of d accepted) k events size stream IsWritten within room written) inside
+    subst P same (λ within. accept_refused (held_of d accepted kept answers) k events size stream IsWritten within room written) inside
 
 -- what was found out of an addition of events to what the code holds
-pub record Extended (d : Declaration) (accepted new : List Accepted) (held : Held) (k : ℕ) (events : List Seen) (size : ℕ) (stream : Stream) : Type 0 where
-  pub same : held_of d accepted ≡ held
+pub record Extended (d : Declaration) (accepted new : List Accepted) (kept : List EventId) (answers : Option SolverLists) (held : Held) (k : ℕ) (events : List Seen) (size : ℕ) (stream : Stream) : Type 0 where
+  pub same : held_of d accepted kept answers ≡ held
   pub inside : k < length held.under
   pub place : HasPlace held.under k size
   pub within : IsStreamWithin held.under k size stream
   pub room : nat_le (event_count (seen_in accepted) + length events) (2 ^ 20) ≡ true
   pub grew : IsGrownAt (map under_of accepted) (map under_of new) k events size stream
 
-pub extended : (d : Declaration) (accepted seen taken new : List Accepted) (held : Held) (k n : ℕ) (events : List Seen) (size : ℕ) (stream : Stream) (r : Bool) → held_of d accepted ≡ held → k < length held.under →
+pub extended : (d : Declaration) (accepted seen taken new : List Accepted) (kept : List EventId) (answers : Option SolverLists) (held : Held) (k n : ℕ) (events : List Seen) (size : ℕ) (stream : Stream) (r : Bool) →
+    held_of d accepted kept answers ≡ held → k < length held.under →
     HasPlace held.under k size → IsStreamWithin held.under k size stream → seen ≡ accepted → n ≡ length events → r ≡ nat_le (event_count (seen_in seen) + n) (2 ^ 20) → r ≡ true → taken ≡ accepted →
-    IsGrownAt (map under_of taken) (map under_of new) k events size stream → Extended d accepted new held k events size stream
-extended d accepted seen taken new held k n events size stream r same inside place within seen_is n_is r_is fit taken_is grew = record {
+    IsGrownAt (map under_of taken) (map under_of new) k events size stream → Extended d accepted new kept answers held k events size stream
+extended d accepted seen taken new kept answers held k n events size stream r same inside place within seen_is n_is r_is fit taken_is grew = record {
   same = same;
   inside = inside;
   place = place;
@@ -204,30 +210,75 @@ extended d accepted seen taken new held k n events size stream r same inside pla
   grew = subst (λ (l : List Accepted). IsGrownAt (map under_of l) (map under_of new) k events size stream) taken_is grew;
 }
 
-module _ (d : Declaration) (accepted new : List Accepted) (held : Held) (k : ℕ) (events : List Seen) (size : ℕ) (stream : Stream) (e : Extended d accepted new held k events size stream) where
+module _ (d : Declaration) (accepted new : List Accepted) (kept : List EventId) (answers : Option SolverLists) (held : Held) (k : ℕ) (events : List Seen) (size : ℕ) (stream : Stream)
+    (e : Extended d accepted new kept answers held k events size stream) where
   inside_is : k < length (map under_of accepted)
   inside_is = let P : Held → Type 0 = λ h. k < length h.under in subst P (sym e.same) e.inside
 
   has_room : nat_le (event_count (seen_held (map under_of accepted)) + length events) (2 ^ 20) ≡ true
   has_room = room_by accepted (length events) true true (sym e.room) refl
 
-  held_extended : IsHeld (held_of d accepted) → IsHeld (held_of d new)
-  held_extended is =
+  pub held_extended : (after : Option SolverLists) → IsHeld (held_of d accepted kept answers) → IsHeld (held_of d new kept after)
+  held_extended after is =
       let P : Held → Type 0 = λ h. HasPlace h.under k size in
       let Q : Held → Type 0 = λ h. IsStreamWithin h.under k size stream in
-      held_grown (held_of d accepted) (held_of d new) k events size stream is (subst P (sym e.same) e.place) (subst Q (sym e.same) e.within) (room_few (map under_of accepted) (length events) has_room) refl e.grew
+      held_grown (held_of d accepted kept answers) (held_of d new kept after) k events size stream is (subst P (sym e.same) e.place) (subst Q (sym e.same) e.within) (room_few (map under_of accepted) (length events) has_room) refl e.grew
 
-  pub whole_extended : (then : List Accepted) (ends : List End) → then ≡ new → IsHeld (held_of d accepted) → AreEndsOf ends (seen_in new) → IsHeld (held_of d then) × AreEndsOf ends (seen_in then)
-  whole_extended then ends is held are =
-      (subst (λ (l : List Accepted). IsHeld (held_of d l)) (sym is) (held_extended held), subst (λ (l : List Accepted). AreEndsOf ends (seen_in l)) (sym is) are)
-
-  pub added_in : (p : ProblemLists) (changed : Changed) (n pending : ℕ) (IsWritten : List ℕ → Type 0) → p ≡ problem_held (held_of d new) → IsChange (seen_in accepted) (seen_in new) changed →
-      n ≡ length events → pending ≡ waiting stream → Told (IsAddedTo p changed n pending) IsWritten → AcceptAnswered held (held_of d new) k events size stream IsWritten
-  added_in p changed n pending IsWritten p_is change n_is pending_is says =
-      let P : Held → Type 0 = λ h. AcceptAnswered h (held_of d new) k events size stream IsWritten in
+  pub added_in : (p : ProblemLists) (changed : Changed) (n pending : ℕ) (after : Option SolverLists) (IsWritten : List ℕ → Type 0) → p ≡ problem_held (held_of d new kept after) →
+      IsChange (seen_in accepted) (seen_in new) changed →
+      n ≡ length events → pending ≡ waiting stream → Told (IsAddedTo p changed n pending) IsWritten → AcceptAnswered held (held_of d new kept after) k events size stream IsWritten
+  added_in p changed n pending after IsWritten p_is change n_is pending_is says =
+      let P : Held → Type 0 = λ h. AcceptAnswered h (held_of d new kept after) k events size stream IsWritten in
       let from_old : IsChange (seen_held (map under_of accepted)) (seen_in new) changed = subst (λ (x : List (List Seen)). IsChange x (seen_in new) changed) (sym (seen_accepted accepted)) change in
       let to_new : IsChange (seen_held (map under_of accepted)) (seen_held (map under_of new)) changed =
       subst (λ (x : List (List Seen)). IsChange (seen_held (map under_of accepted)) x changed) (sym (seen_accepted new)) from_old in
       let said = subst (λ (m : ℕ). Told (IsAddedTo p changed m pending) IsWritten) n_is says in
       let waits = subst (λ (m : ℕ). Told (IsAddedTo p changed (length events) m) IsWritten) pending_is said in
-      subst P e.same (accept_added (held_of d accepted) (held_of d new) k events size stream p changed IsWritten inside_is has_room refl p_is to_new e.grew waits)
+      subst P e.same (accept_added (held_of d accepted kept answers) (held_of d new kept after) k events size stream p changed IsWritten inside_is has_room refl refl p_is to_new e.grew waits)
+
+-- ---- the events that are kept
+module _ (accepted new : List Accepted) (k : ℕ) (events : List Seen) (size : ℕ) (stream : Stream) (grew : IsGrownAt (map under_of accepted) (map under_of new) k events size stream) where
+  seen_then_at : slice_get (seen_held (map under_of accepted)) k ≡ Some grew.at.events
+  seen_then_at = slice_get-map (λ (u : Under). u.events) (map under_of accepted) k ∙ ap (option_map (λ (u : Under). u.events)) grew.was
+
+  seen_then_is : seen_held (map under_of new) ≡ slice_set (seen_held (map under_of accepted)) k (grew.at.events ++ events)
+  seen_then_is = ap seen_held grew.is ∙ map-set (λ (u : Under). u.events) (map under_of accepted) k (grown grew.at events size stream)
+
+  -- they are kept of more events too
+  pub kept_then : (kept : List EventId) → AreKept (seen_in accepted) kept → AreKept (seen_in new) kept
+  kept_then kept are =
+      let before : AreKept (seen_held (map under_of accepted)) kept = subst (λ (x : List (List Seen)). AreKept x kept) (sym (seen_accepted accepted)) are in
+      let after = kept_grown (seen_held (map under_of accepted)) kept k grew.at.events events seen_then_at before in
+      subst (λ (x : List (List Seen)). AreKept x kept) (sym seen_then_is ∙ seen_accepted new) after
+
+-- ---- what a session holds then
+-- all that is known of what a session holds
+abbrev pub IsWhole : Declaration → List Accepted → List EventId → Option SolverLists → Option Answers → List End → Type 0
+IsWhole d accepted kept solver answers ends =
+    IsHeld (held_of d accepted kept solver) × AreEndsOf ends (seen_in accepted) × AreKept (seen_in accepted) kept × IfSome answers (AreAnswersOf d (seen_in accepted) kept)
+
+pub whole_same : (d : Declaration) (accepted new then : List Accepted) (kept : List EventId) (before after : Option SolverLists) (answers : Option Answers) (ends : List End) → then ≡ new → map under_of new ≡ map under_of accepted →
+    IsHeld (held_of d accepted kept before) → AreKept (seen_in accepted) kept → AreEndsOf ends (seen_in new) → answers ≡ None → IsWhole d then kept after answers ends
+whole_same d accepted new then kept before after answers ends is stays held lawful are none =
+    let seen : seen_in then ≡ seen_in accepted = ap seen_in is ∙ sym (seen_accepted new) ∙ ap seen_held stays ∙ seen_accepted accepted in
+    (
+      held_same (held_of d accepted kept before) (held_of d then kept after) held refl (ap (map under_of) is ∙ stays),
+      subst (λ (l : List Accepted). AreEndsOf ends (seen_in l)) (sym is) are,
+      subst (λ (x : List (List Seen)). AreKept x kept) (sym seen) lawful,
+      subst (λ (o : Option Answers). IfSome o (AreAnswersOf d (seen_in then) kept)) (sym none) tt,
+    )
+
+pub whole_grown : (d : Declaration) (accepted new then : List Accepted) (kept : List EventId) (before after : Option SolverLists) (answers : Option Answers) (held : Held) (k : ℕ) (events : List Seen) (size : ℕ) (stream : Stream)
+    (ends : List End) → Extended d accepted new kept before held k events size stream → then ≡ new → IsHeld (held_of d accepted kept before) → AreKept (seen_in accepted) kept → AreEndsOf ends (seen_in new) →
+    IfSome answers (AreAnswersOf d (seen_in then) kept) → IsWhole d then kept after answers ends
+whole_grown d accepted new then kept before after answers held k events size stream ends e is was lawful are ready = (
+  subst (λ (l : List Accepted). IsHeld (held_of d l kept after)) (sym is) (held_extended d accepted new kept before held k events size stream e after was),
+  subst (λ (l : List Accepted). AreEndsOf ends (seen_in l)) (sym is) are,
+  subst (λ (l : List Accepted). AreKept (seen_in l) kept) (sym is) (kept_then accepted new k events size stream e.grew kept lawful),
+  ready,
+)
+
+-- so there are no more events than a session has
+pub whole_few : (d : Declaration) (accepted new : List Accepted) (kept : List EventId) (before : Option SolverLists) (held : Held) (k : ℕ) (events : List Seen) (size : ℕ) (stream : Stream) →
+    Extended d accepted new kept before held k events size stream → IsHeld (held_of d accepted kept before) → event_count (seen_in new) ≤ 2 ^ 20
+whole_few d accepted new kept before held k events size stream e was = accepted_few d new kept None (held_extended d accepted new kept before held k events size stream e None was)

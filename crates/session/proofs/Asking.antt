@@ -11,7 +11,7 @@ use Rattle.line_format.specs.Cut.{cut, Lacks, fields}
 use Rattle.line_format.proofs.Cutting.{cut_again, cut_lacks}
 use Rattle.line_format.proofs.Fields.{fields_take, fields_again}
 use Rattle.line_format.proofs.Lacking.{all_high}
-use Rattle.session.specs.Commands.{Command, Add, Interval, Order, Time, Merge, Prove, Problem, Report, IsWord, command_words, Asks, HasWords}
+use Rattle.session.specs.Commands.{Command, Add, Interval, Order, Time, Merge, Prove, Keep, Problem, Report, IsWord, command_words, Asks, HasWords}
 
 -- a word has no space
 word_lacks : (w : List ℕ) → IsWord w → Lacks 32 w
@@ -88,6 +88,7 @@ words_told (Order first second) all = told_three (codes "order") first second al
 words_told (Time event) all = told_two (codes "time") event all
 words_told Merge all = told_one (codes "merge") all
 words_told (Prove first second) all = told_three (codes "prove") first second all
+words_told (Keep event) all = told_two (codes "keep") event all
 words_told Problem all = told_one (codes "problem") all
 words_told Report all = told_one (codes "report") all
 

@@ -1,5 +1,5 @@
 -- What the code holds, with more at one label.
-use Rattle.std.proofs.Common.{◌≡◌, ℕ, zero, suc, ◌+◌, ◌<◌, ◌≤◌, ◌^◌, List, [], ◌∷◌, ◌++◌, length, map, slice_get, slice_set, Some, Result, Ok, Err, OnErr, All, option_map, sym, ◌∙◌, ap, subst, arith}
+use Rattle.std.proofs.Common.{◌≡◌, ℕ, zero, suc, ◌+◌, ◌<◌, ◌≤◌, ◌^◌, List, [], ◌∷◌, ◌++◌, length, map, slice_get, slice_set, Option, Some, Result, Ok, Err, OnErr, All, option_map, sym, ◌∙◌, ap, subst, arith}
 use Rattle.std.specs.List.{slice_index_or}
 use Rattle.std.proofs.lemmas.List.Sums.{get_or-le-sum_by}
 use Rattle.std.proofs.lemmas.List.{length-map}
@@ -12,6 +12,8 @@ use Rattle.traces.specs.Traces.{event_count, numbered}
 use Rattle.traces.specs.Held.{seen_in}
 use Rattle.trace_match.specs.Ends.{End, ends_of, AreEndsOf}
 use Rattle.traces.specs.declared.accepted.Accepted.{Accepted}
+use Rattle.traces.specs.declared.event.EventId.{EventId}
+use Rattle.engine.specs.Solver.{SolverLists}
 use Rattle.traces.specs.declared.accepted.Stream.{Stream}
 use Rattle.traces.specs.declared.accepted.Stream.TheVariants as streams
 use Rattle.decl.specs.Declaration.{Declaration}
@@ -66,9 +68,9 @@ size_fits accepted k a size at_k place = let fits : a.size + size ≤ 2 ^ 30 = p
 
 -- ---- the stream of a label
 -- what is held at a place, by what the code holds there
-pub under_at : (d : Declaration) (accepted : List Accepted) (held : Held) (k : ℕ) (a : Accepted) → held_of d accepted ≡ held → k < length held.under → a ≡ slice_index_or accepted k a →
+pub under_at : (d : Declaration) (accepted : List Accepted) (kept : List EventId) (answers : Option SolverLists) (held : Held) (k : ℕ) (a : Accepted) → held_of d accepted kept answers ≡ held → k < length held.under → a ≡ slice_index_or accepted k a →
     slice_get held.under k ≡ Some (under_of a)
-under_at d accepted held k a same inside is =
+under_at d accepted kept answers held k a same inside is =
     let P : Held → Type 0 = λ h. k < length h.under in
     let i : k < length (map under_of accepted) = subst P (sym same) inside in
     let e = length-map accepted under_of in

@@ -1,5 +1,5 @@
 -- What a session holds, and the events of it.
-use Rattle.std.proofs.Common.{◌≡◌, ℕ, zero, suc, ◌+◌, ◌*◌, ◌^◌, ◌<◌, ◌≤◌, List, [], ◌∷◌, ◌++◌, length, map, replicate, slice_get, slice_set, Some, Bool, true, nat_le, option_map, refl, sym, ◌∙◌, ap, subst, arith, length-set}
+use Rattle.std.proofs.Common.{◌≡◌, ℕ, zero, suc, ◌+◌, ◌*◌, ◌^◌, ◌<◌, ◌≤◌, List, [], ◌∷◌, ◌++◌, length, map, replicate, slice_get, slice_set, Option, Some, Bool, true, nat_le, option_map, refl, sym, ◌∙◌, ap, subst, arith, length-set}
 use Rattle.std.specs.List.{slice_index_or}
 use Rattle.std.proofs.lemmas.List.{length-map}
 use Rattle.std.proofs.lemmas.List.Elements.{All-set}
@@ -9,6 +9,8 @@ use Rattle.std.proofs.Math.Seq.{map-set}
 use Rattle.decl.specs.Declaration.{Declaration}
 use Rattle.trace_event.specs.Seen.{Seen, seen_events}
 use Rattle.traces.specs.declared.accepted.Accepted.{Accepted}
+use Rattle.traces.specs.declared.event.EventId.{EventId}
+use Rattle.engine.specs.Solver.{SolverLists}
 use Rattle.traces.specs.declared.accepted.Stream.{Stream}
 use Rattle.traces.specs.Traces.{event_count}
 use Rattle.traces.specs.Held.{seen_in}
@@ -30,14 +32,14 @@ pub seen_accepted : (accepted : List Accepted) → seen_held (map under_of accep
 seen_accepted [] = refl
 seen_accepted (a ∷ accepted) = ap (λ (more : List (List Seen)). seen_events a.events.items ∷ more) (seen_accepted accepted)
 
-pub accepted_few : (d : Declaration) (accepted : List Accepted) → IsHeld (held_of d accepted) → event_count (seen_in accepted) ≤ 2 ^ 20
-accepted_few d accepted held = subst (λ (seen : List (List Seen)). event_count seen ≤ 2 ^ 20) (seen_accepted accepted) held.few
+pub accepted_few : (d : Declaration) (accepted : List Accepted) (kept : List EventId) (answers : Option SolverLists) → IsHeld (held_of d accepted kept answers) → event_count (seen_in accepted) ≤ 2 ^ 20
+accepted_few d accepted kept answers held = subst (λ (seen : List (List Seen)). event_count seen ≤ 2 ^ 20) (seen_accepted accepted) held.few
 
-pub accepted_each : (d : Declaration) (accepted : List Accepted) → IsHeld (held_of d accepted) → length accepted ≡ length d.labels
-accepted_each d accepted held = sym (length-map accepted under_of) ∙ held.each
+pub accepted_each : (d : Declaration) (accepted : List Accepted) (kept : List EventId) (answers : Option SolverLists) → IsHeld (held_of d accepted kept answers) → length accepted ≡ length d.labels
+accepted_each d accepted kept answers held = sym (length-map accepted under_of) ∙ held.each
 
-pub labels_few : (d : Declaration) (accepted : List Accepted) → IsHeld (held_of d accepted) → length accepted ≤ 65536
-labels_few d accepted held = let each = accepted_each d accepted held in let few = held.declared.limits.label_limit in omega (arith, each, few)
+pub labels_few : (d : Declaration) (accepted : List Accepted) (kept : List EventId) (answers : Option SolverLists) → IsHeld (held_of d accepted kept answers) → length accepted ≤ 65536
+labels_few d accepted kept answers held = let each = accepted_each d accepted kept answers held in let few = held.declared.limits.label_limit in omega (arith, each, few)
 
 -- whether there is room for more events, by what the code holds
 pub room_by : (accepted : List Accepted) (n : ℕ) (r b : Bool) → r ≡ nat_le (event_count (seen_in accepted) + n) (2 ^ 20) → r ≡ b →

@@ -1,6 +1,14 @@
 pub mod Asking
 pub mod OneCommand
 pub mod Holding
+pub mod Placing
+pub mod Slotting
+pub mod Beginning
+pub mod Engines
+pub mod KeptNext
+pub mod AskedRows
+pub mod Standby
+pub mod Stepping
 pub mod Naming
 pub mod Telling
 pub mod Replying

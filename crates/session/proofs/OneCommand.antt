@@ -1,7 +1,7 @@
 -- A line asks for one command at most.
 use Rattle.std.proofs.Common.{◌≡◌, ℕ, List, [], ◌∷◌, Option, Some, None, cond, codes, refl, sym, ◌∙◌, ap}
 use Rattle.std.specs.Str.{bytes_eq}
-use Rattle.session.specs.Commands.{Command, Add, Interval, Order, Time, Merge, Prove, Problem, Report, command_words, Asks}
+use Rattle.session.specs.Commands.{Command, Add, Interval, Order, Time, Merge, Prove, Keep, Problem, Report, command_words, Asks}
 use Rattle.session.proofs.Asking.{told, command_told}
 
 -- the command that has these words
@@ -9,7 +9,7 @@ abbrev command_of : List (List ℕ) → Option Command
 command_of [] = None
 command_of (name ∷ []) =
     cond (bytes_eq name (codes "merge")) (Some Merge) (cond (bytes_eq name (codes "problem")) (Some Problem) (cond (bytes_eq name (codes "report")) (Some Report) None))
-command_of (name ∷ event ∷ []) = Some (Time event)
+command_of (name ∷ event ∷ []) = cond (bytes_eq name (codes "time")) (Some (Time event)) (Some (Keep event))
 command_of (name ∷ first ∷ second ∷ more) =
     cond (bytes_eq name (codes "add")) (Some (Add first second)) (cond (bytes_eq name (codes "interval")) (Some (Interval first second))
     (cond (bytes_eq name (codes "order")) (Some (Order first second)) (Some (Prove first second))))
@@ -21,6 +21,7 @@ words_tell (Order first second) = refl
 words_tell (Time event) = refl
 words_tell Merge = refl
 words_tell (Prove first second) = refl
+words_tell (Keep event) = refl
 words_tell Problem = refl
 words_tell Report = refl
 

@@ -1,5 +1,5 @@
 -- A line has one reply, but for which contradiction and which path of bounds is printed.
-use Rattle.std.proofs.Common.{◌≡◌, ◌≢◌, ◌⊎◌, inl, inr, ℕ, suc, ◌-◌, ◌^◌, List, [], ◌∷◌, ◌++◌, length, slice_get, slice_set, Option, Some, None, Bool, true, false, nat_le, MatchBool, refl, sym, ◌∙◌, ap, subst, arith}
+use Rattle.std.proofs.Common.{◌≡◌, ◌≢◌, ◌⊎◌, inl, inr, ℕ, suc, ◌+◌, ◌-◌, ◌^◌, ◌<◌, List, [], ◌∷◌, ◌++◌, length, slice_get, slice_set, Option, Some, None, Bool, true, false, nat_le, MatchBool, refl, sym, ◌∙◌, ap, subst, arith}
 use Rattle.ports.specs.Files.{Content}
 use Rattle.problem_model.specs.Problem.{ProblemLists, IsProblem}
 use Rattle.problem_model.specs.Bounds.{Times, IsExecution}
@@ -18,6 +18,7 @@ use Rattle.decl.specs.declared.items.TraceKind.{TraceKind}
 use Rattle.decl.specs.declared.items.TraceKind.TheVariants.{Capture, Log}
 use Rattle.decl.specs.Declaration.{Declaration, IsDeclaration}
 use Rattle.trace_event.specs.Seen.{Seen}
+use Rattle.traces.specs.declared.event.EventId.{EventId}
 use Rattle.traces.specs.Traces.{Trace, Captured, Traces, seen_under, seen_by}
 use Rattle.traces.specs.Messages.{missing, problem_of, problem_of_seen}
 use Rattle.trace_problem.proofs.Seen.{problem_lawful}
@@ -28,10 +29,12 @@ use Rattle.trace_report.specs.Reports.{report_text}
 use Rattle.session.specs.declared.refusal.Refusal.{Refusal}
 use Rattle.session.specs.declared.refusal.Refusal.TheVariants.{NoCommand, UnknownLabel, UnreadFile, TooManyBytes, TooManyEvents, UnknownEvent}
 use Rattle.session.specs.Refusals.{log_refusal, capture_refusal}
-use Rattle.session.specs.Commands.{Command, Add, Interval, Order, Time, Merge, Prove, Problem, Report, Asks}
-use Rattle.session.specs.Reply.{State, Found, Unread, Bytes, Absent, Failed, Refuses, OfTwo, OfOne, IsTimeReply, IsReport, added_line, messages_by, count_by, IsAdded, pending_of, AcceptReply, with_rows, IsLogRefusal, LogReply, bytes_of, IsCaptureRefusal, CaptureReply, KindReply, fits_label, PieceReply, label_at, AddReply, Reply}
+use Rattle.session.specs.Commands.{Command, Add, Interval, Order, Time, Merge, Prove, Keep, Problem, Report, Asks}
+use Rattle.session.specs.Reply.{State, Found, Unread, Bytes, Absent, Failed, Refuses, OfTwo, OfOne, IsTimeReply, IsReport, added_line, messages_by, count_by, IsAdded, pending_of, AcceptReply, with_rows, IsLogRefusal, LogReply, bytes_of, IsCaptureRefusal, CaptureReply, KindReply, fits_label, PieceReply, label_at, AddReply, IsPlacedAt, kept_line, SlotReply, KeepReply, Reply}
 use Rattle.session.specs.Sessions.{CommandReply, LineReply}
+use Rattle.session.specs.Stands.{AreKept}
 use Rattle.session.specs.OneReply.{IsState, AreOneBut}
+use Rattle.session.proofs.Holding.{some_same}
 use Rattle.session.proofs.OneCommand.{command_one}
 
 -- what the crates below say of their own answers
@@ -139,6 +142,37 @@ one_of_one p event Says lawful one a b (inr (none, x)) (inr (none', y)) = inl (x
 one_report : (d : Declaration) (seen : List (List Seen)) (a b : List ℕ) → IsReport d seen a → IsReport d seen b → a ≡ b
 one_report d seen a b (x, is_x, is) (y, is_y, is') = is ∙ ap (λ (consistent : Bool). report_text d seen consistent) (one_state (problem_of_seen d seen) x y is_x is_y) ∙ sym is'
 
+-- ---- events that are kept
+one_slot : (seen : List (List Seen)) (kept : List EventId) (event : EventId) → AreKept seen kept → (a b : List ℕ) (after other : List EventId) → SlotReply kept event a after →
+    SlotReply kept event b other → (a ≡ b) × (after ≡ other)
+one_slot seen kept event are a b after other (inl (j, at, x, stays)) (inl (k, at', y, stays')) =
+    (x ∙ ap (λ (n : ℕ). kept_line (n + 1)) (are.differ j k event at at') ∙ sym y, stays ∙ sym stays')
+one_slot seen kept event are a b after other (inl (j, at, x, stays)) (inr (inl (none, few, y, grows))) = absurd (none (j, at))
+one_slot seen kept event are a b after other (inl (j, at, x, stays)) (inr (inr (none, full, y, stays'))) = absurd (none (j, at))
+one_slot seen kept event are a b after other (inr (inl (none, few, x, grows))) (inl (k, at', y, stays')) = absurd (none (k, at'))
+one_slot seen kept event are a b after other (inr (inl (none, few, x, grows))) (inr (inl (none', few', y, grows'))) = (x ∙ sym y, grows ∙ sym grows')
+one_slot seen kept event are a b after other (inr (inl (none, few, x, grows))) (inr (inr (none', full, y, stays'))) = absurd (omega (arith, few, full))
+one_slot seen kept event are a b after other (inr (inr (none, full, x, stays))) (inl (k, at', y, stays')) = absurd (none (k, at'))
+one_slot seen kept event are a b after other (inr (inr (none, full, x, stays))) (inr (inl (none', few, y, grows))) = absurd (omega (arith, few, full))
+one_slot seen kept event are a b after other (inr (inr (none, full, x, stays))) (inr (inr (none', full', y, stays'))) = (x ∙ sym y, stays ∙ sym stays')
+
+one_keeping : (p : ProblemLists) (seen : List (List Seen)) (kept : List EventId) (name : List ℕ) → IsProblem p → AreKept seen kept → (a b : List ℕ) (after other : List EventId) →
+    KeepReply p seen kept name a after → KeepReply p seen kept name b other → (a ≡ b) × (after ≡ other)
+one_keeping p seen kept name lawful are a b after other (inl (i, event, at, here, x)) (inl (j, event', at', here', y)) =
+    let place : j ≡ i = one_place p j i name lawful at' at in
+    let there : IsPlacedAt seen i event' = subst (λ (n : ℕ). IsPlacedAt seen n event') place here' in
+    let same : event' ≡ event = some_same event' event (sym there ∙ here) in
+    one_slot seen kept event are a b after other x (subst (λ (e : EventId). SlotReply kept e b other) same y)
+one_keeping p seen kept name lawful are a b after other (inl (i, event, at, here, x)) (inr (none, y, stays)) = absurd (none i at)
+one_keeping p seen kept name lawful are a b after other (inr (none, x, stays)) (inl (j, event', at', here', y)) = absurd (none j at')
+one_keeping p seen kept name lawful are a b after other (inr (none, x, stays)) (inr (none', y, stays')) = (x ∙ sym y, stays ∙ sym stays')
+
+abbrev state_of : Traces → List EventId → State
+state_of traces kept = record { traces = traces; kept = kept }
+
+one_state_of : (a b : State) → a.traces ≡ b.traces → a.kept ≡ b.kept → a ≡ b
+one_state_of a b traces kept = ap (λ (x : Traces). state_of x a.kept) traces ∙ ap (λ (x : List EventId). state_of b.traces x) kept
+
 -- ---- the problem of a state
 seen_length : (d : Declaration) (labels : List Label) (traces : Traces) → length traces ≡ length labels → length (seen_under d labels traces) ≡ length labels
 seen_length d [] traces same = refl
@@ -203,29 +237,32 @@ module _ (below : Below) where
   one_time p (Some clock) i a b (inr (none, x)) (inr (none', y)) = inl (x ∙ sym y)
 
   -- ---- lines
-  one_reply : (d : Declaration) (s : State) (c : Command) (found : Found) → IsProblem (problem_of d s.traces) → AreOne (problem_of d s.traces) (Reply d s c found)
-  one_reply d s (Add label path) found lawful = one_addition (problem_of d s.traces) d s (label_at d label) found
-  one_reply d s (Interval first second) found lawful = λ a b after other x y.
+  one_reply : (d : Declaration) (s : State) (c : Command) (found : Found) → IsProblem (problem_of d s.traces) → AreKept (seen_by d s.traces) s.kept → AreOne (problem_of d s.traces) (Reply d s c found)
+  one_reply d s (Add label path) found lawful kept = one_addition (problem_of d s.traces) d s (label_at d label) found
+  one_reply d s (Interval first second) found lawful kept = λ a b after other x y.
       let p = problem_of d s.traces in
       one_of_two p s first second (IsIntervalLine p) lawful (λ i j one two some is is'. inl (below.interval p i j one two is is')) a b after other x.1 y.1
-  one_reply d s (Order first second) found lawful = λ a b after other x y.
+  one_reply d s (Order first second) found lawful kept = λ a b after other x y.
       let p = problem_of d s.traces in
       one_of_two p s first second (IsOrderLine p) lawful (λ i j one two some is is'. inl (below.order p i j one two some is is')) a b after other x.1 y.1
-  one_reply d s (Time event) found lawful = λ a b after other x y.
+  one_reply d s (Time event) found lawful kept = λ a b after other x y.
       let p = problem_of d s.traces in
       (one_of_one p event (IsTimeReply p d.source) lawful (one_time p d.source) a b x.2 y.2, x.1 ∙ sym y.1)
-  one_reply d s Merge found lawful = λ a b after other x y.
+  one_reply d s Merge found lawful kept = λ a b after other x y.
       let seen = seen_by d s.traces in
       (one_answer (problem_of d s.traces) (IsMergeText d seen) a b (λ one two some is is'. inl (below.merge d seen one two is is')) x.2 y.2, x.1 ∙ sym y.1)
-  one_reply d s (Prove first second) found lawful = λ a b after other x y.
+  one_reply d s (Prove first second) found lawful kept = λ a b after other x y.
       let p = problem_of d s.traces in
       one_of_two p s first second (IsProofText p) lawful (λ i j one two some is is'. inr (inr (i, j, is, is'))) a b after other x.1 y.1
-  one_reply d s Problem found lawful = λ a b after other x y. (inl (x.2 ∙ sym y.2), x.1 ∙ sym y.1)
-  one_reply d s Report found lawful = λ a b after other x y. (inl (one_report d (seen_by d s.traces) a b x.2 y.2), x.1 ∙ sym y.1)
+  one_reply d s (Keep event) found lawful kept = λ a b after other x y.
+      let one = one_keeping (problem_of d s.traces) (seen_by d s.traces) s.kept event lawful kept a b after.kept other.kept x.2 y.2 in
+      (inl one.0, one_state_of after other (x.1 ∙ sym y.1) one.1)
+  one_reply d s Problem found lawful kept = λ a b after other x y. (inl (x.2 ∙ sym y.2), x.1 ∙ sym y.1)
+  one_reply d s Report found lawful kept = λ a b after other x y. (inl (one_report d (seen_by d s.traces) a b x.2 y.2), x.1 ∙ sym y.1)
 
-  one_of_command : (d : Declaration) (files : Content) (s : State) (c : Option Command) (found : Found) → IsProblem (problem_of d s.traces) → AreOne (problem_of d s.traces) (CommandReply d files s c found)
-  one_of_command d files s None found lawful = λ a b after other x y. one_refusal (problem_of d s.traces) s NoCommand a b after other x.1 y.1
-  one_of_command d files s (Some c) found lawful = λ a b after other x y. one_reply d s c found lawful a b after other x.1 y.1
+  one_of_command : (d : Declaration) (files : Content) (s : State) (c : Option Command) (found : Found) → IsProblem (problem_of d s.traces) → AreKept (seen_by d s.traces) s.kept → AreOne (problem_of d s.traces) (CommandReply d files s c found)
+  one_of_command d files s None found lawful kept = λ a b after other x y. one_refusal (problem_of d s.traces) s NoCommand a b after other x.1 y.1
+  one_of_command d files s (Some c) found lawful kept = λ a b after other x y. one_reply d s c found lawful kept a b after other x.1 y.1
 
   pub one_line : (d : Declaration) (files : Content) (s : State) (line : List ℕ) (found : Found) → IsDeclaration d → IsState d s → AreOne (problem_of d s.traces) (LineReply d files s line found)
   one_line d files s line found declared state =
@@ -233,5 +270,5 @@ module _ (below : Below) where
       by_test p (nat_le (length line) 4096) (λ text s'. (c : Option Command) × Asks line c × CommandReply d files s c found text s') (λ text s'. (found ≡ Unread) × Refuses s NoCommand text s')
       (λ a b after other (c, asks, x) (c', asks', y).
       let same : c' ≡ c = command_one line c' c asks' asks in
-      one_of_command d files s c found (state_lawful d s declared state) a b after other x (subst (λ (o : Option Command). CommandReply d files s o found b other) same y))
+      one_of_command d files s c found (state_lawful d s declared state) state.kept a b after other x (subst (λ (o : Option Command). CommandReply d files s o found b other) same y))
       (λ a b after other x y. one_refusal p s NoCommand a b after other x.1 y.1)

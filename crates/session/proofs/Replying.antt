@@ -6,91 +6,156 @@ use Rattle.ports.specs.Files.{Content, FilesTold, Keeps}
 use Rattle.decl.specs.Declaration.{Declaration, IsDeclaration}
 use Rattle.trace_event.specs.Seen.{Seen}
 use Rattle.traces.specs.declared.accepted.Accepted.{Accepted}
+use Rattle.traces.specs.declared.event.EventId.{EventId}
+use Rattle.engine.specs.Solver.{SolverLists}
 use Rattle.traces.specs.Traces.{seen_by}
 use Rattle.traces.specs.Held.{seen_in}
 use Rattle.traces.specs.Messages.{problem_of, problem_of_seen}
 use Rattle.queries.specs.Clocks.{KeepsTime}
-use Rattle.queries.specs.Replies.{Replies}
+use Rattle.queries.specs.Replies.{IsIntervalLine, IsOrderLine, IsProofText, Replies}
 use Rattle.merging.specs.Merged.{IsMergeText}
 use Rattle.session.specs.declared.refusal.Refusal.TheVariants.{NoCommand}
 use Rattle.session.specs.Refusals.{refusal_line}
-use Rattle.session.specs.Commands.{Command, Add, Interval, Order, Time, Merge, Prove, Problem, Report, Asks}
-use Rattle.session.specs.Reply.{State, Found, Unread, OfTwo, OfOne, IsTimeReply, IsReport}
+use Rattle.session.specs.Commands.{Command, Add, Interval, Order, Time, Merge, Prove, Keep, Problem, Report, Asks}
+use Rattle.session.specs.Reply.{State, Found, Unread, OfTwo, OfOne, IsTimeReply, IsReport, KeepReply}
 use Rattle.session.specs.Sessions.{CommandReply, LineReply, FoundAt, AreCounted}
-use Rattle.session.specs.Stands.{Held, StandsFor, Stepped, held_of, problem_held, seen_held, under_of}
+use Rattle.session.specs.Stands.{Held, Under, StandsFor, Stepped, held_of, problem_held, seen_held, under_of}
 use Rattle.session.specs.Inside.{IsReplyOfTwo, Answered, Asked, CommandAnswered}
 use Rattle.session.proofs.Telling.{Told}
 use Rattle.session.proofs.Holding.{seen_accepted}
 
 -- ---- the problem of what a session stands for
-pub built : {E : Type 0} (d : Declaration) (accepted : List Accepted) (held : Held) (r : Result ProblemLists E) → held_of d accepted ≡ held → IfOk r (λ p. p ≡ problem_of_seen d (seen_in accepted)) →
-    IfOk r (λ p. p ≡ problem_held held)
-built d accepted held (Ok p) same is = is ∙ ap (λ (seen : List (List Seen)). problem_of_seen d seen) (sym (seen_accepted accepted)) ∙ ap problem_held same
-built d accepted held (Err e) same is = tt
+pub built : {E : Type 0} (d : Declaration) (accepted : List Accepted) (held : Held) (r : Result ProblemLists E) → held.declaration ≡ d → held.under ≡ map under_of accepted →
+    IfOk r (λ p. p ≡ problem_of_seen d (seen_in accepted)) → IfOk r (λ p. p ≡ problem_held held)
+built d accepted held (Ok p) same under is =
+    is ∙ ap (λ (seen : List (List Seen)). problem_of_seen d seen) (sym (seen_accepted accepted)) ∙ ap (λ (us : List Under). problem_of_seen d (seen_held us)) (sym under)
+    ∙ ap (λ (x : Declaration). problem_of_seen x (seen_held held.under)) (sym same)
+built d accepted held (Err e) same under is = tt
 
 pub problem_stands : (held : Held) (d : Declaration) (s : State) → StandsFor held d s → problem_held held ≡ problem_of d s.traces
 problem_stands held d s stands =
     ap (λ (x : Declaration). problem_of_seen x (seen_held held.under)) stands.declaration ∙ ap (λ (seen : List (List Seen)). problem_of_seen d seen) stands.events
 
--- ---- two events
--- a reply about two events of the problem that is held
-pub of_two : (held : Held) (p : ProblemLists) (a b : List ℕ) (Says : ProblemLists → ℕ → ℕ → List ℕ → Type 0) (IsWritten : List ℕ → Type 0) → p ≡ problem_held held →
-    Told (IsReplyOfTwo p a b (Says p)) IsWritten →
-    (d : Declaration) (s : State) → StandsFor held d s → Answered held d (λ text s'. (Unread ≡ Unread) × OfTwo (problem_of d s.traces) a b (Says (problem_of d s.traces)) s text s') IsWritten
-of_two held p a b Says IsWritten is says d s stands =
-    let q_is : p ≡ problem_of d s.traces = is ∙ problem_stands held d s stands in
-    (says.0, s, (refl, two (problem_of d s.traces) (subst (λ (q : ProblemLists). IsReplyOfTwo q a b (Says q) says.0) q_is says.1)), says.2, stands)
-  where
-    two : (q : ProblemLists) → IsReplyOfTwo q a b (Says q) says.0 → OfTwo q a b (Says q) s says.0 s
-    two q (inl known) = inl (known.0, known.1, known.2, known.3, known.4, refl)
-    two q (inr unknown) = inr (unknown.0, (unknown.1, refl))
+-- ---- questions
+-- whatever answers stand ready, the session stands for the same
+pub other_answers : (d : Declaration) (accepted : List Accepted) (kept : List EventId) (before after : Option SolverLists) (x : Declaration) (s : State) →
+    StandsFor (held_of d accepted kept before) x s → StandsFor (held_of d accepted kept after) x s
+other_answers d accepted kept before after x s stands = record {
+  declaration = stands.declaration;
+  labels = stands.labels;
+  kinds = stands.kinds;
+  events = stands.events;
+  sizes = stands.sizes;
+  streams = stands.streams;
+  kept = stands.kept;
+}
+
+-- the question is answered so, whatever events are kept and whatever answers stand ready
+abbrev pub AskedOf : Declaration → List Accepted → Command → (List ℕ → Type 0) → Type 0
+AskedOf d accepted command IsWritten = (kept : List EventId) (before after : Option SolverLists) → Asked (held_of d accepted kept before) (held_of d accepted kept after) command IsWritten
+
+-- what is said of the events that are held
+by_events : (d : Declaration) (accepted : List Accepted) (kept : List EventId) (before : Option SolverLists) (x : Declaration) (s : State) → StandsFor (held_of d accepted kept before) x s →
+    (P : Declaration → List (List Seen) → Type 0) → P d (seen_in accepted) → P x (seen_by x s.traces)
+by_events d accepted kept before x s stands P is =
+    let here : P x (seen_in accepted) = subst (λ (y : Declaration). P y (seen_in accepted)) stands.declaration is in
+    subst (λ (seen : List (List Seen)). P x seen) (sym (seen_accepted accepted) ∙ stands.events) here
+
+-- what is said of two events of the problem
+abbrev TwoSays : (ProblemLists → ℕ → ℕ → List ℕ → Type 0) → List ℕ → List ℕ → List ℕ → Declaration → List (List Seen) → Type 0
+TwoSays Says a b text d seen = IsReplyOfTwo (problem_of_seen d seen) a b (Says (problem_of_seen d seen)) text
+
+module _ (d : Declaration) (accepted : List Accepted) (p : ProblemLists) (is : p ≡ problem_of_seen d (seen_in accepted)) where
+  two_known : (a b text : List ℕ) (s : State) (q : ProblemLists) (Says : ProblemLists → ℕ → ℕ → List ℕ → Type 0) → IsReplyOfTwo q a b (Says q) text → OfTwo q a b (Says q) s text s
+  two_known a b text s q Says (inl known) = inl (known.0, known.1, known.2, known.3, known.4, refl)
+  two_known a b text s q Says (inr unknown) = inr (unknown.0, (unknown.1, refl))
+
+  -- a reply about two events of the problem that is held
+  two_says : (a b : List ℕ) (Says : ProblemLists → ℕ → ℕ → List ℕ → Type 0) (IsWritten : List ℕ → Type 0) → Told (IsReplyOfTwo p a b (Says p)) IsWritten →
+      (kept : List EventId) (before after : Option SolverLists) (x : Declaration) (s : State) → StandsFor (held_of d accepted kept before) x s →
+      Answered (held_of d accepted kept after) x (λ text s'. (Unread ≡ Unread) × OfTwo (problem_of x s.traces) a b (Says (problem_of x s.traces)) s text s') IsWritten
+  two_says a b Says IsWritten says kept before after x s stands =
+      let held : TwoSays Says a b says.0 d (seen_in accepted) = subst (λ (q : ProblemLists). IsReplyOfTwo q a b (Says q) says.0) is says.1 in
+      let here : TwoSays Says a b says.0 x (seen_by x s.traces) = by_events d accepted kept before x s stands (TwoSays Says a b says.0) held in
+      (says.0, s, (refl, two_known a b says.0 s (problem_of x s.traces) Says here), says.2, other_answers d accepted kept before after x s stands)
+
+  pub interval_answered : (a b : List ℕ) (IsWritten : List ℕ → Type 0) → Told (IsReplyOfTwo p a b (IsIntervalLine p)) IsWritten → AskedOf d accepted (Interval a b) IsWritten
+  interval_answered a b IsWritten says = two_says a b IsIntervalLine IsWritten says
+
+  pub order_answered : (a b : List ℕ) (IsWritten : List ℕ → Type 0) → Told (IsReplyOfTwo p a b (IsOrderLine p)) IsWritten → AskedOf d accepted (Order a b) IsWritten
+  order_answered a b IsWritten says = two_says a b IsOrderLine IsWritten says
+
+  pub proof_answered : (a b : List ℕ) (IsWritten : List ℕ → Type 0) → Told (IsReplyOfTwo p a b (IsProofText p)) IsWritten → AskedOf d accepted (Prove a b) IsWritten
+  proof_answered a b IsWritten says = two_says a b IsProofText IsWritten says
 
 -- ---- all that is held
 -- what is said of all events that are held is a reply, and nothing changes
-pub of_all : (held : Held) (Says : Declaration → List (List Seen) → List ℕ → Type 0) (IsWritten : List ℕ → Type 0) → Told (Says held.declaration (seen_held held.under)) IsWritten →
-    (d : Declaration) (s : State) → StandsFor held d s → Answered held d (λ text s'. (Unread ≡ Unread) × (s' ≡ s) × Says d (seen_by d s.traces) text) IsWritten
-of_all held Says IsWritten says d s stands =
-    let by_declaration : Says d (seen_held held.under) says.0 = subst (λ (x : Declaration). Says x (seen_held held.under) says.0) stands.declaration says.1 in
-    (says.0, s, (refl, refl, subst (λ (seen : List (List Seen)). Says d seen says.0) stands.events by_declaration), says.2, stands)
-
--- what is said of the events that the code holds
-pub of_accepted : (d : Declaration) (accepted : List Accepted) (Says : Declaration → List (List Seen) → List ℕ → Type 0) (IsWritten : List ℕ → Type 0) →
-    Told (Says d (seen_in accepted)) IsWritten → Told (Says d (seen_held (map under_of accepted))) IsWritten
-of_accepted d accepted Says IsWritten says = subst (λ (seen : List (List Seen)). Told (Says d seen) IsWritten) (sym (seen_accepted accepted)) says
-
--- the problem of what is held is that of the events that the code holds
-pub problem_accepted : (d : Declaration) (accepted : List Accepted) (p : ProblemLists) → p ≡ problem_held (held_of d accepted) → p ≡ problem_of_seen d (seen_in accepted)
-problem_accepted d accepted p is = is ∙ ap (λ (seen : List (List Seen)). problem_of_seen d seen) (seen_accepted accepted)
+of_all : (d : Declaration) (accepted : List Accepted) (Says : List ℕ → Declaration → List (List Seen) → Type 0) (IsWritten : List ℕ → Type 0) → Told (λ text. Says text d (seen_in accepted)) IsWritten →
+    (kept : List EventId) (before after : Option SolverLists) (x : Declaration) (s : State) → StandsFor (held_of d accepted kept before) x s →
+    Answered (held_of d accepted kept after) x (λ text s'. (Unread ≡ Unread) × (s' ≡ s) × Says text x (seen_by x s.traces)) IsWritten
+of_all d accepted Says IsWritten says kept before after x s stands =
+    (says.0, s, (refl, refl, by_events d accepted kept before x s stands (Says says.0) says.1), says.2, other_answers d accepted kept before after x s stands)
 
 -- the clock of a declared source is never short or long in the problem of what is held
 pub source_keeps : (d : Declaration) (accepted : List Accepted) (p : ProblemLists) → IsDeclaration d → p ≡ problem_of_seen d (seen_in accepted) → IfSome d.source (λ clock. KeepsTime p clock)
 source_keeps d accepted p declared is = subst (λ (q : ProblemLists). IfSome d.source (λ clock. KeepsTime q clock)) (sym is) declared.clocks.source_true
 
 -- what `time` says of all events
-abbrev TimeSays : List ℕ → Declaration → List (List Seen) → List ℕ → Type 0
-TimeSays event d seen text = OfOne (problem_of_seen d seen) event (IsTimeReply (problem_of_seen d seen) d.source) text
+abbrev TimeSays : List ℕ → List ℕ → Declaration → List (List Seen) → Type 0
+TimeSays event text d seen = OfOne (problem_of_seen d seen) event (IsTimeReply (problem_of_seen d seen) d.source) text
 
-pub time_answered : (d : Declaration) (accepted : List Accepted) (p : ProblemLists) (event : List ℕ) (IsWritten : List ℕ → Type 0) → p ≡ problem_held (held_of d accepted) →
-    Told (OfOne p event (IsTimeReply p d.source)) IsWritten → Asked (held_of d accepted) (Time event) IsWritten
+pub time_answered : (d : Declaration) (accepted : List Accepted) (p : ProblemLists) (event : List ℕ) (IsWritten : List ℕ → Type 0) → p ≡ problem_of_seen d (seen_in accepted) →
+    Told (OfOne p event (IsTimeReply p d.source)) IsWritten → AskedOf d accepted (Time event) IsWritten
 time_answered d accepted p event IsWritten is says =
-    of_all (held_of d accepted) (TimeSays event) IsWritten (of_accepted d accepted (TimeSays event) IsWritten
-    (subst (λ (q : ProblemLists). Told (OfOne q event (IsTimeReply q d.source)) IsWritten) (problem_accepted d accepted p is) says))
+    of_all d accepted (TimeSays event) IsWritten (subst (λ (q : ProblemLists). Told (OfOne q event (IsTimeReply q d.source)) IsWritten) is says)
 
 -- what `merge` says of them
-abbrev MergeSays : Declaration → List (List Seen) → List ℕ → Type 0
-MergeSays d seen text = Replies (problem_of_seen d seen) (IsMergeText d seen) text
+abbrev MergeSays : List ℕ → Declaration → List (List Seen) → Type 0
+MergeSays text d seen = Replies (problem_of_seen d seen) (IsMergeText d seen) text
 
-pub merge_answered : (d : Declaration) (accepted : List Accepted) (p : ProblemLists) (IsWritten : List ℕ → Type 0) → p ≡ problem_held (held_of d accepted) →
-    Told (Replies p (IsMergeText d (seen_in accepted))) IsWritten → Asked (held_of d accepted) Merge IsWritten
-merge_answered d accepted p IsWritten is says =
-    of_all (held_of d accepted) MergeSays IsWritten (of_accepted d accepted MergeSays IsWritten
-    (subst (λ (q : ProblemLists). Told (Replies q (IsMergeText d (seen_in accepted))) IsWritten) (problem_accepted d accepted p is) says))
+pub merge_answered : (d : Declaration) (accepted : List Accepted) (IsWritten : List ℕ → Type 0) → Told (Replies (problem_of_seen d (seen_in accepted)) (IsMergeText d (seen_in accepted))) IsWritten →
+    AskedOf d accepted Merge IsWritten
+merge_answered d accepted IsWritten says = of_all d accepted MergeSays IsWritten says
 
-pub report_answered : (d : Declaration) (accepted : List Accepted) (IsWritten : List ℕ → Type 0) → Told (IsReport d (seen_in accepted)) IsWritten → Asked (held_of d accepted) Report IsWritten
-report_answered d accepted IsWritten says = of_all (held_of d accepted) IsReport IsWritten (of_accepted d accepted IsReport IsWritten says)
+-- what `report` says of them
+abbrev ReportSays : List ℕ → Declaration → List (List Seen) → Type 0
+ReportSays text d seen = IsReport d seen text
 
-pub problem_answered : (held : Held) (p : ProblemLists) (IsWritten : List ℕ → Type 0) → p ≡ problem_held held → IsWritten (problem_text p) → Asked held Problem IsWritten
-problem_answered held p IsWritten is written d s stands = (problem_text p, s, (refl, refl, ap problem_text (is ∙ problem_stands held d s stands)), written, stands)
+pub report_answered : (d : Declaration) (accepted : List Accepted) (IsWritten : List ℕ → Type 0) → Told (IsReport d (seen_in accepted)) IsWritten → AskedOf d accepted Report IsWritten
+report_answered d accepted IsWritten says = of_all d accepted ReportSays IsWritten says
+
+-- and what `problem` says
+abbrev ProblemSays : List ℕ → Declaration → List (List Seen) → Type 0
+ProblemSays text d seen = text ≡ problem_text (problem_of_seen d seen)
+
+pub problem_answered : (d : Declaration) (accepted : List Accepted) (p : ProblemLists) (IsWritten : List ℕ → Type 0) → p ≡ problem_of_seen d (seen_in accepted) → IsWritten (problem_text p) →
+    AskedOf d accepted Problem IsWritten
+problem_answered d accepted p IsWritten is written = of_all d accepted ProblemSays IsWritten (problem_text p, ap problem_text is, written)
+
+-- ---- events that are kept
+-- what came of a kept event is a reply, and the session then stands for the events that are kept
+abbrev KeepSays : List EventId → List ℕ → List ℕ → List EventId → Declaration → List (List Seen) → Type 0
+KeepSays kept name line kept' d seen = KeepReply (problem_of_seen d seen) seen kept name line kept'
+
+pub keep_answered : (d : Declaration) (accepted : List Accepted) (kept kept' : List EventId) (before after : Option SolverLists) (name line : List ℕ) →
+    KeepReply (problem_of_seen d (seen_in accepted)) (seen_in accepted) kept name line kept' → Asked (held_of d accepted kept before) (held_of d accepted kept' after) (Keep name) (λ text. text ≡ line)
+keep_answered d accepted kept kept' before after name line reply x s stands =
+    let here : KeepSays kept name line kept' x (seen_by x s.traces) = by_events d accepted kept before x s stands (KeepSays kept name line kept') reply in
+    (
+      line,
+      record { traces = s.traces; kept = kept' },
+      (refl, refl, subst (λ (events : List EventId). KeepReply (problem_of x s.traces) (seen_by x s.traces) events name line kept') (sym stands.kept) here),
+      refl,
+      record {
+        declaration = stands.declaration;
+        labels = stands.labels;
+        kinds = stands.kinds;
+        events = stands.events;
+        sizes = stands.sizes;
+        streams = stands.streams;
+        kept = refl;
+      },
+    )
 
 -- ---- lines
 line_reply : (d : Declaration) (files : Content) (s s' : State) (line text : List ℕ) (c : Option Command) (found : Found) → length line ≤ 4096 → Asks line c →
@@ -120,18 +185,25 @@ unread_at (Some files) (Order first second) = tt
 unread_at (Some files) (Time event) = tt
 unread_at (Some files) Merge = tt
 unread_at (Some files) (Prove first second) = tt
+unread_at (Some files) (Keep event) = tt
 unread_at (Some files) Problem = tt
 unread_at (Some files) Report = tt
 
 -- a command that reads no file
-unread : (files : FilesTold) (held : Held) (c : Command) (IsWritten : List ℕ → Type 0) → Asked held c IsWritten → CommandAnswered (Some c) files files held held IsWritten
-unread files held c IsWritten asked = λ d s stands.
+unread : (files : FilesTold) (held held' : Held) (c : Command) (IsWritten : List ℕ → Type 0) → Asked held held' c IsWritten → CommandAnswered (Some c) files files held held' IsWritten
+unread files held held' c IsWritten asked = λ d s stands.
     let r = asked d s stands in
     (Unread, (r.0, r.1, (unread_at files.content c, r.2), r.3, r.4), counted_unread files files (keeps_all files))
 
-pub stepped_unread : (files : FilesTold) (held : Held) (line : List ℕ) (c : Command) (IsWritten : List ℕ → Type 0) → length line ≤ 4096 → Asks line (Some c) →
-    Asked held c IsWritten → Stepped line files files held held IsWritten
-stepped_unread files held line c IsWritten short asks asked = stepped files files held held line (Some c) IsWritten short asks (unread files held c IsWritten asked)
+pub stepped_unread : (files : FilesTold) (held held' : Held) (line : List ℕ) (c : Command) (IsWritten : List ℕ → Type 0) → length line ≤ 4096 → Asks line (Some c) →
+    Asked held held' c IsWritten → Stepped line files files held held' IsWritten
+stepped_unread files held held' line c IsWritten short asks asked = stepped files files held held' line (Some c) IsWritten short asks (unread files held held' c IsWritten asked)
+
+-- and one that is answered before its reply is written
+pub asked_written : (held held' : Held) (c : Command) (line : List ℕ) (IsWritten : List ℕ → Type 0) → Asked held held' c (λ text. text ≡ line) → IsWritten line → Asked held held' c IsWritten
+asked_written held held' c line IsWritten asked written d s stands =
+    let r = asked d s stands in
+    (r.0, r.1, r.2, subst IsWritten (sym r.3) written, r.4)
 
 -- a line that spells no command
 pub stepped_none : (files : FilesTold) (held : Held) (line : List ℕ) (IsWritten : List ℕ → Type 0) → length line ≤ 4096 → Asks line None →

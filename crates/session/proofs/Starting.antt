@@ -56,7 +56,7 @@ fits_empty : (u : Under) → IsEmpty u → IsUnder u
 fits_empty u empty = let size : u.size ≡ 0 = empty.size in (omega (arith, size), new_within u.stream u.size empty.stream)
 
 -- as many as there are labels
-each_empty : (under : List Under) (labels : List Label) → AreEmpty under labels → length under ≡ length labels
+pub each_empty : (under : List Under) (labels : List Label) → AreEmpty under labels → length under ≡ length labels
 each_empty under labels empty =
     sym (length-map under (λ (u : Under). kind_of u.stream)) ∙ ap length empty.0 ∙ length-map labels (λ (l : Label). l.kind)
 
@@ -110,13 +110,13 @@ module _ (nothing_reads : Reads [] nothing) (new_stands : (t : Tail) → IsNew t
       streams_start labels under (cons_parts (kind_of v.stream) l.kind _ _ same).1 (All-tail IsEmpty v under all) k u trace at at'
 
   -- what is held at the start stands for it
-  pub starts : (held : Held) (d : Declaration) → held.declaration ≡ d → AreEmpty held.under d.labels → StandsFor held d (start d)
-  starts held d same empty = record {
+  pub starts : (held : Held) (d : Declaration) → held.declaration ≡ d → AreEmpty held.under d.labels → held.kept ≡ [] → StandsFor held d (start d)
+  starts held d same empty none = record {
     declaration = same;
     labels = length-map d.labels (λ (l : Label). nothing_for l.kind);
     kinds = kinds_start d.labels;
     events = events_empty held.under empty.1 ∙ ap (λ (n : ℕ). replicate {A = List Seen} n []) (each_empty held.under d.labels empty) ∙ sym (events_start d d.labels);
     sizes = sizes_empty held.under empty.1 ∙ ap (λ (n : ℕ). replicate n 0) (each_empty held.under d.labels empty) ∙ sym (sizes_start d.labels);
     streams = streams_start d.labels held.under empty.0 empty.1;
-    kept = refl;
+    kept = sym none;
   }

@@ -1,5 +1,5 @@
 -- What stands written, by what was handed to the sink.
-use Rattle.std.proofs.Common.{List, ℕ, Result, Ok, Err}
+use Rattle.std.proofs.Common.{◌≡◌, List, ℕ, Result, Ok, Err, IfErr, IsErrOf}
 use Rattle.ports.specs.Content.{Appends, AppendsPrefix, SinkTold, Writes, WritesSuch}
 use Rattle.queries.specs.declared.stop.Stop.{Stop}
 use Rattle.queries.specs.declared.stop.Stop.TheVariants as stops
@@ -60,3 +60,8 @@ reply_text {old = old} {new = new} {r = Err e} turn written = record {
   cause = λ fails. written.cause;
   no_fall = written.no_fall;
 }
+
+-- a failed write is no want of memory
+pub never_memory : {P : Type 0} (r : Result (Unit {0}) Stop) → IfErr r (λ stop. stop ≡ stops.WriteFault) → IsErrOf r stops.Memory → P
+never_memory (Ok v) only fails = absurd cc
+never_memory (Err e) only fails = absurd cc

@@ -18,4 +18,5 @@ question_seen questions.Report = meant.Report
 -- a command of the code, by its words
 abbrev pub command_seen : Command → meant.Command
 command_seen (code.Add label path) = meant.Add label.now path.now
+command_seen (code.Keep event) = meant.Keep event.now
 command_seen (code.Ask question) = question_seen question

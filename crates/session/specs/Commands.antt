@@ -1,5 +1,5 @@
 -- The commands that a line of a script may spell.
-use Rattle.std.specs.Prelude.{◌≡◌, ℕ, ◌<◌, List, [], ◌∷◌, length, Option, Some, None, All, codes}
+use Rattle.std.specs.Prelude.{◌≡◌, ℕ, ◌<◌, List, [], ◌∷◌, length, Option, Some, None, All, codes, ⊤}
 use Rattle.std.specs.Int.{IsInRange}
 use Rattle.line_format.specs.Words.{words}
 
@@ -11,6 +11,7 @@ pub data Command : Type 0 where
   Time : List ℕ → Command
   Merge : Command
   Prove : List ℕ → List ℕ → Command
+  Keep : List ℕ → Command
   Problem : Command
   Report : Command
 
@@ -27,6 +28,7 @@ command_words (Order first second) = codes "order" ∷ first ∷ second ∷ []
 command_words (Time event) = codes "time" ∷ event ∷ []
 command_words Merge = codes "merge" ∷ []
 command_words (Prove first second) = codes "prove" ∷ first ∷ second ∷ []
+command_words (Keep event) = codes "keep" ∷ event ∷ []
 command_words Problem = codes "problem" ∷ []
 command_words Report = codes "report" ∷ []
 
@@ -39,3 +41,19 @@ Asks line None = (c : Command) → All IsWord (command_words c) → line ≡ wor
 abbrev pub HasWords : List (List ℕ) → Option Command → Type 0
 HasWords ws (Some c) = (ws ≡ command_words c) × All IsWord ws
 HasWords ws None = (c : Command) → All IsWord ws → ws ≡ command_words c → ⊥
+
+-- memory may run out for the command
+abbrev pub TakesMemory : Command → Type 0
+TakesMemory (Add label path) = ⊤
+TakesMemory (Interval first second) = ⊥
+TakesMemory (Order first second) = ⊥
+TakesMemory (Time event) = ⊥
+TakesMemory Merge = ⊤
+TakesMemory (Prove first second) = ⊥
+TakesMemory (Keep event) = ⊤
+TakesMemory Problem = ⊥
+TakesMemory Report = ⊤
+
+-- the line spells a command for which memory may run out
+abbrev pub AsksForMemory : List ℕ → Type 0
+AsksForMemory line = (c : Command) × Asks line (Some c) × TakesMemory c

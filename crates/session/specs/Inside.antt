@@ -13,7 +13,7 @@ use Rattle.trace_match.specs.declared.matcher.Changed.{Changed}
 use Rattle.queries.specs.Consistent.{IsConsistent}
 use Rattle.session.specs.declared.refusal.Refusal.TheVariants.{UnknownEvent}
 use Rattle.session.specs.Refusals.{refusal_line}
-use Rattle.session.specs.Commands.{Command}
+use Rattle.session.specs.Commands.{Command, Add, Interval, Order, Time, Merge, Prove, Keep, Problem, Report}
 use Rattle.problem_model.specs.Problem.{ProblemLists}
 use Rattle.problem.specs.Line.{HasEvent, IsUnknown}
 use Rattle.queries.specs.Replies.{Replies}
@@ -82,8 +82,8 @@ abbrev pub Answered : Held → Declaration → (List ℕ → State → Type 0) �
 Answered held' d IsReply IsWritten = (text : List ℕ) × (s' : State) × IsReply text s' × IsWritten text × StandsFor held' d s'
 
 -- the same for all that the session stood for, of a command that reads no file
-abbrev pub Asked : Held → Command → (List ℕ → Type 0) → Type 0
-Asked held command IsWritten = (d : Declaration) (s : State) → StandsFor held d s → Answered held d (Reply d s command Unread) IsWritten
+abbrev pub Asked : Held → Held → Command → (List ℕ → Type 0) → Type 0
+Asked held held' command IsWritten = (d : Declaration) (s : State) → StandsFor held d s → Answered held' d (Reply d s command Unread) IsWritten
 
 -- the same of a piece for a label
 abbrev pub PieceAnswered : Held → Held → (Declaration → State → List ℕ → State → Type 0) → (List ℕ → Type 0) → Type 0

@@ -5,6 +5,7 @@ pub mod Reply
 pub mod Outcomes
 pub mod Sessions
 pub mod Stands
+pub mod Keeping
 pub mod Pieces
 pub mod Inside
 pub mod OneReply

@@ -1,13 +1,14 @@
--- What came of an addition, as a line.
+-- What came of a change, as a line.
 use Rattle.std.specs.Prelude.{◌≡◌, ℕ, List}
 use Rattle.session.specs.declared.outcome.Outcome.{Outcome}
-use Rattle.session.specs.declared.outcome.Outcome.TheVariants.{Added, Refused}
+use Rattle.session.specs.declared.outcome.Outcome.TheVariants.{Added, Kept, Refused}
 use Rattle.session.specs.Refusals.{refusal_line}
-use Rattle.session.specs.Reply.{added_line}
+use Rattle.session.specs.Reply.{added_line, kept_line}
 
 -- the line that tells it
 abbrev pub outcome_line : Outcome → List ℕ
 outcome_line (Added a) = added_line a.events a.messages a.withdrawn a.pending a.consistent
+outcome_line (Kept slot) = kept_line slot
 outcome_line (Refused r) = refusal_line r
 
 -- the text is that line

@@ -7,7 +7,7 @@ use Rattle.event_log.specs.declared.errors.LogError.TheVariants as faults
 use Rattle.captures.specs.declared.errors.CaptureError.{CaptureError}
 use Rattle.captures.specs.declared.errors.CaptureError.TheVariants as refused
 use Rattle.session.specs.declared.refusal.Refusal.{Refusal}
-use Rattle.session.specs.declared.refusal.Refusal.TheVariants.{NoCommand, UnknownLabel, UnreadFile, TooManyBytes, CaptureMagic, CaptureVersion, CaptureRecord, CaptureBlock, LogRow, TooManyEvents, UnknownEvent, NoSourceTime}
+use Rattle.session.specs.declared.refusal.Refusal.TheVariants.{NoCommand, UnknownLabel, UnreadFile, TooManyBytes, CaptureMagic, CaptureVersion, CaptureRecord, CaptureBlock, LogRow, TooManyEvents, UnknownEvent, NoSourceTime, EightAreKept}
 
 -- the number of a refusal
 abbrev pub number_of : Refusal → ℕ
@@ -23,6 +23,7 @@ number_of (LogRow row lack) = 26
 number_of TooManyEvents = 27
 number_of UnknownEvent = 28
 number_of NoSourceTime = 29
+number_of EightAreKept = 30
 
 -- the numbers that say where and why
 abbrev pub details : Refusal → List (List ℕ)
@@ -38,6 +39,7 @@ details (LogRow row lack) = decimal_of row ∷ decimal_of lack ∷ []
 details TooManyEvents = []
 details UnknownEvent = []
 details NoSourceTime = []
+details EightAreKept = []
 
 -- the line of a refusal
 abbrev pub refusal_line : Refusal → List ℕ

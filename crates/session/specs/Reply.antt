@@ -1,5 +1,5 @@
 -- What a session may reply to a command, and what it then has.
-use Rattle.std.specs.Prelude.{◌≡◌, ℕ, ◌+◌, ◌-◌, ◌^◌, ◌⊎◌, List, [], ◌∷◌, ◌++◌, length, slice_get, slice_set, Option, Some, None, Bool, true, false, nat_le, ◌&&◌, codes, MatchBool, position}
+use Rattle.std.specs.Prelude.{◌≡◌, ℕ, ◌+◌, ◌-◌, ◌^◌, ◌<◌, ◌⊎◌, List, [], ◌∷◌, ◌++◌, length, map, slice_get, slice_set, Option, Some, None, Bool, true, false, nat_le, ◌&&◌, codes, MatchBool, position}
 use Rattle.std.specs.Str.{bytes_eq}
 use Rattle.atto.specs.Decimal.{decimal_of}
 use Rattle.line_format.specs.Words.{line_of}
@@ -19,16 +19,16 @@ use Rattle.decl.specs.Declaration.{Declaration}
 use Rattle.trace_event.specs.Seen.{Seen}
 use Rattle.traces.specs.declared.event.EventId.{EventId}
 use Rattle.traces.specs.declared.event.Couple.{Couple}
-use Rattle.traces.specs.Traces.{Trace, Captured, Logged, Traces, seen_by, size_of, events_of, event_count}
+use Rattle.traces.specs.Traces.{Trace, Captured, Logged, Traces, Placed, seen_by, size_of, events_of, event_count}
 use Rattle.traces.specs.Messages.{messages_of, missing, problem_of, problem_of_seen}
 use Rattle.queries.specs.Consistent.{IsConsistent}
 use Rattle.queries.specs.Replies.{HasReading, IsIntervalLine, IsOrderLine, IsProofText, IsTimeLine, Replies}
 use Rattle.merging.specs.Merged.{IsMergeText}
 use Rattle.trace_report.specs.Reports.{report_text}
 use Rattle.session.specs.declared.refusal.Refusal.{Refusal}
-use Rattle.session.specs.declared.refusal.Refusal.TheVariants.{UnknownLabel, UnreadFile, TooManyBytes, TooManyEvents, UnknownEvent, NoSourceTime}
+use Rattle.session.specs.declared.refusal.Refusal.TheVariants.{UnknownLabel, UnreadFile, TooManyBytes, TooManyEvents, UnknownEvent, NoSourceTime, EightAreKept}
 use Rattle.session.specs.Refusals.{refusal_line, log_refusal, capture_refusal}
-use Rattle.session.specs.Commands.{Command, Add, Interval, Order, Time, Merge, Prove, Problem, Report}
+use Rattle.session.specs.Commands.{Command, Add, Interval, Order, Time, Merge, Prove, Keep, Problem, Report}
 
 -- what a session has: the traces, and the events that are kept
 pub record State : Type 0 where
@@ -175,6 +175,37 @@ AddReply d s (Some k) (Bytes bytes) text s' = PieceReply d s k (slice_get d.labe
 AddReply d s (Some k) Absent text s' = Refuses s UnreadFile text s'
 AddReply d s (Some k) Failed text s' = Refuses s UnreadFile text s'
 
+-- ---- events that are kept
+-- how many events are kept at most
+abbrev pub most_kept : ℕ
+most_kept = 8
+
+-- the event at this place among all
+abbrev pub IsPlacedAt : List (List Seen) → ℕ → EventId → Type 0
+IsPlacedAt seen place event = slice_get (map (λ (e : Placed). e.id) (events_of seen)) place ≡ Some event
+
+-- the event is one of these
+abbrev pub IsAmong : List EventId → EventId → Type 0
+IsAmong kept event = (k : ℕ) × (slice_get kept k ≡ Some event)
+
+-- the line of a slot
+abbrev pub kept_line : ℕ → List ℕ
+kept_line slot = line_of (codes "kept" ∷ decimal_of slot ∷ [])
+
+-- the event has its place among those that are kept; or it gets the next one where fewer than eight are; or it is refused
+abbrev pub SlotReply : List EventId → EventId → List ℕ → List EventId → Type 0
+SlotReply kept event text kept' =
+    ((k : ℕ) × (slice_get kept k ≡ Some event) × (text ≡ kept_line (k + 1)) × (kept' ≡ kept))
+    ⊎ ((IsAmong kept event → ⊥) × (length kept < most_kept) × (text ≡ kept_line (length kept + 1)) × (kept' ≡ kept ++ event ∷ []))
+    ⊎ ((IsAmong kept event → ⊥) × (length kept ≡ most_kept) × (text ≡ refusal_line EightAreKept) × (kept' ≡ kept))
+
+-- the slot of the event of this name among these of a problem, and the events that are then kept; or the refusal where none
+-- has the name
+abbrev pub KeepReply : ProblemLists → List (List Seen) → List EventId → List ℕ → List ℕ → List EventId → Type 0
+KeepReply p seen kept name text kept' =
+    ((place : ℕ) × (event : EventId) × HasEvent p place name × IsPlacedAt seen place event × SlotReply kept event text kept')
+    ⊎ (IsUnknown p name × (text ≡ refusal_line UnknownEvent) × (kept' ≡ kept))
+
 -- ---- any command
 -- the texts that are replies, and what the session then has
 abbrev pub Reply : Declaration → State → Command → Found → List ℕ → State → Type 0
@@ -192,5 +223,6 @@ Reply d s Merge found text s' = (found ≡ Unread) × (s' ≡ s) × Replies (pro
 Reply d s (Prove first second) found text s' =
     let p = problem_of d s.traces in
     (found ≡ Unread) × OfTwo p first second (IsProofText p) s text s'
+Reply d s (Keep event) found text s' = (found ≡ Unread) × (s'.traces ≡ s.traces) × KeepReply (problem_of d s.traces) (seen_by d s.traces) s.kept event text s'.kept
 Reply d s Problem found text s' = (found ≡ Unread) × (s' ≡ s) × (text ≡ problem_text (problem_of d s.traces))
 Reply d s Report found text s' = (found ≡ Unread) × (s' ≡ s) × IsReport d (seen_by d s.traces) text

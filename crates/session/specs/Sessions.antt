@@ -5,7 +5,7 @@ use Rattle.decl.specs.declared.items.Label.{Label}
 use Rattle.decl.specs.Declaration.{Declaration}
 use Rattle.traces.specs.Traces.{nothing_for}
 use Rattle.session.specs.declared.refusal.Refusal.TheVariants.{NoCommand}
-use Rattle.session.specs.Commands.{Command, Add, Interval, Order, Time, Merge, Prove, Problem, Report, Asks}
+use Rattle.session.specs.Commands.{Command, Add, Interval, Order, Time, Merge, Prove, Keep, Problem, Report, Asks}
 use Rattle.session.specs.Reply.{State, Found, Unread, Bytes, Absent, Failed, Refuses, Reply}
 
 -- what is found at the path of a command, where the files tell it
@@ -20,6 +20,7 @@ FoundAt (Some files) (Order first second) found = Unit {0}
 FoundAt (Some files) (Time event) found = Unit {0}
 FoundAt (Some files) Merge found = Unit {0}
 FoundAt (Some files) (Prove first second) found = Unit {0}
+FoundAt (Some files) (Keep event) found = Unit {0}
 FoundAt (Some files) Problem found = Unit {0}
 FoundAt (Some files) Report found = Unit {0}
 

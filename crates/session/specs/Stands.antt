@@ -1,5 +1,5 @@
 -- What a session holds, and what it stands for.
-use Rattle.std.specs.Prelude.{◌≡◌, ℕ, ◌+◌, ◌^◌, ◌≤◌, List, [], ◌∷◌, length, map, slice_get, Some, All, Result, OnOk, IsErrOf, ⊤}
+use Rattle.std.specs.Prelude.{◌≡◌, ◌⊎◌, ℕ, ◌+◌, ◌*◌, ◌^◌, ◌≤◌, List, [], ◌∷◌, length, map, slice_get, Option, Some, None, IsSome, option_map, All, Result, OnOk, IsErrOf, ⊤}
 use Rattle.ports.specs.Content.{Appends, AppendsPrefix, Rose, SinkTold}
 use Rattle.ports.specs.Files.{FilesTold}
 use Rattle.captures.specs.Feeding as feeding
@@ -10,14 +10,25 @@ use Rattle.decl.specs.declared.items.TraceKind.TheVariants.{Capture, Log}
 use Rattle.decl.specs.Declaration.{Declaration, IsDeclaration}
 use Rattle.trace_event.specs.Seen.{Seen, seen_events}
 use Rattle.traces.specs.declared.accepted.Accepted.{Accepted}
+use Rattle.traces.specs.declared.event.EventId.{EventId}
 use Rattle.traces.specs.declared.accepted.Stream.{Stream}
 use Rattle.traces.specs.declared.accepted.Stream.TheVariants as streams
-use Rattle.traces.specs.Traces.{Trace, Captured, Logged, size_of, seen_by, IsOfKind, event_count}
+use Rattle.traces.specs.Traces.{Trace, Captured, Logged, size_of, seen_by, name_of, IsOfKind, event_count}
 use Rattle.traces.specs.Messages.{problem_of_seen}
 use Rattle.problem_model.specs.Problem.{ProblemLists}
+use Rattle.problem.specs.Listing.{listing_of}
+use Rattle.row_pool.specs.Pool.{free_rows}
+use Rattle.repair.specs.declared.slot.Slot.{Slot}
+use Rattle.repair.specs.Slots.{all_slots}
+use Rattle.engine.specs.Solver.{SolverLists}
+use Rattle.solver.specs.Solution.{IsSolution}
 use Rattle.queries.specs.declared.stop.Stop.{Stop}
 use Rattle.queries.specs.declared.stop.Stop.TheVariants as stops
-use Rattle.session.specs.Reply.{State, Found}
+use Rattle.queries.specs.Asking.{IsSourceReading}
+use Rattle.queries.specs.Replies.{HasReading}
+use Rattle.session.specs.declared.answers.Answers.{Answers}
+use Rattle.session.specs.Commands.{Command, Add, Interval, Order, Time, Merge, Prove, Keep, Problem, Report, Asks}
+use Rattle.session.specs.Reply.{State, Found, IsPlacedAt, most_kept}
 use Rattle.session.specs.Sessions.{LineReply, AreCounted}
 
 -- ---- what is kept of the bytes under a label
@@ -50,10 +61,13 @@ pub record Under : Type 0 where
   pub size : ℕ
   pub stream : Stream
 
--- what a session holds: its declaration, and what is held under each label
+-- what a session holds: its declaration, what is held under each label, the events that are kept, and the answers that stand
+-- ready, which are none once memory ran out in a change
 pub record Held : Type 0 where
   pub declaration : Declaration
   pub under : List Under
+  pub kept : List EventId
+  pub answers : Option SolverLists
 
 -- the events that are held under each label
 abbrev pub seen_held : List Under → List (List Seen)
@@ -78,9 +92,72 @@ pub record IsHeld (h : Held) : Type 0 where
 abbrev pub under_of : Accepted → Under
 under_of a = record { events = seen_events a.events.items; size = a.size; stream = a.stream }
 
--- what the code's own declaration and labels hold
-abbrev pub held_of : Declaration → List Accepted → Held
-held_of d accepted = record { declaration = d; under = map under_of accepted }
+-- what the code's own parts hold
+abbrev pub held_of : Declaration → List Accepted → List EventId → Option SolverLists → Held
+held_of d accepted kept answers = record { declaration = d; under = map under_of accepted; kept = kept; answers = answers }
+
+-- ---- what stands ready
+-- kept events are at most eight, each is one of these events, and no two are the same
+pub record AreKept (seen : List (List Seen)) (kept : List EventId) : Type 0 where
+  pub few : length kept ≤ most_kept
+  pub there : (k : ℕ) (event : EventId) → slice_get kept k ≡ Some event → (place : ℕ) × IsPlacedAt seen place event
+  pub differ : (j k : ℕ) (event : EventId) → slice_get kept j ≡ Some event → slice_get kept k ≡ Some event → j ≡ k
+
+-- the nodes of the slots are the places of the kept events, in their order
+pub record AreSlotsOf (seen : List (List Seen)) (kept : List EventId) (slots : List Slot) : Type 0 where
+  pub each : length slots ≡ length kept
+  pub nodes : (k : ℕ) (event : EventId) (slot : Slot) → slice_get kept k ≡ Some event → slice_get slots k ≡ Some slot → IsPlacedAt seen slot.node event
+
+-- the source's slot is that of a reading of its clock with this stamp; there is none where no source is declared, or where
+-- its clock has no reading
+abbrev pub KeepsSource : ProblemLists → Option ℕ → Option ℕ → SolverLists → Type 0
+KeepsSource p None stamp s = (stamp ≡ None) × (s.kept.source ≡ None)
+KeepsSource p (Some clock) None s = (HasReading p clock → ⊥) × (s.kept.source ≡ None)
+KeepsSource p (Some clock) (Some stamp) s = IsSourceReading (listing_of p) s clock stamp
+
+-- two rows are free for a question, and no row is taken but those of the slots
+abbrev pub HasSpareRows : SolverLists → Type 0
+HasSpareRows s = (2 ≤ free_rows s.pool) × (length s.pool.rows ≤ free_rows s.pool + 2 * length (all_slots s.kept))
+
+-- the answers are those of these events by a declaration: their problem, the engine that holds its answer, with the rows of
+-- the kept events and of the source, and the stamp of the source's reading
+pub record AreAnswersOf (d : Declaration) (seen : List (List Seen)) (kept : List EventId) (a : Answers) : Type 0 where
+  pub problem : a.problem ≡ problem_of_seen d seen
+  pub solution : IsSolution a.problem a.solver
+  pub slots : AreSlotsOf seen kept a.solver.kept.slots
+  pub source_slot : KeepsSource a.problem d.source a.source a.solver
+  pub rows : HasSpareRows a.solver
+
+-- the engine of the answers
+abbrev pub solver_of : Option Answers → Option SolverLists
+solver_of answers = option_map (λ (a : Answers). a.solver) answers
+
+-- no call before ran out of memory
+abbrev pub IsReady : Held → Type 0
+IsReady h = IsSome h.answers
+
+-- ---- questions that are answered from rows
+-- the event of this name is kept
+abbrev pub KeepsEvent : Held → List ℕ → Type 0
+KeepsEvent h name = (k : ℕ) × (event : EventId) × (slice_get h.kept k ≡ Some event) × (name_of h.declaration event ≡ name)
+
+-- what the command asks for is read off rows and values that stand ready
+abbrev pub IsAnsweredFromRows : Held → Command → Type 0
+IsAnsweredFromRows h (Add label path) = ⊥
+IsAnsweredFromRows h (Interval first second) = KeepsEvent h first ⊎ KeepsEvent h second
+IsAnsweredFromRows h (Order first second) = KeepsEvent h first ⊎ KeepsEvent h second
+IsAnsweredFromRows h (Time event) = ⊤
+IsAnsweredFromRows h Merge = ⊤
+IsAnsweredFromRows h (Prove first second) = KeepsEvent h first
+IsAnsweredFromRows h (Keep event) = ⊥
+IsAnsweredFromRows h Problem = ⊤
+IsAnsweredFromRows h Report = ⊤
+
+-- the line spells such a command
+abbrev pub AsksOfRows : Held → List ℕ → Type 0
+AsksOfRows h line = (c : Command) × Asks line (Some c) × IsAnsweredFromRows h c
+
+-- ---- what it stands for
 
 -- the session stands for a declaration, traces and kept events
 pub record StandsFor (h : Held) (d : Declaration) (s : State) : Type 0 where
@@ -90,7 +167,7 @@ pub record StandsFor (h : Held) (d : Declaration) (s : State) : Type 0 where
   pub events : seen_held h.under ≡ seen_by d s.traces
   pub sizes : map (λ (u : Under). u.size) h.under ≡ map size_of s.traces
   pub streams : (k : ℕ) (u : Under) (trace : Trace) → slice_get h.under k ≡ Some u → slice_get s.traces k ≡ Some trace → IsStreamOf u.stream trace
-  pub kept : s.kept ≡ []
+  pub kept : s.kept ≡ h.kept
 
 -- for each declaration, traces and kept events that the session stood for, a reply to the line stands written so, and the
 -- session stands for what follows it

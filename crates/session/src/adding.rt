@@ -1,14 +1,16 @@
 // Additions to the labels of a session.
-ghost use Rattle.std.specs.Prelude.{◌<◌, length, Some, IfOk};
+ghost use Rattle.std.specs.Prelude.{◌<◌, length, Some, IfOk, OnOk};
 ghost use Rattle.ports.specs.Files.{Keeps};
 ghost use Rattle.trace_event.specs.Seen.{seen_events};
 ghost use Rattle.session.specs.Commands as asked;
 ghost use Rattle.session.specs.Outcomes.{IsLineOf};
+ghost use Rattle.session.specs.Stands.{IsReady};
 ghost use Rattle.session.specs.Inside.{HasPlace, IsStreamWithin, FrontAnswered, AcceptAnswered, CommandAnswered};
 
 use crate::Session;
 use crate::accepted::{extend, has_place, has_room, waiting};
 use crate::addition::outcome_of;
+use crate::answers::{give_up, renew};
 use crate::labels::{host_of, label_at};
 use crate::limits::MOST_PIECE;
 use crate::outcome::Outcome;
@@ -30,8 +32,10 @@ impl Session {
         files: &mut F,
         steps: &mut Steps<L>,
     ) -> Result<Outcome, AllocError>
+        requires { IsReady self.old }
         ensures answers { IfOk result (λ outcome. CommandAnswered (Some (asked.Add label.now path.now)) (F.told files.old) (F.told files.new) self.old self.new (IsLineOf outcome)) }
         ensures keeps { Keeps (F.told files.old) (F.told files.new) }
+        ensures ready { OnOk result (IsReady self.new) }
     {
         match label_at(&self.decl.labels, label) {
             Some(k) => match read_file(self.alloc, files, path, MOST_PIECE) {
@@ -52,8 +56,10 @@ impl Session {
         more: bool,
         steps: &mut Steps<L>,
     ) -> Result<Outcome, AllocError>
-        requires { k < length self.old.declaration.labels }
-        ensures { IfOk result (λ outcome. FrontAnswered more front.now self.old self.new k (IsLineOf outcome)) }
+        requires inside { k < length self.old.declaration.labels }
+        requires ready { IsReady self.old }
+        ensures answers { IfOk result (λ outcome. FrontAnswered more front.now self.old self.new k (IsLineOf outcome)) }
+        ensures ready { OnOk result (IsReady self.new) }
     {
         if more {
             return Ok(Outcome::Refused(Refusal::TooManyBytes));
@@ -88,13 +94,17 @@ impl Session {
         requires inside { k < length self.old.under }
         requires place { HasPlace self.old.under k size }
         requires within { IsStreamWithin self.old.under k size stream }
-        ensures { IfOk result (λ outcome. AcceptAnswered self.old self.new k (seen_events events.items) size stream (IsLineOf outcome)) }
+        requires ready { IsReady self.old }
+        ensures answers { IfOk result (λ outcome. AcceptAnswered self.old self.new k (seen_events events.items) size stream (IsLineOf outcome)) }
+        ensures ready { OnOk result (IsReady self.new) }
     {
         let more = events.len();
         if !has_room(&self.accepted, more) {
             return Ok(Outcome::Refused(Refusal::TooManyEvents));
         }
         let pending = waiting(&stream);
+        // What stood ready is of fewer events.
+        give_up(&mut self.answers);
         let changed = extend(
             &mut self.accepted,
             &mut self.matcher,
@@ -103,7 +113,15 @@ impl Session {
             size,
             stream,
         )?;
-        let p = self.build()?;
-        outcome_of(self.alloc, &p, more as u64, pending, changed, steps)
+        let consistent = renew(
+            &mut self.answers,
+            self.alloc,
+            &self.decl,
+            &self.accepted,
+            &self.matcher,
+            &self.kept,
+            steps,
+        )?;
+        Ok(outcome_of(consistent, more as u64, pending, changed))
     }
 }

@@ -54,6 +54,11 @@ pub enum Command<'a> {
         /// Where the file is.
         path: &'a str,
     },
+    /// Keeps the rows of an event from now on.
+    Keep {
+        /// The name of the event.
+        event: &'a [u8],
+    },
     /// Asks about all that was added.
     Ask(Question<'a>),
 }
@@ -115,6 +120,8 @@ fn command_of_two<'a>(name: &[u8], event: &'a [u8]) -> Option<Command<'a>>
     }
     if name == b"time".as_slice() {
         Some(Command::Ask(Question::Time { event }))
+    } else if name == b"keep".as_slice() {
+        Some(Command::Keep { event })
     } else {
         None
     }

@@ -8,3 +8,6 @@ pub(crate) const MOST_OF_LABEL: u64 = 1 << 30;
 
 /// How many events all labels have at most: as many as a problem has.
 pub(crate) const MOST_EVENTS: u64 = 1 << 20;
+
+/// How many events are kept at most: as many as an engine has slots for.
+pub(crate) const MOST_KEPT: usize = 8;

@@ -1,9 +1,9 @@
-// What came of an addition, and the line that tells it.
+// What came of a command that changes a session, and the line that tells it.
 ghost use Rattle.std.specs.Prelude.{◌≡◌, ◌≤◌, ◌+◌, ◌∷◌, [], ◌++◌, ℕ, List, length};
 ghost use Rattle.atto.specs.Decimal.{decimal_of};
 ghost use Rattle.line_format.specs.Words.{words};
 ghost use Rattle.line_words.specs.Room.{HasRoom};
-ghost use Rattle.session.specs.Reply.{added_line, state_word};
+ghost use Rattle.session.specs.Reply.{added_line, kept_line, state_word};
 ghost use Rattle.session.specs.Outcomes.{outcome_line};
 
 use crate::refusal::Refusal;
@@ -24,11 +24,13 @@ pub struct Added {
     pub consistent: bool,
 }
 
-/// What came of an addition.
+/// What came of a command that changes a session.
 #[derive(Clone, Copy, Debug)]
 pub enum Outcome {
     /// The piece was accepted.
     Added(Added),
+    /// The event has this slot, counted from 1.
+    Kept(u32),
     /// Nothing changed.
     Refused(Refusal),
 }
@@ -40,6 +42,7 @@ impl Outcome {
     {
         match self {
             Outcome::Added(added) => added_line(added),
+            Outcome::Kept(slot) => kept_line(slot),
             Outcome::Refused(refusal) => refusal.line(),
         }
     }
@@ -77,6 +80,16 @@ fn added_line(added: Added) -> Line
     push_count(&mut line, b"withdrawn", added.withdrawn);
     push_count(&mut line, b"pending", added.pending);
     push_word(&mut line, state_word(added.consistent));
+    line.push(b'\n');
+    line
+}
+
+// The line of the slot of an event.
+fn kept_line(slot: u32) -> Line
+    ensures { result.items ≡ kept_line slot }
+{
+    let mut line = first_word(b"kept");
+    push_decimal(&mut line, u64::from(slot));
     line.push(b'\n');
     line
 }

@@ -6,12 +6,10 @@ ghost use Rattle.line_words.specs.Room.{HasRoom};
 ghost use Rattle.ports.specs.Content.{Writes};
 ghost use Rattle.session.specs.Refusals.{number_of, details, refusal_line, log_refusal, capture_refusal};
 
-use crate::lines::write_line;
 use captures::CaptureError;
 use event_log::LogError;
 use line_words::line::{Line, first_word, push_decimal};
-use ports::Sink;
-use queries::Stop;
+use ports::{Failed, Sink, write_whole};
 
 /// Why a line changes nothing, in the order in which the causes are looked for.
 #[derive(Clone, Copy, Debug)]
@@ -51,6 +49,8 @@ pub enum Refusal {
     UnknownEvent,
     /// There is no source, or its clock has no reading.
     NoSourceTime,
+    /// Eight events are kept, and this is none of them.
+    EightAreKept,
 }
 
 impl Refusal {
@@ -71,6 +71,7 @@ impl Refusal {
             Refusal::TooManyEvents => 27,
             Refusal::UnknownEvent => 28,
             Refusal::NoSourceTime => 29,
+            Refusal::EightAreKept => 30,
         }
     }
 
@@ -113,10 +114,10 @@ fn push_both(line: &mut Line, first: u64, second: u64)
 }
 
 /// Writes the line of a refusal.
-pub(crate) fn write_refusal<O: Sink>(refusal: Refusal, out: &mut O) -> Result<(), Stop>
+pub(crate) fn write_refusal<O: Sink>(refusal: Refusal, out: &mut O) -> Result<(), Failed>
     ensures { Writes (refusal_line refusal) (O.told out.old) (O.told out.new) result }
 {
-    write_line(&refusal.line(), out)
+    write_whole(out, &refusal.line())
 }
 
 /// Why a piece of a log is refused; None for want of memory.

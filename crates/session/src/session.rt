@@ -1,81 +1,103 @@
 // One line at a time.
-ghost use Rattle.std.specs.Prelude.{◌≡◌, ◌≤◌, length, IfOk, IfErr};
+ghost use Rattle.std.specs.Prelude.{◌≡◌, ◌≤◌, ◌↔◌, length, IsTrue, IfOk, IfErr, OnOk, IsErrOf};
 ghost use Rattle.ports.specs.Content.{Writes};
 ghost use Rattle.ports.specs.Files.{Keeps};
 ghost use Rattle.decl.specs.Declaration.{IsDeclaration, declaration_of};
 ghost use Rattle.queries.specs.declared.stop.Stop.TheVariants as stops;
+ghost use Rattle.session.specs.Commands.{TakesMemory, AsksForMemory};
 ghost use Rattle.session.specs.CommandSeen.{question_seen};
 ghost use Rattle.session.specs.declared.refusal.Refusal.TheVariants as refusals;
 ghost use Rattle.session.specs.Refusals.{refusal_line};
 ghost use Rattle.session.specs.Sessions.{start};
-ghost use Rattle.session.specs.Stands.{WritesReply, StandsFor, Stepped, problem_held};
+ghost use Rattle.session.specs.Stands.{WritesReply, StandsFor, Stepped, IsReady, IsAnsweredFromRows, AsksOfRows};
 ghost use Rattle.session.specs.Inside.{Asked};
 
 use crate::accepted::nothing_under;
-use crate::answering::answer;
+use crate::answering::answer_ready;
+use crate::answers::{Answers, first_answers};
 use crate::command::{Command, Question, read_command};
-use crate::lines::write_line;
+use crate::lines::{write_line, written};
 use crate::refusal::{Refusal, write_refusal};
 use atto::Steps;
 use captures::{new_stands, nothing_reads};
 use decl::Decl;
-use ports::{Files, Sink, write_whole};
-use problem::Problem;
+use ports::{Files, Sink};
 use queries::Stop;
 use std::alloc::{AllocError, Global};
 use std::marker::Model;
 use std::sync::ledger::Ledger;
 use trace_match::{TraceMatcher, ends_grow};
-use trace_problem::problem_of;
-use traces::{Accepted, events};
+use traces::{Accepted, EventId};
 
-/// A session over a declaration: what was added to its labels, and replies to commands about it.
+/// A session over a declaration: what was added to its labels, the events that are kept, and replies to commands about them.
+/// What questions are answered from stands ready between two calls.
 #[derive(Drop)]
 pub struct Session {
     pub(crate) alloc: Global,
     pub(crate) decl: Decl,
     pub(crate) accepted: Vec<Accepted>,
     pub(crate) matcher: TraceMatcher,
+    pub(crate) kept: Vec<EventId>,
+    // None where memory ran out while they were made.
+    pub(crate) answers: Option<Answers>,
 }
 
 impl Model for Session {
+    ghost use Rattle.std.specs.Prelude.{IfSome};
     ghost use Rattle.decl.specs.Declaration.{declaration_of};
     ghost use Rattle.traces.specs.Held.{seen_in};
     ghost use Rattle.trace_match.specs.Ends.{AreEndsOf};
-    ghost use Rattle.session.specs.Stands.{Held, IsHeld, held_of};
+    ghost use Rattle.session.specs.Stands.{Held, IsHeld, AreKept, AreAnswersOf, held_of, solver_of};
 
     ghost Value = { Held };
 
-    ghost view = { λ s. held_of (declaration_of s.decl) s.accepted.items };
+    ghost view = { λ s. held_of (declaration_of s.decl) s.accepted.items s.kept.items (solver_of s.answers) };
 
-    ghost invariant = { λ s. IsHeld (held_of (declaration_of s.decl) s.accepted.items) × AreEndsOf s.matcher (seen_in s.accepted.items) };
+    ghost invariant = { λ s. IsHeld (held_of (declaration_of s.decl) s.accepted.items s.kept.items (solver_of s.answers))
+        × AreEndsOf s.matcher (seen_in s.accepted.items)
+        × AreKept (seen_in s.accepted.items) s.kept.items
+        × IfSome s.answers (AreAnswersOf (declaration_of s.decl) (seen_in s.accepted.items) s.kept.items) };
 }
 
 impl Session {
     /// A session in which nothing was added.
     pub fn new(alloc: Global, decl: Decl) -> Result<Session, AllocError>
         requires { IsDeclaration (declaration_of decl) }
-        ensures { IfOk result (λ session. StandsFor session (declaration_of decl) (start (declaration_of decl))) }
+        ensures stands { IfOk result (λ session. StandsFor session (declaration_of decl) (start (declaration_of decl))) }
+        ensures ready { IfOk result (λ session. IsReady session) }
     {
         // They tell that there are no ends of messages, and what a capture is of which nothing came yet.
         ends_grow();
         nothing_reads();
         new_stands();
         let accepted = nothing_under(alloc, &decl.labels)?;
+        let matcher = TraceMatcher::new(alloc);
+        let answers = first_answers(alloc, &decl, &accepted, &matcher)?;
         Ok(Session {
             alloc,
             decl,
             accepted,
-            matcher: TraceMatcher::new(alloc),
+            matcher,
+            kept: Vec::new(alloc),
+            answers: Some(answers),
         })
     }
 
+    /// Whether lines may be answered: no call before ran out of memory.
+    pub fn is_ready(&self) -> bool
+        ensures { IsTrue result ↔ IsReady self.now }
+    {
+        self.answers.is_some()
+    }
+
     /// Writes the reply to a line, which is given without its line feed and has at most 4,096 bytes. A command that is
-    /// refused changes nothing. The steps of its searches are counted.
+    /// refused changes nothing. The steps of its searches are counted: `time`, `merge`, `problem` and `report` take none, nor
+    /// do `interval`, `order` and `prove` where the first event is kept, nor `interval` and `order` where the second one is.
+    /// No call before answered `Memory`.
     ///
     /// `WriteFault` is answered only where the sink's count of faults rose, or stands at its last value: a front of the
-    /// reply is then written, and the session is as if all of it were. `Memory` is answered where memory runs out: behind
-    /// it nothing is promised of the session, nor of what is written.
+    /// reply is then written, and the session is as if all of it were. `Memory` is answered where memory runs out, which it
+    /// may on `add`, `keep`, `merge` and `report` alone: behind it nothing is promised of the session, nor of what is written.
     pub fn step<F: Files, O: Sink, L: Ledger>(
         &mut self,
         line: &[u8],
@@ -83,18 +105,26 @@ impl Session {
         out: &mut O,
         steps: &mut Steps<L>,
     ) -> Result<(), Stop>
-        requires { length line.now ≤ 4096 }
+        requires short { length line.now ≤ 4096 }
+        requires ready { IsReady self.old }
         ensures writes { WritesReply (Stepped line.now (F.told files.old) (F.told files.new) self.old self.new)
             (O.told out.old) (O.told out.new) result }
         ensures keeps { Keeps (F.told files.old) (F.told files.new) }
+        ensures ready { OnOk result (IsReady self.new) }
+        ensures memory { IsErrOf result stops.Memory → AsksForMemory line.now }
+        ensures steps { AsksOfRows self.old line.now → steps.new ≡ steps.old }
     {
         match read_command(line) {
             Some(Command::Add { label, path }) => {
                 let outcome = self.add(label, path, files, steps)?;
                 write_line(&outcome.line(), out)
             }
+            Some(Command::Keep { event }) => {
+                let outcome = self.keep(event, steps)?;
+                write_line(&outcome.line(), out)
+            }
             Some(Command::Ask(question)) => self.ask(question, out, steps),
-            None => write_refusal(Refusal::NoCommand, out),
+            None => written(write_refusal(Refusal::NoCommand, out)),
         }
     }
 
@@ -104,34 +134,27 @@ impl Session {
         ensures only { IfErr result (λ stop. stop ≡ stops.WriteFault) }
         ensures unchanged { self.new ≡ self.old }
     {
-        write_whole(out, &Refusal::NoCommand.line())?;
-        Ok(())
-    }
-
-    // The problem of all that was added.
-    pub(crate) fn build(&self) -> Result<Problem, AllocError>
-        ensures { IfOk result (λ p. p ≡ problem_held self.now) }
-    {
-        let events = events(self.alloc, &self.accepted)?;
-        let messages = self.matcher.messages(&events)?;
-        problem_of(self.alloc, &self.decl, &self.accepted, &messages)
+        written(write_refusal(Refusal::NoCommand, out))
     }
 
     // Writes the answer to a question.
     fn ask<O: Sink, L: Ledger>(
-        &self,
+        &mut self,
         question: Question,
         out: &mut O,
         steps: &mut Steps<L>,
     ) -> Result<(), Stop>
-        ensures { WritesReply (Asked self.now (question_seen question.entry)) (O.told out.old) (O.told out.new) result }
+        requires { IsReady self.old }
+        ensures writes { WritesReply (Asked self.old self.new (question_seen question.entry)) (O.told out.old) (O.told out.new) result }
+        ensures ready { IsReady self.new }
+        ensures memory { IsErrOf result stops.Memory → TakesMemory (question_seen question.entry) }
+        ensures steps { IsAnsweredFromRows self.old (question_seen question.entry) → steps.new ≡ steps.old }
     {
-        let p = self.build()?;
-        answer(
+        answer_ready(
             self.alloc,
             &self.decl,
             &self.accepted,
-            &p,
+            &mut self.answers,
             question,
             out,
             steps,

@@ -1,5 +1,6 @@
 // Declarations, captures and replies that several modules use, and sessions over them.
 ghost use Rattle.std.specs.Prelude.{◌≡◌, ◌<◌, ◌≤◌, length};
+ghost use Rattle.session.specs.Stands.{IsReady};
 
 use atto::Steps;
 use decl::read_decl;
@@ -107,20 +108,21 @@ fn step_counted<F: Files, L: Ledger>(
     blank: Blank,
 ) -> Result<(), Stop>
     requires short { length line.now ≤ 4_096 }
+    requires ready { IsReady session.old }
     requires blank { (blank.name ≡ L.name) × (blank.parts ≡ L.parts) × (0 < L.parts) }
 {
     let mut steps = Steps::<L>::open(blank);
     session.step(line, files, out, &mut steps)
 }
 
-// What a session does with a line, and whether it is short enough to be one.
+// What a session does with a line, and whether it is short enough to be one and the session ready.
 pub(crate) fn step<F: Files>(
     session: &mut Session,
     files: &mut F,
     line: &str,
     out: &mut MemSink,
 ) -> Result<bool, Stop> {
-    if line.len() > 4_096 {
+    if line.len() > 4_096 || !session.is_ready() {
         return Ok(false);
     }
     step_counted::<F, Brand>(session, files, line.as_bytes(), out, Blank::new(1))?;

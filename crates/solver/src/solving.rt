@@ -124,6 +124,7 @@ pub fn solve<L: Ledger>(
     ensures solution { IfOk result (λ s. IsSolution p.now s) }
     ensures nodes { IfOk result (λ s. (readings : List Reading) → AreReadings p.now readings → s.graph.nodes ≡ nodes_of p.now readings) }
     ensures free { IfOk result (λ s. free_rows s.pool ≡ rows) }
+    ensures count { IfOk result (λ s. length s.pool.rows ≡ rows) }
     ensures slots { IfOk result (λ s. s.kept.slots ≡ []) }
     ensures source { IfOk result (λ s. s.kept.source ≡ None) }
 {

@@ -8,8 +8,9 @@ use Rattle.script.proofs.script.answer_lines.Goals as goal
 
 pub loop-ended-init : goal.loop-ended-init
 loop-ended-init g c = record {
-  at = λ d stands. of_told _ _ (λ script told. at_start d _ _ _ script c.requires stands told);
-  going = ap (λ (r : Reader). r.over) c.requires;
+  at = λ d stands. of_told _ _ (λ script told. at_start d _ _ _ script c.requires.fresh stands told);
+  going = ap (λ (r : Reader). r.over) c.requires.fresh;
+  ready = c.requires.ready;
   keeps = keeps_none _;
   r_le = omega arith;
   w_le = omega arith;
@@ -26,6 +27,7 @@ loop-ended-preserved g c =
     record {
       at = λ d stands. of_script _ _ _ (λ script here. at_more d old now after _ _ _ _ script here before.keeps.same turn.keeps turn.ok) (before.at d stands);
       going = turn.going;
+      ready = turn.ready;
       keeps = keeps_then old.files now.files after.files before.keeps turn.keeps;
       r_le = omega (arith, before.r_le, no_fall.0);
       w_le = omega (arith, before.w_le, no_fall.1);

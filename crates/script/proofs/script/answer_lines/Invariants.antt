@@ -3,7 +3,7 @@ use Rattle.ports.specs.Files.{Keeps}
 use Rattle.decl.specs.Declaration.{Declaration}
 use Rattle.line_reader.specs.Reader.{room}
 use Rattle.session.specs.Sessions.{start}
-use Rattle.session.specs.Stands.{StandsFor}
+use Rattle.session.specs.Stands.{StandsFor, IsReady}
 use Rattle.script.specs.Script.{Devices, devices, OfScript}
 use Rattle.script.proofs.Places.{IsAt}
 use Rattle.script.proofs.script.answer_lines.Given as goal
@@ -15,6 +15,7 @@ invariant-loop-ended g l =
     record {
       at : (d : Declaration) → StandsFor l.fn.session d (start d) → OfScript old.input.left (λ script. IsAt d old now l.session l.reader script);
       going : l.reader.over ≡ false;
+      ready : IsReady l.session;
       keeps : Keeps old.files now.files;
       r_le : old.input.faults ≤ now.input.faults;
       w_le : old.out.faults ≤ now.out.faults;

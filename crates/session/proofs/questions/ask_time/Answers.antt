@@ -1,16 +1,20 @@
-use Rattle.std.proofs.Common.{Some, None, inl, inr, refl}
-use Rattle.ports.proofs.Writing.{such_as, such_of}
-use Rattle.session.specs.Reply.{IsTimeReply, OfOne}
+use Rattle.session.proofs.Naming.{event_within}
+use Rattle.session.proofs.AskedRows.{own_event, source_known, time_known}
 use Rattle.session.proofs.questions.ask_time.Goals as goal
 
+pub write_time-requires-clause-source : goal.write_time-requires-clause-source
+write_time-requires-clause-source g c =
+    let a = c.args.answers.now in
+    let keeps = rw c.in-Some-source.is at c.requires.source.1 in
+    let t = source_known a.problem c.requires.source.0 _ a.solver keeps in
+    (t.0, t.2)
+
+pub write_time-requires-clause-event : goal.write_time-requires-clause-event
+write_time-requires-clause-event g c = (c.in-Some.event, own_event c.args.answers.now.problem c.in-Some.event (event_within c.args.answers.now.problem c.in-Some.event c.args.event.now c.in-Some.ensures.some))
+
 pub returns-in-Some-source : goal.returns-in-Some-source
-returns-in-Some-source g c =
-    rw c.in-Some-source.is (such_as (IsTimeReply c.args.p.now (Some c.in-Some-source.clock) c.in-Some.event) (OfOne c.args.p.now c.args.event.now (IsTimeReply c.args.p.now (Some c.in-Some-source.clock)))
-    (λ text says. inl (c.in-Some.event, c.in-Some.ensures.some, says)) c.time_by.ensures)
-
-pub returns-in-None-source : goal.returns-in-None-source
-returns-in-None-source g c =
-    rw c.in-None-source.is (such_of (OfOne c.args.p.now c.args.event.now (IsTimeReply c.args.p.now None)) (inl (c.in-Some.event, c.in-Some.ensures.some, refl)) c.write_refusal.ensures)
-
-pub returns-in-None : goal.returns-in-None
-returns-in-None g c = such_of (OfOne c.args.p.now c.args.event.now (IsTimeReply c.args.p.now c.args.source)) (inr (c.in-None.ensures.none, refl)) c.write_refusal-in-None.ensures
+returns-in-Some-source g c = λ source true_time keeps.
+    let a = c.args.answers.now in
+    let own = own_event a.problem c.in-Some.event (event_within a.problem c.in-Some.event c.args.event.now c.in-Some.ensures.some) in
+    time_known a.problem c.readings.result.now source _ c.in-Some.event a.solver c.args.event.now _ c.readings.ensures c.requires.solution c.in-Some.ensures.some true_time (rw c.in-Some-source.is at keeps)
+    (λ clock true_clock reads. c.write_time.ensures a.problem clock c.in-Some.event c.requires.solution true_clock reads own)

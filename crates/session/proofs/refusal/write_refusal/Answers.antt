@@ -3,4 +3,4 @@ use Rattle.ports.proofs.Writing.{writes_as}
 use Rattle.session.proofs.refusal.write_refusal.Goals as goal
 
 pub returns : goal.returns
-returns g c = writes_as (c.deref.ensures.0 ∙ c.line.ensures) c.write_line.ensures
+returns g c = writes_as (c.deref.ensures.0 ∙ c.line.ensures) c.write_whole.ensures

@@ -1,4 +1,4 @@
-use Rattle.std.proofs.Common.{◌≡◌, ◌∙◌, ◌+◌, IfOk, refl, ◌^◌, ◌≤◌, ℕ, sym, ap, subst, nat_le, List, length, map, true, false, rules}
+use Rattle.std.proofs.Common.{◌≡◌, ◌∙◌, ◌+◌, IfOk, refl, ◌^◌, ◌≤◌, ℕ, Option, None, sym, ap, subst, nat_le, List, length, map, true, false, rules}
 use Rattle.std.specs.Vec.{with_items}
 use Rattle.std.proofs.lemmas.List.{length-map, with_items_is}
 use Rattle.std.proofs.lemmas.Result.{IfOk-weaker}
@@ -11,24 +11,29 @@ use Rattle.trace_match.specs.Ends.{AreEndsOf, IsChange}
 use Rattle.session.specs.declared.refusal.Refusal.TheVariants.{TooManyEvents}
 use Rattle.session.specs.declared.outcome.Outcome.TheVariants.{Refused}
 use Rattle.session.specs.Outcomes.{IsLineOf, outcome_line}
-use Rattle.session.specs.Stands.{Held, held_of, problem_held, under_of}
+use Rattle.std.specs.Prelude.{IfSome}
+use Rattle.trace_event.specs.Seen.{Seen}
+use Rattle.traces.specs.declared.event.EventId.{EventId}
+use Rattle.traces.specs.Messages.{problem_of_seen}
+use Rattle.queries.specs.Consistent.{IsConsistent}
+use Rattle.session.specs.Stands.{Held, AreKept, AreAnswersOf, held_of, problem_held, solver_of, under_of}
 use Rattle.session.specs.Inside.{AcceptAnswered, HasPlace}
-use Rattle.session.proofs.Holding.{labels_few, le_true}
-use Rattle.session.proofs.Accepting.{refused_in, extended, whole_extended, added_in}
+use Rattle.session.proofs.Holding.{labels_few, le_true, seen_accepted}
+use Rattle.session.proofs.Accepting.{refused_in, extended, kept_then, added_in, whole_same, whole_grown, whole_few}
 use Rattle.session.proofs.session.Session.accept.Goals as goal
 
-pub returns-then-not-has_room : goal.returns-then-not-has_room
-returns-then-not-has_room g c =
+pub returns-then-not-has_room-clause-answers : goal.returns-then-not-has_room-clause-answers
+returns-then-not-has_room-clause-answers g c =
     let len : c.len-more.result ≡ length c.args.events.items = search rules in
     let count : c.len-more.result ≡ length (seen_events c.args.events.items) = len ∙ sym (length-map c.args.events.items seen_event) in
     let room : c.has_room.result ≡ nat_le (event_count (seen_in c.self.inside.accepted.items) + c.len-more.result) (2 ^ 20) = rw (← c.deref.ensures.value) c.has_room.ensures in
     let full : c.has_room.result ≡ false = search rules in
-    refused_in (declaration_of c.self.inside.decl) c.self.inside.accepted.items c.args.self.now c.args.k c.len-more.result (seen_events c.args.events.items) c.args.size c.args.stream
+    refused_in (declaration_of c.self.inside.decl) c.self.inside.accepted.items _ _ c.args.self.now c.args.k c.len-more.result (seen_events c.args.events.items) c.args.size c.args.stream
     c.has_room.result (IsLineOf (Refused TooManyEvents)) c.self.view_is c.requires.inside count room full refl
 
 pub extend-requires-clause-labels : goal.extend-requires-clause-labels
 extend-requires-clause-labels g c =
-    subst (λ (l : List Accepted). length l ≤ 65536) (sym c.deref_mut.ensures.value) (labels_few (declaration_of c.self.inside.decl) c.self.inside.accepted.items c.self.invariant.0)
+    subst (λ (l : List Accepted). length l ≤ 65536) (sym c.deref_mut.ensures.value) (labels_few (declaration_of c.self.inside.decl) c.self.inside.accepted.items _ _ c.self.invariant.0)
 
 pub extend-requires-clause-place : goal.extend-requires-clause-place
 extend-requires-clause-place g c =
@@ -45,54 +50,105 @@ extend-requires-clause-few g c =
 pub extend-requires-clause-ends : goal.extend-requires-clause-ends
 extend-requires-clause-ends g c = subst (λ (l : List Accepted). AreEndsOf c.self.inside.matcher (seen_in l)) (sym c.deref_mut.ensures.value) c.self.invariant.1
 
+pub renew-requires-clause-few : goal.renew-requires-clause-few
+renew-requires-clause-few g c =
+    let len : c.len-more.result ≡ length c.args.events.items = search rules in
+    let count : c.len-more.result ≡ length (seen_events c.args.events.items) = len ∙ sym (length-map c.args.events.items seen_event) in
+    let fit : c.has_room.result ≡ true = search rules in
+    let e = extended (declaration_of c.self.inside.decl) c.self.inside.accepted.items _ _ c.extend.new.accepted c.self.inside.kept.items (solver_of c.self.inside.answers) c.args.self.now c.args.k _
+    (seen_events c.args.events.items) c.args.size c.args.stream _ c.self.view_is c.requires.inside c.requires.place c.requires.within c.deref.ensures.value count c.has_room.ensures fit
+    c.deref_mut.ensures.value c.in_ok-changed.ensures.grown in
+    let long : length c.extend.new.accepted ≡ c.self.inside.accepted.len = c.in_ok-changed.ensures.len ∙ ap length c.deref_mut.ensures.value ∙ sym c.self.inside.accepted.ok.0 in
+    let back : (with_items c.self.inside.accepted c.extend.new.accepted).items ≡ c.extend.new.accepted = with_items_is c.self.inside.accepted c.extend.new.accepted long in
+    let d = declaration_of c.self.inside.decl in
+    let kept = c.self.inside.kept.items in
+    let before = solver_of c.self.inside.answers in
+    subst (λ (l : List Accepted). event_count (seen_in l) ≤ 2 ^ 20) (sym (c.deref-2.ensures.value ∙ back))
+    (whole_few d c.self.inside.accepted.items c.extend.new.accepted kept before c.args.self.now c.args.k (seen_events c.args.events.items) c.args.size c.args.stream e c.self.invariant.0)
+
+pub renew-requires-clause-kept : goal.renew-requires-clause-kept
+renew-requires-clause-kept g c =
+    let len : c.len-more.result ≡ length c.args.events.items = search rules in
+    let count : c.len-more.result ≡ length (seen_events c.args.events.items) = len ∙ sym (length-map c.args.events.items seen_event) in
+    let fit : c.has_room.result ≡ true = search rules in
+    let e = extended (declaration_of c.self.inside.decl) c.self.inside.accepted.items _ _ c.extend.new.accepted c.self.inside.kept.items (solver_of c.self.inside.answers) c.args.self.now c.args.k _
+    (seen_events c.args.events.items) c.args.size c.args.stream _ c.self.view_is c.requires.inside c.requires.place c.requires.within c.deref.ensures.value count c.has_room.ensures fit
+    c.deref_mut.ensures.value c.in_ok-changed.ensures.grown in
+    let long : length c.extend.new.accepted ≡ c.self.inside.accepted.len = c.in_ok-changed.ensures.len ∙ ap length c.deref_mut.ensures.value ∙ sym c.self.inside.accepted.ok.0 in
+    let back : (with_items c.self.inside.accepted c.extend.new.accepted).items ≡ c.extend.new.accepted = with_items_is c.self.inside.accepted c.extend.new.accepted long in
+    let d = declaration_of c.self.inside.decl in
+    let kept = c.self.inside.kept.items in
+    let before = solver_of c.self.inside.answers in
+    let after = kept_then c.self.inside.accepted.items c.extend.new.accepted c.args.k (seen_events c.args.events.items) c.args.size c.args.stream e.grew kept c.self.invariant.2 in
+    subst (λ (events : List EventId). AreKept (seen_in c.deref-2.result.now) events) (sym c.deref-3.ensures.value)
+    (subst (λ (l : List Accepted). AreKept (seen_in l) kept) (sym (c.deref-2.ensures.value ∙ back)) after)
+
+pub invariant_of-self : goal.invariant_of-self
+invariant_of-self g c =
+    let d = declaration_of c.self.inside.decl in
+    let kept = c.self.inside.kept.items in
+    let long : length c.extend.new.accepted ≡ c.self.inside.accepted.len = c.in_err-changed.ensures.len ∙ ap length c.deref_mut.ensures.value ∙ sym c.self.inside.accepted.ok.0 in
+    let back : (with_items c.self.inside.accepted c.extend.new.accepted).items ≡ c.extend.new.accepted = with_items_is c.self.inside.accepted c.extend.new.accepted long in
+    whole_same d c.self.inside.accepted.items c.extend.new.accepted (with_items c.self.inside.accepted c.extend.new.accepted).items kept (solver_of c.self.inside.answers) (solver_of c.give_up.new.answers)
+    c.give_up.new.answers c.extend.new.matcher back (c.in_err-changed.ensures.stays ∙ ap (λ (l : List Accepted). map under_of l) c.deref_mut.ensures.value) c.self.invariant.0 c.self.invariant.2
+    c.in_err-changed.ensures.ends c.give_up.ensures
+
+pub invariant_of-self-in_err-consistent : goal.invariant_of-self-in_err-consistent
+invariant_of-self-in_err-consistent g c =
+    let len : c.len-more.result ≡ length c.args.events.items = search rules in
+    let count : c.len-more.result ≡ length (seen_events c.args.events.items) = len ∙ sym (length-map c.args.events.items seen_event) in
+    let fit : c.has_room.result ≡ true = search rules in
+    let e = extended (declaration_of c.self.inside.decl) c.self.inside.accepted.items _ _ c.extend.new.accepted c.self.inside.kept.items (solver_of c.self.inside.answers) c.args.self.now c.args.k _
+    (seen_events c.args.events.items) c.args.size c.args.stream _ c.self.view_is c.requires.inside c.requires.place c.requires.within c.deref.ensures.value count c.has_room.ensures fit
+    c.deref_mut.ensures.value c.in_ok-changed.ensures.grown in
+    let long : length c.extend.new.accepted ≡ c.self.inside.accepted.len = c.in_ok-changed.ensures.len ∙ ap length c.deref_mut.ensures.value ∙ sym c.self.inside.accepted.ok.0 in
+    let back : (with_items c.self.inside.accepted c.extend.new.accepted).items ≡ c.extend.new.accepted = with_items_is c.self.inside.accepted c.extend.new.accepted long in
+    let d = declaration_of c.self.inside.decl in
+    let kept = c.self.inside.kept.items in
+    let before = solver_of c.self.inside.answers in
+    let ready = subst (λ (l : List Accepted). IfSome c.renew.new.answers (AreAnswersOf d (seen_in l) kept)) c.deref-2.ensures.value
+    (subst (λ (events : List EventId). IfSome c.renew.new.answers (AreAnswersOf d (seen_in c.deref-2.result.now) events)) c.deref-3.ensures.value c.in_err-consistent.ensures.ready) in
+    whole_grown d c.self.inside.accepted.items c.extend.new.accepted (with_items c.self.inside.accepted c.extend.new.accepted).items kept before (solver_of c.renew.new.answers) c.renew.new.answers c.args.self.now c.args.k (seen_events c.args.events.items) c.args.size c.args.stream
+    c.extend.new.matcher e back c.self.invariant.0 c.self.invariant.2 c.in_ok-changed.ensures.ends ready
+
 pub invariant_of-self-2 : goal.invariant_of-self-2
 invariant_of-self-2 g c =
     let len : c.len-more.result ≡ length c.args.events.items = search rules in
     let count : c.len-more.result ≡ length (seen_events c.args.events.items) = len ∙ sym (length-map c.args.events.items seen_event) in
     let fit : c.has_room.result ≡ true = search rules in
-    let e = extended (declaration_of c.self.inside.decl) c.self.inside.accepted.items _ _ c.extend.new.accepted c.args.self.now c.args.k _ (seen_events c.args.events.items) c.args.size c.args.stream _ c.self.view_is
-    c.requires.inside c.requires.place c.requires.within c.deref.ensures.value count c.has_room.ensures fit c.deref_mut.ensures.value c.in_ok-changed.ensures.grown in
+    let e = extended (declaration_of c.self.inside.decl) c.self.inside.accepted.items _ _ c.extend.new.accepted c.self.inside.kept.items (solver_of c.self.inside.answers) c.args.self.now c.args.k _
+    (seen_events c.args.events.items) c.args.size c.args.stream _ c.self.view_is c.requires.inside c.requires.place c.requires.within c.deref.ensures.value count c.has_room.ensures fit
+    c.deref_mut.ensures.value c.in_ok-changed.ensures.grown in
     let long : length c.extend.new.accepted ≡ c.self.inside.accepted.len = c.in_ok-changed.ensures.len ∙ ap length c.deref_mut.ensures.value ∙ sym c.self.inside.accepted.ok.0 in
     let back : (with_items c.self.inside.accepted c.extend.new.accepted).items ≡ c.extend.new.accepted = with_items_is c.self.inside.accepted c.extend.new.accepted long in
-    whole_extended _ _ _ _ _ _ _ _ e _ c.extend.new.matcher back c.self.invariant.0 c.in_ok-changed.ensures.ends
+    let d = declaration_of c.self.inside.decl in
+    let kept = c.self.inside.kept.items in
+    let before = solver_of c.self.inside.answers in
+    let ready = subst (λ (l : List Accepted). IfSome c.renew.new.answers (AreAnswersOf d (seen_in l) kept)) c.deref-2.ensures.value
+    (subst (λ (events : List EventId). IfSome c.renew.new.answers (AreAnswersOf d (seen_in c.deref-2.result.now) events)) c.deref-3.ensures.value c.in_ok-consistent.ensures.ready) in
+    whole_grown d c.self.inside.accepted.items c.extend.new.accepted (with_items c.self.inside.accepted c.extend.new.accepted).items kept before (solver_of c.renew.new.answers) c.renew.new.answers c.args.self.now c.args.k (seen_events c.args.events.items) c.args.size c.args.stream
+    c.extend.new.matcher e back c.self.invariant.0 c.self.invariant.2 c.in_ok-changed.ensures.ends ready
 
-pub invariant_of-self-in_err-p : goal.invariant_of-self-in_err-p
-invariant_of-self-in_err-p g c =
+pub returns-clause-answers : goal.returns-clause-answers
+returns-clause-answers g c =
     let len : c.len-more.result ≡ length c.args.events.items = search rules in
     let count : c.len-more.result ≡ length (seen_events c.args.events.items) = len ∙ sym (length-map c.args.events.items seen_event) in
     let fit : c.has_room.result ≡ true = search rules in
-    let e = extended (declaration_of c.self.inside.decl) c.self.inside.accepted.items _ _ c.extend.new.accepted c.args.self.now c.args.k _ (seen_events c.args.events.items) c.args.size c.args.stream _ c.self.view_is
-    c.requires.inside c.requires.place c.requires.within c.deref.ensures.value count c.has_room.ensures fit c.deref_mut.ensures.value c.in_ok-changed.ensures.grown in
+    let e = extended (declaration_of c.self.inside.decl) c.self.inside.accepted.items _ _ c.extend.new.accepted c.self.inside.kept.items (solver_of c.self.inside.answers) c.args.self.now c.args.k _
+    (seen_events c.args.events.items) c.args.size c.args.stream _ c.self.view_is c.requires.inside c.requires.place c.requires.within c.deref.ensures.value count c.has_room.ensures fit
+    c.deref_mut.ensures.value c.in_ok-changed.ensures.grown in
     let long : length c.extend.new.accepted ≡ c.self.inside.accepted.len = c.in_ok-changed.ensures.len ∙ ap length c.deref_mut.ensures.value ∙ sym c.self.inside.accepted.ok.0 in
     let back : (with_items c.self.inside.accepted c.extend.new.accepted).items ≡ c.extend.new.accepted = with_items_is c.self.inside.accepted c.extend.new.accepted long in
-    whole_extended _ _ _ _ _ _ _ _ e _ c.extend.new.matcher back c.self.invariant.0 c.in_ok-changed.ensures.ends
-
-pub invariant_of-self-3 : goal.invariant_of-self-3
-invariant_of-self-3 g c =
-    let len : c.len-more.result ≡ length c.args.events.items = search rules in
-    let count : c.len-more.result ≡ length (seen_events c.args.events.items) = len ∙ sym (length-map c.args.events.items seen_event) in
-    let fit : c.has_room.result ≡ true = search rules in
-    let e = extended (declaration_of c.self.inside.decl) c.self.inside.accepted.items _ _ c.extend.new.accepted c.args.self.now c.args.k _ (seen_events c.args.events.items) c.args.size c.args.stream _ c.self.view_is
-    c.requires.inside c.requires.place c.requires.within c.deref.ensures.value count c.has_room.ensures fit c.deref_mut.ensures.value c.in_ok-changed.ensures.grown in
-    let long : length c.extend.new.accepted ≡ c.self.inside.accepted.len = c.in_ok-changed.ensures.len ∙ ap length c.deref_mut.ensures.value ∙ sym c.self.inside.accepted.ok.0 in
-    let back : (with_items c.self.inside.accepted c.extend.new.accepted).items ≡ c.extend.new.accepted = with_items_is c.self.inside.accepted c.extend.new.accepted long in
-    whole_extended _ _ _ _ _ _ _ _ e _ c.extend.new.matcher back c.self.invariant.0 c.in_ok-changed.ensures.ends
-
-pub returns : goal.returns
-returns g c =
-    let len : c.len-more.result ≡ length c.args.events.items = search rules in
-    let count : c.len-more.result ≡ length (seen_events c.args.events.items) = len ∙ sym (length-map c.args.events.items seen_event) in
-    let fit : c.has_room.result ≡ true = search rules in
-    let e = extended (declaration_of c.self.inside.decl) c.self.inside.accepted.items _ _ c.extend.new.accepted c.args.self.now c.args.k _ (seen_events c.args.events.items) c.args.size c.args.stream _ c.self.view_is
-    c.requires.inside c.requires.place c.requires.within c.deref.ensures.value count c.has_room.ensures fit c.deref_mut.ensures.value c.in_ok-changed.ensures.grown in
-    let long : length c.extend.new.accepted ≡ c.self.inside.accepted.len = c.in_ok-changed.ensures.len ∙ ap length c.deref_mut.ensures.value ∙ sym c.self.inside.accepted.ok.0 in
-    let back : (with_items c.self.inside.accepted c.extend.new.accepted).items ≡ c.extend.new.accepted = with_items_is c.self.inside.accepted c.extend.new.accepted long in
-    let problem : c.in_ok-p.p ≡ problem_held (held_of (declaration_of c.self.inside.decl) c.extend.new.accepted) =
-    subst (λ (l : List Accepted). c.in_ok-p.p ≡ problem_held (held_of (declaration_of c.self.inside.decl) l)) back c.in_ok-p.ensures in
+    let d = declaration_of c.self.inside.decl in
+    let kept = c.self.inside.kept.items in
+    let before = solver_of c.self.inside.answers in
+    let after = solver_of c.renew.new.answers in
+    let p = problem_of_seen d (seen_in c.extend.new.accepted) in
+    let problem : p ≡ problem_held (held_of d c.extend.new.accepted kept after) = ap (λ (x : List (List Seen)). problem_of_seen d x) (sym (seen_accepted c.extend.new.accepted)) in
+    let consistent : IsConsistent p c.in_ok-consistent.consistent = subst (λ (l : List Accepted). IsConsistent (problem_of_seen d (seen_in l)) c.in_ok-consistent.consistent) (c.deref-2.ensures.value ∙ back)
+    c.in_ok-consistent.ensures.consistent in
     let change : IsChange (seen_in c.self.inside.accepted.items) (seen_in c.extend.new.accepted) c.in_ok-changed.changed =
     subst (λ (l : List Accepted). IsChange (seen_in l) (seen_in c.extend.new.accepted) c.in_ok-changed.changed) c.deref_mut.ensures.value c.in_ok-changed.ensures.changed in
-    subst (λ (l : List Accepted). IfOk c.outcome_of.result (λ outcome. AcceptAnswered c.args.self.now (held_of (declaration_of c.self.inside.decl) l) c.args.k (seen_events c.args.events.items) c.args.size c.args.stream (IsLineOf outcome)))
-    (sym back)
-    (IfOk-weaker c.outcome_of.result _ (λ outcome. AcceptAnswered c.args.self.now (held_of (declaration_of c.self.inside.decl) c.extend.new.accepted) c.args.k (seen_events c.args.events.items) c.args.size c.args.stream (IsLineOf outcome))
-    (λ outcome says. added_in _ _ _ _ _ _ _ _ e c.in_ok-p.p c.in_ok-changed.changed c.len-more.result c.waiting-pending.result (IsLineOf outcome) problem change count c.waiting-pending.ensures
-    (outcome_line outcome, says, refl)) c.outcome_of.ensures)
+    subst (λ (l : List Accepted). AcceptAnswered c.args.self.now (held_of d l kept after) c.args.k (seen_events c.args.events.items) c.args.size c.args.stream (IsLineOf c.outcome_of.result)) (sym back)
+    (added_in d c.self.inside.accepted.items c.extend.new.accepted kept before c.args.self.now c.args.k (seen_events c.args.events.items) c.args.size c.args.stream e p c.in_ok-changed.changed c.len-more.result c.waiting-pending.result after (IsLineOf c.outcome_of.result)
+    problem change count c.waiting-pending.ensures (outcome_line c.outcome_of.result, c.outcome_of.ensures p consistent, refl))

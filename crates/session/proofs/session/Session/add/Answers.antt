@@ -18,7 +18,7 @@ returns-in-Ok-clause-answers g c =
     IfOk-weaker c.add_piece.result _
     (λ outcome. CommandAnswered (Some (Add c.args.label.now c.args.path.now)) (g.F.Files.told c.args.files.now) (g.F.Files.told c.read_file.new.files) c.args.self.now c.add_piece.new.self (IsLineOf outcome))
     (λ outcome. add_read c.args.self.now c.add_piece.new.self (g.F.Files.told c.args.files.now) (g.F.Files.told c.read_file.new.files) c.args.label.now c.args.path.now _ _ _ (IsLineOf outcome)
-    there c.in-Ok.ensures.keeps (rw c.deref-in-Ok.ensures.value c.in-Ok.ensures.read)) c.add_piece.ensures
+    there c.in-Ok.ensures.keeps (rw c.deref-in-Ok.ensures.value c.in-Ok.ensures.read)) c.add_piece.ensures.answers
 
 pub returns-in-Err-Absent-clause-answers : goal.returns-in-Err-Absent-clause-answers
 returns-in-Err-Absent-clause-answers g c =

@@ -14,17 +14,17 @@ use Rattle.session.proofs.Growing.{says_answered, refusal_answered}
 use Rattle.session.proofs.Standing.{piece_more, piece_read, piece_without_place, fits_short, fits_place}
 use Rattle.session.proofs.session.Session.add_piece.Goals as goal
 
-pub returns-then-more : goal.returns-then-more
-returns-then-more g c =
+pub returns-then-more-clause-answers : goal.returns-then-more-clause-answers
+returns-then-more-clause-answers g c =
     let more : c.args.more ≡ true = search rules in
-    piece_more c.args.self.now c.args.k c.args.more c.args.front.now (IsLineOf (Refused TooManyBytes)) more c.requires refl
+    piece_more c.args.self.now c.args.k c.args.more c.args.front.now (IsLineOf (Refused TooManyBytes)) more c.requires.inside refl
 
-pub returns-then-not-has_place : goal.returns-then-not-has_place
-returns-then-not-has_place g c =
+pub returns-then-not-has_place-clause-answers : goal.returns-then-not-has_place-clause-answers
+returns-then-not-has_place-clause-answers g c =
     let more : c.args.more ≡ false = search rules in
     let none : c.has_place.result ≡ false = search rules in
     let held = subst IsHeld c.self.view_is c.self.invariant.0 in
-    let at_under = under_at (declaration_of c.self.inside.decl) c.self.inside.accepted.items c.args.self.now c.args.k c.index-under.result.now c.self.view_is (inside_under c.args.self.now c.args.k held c.requires) c.index-under.ensures in
+    let at_under = under_at (declaration_of c.self.inside.decl) c.self.inside.accepted.items _ _ c.args.self.now c.args.k c.index-under.result.now c.self.view_is (inside_under c.args.self.now c.args.k held c.requires.inside) c.index-under.ensures in
     piece_without_place c.args.self.now c.args.k (under_of c.index-under.result.now) c.args.more c.args.front.now (IsLineOf (Refused TooManyBytes)) more at_under (sym c.has_place.ensures ∙ none) refl
 
 pub read_piece-requires-clause-short : goal.read_piece-requires-clause-short
@@ -36,7 +36,7 @@ pub read_piece-requires-clause-place : goal.read_piece-requires-clause-place
 read_piece-requires-clause-place g c =
     let place : c.has_place.result ≡ true = search rules in
     let held = subst IsHeld c.self.view_is c.self.invariant.0 in
-    let at_under = under_at (declaration_of c.self.inside.decl) c.self.inside.accepted.items c.args.self.now c.args.k c.index-under.result.now c.self.view_is (inside_under c.args.self.now c.args.k held c.requires) c.index-under.ensures in
+    let at_under = under_at (declaration_of c.self.inside.decl) c.self.inside.accepted.items _ _ c.args.self.now c.args.k c.index-under.result.now c.self.view_is (inside_under c.args.self.now c.args.k held c.requires.inside) c.index-under.ensures in
     stream_fits c.args.self.now c.args.k (length c.args.front.now) (under_of c.index-under.result.now) held at_under
     (fits_place c.args.self.now.under c.args.k (length c.args.front.now) (under_of c.index-under.result.now) at_under (sym c.has_place.ensures ∙ place))
 
@@ -44,24 +44,24 @@ pub accept-requires-clause-place : goal.accept-requires-clause-place
 accept-requires-clause-place g c =
     let place : c.has_place.result ≡ true = search rules in
     let held = subst IsHeld c.self.view_is c.self.invariant.0 in
-    let at_under = under_at (declaration_of c.self.inside.decl) c.self.inside.accepted.items c.args.self.now c.args.k c.index-under.result.now c.self.view_is (inside_under c.args.self.now c.args.k held c.requires) c.index-under.ensures in
+    let at_under = under_at (declaration_of c.self.inside.decl) c.self.inside.accepted.items _ _ c.args.self.now c.args.k c.index-under.result.now c.self.view_is (inside_under c.args.self.now c.args.k held c.requires.inside) c.index-under.ensures in
     fits_place c.args.self.now.under c.args.k (length c.args.front.now) (under_of c.index-under.result.now) at_under (sym c.has_place.ensures ∙ place)
 
 pub accept-requires-clause-within : goal.accept-requires-clause-within
 accept-requires-clause-within g c =
     let held = subst IsHeld c.self.view_is c.self.invariant.0 in
-    let at_under = under_at (declaration_of c.self.inside.decl) c.self.inside.accepted.items c.args.self.now c.args.k c.index-under.result.now c.self.view_is (inside_under c.args.self.now c.args.k held c.requires) c.index-under.ensures in
+    let at_under = under_at (declaration_of c.self.inside.decl) c.self.inside.accepted.items _ _ c.args.self.now c.args.k c.index-under.result.now c.self.view_is (inside_under c.args.self.now c.args.k held c.requires.inside) c.index-under.ensures in
     let says : SaysEvents (declaration_of c.self.inside.decl) c.host_of-host.result c.index-under.result.now.stream c.args.front.now (seen_events c.in-Read.events.items) c.in-Read.stream =
     rw c.in-Read.is at c.in_ok-read.ensures in
     stream_within c.args.self.now (declaration_of c.self.inside.decl) c.host_of-host.result c.args.k (under_of c.index-under.result.now) c.in-Read.stream c.args.front.now (seen_events c.in-Read.events.items)
     held at_under says
 
-pub returns-in-Read : goal.returns-in-Read
-returns-in-Read g c =
+pub returns-in-Read-clause-answers : goal.returns-in-Read-clause-answers
+returns-in-Read-clause-answers g c =
     let more : c.args.more ≡ false = search rules in
     let place : c.has_place.result ≡ true = search rules in
     let held = subst IsHeld c.self.view_is c.self.invariant.0 in
-    let at_under = under_at (declaration_of c.self.inside.decl) c.self.inside.accepted.items c.args.self.now c.args.k c.index-under.result.now c.self.view_is (inside_under c.args.self.now c.args.k held c.requires) c.index-under.ensures in
+    let at_under = under_at (declaration_of c.self.inside.decl) c.self.inside.accepted.items _ _ c.args.self.now c.args.k c.index-under.result.now c.self.view_is (inside_under c.args.self.now c.args.k held c.requires.inside) c.index-under.ensures in
     let says : SaysEvents (declaration_of c.self.inside.decl) c.host_of-host.result c.index-under.result.now.stream c.args.front.now (seen_events c.in-Read.events.items) c.in-Read.stream =
     rw c.in-Read.is at c.in_ok-read.ensures in
     let host : slice_get (map (λ (l : Label). l.host) c.self.inside.decl.labels.items) c.args.k ≡ Some c.host_of-host.result = rw (← c.deref.ensures.value) c.host_of-host.ensures in
@@ -71,14 +71,14 @@ returns-in-Read g c =
     (λ outcome answered. piece_read c.args.self.now c.accept.new.self c.args.k (under_of c.index-under.result.now) c.args.more c.args.front.now (IsLineOf outcome) more at_under (sym c.has_place.ensures ∙ place)
     (says_answered c.args.self.now c.accept.new.self c.args.k c.host_of-host.result c.args.front.now (under_of c.index-under.result.now) (seen_events c.in-Read.events.items) c.in-Read.stream (IsLineOf outcome)
     at_under at_host answered by_held))
-    c.accept.ensures
+    c.accept.ensures.answers
 
-pub returns-in-Refused : goal.returns-in-Refused
-returns-in-Refused g c =
+pub returns-in-Refused-clause-answers : goal.returns-in-Refused-clause-answers
+returns-in-Refused-clause-answers g c =
     let more : c.args.more ≡ false = search rules in
     let place : c.has_place.result ≡ true = search rules in
     let held = subst IsHeld c.self.view_is c.self.invariant.0 in
-    let at_under = under_at (declaration_of c.self.inside.decl) c.self.inside.accepted.items c.args.self.now c.args.k c.index-under.result.now c.self.view_is (inside_under c.args.self.now c.args.k held c.requires) c.index-under.ensures in
+    let at_under = under_at (declaration_of c.self.inside.decl) c.self.inside.accepted.items _ _ c.args.self.now c.args.k c.index-under.result.now c.self.view_is (inside_under c.args.self.now c.args.k held c.requires.inside) c.index-under.ensures in
     let why : IsRefusedAs c.index-under.result.now.stream c.args.front.now c.in-Refused.refusal = rw c.in-Refused.is at c.in_ok-read.ensures in
     piece_read c.args.self.now c.args.self.now c.args.k (under_of c.index-under.result.now) c.args.more c.args.front.now (IsLineOf (Refused c.in-Refused.refusal)) more at_under (sym c.has_place.ensures ∙ place)
     (refusal_answered c.args.self.now c.args.k c.args.front.now (under_of c.index-under.result.now) c.in-Refused.refusal (IsLineOf (Refused c.in-Refused.refusal)) at_under refl why)

@@ -1,21 +1,29 @@
-use Rattle.std.proofs.Common.{◌≡◌, ◌∙◌, sym, ap, subst, List}
+use Rattle.std.proofs.Common.{◌≡◌, List, sym, ap, subst}
+use Rattle.std.specs.Prelude.{IfSome}
 use Rattle.decl.specs.Declaration.{declaration_of}
 use Rattle.traces.specs.declared.accepted.Accepted.{Accepted}
+use Rattle.traces.specs.Held.{seen_in}
 use Rattle.session.specs.CommandSeen.{question_seen}
-use Rattle.session.specs.Stands.{Held, WritesReply, IsHeld, held_of, problem_held}
+use Rattle.session.specs.Stands.{Held, AreAnswersOf, held_of, solver_of}
 use Rattle.session.specs.Inside.{Asked}
+use Rattle.session.proofs.Telling.{reply_as}
+use Rattle.session.proofs.Standby.{slots_of_rows}
 use Rattle.session.proofs.session.Session.ask.Goals as goal
 
-pub answer-requires-clause-held : goal.answer-requires-clause-held
-answer-requires-clause-held g c = subst (λ (l : List Accepted). IsHeld (held_of (declaration_of c.self.inside.decl) l)) (sym c.deref.ensures.value) c.self.invariant.0
-
-pub answer-requires-clause-problem : goal.answer-requires-clause-problem
-answer-requires-clause-problem g c =
+pub returns-clause-writes : goal.returns-clause-writes
+returns-clause-writes g c =
     let d = declaration_of c.self.inside.decl in
-    c.in_ok-p.ensures ∙ ap problem_held (sym (ap (held_of d) c.deref.ensures.value ∙ c.self.view_is))
+    let kept = c.self.inside.kept.items in
+    let before = solver_of c.self.inside.answers in
+    let after = solver_of c.answer_ready.new.answers in
+    let command = question_seen c.args.question in
+    reply_as (λ IsWritten says. subst (λ (h : Held). Asked h (held_of d c.self.inside.accepted.items kept after) command IsWritten) c.self.view_is
+    (subst (λ (l : List Accepted). Asked (held_of d l kept before) (held_of d l kept after) command IsWritten) c.deref.ensures.value (says kept before after))) c.answer_ready.ensures.writes
 
-pub returns : goal.returns
-returns g c =
+pub returns-clause-steps : goal.returns-clause-steps
+returns-clause-steps g c = λ rows.
     let d = declaration_of c.self.inside.decl in
-    let same : held_of d c.deref.result.now ≡ c.args.self.now = ap (held_of d) c.deref.ensures.value ∙ c.self.view_is in
-    subst (λ (h : Held). WritesReply (Asked h (question_seen c.args.question)) (g.O.Sink.told c.args.out.now) (g.O.Sink.told c.answer.new.out) c.answer.result) same c.answer.ensures
+    let kept = c.self.inside.kept.items in
+    let ready = subst (λ (l : List Accepted). IfSome c.self.inside.answers (AreAnswersOf d (seen_in l) kept)) (sym c.deref.ensures.value) c.self.invariant.3 in
+    c.answer_ready.ensures.steps (slots_of_rows d (seen_in c.deref.result.now) kept c.self.inside.answers c.args.self.now (question_seen c.args.question)
+    (sym (ap (λ (h : Held). h.declaration) c.self.view_is)) (sym (ap (λ (h : Held). h.kept) c.self.view_is)) ready rows)

@@ -1,0 +1,135 @@
+-- Slots of kept events.
+use Rattle.std.proofs.Common.{◌≡◌, ◌⊎◌, inl, inr, ℕ, zero, suc, ◌+◌, ◌*◌, ◌<◌, ◌≤◌, ◌==◌, List, [], ◌∷◌, ◌++◌, length, slice_get, slice_set, Option, Some, None, find, Bool, true, false, cond, refl, sym, ◌∙◌, ap, subst, arith, length-append}
+use Rattle.std.proofs.lemmas.Option.{slice_get_within}
+use Rattle.trace_event.specs.Seen.{Seen}
+use Rattle.traces.specs.declared.event.EventId.{EventId}
+use Rattle.repair.specs.declared.slot.Slot.{Slot}
+use Rattle.session.specs.Reply.{IsPlacedAt, IsAmong, most_kept}
+use Rattle.session.specs.Stands.{AreKept, AreSlotsOf}
+use Rattle.session.proofs.Holding.{some_same, there_some}
+use Rattle.session.proofs.Placing.{within, more_within, one_placed, placed}
+
+-- ---- one more
+-- what stands in a list with one more stands in the list, or is the one more
+snoc_parts : {A : Type 0} (xs : List A) (x : A) (k : ℕ) (y : A) → slice_get (xs ++ x ∷ []) k ≡ Some y → (slice_get xs k ≡ Some y) ⊎ ((k ≡ length xs) × (x ≡ y))
+snoc_parts [] x zero y at = inr (refl, some_same x y at)
+snoc_parts [] x (suc k) y at = absurd cc
+snoc_parts (z ∷ xs) x zero y at = inl at
+snoc_parts (z ∷ xs) x (suc k) y at = next (snoc_parts xs x k y at)
+  where
+    next : (slice_get xs k ≡ Some y) ⊎ ((k ≡ length xs) × (x ≡ y)) → (slice_get xs k ≡ Some y) ⊎ ((suc k ≡ suc (length xs)) × (x ≡ y))
+    next (inl here) = inl here
+    next (inr last) = inr (ap suc last.0, last.1)
+
+snoc_long : {A : Type 0} (xs : List A) (x : A) → length (xs ++ x ∷ []) ≡ length xs + 1
+snoc_long xs x = length-append xs (x ∷ [])
+
+-- ---- slots
+-- the slot that is found is of the node
+found_node : (slots : List Slot) (node : ℕ) (slot : Slot) → find (λ (s : Slot). s.node == node) slots ≡ Some slot → slot.node ≡ node
+found_node [] node slot is = absurd cc
+found_node (s ∷ slots) node slot is = by (s.node == node) refl is (found_node slots node slot)
+  where
+    by : (b : Bool) → (s.node == node) ≡ b → cond b (Some s) (find (λ (x : Slot). x.node == node) slots) ≡ Some slot →
+        (find (λ (x : Slot). x.node == node) slots ≡ Some slot → slot.node ≡ node) → slot.node ≡ node
+    by true same here next = let e : s ≡ slot = some_same s slot here in subst (λ (x : Slot). x.node ≡ node) e (grind (arith, same))
+    by false other here next = next here
+
+none_found : (slots : List Slot) (node : ℕ) → ((k : ℕ) (slot : Slot) → slice_get slots k ≡ Some slot → slot.node ≡ node → ⊥) → find (λ (s : Slot). s.node == node) slots ≡ None
+none_found [] node other = refl
+none_found (s ∷ slots) node other = by (s.node == node) refl (none_found slots node (λ k slot here. other (suc k) slot here))
+  where
+    by : (b : Bool) → (s.node == node) ≡ b → find (λ (x : Slot). x.node == node) slots ≡ None → cond b (Some s) (find (λ (x : Slot). x.node == node) slots) ≡ None
+    by true same next = absurd (other 0 s refl (grind (arith, same)))
+    by false same next = next
+
+-- the node of a slot has one
+pub slot_found : (slots : List Slot) (k : ℕ) (slot : Slot) → slice_get slots k ≡ Some slot → find (λ (x : Slot). x.node == slot.node) slots ≡ None → ⊥
+slot_found [] k slot at none = absurd cc
+slot_found (s ∷ slots) zero slot at none = by (s.node == slot.node) refl none
+  where
+    by : (b : Bool) → (s.node == slot.node) ≡ b → cond b (Some s) (find (λ (x : Slot). x.node == slot.node) slots) ≡ None → ⊥
+    by true same is = absurd cc
+    by false other is = let e : s.node ≡ slot.node = ap (λ (x : Slot). x.node) (some_same s slot at) in grind (arith, other, e)
+slot_found (s ∷ slots) (suc k) slot at none = by (s.node == slot.node) refl none (slot_found slots k slot at)
+  where
+    by : (b : Bool) → (s.node == slot.node) ≡ b → cond b (Some s) (find (λ (x : Slot). x.node == slot.node) slots) ≡ None → (find (λ (x : Slot). x.node == slot.node) slots ≡ None → ⊥) → ⊥
+    by true same is next = absurd cc
+    by false other is next = next is
+
+module _ (seen : List (List Seen)) (kept : List EventId) (slots : List Slot) (are : AreSlotsOf seen kept slots) (node : ℕ) (event : EventId) (at : IsPlacedAt seen node event) where
+  -- the event of a slot of this node is this one
+  event_of : (k : ℕ) (slot : Slot) → slice_get slots k ≡ Some slot → slot.node ≡ node → slice_get kept k ≡ Some event
+  event_of k slot here same =
+      let inside : k < length slots = slice_get_within slots k slot here in
+      let each : length slots ≡ length kept = are.each in
+      let other = there_some kept k (omega (arith, inside, each)) in
+      let there : IsPlacedAt seen node other.0 = subst (λ (n : ℕ). IsPlacedAt seen n other.0) same (are.nodes k other.0 slot other.1 here) in
+      other.1 ∙ ap (λ (e : EventId). Some e) (some_same other.0 event (sym there ∙ at))
+
+  -- the slot of a node has its event's place among those that are kept
+  pub has_place : (k : ℕ) (slot : Slot) → slice_get slots k ≡ Some slot → find (λ (s : Slot). s.node == node) slots ≡ Some slot → slice_get kept k ≡ Some event
+  has_place k slot here found = event_of k slot here (found_node slots node slot found)
+
+  -- the node of an event that is not kept has no slot
+  pub no_slot : (IsAmong kept event → ⊥) → find (λ (s : Slot). s.node == node) slots ≡ None
+  no_slot other = none_found slots node (λ k slot here same. other (k, event_of k slot here same))
+
+  -- and where its node has none, it is not kept
+  pub not_among : find (λ (s : Slot). s.node == node) slots ≡ None → IsAmong kept event → ⊥
+  not_among none (k, here) =
+      let inside : k < length kept = slice_get_within kept k event here in
+      let each : length slots ≡ length kept = are.each in
+      let slot = there_some slots k (omega (arith, inside, each)) in
+      let there : IsPlacedAt seen slot.0.node event = are.nodes k event slot.0 here slot.1 in
+      let same : slot.0.node ≡ node = one_placed seen slot.0.node node event there at in
+      slot_found slots k slot.0 slot.1 (subst (λ (n : ℕ). find (λ (s : Slot). s.node == n) slots ≡ None) (sym same) none)
+
+  -- with one more event, the slots have one more
+  pub slots_more : (slot : Slot) → slot.node ≡ node → AreSlotsOf seen (kept ++ event ∷ []) (slots ++ slot ∷ [])
+  slots_more slot same = record {
+    each = let a = snoc_long slots slot in let b = snoc_long kept event in let e = are.each in omega (arith, a, b, e);
+    nodes = λ k e s here there. joined k e s (snoc_parts kept event k e here) (snoc_parts slots slot k s there);
+  }
+    where
+      joined : (k : ℕ) (e : EventId) (s : Slot) → (slice_get kept k ≡ Some e) ⊎ ((k ≡ length kept) × (event ≡ e)) → (slice_get slots k ≡ Some s) ⊎ ((k ≡ length slots) × (slot ≡ s)) → IsPlacedAt seen s.node e
+      joined k e s (inl here) (inl there) = are.nodes k e s here there
+      joined k e s (inl here) (inr last) = let inside : k < length kept = slice_get_within kept k e here in let each = are.each in let l = last.0 in absurd (omega (arith, inside, each, l))
+      joined k e s (inr last) (inl there) = let inside : k < length slots = slice_get_within slots k s there in let each = are.each in let l = last.0 in absurd (omega (arith, inside, each, l))
+      joined k e s (inr last) (inr last') =
+          let node_is : node ≡ s.node = sym same ∙ ap (λ (x : Slot). x.node) last'.1 in
+          subst (λ (x : EventId). IsPlacedAt seen s.node x) last.1 (subst (λ (n : ℕ). IsPlacedAt seen n event) node_is at)
+
+-- no slots are those of no event
+pub no_slots : (seen : List (List Seen)) (slots : List Slot) → slots ≡ [] → AreSlotsOf seen [] slots
+no_slots seen slots none = record { each = ap length none; nodes = λ k event slot here there. absurd cc }
+
+-- ---- events that are kept
+pub none_kept : (seen : List (List Seen)) → AreKept seen []
+none_kept seen = record { few = omega arith; there = λ k event here. absurd cc; differ = λ j k event here there. absurd cc }
+
+pub kept_more : (seen : List (List Seen)) (kept : List EventId) (event : EventId) (place : ℕ) → AreKept seen kept → (IsAmong kept event → ⊥) → length kept < most_kept → IsPlacedAt seen place event →
+    AreKept seen (kept ++ event ∷ [])
+kept_more seen kept event place are other room at = record {
+  few = let e = snoc_long kept event in omega (arith, e, room);
+  there = λ k e here. stands k e (snoc_parts kept event k e here);
+  differ = λ j k e here there. one j k e (snoc_parts kept event j e here) (snoc_parts kept event k e there);
+}
+  where
+    stands : (k : ℕ) (e : EventId) → (slice_get kept k ≡ Some e) ⊎ ((k ≡ length kept) × (event ≡ e)) → (p : ℕ) × IsPlacedAt seen p e
+    stands k e (inl here) = are.there k e here
+    stands k e (inr last) = (place, subst (λ (x : EventId). IsPlacedAt seen place x) last.1 at)
+
+    one : (j k : ℕ) (e : EventId) → (slice_get kept j ≡ Some e) ⊎ ((j ≡ length kept) × (event ≡ e)) → (slice_get kept k ≡ Some e) ⊎ ((k ≡ length kept) × (event ≡ e)) → j ≡ k
+    one j k e (inl here) (inl there) = are.differ j k e here there
+    one j k e (inl here) (inr last) = absurd (other (j, here ∙ ap (λ (x : EventId). Some x) (sym last.1)))
+    one j k e (inr last) (inl there) = absurd (other (k, there ∙ ap (λ (x : EventId). Some x) (sym last.1)))
+    one j k e (inr last) (inr last') = last.0 ∙ sym last'.0
+
+-- the same events are kept where one label has more
+pub kept_grown : (seen : List (List Seen)) (kept : List EventId) (k : ℕ) (old more : List Seen) → slice_get seen k ≡ Some old → AreKept seen kept → AreKept (slice_set seen k (old ++ more)) kept
+kept_grown seen kept k old more at are = record {
+  few = are.few;
+  there = λ j event here. let p = are.there j event here in placed (slice_set seen k (old ++ more)) event (more_within seen k old more event at (within seen p.0 event p.1));
+  differ = are.differ;
+}
