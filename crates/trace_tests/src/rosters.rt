@@ -61,7 +61,16 @@ const CASES: [(&[(u32, &str)], Wanted); 3] = [
 ];
 
 // Names that no event of the second case has.
-const UNKNOWN: [&str; 8] = ["p#0", "p#2", "q#01", "q#", "q", "#1", "s#1", "r#18446744073709551617"];
+const UNKNOWN: [&str; 8] = [
+    "p#0",
+    "p#2",
+    "q#01",
+    "q#",
+    "q",
+    "#1",
+    "s#1",
+    "r#18446744073709551617",
+];
 
 fn declared(alloc: Global) -> Option<Decl>
     ensures { IfSome result (λ d. IsDeclaration (declaration_of d)) }
@@ -72,16 +81,16 @@ fn declared(alloc: Global) -> Option<Decl>
 fn push_log(alloc: Global, roster: &mut Roster, label: u32, text: &str) -> Option<u32> {
     let log = log_of(alloc, text).ok()?;
     let most = 1 << 20;
-    if label as usize >= roster.decl().labels.len() || log.events.len() > most - roster.len() as usize {
+    if label as usize >= roster.decl().labels.len()
+        || log.events.len() > most - roster.len() as usize
+    {
         return None;
     }
     roster.push(label, &log.events).ok()
 }
 
 fn pushed(alloc: Global, roster: &mut Roster, pieces: &[(u32, &str)]) -> bool {
-    pieces
-        .iter()
-        .all(|(label, text)| push_log(alloc, roster, *label, text).is_some())
+    pieces.iter().all(|(label, text)| push_log(alloc, roster, *label, text).is_some())
 }
 
 // Whether the event at a place has this name and this number, and is found by its name.
@@ -131,7 +140,9 @@ fn finds_none(alloc: Global, pieces: &[(u32, &str)], names: &[&str]) -> bool {
     match Roster::new(alloc, decl) {
         Ok(mut roster) => {
             pushed(alloc, &mut roster, pieces)
-                && names.iter().all(|name| roster.find(name.as_bytes()).is_none())
+                && names
+                    .iter()
+                    .all(|name| roster.find(name.as_bytes()).is_none())
         }
         Err(_) => false,
     }
