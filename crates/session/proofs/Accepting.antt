@@ -260,8 +260,7 @@ IsWhole d accepted kept solver answers ends =
 pub whole_same : (d : Declaration) (accepted new then : List Accepted) (kept : List EventId) (before after : Option SolverLists) (answers : Option Answers) (ends : List End) → then ≡ new → map under_of new ≡ map under_of accepted →
     IsHeld (held_of d accepted kept before) → AreKept (seen_in accepted) kept → AreEndsOf ends (seen_in new) → answers ≡ None → IsWhole d then kept after answers ends
 whole_same d accepted new then kept before after answers ends is stays held lawful are none =
-    let seen : seen_in then ≡ seen_in accepted = ap seen_in is ∙ sym (seen_accepted new) ∙ ap seen_held stays ∙ seen_accepted accepted in
-    (
+    let seen : seen_in then ≡ seen_in accepted = ap seen_in is ∙ sym (seen_accepted new) ∙ ap seen_held stays ∙ seen_accepted accepted in (
       held_same (held_of d accepted kept before) (held_of d then kept after) held refl (ap (map under_of) is ∙ stays),
       subst (λ (l : List Accepted). AreEndsOf ends (seen_in l)) (sym is) are,
       subst (λ (x : List (List Seen)). AreKept x kept) (sym seen) lawful,

@@ -140,8 +140,7 @@ KeepSays kept name line kept' d seen = KeepReply (problem_of_seen d seen) seen k
 pub keep_answered : (d : Declaration) (accepted : List Accepted) (kept kept' : List EventId) (before after : Option SolverLists) (name line : List ℕ) →
     KeepReply (problem_of_seen d (seen_in accepted)) (seen_in accepted) kept name line kept' → Asked (held_of d accepted kept before) (held_of d accepted kept' after) (Keep name) (λ text. text ≡ line)
 keep_answered d accepted kept kept' before after name line reply x s stands =
-    let here : KeepSays kept name line kept' x (seen_by x s.traces) = by_events d accepted kept before x s stands (KeepSays kept name line kept') reply in
-    (
+    let here : KeepSays kept name line kept' x (seen_by x s.traces) = by_events d accepted kept before x s stands (KeepSays kept name line kept') reply in (
       line,
       record { traces = s.traces; kept = kept' },
       (refl, refl, subst (λ (events : List EventId). KeepReply (problem_of x s.traces) (seen_by x s.traces) events name line kept') (sym stands.kept) here),

@@ -29,8 +29,7 @@ first_answers-requires-clause-ends c =
 pub invariant_of-result : goal.invariant_of-result
 invariant_of-result c =
     let d = declaration_of c.args.decl in
-    let seen = seen_in c.in_ok-accepted.accepted.items in
-    (
+    let seen = seen_in c.in_ok-accepted.accepted.items in (
       held_start _ c.requires (rw (← c.deref.ensures.value) c.in_ok-accepted.ensures),
       subst (λ (ends : List End). AreEndsOf ends seen) (sym c.new-matcher.ensures) (c.ends_grow.ensures.none seen (nothing_seen c.in_ok-accepted.accepted.items _ c.in_ok-accepted.ensures)),
       subst (λ (events : List EventId). AreKept seen events) (sym c.new.ensures.items) (none_kept seen),
