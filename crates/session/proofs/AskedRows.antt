@@ -1,5 +1,5 @@
 -- Questions over the rows of an engine.
-use Rattle.std.proofs.Common.{◌≡◌, ◌⊎◌, inl, inr, ℕ, zero, suc, ◌+◌, ◌*◌, ◌<◌, ◌≤◌, ◌==◌, List, [], ◌∷◌, length, map, slice_get, Option, Some, None, IfSome, find, Bool, true, false, cond, refl, sym, ◌∙◌, ap, subst, arith}
+use Rattle.std.proofs.Common.{◌≡◌, ◌⊎◌, inl, inr, ℕ, zero, suc, ◌+◌, ◌<◌, List, [], ◌∷◌, length, map, slice_get, Option, Some, None, IfSome, refl, sym, ◌∙◌, ap, subst, arith}
 use Rattle.std.specs.Prelude.{Contains}
 use Rattle.std.proofs.lemmas.Option.{slice_get_within, get_or_from_slice_get}
 use Rattle.std.proofs.lemmas.List.{length-map}
@@ -7,11 +7,10 @@ use Rattle.problem_model.specs.declared.items.Event.{Event}
 use Rattle.problem_model.specs.Problem.{ProblemLists, IsProblem}
 use Rattle.problem_model.specs.Bounds.{IsReading}
 use Rattle.problem_model.specs.Nodes.{Reading, AreReadings}
-use Rattle.problem.specs.Line.{HasEvent, IsUnknown}
-use Rattle.problem.specs.Listing.{Listed, listing_of, listed_nodes, event_places}
+use Rattle.problem.specs.Line.{HasEvent}
+use Rattle.problem.specs.Listing.{listing_of, listed_nodes, event_places}
 use Rattle.problem.proofs.ListedNodes.{event_node}
 use Rattle.problem.proofs.Taking.{one_place}
-use Rattle.ports.specs.Content.{SinkTold, Writes}
 use Rattle.decl.specs.Declaration.{Declaration}
 use Rattle.trace_event.specs.Seen.{Seen}
 use Rattle.traces.specs.declared.event.EventId.{EventId}
@@ -20,9 +19,7 @@ use Rattle.traces.specs.Messages.{event_with, problem_of_seen}
 use Rattle.traces.proofs.Ids.{length_events}
 use Rattle.traces.proofs.Members.{here, there}
 use Rattle.row_pool.specs.Pool.{free_rows}
-use Rattle.repair.specs.declared.slot.Slot.{Slot}
-use Rattle.repair.specs.Slots.{KeptRows, slot_of, all_slots}
-use Rattle.sync_graph.specs.Graph.{GraphLists}
+use Rattle.repair.specs.Slots.{KeptRows, all_slots}
 use Rattle.sync_graph.specs.ListedStanding.{IsEventAt}
 use Rattle.engine.specs.Solver.{SolverLists}
 use Rattle.engine.specs.Changes.{LeavesTaken}
@@ -31,11 +28,11 @@ use Rattle.queries.specs.Asking.{IsKept, IsAtHand, IsPairAtHand, IsReadingAt, Is
 use Rattle.queries.specs.Clocks.{KeepsTime}
 use Rattle.queries.specs.Replies.{HasReading, IsTimeLine, Replies}
 use Rattle.session.specs.declared.answers.Answers.{Answers}
-use Rattle.session.specs.declared.refusal.Refusal.TheVariants.{UnknownEvent, NoSourceTime}
+use Rattle.session.specs.declared.refusal.Refusal.TheVariants.{NoSourceTime}
 use Rattle.session.specs.Refusals.{refusal_line}
 use Rattle.session.specs.Commands.{Command, Add, Interval, Order, Time, Merge, Prove, Keep, Problem, Report}
 use Rattle.session.specs.Reply.{IsPlacedAt, OfOne, IsTimeReply}
-use Rattle.session.specs.Stands.{Held, AreKept, AreSlotsOf, AreAnswersOf, KeepsSource, HasSpareRows, KeepsEvent, IsAnsweredFromRows}
+use Rattle.session.specs.Stands.{Held, AreSlotsOf, AreAnswersOf, KeepsSource, HasSpareRows, KeepsEvent, IsAnsweredFromRows}
 use Rattle.session.specs.Keeping.{LeavesAnswer, HasSlotBy, IsAnsweredFromSlots}
 use Rattle.session.proofs.Holding.{some_same, there_some}
 use Rattle.session.proofs.Slotting.{slot_found}

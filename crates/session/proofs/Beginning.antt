@@ -18,7 +18,6 @@ use Rattle.traces.specs.Traces.{Placed, event_count, events_from, events_of, num
 use Rattle.traces.proofs.Ids.{length_events}
 use Rattle.traces.specs.Messages.{linked, messages_of, event_with, problem_of_seen}
 use Rattle.traces.proofs.Members.{here, none_in}
-use Rattle.sync_graph.specs.declared.arc.Arc.{Arc}
 use Rattle.sync_graph.specs.Graph.{GraphLists, IsGraph, no_graph}
 use Rattle.sync_graph.specs.Standing.{HasBounds, IsDeclared}
 use Rattle.sync_graph.specs.ListedStanding.{StandsForListed}

@@ -1,13 +1,10 @@
 -- Engines that keep nodes.
-use Rattle.std.proofs.Common.{◌≡◌, ◌⊎◌, inl, inr, ℕ, zero, suc, ◌+◌, ◌*◌, ◌<◌, ◌≤◌, ◌==◌, List, [], ◌∷◌, ◌++◌, length, map, take, slice_get, Option, Some, None, find, All, refl, sym, ◌∙◌, ap, subst, arith, length-append, drop}
-use Rattle.std.specs.List.{slice_index_or}
-use Rattle.std.proofs.Math.Seq.{take-length}
+use Rattle.std.proofs.Common.{◌≡◌, inl, inr, ℕ, zero, suc, ◌+◌, ◌*◌, ◌<◌, ◌≤◌, ◌==◌, List, [], ◌∷◌, ◌++◌, length, map, take, slice_get, Option, Some, None, find, refl, sym, ◌∙◌, ap, subst, arith}
 use Rattle.std.proofs.lemmas.List.{length-take-le}
 use Rattle.std.proofs.lemmas.Option.{slice_get_within, get_or_from_slice_get}
-use Rattle.std.specs.Prelude.{Contains}
 use Rattle.problem_model.specs.Problem.{ProblemLists}
-use Rattle.problem_model.specs.Nodes.{Reading, AreReadings, nodes_of}
-use Rattle.problem.specs.Listing.{Listed, listing_of, listed_nodes}
+use Rattle.problem_model.specs.Nodes.{Reading, nodes_of}
+use Rattle.problem.specs.Listing.{listing_of, listed_nodes}
 use Rattle.problem.proofs.ListedNodes.{reading_node, length-nodes_of}
 use Rattle.trace_event.specs.Seen.{Seen}
 use Rattle.trace_problem.proofs.Lists.{place_in}
@@ -21,15 +18,15 @@ use Rattle.repair.specs.Keeping.{IsRefused}
 use Rattle.sync_graph.specs.Graph.{GraphLists}
 use Rattle.sync_graph.specs.ListedStanding.{StandsForListed}
 use Rattle.engine.specs.Solver.{SolverLists}
-use Rattle.engine.specs.Changes.{KeepsAnswer, LeavesTaken}
+use Rattle.engine.specs.Changes.{KeepsAnswer}
 use Rattle.engine.specs.Current.{IsCurrent}
 use Rattle.solver.specs.Solution.{IsSolution}
-use Rattle.queries.specs.Asking.{IsReadingAt, IsSourceReading}
+use Rattle.queries.specs.Asking.{IsReadingAt}
 use Rattle.queries.specs.Replies.{HasReading}
-use Rattle.session.specs.Reply.{IsPlacedAt, IsAmong, most_kept}
-use Rattle.session.specs.Stands.{AreKept, AreSlotsOf, KeepsSource, HasSpareRows}
-use Rattle.session.specs.Keeping.{TakesFree, TakesForSource, HasNextSlot, LeavesAnswer, IsEngineOf}
-use Rattle.session.proofs.Holding.{some_same, there_some}
+use Rattle.session.specs.Reply.{IsPlacedAt, IsAmong}
+use Rattle.session.specs.Stands.{AreKept, AreSlotsOf, HasSpareRows}
+use Rattle.session.specs.Keeping.{TakesFree, TakesForSource, IsEngineOf}
+use Rattle.session.proofs.Holding.{some_same}
 use Rattle.session.proofs.Slotting.{no_slot, slots_more}
 
 -- ---- one node

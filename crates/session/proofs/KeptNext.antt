@@ -1,5 +1,5 @@
 -- One more event that is kept.
-use Rattle.std.proofs.Common.{◌≡◌, ◌⊎◌, inl, inr, ℕ, zero, suc, ◌+◌, ◌-◌, ◌*◌, ◌<◌, ◌≤◌, List, [], ◌∷◌, ◌++◌, length, map, replicate, slice_get, Option, Some, None, find, Result, Ok, Err, IfOk, OnOk, OnErr, Bool, cond, not, refl, sym, ◌∙◌, ap, subst, arith, length-append}
+use Rattle.std.proofs.Common.{◌≡◌, inl, inr, ℕ, zero, suc, ◌+◌, ◌-◌, ◌*◌, ◌≤◌, List, [], ◌∷◌, ◌++◌, length, map, replicate, Option, Some, None, Result, Ok, Err, IfOk, OnOk, OnErr, cond, not, refl, sym, ◌∙◌, ap, subst, arith, length-append}
 use Rattle.std.specs.Prelude.{max, count_by}
 use Rattle.std.proofs.lemmas.List.{length-map, length-replicate}
 use Rattle.std.proofs.lemmas.List.Sums.{sum_by-append, sum_by-cons}
@@ -10,20 +10,16 @@ use Rattle.trace_event.specs.Seen.{Seen}
 use Rattle.traces.specs.declared.event.EventId.{EventId}
 use Rattle.row_pool.specs.Pool.{Pool, PoolRow, free_rows, widened, free_row, grown}
 use Rattle.repair.specs.declared.slot.Slot.{Slot}
-use Rattle.repair.specs.Slots.{KeptRows, slot_of, all_slots, behind, with_room}
+use Rattle.repair.specs.Slots.{slot_of, all_slots, behind}
 use Rattle.repair.specs.Keeping.{IsPlaceOf}
 use Rattle.engine.specs.Solver.{SolverLists}
 use Rattle.engine.specs.Changes.{KeepsAnswer}
-use Rattle.engine.specs.Current.{IsCurrent}
-use Rattle.solver.specs.Solution.{IsSolution}
 use Rattle.session.specs.declared.answers.Answers.{Answers}
 use Rattle.session.specs.declared.outcome.Outcome.{Outcome}
 use Rattle.session.specs.declared.outcome.Outcome.TheVariants.{Added, Kept, Refused}
-use Rattle.session.specs.declared.refusal.Refusal.{Refusal}
-use Rattle.session.specs.declared.refusal.Refusal.TheVariants.{EightAreKept}
 use Rattle.session.specs.Refusals.{refusal_line}
 use Rattle.session.specs.Outcomes.{outcome_line}
-use Rattle.session.specs.Reply.{IsPlacedAt, IsAmong, SlotReply, KeepReply, kept_line, most_kept}
+use Rattle.session.specs.Reply.{IsPlacedAt, IsAmong, KeepReply, kept_line}
 use Rattle.session.specs.Stands.{AreKept, AreSlotsOf, AreAnswersOf, KeepsSource, HasSpareRows}
 use Rattle.session.specs.Keeping.{TakesFree, HasNextSlot, IsKeptNext}
 use Rattle.session.proofs.Slotting.{has_place, not_among, kept_more, slots_more}

@@ -1,5 +1,5 @@
 -- What a line asks for, once its command is known.
-use Rattle.std.proofs.Common.{◌≡◌, ℕ, List, Option, Some, None, subst}
+use Rattle.std.proofs.Common.{◌≡◌, ℕ, List, Some, subst}
 use Rattle.session.specs.Commands.{Command, Asks, TakesMemory, AsksForMemory}
 use Rattle.session.specs.Stands.{Held, IsAnsweredFromRows, AsksOfRows}
 use Rattle.session.proofs.Holding.{some_same}

@@ -13,7 +13,7 @@ use Rattle.trace_match.specs.declared.matcher.Changed.{Changed}
 use Rattle.queries.specs.Consistent.{IsConsistent}
 use Rattle.session.specs.declared.refusal.Refusal.TheVariants.{UnknownEvent}
 use Rattle.session.specs.Refusals.{refusal_line}
-use Rattle.session.specs.Commands.{Command, Add, Interval, Order, Time, Merge, Prove, Keep, Problem, Report}
+use Rattle.session.specs.Commands.{Command}
 use Rattle.problem_model.specs.Problem.{ProblemLists}
 use Rattle.problem.specs.Line.{HasEvent, IsUnknown}
 use Rattle.queries.specs.Replies.{Replies}

@@ -1,11 +1,10 @@
-use Rattle.std.proofs.Common.{ap, subst, sym, refl}
+use Rattle.std.proofs.Common.{subst}
 use Rattle.problem_model.specs.Problem.{ProblemLists}
 use Rattle.decl.specs.Declaration.{declaration_of}
 use Rattle.problem.specs.Listing.{listing_of}
 use Rattle.solver.specs.Solution.{IsSolution, IsSolutionBy}
 use Rattle.traces.specs.Held.{seen_in}
-use Rattle.queries.specs.Replies.{IsIntervalLine, IsOrderLine, IsProofText}
-use Rattle.session.proofs.Telling.{reply_such, reply_text, never_memory}
+use Rattle.session.proofs.Telling.{reply_such, reply_text}
 use Rattle.session.proofs.AskedRows.{answers_left}
 use Rattle.session.proofs.Replying.{interval_answered, order_answered, proof_answered, source_keeps, time_answered, merge_answered, report_answered, problem_answered}
 use Rattle.session.proofs.answering.answer.Goals as goal

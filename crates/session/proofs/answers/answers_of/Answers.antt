@@ -1,4 +1,4 @@
-use Rattle.std.proofs.Common.{◌≡◌, ℕ, List, inl, inr, refl, sym, ap, subst, ◌∙◌}
+use Rattle.std.proofs.Common.{List, sym, subst}
 use Rattle.decl.specs.Declaration.{declaration_of}
 use Rattle.traces.specs.Held.{seen_in}
 use Rattle.repair.specs.declared.slot.Slot.{Slot}

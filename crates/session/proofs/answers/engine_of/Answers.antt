@@ -1,4 +1,4 @@
-use Rattle.std.proofs.Common.{◌≡◌, ◌+◌, ◌*◌, ◌≤◌, ℕ, length, refl, sym, ap, subst, ◌∙◌, arith, rules}
+use Rattle.std.proofs.Common.{◌≡◌, ◌+◌, ◌*◌, length, ◌∙◌, arith}
 use Rattle.row_pool.specs.Pool.{free_rows}
 use Rattle.session.proofs.Engines.{solution_stays, events_within}
 use Rattle.session.proofs.answers.engine_of.Goals as goal

@@ -1,5 +1,4 @@
-use Rattle.std.proofs.Common.{◌≡◌, ◌∙◌, ◌≤◌, List, length, sym, ap, arith}
-use Rattle.decl.specs.Declaration.{declaration_of}
+use Rattle.std.proofs.Common.{◌≡◌, ◌∙◌, ◌≤◌, List, length, ap, arith}
 use Rattle.traces.specs.Traces.{Placed, events_of}
 use Rattle.traces.specs.Messages.{messages_of}
 use Rattle.traces.specs.Held.{placed_in, seen_in}

@@ -1,6 +1,4 @@
-use Rattle.std.proofs.Common.{◌≡◌, ◌+◌, ◌<◌, ◌≤◌, ◌^◌, length, drop, arith, rules}
-use Rattle.std.specs.List.{slice_index_or}
-use Rattle.traces.specs.Traces.{event_count}
+use Rattle.std.proofs.Common.{◌≡◌, ◌<◌, length, arith, rules}
 use Rattle.traces.specs.Held.{seen_in}
 use Rattle.session.proofs.Placing.{placed_by, count_drop, count_past, label_long, seen_each}
 use Rattle.session.proofs.places.event_at.Goals as goal

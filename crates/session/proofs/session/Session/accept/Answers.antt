@@ -1,7 +1,6 @@
-use Rattle.std.proofs.Common.{◌≡◌, ◌∙◌, ◌+◌, IfOk, refl, ◌^◌, ◌≤◌, ℕ, Option, None, sym, ap, subst, nat_le, List, length, map, true, false, rules}
+use Rattle.std.proofs.Common.{◌≡◌, ◌∙◌, ◌+◌, refl, ◌^◌, ◌≤◌, ℕ, sym, ap, subst, nat_le, List, length, map, true, false, rules}
 use Rattle.std.specs.Vec.{with_items}
 use Rattle.std.proofs.lemmas.List.{length-map, with_items_is}
-use Rattle.std.proofs.lemmas.Result.{IfOk-weaker}
 use Rattle.decl.specs.Declaration.{declaration_of}
 use Rattle.trace_event.specs.Seen.{seen_event, seen_events}
 use Rattle.traces.specs.declared.accepted.Accepted.{Accepted}

@@ -1,4 +1,4 @@
-use Rattle.std.proofs.Common.{◌≡◌, List, sym, ap, subst}
+use Rattle.std.proofs.Common.{List, sym, ap, subst}
 use Rattle.std.specs.Prelude.{IfSome}
 use Rattle.decl.specs.Declaration.{declaration_of}
 use Rattle.traces.specs.declared.accepted.Accepted.{Accepted}
