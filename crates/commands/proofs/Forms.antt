@@ -1,9 +1,14 @@
 -- The words of each form.
-use Rattle.std.proofs.Common.{◌≡◌, ℕ, List, [], ◌∷◌, length, get_or, Some, slice_get, codes, refl, sym, ◌∙◌, ap, subst, arith}
+use Rattle.std.proofs.Common.{◌≡◌, ℕ, ◌<◌, ◌≤◌, ◌^◌, List, [], ◌∷◌, length, get_or, Some, slice_get, slice_index_or, codes, refl, sym, ◌∙◌, ap, subst, arith}
+use Rattle.atto.specs.Decimal.{decimal_of}
+use Rattle.atto.specs.Number.{IsFault}
+use Rattle.atto.specs.declared.text.NumFault.{NumFault}
+use Rattle.atto.specs.declared.text.NumFault.TheVariants.{Spelling, Range}
+use Rattle.atto.proofs.OneSpelling.{decimal_of_injective}
 use Rattle.ports.specs.Content.{SinkTold}
 use Rattle.ports.specs.Files.{FilesTold}
 use Rattle.script.specs.Script.{Devices}
-use Rattle.commands.specs.Run.{obey_words, solve_words, ends_words, verify_words, session_words, widen_words, judge_words}
+use Rattle.commands.specs.Run.{obey_words, solve_words, ends_words, verify_words, session_words, trial_words, widen_words, judge_words, IsNoNumber, IsNoCommand}
 use Rattle.commands.specs.Printing.{Prints}
 use Rattle.commands.specs.Obey.{Obeyed}
 use Rattle.commands.specs.Solve.{Solved}
@@ -11,6 +16,7 @@ use Rattle.commands.specs.Intervals.{IntervalAnswered}
 use Rattle.commands.specs.Verify.{Verified}
 use Rattle.commands.specs.Sessions.{Conducted}
 use Rattle.commands.specs.Widening.{WideningFound, WideningJudged}
+use Rattle.commands.specs.Trials.{Tried}
 use Rattle.commands.specs.declared.status.Status.{Status}
 
 -- three words, the first of which is `obey`
@@ -80,6 +86,9 @@ ends_four ws problem first second is = ap length is
 pub verify_three : (ws : List (List ℕ)) (problem cert : List ℕ) → ws ≡ verify_words problem cert → length ws ≡ 3
 verify_three ws problem cert is = ap length is
 
+pub trial_two : (ws : List (List ℕ)) (n : ℕ) → ws ≡ trial_words n → length ws ≡ 2
+trial_two ws n is = ap length is
+
 pub session_two : (ws : List (List ℕ)) (decl : List ℕ) → ws ≡ session_words decl → length ws ≡ 2
 session_two ws decl is = ap length is
 
@@ -97,6 +106,10 @@ some_same : (a b : List ℕ) → Some a ≡ Some b → a ≡ b
 some_same a b e = cc
 
 -- and one first word
+other_first : (ws v w : List (List ℕ)) (a b : List ℕ) → ws ≡ v → ws ≡ w → slice_get v 0 ≡ Some a → slice_get w 0 ≡ Some b → (a ≡ b → ⊥) → ⊥
+other_first ws v w a b is other first second differ =
+    differ (some_same a b (sym first ∙ sym (ap (λ (u : List (List ℕ)). slice_get u 0) is) ∙ ap (λ (u : List (List ℕ)). slice_get u 0) other ∙ second))
+
 pub obey_or_verify : (ws : List (List ℕ)) (problem exec problem' cert : List ℕ) → ws ≡ obey_words problem exec → ws ≡ verify_words problem' cert → ⊥
 obey_or_verify ws problem exec problem' cert a b =
     let first : codes "obey" ≡ codes "verify" = some_same (codes "obey") (codes "verify") (sym (ap (λ (v : List (List ℕ)). slice_get v 0) a) ∙ ap (λ (v : List (List ℕ)). slice_get v 0) b) in
@@ -126,6 +139,12 @@ session_or_widen ws decl problem a b =
     let letter : 115 ≡ 119 = ap (λ (w : List ℕ). get_or w 0 0) same in
     omega (arith, letter)
 
+pub trial_or_widen : (ws : List (List ℕ)) (n : ℕ) (problem : List ℕ) → ws ≡ trial_words n → ws ≡ widen_words problem → ⊥
+trial_or_widen ws n problem a b =
+    let same = first_word_one ws (trial_words n) (widen_words problem) (codes "trial") (codes "widen") a b refl refl in
+    let letter : 116 ≡ 119 = ap (λ (w : List ℕ). get_or w 0 0) same in
+    omega (arith, letter)
+
 pub obey_or_judge : (ws : List (List ℕ)) (problem exec problem' widening : List ℕ) → ws ≡ obey_words problem exec → ws ≡ judge_words problem' widening → ⊥
 obey_or_judge ws problem exec problem' widening a b =
     let same = first_word_one ws (obey_words problem exec) (judge_words problem' widening) (codes "obey") (codes "judge") a b refl refl in
@@ -137,6 +156,13 @@ verify_or_judge ws problem cert problem' widening a b =
     let same = first_word_one ws (verify_words problem cert) (judge_words problem' widening) (codes "verify") (codes "judge") a b refl refl in
     let letter : 118 ≡ 106 = ap (λ (w : List ℕ). get_or w 0 0) same in
     omega (arith, letter)
+
+pub solve_or_trial : (ws : List (List ℕ)) (problem : List ℕ) (n : ℕ) → ws ≡ solve_words problem → ws ≡ trial_words n → ⊥
+solve_or_trial ws problem n a b = other_first ws (solve_words problem) (trial_words n) (codes "solve") (codes "trial") a b refl refl (λ first. let same : 115 ≡ 116 = ap (λ (w : List ℕ). slice_index_or w 0 0) first in omega (arith, same))
+
+pub session_or_trial : (ws : List (List ℕ)) (decl : List ℕ) (n : ℕ) → ws ≡ session_words decl → ws ≡ trial_words n → ⊥
+session_or_trial ws decl n a b =
+    other_first ws (session_words decl) (trial_words n) (codes "session") (codes "trial") a b refl refl (λ first. let size : 7 ≡ 5 = ap length first in omega (arith, size))
 
 -- a word is that of the form
 pub word_is : (ws form : List (List ℕ)) (k : ℕ) (a b : List ℕ) → slice_get ws k ≡ Some a → ws ≡ form → slice_get form k ≡ Some b → a ≡ b
@@ -194,3 +220,48 @@ judge_by ws a b problem widening files files' out out' result e f is said =
     let first : a ≡ problem = word_is ws (judge_words problem widening) 1 a problem e is refl in
     let second : b ≡ widening = word_is ws (judge_words problem widening) 2 b widening f is refl in
     subst (λ (v : List ℕ). Prints (WideningJudged v widening files files') out out' result) first (subst (λ (v : List ℕ). Prints (WideningJudged a v files files') out out' result) second said)
+
+-- what `trial` says of the number of the second word
+pub trial_by : (ws : List (List ℕ)) (m n : ℕ) (out out' : SinkTold) (result : Status) → ws ≡ trial_words m → ws ≡ trial_words n → Prints (Tried m) out out' result → Prints (Tried n) out out' result
+trial_by ws m n out out' result is other said =
+    let same : decimal_of m ≡ decimal_of n = word_is ws (trial_words n) 1 (decimal_of m) (decimal_of n) (ap (λ (v : List (List ℕ)). slice_get v 1) is) other refl in
+    subst (λ (k : ℕ). Prints (Tried k) out out' result) (decimal_of_injective m n same) said
+
+-- a number that is too large, and a text that is refused, are no number of a trial
+pub large_no_number : (text : List ℕ) (m : ℕ) → text ≡ decimal_of m → (m < 2 ^ 32 → ⊥) → IsNoNumber text
+large_no_number text m is large n below other =
+    let same : m ≡ n = decimal_of_injective m n (sym is ∙ other) in
+    large (omega (arith, same, below))
+
+pub fault_no_number : (text : List ℕ) (e : NumFault) → IsFault decimal_of (λ n. n < 2 ^ 64) text e → IsNoNumber text
+fault_no_number text Spelling none n below is = none n is
+fault_no_number text Range large n below is = large_no_number text large.0 large.1 (λ less. large.2 (omega (arith, less))) n below is
+
+-- ---- two words, the first of which is `trial`
+two_words : (ws : List (List ℕ)) (a b : List ℕ) → length ws ≡ 2 → slice_get ws 0 ≡ Some a → slice_get ws 1 ≡ Some b → ws ≡ a ∷ b ∷ []
+two_words [] a b long first second = absurd (omega (arith, long))
+two_words (x ∷ []) a b long first second = absurd (omega (arith, long))
+two_words (x ∷ y ∷ []) a b long first second = cc
+two_words (x ∷ y ∷ z ∷ ws) a b long first second = absurd (omega (arith, long))
+
+-- the second one is a number
+pub is_trial : (ws : List (List ℕ)) (b : List ℕ) (n : ℕ) → length ws ≡ 2 → slice_get ws 0 ≡ Some (codes "trial") → slice_get ws 1 ≡ Some b → b ≡ decimal_of n → ws ≡ trial_words n
+is_trial ws b n long first second is = two_words ws (codes "trial") b long first second ∙ ap (λ (w : List ℕ). codes "trial" ∷ w ∷ []) is
+
+-- it is none
+module _ (ws : List (List ℕ)) (b : List ℕ) (long : length ws ≡ 2) (first : slice_get ws 0 ≡ Some (codes "trial")) (second : slice_get ws 1 ≡ Some b) (none : IsNoNumber b) where
+  -- the words of another form have another first word
+  other_word : (w : List ℕ) (form : List (List ℕ)) → slice_get form 0 ≡ Some w → (codes "trial" ≡ w → ⊥) → ws ≡ form → ⊥
+  other_word w form named differ is = differ (word_is ws form 0 (codes "trial") w first is named)
+
+  pub no_trial : IsNoCommand ws
+  no_trial = record {
+    obey = λ problem exec is. other_length ws 2 3 long (obey_three ws problem exec is) (λ e. omega (arith, e));
+    solve = λ problem is. other_word (codes "solve") (solve_words problem) refl (λ e. let same : 116 ≡ 115 = ap (λ (w : List ℕ). slice_index_or w 0 0) e in omega (arith, same)) is;
+    ends = λ problem p q is. other_length ws 2 4 long (ends_four ws problem p q is) (λ e. omega (arith, e));
+    verify = λ problem cert is. other_length ws 2 3 long (verify_three ws problem cert is) (λ e. omega (arith, e));
+    session = λ decl is. other_word (codes "session") (session_words decl) refl (λ e. let size : 5 ≡ 7 = ap length e in omega (arith, size)) is;
+    trial = λ n below is. none n below (word_is ws (trial_words n) 1 b (decimal_of n) second is refl);
+    widen = λ problem is. other_word (codes "widen") (widen_words problem) refl (λ e. let same : 116 ≡ 119 = ap (λ (w : List ℕ). slice_index_or w 0 0) e in omega (arith, same)) is;
+    judge = λ problem widening is. other_length ws 2 3 long (judge_three ws problem widening is) (λ e. omega (arith, e));
+  }

@@ -2,6 +2,7 @@ pub mod Run
 pub mod Printing
 pub mod Refusal
 pub mod Texts
+pub mod Trials
 pub mod Unread
 pub mod Obey
 pub mod Solve

@@ -1,7 +1,8 @@
 -- The words of a run and the statuses that it ends with.
-use Rattle.std.specs.Prelude.{◌≡◌, ◌∷◌, [], ℕ, List, codes}
+use Rattle.std.specs.Prelude.{◌≡◌, ◌<◌, ◌^◌, ◌∷◌, [], ℕ, List, codes}
+use Rattle.atto.specs.Decimal.{decimal_of}
 use Rattle.commands.specs.declared.form.Form.{Form}
-use Rattle.commands.specs.declared.form.Form.TheVariants.{Obey, Solve, Ends, Verify, Session, Widen, Judge, Unknown}
+use Rattle.commands.specs.declared.form.Form.TheVariants.{Obey, Solve, Ends, Verify, Session, Trial, Widen, Judge, Unknown}
 use Rattle.commands.specs.declared.status.Status.{Status}
 use Rattle.commands.specs.declared.status.Status.TheVariants.{Done, No, Usage, BadDecl, BadProblem, BadExec, BadCert, ReadFault, WriteFault, Memory, ScriptLimit, UnknownEvent}
 
@@ -36,6 +37,13 @@ verify_words problem cert = codes "verify" ∷ problem ∷ cert ∷ []
 abbrev pub session_words : List ℕ → List (List ℕ)
 session_words decl = codes "session" ∷ decl ∷ []
 
+abbrev pub trial_words : ℕ → List (List ℕ)
+trial_words n = codes "trial" ∷ decimal_of n ∷ []
+
+-- the text is the decimal of no number that a trial may have
+abbrev pub IsNoNumber : List ℕ → Type 0
+IsNoNumber text = (n : ℕ) → n < 2 ^ 32 → text ≡ decimal_of n → ⊥
+
 abbrev pub widen_words : List ℕ → List (List ℕ)
 widen_words problem = codes "widen" ∷ problem ∷ []
 
@@ -53,6 +61,7 @@ pub record IsNoCommand (ws : List (List ℕ)) : Type 0 where
   pub ends : (problem first second : List ℕ) → ws ≡ ends_words problem first second → ⊥
   pub verify : (problem cert : List ℕ) → ws ≡ verify_words problem cert → ⊥
   pub session : IsNoSession ws
+  pub trial : (n : ℕ) → n < 2 ^ 32 → ws ≡ trial_words n → ⊥
   pub widen : (problem : List ℕ) → ws ≡ widen_words problem → ⊥
   pub judge : (problem widening : List ℕ) → ws ≡ judge_words problem widening → ⊥
 
@@ -63,6 +72,7 @@ IsForm ws Solve = (problem : List ℕ) × (ws ≡ solve_words problem)
 IsForm ws Ends = (problem : List ℕ) × (first : List ℕ) × (second : List ℕ) × (ws ≡ ends_words problem first second)
 IsForm ws Verify = (problem : List ℕ) × (cert : List ℕ) × (ws ≡ verify_words problem cert)
 IsForm ws Session = (decl : List ℕ) × (ws ≡ session_words decl)
+IsForm ws (Trial n) = (n < 2 ^ 32) × (ws ≡ trial_words n)
 IsForm ws Widen = (problem : List ℕ) × (ws ≡ widen_words problem)
 IsForm ws Judge = (problem : List ℕ) × (widening : List ℕ) × (ws ≡ judge_words problem widening)
 IsForm ws Unknown = IsNoCommand ws

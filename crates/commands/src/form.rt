@@ -1,6 +1,9 @@
 // Which command the words are.
-ghost use Rattle.commands.specs.Run.{IsForm};
+ghost use Rattle.std.specs.Prelude.{◌≡◌, Some, IfSome, IfNone, codes, length, slice_get};
+ghost use Rattle.atto.specs.Decimal.{decimal_of};
+ghost use Rattle.commands.specs.Run.{IsForm, IsNoNumber};
 
+use atto::read_decimal;
 use ports::Words;
 
 /// The form of the words of a command line.
@@ -16,12 +19,37 @@ pub enum Form {
     Verify,
     /// `session DECL`.
     Session,
+    /// `trial N`, with the number.
+    Trial(u32),
     /// `widen PROBLEM`.
     Widen,
     /// `judge PROBLEM WIDENING`.
     Judge,
     /// None of the forms.
     Unknown,
+}
+
+// The number of a trial in its decimal, which is below 2^32.
+fn number_of(text: &str) -> Option<u32>
+    ensures some { IfSome result (λ n. text.now ≡ decimal_of n) }
+    ensures none { IfNone result (IsNoNumber text.now) }
+{
+    match read_decimal(text.as_bytes()) {
+        Ok(n) => { if n < 1 << 32 { Some(n as u32) } else { None } }
+        Err(_) => None,
+    }
+}
+
+// The form of two words, the first of which is `trial`.
+fn trial_form(words: &Words) -> Form
+    requires two { length words.now ≡ 2 }
+    requires named { slice_get words.now 0 ≡ Some (codes "trial") }
+    ensures { IsForm words.now result }
+{
+    match number_of(words.word(1)) {
+        Some(number) => Form::Trial(number),
+        None => Form::Unknown,
+    }
 }
 
 /// The form of these words.
@@ -49,6 +77,9 @@ pub fn form_of(words: &Words) -> Form
     }
     if count == 3 && words.word(0) == "judge" {
         return Form::Judge;
+    }
+    if count == 2 && words.word(0) == "trial" {
+        return trial_form(words);
     }
     Form::Unknown
 }

@@ -15,6 +15,7 @@ mod sessions;
 mod solve;
 mod status;
 mod texts;
+mod trials;
 mod verify;
 mod widening;
 

@@ -11,6 +11,7 @@ ghost use Rattle.commands.specs.Refusal.{refusal_line};
 ghost use Rattle.queries.specs.Words.{end_word, order_word};
 ghost use Rattle.commands.specs.Intervals.{interval_line};
 ghost use Rattle.commands.specs.Sessions.{section_word, declaration_line};
+ghost use Rattle.commands.specs.Trials.{counts_line};
 ghost use Rattle.commands.specs.Verify.{part_word, broken_words, reason_words, no_line, NamesReason};
 
 use crate::refusal::Refusal;
@@ -217,6 +218,20 @@ pub fn declaration_line(number: u32, section: Section, index: u32) -> Line
     push_decimal(&mut line, u64::from(number));
     push_word(&mut line, section_word(section));
     push_decimal(&mut line, u64::from(index));
+    line.push(b'\n');
+    line
+}
+
+/// The line that counts the events and the messages of the trial with this number.
+pub fn counts_line(number: u32, events: u64, messages: u64) -> Line
+    ensures { result.items ≡ counts_line number events messages }
+{
+    let mut line = first_word(b"trial");
+    push_decimal(&mut line, u64::from(number));
+    push_word(&mut line, b"events");
+    push_decimal(&mut line, events);
+    push_word(&mut line, b"messages");
+    push_decimal(&mut line, messages);
     line.push(b'\n');
     line
 }

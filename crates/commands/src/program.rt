@@ -1,14 +1,15 @@
 // The program's one call.
-ghost use Rattle.std.specs.Prelude.{◌≡◌, ◌<◌, ℕ, List};
+ghost use Rattle.std.specs.Prelude.{◌≡◌, ◌<◌, ◌^◌, ℕ, List};
 ghost use Rattle.ports.specs.Files.{Keeps};
 ghost use Rattle.script.specs.Script.{devices};
-ghost use Rattle.commands.specs.Run.{IsNoCommand, IsNoSession, obey_words, solve_words, ends_words, verify_words, session_words, widen_words, judge_words, usage_line};
+ghost use Rattle.commands.specs.Run.{IsNoCommand, IsNoSession, obey_words, solve_words, ends_words, verify_words, session_words, trial_words, widen_words, judge_words, usage_line};
 ghost use Rattle.commands.specs.Printing.{Prints, Closes};
 ghost use Rattle.commands.specs.Obey.{Obeyed};
 ghost use Rattle.commands.specs.Solve.{Solved};
 ghost use Rattle.commands.specs.Intervals.{IntervalAnswered};
 ghost use Rattle.commands.specs.Verify.{Verified};
 ghost use Rattle.commands.specs.Sessions.{Conducted};
+ghost use Rattle.commands.specs.Trials.{Tried};
 ghost use Rattle.commands.specs.Widening.{WideningFound, WideningJudged};
 ghost use Rattle.commands.specs.declared.status.Status.TheVariants.{Usage};
 
@@ -20,6 +21,7 @@ use crate::obey::obey;
 use crate::sessions::session;
 use crate::solve::solve;
 use crate::status::Status;
+use crate::trials::trial;
 use crate::verify::verify;
 use crate::widening::widen;
 use atto::Steps;
@@ -48,11 +50,13 @@ fn run_counted<F: Files, I: Source, O: Sink, L: Ledger>(
     ensures verify { (problem cert : List ℕ) → words.now ≡ verify_words problem cert → Prints (Verified problem cert (F.told files.old) (F.told files.new)) (O.told out.old) (O.told out.new) result }
     ensures session { (decl : List ℕ) → words.now ≡ session_words decl
         → Conducted decl (devices (F.told files.old) (I.told input.old) (O.told out.old)) (devices (F.told files.new) (I.told input.new) (O.told out.new)) result }
+    ensures trial { (n : ℕ) → n < 2 ^ 32 → words.now ≡ trial_words n → Prints (Tried n) (O.told out.old) (O.told out.new) result }
     ensures widen { (problem : List ℕ) → words.now ≡ widen_words problem → Prints (WideningFound problem (F.told files.old) (F.told files.new)) (O.told out.old) (O.told out.new) result }
     ensures judge { (problem widening : List ℕ) → words.now ≡ judge_words problem widening → Prints (WideningJudged problem widening (F.told files.old) (F.told files.new)) (O.told out.old) (O.told out.new) result }
     ensures usage { IsNoCommand words.now → Closes usage_line Usage (O.told out.old) (O.told out.new) result }
     ensures files { Keeps (F.told files.old) (F.told files.new) }
     ensures unread { IsNoCommand words.now → F.told files.new ≡ F.told files.old }
+    ensures trial_unread { (n : ℕ) → n < 2 ^ 32 → words.now ≡ trial_words n → F.told files.new ≡ F.told files.old }
     ensures input { IsNoSession words.now → I.told input.new ≡ I.told input.old }
 {
     let mut steps = Steps::<L>::open(blank);
@@ -70,6 +74,7 @@ fn run_counted<F: Files, I: Source, O: Sink, L: Ledger>(
         ),
         Form::Verify => verify(alloc, files, words.word(1), words.word(2), out),
         Form::Session => session(alloc, files, words.word(1), input, out, &mut steps),
+        Form::Trial(number) => trial(alloc, number, out, &mut steps),
         Form::Widen => widen(alloc, files, words.word(1), out, &mut steps),
         Form::Judge => judge(alloc, files, words.word(1), words.word(2), out),
         Form::Unknown => finish(USAGE, Status::Usage, out),
@@ -83,13 +88,15 @@ fn run_counted<F: Files, I: Source, O: Sink, L: Ledger>(
 /// PROBLEM P Q` prints the least and the greatest difference of the real times of two events over all executions, and
 /// their order, or a contradiction; `verify PROBLEM CERT` says whether a certificate of the problem shows what it should, or
 /// the first reason why not; `session DECL` answers the lines of the input, one after another, in a session over the
-/// declaration; `widen PROBLEM` prints the least widening of the problem, with what shows it from both sides, or that there is
-/// none; `judge PROBLEM WIDENING` says whether such a text shows what it should, or the first reason why not. `Usage` comes where the words are of no form, `BadDecl`, `BadProblem`, `BadExec` and `BadCert` where a text
+/// declaration; `trial N` makes a workload by its number, and prints how many events and messages a session over it has at its
+/// end, and its replies to the last questions for intervals; `widen PROBLEM` prints the least widening of the problem, with what
+/// shows it from both sides, or that there is none; `judge PROBLEM WIDENING` says whether such a text shows what it should, or
+/// the first reason why not. `Usage` comes where the words are of no form, `BadDecl`, `BadProblem`, `BadExec` and `BadCert` where a text
 /// is refused, `UnknownEvent` where the problem has no event of a name, `ReadFault` where a named file is not there or a read
 /// failed, `ScriptLimit` where the input of a session is too long, `WriteFault` where a write failed, `Memory` where memory
 /// ran out, and else `Done` or `No` with the answer. Beside `WriteFault` a front of what was to be printed stands written;
-/// beside `Memory` nothing is promised of it. No other command reads the input, and where the words are of no form no file is
-/// read.
+/// beside `Memory` nothing is promised of it. No command but `session` reads the input, and `trial` reads no file, nor is one
+/// read where the words are of no form.
 pub fn run<F: Files, I: Source, O: Sink>(
     alloc: Global,
     words: &Words,
@@ -104,11 +111,13 @@ pub fn run<F: Files, I: Source, O: Sink>(
     ensures verify { (problem cert : List ℕ) → words.now ≡ verify_words problem cert → Prints (Verified problem cert (F.told files.old) (F.told files.new)) (O.told out.old) (O.told out.new) result }
     ensures session { (decl : List ℕ) → words.now ≡ session_words decl
         → Conducted decl (devices (F.told files.old) (I.told input.old) (O.told out.old)) (devices (F.told files.new) (I.told input.new) (O.told out.new)) result }
+    ensures trial { (n : ℕ) → n < 2 ^ 32 → words.now ≡ trial_words n → Prints (Tried n) (O.told out.old) (O.told out.new) result }
     ensures widen { (problem : List ℕ) → words.now ≡ widen_words problem → Prints (WideningFound problem (F.told files.old) (F.told files.new)) (O.told out.old) (O.told out.new) result }
     ensures judge { (problem widening : List ℕ) → words.now ≡ judge_words problem widening → Prints (WideningJudged problem widening (F.told files.old) (F.told files.new)) (O.told out.old) (O.told out.new) result }
     ensures usage { IsNoCommand words.now → Closes usage_line Usage (O.told out.old) (O.told out.new) result }
     ensures files { Keeps (F.told files.old) (F.told files.new) }
     ensures unread { IsNoCommand words.now → F.told files.new ≡ F.told files.old }
+    ensures trial_unread { (n : ℕ) → n < 2 ^ 32 → words.now ≡ trial_words n → F.told files.new ≡ F.told files.old }
     ensures input { IsNoSession words.now → I.told input.new ≡ I.told input.old }
 {
     run_counted::<F, I, O, Brand>(alloc, words, files, input, out, Blank::new(1))

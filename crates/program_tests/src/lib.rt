@@ -1,7 +1,8 @@
 //! Tests of the commands of the program, each a run over files, input and output in memory.
 //!
 //! `problem_commands` has the commands over a problem, `sessions` those over a declaration, `long_sessions` one over a log of
-//! thousands of rows, `verifying` those over a certificate, with its table `verify_cases`, `widenings` those over a widening; `running` is how they are run,
+//! thousands of rows, `verifying` those over a certificate, with its table `verify_cases`, `trials` the trials, `widenings` those
+//! over a widening; `running` is how they are run,
 //! and `fixtures` has what several of them use.
 #![tactic(auto)]
 
@@ -15,6 +16,8 @@ mod problem_commands;
 mod running;
 #[cfg(test)]
 mod sessions;
+#[cfg(test)]
+mod trials;
 #[cfg(test)]
 mod verify_cases;
 #[cfg(test)]

@@ -1,6 +1,7 @@
 pub mod Asking
 pub mod OneCommand
 pub mod Holding
+mod Counting
 pub mod Placing
 pub mod Slotting
 pub mod Beginning

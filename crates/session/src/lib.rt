@@ -15,6 +15,7 @@ mod addition;
 mod answering;
 mod answers;
 mod command;
+mod counts;
 mod events;
 mod keeping;
 mod labels;

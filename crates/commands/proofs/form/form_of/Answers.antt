@@ -1,4 +1,4 @@
-use Rattle.std.proofs.Common.{◌≡◌, length, rules, sym, ◌∙◌, codes}
+use Rattle.std.proofs.Common.{◌≡◌, Some, length, rules, sym, ◌∙◌, ap, codes}
 use Rattle.commands.proofs.Forms.{is_obey, is_solve, is_ends, is_verify, is_session, is_widen, is_judge}
 use Rattle.commands.proofs.form.form_of.Goals as goal
 
@@ -43,3 +43,11 @@ returns-then-eq-7 c =
     let same : c.word-then-count-eq3-3.result.now ≡ codes "judge" = search rules in
     let long : length c.args.words.now ≡ 3 = sym c.len-count.ensures ∙ c.if-count-eq3-3.true in
     is_judge c.args.words.now c.word-then-count-eq3-3.result.now long c.word-then-count-eq3-3.ensures same
+
+pub trial_form-requires-clause-two : goal.trial_form-requires-clause-two
+trial_form-requires-clause-two c = sym c.len-count.ensures ∙ c.if-count-eq2-4.true
+
+pub trial_form-requires-clause-named : goal.trial_form-requires-clause-named
+trial_form-requires-clause-named c =
+    let same : c.word-then-count-eq2-4.result.now ≡ codes "trial" = search rules in
+    c.word-then-count-eq2-4.ensures ∙ ap Some same

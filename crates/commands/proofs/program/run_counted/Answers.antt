@@ -1,6 +1,6 @@
 use Rattle.std.proofs.Common.{arith, refl}
 use Rattle.script.specs.Script.{devices}
-use Rattle.commands.proofs.Forms.{obey_by, solve_by, ends_by, verify_by, session_by, widen_by, judge_by, other_length, obey_or_verify, solve_or_session, solve_or_widen, session_or_widen, obey_or_judge, verify_or_judge, obey_three, solve_two, ends_four, verify_three, session_two, widen_two, judge_three}
+use Rattle.commands.proofs.Forms.{obey_by, solve_by, ends_by, verify_by, session_by, trial_by, widen_by, judge_by, other_length, obey_or_verify, solve_or_session, solve_or_trial, session_or_trial, solve_or_widen, session_or_widen, trial_or_widen, obey_or_judge, verify_or_judge, obey_three, solve_two, ends_four, verify_three, session_two, trial_two, widen_two, judge_three}
 use Rattle.commands.proofs.program.run_counted.Goals as goal
 
 pub returns-in-Obey-clause-obey : goal.returns-in-Obey-clause-obey
@@ -254,3 +254,87 @@ pub returns-in-Judge-clause-judge : goal.returns-in-Judge-clause-judge
 returns-in-Judge-clause-judge g c = λ problem widening is. judge_by c.args.words.now _ _ problem widening
     (g.F.Files.told c.args.files.now) (g.F.Files.told c.judge.new.files) (g.O.Sink.told c.args.out.now) (g.O.Sink.told c.judge.new.out)
     _ c.word-in-Judge.ensures c.word-in-Judge-2.ensures is c.judge.ensures.judged
+
+pub returns-in-Obey-clause-trial : goal.returns-in-Obey-clause-trial
+returns-in-Obey-clause-trial g c = λ n below is. absurd (other_length c.args.words.now 3 2 (obey_three c.args.words.now _ _ c.in-Obey.ensures.2) (trial_two c.args.words.now n is) (λ e. omega (arith, e)))
+
+pub returns-in-Ends-clause-trial : goal.returns-in-Ends-clause-trial
+returns-in-Ends-clause-trial g c = λ n below is. absurd (other_length c.args.words.now 4 2 (ends_four c.args.words.now _ _ _ c.in-Ends.ensures.3) (trial_two c.args.words.now n is) (λ e. omega (arith, e)))
+
+pub returns-in-Verify-clause-trial : goal.returns-in-Verify-clause-trial
+returns-in-Verify-clause-trial g c = λ n below is. absurd (other_length c.args.words.now 3 2 (verify_three c.args.words.now _ _ c.in-Verify.ensures.2) (trial_two c.args.words.now n is) (λ e. omega (arith, e)))
+
+pub returns-in-Solve-clause-trial : goal.returns-in-Solve-clause-trial
+returns-in-Solve-clause-trial g c = λ n below is. absurd (solve_or_trial c.args.words.now _ n c.in-Solve.ensures.1 is)
+
+pub returns-in-Session-clause-trial : goal.returns-in-Session-clause-trial
+returns-in-Session-clause-trial g c = λ n below is. absurd (session_or_trial c.args.words.now _ n c.in-Session.ensures.1 is)
+
+pub returns-clause-trial : goal.returns-clause-trial
+returns-clause-trial g c = λ n below is. absurd (c.in-Unknown.ensures.trial n below is)
+
+pub returns-in-Obey-clause-trial_unread : goal.returns-in-Obey-clause-trial_unread
+returns-in-Obey-clause-trial_unread g c = λ n below is. absurd (other_length c.args.words.now 3 2 (obey_three c.args.words.now _ _ c.in-Obey.ensures.2) (trial_two c.args.words.now n is) (λ e. omega (arith, e)))
+
+pub returns-in-Ends-clause-trial_unread : goal.returns-in-Ends-clause-trial_unread
+returns-in-Ends-clause-trial_unread g c = λ n below is. absurd (other_length c.args.words.now 4 2 (ends_four c.args.words.now _ _ _ c.in-Ends.ensures.3) (trial_two c.args.words.now n is) (λ e. omega (arith, e)))
+
+pub returns-in-Verify-clause-trial_unread : goal.returns-in-Verify-clause-trial_unread
+returns-in-Verify-clause-trial_unread g c = λ n below is. absurd (other_length c.args.words.now 3 2 (verify_three c.args.words.now _ _ c.in-Verify.ensures.2) (trial_two c.args.words.now n is) (λ e. omega (arith, e)))
+
+pub returns-in-Solve-clause-trial_unread : goal.returns-in-Solve-clause-trial_unread
+returns-in-Solve-clause-trial_unread g c = λ n below is. absurd (solve_or_trial c.args.words.now _ n c.in-Solve.ensures.1 is)
+
+pub returns-in-Session-clause-trial_unread : goal.returns-in-Session-clause-trial_unread
+returns-in-Session-clause-trial_unread g c = λ n below is. absurd (session_or_trial c.args.words.now _ n c.in-Session.ensures.1 is)
+
+pub returns-clause-trial_unread : goal.returns-clause-trial_unread
+returns-clause-trial_unread g c = λ n below is. absurd (c.in-Unknown.ensures.trial n below is)
+
+pub returns-in-Trial-clause-obey : goal.returns-in-Trial-clause-obey
+returns-in-Trial-clause-obey g c = λ problem exec is. absurd (other_length c.args.words.now 2 3 (trial_two c.args.words.now c.in-Trial.number c.in-Trial.ensures.1) (obey_three c.args.words.now problem exec is) (λ e. omega (arith, e)))
+
+pub returns-in-Trial-clause-solve : goal.returns-in-Trial-clause-solve
+returns-in-Trial-clause-solve g c = λ problem is. absurd (solve_or_trial c.args.words.now problem c.in-Trial.number is c.in-Trial.ensures.1)
+
+pub returns-in-Trial-clause-ends : goal.returns-in-Trial-clause-ends
+returns-in-Trial-clause-ends g c = λ problem first second is. absurd (other_length c.args.words.now 2 4 (trial_two c.args.words.now c.in-Trial.number c.in-Trial.ensures.1) (ends_four c.args.words.now problem first second is) (λ e. omega (arith, e)))
+
+pub returns-in-Trial-clause-verify : goal.returns-in-Trial-clause-verify
+returns-in-Trial-clause-verify g c = λ problem cert is. absurd (other_length c.args.words.now 2 3 (trial_two c.args.words.now c.in-Trial.number c.in-Trial.ensures.1) (verify_three c.args.words.now problem cert is) (λ e. omega (arith, e)))
+
+pub returns-in-Trial-clause-session : goal.returns-in-Trial-clause-session
+returns-in-Trial-clause-session g c = λ decl is. absurd (session_or_trial c.args.words.now decl c.in-Trial.number is c.in-Trial.ensures.1)
+
+pub returns-in-Trial-clause-trial : goal.returns-in-Trial-clause-trial
+returns-in-Trial-clause-trial g c = λ n below is. trial_by c.args.words.now c.in-Trial.number n (g.O.Sink.told c.args.out.now) (g.O.Sink.told c.trial.new.out) _ c.in-Trial.ensures.1 is c.trial.ensures
+
+pub returns-in-Trial-clause-usage : goal.returns-in-Trial-clause-usage
+returns-in-Trial-clause-usage g c = λ none. absurd (none.trial c.in-Trial.number c.in-Trial.ensures.0 c.in-Trial.ensures.1)
+
+pub returns-in-Trial-clause-unread : goal.returns-in-Trial-clause-unread
+returns-in-Trial-clause-unread g c = λ none. refl
+
+pub returns-in-Trial-clause-trial_unread : goal.returns-in-Trial-clause-trial_unread
+returns-in-Trial-clause-trial_unread g c = λ n below is. refl
+
+pub returns-in-Trial-clause-input : goal.returns-in-Trial-clause-input
+returns-in-Trial-clause-input g c = λ none. refl
+
+pub returns-in-Widen-clause-trial : goal.returns-in-Widen-clause-trial
+returns-in-Widen-clause-trial g c = λ n below is. absurd (trial_or_widen c.args.words.now n _ is c.in-Widen.ensures.1)
+
+pub returns-in-Judge-clause-trial : goal.returns-in-Judge-clause-trial
+returns-in-Judge-clause-trial g c = λ n below is. absurd (other_length c.args.words.now 3 2 (judge_three c.args.words.now _ _ c.in-Judge.ensures.2) (trial_two c.args.words.now n is) (λ e. omega (arith, e)))
+
+pub returns-in-Widen-clause-trial_unread : goal.returns-in-Widen-clause-trial_unread
+returns-in-Widen-clause-trial_unread g c = λ n below is. absurd (trial_or_widen c.args.words.now n _ is c.in-Widen.ensures.1)
+
+pub returns-in-Judge-clause-trial_unread : goal.returns-in-Judge-clause-trial_unread
+returns-in-Judge-clause-trial_unread g c = λ n below is. absurd (other_length c.args.words.now 3 2 (judge_three c.args.words.now _ _ c.in-Judge.ensures.2) (trial_two c.args.words.now n is) (λ e. omega (arith, e)))
+
+pub returns-in-Trial-clause-widen : goal.returns-in-Trial-clause-widen
+returns-in-Trial-clause-widen g c = λ problem is. absurd (trial_or_widen c.args.words.now c.in-Trial.number problem c.in-Trial.ensures.1 is)
+
+pub returns-in-Trial-clause-judge : goal.returns-in-Trial-clause-judge
+returns-in-Trial-clause-judge g c = λ problem widening is. absurd (other_length c.args.words.now 2 3 (trial_two c.args.words.now c.in-Trial.number c.in-Trial.ensures.1) (judge_three c.args.words.now problem widening is) (λ e. omega (arith, e)))

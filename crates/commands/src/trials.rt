@@ -1,0 +1,52 @@
+// A session over a workload that the program makes.
+ghost use Rattle.std.specs.Prelude.{◌++◌};
+ghost use Rattle.ports.specs.Content.{Writes};
+ghost use Rattle.trial_session.specs.Trial.{IsTrial};
+ghost use Rattle.commands.specs.Printing.{Prints};
+ghost use Rattle.commands.specs.Trials.{counts_line, Tried};
+
+use crate::print::counts_line;
+use crate::status::Status;
+use atto::Steps;
+use ports::{Failed, Sink, write_whole};
+use std::alloc::Global;
+use std::sync::ledger::Ledger;
+use trial_session::{Outcome, conduct};
+
+// Writes the counts of a trial, and behind them its replies.
+fn write_outcome<O: Sink>(number: u32, outcome: &Outcome, out: &mut O) -> Result<(), Failed>
+    ensures { Writes (counts_line number outcome.now.events outcome.now.messages ++ outcome.now.replies.held) (O.told out.old) (O.told out.new) result }
+{
+    write_whole(
+        out,
+        counts_line(number, outcome.events, outcome.messages).as_slice(),
+    )?;
+    write_whole(out, outcome.replies.bytes())
+}
+
+// Prints what a trial came to, and answers the status.
+fn tell<O: Sink>(number: u32, outcome: &Outcome, out: &mut O) -> Status
+    requires { IsTrial number outcome.now.events outcome.now.messages outcome.now.replies.held }
+    ensures { Prints (Tried number) (O.told out.old) (O.told out.new) result }
+{
+    match write_outcome(number, outcome, out) {
+        Ok(()) => Status::Done,
+        Err(Failed) => Status::WriteFault,
+    }
+}
+
+/// Goes over the workload of the trial with this number, and prints how many events and messages its session then has, and
+/// its replies to the last questions for intervals.
+pub fn trial<O: Sink, L: Ledger>(
+    alloc: Global,
+    number: u32,
+    out: &mut O,
+    steps: &mut Steps<L>,
+) -> Status
+    ensures { Prints (Tried number) (O.told out.old) (O.told out.new) result }
+{
+    match conduct(alloc, number, steps) {
+        Ok(outcome) => tell(number, &outcome, out),
+        Err(_) => Status::Memory,
+    }
+}
