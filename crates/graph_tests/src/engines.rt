@@ -5,6 +5,7 @@ ghost use Rattle.sync_graph.specs.Graph.{no_graph};
 ghost use Rattle.row_pool.specs.Pool.{free_rows};
 ghost use Rattle.engine.specs.Current.{IsCurrent};
 
+use crate::fixtures::is_solved;
 use atto::Steps;
 use engine::Solver;
 use problem_model::{Bound, Node};
@@ -136,13 +137,6 @@ fn take_out<L: Ledger>(
     }
     s.withdraw(&[number], steps)?;
     Ok(true)
-}
-
-fn is_solved(s: &Solver) -> bool
-    requires { IsCurrent s.now }
-    ensures { result ≡ true → s.now.contradiction ≡ [] }
-{
-    s.contradiction().is_empty()
 }
 
 // Whether this is told of events 0 and q.

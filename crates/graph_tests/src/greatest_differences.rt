@@ -1,5 +1,5 @@
 // Greatest differences of problems that are read.
-ghost use Rattle.std.specs.Prelude.{◌≡◌, ◌<◌, ◌≤◌, [], length};
+ghost use Rattle.std.specs.Prelude.{◌≡◌, ◌<◌, ◌≤◌, [], true, length};
 ghost use Rattle.row_pool.specs.Pool.{free_rows};
 ghost use Rattle.engine.specs.Changes.{KeepsAnswer};
 ghost use Rattle.engine.specs.Current.{IsCurrent};
@@ -170,38 +170,42 @@ fn tells<L: Ledger>(s: &mut Solver, case: &Case, reading: u32, blank: Blank) -> 
     events && read && rows
 }
 
-// Whether there is an execution, and the greatest differences are so, by the event whose reading is asked for.
-fn holds(s: &mut Solver, case: &Case, event: &Event) -> Option<bool>
+// Whether there is a node of this number.
+fn has_node(s: &Solver, node: u32) -> bool
+    ensures { result ≡ true → node < length s.now.graph.nodes }
+{
+    node < s.graph().nodes()
+}
+
+// Whether there is an execution, and the greatest differences are so, by the number of the first event's reading.
+fn holds(s: &mut Solver, case: &Case, reading: u32) -> bool
     requires current { IsCurrent s.old }
     requires free { 2 ≤ free_rows s.old.pool }
-    requires first { case.now.first < length s.old.graph.nodes }
-    requires second { case.now.second < length s.old.graph.nodes }
 {
-    let reading = s.graph().node_of(Node::Reading(event.clock, event.stamp))?;
     if !is_solved(s) {
-        return Some(false);
+        return false;
     }
-    Some(tells::<Brand>(s, case, reading, Blank::new(1)))
+    if !has_node(s, case.first) || !has_node(s, case.second) || !has_node(s, reading) {
+        return false;
+    }
+    tells::<Brand>(s, case, reading, Blank::new(1))
+}
+
+// The number of an event's reading.
+fn reading_of(s: &Solver, event: &Event) -> Option<u32> {
+    s.graph().node_of(Node::Reading(event.clock, event.stamp))
 }
 
 // Whether the problem has an execution, and the greatest differences are so.
-fn solves(alloc: Global, p: &Problem, case: &Case) -> Option<bool>
-    requires first { case.now.first < length p.now.events }
-    requires second { case.now.second < length p.now.events }
-{
-    let _ = p.readings();
-    let event = &p.events()[case.first as usize];
+fn solves(alloc: Global, p: &Problem, case: &Case) -> Option<bool> {
     let mut s = solve_alone(alloc, p).ok()?;
-    holds(&mut s, case, event)
+    let reading = reading_of(&s, p.events().get(case.first as usize)?)?;
+    Some(holds(&mut s, case, reading))
 }
 
 // The same of a case by its text.
 fn is_so(alloc: Global, case: &Case) -> Option<bool> {
     let p = read_problem(alloc, case.problem.as_bytes()).ok()?;
-    let events = p.events().len() as u32;
-    if case.first >= events || case.second >= events {
-        return Some(false);
-    }
     solves(alloc, &p, case)
 }
 

@@ -1,5 +1,6 @@
 // Certificates of intervals, each as a whole text.
 ghost use Rattle.std.specs.Prelude.{◌≡◌, ◌<◌, ◌≤◌, [], length};
+ghost use Rattle.attain.specs.Ends.{AreRowsOf};
 ghost use Rattle.row_pool.specs.Pool.{free_rows};
 ghost use Rattle.solver.specs.Solution.{IsSolution};
 
@@ -9,6 +10,8 @@ use atto::Steps;
 use engine::Solver;
 use ports::MemSink;
 use problem::{Problem, read_problem};
+use row_pool::Cell;
+use solver::executions;
 use std::alloc::Global;
 use std::marker::Brand;
 use std::sync::ledger::{Blank, Ledger};
@@ -96,6 +99,29 @@ const CASES: [Case; 6] = [
     },
 ];
 
+// Writes the certificate of a case by the rows of the first event.
+fn write_by(p: &Problem, s: &Solver, from: &[Cell], to: &[Cell], case: &Case, out: &mut MemSink)
+    requires solution { IsSolution p.now s.now }
+    requires solved { s.now.contradiction ≡ [] }
+    requires rows { AreRowsOf s.now.graph case.now.first from.now to.now }
+    requires first { case.now.first < length p.now.events }
+    requires second { case.now.second < length p.now.events }
+{
+    let _ = p.events();
+    let _ = p.readings();
+    executions();
+    let _failed = write_ends(
+        p,
+        s.graph(),
+        s.earliest(),
+        from,
+        to,
+        case.first,
+        case.second,
+        out,
+    );
+}
+
 // Writes the certificate of a case, by rows that are lent for it, with their steps counted by this ledger.
 fn certify<L: Ledger>(p: &Problem, s: &mut Solver, case: &Case, out: &mut MemSink, blank: Blank)
     requires blank { (blank.name ≡ L.name) × (blank.parts ≡ L.parts) × (0 < L.parts) }
@@ -109,18 +135,8 @@ fn certify<L: Ledger>(p: &Problem, s: &mut Solver, case: &Case, out: &mut MemSin
     let _ = p.readings();
     let mut steps = Steps::<L>::open(blank);
     let lent = s.lend(case.first, &mut steps);
-    let _ = s.contradiction();
     let (from, to) = s.lent(&lent);
-    let _failed = write_ends(
-        p,
-        s.graph(),
-        s.earliest(),
-        from,
-        to,
-        case.first,
-        case.second,
-        out,
-    );
+    write_by(p, s, from, to, case, out);
     s.give_back(lent);
 }
 
@@ -137,16 +153,26 @@ fn writes(alloc: Global, p: &Problem, s: &mut Solver, case: &Case) -> Option<boo
     Some(out.bytes() == case.printed.as_bytes())
 }
 
-// Whether the problem has an execution, and the certificate is written so.
+// Whether there is an execution, and the certificate is written so.
+fn holds(alloc: Global, p: &Problem, s: &mut Solver, case: &Case) -> Option<bool>
+    requires solution { IsSolution p.now s.old }
+    requires free { 2 ≤ free_rows s.old.pool }
+    requires first { case.now.first < length p.now.events }
+    requires second { case.now.second < length p.now.events }
+{
+    if !is_solved(s) {
+        return Some(false);
+    }
+    writes(alloc, p, s, case)
+}
+
+// The same of the problem.
 fn solves(alloc: Global, p: &Problem, case: &Case) -> Option<bool>
     requires first { case.now.first < length p.now.events }
     requires second { case.now.second < length p.now.events }
 {
     let mut s = solve_alone(alloc, p).ok()?;
-    if !is_solved(&s) {
-        return Some(false);
-    }
-    writes(alloc, p, &mut s, case)
+    holds(alloc, p, &mut s, case)
 }
 
 // The same of a case by its text.

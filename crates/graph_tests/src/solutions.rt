@@ -25,13 +25,17 @@ fn begins_with(s: &Solver, want: &[i128]) -> bool
     true
 }
 
+// Whether there is an execution, and its first values are these, in units.
+fn is_begun_with(s: &Solver, want: &[i128]) -> bool
+    requires { IsCurrent s.now }
+{
+    is_solved(s) && begins_with(s, want)
+}
+
 // Whether a problem has an execution, and its earliest one begins with these values, in units.
 fn values_begin(alloc: Global, p: &Problem, want: &[i128]) -> Option<bool> {
     let s = solve_alone(alloc, p).ok()?;
-    if !is_solved(&s) {
-        return Some(false);
-    }
-    Some(begins_with(&s, want))
+    Some(is_begun_with(&s, want))
 }
 
 // The same of a problem by its text.
