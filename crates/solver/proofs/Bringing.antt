@@ -85,6 +85,7 @@ adds_one p a old new declared is current keeps = record {
   added = λ readings done are has. subst (HasBounds p readings (done ++ a.name ∷ [])) (sym is) (has_one_more p readings done old.graph a (declared readings are) has);
   slots = keeps.slots;
   source = keeps.source;
+  rows = keeps.rows.count;
   free = keeps.free;
 }
 
@@ -96,6 +97,7 @@ adds_none p s current = record {
   added = λ readings done are has. subst (λ (bs : List Bound). HasBounds p readings bs s.graph) (sym (append-nil done)) has;
   slots = refl;
   source = refl;
+  rows = refl;
   free = refl;
 }
 
@@ -107,6 +109,7 @@ adds_then p first second old mid new one two = record {
   added = λ readings done are has. subst (λ (bs : List Bound). HasBounds p readings bs new.graph) (append_assoc done first second) (two.added readings (done ++ first) are (one.added readings done are has));
   slots = two.slots ∙ one.slots;
   source = two.source ∙ one.source;
+  rows = two.rows ∙ one.rows;
   free = two.free ∙ one.free;
 }
 
@@ -157,6 +160,13 @@ all_free pool new rows nodes none is =
     ∙ subst (λ (rs : List PoolRow). free_rows (grown (record { width = pool.width; rows = rs }) rows nodes) ≡ rows) (sym none)
     (let all : rows - 0 ≡ rows = omega arith in
     ap (λ (n : ℕ). count_by (λ (row : PoolRow). not row.taken) (replicate n (free_row (max pool.width nodes)))) all ∙ count_free rows (max pool.width nodes))
+
+pub all_rows : (pool new : Pool) (rows nodes : ℕ) → pool.rows ≡ [] → new ≡ grown pool rows nodes → length new.rows ≡ rows
+all_rows pool new rows nodes none is =
+    ap (λ (v : Pool). length v.rows) is
+    ∙ subst (λ (rs : List PoolRow). length (grown (record { width = pool.width; rows = rs }) rows nodes).rows ≡ rows) (sym none)
+    (let all : rows - 0 ≡ rows = omega arith in
+    ap (λ (n : ℕ). length (replicate n (free_row (max pool.width nodes)))) all ∙ length-replicate rows (free_row (max pool.width nodes)))
 
 -- ---- the end
 pub is_solution : (p : ProblemLists) (readings : List Reading) (bounds : List Bound) (start s : SolverLists) → IsProblem p → AreReadings p readings → NodesCome p readings [] start

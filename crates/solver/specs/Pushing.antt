@@ -28,7 +28,7 @@ pub record NodesCome (p : ProblemLists) (readings : List Reading) (rest : List N
   pub left : NodesLeft p readings rest s.graph
   pub room : HasRoom (length (nodes_of p readings)) s
 
--- these bounds are arcs in force behind those that were there; nodes, slots and the number of free rows are as before
+-- these bounds are arcs in force behind those that were there; nodes, slots and the numbers of rows and of free ones are as before
 pub record AddsBounds (p : ProblemLists) (bounds : List Bound) (old new : SolverLists) : Type 0 where
   pub current : IsCurrent new
   pub nodes : new.graph.nodes ≡ old.graph.nodes
@@ -36,4 +36,5 @@ pub record AddsBounds (p : ProblemLists) (bounds : List Bound) (old new : Solver
   pub added : (readings : List Reading) (done : List Bound) → AreReadings p readings → HasBounds p readings done old.graph → HasBounds p readings (done ++ bounds) new.graph
   pub slots : new.kept.slots ≡ old.kept.slots
   pub source : new.kept.source ≡ old.kept.source
+  pub rows : length new.pool.rows ≡ length old.pool.rows
   pub free : free_rows new.pool ≡ free_rows old.pool

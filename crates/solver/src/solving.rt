@@ -100,6 +100,7 @@ fn start(alloc: Global, p: &Problem, rows: u32) -> Result<Solver, AllocError>
     requires rows { rows ≤ 32 }
     ensures come { IfOk result (λ s. (readings : List Reading) → AreReadings p.now readings → NodesCome p.now readings [] s) }
     ensures free { IfOk result (λ s. free_rows s.pool ≡ rows) }
+    ensures count { IfOk result (λ s. length s.pool.rows ≡ rows) }
     ensures slots { IfOk result (λ s. s.kept.slots ≡ []) }
     ensures source { IfOk result (λ s. s.kept.source ≡ None) }
 {

@@ -45,6 +45,9 @@ returns-clause-nodes g c = λ others are.
 pub returns-clause-free : goal.returns-clause-free
 returns-clause-free g c = c.in_ok-push_items.ensures.free ∙ c.in_ok-s.ensures.free
 
+pub returns-clause-count : goal.returns-clause-count
+returns-clause-count g c = c.in_ok-push_items.ensures.rows ∙ c.in_ok-s.ensures.count
+
 pub returns-clause-slots : goal.returns-clause-slots
 returns-clause-slots g c = c.in_ok-push_items.ensures.slots ∙ c.in_ok-s.ensures.slots
 

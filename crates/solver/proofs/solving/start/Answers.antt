@@ -1,7 +1,7 @@
-use Rattle.std.proofs.Common.{ap, ◌∙◌}
-use Rattle.row_pool.specs.Pool.{free_rows}
+use Rattle.std.proofs.Common.{length, ap, ◌∙◌}
+use Rattle.row_pool.specs.Pool.{Pool, free_rows}
 use Rattle.repair.specs.Slots.{KeptRows}
-use Rattle.solver.proofs.Bringing.{come_first, come_all, all_free}
+use Rattle.solver.proofs.Bringing.{come_first, come_all, all_free, all_rows}
 use Rattle.solver.proofs.solving.start.Goals as goal
 
 pub push_nodes-requires-clause-start : goal.push_nodes-requires-clause-start
@@ -16,6 +16,10 @@ returns-clause-come c = λ others are.
 
 pub returns-clause-free : goal.returns-clause-free
 returns-clause-free c = ap free_rows c.in_ok-push_nodes.ensures.pool ∙ all_free c.new-s.result.pool c.reserve.new.self.pool c.args.rows c.node_count.result c.new-s.ensures.rows c.in_ok-reserve.ensures.pool
+
+pub returns-clause-count : goal.returns-clause-count
+returns-clause-count c =
+    ap (λ (v : Pool). length v.rows) c.in_ok-push_nodes.ensures.pool ∙ all_rows c.new-s.result.pool c.reserve.new.self.pool c.args.rows c.node_count.result c.new-s.ensures.rows c.in_ok-reserve.ensures.pool
 
 pub returns-clause-slots : goal.returns-clause-slots
 returns-clause-slots c =
