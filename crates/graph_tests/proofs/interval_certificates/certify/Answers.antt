@@ -1,7 +1,5 @@
 use Rattle.std.proofs.Common.{length, ◌∙◌, subst, sym}
 use Rattle.problem.specs.Listing.{listing_of}
-use Rattle.problem_model.specs.Nodes.{Reading, AreReadings}
-use Rattle.sync_graph.specs.Graph.{GraphLists}
 use Rattle.sync_graph.specs.ListedStanding.{StandsForListed}
 use Rattle.sync_graph.proofs.OwnStanding.{own_event}
 use Rattle.attain.proofs.Events.{event_within}

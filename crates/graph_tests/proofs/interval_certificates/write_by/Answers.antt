@@ -1,4 +1,4 @@
-use Rattle.std.proofs.Common.{◌≡◌, true, false, sym, ◌∙◌, ap, subst}
+use Rattle.std.proofs.Common.{◌≡◌, true, false, sym, ◌∙◌, ap, subst, inl, inr}
 use Rattle.problem.specs.Listing.{listing_of}
 use Rattle.earliest.specs.Values.{Values}
 use Rattle.sync_graph.specs.Graph.{GraphLists}
