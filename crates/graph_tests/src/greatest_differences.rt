@@ -10,7 +10,7 @@ use engine::Solver;
 use problem::{Problem, read_problem};
 use problem_model::{Event, Node};
 use row_pool::{Cell, Pair, Reach};
-use std::alloc::Global;
+use std::alloc::{AllocError, Global};
 use std::marker::Brand;
 use std::sync::ledger::{Blank, Ledger};
 use std::test::*;
@@ -196,17 +196,25 @@ fn reading_of(s: &Solver, event: &Event) -> Option<u32> {
     s.graph().node_of(Node::Reading(event.clock, event.stamp))
 }
 
+// Whether there is an execution, and the greatest differences are so, of events of the problem.
+fn is_told(s: &mut Solver, p: &Problem, case: &Case) -> Option<bool>
+    requires current { IsCurrent s.old }
+    requires free { 2 ≤ free_rows s.old.pool }
+{
+    let reading = reading_of(s, p.events().get(case.first as usize)?)?;
+    Some(holds(s, case, reading))
+}
+
 // Whether the problem has an execution, and the greatest differences are so.
-fn solves(alloc: Global, p: &Problem, case: &Case) -> Option<bool> {
-    let mut s = solve_alone(alloc, p).ok()?;
-    let reading = reading_of(&s, p.events().get(case.first as usize)?)?;
-    Some(holds(&mut s, case, reading))
+fn solves(alloc: Global, p: &Problem, case: &Case) -> Result<Option<bool>, AllocError> {
+    let mut s = solve_alone(alloc, p)?;
+    Ok(is_told(&mut s, p, case))
 }
 
 // The same of a case by its text.
 fn is_so(alloc: Global, case: &Case) -> Option<bool> {
     let p = read_problem(alloc, case.problem.as_bytes()).ok()?;
-    solves(alloc, &p, case)
+    solves(alloc, &p, case).ok()?
 }
 
 #[test]

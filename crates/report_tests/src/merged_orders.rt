@@ -9,7 +9,7 @@ use merging::write_merge;
 use ports::MemSink;
 use queries::Stop;
 use solver::solve;
-use std::alloc::Global;
+use std::alloc::{AllocError, Global};
 use std::marker::Brand;
 use std::sync::ledger::{Blank, Ledger};
 use std::test::*;
@@ -81,18 +81,18 @@ fn merge<L: Ledger>(
     logs: &[Accepted],
     out: &mut MemSink,
     blank: Blank,
-) -> Option<Result<(), Stop>>
+) -> Result<Result<(), Stop>, AllocError>
     requires blank { (blank.name ≡ L.name) × (blank.parts ≡ L.parts) × (0 < L.parts) }
     requires declared { IsDeclaration (declaration_of decl.now) }
 {
     if logs.len() > 65536 || logs.len() != decl.labels.len() || event_count(logs) > 1 << 20 {
-        return None;
+        return Err(AllocError);
     }
-    let messages = messages_in(alloc, logs).ok()?;
-    let p = problem_of(alloc, decl, logs, &messages).ok()?;
+    let messages = messages_in(alloc, logs)?;
+    let p = problem_of(alloc, decl, logs, &messages)?;
     let mut steps = Steps::<L>::open(blank);
-    let solver = solve(alloc, &p, 0, &mut steps).ok()?;
-    Some(write_merge(alloc, decl, logs, &p, &solver, out))
+    let solver = solve(alloc, &p, 0, &mut steps)?;
+    Ok(write_merge(alloc, decl, logs, &p, &solver, out))
 }
 
 // Whether logs are answered so over a sink where these writes fail, and written so far.
@@ -106,7 +106,7 @@ fn merged_so(
     let decl = declared(alloc, TWO_LOGS_DECLARATION.as_bytes())?;
     let logs = logs_of(alloc, texts)?;
     let mut out = MemSink::new(alloc, 600, 7, fails).ok()?;
-    let given = merge::<Brand>(alloc, &decl, &logs, &mut out, Blank::new(1))?;
+    let given = merge::<Brand>(alloc, &decl, &logs, &mut out, Blank::new(1)).ok()?;
     Some(given == answer && out.bytes() == written.as_bytes())
 }
 
