@@ -131,7 +131,7 @@ fn files_fail_in_mid_stream(rt: HostRuntime) -> Result<(), Fail> {
 fn disk_files_are_read(rt: HostRuntime) -> Result<(), Fail> {
     let alloc = rt.alloc();
     fs::write(&rt, "ports_disk_test", "some bytes")?;
-    let mut files = DiskFiles::new(&rt);
+    let mut files = DiskFiles::new(alloc, &rt);
     assert!(rt; reads_front(alloc, &mut files, "ports_disk_test", b"some bytes", false));
     assert!(rt; reads_front(alloc, &mut files, "ports_disk_test", b"s", true));
     for (path, want) in [
@@ -162,10 +162,40 @@ fn long_disk_files_are_read_in_order(rt: HostRuntime) -> Result<(), Fail> {
     let mut whole = Vec::new(alloc);
     push_unequal(140_000, &mut whole)?;
     fs::write(&rt, "ports_long_test", whole.as_slice())?;
-    let mut files = DiskFiles::new(&rt);
+    let mut files = DiskFiles::new(alloc, &rt);
     assert!(rt; reads_front(alloc, &mut files, "ports_long_test", &whole, false));
     assert!(rt; reads_front(alloc, &mut files, "ports_long_test", &front, true));
     fs::remove_file(&rt, "ports_long_test")?;
+    Ok(())
+}
+
+// Whether a read of a place fills a buffer of 8 bytes with this byte alone.
+fn gives_at<F: Files>(files: &mut F, path: &str, at: u64, byte: u8) -> bool {
+    let mut buf = [0; 8];
+    match files.read_at(path, at, &mut buf) {
+        Ok(n) => n == 8 && buf.iter().all(|b| *b == byte),
+        Err(_) => false,
+    }
+}
+
+// A real file that is replaced while it is read: what is read on is the old one, also behind a place that was not asked for;
+// from its first byte on, and behind another file, it is the new one.
+#[test]
+fn a_disk_file_that_is_replaced_is_no_mixture(rt: HostRuntime) -> Result<(), Fail> {
+    fs::write(&rt, "ports_old_test", "oooooooooooooooooooooooooooooooo")?;
+    fs::write(&rt, "ports_new_test", "nnnnnnnnnnnnnnnnnnnnnnnnnnnnnnnn")?;
+    let mut files = DiskFiles::new(rt.alloc(), &rt);
+    assert!(rt; gives_at(&mut files, "ports_old_test", 0, b'o'));
+    fs::rename(&rt, "ports_new_test", "ports_old_test")?;
+    for (place, byte) in [(8, b'o'), (24, b'o'), (16, b'o'), (0, b'n'), (8, b'n')] {
+        assert!(rt; gives_at(&mut files, "ports_old_test", place, byte));
+    }
+    fs::write(&rt, "ports_new_test", "mmmmmmmmmmmmmmmmmmmmmmmmmmmmmmmm")?;
+    for (path, place, byte) in [("ports_new_test", 8, b'm'), ("ports_old_test", 8, b'n')] {
+        assert!(rt; gives_at(&mut files, path, place, byte));
+    }
+    fs::remove_file(&rt, "ports_old_test")?;
+    fs::remove_file(&rt, "ports_new_test")?;
     Ok(())
 }
 

@@ -2,6 +2,7 @@
 #![tactic(auto)]
 
 mod calls;
+mod disk_files;
 mod failed;
 mod files;
 mod mem_files;
@@ -12,12 +13,13 @@ mod sink;
 mod source;
 mod words;
 
+pub use disk_files::DiskFiles;
 pub use failed::Failed;
 pub use files::{FileBytes, FileFail, FileFault, Files, read_file};
 pub use mem_files::MemFiles;
 pub use mem_sink::MemSink;
 pub use mem_source::MemSource;
-pub use real::{DiskFiles, StdSink, StdSource};
+pub use real::{StdSink, StdSource};
 pub use sink::{Sink, write_whole};
 pub use source::Source;
 pub use words::Words;

@@ -1,65 +1,8 @@
-// The real files and streams of the host.
-ghost use Rattle.std.specs.Prelude.{◌≡◌, ◌≤◌, None, IfOk, length};
+// The real streams of the host.
+ghost use Rattle.std.specs.Prelude.{◌≡◌, None};
 
-use crate::{Failed, FileFail, Files, Sink, Source};
-use std::fs::File;
-use std::io;
-use std::io::{ErrorKind, Read, Seek, SeekFrom, Write};
-
-/// The files of the host. Their bytes are not told. Each read opens the file anew, so a read sees
-/// what the host has at that moment.
-#[derive(Drop)]
-pub struct DiskFiles<R: std::rt::Files + Drop> {
-    host: R,
-    faults: u64,
-    absences: u64,
-}
-
-impl<R: std::rt::Files + Drop> DiskFiles<R> {
-    /// The files that `host` reaches: no read has failed, and none was absent.
-    pub fn new(host: R) -> Self
-        ensures { ⟦<DiskFiles<R> as Files>⟧.told result ≡ record { content = None; faults = 0; absences = 0 } }
-    {
-        DiskFiles {
-            host,
-            faults: 0,
-            absences: 0,
-        }
-    }
-}
-
-// Reads from a place on.
-fn read_from<F: Read + Seek>(file: &mut F, at: u64, buf: &mut [u8]) -> io::Result<usize>
-    ensures { IfOk result (λ n. n ≤ length buf.old) }
-{
-    file.seek(SeekFrom::Start(at))?;
-    file.read(buf)
-}
-
-impl<R: std::rt::Files + Drop> Files for DiskFiles<R> {
-    ghost told = { λ d. record { content = None; faults = d.faults; absences = d.absences } };
-
-    /// `Absent` is answered where the host cannot open the file because there is none (`ENOENT` of
-    /// POSIX `open`). A folder, a path below a file, a file that may not be read, and a place from
-    /// 2^63 on are faults.
-    fn read_at(&mut self, path: &str, at: u64, buf: &mut [u8]) -> Result<usize, FileFail> {
-        let read = match File::open(&self.host, path) {
-            Ok(mut file) => read_from(&mut file, at, buf),
-            Err(error) if error.kind() == ErrorKind::NotFound => {
-                self.absences = self.absences.saturating_add(1);
-                return Err(FileFail::Absent);
-            }
-            Err(error) => Err(error),
-        };
-        match read {
-            Ok(n) => Ok(n),
-            Err(_) => {
-                self.faults = self.faults.saturating_add(1);
-                Err(FileFail::Failed)
-            }
-        }
-    }
-}
+use crate::{Failed, Sink, Source};
+use std::io::{Read, Write};
 
 /// A writer of the host, as the standard output. What was written is not told.
 #[derive(Drop)]

@@ -26,7 +26,7 @@ fn main(rt: HostRuntime) -> ExitCode {
         }
         Err(_) => Words::new(rt.alloc()),
     };
-    let mut files = DiskFiles::new(&rt);
+    let mut files = DiskFiles::new(rt.alloc(), &rt);
     let mut input = StdSource::new(rt.reader());
     let mut out = StdSink::new(io::writer(&rt));
     let status = run(rt.alloc(), &words, &mut files, &mut input, &mut out);
