@@ -12,7 +12,7 @@ at_end octets x [] e = rw (same_Some x octets e) refl
 at_end octets x (c ∷ rest) e = absurd (none-some octets (rw (ne_eqb (length (c ∷ rest)) 0 (omega arith)) at e))
 
 -- what is read of the whole text leaves nothing
-whole_read : (r : Read (List ℕ)) (octets : List ℕ) → whole_value r ≡ Some octets → r ≡ Some (octets, [])
+pub whole_read : (r : Read (List ℕ)) (octets : List ℕ) → whole_value r ≡ Some octets → r ≡ Some (octets, [])
 whole_read None octets e = absurd (none-some octets e)
 whole_read (Some p) octets e = at_end octets p.0 p.1 e
 

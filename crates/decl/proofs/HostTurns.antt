@@ -14,10 +14,10 @@ use Rattle.toml.specs.View.{view, members_view}
 use Rattle.toml.specs.declared.value.Value.{Value}
 use Rattle.atto.specs.Span.{RateParts}
 use Rattle.problem_model.specs.declared.items.Clock.{Clock}
-use Rattle.decl.specs.Addresses.{at_host, numbers_of}
+use Rattle.decl.specs.Addresses.{Known, at_host, at_host6, known_with, numbers_of, numbers6_of}
 use Rattle.decl.specs.Causes.{at, when, first, error_at, IsFirstOf}
 use Rattle.decl.specs.Declaration.{Precedes, one_clock_each}
-use Rattle.decl.specs.Hosts.{is_clock_name, has_wild_rate, has_wild_number, rate_of, clock_of, clock_causes, host_causes, hosts_faults, entry_of, addresses_in, hosts_of, clocks_of, addresses_from, is_one_too_many}
+use Rattle.decl.specs.Hosts.{is_clock_name, has_wild_rate, has_wild_number, rate_of, clock_of, clock_causes, host_causes, hosts_faults, entry_of, addresses_in, addresses6_in, known_behind, hosts_of, clocks_of, addresses_from, addresses6_from, is_one_too_many}
 use Rattle.decl.specs.Keys.{table_causes}
 use Rattle.decl.specs.Limits.{most_entries, nano_limit}
 use Rattle.decl.specs.Values.{whole_or_zero, number_at, is_up_to}
@@ -27,6 +27,9 @@ use Rattle.decl.specs.declared.errors.DeclError.{DeclError}
 use Rattle.decl.specs.declared.errors.Section.TheVariants.{Hosts}
 use Rattle.decl.proofs.Faults.{few_index, neither_of, second_of, no_parts, not_so, neither, some_if, some_unless, none_unless, first_front, fault_front, fault_at, none_at}
 use Rattle.decl.specs.declared.items.Address.{Address}
+use Rattle.decl.specs.declared.items.Address6.{Address6}
+use Rattle.decl.specs.declared.hosts.Books.{Books}
+use Rattle.decl.specs.Inside.{known_in}
 use Rattle.decl.specs.declared.items.Owner.{Owner}
 use Rattle.decl.proofs.Searching.{Rise}
 
@@ -71,14 +74,14 @@ clock_wild index name given ms table named numbers =
     number_wrong _ _ _ table is_name (second_of (is_one_too_many index) _ (none_unless (has_wild_number ms) (clock_of given ms) numbers))
 
 -- a cause of the clock is the host's
-pub clock_fault : (index : ℕ) (before : List ℕ) (name : List ℕ) (o : Option Members) (ms : Members) (cause : Cause) (e : DeclError) → Some ms ≡ o → first (clock_causes index name ms) ≡ Some cause
+pub clock_fault : (index : ℕ) (before : Known) (name : List ℕ) (o : Option Members) (ms : Members) (cause : Cause) (e : DeclError) → Some ms ≡ o → first (clock_causes index name ms) ≡ Some cause
     → e ≡ error_at Hosts index cause → IsFirstOf (at Hosts index (host_causes index before name o)) e
 clock_fault index before name o ms cause e is h placed =
     subst (λ (t : Option Members). IsFirstOf (at Hosts index (host_causes index before name t)) e) is
     (fault_at Hosts index (host_causes index before name (Some ms)) cause e (first_front (clock_causes index name ms) _ cause h) placed)
 
 -- a host without a fault has an index that may be
-pub host_few : (index : ℕ) (before : List ℕ) (name : List ℕ) (o : Option Members) → host_causes index before name o ≡ [] → index ≤ most_entries
+pub host_few : (index : ℕ) (before : Known) (name : List ℕ) (o : Option Members) → host_causes index before name o ≡ [] → index ≤ most_entries
 host_few index before name None e = cc
 host_few index before name (Some ms) e =
     let clock = (no_parts (clock_causes index name ms) _ e).0 in
@@ -87,7 +90,7 @@ host_few index before name (Some ms) e =
     grind (arith, many)
 
 -- the first fault of the next host
-pub host_first : (all : List DeclError) (index : ℕ) (before : List ℕ) (entries rest : List Entry) (name : String Global) (value : Value) (e : DeclError) → all ≡ hosts_faults index before (members_view entries)
+pub host_first : (all : List DeclError) (index : ℕ) (before : Known) (entries rest : List Entry) (name : String Global) (value : Value) (e : DeclError) → all ≡ hosts_faults index before (members_view entries)
     → entries ≡ (name, value) ∷ rest → IsFirstOf (at Hosts index (host_causes index before (string_bytes name) (as_table (view value)))) e → IsFirstOf all e
 host_first all index before entries rest name value e is next h =
     subst (λ (fs : List DeclError). IsFirstOf fs e) (sym (is ∙ ap (λ (es : List Entry). hosts_faults index before (members_view es)) next))
@@ -97,21 +100,37 @@ pub numbers_at_host : (place : ℕ) (addresses : List ℕ) → numbers_of (at_ho
 numbers_at_host place [] = refl
 numbers_at_host place (a ∷ addresses) = ap (λ (more : List ℕ). a ∷ more) (numbers_at_host place addresses)
 
+pub numbers6_at_host : (place : ℕ) (addresses : List ℕ) → numbers6_of (at_host6 place addresses) ≡ addresses
+numbers6_at_host place [] = refl
+numbers6_at_host place (a ∷ addresses) = ap (λ (more : List ℕ). a ∷ more) (numbers6_at_host place addresses)
+
 pub numbers_more : (book more : List Address) → numbers_of (book ++ more) ≡ numbers_of book ++ numbers_of more
 numbers_more [] more = refl
 numbers_more (b ∷ book) more = ap (λ (ns : List ℕ). b.address ∷ ns) (numbers_more book more)
 
--- behind a host without a fault
-pub hosts_on : (all : List DeclError) (index place : ℕ) (book new : List Address) (entries rest : List Entry) (name : String Global) (value : Value) → all ≡ hosts_faults index (numbers_of book) (members_view entries)
-    → entries ≡ (name, value) ∷ rest → host_causes index (numbers_of book) (string_bytes name) (as_table (view value)) ≡ [] → new ≡ book ++ at_host place (addresses_in (view value))
-    → all ≡ hosts_faults (index + 1) (numbers_of new) (members_view rest)
-hosts_on all index place book new entries rest name value is next none added =
-    is ∙ ap (λ (es : List Entry). hosts_faults index (numbers_of book) (members_view es)) next
-    ∙ none_at Hosts index _ (hosts_faults (index + 1) (numbers_of book ++ addresses_in (view value)) (members_view rest)) none
-    ∙ ap (λ (before : List ℕ). hosts_faults (index + 1) before (members_view rest)) (sym numbers)
+pub numbers6_more : (book more : List Address6) → numbers6_of (book ++ more) ≡ numbers6_of book ++ numbers6_of more
+numbers6_more [] more = refl
+numbers6_more (b ∷ book) more = ap (λ (ns : List ℕ). b.address ∷ ns) (numbers6_more book more)
+
+-- what the books know behind a host
+known_on : (place : ℕ) (books new : Books) (narrow wide : List ℕ) → new.narrow ≡ books.narrow ++ at_host place narrow → new.wide ≡ books.wide ++ at_host6 place wide → known_in new ≡ known_with (known_in books) narrow wide
+known_on place books new narrow wide added added6 = rw (numbers, numbers6) refl
   where
-    numbers : numbers_of new ≡ numbers_of book ++ addresses_in (view value)
-    numbers = ap numbers_of added ∙ numbers_more book _ ∙ ap (λ (more : List ℕ). numbers_of book ++ more) (numbers_at_host place (addresses_in (view value)))
+    numbers : numbers_of new.narrow ≡ numbers_of books.narrow ++ narrow
+    numbers = ap numbers_of added ∙ numbers_more books.narrow _ ∙ ap (λ (more : List ℕ). numbers_of books.narrow ++ more) (numbers_at_host place narrow)
+
+    numbers6 : numbers6_of new.wide ≡ numbers6_of books.wide ++ wide
+    numbers6 = ap numbers6_of added6 ∙ numbers6_more books.wide _ ∙ ap (λ (more : List ℕ). numbers6_of books.wide ++ more) (numbers6_at_host place wide)
+
+-- behind a host without a fault
+pub hosts_on : (all : List DeclError) (index place : ℕ) (books new : Books) (entries rest : List Entry) (name : String Global) (value : Value) → all ≡ hosts_faults index (known_in books) (members_view entries)
+    → entries ≡ (name, value) ∷ rest → host_causes index (known_in books) (string_bytes name) (as_table (view value)) ≡ []
+    → new.narrow ≡ books.narrow ++ at_host place (addresses_in (view value)) → new.wide ≡ books.wide ++ at_host6 place (addresses6_in (view value))
+    → all ≡ hosts_faults (index + 1) (known_in new) (members_view rest)
+hosts_on all index place books new entries rest name value is next none added added6 =
+    is ∙ ap (λ (es : List Entry). hosts_faults index (known_in books) (members_view es)) next
+    ∙ none_at Hosts index _ (hosts_faults (index + 1) (known_behind (known_in books) (view value)) (members_view rest)) none
+    ∙ ap (λ (before : Known). hosts_faults (index + 1) before (members_view rest)) (sym (known_on place books new (addresses_in (view value)) (addresses6_in (view value)) added added6))
 
 pub clocks_on : (all : List Clock) (clocks : List Clock) (clock : Clock) (entries rest : List Entry) (name : String Global) (value : Value) → all ≡ clocks ++ clocks_of (members_view entries)
     → entries ≡ (name, value) ∷ rest → clock ≡ clock_of (string_bytes name) (entry_of (view value)) → all ≡ (clocks ++ clock ∷ []) ++ clocks_of (members_view rest)
@@ -126,6 +145,13 @@ addresses_on all place same book new entries rest name value is next e added =
     is ∙ ap (λ (es : List Entry). book ++ addresses_from place (members_view es)) next
     ∙ sym (append_assoc book (at_host place (addresses_in (view value))) (addresses_from (place + 1) (members_view rest)))
     ∙ ap (λ (front : List Address). front ++ addresses_from (place + 1) (members_view rest)) (sym (added ∙ ap (λ (p : ℕ). book ++ at_host p (addresses_in (view value))) e))
+
+pub addresses6_on : (all : List Address6) (place same : ℕ) (book new : List Address6) (entries rest : List Entry) (name : String Global) (value : Value) → all ≡ book ++ addresses6_from place (members_view entries)
+    → entries ≡ (name, value) ∷ rest → same ≡ place → new ≡ book ++ at_host6 same (addresses6_in (view value)) → all ≡ new ++ addresses6_from (place + 1) (members_view rest)
+addresses6_on all place same book new entries rest name value is next e added =
+    is ∙ ap (λ (es : List Entry). book ++ addresses6_from place (members_view es)) next
+    ∙ sym (append_assoc book (at_host6 place (addresses6_in (view value))) (addresses6_from (place + 1) (members_view rest)))
+    ∙ ap (λ (front : List Address6). front ++ addresses6_from (place + 1) (members_view rest)) (sym (added ∙ ap (λ (p : ℕ). book ++ at_host6 p (addresses6_in (view value))) e))
 
 pub names_on : (all : List (List ℕ)) (names : List (List ℕ)) (clock : Clock) (entries rest : List Entry) (name : String Global) (value : Value) → all ≡ names ++ hosts_of (members_view entries)
     → entries ≡ (name, value) ∷ rest → clock ≡ clock_of (string_bytes name) (entry_of (view value)) → all ≡ (names ++ clock.name ∷ []) ++ hosts_of (members_view rest)

@@ -10,10 +10,10 @@ use Rattle.problem_model.specs.Name.{IsClockName}
 use Rattle.problem_model.specs.Problem.{ClockFits}
 use Rattle.problem_model.specs.declared.items.Clock.{Clock}
 use Rattle.toml.specs.Data.{Data, as_table, Items, no_items, item, Members, no_members, member}
-use Rattle.decl.specs.Addresses.{address_of, at_host, has_bad_address, is_bad_address, numbers_of, written}
+use Rattle.decl.specs.Addresses.{Known, address_of, address6_of, at_host, at_host6, has_bad_address, is_bad_address, none_known, numbers_of, numbers6_of, written}
 use Rattle.decl.specs.Causes.{at, when}
 use Rattle.decl.specs.Declaration.{IsDeclaration, IsSource, IsClockOf, LinkFits, one_clock_each}
-use Rattle.decl.specs.Hosts.{address_texts, addresses_from, addresses_in, clock_causes, clock_of, clocks_of, entry_of, hosts_of, has_wild_number, has_wild_rate, host_causes, hosts_faults, is_clock_name, is_one_too_many}
+use Rattle.decl.specs.Hosts.{address_texts, addresses_from, addresses6_from, addresses_in, addresses6_in, address6_texts, clock_causes, clock_of, clocks_of, entry_of, hosts_of, has_wild_number, has_wild_rate, known_behind, host_causes, hosts_faults, is_clock_name, is_one_too_many}
 use Rattle.decl.specs.Keys.{table_causes}
 use Rattle.decl.specs.Labels.{entry_causes, host_at_key, is_misnamed, label_causes, label_of, labels_faults, labels_of}
 use Rattle.decl.specs.Limits.{most_entries, most_payload, most_short, most_long, nano_limit, address_limit}
@@ -24,6 +24,7 @@ use Rattle.decl.specs.Walk.{declared, faults, hosts_in, is_true_at, labels_in, l
 use Rattle.decl.specs.declared.cause.Cause.TheVariants as cause
 use Rattle.decl.specs.declared.errors.Section.TheVariants.{Top, Hosts, Labels, Links}
 use Rattle.decl.specs.declared.items.Address.{Address}
+use Rattle.decl.specs.declared.items.Address6.{Address6}
 use Rattle.decl.specs.declared.items.Label.{Label}
 use Rattle.decl.specs.declared.items.Owner.{Owner}
 use Rattle.decl.specs.declared.items.Link.{Link}
@@ -31,7 +32,7 @@ use Rattle.decl.proofs.ClockNames.{clock_name_is}
 use Rattle.decl.proofs.Dotted.{address_found}
 use Rattle.decl.proofs.Faults.{neither, no_causes, no_parts, not_false, not_so}
 use Rattle.decl.proofs.Fresh.{IsFresh, all_apart, fresh_append}
-use Rattle.decl.proofs.HostTurns.{host_few, numbers_at_host, numbers_more}
+use Rattle.decl.proofs.HostTurns.{host_few, numbers_at_host, numbers6_at_host, numbers_more, numbers6_more}
 use Rattle.decl.proofs.LabelTurns.{RiseLabels, label_few}
 use Rattle.decl.proofs.LinkTurns.{link_few}
 use Rattle.decl.proofs.Searching.{Rise, precedes_differ}
@@ -63,54 +64,57 @@ clock_fits name ms tame =
 -- ---- hosts
 
 -- what is known of a host without a fault
-record GoodHost (before : List ℕ) (name : List ℕ) (ms : Members) : Type 0 where
+record GoodHost (before : Known) (name : List ℕ) (ms : Members) : Type 0 where
   named : IsClockName name
   fits : ClockFits (clock_of name ms)
-  fresh : has_bad_address before (address_texts ms) ≡ false
+  fresh : has_bad_address address_of before.narrow (address_texts ms) ≡ false
+  fresh6 : has_bad_address address6_of before.wide (address6_texts ms) ≡ false
 
-good_host : (index : ℕ) (before : List ℕ) (name : List ℕ) (o : Option Members) → host_causes index before name o ≡ [] → GoodHost before name (unwrap_or o no_members)
+good_host : (index : ℕ) (before : Known) (name : List ℕ) (o : Option Members) → host_causes index before name o ≡ [] → GoodHost before name (unwrap_or o no_members)
 good_host index before name None e = cc
 good_host index before name (Some ms) e =
     let (clock, bad) = no_parts (clock_causes index name ms) _ e in
     let (front, numbers) = no_parts (table_causes Hosts ms ++ when (not (is_clock_name name)) cause.Name) _ clock in
     let (table, named) = no_parts (table_causes Hosts ms) _ front in
+    let (fresh, fresh6) = neither (has_bad_address address_of before.narrow (address_texts ms)) _ (not_so _ cause.Address bad) in
     record {
       named = clock_name_is name (not_false _ (not_so _ cause.Name named));
       fits = clock_fits name ms (neither _ _ (not_so _ cause.Number numbers)).1;
-      fresh = not_so _ cause.Address bad;
+      fresh = fresh;
+      fresh6 = fresh6;
     }
 
 -- the first host and the others
-host_here : (index : ℕ) (before : List ℕ) (name : List ℕ) (d : Data) (ms : Members) → hosts_faults index before (member name d ms) ≡ [] → host_causes index before name (as_table d) ≡ []
+host_here : (index : ℕ) (before : Known) (name : List ℕ) (d : Data) (ms : Members) → hosts_faults index before (member name d ms) ≡ [] → host_causes index before name (as_table d) ≡ []
 host_here index before name d ms e = no_causes Hosts index _ (no_parts (at Hosts index (host_causes index before name (as_table d))) _ e).0
 
-hosts_behind : (index : ℕ) (before : List ℕ) (name : List ℕ) (d : Data) (ms : Members) → hosts_faults index before (member name d ms) ≡ [] → hosts_faults (index + 1) (before ++ addresses_in d) ms ≡ []
+hosts_behind : (index : ℕ) (before : Known) (name : List ℕ) (d : Data) (ms : Members) → hosts_faults index before (member name d ms) ≡ [] → hosts_faults (index + 1) (known_behind before d) ms ≡ []
 hosts_behind index before name d ms e = (no_parts (at Hosts index (host_causes index before name (as_table d))) _ e).1
 
-hosts_named : (index : ℕ) (before : List ℕ) (ms : Members) → hosts_faults index before ms ≡ [] → All (λ (c : Clock). IsClockName c.name) (clocks_of ms)
+hosts_named : (index : ℕ) (before : Known) (ms : Members) → hosts_faults index before ms ≡ [] → All (λ (c : Clock). IsClockName c.name) (clocks_of ms)
 hosts_named index before no_members e = All-nil (λ (c : Clock). IsClockName c.name)
 hosts_named index before (member name d ms) e =
     All-cons (λ (c : Clock). IsClockName c.name) _ _ (good_host index before name (as_table d) (host_here index before name d ms e)).named
-    (hosts_named (index + 1) (before ++ addresses_in d) ms (hosts_behind index before name d ms e))
+    (hosts_named (index + 1) (known_behind before d) ms (hosts_behind index before name d ms e))
 
-hosts_fit : (index : ℕ) (before : List ℕ) (ms : Members) → hosts_faults index before ms ≡ [] → All ClockFits (clocks_of ms)
+hosts_fit : (index : ℕ) (before : Known) (ms : Members) → hosts_faults index before ms ≡ [] → All ClockFits (clocks_of ms)
 hosts_fit index before no_members e = All-nil ClockFits
 hosts_fit index before (member name d ms) e =
     All-cons ClockFits _ _ (good_host index before name (as_table d) (host_here index before name d ms e)).fits
-    (hosts_fit (index + 1) (before ++ addresses_in d) ms (hosts_behind index before name d ms e))
+    (hosts_fit (index + 1) (known_behind before d) ms (hosts_behind index before name d ms e))
 
-hosts_few : (index : ℕ) (before : List ℕ) (ms : Members) → index ≤ most_entries + 1 → hosts_faults index before ms ≡ [] → index + length (clocks_of ms) ≤ most_entries + 1
+hosts_few : (index : ℕ) (before : Known) (ms : Members) → index ≤ most_entries + 1 → hosts_faults index before ms ≡ [] → index + length (clocks_of ms) ≤ most_entries + 1
 hosts_few index before no_members le e = omega (arith, le)
 hosts_few index before (member name d ms) le e =
     let here = host_few index before name (as_table d) (host_here index before name d ms e) in
-    let more = hosts_few (index + 1) (before ++ addresses_in d) ms (omega (arith, here)) (hosts_behind index before name d ms e) in
+    let more = hosts_few (index + 1) (known_behind before d) ms (omega (arith, here)) (hosts_behind index before name d ms e) in
     omega (arith, more)
 
-hosts_are_named : (index : ℕ) (before : List ℕ) (ms : Members) → hosts_faults index before ms ≡ [] → All IsClockName (hosts_of ms)
+hosts_are_named : (index : ℕ) (before : Known) (ms : Members) → hosts_faults index before ms ≡ [] → All IsClockName (hosts_of ms)
 hosts_are_named index before no_members e = All-nil IsClockName
 hosts_are_named index before (member name d ms) e =
     All-cons IsClockName _ _ (good_host index before name (as_table d) (host_here index before name d ms e)).named
-    (hosts_are_named (index + 1) (before ++ addresses_in d) ms (hosts_behind index before name d ms e))
+    (hosts_are_named (index + 1) (known_behind before d) ms (hosts_behind index before name d ms e))
 
 -- each clock has its host's name
 pub own_names : (ms : Members) → map (λ (c : Clock). c.name) (clocks_of ms) ≡ hosts_of ms
@@ -140,12 +144,23 @@ addresses_of_host : (P : Address → Type 0) (place : ℕ) (numbers : List ℕ) 
 addresses_of_host P place [] all = All-nil P
 addresses_of_host P place (n ∷ numbers) all = All-cons P _ _ (all 0 n (omega arith)) (addresses_of_host P place numbers (λ k d below. all (suc k) d (omega (arith, below))))
 
+addresses6_of_host : (P : Address6 → Type 0) (place : ℕ) (numbers : List ℕ) → All (λ (n : ℕ). P (let a : Address6 = record { address = n; host = place } in a)) numbers → All P (at_host6 place numbers)
+addresses6_of_host P place [] all = All-nil P
+addresses6_of_host P place (n ∷ numbers) all = All-cons P _ _ (all 0 n (omega arith)) (addresses6_of_host P place numbers (λ k d below. all (suc k) d (omega (arith, below))))
+
 addresses_placed : (place : ℕ) (ms : Members) (n : ℕ) → place + length (clocks_of ms) ≡ n → All (λ (a : Address). a.host < n) (addresses_from place ms)
 addresses_placed place no_members n e = All-nil (λ (a : Address). a.host < n)
 addresses_placed place (member name d ms) n e =
     All-append (λ (a : Address). a.host < n) (at_host place (addresses_in d)) (addresses_from (place + 1) ms)
     (addresses_of_host (λ (a : Address). a.host < n) place (addresses_in d) (λ k m below. omega (arith, e)))
     (addresses_placed (place + 1) ms n (omega (arith, e)))
+
+addresses6_placed : (place : ℕ) (ms : Members) (n : ℕ) → place + length (clocks_of ms) ≡ n → All (λ (a : Address6). a.host < n) (addresses6_from place ms)
+addresses6_placed place no_members n e = All-nil (λ (a : Address6). a.host < n)
+addresses6_placed place (member name d ms) n e =
+    All-append (λ (a : Address6). a.host < n) (at_host6 place (addresses6_in d)) (addresses6_from (place + 1) ms)
+    (addresses6_of_host (λ (a : Address6). a.host < n) place (addresses6_in d) (λ k m below. omega (arith, e)))
+    (addresses6_placed (place + 1) ms n (omega (arith, e)))
 
 octets_below : (octets : List ℕ) (a b c d : ℕ) → octets ≡ a ∷ b ∷ c ∷ d ∷ [] → a < 256 → b < 256 → c < 256 → d < 256 → from_be_bytes w32 octets < address_limit
 octets_below octets a b c d e p q r s = rw e (omega (arith, p, q, r, s))
@@ -157,54 +172,62 @@ address_below text address e =
     let below = octets_below found.octets dotted.a dotted.b dotted.c dotted.d dotted.value dotted.fit.0 dotted.fit.1 dotted.fit.2 dotted.fit.3 in
     subst (λ (n : ℕ). n < address_limit) (sym found.value) below
 
-written_below : (texts : List (List ℕ)) → All (λ (n : ℕ). n < address_limit) (written texts)
-written_below [] = All-nil (λ (n : ℕ). n < address_limit)
-written_below (text ∷ texts) = All-append (λ (n : ℕ). n < address_limit) (option_to_list (address_of text)) (written texts) (one (address_of text) refl) (written_below texts)
+-- what these texts write is below a limit that each of them keeps
+written_below : (read : List ℕ → Option ℕ) (limit : ℕ) → ((text : List ℕ) (n : ℕ) → read text ≡ Some n → n < limit) → (texts : List (List ℕ)) → All (λ (n : ℕ). n < limit) (written read texts)
+written_below read limit low [] = All-nil (λ (n : ℕ). n < limit)
+written_below read limit low (text ∷ texts) = All-append (λ (n : ℕ). n < limit) (option_to_list (read text)) (written read texts) (one (read text) refl) (written_below read limit low texts)
   where
-    one : (o : Option ℕ) → address_of text ≡ o → All (λ (n : ℕ). n < address_limit) (option_to_list o)
-    one None e = All-nil (λ (n : ℕ). n < address_limit)
-    one (Some n) e = All-cons (λ (m : ℕ). m < address_limit) n [] (address_below text n e) (All-nil (λ (m : ℕ). m < address_limit))
+    one : (o : Option ℕ) → read text ≡ o → All (λ (n : ℕ). n < limit) (option_to_list o)
+    one None e = All-nil (λ (n : ℕ). n < limit)
+    one (Some n) e = All-cons (λ (m : ℕ). m < limit) n [] (low text n e) (All-nil (λ (m : ℕ). m < limit))
 
 addresses_fit : (place : ℕ) (ms : Members) → All (λ (a : Address). a.address < address_limit) (addresses_from place ms)
 addresses_fit place no_members = All-nil (λ (a : Address). a.address < address_limit)
 addresses_fit place (member name d ms) =
     All-append (λ (a : Address). a.address < address_limit) (at_host place (addresses_in d)) (addresses_from (place + 1) ms)
-    (addresses_of_host (λ (a : Address). a.address < address_limit) place (addresses_in d) (written_below (address_texts (entry_of d)))) (addresses_fit (place + 1) ms)
+    (addresses_of_host (λ (a : Address). a.address < address_limit) place (addresses_in d) (written_below address_of address_limit address_below (address_texts (entry_of d)))) (addresses_fit (place + 1) ms)
 
 abbrev same_number : ℕ → ℕ → Bool
 same_number b x = x == b
 
-texts_fresh : (before : List ℕ) (texts : List (List ℕ)) → has_bad_address before texts ≡ false → IsFresh same_number before (written texts)
-texts_fresh before [] e = tt
-texts_fresh before (text ∷ texts) e = go (address_of text) (neither (is_bad_address before (address_of text)) _ e) (texts_fresh (before ++ option_to_list (address_of text)) texts)
+texts_fresh : (read : List ℕ → Option ℕ) (before : List ℕ) (texts : List (List ℕ)) → has_bad_address read before texts ≡ false → IsFresh same_number before (written read texts)
+texts_fresh read before [] e = tt
+texts_fresh read before (text ∷ texts) e = go (read text) (neither (is_bad_address before (read text)) _ e) (texts_fresh read (before ++ option_to_list (read text)) texts)
   where
-    go : (o : Option ℕ) → (is_bad_address before o ≡ false) × (has_bad_address (before ++ option_to_list o) texts ≡ false)
-        → (has_bad_address (before ++ option_to_list o) texts ≡ false → IsFresh same_number (before ++ option_to_list o) (written texts)) → IsFresh same_number before (option_to_list o ++ written texts)
+    go : (o : Option ℕ) → (is_bad_address before o ≡ false) × (has_bad_address read (before ++ option_to_list o) texts ≡ false)
+        → (has_bad_address read (before ++ option_to_list o) texts ≡ false → IsFresh same_number (before ++ option_to_list o) (written read texts)) → IsFresh same_number before (option_to_list o ++ written read texts)
     go None h more = let e' : true ≡ false = h.0 in cc
     go (Some n) h more = (h.0, more h.1)
 
-addresses_fresh : (index place : ℕ) (before : List ℕ) (ms : Members) → hosts_faults index before ms ≡ [] → IsFresh same_number before (numbers_of (addresses_from place ms))
+addresses_fresh : (index place : ℕ) (before : Known) (ms : Members) → hosts_faults index before ms ≡ [] → IsFresh same_number before.narrow (numbers_of (addresses_from place ms))
 addresses_fresh index place before no_members e = tt
 addresses_fresh index place before (member name d ms) e =
     let here = good_host index before name (as_table d) (host_here index before name d ms e) in
-    let front = texts_fresh before (address_texts (entry_of d)) here.fresh in
-    let back = addresses_fresh (index + 1) (place + 1) (before ++ addresses_in d) ms (hosts_behind index before name d ms e) in
-    subst (λ (ns : List ℕ). IsFresh same_number before ns)
+    let front = texts_fresh address_of before.narrow (address_texts (entry_of d)) here.fresh in
+    let back = addresses_fresh (index + 1) (place + 1) (known_behind before d) ms (hosts_behind index before name d ms e) in
+    subst (λ (ns : List ℕ). IsFresh same_number before.narrow ns)
     (sym (numbers_more (at_host place (addresses_in d)) (addresses_from (place + 1) ms) ∙ ap (λ (ns : List ℕ). ns ++ numbers_of (addresses_from (place + 1) ms)) (numbers_at_host place (addresses_in d))))
-    (fresh_append same_number before (addresses_in d) (numbers_of (addresses_from (place + 1) ms)) front back)
+    (fresh_append same_number before.narrow (addresses_in d) (numbers_of (addresses_from (place + 1) ms)) front back)
 
-addresses_differ : (addresses : List Address) → AllPairs (λ (x y : ℕ). same_number x y ≡ false) (numbers_of addresses) → AllPairs (λ (a b : Address). a.address ≢ b.address) addresses
-addresses_differ addresses apart i j d below inside same =
-    let first : get_or (numbers_of addresses) i 0 ≡ (get_or addresses i d).address = get_or-map (λ (a : Address). a.address) addresses i d 0 (omega (arith, below, inside)) in
-    let second : get_or (numbers_of addresses) j 0 ≡ (get_or addresses j d).address = get_or-map (λ (a : Address). a.address) addresses j d 0 inside in
-    let long : length (numbers_of addresses) ≡ length addresses = length_numbers addresses in
-    let other : same_number (get_or (numbers_of addresses) i 0) (get_or (numbers_of addresses) j 0) ≡ false = apart i j 0 below (omega (arith, inside, long)) in
-    let equal : same_number (get_or (numbers_of addresses) i 0) (get_or (numbers_of addresses) j 0) ≡ true = eq-eqb _ _ (second ∙ sym same ∙ sym first) in
+addresses6_fresh : (index place : ℕ) (before : Known) (ms : Members) → hosts_faults index before ms ≡ [] → IsFresh same_number before.wide (numbers6_of (addresses6_from place ms))
+addresses6_fresh index place before no_members e = tt
+addresses6_fresh index place before (member name d ms) e =
+    let here = good_host index before name (as_table d) (host_here index before name d ms e) in
+    let front = texts_fresh address6_of before.wide (address6_texts (entry_of d)) here.fresh6 in
+    let back = addresses6_fresh (index + 1) (place + 1) (known_behind before d) ms (hosts_behind index before name d ms e) in
+    subst (λ (ns : List ℕ). IsFresh same_number before.wide ns)
+    (sym (numbers6_more (at_host6 place (addresses6_in d)) (addresses6_from (place + 1) ms) ∙ ap (λ (ns : List ℕ). ns ++ numbers6_of (addresses6_from (place + 1) ms)) (numbers6_at_host place (addresses6_in d))))
+    (fresh_append same_number before.wide (addresses6_in d) (numbers6_of (addresses6_from (place + 1) ms)) front back)
+
+-- numbers that differ are those of things that do
+numbers_differ : {A : Type 0} (number : A → ℕ) (things : List A) → AllPairs (λ (x y : ℕ). same_number x y ≡ false) (map number things) → AllPairs (λ (a b : A). number a ≢ number b) things
+numbers_differ number things apart i j d below inside same =
+    let long : length (map number things) ≡ length things = length-map things number in
+    let first : get_or (map number things) i 0 ≡ number (get_or things i d) = get_or-map number things i d 0 (omega (arith, below, inside)) in
+    let second : get_or (map number things) j 0 ≡ number (get_or things j d) = get_or-map number things j d 0 inside in
+    let other : same_number (get_or (map number things) i 0) (get_or (map number things) j 0) ≡ false = apart i j 0 below (omega (arith, inside, long)) in
+    let equal : same_number (get_or (map number things) i 0) (get_or (map number things) j 0) ≡ true = eq-eqb _ _ (second ∙ sym same ∙ sym first) in
     cc
-  where
-    length_numbers : (as' : List Address) → length (numbers_of as') ≡ length as'
-    length_numbers [] = refl
-    length_numbers (a ∷ more) = ap suc (length_numbers more)
 
 -- ---- labels
 
@@ -381,30 +404,34 @@ lawful ms rise labels_rise e =
     let names = hosts_of (hosts_in ms) in
     let clocks = clocks_of (hosts_in ms) in
     let (top, behind_top) = no_parts (at Top 0 (top_causes ms)) _ e in
-    let (hosts, behind_hosts) = no_parts (hosts_faults 1 [] (hosts_in ms)) _ behind_top in
+    let (hosts, behind_hosts) = no_parts (hosts_faults 1 none_known (hosts_in ms)) _ behind_top in
     let (labels, behind_labels) = no_parts (labels_faults names 1 (labels_in ms)) _ behind_hosts in
     let (links, source) = no_parts (links_faults names 1 [] (links_in ms)) _ behind_labels in
     let payload = (no_parts (table_causes Top ms) _ (no_causes Top 0 (top_causes ms) top)).1 in
-    let few : 1 + length clocks ≤ most_entries + 1 = hosts_few 1 [] (hosts_in ms) (omega arith) hosts in
+    let few : 1 + length clocks ≤ most_entries + 1 = hosts_few 1 none_known (hosts_in ms) (omega arith) hosts in
     let counted : length names ≡ length clocks = hosts_counted (hosts_in ms) in
     record {
       hosts = record {
-        host_names = hosts_are_named 1 [] (hosts_in ms) hosts;
+        host_names = hosts_are_named 1 none_known (hosts_in ms) hosts;
         hosts_rise = rise;
         own_names = own_names (hosts_in ms);
         own_clocks = refl;
       };
       clocks = record {
-        clock_names = hosts_named 1 [] (hosts_in ms) hosts;
+        clock_names = hosts_named 1 none_known (hosts_in ms) hosts;
         clocks_differ = clocks_differ clocks names (own_names (hosts_in ms)) rise;
-        clocks_fit = hosts_fit 1 [] (hosts_in ms) hosts;
+        clocks_fit = hosts_fit 1 none_known (hosts_in ms) hosts;
         clocks_owned = owners_counted 0 (hosts_in ms);
         source_true = source_true clocks (text_at (codes "source") ms) (no_causes Top 0 _ source);
       };
       addresses = record {
         address_hosts = addresses_placed 0 (hosts_in ms) (length names) (omega (arith, counted));
         addresses_fit = addresses_fit 0 (hosts_in ms);
-        addresses_differ = addresses_differ (addresses_from 0 (hosts_in ms)) (all_apart same_number [] _ (addresses_fresh 1 0 [] (hosts_in ms) hosts));
+        addresses_differ = numbers_differ (λ (a : Address). a.address) (addresses_from 0 (hosts_in ms)) (all_apart same_number [] _ (addresses_fresh 1 0 none_known (hosts_in ms) hosts));
+      };
+      addresses6 = record {
+        address6_hosts = addresses6_placed 0 (hosts_in ms) (length names) (omega (arith, counted));
+        addresses6_differ = numbers_differ (λ (a : Address6). a.address) (addresses6_from 0 (hosts_in ms)) (all_apart same_number [] _ (addresses6_fresh 1 0 none_known (hosts_in ms) hosts));
       };
       labels = record {
         label_names = labels_named names 1 (labels_in ms) labels;

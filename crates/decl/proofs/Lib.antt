@@ -1,5 +1,6 @@
 mod ClockNames
 mod Dotted
+mod Grouped
 pub mod Searching
 mod Faults
 mod HostTurns

@@ -10,6 +10,7 @@ use Rattle.decl.specs.Limits.{most_entries, most_payload, nano_limit, address_li
 use Rattle.decl.specs.declared.items.Decl.{Decl}
 use Rattle.decl.specs.declared.items.Owner.{Owner}
 use Rattle.decl.specs.declared.items.Address.{Address}
+use Rattle.decl.specs.declared.items.Address6.{Address6}
 use Rattle.decl.specs.declared.items.Label.{Label}
 use Rattle.decl.specs.declared.items.Link.{Link}
 
@@ -20,6 +21,7 @@ pub record Declaration : Type 0 where
   pub clocks : List Clock
   pub owners : List Owner
   pub addresses : List Address
+  pub addresses6 : List Address6
   pub labels : List Label
   pub links : List Link
   pub payload_bytes : ℕ
@@ -27,7 +29,7 @@ pub record Declaration : Type 0 where
 
 -- what the code's own declaration says
 abbrev pub declaration_of : Decl → Declaration
-declaration_of d = record { hosts = d.hosts.items; clocks = d.clocks.items; owners = d.owners.items; addresses = d.addresses.items; labels = d.labels.items; links = d.links.items; payload_bytes = d.payload_bytes; source = d.source }
+declaration_of d = record { hosts = d.hosts.items; clocks = d.clocks.items; owners = d.owners.items; addresses = d.addresses.items; addresses6 = d.addresses6.items; labels = d.labels.items; links = d.links.items; payload_bytes = d.payload_bytes; source = d.source }
 
 -- a name comes before another in byte order
 abbrev pub Precedes : List ℕ → List ℕ → Type 0
@@ -72,6 +74,11 @@ pub record HasLawfulAddresses (d : Declaration) : Type 0 where
   pub addresses_fit : All (λ a. a.address < address_limit) d.addresses
   pub addresses_differ : AllPairs (λ a b. a.address ≢ b.address) d.addresses
 
+-- those of IPv6 likewise
+pub record HasLawfulAddresses6 (d : Declaration) : Type 0 where
+  pub address6_hosts : All (λ a. a.host < length d.hosts) d.addresses6
+  pub addresses6_differ : AllPairs (λ a b. a.address ≢ b.address) d.addresses6
+
 -- labels rise by their names, and each is of a host and of a clock of that host
 pub record HasLawfulLabels (d : Declaration) : Type 0 where
   pub label_names : All (λ l. IsClockName l.name) d.labels
@@ -99,6 +106,7 @@ pub record IsDeclaration (d : Declaration) : Type 0 where
   pub hosts : HasLawfulHosts d
   pub clocks : HasLawfulClocks d
   pub addresses : HasLawfulAddresses d
+  pub addresses6 : HasLawfulAddresses6 d
   pub labels : HasLawfulLabels d
   pub links : HasLawfulLinks d
   pub limits : KeepsLimits d
@@ -111,6 +119,14 @@ host_among (a ∷ more) address = if a.address == address then Some a.host else 
 -- the host that has an address
 abbrev pub host_at : Declaration → ℕ → Option ℕ
 host_at d address = host_among d.addresses address
+
+-- the same for addresses of IPv6
+abbrev pub host6_among : List Address6 → ℕ → Option ℕ
+host6_among [] address = None
+host6_among (a ∷ more) address = if a.address == address then Some a.host else host6_among more address
+
+abbrev pub host6_at : Declaration → ℕ → Option ℕ
+host6_at d address = host6_among d.addresses6 address
 
 -- the least and the greatest delay of the first of these links with these ends, or 0 and none
 abbrev pub bounds_among : List Link → ℕ → ℕ → ℕ × Option ℕ

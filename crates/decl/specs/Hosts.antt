@@ -5,7 +5,7 @@ use Rattle.atto.specs.Span.{RateParts}
 use Rattle.problem_model.specs.Name.{is_clock_byte}
 use Rattle.problem_model.specs.declared.items.Clock.{Clock}
 use Rattle.toml.specs.Data.{Data, as_table, Members, no_members, member}
-use Rattle.decl.specs.Addresses.{texts_of, written, has_bad_address, at_host}
+use Rattle.decl.specs.Addresses.{Known, address_of, address6_of, at_host, at_host6, has_bad_address, known_with, texts_of, written}
 use Rattle.decl.specs.Causes.{when, at}
 use Rattle.decl.specs.Keys.{table_causes}
 use Rattle.decl.specs.Limits.{most_entries, most_short, most_long, nano_limit}
@@ -15,6 +15,7 @@ use Rattle.decl.specs.declared.cause.Cause.TheVariants.{Shape, Name, Number, Add
 use Rattle.decl.specs.declared.errors.DeclError.{DeclError}
 use Rattle.decl.specs.declared.errors.Section.TheVariants.{Hosts}
 use Rattle.decl.specs.declared.items.Address.{Address as HostAddress}
+use Rattle.decl.specs.declared.items.Address6.{Address6 as HostAddress6}
 
 -- the text is a clock name
 abbrev pub is_clock_name : List ℕ → Bool
@@ -45,6 +46,13 @@ clock_of name ms = record {
 abbrev pub address_texts : Members → List (List ℕ)
 address_texts ms = texts_of (items_or_none (codes "addresses") ms)
 
+abbrev pub address6_texts : Members → List (List ℕ)
+address6_texts ms = texts_of (items_or_none (codes "addresses6") ms)
+
+-- an address of a host is misspelled, or is one of those before; those of IPv4 and those of IPv6 are never the same
+abbrev pub has_wrong_address : Known → Members → Bool
+has_wrong_address before ms = has_bad_address address_of before.narrow (address_texts ms) || has_bad_address address6_of before.wide (address6_texts ms)
+
 -- an entry of this index is one more than there may be
 abbrev pub is_one_too_many : ℕ → Bool
 is_one_too_many index = nat_lt most_entries index
@@ -54,9 +62,9 @@ abbrev pub clock_causes : ℕ → List ℕ → Members → List Cause
 clock_causes index name ms = table_causes Hosts ms ++ when (not (is_clock_name name)) Name ++ when (is_one_too_many index || has_wild_number ms) Number
 
 -- what is wrong with a host, behind these addresses of hosts before
-abbrev pub host_causes : ℕ → List ℕ → List ℕ → Option Members → List Cause
+abbrev pub host_causes : ℕ → Known → List ℕ → Option Members → List Cause
 host_causes index before name None = Shape ∷ []
-host_causes index before name (Some ms) = clock_causes index name ms ++ when (has_bad_address before (address_texts ms)) Address
+host_causes index before name (Some ms) = clock_causes index name ms ++ when (has_wrong_address before ms) Address
 
 -- the table of an entry; none counts as an empty one
 abbrev pub entry_of : Data → Members
@@ -64,12 +72,19 @@ entry_of d = unwrap_or (as_table d) no_members
 
 -- the addresses that a host writes
 abbrev pub addresses_in : Data → List ℕ
-addresses_in d = written (address_texts (entry_of d))
+addresses_in d = written address_of (address_texts (entry_of d))
+
+abbrev pub addresses6_in : Data → List ℕ
+addresses6_in d = written address6_of (address6_texts (entry_of d))
+
+-- those of hosts before, and those that a host writes
+abbrev pub known_behind : Known → Data → Known
+known_behind before d = known_with before (addresses_in d) (addresses6_in d)
 
 -- what is wrong with hosts from an index on, behind these addresses
-abbrev pub hosts_faults : ℕ → List ℕ → Members → List DeclError
+abbrev pub hosts_faults : ℕ → Known → Members → List DeclError
 hosts_faults index before no_members = []
-hosts_faults index before (member name d ms) = at Hosts index (host_causes index before name (as_table d)) ++ hosts_faults (index + 1) (before ++ addresses_in d) ms
+hosts_faults index before (member name d ms) = at Hosts index (host_causes index before name (as_table d)) ++ hosts_faults (index + 1) (known_behind before d) ms
 
 -- the names of hosts
 abbrev pub hosts_of : Members → List (List ℕ)
@@ -85,3 +100,7 @@ clocks_of (member name d ms) = clock_of name (entry_of d) ∷ clocks_of ms
 abbrev pub addresses_from : ℕ → Members → List HostAddress
 addresses_from place no_members = []
 addresses_from place (member name d ms) = at_host place (addresses_in d) ++ addresses_from (place + 1) ms
+
+abbrev pub addresses6_from : ℕ → Members → List HostAddress6
+addresses6_from place no_members = []
+addresses6_from place (member name d ms) = at_host6 place (addresses6_in d) ++ addresses6_from (place + 1) ms

@@ -14,7 +14,7 @@ use Rattle.decl.specs.declared.keys.Shape.TheVariants.{Whole, Text, Texts, Array
 -- the keys that a table of each section may have, with what their values have to be
 abbrev pub shapes : Section → List (List ℕ × Shape)
 shapes Top = (codes "hosts", Table) ∷ (codes "labels", Table) ∷ (codes "links", Array) ∷ (codes "payload_bytes", Whole) ∷ (codes "source", Text) ∷ []
-shapes Hosts = (codes "short", Whole) ∷ (codes "long", Whole) ∷ (codes "early", Whole) ∷ (codes "late", Whole) ∷ (codes "addresses", Texts) ∷ []
+shapes Hosts = (codes "short", Whole) ∷ (codes "long", Whole) ∷ (codes "early", Whole) ∷ (codes "late", Whole) ∷ (codes "addresses", Texts) ∷ (codes "addresses6", Texts) ∷ []
 shapes Labels = (codes "host", Text) ∷ (codes "kind", Text) ∷ []
 shapes Links = (codes "from", Text) ∷ (codes "to", Text) ∷ (codes "least", Whole) ∷ (codes "most", Whole) ∷ []
 

@@ -8,4 +8,5 @@ pub mod Places
 pub mod Hosts
 pub mod Labels
 pub mod Links
+pub mod Inside
 pub mod Walk

@@ -4,9 +4,10 @@ use Rattle.std.specs.Str.{is_utf8}
 use Rattle.problem_model.specs.declared.items.Clock.{Clock}
 use Rattle.toml.specs.Data.{Items, Members}
 use Rattle.toml.specs.Parse.{parse_document}
+use Rattle.decl.specs.Addresses.{none_known}
 use Rattle.decl.specs.Causes.{when, at, error_at, IsFirstOf}
 use Rattle.decl.specs.Declaration.{Declaration, one_clock_each}
-use Rattle.decl.specs.Hosts.{hosts_of, clocks_of, addresses_from, hosts_faults}
+use Rattle.decl.specs.Hosts.{hosts_of, clocks_of, addresses_from, addresses6_from, hosts_faults}
 use Rattle.decl.specs.Keys.{table_causes}
 use Rattle.decl.specs.Labels.{labels_of, labels_faults}
 use Rattle.decl.specs.Limits.{most_bytes, most_payload}
@@ -52,7 +53,7 @@ top_causes ms = table_causes Top ms ++ when (not (is_up_to most_payload (whole_o
 -- all that is wrong with a document, in the order in which it is looked through
 abbrev pub faults : Members → List DeclError
 faults ms = at Top 0 (top_causes ms)
-    ++ (hosts_faults 1 [] (hosts_in ms)
+    ++ (hosts_faults 1 none_known (hosts_in ms)
     ++ (labels_faults (hosts_of (hosts_in ms)) 1 (labels_in ms)
     ++ (links_faults (hosts_of (hosts_in ms)) 1 [] (links_in ms)
     ++ at Top 0 (source_causes (clocks_of (hosts_in ms)) (text_at (codes "source") ms)))))
@@ -64,6 +65,7 @@ declared ms = record {
   clocks = clocks_of (hosts_in ms);
   owners = one_clock_each 0 (hosts_of (hosts_in ms));
   addresses = addresses_from 0 (hosts_in ms);
+  addresses6 = addresses6_from 0 (hosts_in ms);
   labels = labels_of (hosts_of (hosts_in ms)) (labels_in ms);
   links = links_of (hosts_of (hosts_in ms)) (links_in ms);
   payload_bytes = number_at (codes "payload_bytes") ms;

@@ -79,8 +79,8 @@ impl AddressBook {
     // Adds the addresses that the items write to those of a host; false exactly where one of them writes none, or one
     // that is there by then.
     pub(crate) fn add_all(&mut self, host: u32, items: &[Value]) -> Result<bool, AllocError>
-        ensures fresh { IfOk result (λ fresh. fresh ≡ not (has_bad_address (numbers_of self.old) (texts_of (items_view items.now)))) }
-        ensures added { IfOk result (λ fresh. IsTrue fresh → self.new ≡ self.old ++ at_host host (written (texts_of (items_view items.now)))) }
+        ensures fresh { IfOk result (λ fresh. fresh ≡ not (has_bad_address address_of (numbers_of self.old) (texts_of (items_view items.now)))) }
+        ensures added { IfOk result (λ fresh. IsTrue fresh → self.new ≡ self.old ++ at_host host (written address_of (texts_of (items_view items.now)))) }
     {
         for item in items {
             let text = match item.as_str() {

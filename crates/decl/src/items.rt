@@ -17,6 +17,8 @@ pub struct Decl {
     pub owners: Vec<Owner>,
     /// The addresses of the hosts, by host, and those of one host as they were written.
     pub addresses: Vec<Address>,
+    /// Those of IPv6, likewise.
+    pub addresses6: Vec<Address6>,
     /// The traces.
     pub labels: Vec<Label>,
     /// What is known of delays, as it was written.
@@ -42,6 +44,15 @@ pub struct Owner {
 pub struct Address {
     /// An IPv4 address, as the number of its octets in network byte order.
     pub address: u32,
+    /// The place of its host, from 0 on.
+    pub host: u32,
+}
+
+/// An address of IPv6 of a host.
+#[derive(Clone, Copy, Debug, PartialEq, Eq)]
+pub struct Address6 {
+    /// The address, as the number of its 16 octets in network byte order.
+    pub address: u128,
     /// The place of its host, from 0 on.
     pub host: u32,
 }

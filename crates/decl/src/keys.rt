@@ -53,7 +53,7 @@ fn host_shape(key: &str) -> Option<Shape>
 {
     match key {
         "short" | "long" | "early" | "late" => Some(Shape::Whole),
-        "addresses" => Some(Shape::Texts),
+        "addresses" | "addresses6" => Some(Shape::Texts),
         _ => None,
     }
 }

@@ -13,11 +13,11 @@
 //!
 //! | Entry | Its keys |
 //! |---|---|
-//! | host | `short` (at most 999,999,999) and `long` (at most 1,000,000,000), in parts per billion, and `early` and `late`, in ns below 2^62: 0 where they are not there. `addresses`: an array of IPv4 addresses, each four decimals with points between and no zeros in front |
+//! | host | `short` (at most 999,999,999) and `long` (at most 1,000,000,000), in parts per billion, and `early` and `late`, in ns below 2^62: 0 where they are not there. `addresses`: an array of IPv4 addresses, each four decimals with points between and no zeros in front. `addresses6`: an array of IPv6 addresses, each eight groups of one to four hexadecimal digits, of either case, with colons between |
 //! | trace | `host`: a host's name; `kind`: `capture` or `log`. It has both |
 //! | link | `from` and `to`: hosts' names, which may be the same. It has both. `least` and `most`, in ns below 2^62: 0 and no limit where they are not there |
 //!
-//! Names of hosts and traces are clock names, no address and no pair of hosts stands there twice, and of hosts, traces
+//! Names of hosts and traces are clock names, no address stands there twice under the same key, no pair of hosts stands there twice, and of hosts, traces
 //! and links there are at most 65,536 each. Hosts and traces go by the byte order of their names.
 //!
 //! A declaration that is refused is looked through in this order: its size; whether it is a document; its own keys, their
@@ -26,6 +26,7 @@
 #![tactic(auto)]
 
 mod addresses;
+mod addresses6;
 mod cause;
 mod errors;
 mod hosts;
@@ -40,6 +41,7 @@ mod read;
 mod values;
 
 pub use addresses::addresses_are_dotted;
+pub use addresses6::addresses6_are_groups;
 pub use errors::{DeclError, Section};
-pub use items::{Address, Decl, Label, Link, Owner, TraceKind};
+pub use items::{Address, Address6, Decl, Label, Link, Owner, TraceKind};
 pub use read::read_decl;

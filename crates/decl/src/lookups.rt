@@ -1,6 +1,6 @@
 // What a declaration says of an address and of two hosts.
 ghost use Rattle.std.specs.Prelude.{◌≡◌};
-ghost use Rattle.decl.specs.Declaration.{declaration_of, host_at, link_bounds};
+ghost use Rattle.decl.specs.Declaration.{declaration_of, host_at, host6_at, link_bounds};
 
 use crate::Decl;
 use atto::Nano;
@@ -11,6 +11,19 @@ impl Decl {
         ensures { result ≡ host_at (declaration_of self.now) address }
     {
         for one in &self.addresses {
+            if one.address == address {
+                return Some(one.host);
+            }
+        }
+        None
+    }
+
+    /// The place of the host that has this address of IPv6, as the number of its 16 octets in network byte order; None
+    /// exactly where no host has it.
+    pub fn host_of6(&self, address: u128) -> Option<u32>
+        ensures { result ≡ host6_at (declaration_of self.now) address }
+    {
+        for one in &self.addresses6 {
             if one.address == address {
                 return Some(one.host);
             }

@@ -102,6 +102,7 @@ fn read_document(alloc: Global, table: &Table) -> Result<Decl, DeclError>
         clocks: hosts.clocks,
         owners: hosts.owners,
         addresses: hosts.addresses,
+        addresses6: hosts.addresses6,
         labels,
         links,
         payload_bytes,

@@ -1,4 +1,4 @@
-use Rattle.std.proofs.Common.{◌≡◌, ◌∙◌, sym}
+use Rattle.std.proofs.Common.{◌∙◌}
 use Rattle.decl.proofs.Searching.{same_place}
 use Rattle.decl.proofs.places.clock_place.Goals as goal
 

@@ -38,8 +38,8 @@ returns-clause-lawful c =
     let none : faults ms ≡ [] =
     no_faults ms c.in-Ok.ensures.0 hosts c.table_or_empty.ensures known.sound names known.names clocks known.clocks labels c.table_or_empty-2.ensures labelled links c.items_or_none.ensures linked source.0 in
     let is =
-    declared_is ms hosts labels links names clocks c.in-Ok-read_hosts.hosts.owners.items c.in-Ok-read_hosts.hosts.addresses.items c.in-Ok-read_labels.labels.items c.in-Ok-read_links.links.items c.in-Ok.bytes c.in-Ok-read_source.source
-    c.table_or_empty.ensures c.table_or_empty-2.ensures c.items_or_none.ensures known.names known.clocks known.owners known.addresses label_list link_list c.in-Ok.ensures.1 source.1 in
+    declared_is ms hosts labels links names clocks c.in-Ok-read_hosts.hosts.owners.items c.in-Ok-read_hosts.hosts.addresses.items c.in-Ok-read_hosts.hosts.addresses6.items c.in-Ok-read_labels.labels.items c.in-Ok-read_links.links.items c.in-Ok.bytes c.in-Ok-read_source.source
+    c.table_or_empty.ensures c.table_or_empty-2.ensures c.items_or_none.ensures known.names known.clocks known.owners known.addresses known.addresses6 label_list link_list c.in-Ok.ensures.1 source.1 in
     subst IsDeclaration (sym is) (lawful ms (subst Rise names_are known.rising) (subst RiseLabels labels_are c.in-Ok-read_labels.ensures.rising) none)
 
 pub read_source-requires-clause-own_names : goal.read_source-requires-clause-own_names

@@ -1,0 +1,120 @@
+// The addresses of IPv6 of hosts.
+ghost use Rattle.std.specs.Prelude.{◌≡◌, ◌++◌, ℕ, List, [], not, IfOk, IsTrue, Some, option_to_list};
+ghost use Rattle.toml.specs.View.{items_view};
+ghost use Rattle.decl.specs.Addresses.{IsAddress6, address6_of, at_host6, has_bad_address, is_bad_address, is_short_form, numbers6_of, texts_of, written};
+
+use crate::Address6;
+use std::alloc::{AllocError, Global};
+use std::collections::BTreeSet;
+use std::marker::Model;
+use std::net::Ipv6Addr;
+use toml::Value;
+
+/// A law, which does nothing when it runs. The address of a text is the number whose sixteen bytes the text writes as
+/// eight groups of one to four hexadecimal digits, of either case, with colons between.
+pub fn addresses6_are_groups()
+    ensures found { (text : List ℕ) (address : ℕ) → address6_of text ≡ Some address → IsAddress6 text address }
+    ensures only { (text : List ℕ) (address : ℕ) → IsAddress6 text address → address6_of text ≡ Some address }
+{}
+
+// Whether a text has a point in it, or two colons side by side. Addresses with these are short forms, which std reads too.
+fn is_short_form(text: &[u8]) -> bool
+    ensures { result ≡ is_short_form 0 text.now }
+{
+    let mut last = 0;
+    for byte in text {
+        if *byte == b'.' || (*byte == b':' && last == b':') {
+            return true;
+        }
+        last = *byte;
+    }
+    false
+}
+
+// The address that a text writes in full, its first byte the greatest.
+fn read_address6(text: &[u8]) -> Option<u128>
+    ensures { result ≡ address6_of text.now }
+{
+    if is_short_form(text) {
+        return None;
+    }
+    match Ipv6Addr::parse_ascii(text) {
+        Ok(address) => Some(address.to_bits()),
+        Err(_) => None,
+    }
+}
+
+// The addresses so far, in the order in which they came. No two are the same.
+#[derive(Debug, Drop)]
+pub(crate) struct AddressBook6 {
+    list: Vec<Address6>,
+    numbers: BTreeSet<u128>,
+}
+
+impl Model for AddressBook6 {
+    ghost use Rattle.std.specs.Prelude.{◌≡◌, ◌==◌, ℕ, List};
+    ghost use Rattle.std.specs.BTreeSet.{contains};
+    ghost use Rattle.std.specs.List.{list_any};
+    ghost use Rattle.std.specs.Ordering.{nat_cmp};
+    ghost use Rattle.decl.specs.declared.items.Address6.{Address6};
+    ghost use Rattle.decl.specs.Addresses.{numbers6_of};
+
+    ghost Value = { List Address6 };
+
+    ghost view = { λ b. b.list.items };
+
+    ghost invariant = { λ b. (q : ℕ) → contains nat_cmp b.numbers q ≡ list_any (λ n. q == n) (numbers6_of b.list.items) };
+}
+
+impl AddressBook6 {
+    pub(crate) fn new(alloc: Global) -> AddressBook6
+        ensures { result ≡ [] }
+    {
+        AddressBook6 {
+            list: Vec::new(alloc),
+            numbers: BTreeSet::new(alloc),
+        }
+    }
+
+    // Adds the address that a text writes to those of a host; false, and nothing is added, exactly where it writes none
+    // or one that is there.
+    fn add(&mut self, host: u32, text: &[u8]) -> Result<bool, AllocError>
+        ensures fresh { IfOk result (λ fresh. fresh ≡ not (is_bad_address (numbers6_of self.old) (address6_of text.now))) }
+        ensures added { IfOk result (λ fresh. IsTrue fresh → self.new ≡ self.old ++ at_host6 host (option_to_list (address6_of text.now))) }
+    {
+        let Some(address) = read_address6(text) else {
+            return Ok(false);
+        };
+        self.list.reserve(1)?;
+        if !self.numbers.insert(address)? {
+            return Ok(false);
+        }
+        self.list.push_reserved(Address6 { address, host });
+        Ok(true)
+    }
+
+    // Adds the addresses that the items write to those of a host; false exactly where one of them writes none, or one
+    // that is there by then.
+    pub(crate) fn add_all(&mut self, host: u32, items: &[Value]) -> Result<bool, AllocError>
+        ensures fresh { IfOk result (λ fresh. fresh ≡ not (has_bad_address address6_of (numbers6_of self.old) (texts_of (items_view items.now)))) }
+        ensures added { IfOk result (λ fresh. IsTrue fresh → self.new ≡ self.old ++ at_host6 host (written address6_of (texts_of (items_view items.now)))) }
+    {
+        for item in items {
+            let text = match item.as_str() {
+                Some(text) => text,
+                None => "",
+            };
+            if !self.add(host, text.as_bytes())? {
+                return Ok(false);
+            }
+        }
+        Ok(true)
+    }
+
+    // The addresses.
+    pub(crate) fn into_list(self) -> Vec<Address6>
+        ensures { result.items ≡ self }
+    {
+        self.list
+    }
+}
