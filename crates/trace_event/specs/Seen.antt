@@ -4,12 +4,13 @@ use Rattle.std.specs.Str.{bytes_eq}
 use Rattle.event_log.specs.declared.row.Kind.{Kind}
 use Rattle.event_log.specs.declared.row.Kind.TheVariants as kinds
 use Rattle.event_log.specs.declared.row.Row.{Row}
-use Rattle.decl.specs.Declaration.{Declaration, host_at}
-use Rattle.ip_headers.specs.Keys as headers
+use Rattle.decl.specs.Declaration.{Declaration, host_at, host6_at}
 use Rattle.ip_headers.specs.Keys.{KeyFields, fields_of}
-use Rattle.ip_headers.specs.Decoding.{decoded}
 use Rattle.ip_headers.specs.declared.key.Reason.{Reason}
 use Rattle.ip_headers.specs.declared.key.Reason.TheVariants as reasons
+use Rattle.wide_headers.specs.Keys as headers
+use Rattle.wide_headers.specs.Keys.{WideFields}
+use Rattle.wide_headers.specs.Decoding.{decoded_wide}
 use Rattle.captures.specs.Capture as captured
 use Rattle.trace_event.specs.declared.event.Side.{Side}
 use Rattle.trace_event.specs.declared.event.Side.TheVariants.{Send, Receive}
@@ -26,6 +27,7 @@ use Rattle.trace_event.specs.declared.event.Event.{Event}
 pub data EventKey : Type 0 where
   Packet : KeyFields → EventKey
   Word : List ℕ → EventKey
+  Wide : WideFields → EventKey
 
 -- which end of which message an event is, or why it is none
 pub data SeenMark : Type 0 where
@@ -45,12 +47,23 @@ is_same_packet a b = (a.source == b.source) && (a.target == b.target) && (a.prot
     && (a.source_port == b.source_port) && (a.target_port == b.target_port) && (a.sequence == b.sequence)
     && (a.acknowledged == b.acknowledged) && (a.flags == b.flags) && (a.length == b.length) && bytes_eq a.payload b.payload
 
--- two keys are one; that of a packet is never that of a row
+-- two packets of IPv6 have the same fields
+abbrev pub is_same_wide : WideFields → WideFields → Bool
+is_same_wide a b = (a.source == b.source) && (a.target == b.target) && (a.protocol == b.protocol)
+    && (a.source_port == b.source_port) && (a.target_port == b.target_port) && (a.sequence == b.sequence)
+    && (a.acknowledged == b.acknowledged) && (a.flags == b.flags) && (a.length == b.length) && bytes_eq a.payload b.payload
+
+-- two keys are one; those of different kinds never are
 abbrev pub is_same_key : EventKey → EventKey → Bool
 is_same_key (Packet a) (Packet b) = is_same_packet a b
 is_same_key (Packet a) (Word b) = false
+is_same_key (Packet a) (Wide b) = false
 is_same_key (Word a) (Packet b) = false
 is_same_key (Word a) (Word b) = bytes_eq a b
+is_same_key (Word a) (Wide b) = false
+is_same_key (Wide a) (Packet b) = false
+is_same_key (Wide a) (Word b) = false
+is_same_key (Wide a) (Wide b) = is_same_wide a b
 
 -- two ends are both sends, or both receives
 abbrev pub is_same_side : Side → Side → Bool
@@ -92,31 +105,36 @@ abbrev pub is_host : Option ℕ → ℕ → Bool
 is_host None host = false
 is_host (Some other) host = other == host
 
--- whether an address is one of this host
+-- whether an address of IPv4, or one of IPv6, is one of this host
 abbrev pub is_at : Declaration → ℕ → ℕ → Bool
 is_at d host address = is_host (host_at d address) host
 
+abbrev pub is_at6 : Declaration → ℕ → ℕ → Bool
+is_at6 d host address = is_host (host6_at d address) host
+
 -- a packet that a host sent, or received; where both of its addresses or neither are the host's it has no side
-abbrev pub mark_by : KeyFields → Bool → Bool → SeenMark
-mark_by key true false = Keyed (Packet key) Send
-mark_by key false true = Keyed (Packet key) Receive
+abbrev pub mark_by : EventKey → Bool → Bool → SeenMark
+mark_by key true false = Keyed key Send
+mark_by key false true = Keyed key Receive
 mark_by key true true = Unkeyed without.Side
 mark_by key false false = Unkeyed without.Side
 
 -- the mark of a packet at a host, by what its headers say
-abbrev pub mark_of_packet : Declaration → ℕ → headers.Answer → SeenMark
-mark_of_packet d host (headers.Keyed key) = mark_by key (is_at d host key.source) (is_at d host key.target)
+abbrev pub mark_of_packet : Declaration → ℕ → headers.WideAnswer → SeenMark
+mark_of_packet d host (headers.Narrow key) = mark_by (Packet key) (is_at d host key.source) (is_at d host key.target)
+mark_of_packet d host (headers.Wide key) = mark_by (Wide key) (is_at6 d host key.source) (is_at6 d host key.target)
 mark_of_packet d host (headers.Unkeyed reason) = Unkeyed (no_key reason)
 
 -- the event of a packet that was captured at a host
 abbrev pub event_of_packet : Declaration → ℕ → captured.Seen → Seen
-event_of_packet d host p = record { stamp = p.stamp; mark = mark_of_packet d host (decoded p.link p.bytes d.payload_bytes); text = [] }
+event_of_packet d host p = record { stamp = p.stamp; mark = mark_of_packet d host (decoded_wide p.link p.bytes d.payload_bytes); text = [] }
 
 -- ---- events of the code
 -- the key
 abbrev pub key_of : Key → EventKey
 key_of (code.Packet key) = Packet (fields_of key)
 key_of (code.Word key) = Word key
+key_of (code.Wide key) = Wide (headers.fields_of key)
 
 -- the mark
 abbrev pub mark_of : Mark → SeenMark

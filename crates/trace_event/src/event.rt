@@ -2,6 +2,7 @@
 use atto::Nano;
 use event_log::{LogText, WordKey};
 use ip_headers::PacketKey;
+use wide_headers::WideKey;
 
 /// An end of a message.
 #[derive(Clone, Copy, Debug, PartialEq, Eq)]
@@ -12,21 +13,23 @@ pub enum Side {
     Receive,
 }
 
-/// What a message is known by at both of its ends.
+/// What a message is known by at both of its ends. Keys of different kinds are never equal.
 #[derive(Debug, PartialEq, Eq, Hash, Drop)]
 pub enum Key {
-    /// A packet, by its headers and the beginning of its payload.
+    /// A packet of IPv4, by its headers and the beginning of its payload.
     Packet(PacketKey),
-    /// A message of event logs, by its word. It is never that of a packet.
+    /// A message of event logs, by its word.
     Word(WordKey),
+    /// A packet of IPv6, by its headers and the beginning of its payload.
+    Wide(WideKey),
 }
 
 /// Why an event is the end of no message.
 #[derive(Clone, Copy, Debug, PartialEq, Eq)]
 pub enum NoKey {
-    /// The packet's link type is neither Ethernet nor raw IP.
+    /// The packet's link type is neither Ethernet nor raw IP nor a Linux cooked one.
     Link,
-    /// The packet is no IPv4 datagram of TCP or UDP.
+    /// The packet is none of TCP or UDP right behind a header of IPv4 or IPv6.
     Other,
     /// Too little of the packet was captured.
     Short,

@@ -14,8 +14,9 @@ use Rattle.std.proofs.lemmas.Str.Ascii.{IsAscii-cons, IsAscii-from_all, IsAscii-
 use Rattle.atto.specs.Decimal.{decimal_of}
 use Rattle.line_format.specs.Words.{words}
 use Rattle.ip_headers.specs.Keys.{KeyFields}
+use Rattle.wide_headers.specs.Keys.{WideFields}
 use Rattle.event_log.specs.Texts.{IsWordKey}
-use Rattle.trace_report.specs.KeyTexts.{dotted, endpoint, payload_word, tcp_words, udp_words}
+use Rattle.trace_report.specs.KeyTexts.{dotted, endpoint, four_groups, groups, hex_digit, payload_word, quad, tcp_words, udp_words, wide_endpoint, wide_tcp_words, wide_udp_words}
 
 -- ---- by a test
 abbrev all_low : List ℕ → Bool
@@ -58,6 +59,29 @@ ascii_dotted a =
 ascii_endpoint : (address port : ℕ) → IsAscii (endpoint address port)
 ascii_endpoint address port = joined (dotted address) (decimal_of port) 58 (omega arith) (ascii_dotted address) (ascii_decimal port)
 
+low_hex : (n : ℕ) → hex_digit (n % 16) < 128
+low_hex n = grind (arith, nat_tests)
+
+ascii_quad : (n : ℕ) → IsAscii (quad n)
+ascii_quad n =
+    IsAscii-cons (hex_digit (n / 2 ^ 12 % 16)) (hex_digit (n / 2 ^ 8 % 16) ∷ hex_digit (n / 2 ^ 4 % 16) ∷ hex_digit (n % 16) ∷ []) (low_hex (n / 2 ^ 12))
+    (IsAscii-cons (hex_digit (n / 2 ^ 8 % 16)) (hex_digit (n / 2 ^ 4 % 16) ∷ hex_digit (n % 16) ∷ []) (low_hex (n / 2 ^ 8))
+    (IsAscii-cons (hex_digit (n / 2 ^ 4 % 16)) (hex_digit (n % 16) ∷ []) (low_hex (n / 2 ^ 4)) (IsAscii-cons (hex_digit (n % 16)) [] (low_hex n) IsAscii-nil)))
+
+ascii_four : (n : ℕ) → IsAscii (four_groups n)
+ascii_four n =
+    let a : List ℕ = quad (n / 2 ^ 48) in
+    let b : List ℕ = quad (n / 2 ^ 32) in
+    let c : List ℕ = quad (n / 2 ^ 16) in
+    let two : IsAscii (a ++ 58 ∷ b) = joined a b 58 (omega arith) (ascii_quad (n / 2 ^ 48)) (ascii_quad (n / 2 ^ 32)) in
+    let three : IsAscii (a ++ 58 ∷ b ++ 58 ∷ c) = joined (a ++ 58 ∷ b) c 58 (omega arith) two (ascii_quad (n / 2 ^ 16)) in
+    joined (a ++ 58 ∷ b ++ 58 ∷ c) (quad n) 58 (omega arith) three (ascii_quad n)
+
+ascii_wide_endpoint : (address port : ℕ) → IsAscii (wide_endpoint address port)
+ascii_wide_endpoint address port =
+    let both : IsAscii (groups address) = joined (four_groups (address / 2 ^ 64)) (four_groups address) 58 (omega arith) (ascii_four (address / 2 ^ 64)) (ascii_four address) in
+    IsAscii-cons 91 (groups address ++ 93 ∷ 58 ∷ decimal_of port) (omega arith) (joined (groups address) (58 ∷ decimal_of port) 93 (omega arith) both (IsAscii-cons 58 (decimal_of port) (omega arith) (ascii_decimal port)))
+
 ascii_words : (ws : List (List ℕ)) → AllByRecursion IsAscii ws → IsAscii (words ws)
 ascii_words [] all = IsAscii-nil
 ascii_words (w ∷ []) all = all.0
@@ -75,6 +99,18 @@ ascii_tcp k payload =
     let last : AllByRecursion IsAscii (codes "payload" ∷ payload_word k.payload ∷ []) = (by_test (codes "payload") refl, (payload, tt)) in
     let fields : AllByRecursion IsAscii (codes "id" ∷ decimal_of k.id ∷ codes "seq" ∷ decimal_of k.sequence ∷ codes "ack" ∷ decimal_of k.acknowledged ∷ codes "flags" ∷ decimal_of k.flags ∷ codes "length" ∷ decimal_of k.length ∷ codes "payload" ∷ payload_word k.payload ∷ []) = (by_test (codes "id") refl, (ascii_decimal k.id, (by_test (codes "seq") refl, (ascii_decimal k.sequence, (by_test (codes "ack") refl, (ascii_decimal k.acknowledged, (by_test (codes "flags") refl, (ascii_decimal k.flags, (by_test (codes "length") refl, (ascii_decimal k.length, last)))))))))) in
     ascii_words (tcp_words k) (by_test (codes "tcp") refl, (ascii_endpoint k.source k.source_port, (ascii_endpoint k.target k.target_port, fields)))
+
+pub ascii_wide_udp : (k : WideFields) → IsAscii (payload_word k.payload) → IsAscii (words (wide_udp_words k))
+ascii_wide_udp k payload =
+    let last : AllByRecursion IsAscii (codes "payload" ∷ payload_word k.payload ∷ []) = (by_test (codes "payload") refl, (payload, tt)) in
+    let fields : AllByRecursion IsAscii (codes "length" ∷ decimal_of k.length ∷ codes "payload" ∷ payload_word k.payload ∷ []) = (by_test (codes "length") refl, (ascii_decimal k.length, last)) in
+    ascii_words (wide_udp_words k) (by_test (codes "udp") refl, (ascii_wide_endpoint k.source k.source_port, (ascii_wide_endpoint k.target k.target_port, fields)))
+
+pub ascii_wide_tcp : (k : WideFields) → IsAscii (payload_word k.payload) → IsAscii (words (wide_tcp_words k))
+ascii_wide_tcp k payload =
+    let last : AllByRecursion IsAscii (codes "payload" ∷ payload_word k.payload ∷ []) = (by_test (codes "payload") refl, (payload, tt)) in
+    let fields : AllByRecursion IsAscii (codes "seq" ∷ decimal_of k.sequence ∷ codes "ack" ∷ decimal_of k.acknowledged ∷ codes "flags" ∷ decimal_of k.flags ∷ codes "length" ∷ decimal_of k.length ∷ codes "payload" ∷ payload_word k.payload ∷ []) = (by_test (codes "seq") refl, (ascii_decimal k.sequence, (by_test (codes "ack") refl, (ascii_decimal k.acknowledged, (by_test (codes "flags") refl, (ascii_decimal k.flags, (by_test (codes "length") refl, (ascii_decimal k.length, last)))))))) in
+    ascii_words (wide_tcp_words k) (by_test (codes "tcp") refl, (ascii_wide_endpoint k.source k.source_port, (ascii_wide_endpoint k.target k.target_port, fields)))
 
 low_print : (c : ℕ) → IsInRange 33 126 c → c < 128
 low_print c range = grind arith

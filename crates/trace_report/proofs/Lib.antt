@@ -9,3 +9,4 @@ mod Grouped
 mod Whole
 mod Adding
 mod Worked
+mod Joined

@@ -1,6 +1,6 @@
--- The texts of three keys, worked out.
+-- The texts of four keys, worked out.
 use Rattle.std.proofs.Common.{◌≡◌, [], ◌∷◌, codes, refl}
-use Rattle.trace_event.specs.Seen.{Packet, Word}
+use Rattle.trace_event.specs.Seen.{Packet, Wide, Word}
 use Rattle.trace_report.specs.KeyTexts.{key_text}
 
 worked_log : key_text (Word (codes "m1")) ≡ codes "log m1"
@@ -35,3 +35,17 @@ worked_tcp : key_text (Packet (record {
   payload = 15 ∷ 160 ∷ 255 ∷ [];
 })) ≡ codes "tcp 10.1.2.3:5000 192.168.3.254:443 id 300 seq 90 ack 1 flags 24 length 3 payload 0fa0ff"
 worked_tcp = refl
+
+worked_wide : key_text (Wide (record {
+  source = 0xfd000000000000000000000000000001;
+  target = 0xfd000000000000000000000000000002;
+  protocol = 17;
+  source_port = 5000;
+  target_port = 6000;
+  sequence = 0;
+  acknowledged = 0;
+  flags = 0;
+  length = 8;
+  payload = [];
+})) ≡ codes "udp [fd00:0000:0000:0000:0000:0000:0000:0001]:5000 [fd00:0000:0000:0000:0000:0000:0000:0002]:6000 length 8 payload -"
+worked_wide = refl

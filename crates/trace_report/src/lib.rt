@@ -9,6 +9,7 @@ mod naming;
 mod spelling;
 mod texts;
 mod view;
+mod wide_texts;
 
 pub use laws::counts_add_up;
 pub use texts::key_text;

@@ -2,7 +2,7 @@
 ghost use Rattle.std.specs.Prelude.{◌≡◌, ◌<◌, ◌/◌, ◌%◌, ◌++◌, ◌∷◌, [], OnOk};
 ghost use Rattle.std.specs.Str.{IsAscii};
 ghost use Rattle.atto.specs.Decimal.{decimal_of};
-ghost use Rattle.trace_report.specs.KeyTexts.{dotted, endpoint, hex, hex_digit, payload_word};
+ghost use Rattle.trace_report.specs.KeyTexts.{dotted, endpoint, four_groups, groups, hex, hex_digit, payload_word, quad, wide_endpoint};
 
 use atto::{NsText, write_decimal};
 use std::alloc::AllocError;
@@ -48,6 +48,57 @@ fn hex_digit(n: u8) -> u8
     ensures ascii { result < 128 }
 {
     if n < 10 { b'0' + n } else { b'a' - 10 + n }
+}
+
+// Appends the four digits of a number's lowest 16 bits.
+fn push_quad(text: &mut Vec<u8>, number: u128) -> Result<(), AllocError>
+    ensures { OnOk result (text.new.items ≡ text.old.items ++ quad number) }
+{
+    text.push(hex_digit((number / 0x1000 % 16) as u8))?;
+    text.push(hex_digit((number / 0x100 % 16) as u8))?;
+    text.push(hex_digit((number / 0x10 % 16) as u8))?;
+    text.push(hex_digit((number % 16) as u8))?;
+    Ok(())
+}
+
+// Appends four groups of a number's lowest 64 bits, with colons between.
+fn push_four_groups(text: &mut Vec<u8>, number: u128) -> Result<(), AllocError>
+    ensures { OnOk result (text.new.items ≡ text.old.items ++ four_groups number) }
+{
+    push_quad(text, number / 0x1_0000_0000_0000)?;
+    text.push(b':')?;
+    push_quad(text, number / 0x1_0000_0000)?;
+    text.push(b':')?;
+    push_quad(text, number / 0x1_0000)?;
+    text.push(b':')?;
+    push_quad(text, number)?;
+    Ok(())
+}
+
+// Appends an IPv6 address: eight groups of four digits, with colons between.
+fn push_groups(text: &mut Vec<u8>, address: u128) -> Result<(), AllocError>
+    ensures { OnOk result (text.new.items ≡ text.old.items ++ groups address) }
+{
+    push_four_groups(text, address / 0x1_0000_0000_0000_0000)?;
+    text.push(b':')?;
+    push_four_groups(text, address)?;
+    Ok(())
+}
+
+/// Appends an IPv6 address in brackets, a colon and a port.
+pub(crate) fn push_wide_endpoint(
+    text: &mut Vec<u8>,
+    address: u128,
+    port: u16,
+) -> Result<(), AllocError>
+    ensures { OnOk result (text.new.items ≡ text.old.items ++ wide_endpoint address port) }
+{
+    text.push(b'[')?;
+    push_groups(text, address)?;
+    text.push(b']')?;
+    text.push(b':')?;
+    push_decimal(text, u32::from(port))?;
+    Ok(())
 }
 
 // Appends the two digits of a byte.

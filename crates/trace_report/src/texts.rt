@@ -8,14 +8,15 @@ ghost use Rattle.trace_event.specs.Seen.{key_of, Packet, Word};
 ghost use Rattle.trace_report.specs.KeyTexts.{endpoint, key_text, payload_word, tcp_words, udp_words};
 
 use crate::spelling::{push_decimal, push_endpoint, push_payload};
+use crate::wide_texts::wide_text;
 use event_log::WordKey;
 use ip_headers::PacketKey;
 use line_words::push_word;
 use std::alloc::{AllocError, Global};
 use trace_event::Key;
 
-// The number of TCP among the protocols over IPv4 (RFC 9293).
-const TCP: u8 = 6;
+// The number of TCP among the protocols over IP (RFC 9293).
+pub(crate) const TCP: u8 = 6;
 
 // Appends an address with its port behind a space.
 fn push_end(text: &mut Vec<u8>, address: u32, port: u16) -> Result<(), AllocError>
@@ -26,8 +27,8 @@ fn push_end(text: &mut Vec<u8>, address: u32, port: u16) -> Result<(), AllocErro
     Ok(())
 }
 
-// Appends the name of a field and its number.
-fn push_field(text: &mut Vec<u8>, name: &[u8], number: u32) -> Result<(), AllocError>
+/// Appends the name of a field and its number.
+pub(crate) fn push_field(text: &mut Vec<u8>, name: &[u8], number: u32) -> Result<(), AllocError>
     ensures { (first : List ℕ) (ws : List (List ℕ)) → text.old.items ≡ words (first ∷ ws) → OnOk result (text.new.items ≡ words (first ∷ ws ++ name.now ∷ decimal_of number ∷ [])) }
 {
     push_word(text, name)?;
@@ -36,8 +37,8 @@ fn push_field(text: &mut Vec<u8>, name: &[u8], number: u32) -> Result<(), AllocE
     Ok(())
 }
 
-// Appends the bytes of a payload and their name.
-fn push_bytes(text: &mut Vec<u8>, payload: &[u8]) -> Result<(), AllocError>
+/// Appends the bytes of a payload and their name.
+pub(crate) fn push_bytes(text: &mut Vec<u8>, payload: &[u8]) -> Result<(), AllocError>
     ensures text { (first : List ℕ) (ws : List (List ℕ)) → text.old.items ≡ words (first ∷ ws) → OnOk result (text.new.items ≡ words (first ∷ ws ++ codes "payload" ∷ payload_word payload.now ∷ [])) }
     ensures ascii { OnOk result (IsAscii (payload_word payload.now)) }
 {
@@ -109,5 +110,6 @@ pub fn key_text(alloc: Global, key: &Key) -> Result<Vec<u8>, AllocError>
     match key {
         Key::Packet(packet) => packet_text(alloc, packet),
         Key::Word(word) => word_text(alloc, word),
+        Key::Wide(packet) => wide_text(alloc, packet),
     }
 }
