@@ -29,12 +29,21 @@ regroup true true true true true true true true false b10 b11 = refl
 regroup true true true true true true true true true false b11 = refl
 regroup true true true true true true true true true true b11 = refl
 
+regroup_wide : (b1 b2 b3 b4 b5 b6 b7 b8 b9 b10 : Bool) → (b1 && (b2 && (b3 && (b4 && (b5 && (b6 && (b7 && (b8 && (b9 && b10))))))))) ≡ (b1 && b2 && b3 && b4 && b5 && b6 && b7 && b8 && b9 && b10)
+regroup_wide b1 b2 b3 b4 b5 b6 b7 b8 b9 b10 = regroup true b1 b2 b3 b4 b5 b6 b7 b8 b9 b10
+
 key_eq_is : (a b : Key) → key_eq a b ≡ is_same_key (key_of a) (key_of b)
 key_eq_is (code.Packet a) (code.Packet b) =
     regroup (a.source == b.source) (a.target == b.target) (a.protocol == b.protocol) (a.id == b.id) (a.source_port == b.source_port) (a.target_port == b.target_port) (a.sequence == b.sequence) (a.acknowledged == b.acknowledged) (a.flags == b.flags) (a.length == b.length) (bytes_eq a.payload.items b.payload.items)
 key_eq_is (code.Packet a) (code.Word b) = refl
+key_eq_is (code.Packet a) (code.Wide b) = refl
 key_eq_is (code.Word a) (code.Packet b) = refl
 key_eq_is (code.Word a) (code.Word b) = refl
+key_eq_is (code.Word a) (code.Wide b) = refl
+key_eq_is (code.Wide a) (code.Packet b) = refl
+key_eq_is (code.Wide a) (code.Word b) = refl
+key_eq_is (code.Wide a) (code.Wide b) =
+    regroup_wide (a.source == b.source) (a.target == b.target) (a.protocol == b.protocol) (a.source_port == b.source_port) (a.target_port == b.target_port) (a.sequence == b.sequence) (a.acknowledged == b.acknowledged) (a.flags == b.flags) (a.length == b.length) (bytes_eq a.payload.items b.payload.items)
 
 any_is : (k : Key) (ks : List Key) → list_any (key_eq k) ks ≡ list_any (is_same_key (key_of k)) (map key_of ks)
 any_is k [] = refl

@@ -114,8 +114,8 @@ impl Matcher {
         }
     }
 
-    // Takes all events behind the first ones away.
-    fn truncate(&mut self, len: usize)
+    /// Takes all events behind the first `len` away. The time goes by those that are taken away.
+    pub fn truncate(&mut self, len: usize)
         requires { len ≤ length self.old }
         ensures { self.new ≡ take len self.old }
     {

@@ -18,6 +18,7 @@ pub(crate) fn copy_key(key: &Key) -> Result<Key, AllocError>
     match key {
         Key::Packet(packet) => Ok(Key::Packet(packet.clone()?)),
         Key::Word(word) => Ok(Key::Word(*word)),
+        Key::Wide(packet) => Ok(Key::Wide(packet.clone()?)),
     }
 }
 

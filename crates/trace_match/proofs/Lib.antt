@@ -2,5 +2,6 @@ mod Lists
 mod Names
 mod Numbered
 mod Coupled
+mod Renamed
 mod Counted
 pub mod Growing

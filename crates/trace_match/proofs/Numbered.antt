@@ -14,14 +14,15 @@ use Rattle.msg_match.specs.declared.change.Couple as numbers
 use Rattle.msg_match.proofs.Changing.{two_parts}
 use Rattle.msg_match.proofs.Numbering.{numbers_apart, numbers_go_on}
 use Rattle.traces.specs.declared.event.EventId.{EventId}
+use Rattle.traces.specs.declared.event.Couple.{Couple}
 use Rattle.traces.specs.Traces.{Placed, events_of, numbered}
 use Rattle.traces.specs.Messages.{messages_of}
 use Rattle.traces.proofs.Ids.{ids_differ}
-use Rattle.trace_match.specs.declared.matcher.Changed.{Changed}
-use Rattle.trace_match.specs.Ends.{AreEndsOf, End, IsChange, end_of, ends_of}
-use Rattle.trace_match.specs.Inside.{AreFound, AreNumbered, ends_by}
+use Rattle.trace_match.specs.declared.changes.Changes.{Changes}
+use Rattle.trace_match.specs.Ends.{AreChanges, AreEndsOf, AreNewMessages, End, end_of, ends_of}
+use Rattle.trace_match.specs.Inside.{AreCouplesWithin, AreFound, AreNumbered, ends_by, named}
 use Rattle.trace_match.proofs.Names.{by_names, end_at, joined_by, length_by, names_differ}
-use Rattle.trace_match.proofs.Counted.{AreWithin, counted, few_anew, number_within}
+use Rattle.trace_match.proofs.Renamed.{AreWithin, anew_within, named_anew, number_within}
 use Rattle.trace_match.proofs.Coupled.{all_names, sent_names}
 use Rattle.trace_match.proofs.Growing.{ends_joined, label_few, numbered_joined}
 
@@ -104,23 +105,35 @@ module _ (ids more : List EventId) (items new : List SeenItem) (kept : AreNumber
   unfolding names
   after_by = by_place (ids ++ more) [] (items ++ new) kept' ∙ ap (λ (l : List EventId). map (end_at l) (items ++ new)) (append-nil (ids ++ more))
 
-  pub change_is : (before after : List (List Seen)) (added withdrawn : List numbers.Couple) (c : Changed) → AreEndsOf (ends_by ids items) before → AreEndsOf (ends_by (ids ++ more) (items ++ new)) after
-      → AreMessagesAnew items (items ++ new) added → AreMessagesAnew (items ++ new) items withdrawn → c.messages ≡ length added → c.withdrawn ≡ length withdrawn → IsChange before after c
+  within_before : AreWithin names items
   unfolding names
-  change_is before after added withdrawn c ends ends' anew gone is is' =
+  within_before = all_within names items (omega (arith, kept.many, length-append ids more)) kept.numbered
+
+  within_after : AreWithin names (items ++ new)
+  unfolding names
+  within_after = all_within names (items ++ new) (omega (arith, kept'.many)) kept'.numbered
+
+  -- what comes and goes has numbers of names
+  pub added_within : (added : List numbers.Couple) → AreMessagesAnew items (items ++ new) added → AreCouplesWithin (ids ++ more) added
+  unfolding names
+  added_within added anew = anew_within names items (items ++ new) added within_after anew
+
+  pub gone_within : (withdrawn : List numbers.Couple) → AreMessagesAnew (items ++ new) items withdrawn → AreCouplesWithin (ids ++ more) withdrawn
+  unfolding names
+  gone_within withdrawn gone = anew_within names (items ++ new) items withdrawn within_before gone
+
+  -- and by its names it is what comes and goes
+  pub changes_are : (before after : List (List Seen)) (added withdrawn : List numbers.Couple) (c : Changes) → AreEndsOf (ends_by ids items) before → AreEndsOf (ends_by (ids ++ more) (items ++ new)) after
+      → AreMessagesAnew items (items ++ new) added → AreMessagesAnew (items ++ new) items withdrawn → c.added.items ≡ map (named (ids ++ more)) added → c.withdrawn.items ≡ map (named (ids ++ more)) withdrawn → AreChanges before after c
+  unfolding names
+  changes_are before after added withdrawn c ends ends' anew gone is is' =
       let differ : AllPairs (λ (a b : EventId). a ≢ b) names = names_differ (events_of after) names (items ++ new) kept'.many (ids_differ after) ends' in
       let first : AreEndsOf (map (end_at names) items) before = subst (λ (l : List End). AreEndsOf l before) before_by ends in
       let second : AreEndsOf (map (end_at names) (items ++ new)) after = subst (λ (l : List End). AreEndsOf l after) after_by ends' in
-      let within : AreWithin names items = all_within names items (omega (arith, kept.many, length-append ids more)) kept.numbered in
-      let within' : AreWithin names (items ++ new) = all_within names (items ++ new) (omega (arith, kept'.many)) kept'.numbered in
       record {
-        added = is ∙ counted names items (items ++ new) before after differ within within' first second added anew;
-        withdrawn = is' ∙ counted names (items ++ new) items after before differ within' within second first withdrawn gone;
+        added = subst (λ (l : List Couple). AreNewMessages before after l) (sym is) (named_anew names items (items ++ new) before after differ within_before within_after first second added anew);
+        withdrawn = subst (λ (l : List Couple). AreNewMessages after before l) (sym is') (named_anew names (items ++ new) items after before differ within_after within_before second first withdrawn gone);
       }
-
--- as many as there are events at most
-pub few_new : (ids : List EventId) (first second : List SeenItem) (found : List numbers.Couple) → AreNumbered ids second → AreMessagesAnew first second found → length found ≤ length ids
-few_new ids first second found kept anew = omega (arith, few_anew first second found (numbers_apart 0 second kept.numbered) anew, kept.many)
 
 -- a message of a key has numbers of names
 pub couple_within : (ids : List EventId) (items : List SeenItem) (key : EventKey) (m : numbers.Couple) → AreNumbered ids items → couple_of (group_of items key) ≡ Some m → (m.send < length ids) × (m.receive < length ids)

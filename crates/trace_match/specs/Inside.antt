@@ -1,5 +1,5 @@
 -- What a matcher of traces keeps: numbered items, and the names of their events.
-use Rattle.std.specs.Prelude.{◌≡◌, ℕ, List, [], ◌∷◌, length, slice_index_or, Option, None, option_map}
+use Rattle.std.specs.Prelude.{◌≡◌, ◌<◌, ℕ, List, All, [], ◌∷◌, length, slice_index_or, Option, None, option_map}
 use Rattle.trace_event.specs.declared.event.Side.TheVariants.{Send, Receive}
 use Rattle.trace_event.specs.Seen.{SeenMark, Keyed, Unkeyed}
 use Rattle.msg_match.specs.declared.change.Couple as numbers
@@ -43,3 +43,7 @@ abbrev pub named_by : List EventId → List SeenItem → SeenMark → Option Cou
 named_by ids items (Keyed key Send) = option_map (named ids) (couple_of (group_of items key))
 named_by ids items (Keyed key Receive) = None
 named_by ids items (Unkeyed reason) = None
+
+-- the numbers of these messages are those of names
+abbrev pub AreCouplesWithin : List EventId → List numbers.Couple → Type 0
+AreCouplesWithin ids couples = All (λ (m : numbers.Couple). (m.send < length ids) × (m.receive < length ids)) couples

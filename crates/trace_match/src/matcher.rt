@@ -4,8 +4,9 @@ ghost use Rattle.trace_event.specs.Seen.{Seen, seen_events};
 ghost use Rattle.traces.specs.Traces.{numbered, events_of};
 ghost use Rattle.traces.specs.Messages.{messages_of};
 ghost use Rattle.traces.specs.Held.{placed_in};
-ghost use Rattle.trace_match.specs.Ends.{ends_of, AreEndsOf, IsChange};
+ghost use Rattle.trace_match.specs.Ends.{ends_of, AreEndsOf, AreChanges};
 
+use crate::changes::Changes;
 use crate::finding::find_ends;
 use crate::naming::{append_names, messages_by};
 use msg_match::Matcher;
@@ -13,15 +14,6 @@ use std::alloc::{AllocError, Global};
 use std::marker::Model;
 use trace_event::Event;
 use traces::{Couple, EventId, PlacedEvent};
-
-/// What an addition does to the messages.
-#[derive(Clone, Copy, Debug, PartialEq, Eq)]
-pub struct Changed {
-    /// How many messages there are that were none before.
-    pub messages: u32,
-    /// How many messages before are none any more.
-    pub withdrawn: u32,
-}
 
 /// The ends of messages among the events that were added, and which of them are a message. It is seen as the list of these
 /// ends, in the order in which they were added, at most 2^22.
@@ -59,22 +51,27 @@ impl TraceMatcher {
     /// the messages change; where memory runs out there is an error, and all is as before.
     ///
     /// The time goes by the events that are added. There are at most 2^22 in all, and a label's numbers are below 2^32.
-    pub fn add(&mut self, label: u32, first: u32, events: &[Event]) -> Result<Changed, AllocError>
+    pub fn add(&mut self, label: u32, first: u32, events: &[Event]) -> Result<Changes, AllocError>
         requires few { length self.old + length events.now ≤ 2 ^ 22 }
         requires numbers { first + length events.now < 2 ^ 32 }
         ensures ok { OnOk result (self.new ≡ self.old ++ ends_of (numbered label first (seen_events events.now))) }
         ensures err { OnErr result (self.new ≡ self.old) }
-        ensures changed { IfOk result (λ changed. (before after : List (List Seen)) → AreEndsOf self.old before → AreEndsOf self.new after → IsChange before after changed) }
+        ensures changes { IfOk result (λ changes. (before after : List (List Seen)) → AreEndsOf self.old before → AreEndsOf self.new after → AreChanges before after changes) }
     {
         let alloc = *self.ids.allocator();
-        let found = find_ends(alloc, self.ids.len() as u32, label, first, events)?;
+        let before = self.ids.len();
+        let found = find_ends(alloc, before as u32, label, first, events)?;
         self.ids.reserve(found.ids.len())?;
         let change = self.matcher.add(&found.items)?;
         append_names(&mut self.ids, &found.ids);
-        Ok(Changed {
-            messages: change.added.len() as u32,
-            withdrawn: change.withdrawn.len() as u32,
-        })
+        match Changes::new(alloc, &self.ids, &change) {
+            Ok(changes) => Ok(changes),
+            Err(error) => {
+                self.matcher.truncate(before);
+                self.ids.truncate(before);
+                Err(error)
+            }
+        }
     }
 
     /// The messages among the events of all labels, which are those that were added, in the order of their sends; an error

@@ -1,11 +1,11 @@
 // Messages by the names of their ends.
-ghost use Rattle.std.specs.Prelude.{◌≡◌, ◌<◌, ◌≤◌, ◌+◌, ◌++◌, length, IfOk, option_map, option_to_list, vec_len, vec_capacity};
+ghost use Rattle.std.specs.Prelude.{◌≡◌, ◌<◌, ◌≤◌, ◌+◌, ◌++◌, length, map, IfOk, option_map, option_to_list, vec_len, vec_capacity};
 ghost use Rattle.std.specs.List.{flat_map};
 ghost use Rattle.trace_event.specs.Seen.{key_of, mark_of};
 ghost use Rattle.msg_match.specs.Groups.{couple_of, group_of};
 ghost use Rattle.traces.specs.Traces.{Placed};
 ghost use Rattle.traces.specs.Held.{placed_in};
-ghost use Rattle.trace_match.specs.Inside.{AreNumbered, named, named_by};
+ghost use Rattle.trace_match.specs.Inside.{AreNumbered, AreCouplesWithin, named, named_by};
 
 use msg_match::Matcher;
 use std::alloc::{AllocError, Global};
@@ -32,6 +32,22 @@ fn named(ids: &[EventId], couple: msg_match::Couple) -> Couple
         send: ids[couple.send as usize],
         receive: ids[couple.receive as usize],
     }
+}
+
+// Messages of numbers, by the names of their ends, in their order; an error where memory runs out.
+pub(crate) fn names_of(
+    alloc: Global,
+    ids: &[EventId],
+    couples: &[msg_match::Couple],
+) -> Result<Vec<Couple>, AllocError>
+    requires { AreCouplesWithin ids.now couples.now }
+    ensures { IfOk result (λ names. names.items ≡ map (named ids.now) couples.now) }
+{
+    let mut names = Vec::new(alloc);
+    for couple in couples {
+        names.push(named(ids, *couple))?;
+    }
+    Ok(names)
 }
 
 // The message of a key.

@@ -166,7 +166,7 @@ fn lawful(rt: HostRuntime) {
 }
 
 // Declarations with their first faults.
-const FAULTS: [(&str, u32, Section, u32); 66] = [
+const FAULTS: [(&str, u32, Section, u32); 75] = [
     ("hosts = ", 1, Section::Top, 0),
     ("x = 1\nx = 2", 1, Section::Top, 0),
     ("\u{feff}\u{feff}", 1, Section::Top, 0),
@@ -233,6 +233,45 @@ const FAULTS: [(&str, u32, Section, u32); 66] = [
         Section::Hosts,
         2,
     ),
+    ("[hosts.a]\naddresses6 = ['::1']", 6, Section::Hosts, 1),
+    (
+        "[hosts.a]\naddresses6 = ['fd00:0:0:0:0:0::2']",
+        6,
+        Section::Hosts,
+        1,
+    ),
+    (
+        "[hosts.a]\naddresses6 = ['0:0:0:0:0:0:10.0.0.1']",
+        6,
+        Section::Hosts,
+        1,
+    ),
+    (
+        "[hosts.a]\naddresses6 = ['fd00:0:0:0:0:0:1']",
+        6,
+        Section::Hosts,
+        1,
+    ),
+    (
+        "[hosts.a]\naddresses6 = ['fd00:0:0:0:0:0:0:00001']",
+        6,
+        Section::Hosts,
+        1,
+    ),
+    (
+        "[hosts.a]\naddresses6 = ['fd00:0:0:0:0:0:0:1', 'FD00:0000:0:0:0:0:0:1']",
+        6,
+        Section::Hosts,
+        1,
+    ),
+    (
+        "[hosts.a]\naddresses6 = ['0:0:0:0:0:0:a00:1']\n[hosts.b]\naddresses6 = ['0:0:0:0:0:0:a00:1']",
+        6,
+        Section::Hosts,
+        2,
+    ),
+    ("[hosts.a]\naddresses6 = ['x', 1]", 3, Section::Hosts, 1),
+    ("[hosts.a]\naddresses6 = 'x'", 3, Section::Hosts, 1),
     (
         "[hosts.b]\nx = 1\n[hosts.a]\nlong = -1",
         5,
@@ -392,4 +431,37 @@ fn faults_are_told(rt: HostRuntime) -> Result<(), Fail> {
     };
     assert!(rt; format!(in rt.alloc(); "{fault}")?.as_str() == "6 hosts 2");
     Ok(())
+}
+
+// Addresses of IPv6 of two hosts, of which one is spelled in another way than its number; the second host has an address of
+// IPv4 of the same number.
+const WIDE: &str =
+    "[hosts.b]\naddresses6 = ['fd00:0:0:0:0:0:0:0002', '0:0:0:0:0:0:a00:1']\naddresses = ['10.0.0.1']\n\
+    [hosts.a]\naddresses6 = ['Fd00:0:0:0:0:0:0:1']";
+
+const WIDE_WANTED: [(u128, u32); 3] = [
+    (0xfd00_0000_0000_0000_0000_0000_0000_0001, 0),
+    (0xfd00_0000_0000_0000_0000_0000_0000_0002, 1),
+    (0x0a00_0001, 1),
+];
+
+fn says_wide(alloc: Global) -> bool {
+    match read_decl(alloc, WIDE.as_bytes()) {
+        Ok(decl) => {
+            decl.addresses6.len() == WIDE_WANTED.len()
+                && decl.addresses6.iter().zip(&WIDE_WANTED).all(|(address, one)| {
+                    address.address == one.0
+                        && address.host == one.1
+                        && decl.host_of6(one.0) == Some(one.1)
+                })
+                && decl.host_of6(1).is_none()
+                && decl.host_of(0x0a00_0001) == Some(1)
+        }
+        Err(_) => false,
+    }
+}
+
+#[test]
+fn wide_addresses(rt: HostRuntime) {
+    assert!(rt; says_wide(rt.alloc()));
 }

@@ -3,7 +3,7 @@ ghost use Rattle.std.specs.Prelude.{◌≤◌, ◌^◌, length, IfSome};
 use arrayvec::ArrayVec;
 use atto::Nano;
 use captures::Packet;
-use decl::{Address, Decl};
+use decl::{Address, Address6, Decl};
 use event_log::read_rows;
 use ip_headers::PacketKey;
 use std::alloc::Global;
@@ -56,6 +56,26 @@ const ALONE: [Address; 1] = [Address {
     host: 0,
 }];
 
+// Addresses of IPv6 of both hosts.
+const WIDE_APART: [Address6; 2] = [
+    Address6 {
+        address: 0xfd00_0000_0000_0000_0000_0000_0000_0001,
+        host: 0,
+    },
+    Address6 {
+        address: 0xfd00_0000_0000_0000_0000_0000_0000_0002,
+        host: 1,
+    },
+];
+
+// UDP over IPv6 from the first of these and port 5000 to the second one and port 6000.
+const WIDE_OVER: [u8; 48] = [
+    0x60, 0, 0, 0, 0, 8, 0x11, 0x40, //
+    0xfd, 0, 0, 0, 0, 0, 0, 0, 0, 0, 0, 0, 0, 0, 0, 1, //
+    0xfd, 0, 0, 0, 0, 0, 0, 0, 0, 0, 0, 0, 0, 0, 0, 2, //
+    0x13, 0x88, 0x17, 0x70, 0, 8, 0, 0,
+];
+
 // Packets at a host, and the side of each; None where the host has both addresses, or neither.
 const SIDES: [(&[Address], u32, &[u8], Option<Side>); 10] = [
     (&APART, 0, &OVER, Some(Side::Send)),
@@ -70,10 +90,11 @@ const SIDES: [(&[Address], u32, &[u8], Option<Side>); 10] = [
     (&ALONE, 1, &OVER, None),
 ];
 
-// Frames of link types that have no key.
-const REASONS: [(u16, &[u8], NoKey); 6] = [
-    (113, &OVER, NoKey::Link),
-    (101, &[0x60], NoKey::Other),
+// Frames that have no key.
+const REASONS: [(u16, &[u8], NoKey); 7] = [
+    (105, &OVER, NoKey::Link),
+    (113, &OVER, NoKey::Other),
+    (101, &[0x60], NoKey::Short),
     (101, &[], NoKey::Short),
     (
         101,
@@ -103,11 +124,14 @@ fn declared(alloc: Global, addresses: &[Address]) -> Option<Decl>
 {
     let mut all = Vec::new(alloc);
     all.extend_from_slice(addresses).ok()?;
+    let mut wide = Vec::new(alloc);
+    wide.extend_from_slice(&WIDE_APART).ok()?;
     Some(Decl {
         hosts: Vec::new(alloc),
         clocks: Vec::new(alloc),
         owners: Vec::new(alloc),
         addresses: all,
+        addresses6: wide,
         labels: Vec::new(alloc),
         links: Vec::new(alloc),
         payload_bytes: 16,
@@ -175,6 +199,31 @@ fn has_side(alloc: Global, case: &(&[Address], u32, &[u8], Option<Side>)) -> boo
     }
 }
 
+// Whether the packet of IPv6 is marked as this end of a message, with its own key.
+fn has_wide_mark(mark: &Mark, wanted: Side) -> bool {
+    match mark {
+        Mark::Keyed {
+            key: Key::Wide(key),
+            side,
+        } => {
+            *side == wanted
+                && key.source == WIDE_APART[0].address
+                && key.target == WIDE_APART[1].address
+                && key.source_port == 5000
+                && key.length == 8
+        }
+        _ => false,
+    }
+}
+
+// The same of its event at a host.
+fn has_wide_side(alloc: Global, host: u32, wanted: Side) -> bool {
+    match event_of(alloc, &APART, host, 101, &WIDE_OVER) {
+        Some(event) => has_wide_mark(&event.mark, wanted),
+        None => false,
+    }
+}
+
 fn has_reason(alloc: Global, link: u16, frame: &[u8], wanted: NoKey) -> bool {
     match event_of(alloc, &APART, 0, link, frame) {
         Some(event) => match event.mark {
@@ -193,6 +242,13 @@ fn packets(rt: HostRuntime) {
     for (link, frame, wanted) in &REASONS {
         assert!(rt; has_reason(rt.alloc(), *link, frame, *wanted), "{wanted:?}");
     }
+}
+
+#[test]
+fn wide_packets(rt: HostRuntime) {
+    assert!(rt; has_wide_side(rt.alloc(), 0, Side::Send));
+    assert!(rt; has_wide_side(rt.alloc(), 1, Side::Receive));
+    assert!(rt; !has_wide_side(rt.alloc(), 2, Side::Send));
 }
 
 // What the event of a row is to be: its stamp, its word with its side, and its text.

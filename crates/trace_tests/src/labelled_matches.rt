@@ -9,7 +9,7 @@ use event_log::WordKey;
 use std::alloc::{AllocError, Global};
 use std::test::*;
 use trace_event::{Event, Key, Mark, NoKey, Side};
-use trace_match::{Changed, TraceMatcher, ends_grow};
+use trace_match::{Changed, Changes, TraceMatcher, ends_grow};
 use traces::{Accepted, Couple, Stream, event_count, events};
 
 // Events that are added to a label, and what is to follow.
@@ -192,7 +192,7 @@ fn events_with(alloc: Global, ends: &[(Side, &str)]) -> Result<Vec<Event>, Alloc
 }
 
 // Adds events to a label and to the ends of messages.
-fn add_more(kept: &mut Kept, label: u32, mut events: Vec<Event>) -> Result<Changed, AllocError>
+fn add_more(kept: &mut Kept, label: u32, mut events: Vec<Event>) -> Result<Changes, AllocError>
     requires { AreEndsOf kept.old.matcher (seen_in kept.old.labels.items) }
     ensures { OnOk result (AreEndsOf kept.new.matcher (seen_in kept.new.labels.items)) }
 {
@@ -208,9 +208,9 @@ fn add_more(kept: &mut Kept, label: u32, mut events: Vec<Event>) -> Result<Chang
     if before > 1000 {
         return Err(AllocError);
     }
-    let changed = kept.matcher.add(label, before as u32 + 1, &events)?;
+    let changes = kept.matcher.add(label, before as u32 + 1, &events)?;
     under.events.append(&mut events)?;
-    Ok(changed)
+    Ok(changes)
 }
 
 // The messages by the index.
@@ -224,10 +224,26 @@ fn by_index(alloc: Global, kept: &Kept) -> Result<Vec<Couple>, AllocError>
     kept.matcher.messages(&events)
 }
 
+// Whether each message of the first list is in the second one, and none is in the third.
+fn stand_only_in(found: &[Couple], these: &[Couple], those: &[Couple]) -> bool {
+    for message in found {
+        if !these.contains(message) || those.contains(message) {
+            return false;
+        }
+    }
+    true
+}
+
+// Whether the counts of an addition are these.
+fn are_counted(counts: Changed, step: &Step) -> bool {
+    counts.messages == u64::from(step.added) && counts.withdrawn == u64::from(step.withdrawn)
+}
+
 // Whether an addition changed the messages as is wanted, by the filters and by the index.
-fn is_right(changed: &Changed, step: &Step, before: &[Couple], after: &[Couple]) -> bool {
-    changed.messages == step.added
-        && changed.withdrawn == step.withdrawn
+fn is_right(changes: &Changes, step: &Step, before: &[Couple], after: &[Couple]) -> bool {
+    are_counted(changes.counts(), step)
+        && stand_only_in(&changes.added, after, before)
+        && stand_only_in(&changes.withdrawn, before, after)
         && lost(after, before) == Some(step.added)
         && lost(before, after) == Some(step.withdrawn)
         && are_messages(after, step.messages)
@@ -239,10 +255,10 @@ fn step_holds(alloc: Global, kept: &mut Kept, step: &Step) -> Result<bool, Alloc
 {
     let before = by_filters(alloc, &kept.labels)?;
     let events = events_with(alloc, step.ends)?;
-    let changed = add_more(kept, step.label, events)?;
+    let changes = add_more(kept, step.label, events)?;
     let after = by_filters(alloc, &kept.labels)?;
     let found = by_index(alloc, kept)?;
-    Ok(is_right(&changed, step, &before, &after) && are_messages(&found, step.messages))
+    Ok(is_right(&changes, step, &before, &after) && are_messages(&found, step.messages))
 }
 
 fn replay(alloc: Global, steps: &[Step]) -> Result<bool, AllocError> {

@@ -25,7 +25,7 @@ returns c =
     let count : c.len-before.result ≡ length under.events.items = search rules in
     let grown : c.append.new.self.items ≡ under.events.items ++ c.args.events.items = search rules in
     let added : c.add.new.self ≡ c.args.kept.now.matcher ++ ends_of (numbered c.args.label (length under.events.items + 1) (seen_events c.args.events.items)) =
-    c.in_ok-changed.ensures.ok
+    c.in_ok-changes.ensures.ok
     ∙ ap (λ (n : ℕ). c.args.kept.now.matcher ++ ends_of (numbered c.args.label (n + 1) (seen_events c.deref-2.result.now))) count
     ∙ ap (λ (l : List Event). c.args.kept.now.matcher ++ ends_of (numbered c.args.label (length under.events.items + 1) (seen_events l))) c.deref-2.ensures.value in
     let inside : c.args.label < length labels = search rules in
