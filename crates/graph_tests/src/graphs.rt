@@ -1,7 +1,6 @@
 // The graph of two logs with a message each way, and the lists of a graph whose arcs come and go.
 ghost use Rattle.std.specs.Prelude.{◌≡◌, ◌<◌, ◌≤◌, length};
 
-use crate::fixtures::LATE_LOGS_PROBLEM;
 use atto::{Nano, Steps};
 use problem::read_problem;
 use problem_model::{Bound, Node};
@@ -10,6 +9,12 @@ use std::marker::Brand;
 use std::sync::ledger::{Blank, Ledger};
 use std::test::*;
 use sync_graph::{Arc, Graph, graph_of};
+
+// Two logs, and a message in each direction; the clock of b may be 3 ns early and 7 ns late. Events a#1, a#2, b#1 and b#2 are
+// the nodes 0 to 3; their readings 100, 180, 250 and 300 are the nodes 4 to 7.
+const LATE_LOGS_PROBLEM: &str =
+    "problem 1\nclock a 0 0 0 0\nclock b 0 0 3 7\nevent a#1 a 100\nevent a#2 a 180\nevent b#1 b 250\nevent b#2 b 300\n\
+    message a#1 b#1 10 20\nmessage b#2 a#2 10 20\nend\n";
 
 // Tail, head and weight in ns of each arc of that problem: four spans, eight stamps, four delays.
 const ARCS: [(u32, u32, i128); 16] = [
@@ -82,12 +87,18 @@ fn has_counts(g: &Graph) -> bool {
     g.nodes() == 8 && g.arcs() == 16 && g.arc(8).name == Bound::Late(2)
 }
 
+// Whether all of it is that of the problem.
+fn is_its_graph(g: &Graph) -> bool {
+    first_wrong_arc(g).is_none()
+        && has_counts(g)
+        && has_readings(g)
+        && has_arcs_at_first::<Brand>(g, Blank::new(1))
+}
+
 #[test]
 fn a_problem_has_its_graph(rt: HostRuntime) {
     let g = two_logs(rt.alloc()).expect(&rt, "a graph");
-    assert_eq!(rt; first_wrong_arc(&g), None);
-    assert!(rt; has_counts(&g) && has_readings(&g));
-    assert!(rt; has_arcs_at_first::<Brand>(&g, Blank::new(1)));
+    assert!(rt; is_its_graph(&g));
 }
 
 // Appends the event at the next place.

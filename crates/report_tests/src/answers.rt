@@ -11,7 +11,7 @@ use engine::Solver;
 use ports::{Failed, MemSink};
 use problem::{Listing, Problem, read_problem};
 use queries::{is_consistent, reading_of, write_interval, write_order, write_proof, write_time};
-use solver::solve;
+use solving::solve;
 use std::alloc::Global;
 use std::marker::Brand;
 use std::sync::ledger::{Blank, Ledger};

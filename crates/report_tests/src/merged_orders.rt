@@ -8,7 +8,7 @@ use decl::Decl;
 use merging::write_merge;
 use ports::MemSink;
 use queries::Stop;
-use solver::solve;
+use solving::solve;
 use std::alloc::{AllocError, Global};
 use std::marker::Brand;
 use std::sync::ledger::{Blank, Ledger};

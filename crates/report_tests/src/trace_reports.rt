@@ -14,6 +14,7 @@ use std::test::*;
 use trace_event::{Key, packet_events};
 use trace_report::{key_text, view_of};
 use traces::{Accepted, event_count};
+use wide_headers::WideKey;
 
 // Captures at the hosts a and b, and logs there.
 const DECLARATION: &[u8] =
@@ -125,9 +126,9 @@ const PACKETS: Case = Case {
             (101, &SEGMENT),
             (101, &OVER),
             (101, &BACK),
-            (113, &OVER),
-            (101, &[0x60]),
-            (101, &[0x60]),
+            (105, &OVER),
+            (101, &[0x50]),
+            (101, &[0x50]),
             (101, &[]),
             (101, &[]),
             (101, &[]),
@@ -235,6 +236,42 @@ const TOLD: [(u8, u32, u32, &[u8], &str); 4] = [
     ),
 ];
 
+// The same of IPv6: the first bits of an address in its first digits, and zeros where they are.
+const WIDE_TOLD: [(u8, u128, u128, &[u8], &str); 2] = [
+    (
+        17,
+        0xfd00_0000_0000_0000_0000_0000_0000_0001,
+        0,
+        b"",
+        "udp [fd00:0000:0000:0000:0000:0000:0000:0001]:0 [0000:0000:0000:0000:0000:0000:0000:0000]:65535 length 40 payload -",
+    ),
+    (
+        6,
+        0x0123_4567_89ab_cdef_1032_5476_98ba_dcfe,
+        0xffff_ffff_ffff_ffff_ffff_ffff_ffff_ffff,
+        b"\x00\xff",
+        "tcp [0123:4567:89ab:cdef:1032:5476:98ba:dcfe]:0 [ffff:ffff:ffff:ffff:ffff:ffff:ffff:ffff]:65535 \
+        seq 4294967295 ack 0 flags 255 length 40 payload 00ff",
+    ),
+];
+
+fn wide_key(protocol: u8, source: u128, target: u128, bytes: &[u8]) -> Key {
+    let mut payload = ArrayVec::new();
+    let _fits = payload.try_extend_from_slice(bytes);
+    Key::Wide(WideKey {
+        source,
+        target,
+        protocol,
+        source_port: 0,
+        target_port: 65535,
+        sequence: if protocol == 6 { 0xffff_ffff } else { 0 },
+        acknowledged: 0,
+        flags: if protocol == 6 { 255 } else { 0 },
+        length: 40,
+        payload,
+    })
+}
+
 fn packet_key(protocol: u8, source: u32, target: u32, bytes: &[u8]) -> Key {
     let mut payload = ArrayVec::new();
     let _fits = payload.try_extend_from_slice(bytes);
@@ -271,6 +308,10 @@ fn is_word_told(alloc: Global, word: &str, wanted: &str) -> bool {
 fn keys(rt: HostRuntime) {
     for (protocol, source, target, payload, wanted) in &TOLD {
         let key = packet_key(*protocol, *source, *target, payload);
+        assert!(rt; has_text(rt.alloc(), &key, wanted), "{wanted}");
+    }
+    for (protocol, source, target, payload, wanted) in &WIDE_TOLD {
+        let key = wide_key(*protocol, *source, *target, payload);
         assert!(rt; has_text(rt.alloc(), &key, wanted), "{wanted}");
     }
     assert!(rt; is_word_told(rt.alloc(), "m1", "log m1"));

@@ -1,11 +1,4 @@
-pub mod Orders
-pub mod Counting
 pub mod OwnStanding
 pub mod GreatHeights
 pub mod ListedAnswers
 pub mod ListedPairs
-pub mod ItemSteps
-pub mod Covering
-pub mod Bringing
-pub mod DeclaredArcs
-pub mod PushedItems

@@ -1,9 +1,2 @@
 pub mod Bounds
-pub mod Items
-pub mod Pushing
-pub mod Order
 pub mod Solution
-pub mod GraphSolution
-pub mod Turns
-pub mod Offsets
-pub mod Queues

@@ -27,12 +27,6 @@ IsSolution p s = IsSolutionBy (listing_of p) p s
 abbrev pub steps_of : List Arc → List WeighedBound
 steps_of arcs = map (λ (a : Arc). (a.name, a.weight)) arcs
 
--- the arcs are a contradiction of the problem, no longer than it has nodes, and so it has no execution
-pub record HasContradiction (p : ProblemLists) (arcs : List Arc) : Type 0 where
-  pub contradiction : IsContradictionOf p (steps_of arcs)
-  pub short : (readings : List Reading) → AreReadings p readings → length arcs ≤ length (nodes_of p readings)
-  pub no_execution : (x : Times) → IsExecution p x → ⊥
-
 -- the listing names the arcs, and with events by their places they are a contradiction of the problem, no longer than it
 -- has nodes; so it has no execution
 pub record HasContradictionBy (l : Listed) (p : ProblemLists) (arcs : List Arc) : Type 0 where

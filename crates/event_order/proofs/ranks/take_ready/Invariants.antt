@@ -1,0 +1,13 @@
+use Rattle.std.proofs.Common.{◌≡◌, ◌+◌, length}
+use Rattle.event_order.specs.Queues.{AreEvents}
+use Rattle.event_order.proofs.ranks.take_ready.Given as goal
+
+abbrev pub invariant-loop-event : goal.invariant-loop-event
+invariant-loop-event g l = record {
+  all : l.queue.all ≡ l.initial.queue.all;
+  order : AreEvents l.initial.queue.all l.order.items;
+  once : length l.order.items + l.queue.left ≡ length l.initial.order.items + l.initial.queue.left;
+}
+
+abbrev pub decreases-loop-event : goal.decreases-loop-event
+decreases-loop-event g l = l.queue.left

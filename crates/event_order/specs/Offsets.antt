@@ -1,0 +1,23 @@
+-- Clocks that reach each other by messages.
+use Rattle.std.specs.Prelude.{◌≡◌, ℕ, ◌+◌, ◌<◌, ℤ, List, length, All, Bool, true, false}
+use Rattle.std.specs.List.{sum_by}
+use Rattle.event_order.specs.declared.offsets.Link.{Link}
+
+-- links lead to clocks
+abbrev pub AreLinks : ℕ → List Link → Type 0
+AreLinks clocks links = All (λ link. link.to < clocks) links
+
+-- a flag that is not set counts one
+abbrev pub unset : Bool → ℕ
+unset true = 0
+unset false = 1
+
+-- how many flags are not set
+abbrev pub count_unset : List Bool → ℕ
+count_unset flags = sum_by unset flags
+
+-- those reached are clocks, as many as have their flag, and each clock has a number
+pub record AreReached (order : List ℕ) (reached : List Bool) (ahead : List ℤ) : Type 0 where
+  pub one_each : length ahead ≡ length reached
+  pub clocks : All (λ clock. clock < length reached) order
+  pub counted : length order + count_unset reached ≡ length reached

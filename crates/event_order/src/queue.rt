@@ -1,0 +1,140 @@
+// Events that are brought in one after another.
+ghost use Rattle.std.specs.Prelude.{◌≡◌, ◌+◌, ◌<◌, ◌≤◌, ◌^◌, length, All, IfOk, IfSome, IfNone};
+ghost use Rattle.event_order.specs.Queues.{AreSuccessions};
+
+use atto::Steps;
+use frontier::Frontier;
+use std::alloc::{AllocError, Global};
+use std::marker::Model;
+use std::sync::ledger::Ledger;
+
+/// An event that comes next behind another: on its clock, or as the receive of a message behind its send.
+#[derive(Clone, Copy)]
+pub struct Succession {
+    /// The place of the event before.
+    pub before: u32,
+    /// The place of the event behind it.
+    pub after: u32,
+}
+
+/// The events that are ready, by time, and how many each of the others waits for.
+///
+/// Each event is queued once and taken out once. It is seen as how many events there are, and how many of them have not
+/// been taken out. A call names an event below their number, so no look-up misses.
+#[derive(Drop)]
+pub struct Queue {
+    // Of each event, in ns, by whatever clock all events are compared by.
+    times: Vec<i128>,
+    ready: Frontier,
+    queued: Vec<bool>,
+    waiting: Vec<u32>,
+}
+
+impl Model for Queue {
+    ghost use Rattle.std.specs.Prelude.{◌+◌, length};
+    ghost use Rattle.event_order.specs.Turns.{Turns};
+    ghost use Rattle.event_order.specs.Queues.{IsQueue, not_queued, are_ready};
+
+    ghost Value = { Turns };
+
+    ghost view = { λ q. record { all = length q.queued.items; left = not_queued q.queued.items + are_ready q.ready } };
+
+    ghost invariant = { λ q. IsQueue q.times.items q.ready q.queued.items q.waiting.items };
+}
+
+// How many others each event waits for.
+fn waits(alloc: Global, events: usize, successions: &[Succession]) -> Result<Vec<u32>, AllocError>
+    requires { AreSuccessions events successions.now }
+    ensures { IfOk result (λ counts. length counts.items ≡ events) }
+{
+    let mut counts: Vec<u32> = Vec::new(alloc);
+    counts.resize(events, 0)?;
+    for pair in successions {
+        let count = counts[pair.after as usize];
+        counts[pair.after as usize] = count.saturating_add(1);
+    }
+    Ok(counts)
+}
+
+impl Queue {
+    /// Each event, by these times, waits for those that it comes next behind, and none is queued.
+    pub fn new(
+        alloc: Global,
+        times: Vec<i128>,
+        successions: &[Succession],
+    ) -> Result<Queue, AllocError>
+        requires few { length times.items < 2 ^ 32 }
+        requires successions { AreSuccessions (length times.items) successions.now }
+        ensures all { IfOk result (λ queue. queue.all ≡ length times.items) }
+        ensures left { IfOk result (λ queue. queue.left ≡ length times.items) }
+    {
+        let events = times.len();
+        let waiting = waits(alloc, events, successions)?;
+        let ready = Frontier::with_room(alloc, events as u32)?;
+        let queued = vec![in alloc; false; events]?;
+        Ok(Queue {
+            times,
+            ready,
+            queued,
+            waiting,
+        })
+    }
+
+    /// Queues an event, unless it has been queued.
+    pub fn push(&mut self, event: u32)
+        requires { event < self.old.all }
+        ensures { self.new ≡ self.old }
+    {
+        if self.queued[event as usize] {
+            return;
+        }
+        self.ready.put(event, self.times[event as usize]);
+        self.queued[event as usize] = true;
+    }
+
+    /// Queues an event that waits for no other, unless it has been queued.
+    pub fn push_ready(&mut self, event: u32)
+        requires { event < self.old.all }
+        ensures { self.new ≡ self.old }
+    {
+        if self.waiting[event as usize] == 0 {
+            self.push(event);
+        }
+    }
+
+    /// Takes out the earliest event that is ready; None where none is.
+    pub fn take<L: Ledger>(&mut self, steps: &mut Steps<L>) -> Option<u32>
+        ensures all { self.new.all ≡ self.old.all }
+        ensures event { IfSome result (λ event. event < self.old.all) }
+        ensures left { IfSome result (λ event. self.new.left + 1 ≡ self.old.left) }
+        ensures none { IfNone result (self.new ≡ self.old) }
+    {
+        let (event, _) = self.ready.pop(steps)?;
+        Some(event)
+    }
+
+    // An event waits for one other less.
+    fn lessen(&mut self, event: u32)
+        requires { event < self.old.all }
+        ensures { self.new ≡ self.old }
+    {
+        let count = self.waiting[event as usize];
+        self.waiting[event as usize] = count.saturating_sub(1);
+        self.push_ready(event);
+    }
+
+    /// Those that come next behind an event wait for it no longer, and are queued where they wait for no other.
+    pub fn release(&mut self, event: u32, successions: &[Succession])
+        requires { AreSuccessions self.old.all successions.now }
+        ensures { self.new ≡ self.old }
+    {
+        let first = successions.partition_point(|pair| pair.before < event);
+        for place in first..successions.len() {
+            let pair = successions[place];
+            if pair.before != event {
+                break;
+            }
+            self.lessen(pair.after);
+        }
+    }
+}

@@ -1,6 +1,0 @@
-use Rattle.std.proofs.Common.{◌-◌, length}
-use Rattle.solver.specs.Items.{AreItems, items_of}
-use Rattle.solver.proofs.items.push_messages.Given as goal
-
-abbrev pub invariant-loop-place : goal.invariant-loop-place
-invariant-loop-place l = AreItems l.p l.readings (length l.readings - 1) (length l.p.events) l.place (items_of l.items.items)

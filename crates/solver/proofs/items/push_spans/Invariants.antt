@@ -1,5 +1,0 @@
-use Rattle.solver.specs.Items.{AreItems, items_of}
-use Rattle.solver.proofs.items.push_spans.Given as goal
-
-abbrev pub invariant-loop-place : goal.invariant-loop-place
-invariant-loop-place l = AreItems l.p l.readings l.place 0 0 (items_of l.items.items)

@@ -1,5 +1,0 @@
-use Rattle.std.proofs.Common.{◌≡◌}
-use Rattle.solver.proofs.offsets.clock_offsets.Given as goal
-
-abbrev pub invariant-loop-clock : goal.invariant-loop-clock
-invariant-loop-clock l = l.reached.all ≡ l.clocks

@@ -1,8 +1,0 @@
-use Rattle.std.proofs.Common.{◌≡◌, length, false, replicate, rules}
-use Rattle.solver.proofs.Counting.{all_left}
-use Rattle.solver.proofs.queue.Queue.new.Goals as goal
-
-pub returns-clause-left : goal.returns-clause-left
-returns-clause-left c =
-    let flags : c.in_ok-queued.queued.items ≡ replicate (length c.args.times.items) false = search rules in
-    rw (flags) (all_left (length c.args.times.items) c.in_ok-ready.ready c.in_ok-ready.ensures.empty)

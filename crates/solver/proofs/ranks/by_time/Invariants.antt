@@ -1,7 +1,0 @@
-use Rattle.std.proofs.Common.{◌<◌, length}
-use Rattle.std.specs.Prelude.{All}
-use Rattle.solver.specs.declared.ranks.Timed.{Timed}
-use Rattle.solver.proofs.ranks.by_time.Given as goal
-
-abbrev pub invariant-loop-place : goal.invariant-loop-place
-invariant-loop-place l = All (λ (entry : Timed). entry.event < length l.times) l.timed.items

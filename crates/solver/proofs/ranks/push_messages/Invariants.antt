@@ -1,6 +1,0 @@
-use Rattle.std.proofs.Common.{length}
-use Rattle.solver.specs.Queues.{AreSuccessions}
-use Rattle.solver.proofs.ranks.push_messages.Given as goal
-
-abbrev pub invariant-loop-message : goal.invariant-loop-message
-invariant-loop-message l = AreSuccessions (length l.p.events) l.pairs.items

@@ -1,4 +1,0 @@
-use Rattle.solver.proofs.solving.solve_graph.Goals as goal
-
-pub returns : goal.returns
-returns g c = c.kept_or_cycle.ensures c.args.g.now c.in_ok-found.ensures

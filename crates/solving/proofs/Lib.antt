@@ -1,0 +1,6 @@
+pub mod Orders
+pub mod ItemSteps
+pub mod Covering
+pub mod Bringing
+pub mod DeclaredArcs
+pub mod PushedItems

@@ -1,0 +1,9 @@
+use Rattle.std.proofs.Common.{◌-◌, length}
+use Rattle.solving.proofs.ItemSteps.{sorted_items}
+use Rattle.solving.proofs.items.ordered_items.Goals as goal
+
+pub returns : goal.returns
+returns g c =
+    let p = c.args.p.now in
+    let rs = c.args.readings.now in
+    sorted_items p rs (length rs - 1) (length p.events) (length p.messages) c.in_ok-items.items.items c.sort_unstable_by_key.new.self.items c.sort_unstable_by_key.ensures.permutation c.in_ok-items.ensures

@@ -1,0 +1,4 @@
+pub mod Items
+pub mod Pushing
+pub mod Order
+pub mod GraphSolution
