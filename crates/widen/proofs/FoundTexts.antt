@@ -1,11 +1,9 @@
 -- What is found is a widening of the problem that shows what it should, and its text is one that is read again.
-use Rattle.std.proofs.Common.{◌≡◌, ◌<◌, ◌≤◌, ◌+◌, ◌-◌, ◌*◌, ◌^◌, ℕ, List, [], ◌∷◌, ◌++◌, length, get_or, codes, Option, Some, None, Result, Ok, Err, refl, sym, ◌∙◌, ap, subst, arith, inl, inr, length-append}
+use Rattle.std.proofs.Common.{◌≡◌, ◌<◌, ◌≤◌, ◌+◌, ◌-◌, ◌*◌, ◌^◌, ℕ, List, [], ◌∷◌, length, codes, Option, Some, None, Result, Ok, Err, refl, sym, ◌∙◌, ap, subst, arith, inl, inr, length-append}
 use Rattle.std.specs.Prelude.{ℤ, pos, neg_ℤ, ◌⊎◌, All}
 use Rattle.std.specs.List.{flat_map}
-use Rattle.std.proofs.lemmas.Int.{ints}
 use Rattle.std.proofs.lemmas.List.{length-map}
 use Rattle.std.proofs.lemmas.List.Elements.{All-nil, All-cons}
-use Rattle.atto.specs.Number.{FitsUnits}
 use Rattle.atto.specs.Decimal.{decimal_of}
 use Rattle.atto.proofs.DecimalLemmas.{length-decimal_of-le}
 use Rattle.line_format.specs.Words.{line_of}
@@ -20,7 +18,6 @@ use Rattle.problem_model.specs.Bounds.{Constraint, Declares}
 use Rattle.problem_model.specs.ExecutionText.{value_lines}
 use Rattle.problem_model.specs.Nodes.{Reading, AreReadings, nodes_of}
 use Rattle.problem.proofs.ListedNodes.{few_nodes}
-use Rattle.difference_bounds.specs.Numbers.{IsUpTo}
 use Rattle.difference_bounds.specs.Solutions.{Leads}
 use Rattle.cert.specs.declared.chain.Step.{Step}
 use Rattle.cert.specs.declared.error.CertError.{CertError}
@@ -29,6 +26,8 @@ use Rattle.cert.specs.CertificateText.{IsStepOf, HasOneEach, step_line}
 use Rattle.cert.specs.ReadsCert.{FitsSteps}
 use Rattle.cert.specs.Shows.{weighed_bounds, IsExecutionOf}
 use Rattle.cert.proofs.TextLengths.{line_size, steps_short, values_short}
+use Rattle.attain.proofs.Accepted.{values_fit, weights_fit}
+use Rattle.attain.proofs.EndLengths.{three, values_up_to, weights_up_to}
 use Rattle.cert_check.specs.declared.answer.Answer as judged
 use Rattle.cert_check.specs.declared.answer.Answer.TheVariants.{Yes}
 use Rattle.cert_check.specs.Widened.{widened}
@@ -101,20 +100,7 @@ least_found p extra execution cycle found = shown_least p extra execution cycle 
 pub never_found : (p : ProblemLists) (cycle : List Step) → FindsWidening p (Never cycle) → HasNoWidening p
 never_found p cycle found = shown_never p cycle found.contradiction
 
--- ---- numbers are in range
-fits_from : (bits : ℕ) (z : ℤ) → 2 ^ bits ≤ 2 ^ 120 → IsUpTo bits z → FitsUnits z
-fits_from bits z few (low, high) = omega (arith, ints, few, low, high)
-
-weights_fit : (steps : List Step) → All (λ s. IsUpTo 93 s.weight) steps → All (λ s. FitsUnits s.weight) steps
-weights_fit steps small i d inside = fits_from 93 (get_or steps i d).weight (omega arith) (small i d inside)
-
-values_fit : (xs : List ℤ) → All (IsUpTo 117) xs → All FitsUnits xs
-values_fit xs small i d inside = fits_from 117 (get_or xs i d) (omega arith) (small i d inside)
-
 -- ---- texts
-three : (a b c : List ℕ) → length (a ++ b ++ c) ≡ length a + (length b + length c)
-three a b c = omega (arith, length-append (a ++ b) c, length-append a b)
-
 module _ (p : ProblemLists) (readings : List Reading) (lawful : IsProblem p) (are : AreReadings p readings) where
   steps_fit : (e : ℕ) (cycle : List Step) → IsCycleAt p e cycle → FitsSteps cycle
   steps_fit e cycle found = (weights_fit cycle found.small, (let few = few_nodes p readings lawful are in let short = found.short readings are in omega (arith, few, short)))
@@ -131,7 +117,7 @@ module _ (p : ProblemLists) (readings : List Reading) (lawful : IsProblem p) (ar
   steps_text : (e : ℕ) (cycle : List Step) → IsCycleAt p e cycle → length (cycle_lines p (Some cycle)) ≤ 2 ^ 21 * 149 + 6
   steps_text e cycle found =
       let head : length (line_of (codes "cycle" ∷ [])) ≡ 5 + 1 + 0 = line_size (codes "cycle") [] in
-      let lines = steps_short p lawful cycle (steps_back p e cycle found) found.small in
+      let lines = steps_short p lawful cycle (steps_back p e cycle found) (weights_up_to cycle found.small) in
       let few = few_nodes p readings lawful are in
       let short = found.short readings are in
       omega (arith, length-append (line_of (codes "cycle" ∷ [])) (flat_map (step_line p) cycle), head, lines, few, short)
@@ -148,7 +134,7 @@ module _ (p : ProblemLists) (readings : List Reading) (lawful : IsProblem p) (ar
 
   lines_short : (w : Widening) → FindsWidening p w → length (widening_lines p (nodes_of p readings) w) ≤ 2 ^ 21 * 249 + 32
   lines_short (Least extra execution cycle) found =
-      let values = values_short p lawful readings execution are found.1.small in
+      let values = values_short p lawful readings execution are (values_up_to execution found.1.small) in
       let few = few_nodes p readings lawful are in
       omega (arith, three (line_of (least_words (Some extra))) (value_lines p (nodes_of p readings) execution) (cycle_lines p cycle), least_line_short extra found.0, values, few, cycle_text extra cycle found.2)
   lines_short (Never cycle) found =

@@ -1,21 +1,32 @@
 -- What solving the graph of a widened problem says of the problem.
-use Rattle.std.proofs.Common.{◌≡◌, ◌∙◌, ℕ, List, length, map, get_or, sym, ap, subst}
+use Rattle.std.proofs.Common.{◌≡◌, ◌+◌, ◌∙◌, ℕ, zero, suc, List, [], ◌∷◌, ◌++◌, length, map, get_or, refl, sym, ap, subst, arith}
 use Rattle.std.specs.Prelude.{ℤ}
 use Rattle.std.specs.List.{range_with_len}
 use Rattle.std.specs.List.Sorted.{IsPermutation}
 use Rattle.std.proofs.lemmas.List.{length-map}
+use Rattle.std.proofs.lemmas.List.Sorted.{IsPermutation-refl}
 use Rattle.problem_model.specs.Problem.{ProblemLists, IsProblem}
 use Rattle.problem_model.specs.Nodes.{Reading, AreReadings}
 use Rattle.sync_graph.specs.declared.arc.Arc.{Arc}
 use Rattle.sync_graph.specs.Graph.{GraphLists, IsGraph}
 use Rattle.sync_graph.specs.InForce.{IsEarliestOf}
 use Rattle.earliest.specs.Inserted.{IsNegativeCycle}
-use Rattle.solver.specs.Order.{AreAllArcs}
+use Rattle.solving.specs.Order.{AreAllArcs}
 use Rattle.cert_check.specs.Widened.{widened}
-use Rattle.cert_check.proofs.Widening.{formed, readings_on}
+use Rattle.cert_check.proofs.Widening.{formed, readings_on, not_widened}
 use Rattle.widen.specs.Raised.{raised_arc}
-use Rattle.widen.specs.Found.{HoldsShortList, IsRunAt, IsCycleFor}
-use Rattle.widen.proofs.Solved.{earliest_of, values_small, sound_arc, cycle_contradicts, cycle_short}
+use Rattle.solver.specs.Bounds.{HoldsShortList}
+use Rattle.widen.specs.Found.{IsRunAt, IsCycleFor}
+use Rattle.widen.proofs.Solved.{earliest_of, values_under, sound_arc, cycle_contradicts, cycle_short}
+
+-- ---- the order in which arcs stand
+pub range_more : (a n j : ℕ) → a + n ≡ j → range_with_len a (suc n) ≡ range_with_len a n ++ j ∷ []
+range_more a zero j e = let same : a ≡ j = omega (arith, e) in rw same refl
+range_more a (suc n) j e = ap (λ (ks : List ℕ). a ∷ ks) (range_more (a + 1) n j (omega (arith, e)))
+
+pub as_they_stand : (g : GraphLists) (order : List ℕ) (n : ℕ) → n ≡ length g.arcs → order ≡ range_with_len 0 n → AreAllArcs g order
+as_they_stand g order n all is =
+    subst (λ (ks : List ℕ). IsPermutation (range_with_len 0 (length g.arcs)) ks) (sym (is ∙ ap (range_with_len 0) all)) (IsPermutation-refl (range_with_len 0 (length g.arcs)))
 
 pub arcs_long : (e : ℕ) (g h : GraphLists) → h.arcs ≡ map (raised_arc e) g.arcs → length h.arcs ≡ length g.arcs
 arcs_long e g h arcs = ap length arcs ∙ length-map g.arcs (raised_arc e)
@@ -27,7 +38,7 @@ module _ (p : ProblemLists) (e : ℕ) (g : GraphLists) (lawful : IsProblem p) (i
   pub run_found : (values : List ℤ) → IsEarliestOf g values → IsRunAt p e values
   run_found values earliest = record {
     earliest = earliest_of (widened p e) g (formed p e lawful.formed) is readings (readings_on p e readings are) holds values earliest;
-    small = values_small g is values earliest;
+    small = values_under g is values earliest;
   }
 
   pub cycle_found : (arcs : List Arc) → IsNegativeCycle g arcs → IsCycleFor p e arcs
@@ -36,3 +47,7 @@ module _ (p : ProblemLists) (e : ℕ) (g : GraphLists) (lawful : IsProblem p) (i
     short = λ rs are'. cycle_short (widened p e) g is readings (readings_on p e readings are) holds arcs cycle rs (readings_on p e rs are');
     small = λ i d inside. sound_arc (widened p e) g is readings (readings_on p e readings are) holds (get_or arcs i d) (cycle.in_force i d inside);
   }
+
+-- widened by nothing
+pub holds_unwidened : (p : ProblemLists) (g : GraphLists) → HoldsShortList p g → HoldsShortList (widened p 0) g
+holds_unwidened p g holds = subst (λ (q : ProblemLists). HoldsShortList q g) (sym (not_widened p)) holds

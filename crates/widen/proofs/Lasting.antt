@@ -16,6 +16,7 @@ use Rattle.cert.specs.declared.chain.Step.{Step}
 use Rattle.cert.specs.Sizes.{most_steps}
 use Rattle.cert.specs.Shows.{weighed_bounds}
 use Rattle.cert_check.specs.Widened.{widened}
+use Rattle.attain.specs.Tight.{IsUnder}
 use Rattle.widen.specs.declared.tried.Tried.TheVariants.{Cycle}
 use Rattle.widen.specs.Raised.{rise_of, delays_of, raised_bound, raised_step, weighed_arcs}
 use Rattle.widen.specs.Found.{IsCycleAt, IsCycleFor}
@@ -50,19 +51,22 @@ module _ (p : ProblemLists) (e : ℕ) (arcs : List Arc) (lawful : IsProblem p) (
   weights_up i d inside = up_from (get_or arcs i d).weight (found.small i d inside)
 
   module _ (rise : ℕ) (within : e + rise < 2 ^ 62) where
-    raised_up : (a : Arc) → IsDeclaredArc (widened p e) a → (neg_ℤ (pos (2 ^ 93)) <ℤ a.weight) × (a.weight <ℤ pos (2 ^ 93)) → IsUpTo 93 (a.weight +ℤ pos (rise_of rise a.name))
-    raised_up a (c, declares, weighs) small =
+    raised_under : (a : Arc) → IsDeclaredArc (widened p e) a → IsUnder 93 a.weight → IsUnder 93 (a.weight +ℤ pos (rise_of rise a.name))
+    raised_under a (c, declares, weighs) small =
         let high = weight_high p e rise a.name c lawful within declares (subst (λ (w : ℤ). w <ℤ pos (2 ^ 93)) (sym weighs) small.1) in
-        up_from (a.weight +ℤ pos (rise_of rise a.name)) (weight_low a.weight (rise_of rise a.name) small.0, subst (λ (w : ℤ). (w +ℤ pos (rise_of rise a.name)) <ℤ pos (2 ^ 93)) weighs high)
+        (weight_low a.weight (rise_of rise a.name) small.0, subst (λ (w : ℤ). (w +ℤ pos (rise_of rise a.name)) <ℤ pos (2 ^ 93)) weighs high)
+
+    all_under : All (λ a. IsUnder 93 (a.weight +ℤ pos (rise_of rise a.name))) arcs
+    all_under i d inside = raised_under (get_or arcs i d) (led_arcs (widened p e) arcs found.contradiction.closed.0 found.contradiction.closed.0 found.contradiction.closed.1 i d inside) (found.small i d inside)
 
     pub all_up : All (λ a. IsUpTo 93 (a.weight +ℤ pos (rise_of rise a.name))) arcs
-    all_up i d inside = raised_up (get_or arcs i d) (led_arcs (widened p e) arcs found.contradiction.closed.0 found.contradiction.closed.0 found.contradiction.closed.1 i d inside) (found.small i d inside)
+    all_up i d inside = up_from ((get_or arcs i d).weight +ℤ pos (rise_of rise (get_or arcs i d).name)) (all_under i d inside)
 
     cycle_there : delays_of (weighed_arcs arcs) * (rise * 1000000000) < lacks.0 → IsCycleAt p (e + rise) (map (raised_step rise) arcs)
     cycle_there below = record {
       contradiction = subst (IsContradictionOf (widened p (e + rise))) (sym (raised_steps rise arcs)) (raised_contradiction p e rise lacks.0 (weighed_arcs arcs) found.contradiction lacks.1 below);
       short = λ readings are. (let short = found.short readings are in omega (arith, short, length-map arcs (raised_step rise)));
-      small = All-map (λ (s : Step). IsUpTo 93 s.weight) (raised_step rise) arcs all_up;
+      small = All-map (λ (s : Step). IsUnder 93 s.weight) (raised_step rise) arcs all_under;
     }
 
     pub tried : (cycle : List Step) → cycle ≡ map (raised_step rise) arcs → delays_of (weighed_arcs arcs) * (rise * 1000000000) < lacks.0 → IsTried p e (Cycle (e + rise) cycle)

@@ -20,7 +20,7 @@ use Rattle.sync_graph.proofs.InForce.{no_arc}
 use Rattle.cert_check.specs.Widened.{widened}
 use Rattle.cert_check.proofs.Widening.{not_widened, readings_back, bounds_same}
 use Rattle.widen.specs.Raised.{rise_of, raised_arc}
-use Rattle.widen.specs.Found.{HoldsShortList}
+use Rattle.solver.specs.Bounds.{HoldsShortList}
 use Rattle.widen.proofs.Raising.{raised, weight_high, weight_low}
 
 -- ---- the arcs, one after another

@@ -25,8 +25,11 @@ use Rattle.sync_graph.specs.Standing.{IsDeclared}
 use Rattle.sync_graph.proofs.Ends.{lists_all}
 use Rattle.sync_graph.proofs.InForce.{no_arc, in_force_below, arcs_listed, arcs_within}
 use Rattle.earliest.specs.Inserted.{IsNegativeCycle}
+use Rattle.attain.specs.Tight.{IsUnder}
+use Rattle.attain.proofs.EndLengths.{values_up_to}
 use Rattle.widen.specs.Raised.{weighed_arcs}
-use Rattle.widen.specs.Found.{HoldsShortList, AreEarliestOf}
+use Rattle.solver.specs.Bounds.{HoldsShortList}
+use Rattle.widen.specs.Found.{AreEarliestOf}
 use Rattle.widen.proofs.AnyOrder.{stands_any}
 
 -- ---- the earliest execution
@@ -60,15 +63,18 @@ module _ (g : GraphLists) (is : IsGraph g) (values : List ℤ) (e : IsEarliestOf
       low : (w : ℤ) → neg_ℤ (pos (2 ^ 93)) <ℤ w → neg_ℤ (pos (2 ^ 93)) ≤ℤ w
       low w less = omega (arith, ints, less)
 
-  between : (n : ℕ) (z : ℤ) → n ≤ 2 ^ 115 → pos 0 ≤ℤ z → z ≤ℤ pos n → IsUpTo 117 z
+  between : (n : ℕ) (z : ℤ) → n ≤ 2 ^ 115 → pos 0 ≤ℤ z → z ≤ℤ pos n → IsUnder 116 z
   between n z few low high = (omega (arith, ints, few, low, high), omega (arith, ints, few, low, high))
 
-  pub values_small : All (IsUpTo 117) values
-  values_small k d inside =
+  pub values_under : All (IsUnder 116) values
+  values_under k d inside =
       let here : at values k ≡ get_or values k d = get_or_default values k (pos 0) d inside in
-      subst (IsUpTo 117) here
+      subst (IsUnder 116) here
       (between (length g.nodes * 2 ^ 93) (at values k) (height_low (length g.nodes) is.node_limit) (e.non_negative k)
       (earliest_height (length g.nodes) (arcs_of g) values (2 ^ 93) (arcs_within g is) not_below e k (omega (arith, inside, e.execution.one_each))))
+
+  pub values_small : All (IsUpTo 117) values
+  values_small = values_up_to values values_under
 
 -- ---- a negative cycle
 abbrev named : Arc → NamedArc

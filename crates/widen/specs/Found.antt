@@ -1,48 +1,39 @@
 -- What is found of a problem: the least widening, and what shows it from both sides.
-use Rattle.std.specs.Prelude.{◌≡◌, ℕ, ◌-◌, ◌<◌, ◌≤◌, ◌^◌, List, length, All, Contains, Option, Some, None, ℤ, pos, neg_ℤ, ◌<ℤ◌}
-use Rattle.problem_model.specs.declared.items.Bound.{Bound}
+use Rattle.std.specs.Prelude.{◌≡◌, ℕ, ◌-◌, ◌<◌, ◌≤◌, ◌^◌, List, length, All, Option, Some, None, ℤ}
 use Rattle.problem_model.specs.Problem.{ProblemLists}
 use Rattle.problem_model.specs.Bounds.{Times}
 use Rattle.problem_model.specs.Nodes.{Reading, AreReadings, Lists, nodes_of}
-use Rattle.problem_model.specs.ShortList.{short_list}
-use Rattle.difference_bounds.specs.Numbers.{IsUpTo}
 use Rattle.difference_bounds.specs.Solutions.{IsEarliestExecution, IsContradictionOf}
 use Rattle.sync_graph.specs.declared.arc.Arc.{Arc}
-use Rattle.sync_graph.specs.Graph.{GraphLists}
-use Rattle.sync_graph.specs.Standing.{HasBounds}
 use Rattle.cert.specs.declared.chain.Step.{Step}
 use Rattle.cert.specs.Shows.{weighed_bounds}
+use Rattle.attain.specs.Tight.{IsUnder}
 use Rattle.cert_check.specs.Widened.{widened}
 use Rattle.widen.specs.declared.widening.Widening.{Widening}
 use Rattle.widen.specs.declared.widening.Widening.TheVariants.{Least, Never}
 use Rattle.widen.specs.Least.{most_extra}
 use Rattle.widen.specs.Raised.{weighed_arcs}
 
--- the nodes are those of the problem, and the arcs, all in force, are bounds of it, those of the short list among them, in any order
-abbrev pub HoldsShortList : ProblemLists → GraphLists → Type 0
-HoldsShortList p g = (readings : List Reading) → AreReadings p readings
-    → (bounds : List Bound) × All (Contains bounds) (short_list p readings) × HasBounds p readings bounds g
-
 -- the values, one for each node, are the earliest execution of the problem
 abbrev pub AreEarliestOf : ProblemLists → List ℤ → Type 0
 AreEarliestOf p values = (x : Times) × Lists p x values × IsEarliestExecution p x
 
--- the earliest execution of the problem that is widened by e ns, below 2^117 units at each node
+-- the earliest execution of the problem that is widened by e ns, below 2^116 units at each node
 pub record IsRunAt (p : ProblemLists) (e : ℕ) (execution : List ℤ) : Type 0 where
   pub earliest : AreEarliestOf (widened p e) execution
-  pub small : All (IsUpTo 117) execution
+  pub small : All (IsUnder 116) execution
 
--- a contradiction of the problem that is widened by e ns, with the weights that it has there, of at most as many steps as there are nodes
+-- a contradiction of the problem that is widened by e ns, with the weights that it has there, below 2^93 units, of at most as many steps as there are nodes
 pub record IsCycleAt (p : ProblemLists) (e : ℕ) (cycle : List Step) : Type 0 where
   pub contradiction : IsContradictionOf (widened p e) (weighed_bounds cycle)
   pub short : (readings : List Reading) → AreReadings p readings → length cycle ≤ length (nodes_of p readings)
-  pub small : All (λ s. IsUpTo 93 s.weight) cycle
+  pub small : All (λ s. IsUnder 93 s.weight) cycle
 
 -- arcs that are such a contradiction
 pub record IsCycleFor (p : ProblemLists) (e : ℕ) (arcs : List Arc) : Type 0 where
   pub contradiction : IsContradictionOf (widened p e) (weighed_arcs arcs)
   pub short : (readings : List Reading) → AreReadings p readings → length arcs ≤ length (nodes_of p readings)
-  pub small : All (λ a. (neg_ℤ (pos (2 ^ 93)) <ℤ a.weight) × (a.weight <ℤ pos (2 ^ 93))) arcs
+  pub small : All (λ a. IsUnder 93 a.weight) arcs
 
 -- that nothing below heals: there is nothing below, or else the cycle is there where it is widened by 1 ns less
 abbrev pub IsFoundBelow : ProblemLists → ℕ → Option (List Step) → Type 0

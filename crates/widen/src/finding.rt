@@ -1,54 +1,99 @@
 // The least widening of a problem, found.
-ghost use Rattle.std.specs.Prelude.{IfOk};
-ghost use Rattle.solver.specs.Order.{AreAllArcs};
-ghost use Rattle.widen.specs.Found.{HoldsShortList, FindsWidening};
+ghost use Rattle.std.specs.Prelude.{◌<◌, IfOk};
+ghost use Rattle.engine.specs.Current.{IsCurrent};
+ghost use Rattle.solver.specs.Bounds.{HoldsShortList};
+ghost use Rattle.solving.specs.Order.{AreAllArcs};
+ghost use Rattle.widen.specs.Found.{FindsWidening};
+ghost use Rattle.widen.specs.Search.{IsKnown};
 ghost use Rattle.widen.specs.Widening.{IsWideningOf, ShowsWidening};
 
 use crate::choice::Choice;
-use crate::known::{concluded, narrow, nothing_known};
-use crate::trying::try_widening;
+use crate::known::{Known, concluded, narrow, nothing_known};
+use crate::trying::{try_nothing, try_widening};
 use crate::widening::Widening;
 use atto::Steps;
+use engine::Solver;
 use problem::Problem;
-use solver::insertion_order;
+use solving::solve;
 use std::alloc::{AllocError, Global};
 use std::sync::ledger::Ledger;
-use sync_graph::{Graph, graph_of};
+use sync_graph::Graph;
 
-// The graph of a problem, and an order in which to bring its arcs in.
-fn ordered_graph<L: Ledger>(
-    alloc: Global,
-    p: &Problem,
-    steps: &mut Steps<L>,
-) -> Result<(Graph, Vec<u32>), AllocError>
-    ensures graph { IfOk result (λ found. HoldsShortList p.now found.0) }
-    ensures order { IfOk result (λ found. AreAllArcs found.0 found.1.items) }
+// The numbers of the arcs of a graph, as they stand.
+fn all_arcs(alloc: Global, g: &Graph) -> Result<Vec<u32>, AllocError>
+    ensures { IfOk result (λ order. AreAllArcs g.now order.items) }
 {
-    let g = graph_of(alloc, p)?;
-    let order = insertion_order(alloc, p, &g, steps)?;
-    Ok((g, order))
+    g.exact();
+    let mut order = Vec::new(alloc);
+    for k in 0..g.arcs() {
+        order.push(k)?;
+    }
+    Ok(order)
 }
 
-// The search between what does not heal and what does, by the graph of the problem.
+// What the solver of the problem says of widenings.
+fn first_known(alloc: Global, p: &Problem, s: &Solver) -> Result<Known, AllocError>
+    requires current { IsCurrent s.now }
+    requires graph { HoldsShortList p.now s.now.graph }
+    ensures { IfOk result (λ known. IsKnown p.now known) }
+{
+    let mut known = nothing_known();
+    let tried = try_nothing(alloc, p, s)?;
+    narrow(&mut known, 0, tried);
+    Ok(known)
+}
+
+/// The least widening of a problem, or that there is none, and in how many rounds it was found: for so many widenings, 0 the first
+/// of them, the graph of the problem was solved.
+#[derive(Drop)]
+pub struct Found {
+    pub widening: Widening,
+    pub rounds: u64,
+}
+
+// The search between what does not heal and what does, by what the solver of the problem holds.
 fn search<L: Ledger>(
     alloc: Global,
     p: &Problem,
-    g: &Graph,
-    order: &[u32],
+    s: &Solver,
     steps: &mut Steps<L>,
-) -> Result<Widening, AllocError>
-    requires graph { HoldsShortList p.now g.now }
-    requires order { AreAllArcs g.now order.now }
-    ensures { IfOk result (λ w. FindsWidening p.now w) }
+) -> Result<Found, AllocError>
+    requires current { IsCurrent s.now }
+    requires graph { HoldsShortList p.now s.now.graph }
+    ensures finds { IfOk result (λ found. FindsWidening p.now found.widening) }
+    ensures some { IfOk result (λ found. 0 < found.rounds) }
 {
+    let mut known = first_known(alloc, p, s)?;
+    let g = s.graph();
+    let order = all_arcs(alloc, g)?;
     let mut choice = Choice::new();
-    let mut known = nothing_known();
+    let mut rounds = 1;
     'widenings: while known.low < known.high {
         let extra = choice.next(known.low, known.high, known.run.is_some());
-        let tried = try_widening(alloc, p, g, order, extra, steps)?;
+        let tried = try_widening(alloc, p, g, &order, extra, steps)?;
         narrow(&mut known, extra, tried);
+        rounds += 1;
     }
-    Ok(concluded(known))
+    Ok(Found {
+        widening: concluded(known),
+        rounds,
+    })
+}
+
+/// What `least_widening` finds, and in how many rounds. There is one round at least; how many there are is not promised.
+pub fn widening_in_rounds<L: Ledger>(
+    alloc: Global,
+    p: &Problem,
+    steps: &mut Steps<L>,
+) -> Result<Found, AllocError>
+    ensures widening { IfOk result (λ found. IsWideningOf p.now found.widening) }
+    ensures shows { IfOk result (λ found. ShowsWidening p.now found.widening) }
+    ensures finds { IfOk result (λ found. FindsWidening p.now found.widening) }
+    ensures some { IfOk result (λ found. 0 < found.rounds) }
+{
+    let s = solve(alloc, p, 0, steps)?;
+    let found = search(alloc, p, &s, steps)?;
+    Ok(found)
 }
 
 /// By how many ns each greatest delay of a message must be greater at least, so that an execution exists, with what shows it
@@ -65,7 +110,6 @@ pub fn least_widening<L: Ledger>(
     ensures shows { IfOk result (λ w. ShowsWidening p.now w) }
     ensures finds { IfOk result (λ w. FindsWidening p.now w) }
 {
-    let (g, order) = ordered_graph(alloc, p, steps)?;
-    let found = search(alloc, p, &g, &order, steps)?;
-    Ok(found)
+    let found = widening_in_rounds(alloc, p, steps)?;
+    Ok(found.widening)
 }

@@ -23,7 +23,9 @@ pub struct Known {
 
 /// Nothing is known yet.
 pub fn nothing_known() -> Known
-    ensures { (p : ProblemLists) → IsKnown p result }
+    ensures known { (p : ProblemLists) → IsKnown p result }
+    ensures low { result.low ≡ 0 }
+    ensures high { result.high ≡ 2 ^ 62 }
 {
     Known {
         low: 0,

@@ -20,7 +20,7 @@ mod trying;
 mod widening;
 mod write;
 
-pub use finding::least_widening;
+pub use finding::{Found, least_widening, widening_in_rounds};
 pub use judging::judge;
 pub use laws::{found_widenings, least, widening_answers_are_one};
 pub use read::read_widening;

@@ -1,12 +1,14 @@
 // Tries one widening.
-ghost use Rattle.std.specs.Prelude.{◌≡◌, ◌≤◌, ◌<◌, ◌^◌, true, length, All, IfOk};
+ghost use Rattle.std.specs.Prelude.{◌≡◌, ◌≤◌, ◌<◌, ◌^◌, [], true, length, All, IfOk};
 ghost use Rattle.difference_bounds.specs.Numbers.{IsUpTo};
 ghost use Rattle.problem_model.specs.Nodes.{most_nodes};
 ghost use Rattle.sync_graph.specs.Graph.{GraphLists, IsGraph};
-ghost use Rattle.solver.specs.GraphSolution.{IsGraphSolution};
-ghost use Rattle.solver.specs.Order.{AreAllArcs};
+ghost use Rattle.engine.specs.Current.{IsCurrent};
+ghost use Rattle.solver.specs.Bounds.{HoldsShortList};
+ghost use Rattle.solving.specs.GraphSolution.{IsGraphSolution};
+ghost use Rattle.solving.specs.Order.{AreAllArcs};
 ghost use Rattle.cert_check.specs.Widened.{widened};
-ghost use Rattle.widen.specs.Found.{HoldsShortList, IsCycleFor};
+ghost use Rattle.widen.specs.Found.{IsCycleFor};
 ghost use Rattle.widen.specs.Search.{IsTried};
 
 use crate::cycles::{last_rise, raised_chain, units};
@@ -15,8 +17,9 @@ use crate::tried::Tried;
 use atto::Steps;
 use cert::Execution;
 use earliest::Earliest;
+use engine::Solver;
 use problem::Problem;
-use solver::{GraphSolution, solve_graph};
+use solving::{GraphSolution, solve_graph};
 use std::alloc::{AllocError, Global};
 use std::sync::ledger::Ledger;
 use sync_graph::{Arc, Graph};
@@ -50,6 +53,46 @@ fn last_cycle(alloc: Global, p: &Problem, arcs: &[Arc], extra: u64) -> Result<Tr
         last: extra + rise,
         cycle,
     })
+}
+
+// The execution that the solver of a problem holds.
+fn run_held(alloc: Global, p: &Problem, s: &Solver) -> Result<Tried, AllocError>
+    requires current { IsCurrent s.now }
+    requires solved { s.now.contradiction ≡ [] }
+    requires graph { HoldsShortList p.now s.now.graph }
+    ensures { IfOk result (λ tried. IsTried p.now 0 tried) }
+{
+    let _ = p.events();
+    let _ = p.readings();
+    let g = s.graph();
+    g.exact();
+    let execution = execution_of(alloc, s.earliest(), g.nodes())?;
+    Ok(Tried::Run(execution))
+}
+
+// The contradiction that the solver of a problem holds, as far as it lasts.
+fn cycle_held(alloc: Global, p: &Problem, s: &Solver) -> Result<Tried, AllocError>
+    requires current { IsCurrent s.now }
+    requires held { s.now.contradiction ≡ [] → ⊥ }
+    requires graph { HoldsShortList p.now s.now.graph }
+    ensures { IfOk result (λ tried. IsTried p.now 0 tried) }
+{
+    let _ = p.events();
+    let _ = p.readings();
+    last_cycle(alloc, p, s.contradiction(), 0)
+}
+
+/// Tries to widen by nothing: what the solver of the problem holds.
+pub fn try_nothing(alloc: Global, p: &Problem, s: &Solver) -> Result<Tried, AllocError>
+    requires current { IsCurrent s.now }
+    requires graph { HoldsShortList p.now s.now.graph }
+    ensures { IfOk result (λ tried. IsTried p.now 0 tried) }
+{
+    if s.contradiction().is_empty() {
+        run_held(alloc, p, s)
+    } else {
+        cycle_held(alloc, p, s)
+    }
 }
 
 // What solving the graph of a problem that is widened found, said of the problem.

@@ -39,6 +39,22 @@ const THREE: [&str; 20] = [
     "end\n",
 ];
 
+// The same execution with a cycle of no steps.
+const NO_STEPS: [&str; 12] = [
+    "widening 1\n",
+    "least 3\n",
+    "event a#1 0.000000000\n",
+    "event a#2 95.000000000\n",
+    "event b#1 22.000000000\n",
+    "event b#2 72.000000000\n",
+    "reading a 100 0.000000000\n",
+    "reading a 195 95.000000000\n",
+    "reading b 250 22.000000000\n",
+    "reading b 300 72.000000000\n",
+    "cycle\n",
+    "end\n",
+];
+
 // The same with 80 ns by the first clock, which leaves 30 for the messages.
 const HEALTHY: &str =
     "problem 1\nclock a 0 0 0 0\nclock b 0 0 0 0\nevent a#1 a 100\nevent a#2 a 180\nevent b#1 b 250\nevent b#2 b 300\n\
@@ -217,6 +233,70 @@ fn widening_by_three_is_judged_from_both_sides(rt: HostRuntime) {
         (19, "", cycle(Reason::Join(7))),
     ];
     assert!(rt; have_answers(rt.alloc(), CONTRADICTING, &THREE, &cases));
+}
+
+#[test]
+fn changed_lines_of_a_widening_are_told(rt: HostRuntime) {
+    let there = Bound::DelayMost {
+        send: 0,
+        receive: 2,
+    };
+    let cases = [
+        // With 1 ns more the first message may take 21 ns, and takes 22; with 5 the weights of 4 are wanted.
+        (2, "least 1\n", broken(there, 21 * NS, 22 * NS)),
+        (2, "least 5\n", cycle(Reason::Weight(1))),
+        // Each event is at its reading.
+        (3, "event a#1 1.000000000\n", broken(Bound::Late(0), 0, NS)),
+        (
+            4,
+            "event a#2 94.000000000\n",
+            broken(Bound::Early(1), 0, NS),
+        ),
+        (5, "event b#1 21.999999999\n", broken(Bound::Early(2), 0, 1)),
+        (6, "event b#2 73.000000000\n", broken(Bound::Late(3), 0, NS)),
+        // No other bound weighs more or less where the problem is widened.
+        (13, "step early b#1 2.000000000\n", cycle(Reason::Weight(2))),
+        (
+            14,
+            "step span-most b 250 300 49.000000000\n",
+            cycle(Reason::Weight(3)),
+        ),
+        (19, "step late a#1 0.000000001\n", cycle(Reason::Weight(8))),
+        // Without its first step the chain ends at a#1, and begins at b#1.
+        (12, "", cycle(Reason::Join(7))),
+        // Twice round is a chain too, with a sum of -2 ns.
+        (
+            19,
+            "step late a#1 0.000000000\nstep delay-most a#1 b#1 22.000000000\nstep early b#1 0.000000000\n\
+            step span-most b 250 300 50.000000000\nstep late b#2 0.000000000\nstep delay-most b#2 a#2 22.000000000\n\
+            step early a#2 0.000000000\nstep span-least a 100 195 -95.000000000\nstep late a#1 0.000000000\n",
+            Answer::Yes,
+        ),
+    ];
+    assert!(rt; have_answers(rt.alloc(), CONTRADICTING, &THREE, &cases));
+}
+
+#[test]
+fn cycles_that_show_nothing_are_told(rt: HostRuntime) {
+    let cases = [
+        (0, "", cycle(Reason::Empty)),
+        (
+            11,
+            "cycle\nstep late a#1 0.000000000\nstep early a#1 0.000000000\n",
+            cycle(Reason::Sum(0)),
+        ),
+        (
+            11,
+            "cycle\nstep late a#1 0.000000000\n",
+            cycle(Reason::Join(1)),
+        ),
+        (
+            11,
+            "cycle\nstep delay-most a#1 b#1 22.000000000\nstep delay-least a#1 b#1 -10.000000000\n",
+            cycle(Reason::Sum(12 * NS)),
+        ),
+    ];
+    assert!(rt; have_answers(rt.alloc(), CONTRADICTING, &NO_STEPS, &cases));
 }
 
 #[test]

@@ -1,4 +1,4 @@
-use Rattle.std.proofs.Common.{◌-◌}
+use Rattle.std.proofs.Common.{◌<◌, ◌≤◌, ◌+◌, ◌-◌, ◌^◌}
 use Rattle.widen.specs.Search.{IsKnown}
 use Rattle.widen.proofs.finding.search.Given as goal
 
@@ -6,5 +6,10 @@ use Rattle.widen.proofs.finding.search.Given as goal
 abbrev pub decreases-widenings : goal.decreases-widenings
 decreases-widenings g l = l.known.high - l.known.low
 
+-- each round takes something of what lies between the ends
 abbrev pub invariant-widenings : goal.invariant-widenings
-invariant-widenings g l = IsKnown l.p l.known
+invariant-widenings g l = record {
+  known : IsKnown l.p l.known;
+  some : 0 < l.rounds;
+  counted : l.rounds + (l.known.high - l.known.low) ≤ 2 ^ 62 + 1;
+}

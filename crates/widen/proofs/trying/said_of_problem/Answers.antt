@@ -1,8 +1,8 @@
 use Rattle.std.proofs.Common.{List, sym, subst}
 use Rattle.std.specs.Prelude.{ℤ}
 use Rattle.sync_graph.specs.declared.arc.Arc.{Arc}
-use Rattle.solver.specs.declared.solution.GraphSolution.TheVariants.{Execution, Contradiction}
-use Rattle.solver.specs.GraphSolution.{IsGraphSolution}
+use Rattle.solving.specs.declared.solution.GraphSolution.TheVariants.{Execution, Contradiction}
+use Rattle.solving.specs.GraphSolution.{IsGraphSolution}
 use Rattle.widen.specs.Found.{IsRunAt, IsCycleFor}
 use Rattle.widen.proofs.Solved.{values_small}
 use Rattle.widen.proofs.Ground.{run_found, cycle_found}

@@ -1,8 +1,0 @@
-use Rattle.widen.proofs.FoundTexts.{widening_of, shows}
-use Rattle.widen.proofs.finding.least_widening.Goals as goal
-
-pub returns-clause-widening : goal.returns-clause-widening
-returns-clause-widening g c = widening_of c.args.p.now c.in_ok-found.found c.in_ok-found.ensures
-
-pub returns-clause-shows : goal.returns-clause-shows
-returns-clause-shows g c = shows c.args.p.now c.in_ok-found.found c.in_ok-found.ensures
