@@ -156,7 +156,8 @@ module _ (r : RosterLists) (is : IsRoster r) (seen : List (List Seen)) (holds : 
       ap (λ (i : EventId). let x : Event = record { name = name_of d i; clock = clock_of d i; stamp = stamp_by v } in x) id
       ∙ ap (λ (t : ℕ). let x : Event = record { name = name_of d (record { label = 0 + h; number = number }); clock = clock_of d (record { label = 0 + h; number = number }); stamp = t } in x) stamp
 
-  events_are : map {A = ℕ × ℕ} {B = Event} (λ e. event_by e.0) (listed r).events ≡ (problem_of_seen r.declaration seen).events
+  -- the listed events are those of the problem, in their order
+  pub events_are : map {A = ℕ × ℕ} {B = Event} (λ e. event_by e.0) (listed r).events ≡ (problem_of_seen r.declaration seen).events
   events_are =
       map-in_turn {T = ℕ} {X = ℕ × ℕ} {Y = Event} (λ e. event_by e.0) (λ g v. (v, (event_at r.came v).node)) 0 r.under
       ∙ turn_events r.declaration event_by 0 r.under seen (lengths r.under seen holds) are_events

@@ -5,3 +5,4 @@ pub mod Entering
 pub mod ByNumber
 pub mod Rosters
 pub mod Once
+pub mod Told

@@ -10,5 +10,6 @@ pub mod Holding
 pub mod EventNames
 pub mod Labels
 pub mod Telling
+pub mod Beside
 pub mod Starting
 pub mod ListedPlaces

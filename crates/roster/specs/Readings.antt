@@ -1,5 +1,5 @@
 -- The readings of one clock: its stamps, each with the number of its node.
-use Rattle.std.specs.Prelude.{◌≡◌, ℕ, ◌+◌, ◌<◌, ◌≤◌, ◌⊎◌, List, map, length, All, AllPairs, Contains}
+use Rattle.std.specs.Prelude.{◌≡◌, ℕ, ◌+◌, ◌<◌, ◌≤◌, ◌⊎◌, List, Option, Some, None, map, length, All, AllPairs, Contains}
 use Rattle.problem_model.specs.Nodes.{ComesBefore}
 use Rattle.trace_event.specs.declared.event.Event.{Event}
 
@@ -14,6 +14,16 @@ Rise readings = AllPairs (λ (a b : Stamped). a.0 < b.0) readings
 -- one of the readings has this stamp
 abbrev pub HasStamp : List Stamped → ℕ → Type 0
 HasStamp readings stamp = (node : ℕ) × Contains {X = Stamped} readings (stamp, node)
+
+-- the greatest stamp of the readings below this one, and None where there is none
+abbrev pub IsLastUnder : List Stamped → ℕ → Option ℕ → Type 0
+IsLastUnder readings stamp (Some s) = HasStamp readings s × (s < stamp) × ((t : ℕ) → HasStamp readings t → t < stamp → t ≤ s)
+IsLastUnder readings stamp None = (t : ℕ) → HasStamp readings t → t < stamp → ⊥
+
+-- the least stamp of the readings above this one, and None where there is none
+abbrev pub IsFirstOver : List Stamped → ℕ → Option ℕ → Type 0
+IsFirstOver readings stamp (Some s) = HasStamp readings s × (stamp < s) × ((t : ℕ) → HasStamp readings t → stamp < t → s ≤ t)
+IsFirstOver readings stamp None = (t : ℕ) → HasStamp readings t → stamp < t → ⊥
 
 -- the stamps of events
 abbrev pub stamps_of : List Event → List ℕ

@@ -12,15 +12,16 @@ pub struct Came {
     pub number: u32,
     /// Its node in the graph; 0 until it is told.
     pub node: u32,
-    /// The message that it is an end of, if of any.
+    /// The message that it sends, if any.
     pub partner: Option<Partner>,
 }
 
-/// A message, as one of its ends sees it.
+/// A message, as the event that sends it sees it.
 #[derive(Clone, Copy, Debug)]
 pub struct Partner {
-    /// The number of the event at the other end.
+    /// The number of the event that receives it.
     pub event: u32,
-    /// The number of the arc of its least delay in the graph.
+    /// The number of the arc of its least delay in the graph. That of its greatest delay, where there is one, has the number
+    /// before it.
     pub arc: u32,
 }

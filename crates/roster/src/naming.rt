@@ -60,6 +60,14 @@ fn numbered(numbers: &[u32], number: u64) -> Option<u32>
     Some(numbers[(number - 1) as usize])
 }
 
+/// The event that a label numbers so, from 1 on, among the numbers of its events.
+pub(crate) fn event_numbered(numbers: &[u32], number: u32) -> u32
+    requires { (k : ℕ) × (v : ℕ) × (number ≡ suc k) × (slice_get numbers.now k ≡ Some v) }
+    ensures { (k : ℕ) × (number ≡ suc k) × (slice_get numbers.now k ≡ Some result) }
+{
+    numbers[number as usize - 1]
+}
+
 // Where the first `#` of a name stands, and the number that is spelled behind it.
 fn parts_of(name: &[u8]) -> Option<(usize, u64)>
     ensures some { IfSome result (λ p. IsCutAt name.now p.0 p.1) }

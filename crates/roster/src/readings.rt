@@ -1,6 +1,6 @@
 // The readings of one clock, in the order of their stamps, and how more come among them.
 ghost use Rattle.std.specs.Prelude.{◌≡◌, ◌<◌, ◌≤◌, ◌+◌, ◌++◌, ◌∷◌, ◌^◌, [], ℕ, List, length, take, drop, slice_get, Some, All, IfSome, IfNone, IfOk, OnOk};
-ghost use Rattle.roster.specs.Readings.{Stamped, Rise, HasStamp, stamps_of, Joins, AreFresh, AreBefore, AreSorted};
+ghost use Rattle.roster.specs.Readings.{Stamped, Rise, HasStamp, IsLastUnder, IsFirstOver, stamps_of, Joins, AreFresh, AreBefore, AreSorted};
 
 use atto::Nano;
 use std::alloc::{AllocError, Global};
@@ -16,6 +16,48 @@ pub(crate) fn place_of(readings: &[(Nano, u32)], stamp: Nano) -> Option<usize>
         Ok(place) => Some(place),
         Err(_) => None,
     }
+}
+
+// The reading at a place.
+fn reading_at(readings: &[(Nano, u32)], place: usize) -> (Nano, u32)
+    requires { place < length readings.now }
+    ensures { slice_get {X = Stamped} readings.now place ≡ Some result }
+{
+    readings[place]
+}
+
+// The stamp at a place.
+fn stamp_at(readings: &[(Nano, u32)], place: usize) -> Option<Nano>
+    ensures some { IfSome result (λ stamp. (node : ℕ) × (slice_get {X = Stamped} readings.now place ≡ Some (stamp, node))) }
+    ensures none { IfNone result (length readings.now ≤ place) }
+{
+    if place >= readings.len() {
+        return None;
+    }
+    Some(reading_at(readings, place).0)
+}
+
+/// The greatest stamp below one that is there; None where that is the least one.
+pub(crate) fn stamp_below(readings: &[(Nano, u32)], stamp: Nano) -> Option<Nano>
+    requires rise { Rise readings.now }
+    requires there { HasStamp readings.now stamp }
+    ensures { IsLastUnder readings.now stamp result }
+{
+    let place = place_of(readings, stamp).unwrap();
+    if place == 0 {
+        return None;
+    }
+    stamp_at(readings, place - 1)
+}
+
+/// The least stamp above one that is there; None where that is the greatest one.
+pub(crate) fn stamp_above(readings: &[(Nano, u32)], stamp: Nano) -> Option<Nano>
+    requires rise { Rise readings.now }
+    requires there { HasStamp readings.now stamp }
+    ensures { IsFirstOver readings.now stamp result }
+{
+    let place = place_of(readings, stamp).unwrap();
+    stamp_at(readings, place + 1)
 }
 
 // Appends a reading of this stamp, unless one of the readings has it.

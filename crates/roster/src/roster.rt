@@ -1,20 +1,21 @@
 // The events and readings of a session.
-ghost use Rattle.std.specs.Prelude.{◌≡◌, ◌<◌, ◌≤◌, ◌+◌, ◌^◌, [], length, replicate, slice_get, slice_set, Some, Contains, OnOk, OnErr, IfOk, IfSome, IfNone};
+ghost use Rattle.std.specs.Prelude.{◌≡◌, ℕ, ◌<◌, ◌≤◌, ◌+◌, ◌^◌, [], length, replicate, slice_get, slice_set, Some, Contains, OnOk, OnErr, IfOk, IfSome, IfNone};
 ghost use Rattle.decl.specs.Declaration.{IsDeclaration, declaration_of};
-ghost use Rattle.roster.specs.Readings.{Stamped, HasStamp, stamps_of};
+ghost use Rattle.roster.specs.Readings.{Stamped, HasStamp, IsLastUnder, IsFirstOver, stamps_of};
 ghost use Rattle.roster.specs.Groups.{group_at};
-ghost use Rattle.roster.specs.Roster.{IsRoster, Finds, IsGrown, SetsReading, event_at};
+ghost use Rattle.roster.specs.Roster.{IsRoster, IsUnder, Finds, IsGrown, SetsReading, event_at};
 
 use crate::came::{Came, Partner};
 use crate::groups::Groups;
 use crate::growing::{append_came, numbers_from, put_both};
-use crate::naming::find_event;
-use crate::readings::{change_of, place_of};
+use crate::naming::{event_numbered, find_event};
+use crate::readings::{change_of, place_of, stamp_above, stamp_below};
 use atto::Nano;
 use decl::Decl;
 use std::alloc::{AllocError, Global};
 use std::marker::Model;
 use trace_event::Event;
+use traces::EventId;
 
 /// The events of a session by their numbers, by label and by name, and the readings of its clocks. It keeps its declaration.
 ///
@@ -110,6 +111,14 @@ impl Roster {
         self.came[v as usize]
     }
 
+    /// The number of the event that a label numbers so.
+    pub fn number_of(&self, id: EventId) -> u32
+        requires { (v : ℕ) × IsUnder self.now.under id v }
+        ensures { IsUnder self.now.under id result }
+    {
+        event_numbered(self.under.group(id.label), id.number)
+    }
+
     /// The number of the event of this name; None exactly where no event has it.
     pub fn find(&self, name: &[u8]) -> Option<u32>
         ensures { Finds self.now name.now result }
@@ -142,6 +151,24 @@ impl Roster {
         let readings = self.readings.group(clock);
         let place = place_of(readings, stamp)?;
         Some(readings[place].1)
+    }
+
+    /// The greatest stamp of a clock below one that it has shown; None where that is its least one.
+    pub fn stamp_below(&self, clock: u32, stamp: Nano) -> Option<Nano>
+        requires clock { clock < length self.now.declaration.clocks }
+        requires shown { HasStamp (group_at self.now.readings clock) stamp }
+        ensures { IsLastUnder (group_at self.now.readings clock) stamp result }
+    {
+        stamp_below(self.readings.group(clock), stamp)
+    }
+
+    /// The least stamp of a clock above one that it has shown; None where that is its greatest one.
+    pub fn stamp_above(&self, clock: u32, stamp: Nano) -> Option<Nano>
+        requires clock { clock < length self.now.declaration.clocks }
+        requires shown { HasStamp (group_at self.now.readings clock) stamp }
+        ensures { IsFirstOver (group_at self.now.readings clock) stamp result }
+    {
+        stamp_above(self.readings.group(clock), stamp)
     }
 
     /// Tells the node of a reading, which the clock has shown.

@@ -1,0 +1,4 @@
+mod Lists
+mod Ids
+mod LineTexts
+mod Told

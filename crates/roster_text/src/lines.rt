@@ -1,0 +1,65 @@
+// The lines of what a roster holds.
+ghost use Rattle.std.specs.Prelude.{◌≡◌, ◌<◌, length};
+ghost use Rattle.ports.specs.Content.{Writes};
+ghost use Rattle.decl.specs.Declaration.{declaration_of};
+ghost use Rattle.traces.specs.Traces.{host_of};
+ghost use Rattle.roster.specs.Roster.{id_of, event_at};
+ghost use Rattle.roster_text.specs.RosterText.{HasPartners, came_line, couple_line, sent_line};
+
+use decl::Decl;
+use ports::{Failed, Sink};
+use problem::Listing;
+use problem_text::{write_event, write_message};
+use roster::{Came, Roster};
+
+/// Writes the line of the event with this number.
+pub(crate) fn write_came<O: Sink>(roster: &Roster, v: u32, out: &mut O) -> Result<(), Failed>
+    requires { v < length roster.now.came }
+    ensures { Writes (came_line roster.now v) (O.told out.old) (O.told out.new) result }
+{
+    let came = roster.event(v);
+    let clock = roster.decl().labels[came.label as usize].clock;
+    let name = roster.event_name(v);
+    let clock = roster.clock_name(clock);
+    write_event(&name, &clock, came.stamp, out)
+}
+
+// The host that an event happened at.
+fn host_of(decl: &Decl, came: &Came) -> u32
+    requires { came.now.label < length decl.now.labels.items }
+    ensures { result ≡ host_of (declaration_of decl.now) (id_of came.now) }
+{
+    decl.labels[came.label as usize].host
+}
+
+// Writes the line of the message that one event sends and another receives.
+fn write_couple<O: Sink>(
+    roster: &Roster,
+    send: u32,
+    receive: u32,
+    out: &mut O,
+) -> Result<(), Failed>
+    requires send { send < length roster.now.came }
+    requires receive { receive < length roster.now.came }
+    ensures { Writes (couple_line roster.now.declaration (id_of (event_at roster.now.came send)) (id_of (event_at roster.now.came receive))) (O.told out.old) (O.told out.new) result }
+{
+    let decl = roster.decl();
+    let from = host_of(decl, &roster.event(send));
+    let to = host_of(decl, &roster.event(receive));
+    let (least, most) = decl.link_of(from, to);
+    let send = roster.event_name(send);
+    let receive = roster.event_name(receive);
+    write_message(&send, &receive, least, most, out)
+}
+
+/// Writes the line of the message that the event with this number sends, if it sends one.
+pub(crate) fn write_sent<O: Sink>(roster: &Roster, v: u32, out: &mut O) -> Result<(), Failed>
+    requires came { v < length roster.now.came }
+    requires partners { HasPartners roster.now }
+    ensures { Writes (sent_line roster.now v) (O.told out.old) (O.told out.new) result }
+{
+    match roster.event(v).partner {
+        Some(partner) => write_couple(roster, v, partner.event, out),
+        None => Ok(()),
+    }
+}

@@ -1,0 +1,75 @@
+// The text of what a roster holds, written line by line.
+ghost use Rattle.std.specs.Prelude.{ℕ, List};
+ghost use Rattle.std.specs.List.{flat_map};
+ghost use Rattle.ports.specs.Content.{Writes};
+ghost use Rattle.problem_model.specs.ProblemText.{clock_line, problem_text};
+ghost use Rattle.decl.specs.Declaration.{declaration_of};
+ghost use Rattle.trace_event.specs.Seen.{Seen};
+ghost use Rattle.traces.specs.Messages.{problem_of_seen};
+ghost use Rattle.roster.specs.Roster.{Holds};
+ghost use Rattle.growth.specs.Told.{TellsMessages, messages_by_number};
+ghost use Rattle.roster_text.specs.RosterText.{HasPartners, came_lines, roster_text, sent_lines};
+
+use crate::lines::{write_came, write_sent};
+use decl::Decl;
+use ports::{Failed, Sink};
+use problem::Listing;
+use problem_text::{write_clock, write_end, write_head};
+use roster::Roster;
+
+// Writes the lines of the clocks.
+fn write_clocks<O: Sink>(decl: &Decl, out: &mut O) -> Result<(), Failed>
+    ensures { Writes (flat_map clock_line (declaration_of decl.now).clocks) (O.told out.old) (O.told out.new) result }
+{
+    for clock in &decl.clocks {
+        write_clock(clock, out)?;
+    }
+    Ok(())
+}
+
+// Writes the lines of the events.
+fn write_events<O: Sink>(roster: &Roster, out: &mut O) -> Result<(), Failed>
+    ensures { Writes (came_lines roster.now) (O.told out.old) (O.told out.new) result }
+{
+    for place in 0..roster.event_count() {
+        let (v, _) = roster.event_at(place);
+        write_came(roster, v, out)?;
+    }
+    Ok(())
+}
+
+// Writes the lines of the messages.
+fn write_messages<O: Sink>(roster: &Roster, out: &mut O) -> Result<(), Failed>
+    requires { HasPartners roster.now }
+    ensures { Writes (sent_lines roster.now) (O.told out.old) (O.told out.new) result }
+{
+    for place in 0..roster.event_count() {
+        let (v, _) = roster.event_at(place);
+        write_sent(roster, v, out)?;
+    }
+    Ok(())
+}
+
+// Writes the text, line by line.
+fn write_text<O: Sink>(roster: &Roster, out: &mut O) -> Result<(), Failed>
+    requires { HasPartners roster.now }
+    ensures { Writes (roster_text roster.now) (O.told out.old) (O.told out.new) result }
+{
+    write_head(out)?;
+    write_clocks(roster.decl(), out)?;
+    write_events(roster, out)?;
+    write_messages(roster, out)?;
+    write_end(out)
+}
+
+/// Writes the text of the problem of what a roster holds: the clocks of its declaration, the events of all labels by label
+/// and then by number, and their messages in the order of their sends, of which the roster tells. It takes no memory.
+/// After `Failed`, which comes only where the sink's count of faults rose, some front of the text is written.
+pub fn write_roster<O: Sink>(roster: &Roster, out: &mut O) -> Result<(), Failed>
+    requires told { (seen : List (List Seen)) × Holds roster.now seen × TellsMessages roster.now (messages_by_number roster.now seen) }
+    ensures { (seen : List (List Seen)) → Holds roster.now seen → TellsMessages roster.now (messages_by_number roster.now seen) → Writes (problem_text (problem_of_seen roster.now.declaration seen)) (O.told out.old) (O.told out.new) result }
+{
+    // It tells that the roster is lawful.
+    let _ = roster.decl();
+    write_text(roster, out)
+}
