@@ -1,0 +1,213 @@
+-- A message that comes to a roster and its graph.
+use Rattle.std.proofs.Common.{◌≡◌, ◌≢◌, ◌<◌, ◌≤◌, ◌+◌, ◌-◌, ℕ, suc, Bool, List, [], ◌∷◌, ◌++◌, Option, Some, None, Result, Ok, Err, length, map, get_or, set, slice_get, Contains, refl, sym, ◌∙◌, ap, subst, arith, inl, inr}
+use Rattle.std.specs.Prelude.{OnOk}
+use Rattle.std.proofs.lemmas.Bool.{cases_eq}
+use Rattle.std.proofs.lemmas.List.{length-set}
+use Rattle.std.proofs.lemmas.Option.{same_Some, slice_get_within, slice_get-get_or, get_or_from_slice_get}
+use Rattle.problem_model.specs.declared.items.Event.{Event}
+use Rattle.problem_model.specs.declared.items.Message.{Message}
+use Rattle.problem_model.specs.declared.items.Node.{Node}
+use Rattle.problem_model.specs.declared.items.Node.TheVariants as nodes
+use Rattle.problem_model.specs.declared.items.Bound.{Bound}
+use Rattle.problem_model.specs.declared.items.Bound.TheVariants.{DelayMost, DelayLeast}
+use Rattle.problem_model.specs.Problem.{ProblemLists}
+use Rattle.problem_model.specs.ShortList.{most_bound, message_bounds}
+use Rattle.problem.proofs.ListedNodes.{map_at}
+use Rattle.sync_graph.specs.declared.arc.Arc.{Arc}
+use Rattle.sync_graph.specs.Graph.{GraphLists, arc_at}
+use Rattle.sync_graph.specs.Standing.{HasNode}
+use Rattle.engine.specs.Solver.{SolverLists}
+use Rattle.traces.proofs.Members.{here, there, head_or_tail}
+use Rattle.traces.specs.declared.event.EventId.{EventId}
+use Rattle.roster.specs.declared.came.Came.{Came}
+use Rattle.roster.specs.declared.came.Partner.{Partner}
+use Rattle.roster.specs.Groups.{group_at}
+use Rattle.roster.specs.Roster.{RosterLists, IsRoster, IsUnder, Holds, event_at, no_event}
+use Rattle.roster.proofs.Telling.{set_here, set_elsewhere, holds_still}
+use Rattle.growth.specs.Entered.{all_events}
+use Rattle.growth.specs.Growing.{IsGrowing, IsGrownTo}
+use Rattle.growth.specs.Once.{IsOn, HasEachOnce}
+use Rattle.growth.specs.Told.{number_of}
+use Rattle.growth.specs.Rosters.{named_event, problem_by_number, KnowsNodes}
+use Rattle.kept_graph.specs.Kept.{HasArcs, TellsMessages}
+use Rattle.kept_graph.specs.Pushing.{Brings}
+use Rattle.kept_graph.specs.Growing.{Retells}
+use Rattle.kept_graph.specs.UnderWay.{IsUnderWay}
+use Rattle.kept_graph.proofs.Entered.{told_named}
+use Rattle.kept_graph.proofs.OneEvent.{none_behind}
+use Rattle.kept_graph.proofs.Messages.{with_messages, message_once}
+
+-- ---- arcs
+pub most_of_one : {E : Type 0} (r : Result Unit E) (m : Message) (old new : SolverLists) → OnOk r (IsOn new.graph (length old.graph.arcs)) → OnOk r ((arc_at new.graph.arcs (length old.graph.arcs)).name ≡ DelayMost m.send m.receive)
+    → OnOk r (length new.graph.arcs ≡ length old.graph.arcs + 1)
+    → OnOk r ((w : ℕ) → m.most ≡ Some w → IsOn new.graph (length old.graph.arcs) × ((arc_at new.graph.arcs (length old.graph.arcs)).name ≡ DelayMost m.send m.receive) × (length new.graph.arcs ≡ suc (length old.graph.arcs)))
+most_of_one (Ok v) m old new on name long = λ w is. (on, name, omega (arith, long))
+most_of_one (Err x) m old new on name long = tt
+
+pub most_few : (m : Message) (o : Option ℕ) → length (most_bound m o) ≤ 1
+most_few m None = omega arith
+most_few m (Some n) = omega arith
+
+pub two_few : (m : Message) → length (message_bounds m) ≤ 2
+two_few m = few m m.most
+  where
+    few : (m : Message) (o : Option ℕ) → length (most_bound m o ++ DelayLeast m.send m.receive ∷ []) ≤ 2
+    few m None = omega arith
+    few m (Some n) = omega arith
+
+pub arcs_of_two : (m : Message) (old mid new : SolverLists) (arc : ℕ) → arc ≡ length mid.graph.arcs
+    → ((w : ℕ) → m.most ≡ Some w → IsOn mid.graph (length old.graph.arcs) × ((arc_at mid.graph.arcs (length old.graph.arcs)).name ≡ DelayMost m.send m.receive) × (length mid.graph.arcs ≡ suc (length old.graph.arcs)))
+    → Brings (DelayLeast m.send m.receive ∷ []) mid new → IsOn new.graph (length mid.graph.arcs) → (arc_at new.graph.arcs (length mid.graph.arcs)).name ≡ DelayLeast m.send m.receive → HasArcs new.graph m arc
+arcs_of_two m old mid new arc is most brings on name = record {
+  on = subst (IsOn new.graph) (sym is) on;
+  least = ap (λ (k : ℕ). (arc_at new.graph.arcs k).name) is ∙ name;
+  most = λ w is_w. (
+      let x = most w is_w in
+      let stays = brings.stay (length old.graph.arcs) x.0 in
+      (length old.graph.arcs, is ∙ x.2, stays.0, ap (λ (a : Arc). a.name) stays.1 ∙ x.1));
+}
+
+-- ---- a partner is told
+module _ (r new : RosterLists) (v : ℕ) (inside : v < length r.came) (partner : Option Partner) (is : new ≡ record r { came = set r.came v (record (event_at r.came v) { partner = partner }) }) where
+  abbrev e : Came
+  e = event_at r.came v
+
+  abbrev f : Came
+  f = record e { partner = partner }
+
+  at : slice_get r.came v ≡ Some e
+  at = slice_get-get_or r.came v no_event inside
+
+  came_is : new.came ≡ set r.came v f
+  came_is = ap (λ (x : RosterLists). x.came) is
+
+  pub told_here : slice_get new.came v ≡ Some (record (event_at r.came v) { partner = partner })
+  told_here = ap (λ (cs : List Came). slice_get cs v) came_is ∙ set_here r.came v f inside
+
+  pub told_other : (w : ℕ) → w ≢ v → slice_get new.came w ≡ slice_get r.came w
+  told_other w other = ap (λ (cs : List Came). slice_get cs w) came_is ∙ set_elsewhere r.came v w f other
+
+  pub retells : Retells r new
+  retells = record {
+    declaration = ap (λ (x : RosterLists). x.declaration) is;
+    count = ap (λ (x : RosterLists). length x.came) is ∙ length-set r.came v f;
+    events = λ w y there'. elim (cases_eq w v) [
+      | inl same ↦ (
+          let one : e ≡ y = same_Some e y (sym at ∙ ap (slice_get r.came) (sym same) ∙ there') in
+          (f, ap (slice_get new.came) same ∙ told_here, ap (λ (x : Came). x.stamp) one, ap (λ (x : Came). x.label) one, ap (λ (x : Came). x.number) one, ap (λ (x : Came). x.node) one))
+      | inr other ↦ (y, told_other w other ∙ there', refl, refl, refl, refl)
+    ];
+    readings = λ c s has. subst (λ (x : RosterLists). Contains (group_at x.readings c) s) (sym is) has;
+    under = ap (λ (x : RosterLists). x.under) is;
+    holds = λ seen holds. subst (λ (x : RosterLists). Holds x seen) (sym is) (holds_still r seen v f refl holds);
+  }
+
+  pub events_same : map (named_event new.declaration) new.came ≡ map (named_event r.declaration) r.came
+  events_same = ap (λ (x : RosterLists). map (named_event x.declaration) x.came) is ∙ told_named r.declaration r.came v e f at refl
+
+  pub knows_same : (g h : GraphLists) → h.nodes ≡ g.nodes → KnowsNodes r g → KnowsNodes new h
+  knows_same g h same knows = record {
+    events = λ w y there'. (let back = was w y there' in
+        ap (λ (ns : List Node). slice_get ns y.node) same ∙ ap (slice_get g.nodes) (sym back.2) ∙ knows.events w back.0 back.1);
+    readings = λ c s has. ap (λ (ns : List Node). slice_get ns s.1) same ∙ knows.readings c s (subst (λ (x : RosterLists). Contains (group_at x.readings c) s) is has);
+  }
+    where
+      was : (w : ℕ) (y : Came) → slice_get new.came w ≡ Some y → (x : Came) × (slice_get r.came w ≡ Some x) × (x.node ≡ y.node)
+      was w y there' = elim (cases_eq w v) [
+        | inl same ↦ (
+            let one : f ≡ y = same_Some f y (sym told_here ∙ ap (slice_get new.came) (sym same) ∙ there') in
+            (e, ap (slice_get r.came) same ∙ at, ap (λ (x : Came). x.node) one))
+        | inr other ↦ (y, sym (told_other w other) ∙ there', refl)
+      ]
+
+-- ---- a message comes
+module _ (r new : RosterLists) (s s' : SolverLists) (messages : List Message) (way : IsUnderWay messages r s) (m : Message) (arc : ℕ) (inside : m.send < length r.came)
+    (is : new ≡ record r { came = set r.came m.send (record (event_at r.came m.send) { partner = Some (record { event = m.receive; arc = arc }) }) })
+    (fresh : (n : Message) → Contains messages n → n.send ≢ m.send) (brings : Brings (message_bounds m) s s') (arcs : HasArcs s'.graph m arc)
+    (left : (p : ProblemLists) (entered : ℕ → Bool) (rest : List Bound) → Contains p.messages m → IsGrowing p entered (message_bounds m ++ rest) s.graph → IsGrowing p entered rest s'.graph) where
+  abbrev p : ProblemLists
+  p = problem_by_number r (m ∷ messages)
+
+  abbrev partner : Option Partner
+  partner = Some (record { event = m.receive; arc = arc })
+
+  growing : IsGrowing (problem_by_number r (m ∷ messages)) all_events (message_bounds m) s.graph
+  growing =
+      with_messages r.declaration.clocks (map (named_event r.declaration) r.came) messages (m ∷ messages) (message_bounds m) (λ n has. there m n messages has)
+      (λ n has. elim (head_or_tail m n messages has) [ inl same ↦ inr (λ b among. subst (λ (x : Message). Contains (message_bounds x) b) (sym same) among) | inr more ↦ inl more ]) s.graph way.grown.grown
+
+  grown : IsGrownTo (problem_by_number r (m ∷ messages)) all_events s'.graph
+  grown = left p all_events [] (here m messages) (subst (λ (bs : List Bound). IsGrowing p all_events bs s.graph) (sym (none_behind (message_bounds m))) growing)
+
+  problem_same : problem_by_number new (m ∷ messages) ≡ problem_by_number r (m ∷ messages)
+  problem_same =
+      ap (λ (es : List Event). let x : ProblemLists = record { clocks = new.declaration.clocks; follows = []; events = es; messages = m ∷ messages } in x) (events_same r new m.send inside partner is)
+      ∙ ap (λ (x : RosterLists). let y : ProblemLists = record { clocks = x.declaration.clocks; follows = []; events = map (named_event r.declaration) r.came; messages = m ∷ messages } in y) is
+
+  each_once : HasEachOnce [] s'.graph
+  each_once =
+      brings.once [] (subst (λ (bs : List Bound). HasEachOnce bs s.graph) (sym (none_behind (message_bounds m)))
+      (message_once (problem_by_number r messages) s.graph way.grown.grown m fresh way.grown.once))
+
+  still : (n : Message) (k : ℕ) → HasArcs s.graph n k → HasArcs s'.graph n k
+  still n k has = record {
+    on = (brings.stay k has.on).0;
+    least = ap (λ (a : Arc). a.name) (brings.stay k has.on).1 ∙ has.least;
+    most = λ w is_w. (let (j, next, on, name) = has.most w is_w in (j, next, (brings.stay j on).0, ap (λ (a : Arc). a.name) (brings.stay j on).1 ∙ name));
+  }
+
+  tells : TellsMessages new (m ∷ messages) s'.graph
+  tells = record {
+    each = λ n has. elim (head_or_tail m n messages has) [
+      | inl same ↦ subst (λ (x : Message). (y : Came) × (k : ℕ) × (slice_get new.came x.send ≡ Some y) × (y.partner ≡ Some (record { event = x.receive; arc = k })) × HasArcs s'.graph x k) same
+          (record (event_at r.came m.send) { partner = partner }, arc, told_here r new m.send inside partner is, refl, arcs)
+      | inr more ↦ (
+          let (y, k, at, told, has') = way.grown.tells.each n more in
+          (y, k, told_other r new m.send inside partner is n.send (fresh n more) ∙ at, told, still n k has'))
+    ];
+    only = λ w y q at told. elim (cases_eq w m.send) [
+      | inl same ↦ (
+          let own : Came = record (event_at r.came m.send) { partner = partner } in
+          let one : own ≡ y = same_Some own y (sym (told_here r new m.send inside partner is) ∙ ap (slice_get new.came) (sym same) ∙ at) in
+          let both : partner ≡ Some q = ap (λ (x : Came). x.partner) one ∙ told in
+          let event : m.receive ≡ q.event = ap (λ (x : Partner). x.event) (same_Some (record { event = m.receive; arc = arc }) q both) in
+          (m, here m messages, sym same, event))
+      | inr other ↦ (
+          let (n, has, from, to) = way.grown.tells.only w y q (sym (told_other r new m.send inside partner is w other) ∙ at) told in
+          (n, there m n messages has, from, to))
+    ];
+  }
+
+  pub joined_way : IsUnderWay (m ∷ messages) new s'
+  joined_way = record {
+    current = brings.current;
+    grown = record {
+      grown = subst (λ (x : ProblemLists). IsGrownTo x all_events s'.graph) (sym problem_same) grown;
+      once = each_once;
+      knows = knows_same r new m.send inside partner is s.graph s'.graph brings.nodes way.grown.knows;
+      tells = tells;
+    };
+    nodes = (
+        let same : length s'.graph.nodes ≡ length s.graph.nodes = ap (λ (ns : List Node). length ns) brings.nodes in
+        let many = (retells r new m.send inside partner is).count in
+        let few = way.nodes in
+        omega (arith, same, many, few));
+  }
+
+-- ---- the ends of a message
+pub number_is : (under : List (List ℕ)) (id : EventId) (v : ℕ) → IsUnder under id v → number_of under id ≡ v
+number_is under id v (k, is, at) =
+    let place : id.number - 1 ≡ k = omega (arith, is) in
+    ap (λ (n : ℕ). get_or (group_at under id.label) n 0) place ∙ get_or_from_slice_get (group_at under id.label) k v 0 at
+
+module _ (r : RosterLists) (is : IsRoster r) (id : EventId) (known : (v : ℕ) × IsUnder r.under id v) where
+  came_at : (e : Came) × (slice_get r.came (number_of r.under id) ≡ Some e)
+  came_at =
+      let e = is.numbered id.label known.1.0 known.0 known.1.2 in
+      (e.0, ap (slice_get r.came) (number_is r.under id known.0 known.1) ∙ e.1)
+
+  pub end_inside : number_of r.under id < length r.came
+  end_inside = slice_get_within r.came (number_of r.under id) came_at.0 came_at.1
+
+  pub end_there : (messages : List Message) (s : SolverLists) → IsUnderWay messages r s → HasNode s.graph (nodes.Event (number_of r.under id))
+  end_there messages s way = way.grown.grown.every_node (nodes.Event (number_of r.under id)) (named_event r.declaration came_at.0, (map_at (named_event r.declaration) r.came (number_of r.under id) came_at.0 came_at.1, refl))

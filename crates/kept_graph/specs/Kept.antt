@@ -1,0 +1,56 @@
+-- The graph of a roster.
+use Rattle.std.specs.Prelude.{◌≡◌, ℕ, suc, List, [], length, slice_get, Some, Contains}
+use Rattle.problem_model.specs.declared.items.Message.{Message}
+use Rattle.problem_model.specs.declared.items.Bound.TheVariants.{DelayMost, DelayLeast}
+use Rattle.sync_graph.specs.Graph.{GraphLists, arc_at}
+use Rattle.row_pool.specs.Pool.{free_rows}
+use Rattle.engine.specs.Solver.{SolverLists}
+use Rattle.roster.specs.declared.came.Came.{Came}
+use Rattle.roster.specs.declared.came.Partner.{Partner}
+use Rattle.roster.specs.Groups.{group_at}
+use Rattle.roster.specs.Readings.{Stamped}
+use Rattle.roster.specs.Roster.{RosterLists}
+use Rattle.growth.specs.Entered.{all_events}
+use Rattle.growth.specs.Growing.{IsGrownTo}
+use Rattle.growth.specs.Withdrawing.{HasMessage}
+use Rattle.growth.specs.Once.{IsOn, HasEachOnce}
+use Rattle.growth.specs.Rosters.{problem_by_number, KnowsNodes}
+pub use Rattle.growth.specs.Told.{number_of, numbered_message}
+
+-- ---- messages
+-- the arc of this number is in force and is the message's least delay, and the one before it is its greatest delay, where there is one
+pub record HasArcs (g : GraphLists) (m : Message) (arc : ℕ) : Type 0 where
+  pub on : IsOn g arc
+  pub least : (arc_at g.arcs arc).name ≡ DelayLeast m.send m.receive
+  pub most : (w : ℕ) → m.most ≡ Some w → (k : ℕ) × (arc ≡ suc k) × IsOn g k × ((arc_at g.arcs k).name ≡ DelayMost m.send m.receive)
+
+-- the roster tells of each message at its send, with the number of its arc, and of no others
+pub record TellsMessages (r : RosterLists) (messages : List Message) (g : GraphLists) : Type 0 where
+  pub each : (m : Message) → Contains messages m → (e : Came) × (arc : ℕ) × (slice_get r.came m.send ≡ Some e) × (e.partner ≡ Some (record { event = m.receive; arc = arc })) × HasArcs g m arc
+  pub only : (v : ℕ) (e : Came) (p : Partner) → slice_get r.came v ≡ Some e → e.partner ≡ Some p → HasMessage messages v p.event
+
+-- ---- what is kept
+-- the graph has grown to all events of the roster and these messages among them, each bound once, and the roster knows its
+-- nodes and the arcs of messages
+pub record IsGrownBy (r : RosterLists) (messages : List Message) (g : GraphLists) : Type 0 where
+  pub grown : IsGrownTo (problem_by_number r messages) all_events g
+  pub once : HasEachOnce [] g
+  pub knows : KnowsNodes r g
+  pub tells : TellsMessages r messages g
+
+-- ---- what stays
+-- each event has its number, its stamp, its name and its node still
+abbrev pub KeepsEvents : RosterLists → RosterLists → Type 0
+KeepsEvents old new = (v : ℕ) (e : Came) → slice_get old.came v ≡ Some e
+    → (f : Came) × (slice_get new.came v ≡ Some f) × (f.stamp ≡ e.stamp) × (f.label ≡ e.label) × (f.number ≡ e.number) × (f.node ≡ e.node)
+
+-- each reading has its node still
+abbrev pub KeepsReadings : RosterLists → RosterLists → Type 0
+KeepsReadings old new = (clock : ℕ) (s : Stamped) → Contains (group_at old.readings clock) s → Contains (group_at new.readings clock) s
+
+-- the same nodes are kept, and as many rows are there and free
+pub record KeepsRows (old new : SolverLists) : Type 0 where
+  pub slots : new.kept.slots ≡ old.kept.slots
+  pub source : new.kept.source ≡ old.kept.source
+  pub count : length new.pool.rows ≡ length old.pool.rows
+  pub free : free_rows new.pool ≡ free_rows old.pool

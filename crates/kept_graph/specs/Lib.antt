@@ -1,0 +1,4 @@
+pub mod Kept
+pub mod Pushing
+pub mod UnderWay
+pub mod Growing

@@ -1,0 +1,18 @@
+-- Bounds that are pushed one after another.
+use Rattle.std.specs.Prelude.{◌≡◌, ℕ, ◌+◌, ◌++◌, List, length}
+use Rattle.problem_model.specs.declared.items.Bound.{Bound}
+use Rattle.sync_graph.specs.Graph.{arc_at}
+use Rattle.engine.specs.Solver.{SolverLists, HasRoom}
+use Rattle.engine.specs.Current.{IsCurrent}
+use Rattle.growth.specs.Once.{IsOn, HasEachOnce}
+use Rattle.kept_graph.specs.Kept.{KeepsRows}
+
+-- arcs of these names are in force behind all others, which stay as they were, as do nodes, slots and rows
+pub record Brings (bounds : List Bound) (old new : SolverLists) : Type 0 where
+  pub current : IsCurrent new
+  pub nodes : new.graph.nodes ≡ old.graph.nodes
+  pub count : length new.graph.arcs ≡ length old.graph.arcs + length bounds
+  pub stay : (k : ℕ) → IsOn old.graph k → IsOn new.graph k × (arc_at new.graph.arcs k ≡ arc_at old.graph.arcs k)
+  pub once : (rest : List Bound) → HasEachOnce (bounds ++ rest) old.graph → HasEachOnce rest new.graph
+  pub rows : KeepsRows old new
+  pub room : (n : ℕ) → HasRoom n old → HasRoom n new

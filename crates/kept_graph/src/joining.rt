@@ -1,0 +1,149 @@
+// Messages that come.
+ghost use Rattle.std.specs.Prelude.{◌≡◌, ◌≢◌, ◌<◌, ◌≤◌, ◌+◌, ℕ, Bool, suc, List, [], ◌∷◌, ◌++◌, Some, length, map, take, Contains, AllPairs, All, IfOk, OnOk};
+ghost use Rattle.decl.specs.Declaration.{link_bounds};
+ghost use Rattle.problem_model.specs.declared.items.Message.{Message};
+ghost use Rattle.problem_model.specs.declared.items.Node.TheVariants as nodes;
+ghost use Rattle.problem_model.specs.declared.items.Bound.{Bound};
+ghost use Rattle.problem_model.specs.declared.items.Bound.TheVariants.{DelayMost};
+ghost use Rattle.problem_model.specs.Problem.{ProblemLists};
+ghost use Rattle.problem_model.specs.ShortList.{most_bound, message_bounds};
+ghost use Rattle.sync_graph.specs.Graph.{most_arcs, arc_at};
+ghost use Rattle.sync_graph.specs.Standing.{HasNode};
+ghost use Rattle.engine.specs.Solver.{HasRoom};
+ghost use Rattle.engine.specs.Current.{IsCurrent};
+ghost use Rattle.traces.specs.declared.event.Couple.{Couple};
+ghost use Rattle.traces.specs.Traces.{host_of};
+ghost use Rattle.roster.specs.Roster.{IsUnder};
+ghost use Rattle.growth.specs.Growing.{IsGrowing};
+ghost use Rattle.growth.specs.Once.{IsOn};
+ghost use Rattle.kept_graph.specs.Kept.{HasArcs, KeepsRows, number_of, numbered_message};
+ghost use Rattle.kept_graph.specs.Pushing.{Brings};
+ghost use Rattle.kept_graph.specs.Growing.{Retells};
+ghost use Rattle.kept_graph.specs.UnderWay.{IsUnderWay};
+
+use crate::pushing::push_bound;
+use atto::{Steps, delay_units};
+use engine::Solver;
+use problem_model::{Bound, Message, Node};
+use roster::{Partner, Roster};
+use std::alloc::AllocError;
+use std::sync::ledger::Ledger;
+use traces::{Couple, EventId};
+
+// The host of an event that came.
+fn host_of(roster: &Roster, id: EventId) -> u32
+    requires { (v : ℕ) × IsUnder roster.now.under id v }
+    ensures { result ≡ host_of roster.now.declaration id }
+{
+    roster.decl().labels[id.label as usize].host
+}
+
+/// A message by the numbers of its ends, with the bounds of the link between their hosts.
+pub(crate) fn message_of(roster: &Roster, couple: &Couple) -> Message
+    requires send { (v : ℕ) × IsUnder roster.now.under couple.now.send v }
+    requires receive { (v : ℕ) × IsUnder roster.now.under couple.now.receive v }
+    ensures { result ≡ numbered_message roster.now couple.now }
+{
+    let from = host_of(roster, couple.send);
+    let to = host_of(roster, couple.receive);
+    let (least, most) = roster.decl().link_of(from, to);
+    Message {
+        send: roster.number_of(couple.send),
+        receive: roster.number_of(couple.receive),
+        least,
+        most,
+    }
+}
+
+// Brings in the bound on the greatest delay of a message, where there is one.
+fn push_most<L: Ledger>(
+    solver: &mut Solver,
+    message: &Message,
+    steps: &mut Steps<L>,
+) -> Result<(), AllocError>
+    requires current { IsCurrent solver.old }
+    requires from { HasNode solver.old.graph (nodes.Event message.now.send) }
+    requires to { HasNode solver.old.graph (nodes.Event message.now.receive) }
+    requires room { length solver.old.graph.arcs + 1 ≤ most_arcs }
+    ensures brings { OnOk result (Brings (most_bound message.now message.now.most) solver.old solver.new) }
+    ensures arc { OnOk result ((w : ℕ) → message.now.most ≡ Some w → IsOn solver.new.graph (length solver.old.graph.arcs)
+        × ((arc_at solver.new.graph.arcs (length solver.old.graph.arcs)).name ≡ DelayMost message.now.send message.now.receive)
+        × (length solver.new.graph.arcs ≡ suc (length solver.old.graph.arcs))) }
+    ensures left { OnOk result ((p : ProblemLists) (entered : ℕ → Bool) (rest : List Bound) → Contains p.messages message.now
+        → IsGrowing p entered (most_bound message.now message.now.most ++ rest) solver.old.graph → IsGrowing p entered rest solver.new.graph) }
+{
+    let (send, receive) = (message.send, message.receive);
+    match message.most {
+        Some(most) => {
+            let name = Bound::DelayMost { send, receive };
+            push_bound(
+                solver,
+                name,
+                Node::Event(send),
+                Node::Event(receive),
+                delay_units(most),
+                steps,
+            )
+        }
+        None => Ok(()),
+    }
+}
+
+/// Brings in the bounds on the delay of a message, and answers the number of the arc of its least one.
+pub(crate) fn push_message<L: Ledger>(
+    solver: &mut Solver,
+    message: &Message,
+    steps: &mut Steps<L>,
+) -> Result<u32, AllocError>
+    requires current { IsCurrent solver.old }
+    requires from { HasNode solver.old.graph (nodes.Event message.now.send) }
+    requires to { HasNode solver.old.graph (nodes.Event message.now.receive) }
+    requires room { length solver.old.graph.arcs + 2 ≤ most_arcs }
+    ensures brings { OnOk result (Brings (message_bounds message.now) solver.old solver.new) }
+    ensures arc { IfOk result (λ arc. HasArcs solver.new.graph message.now arc) }
+    ensures left { OnOk result ((p : ProblemLists) (entered : ℕ → Bool) (rest : List Bound) → Contains p.messages message.now
+        → IsGrowing p entered (message_bounds message.now ++ rest) solver.old.graph → IsGrowing p entered rest solver.new.graph) }
+{
+    push_most(solver, message, steps)?;
+    let arc = solver.graph().arcs();
+    let (send, receive) = (message.send, message.receive);
+    let name = Bound::DelayLeast { send, receive };
+    push_bound(
+        solver,
+        name,
+        Node::Event(receive),
+        Node::Event(send),
+        -delay_units(message.least),
+        steps,
+    )?;
+    Ok(arc)
+}
+
+/// A message comes, whose ends have entered the graph.
+pub fn join<L: Ledger>(
+    roster: &mut Roster,
+    solver: &mut Solver,
+    couple: &Couple,
+    steps: &mut Steps<L>,
+) -> Result<(), AllocError>
+    requires send { (v : ℕ) × IsUnder roster.old.under couple.now.send v }
+    requires receive { (v : ℕ) × IsUnder roster.old.under couple.now.receive v }
+    requires ready { (messages : List Message) × IsUnderWay messages roster.old solver.old }
+    requires arcs { length solver.old.graph.arcs + 2 ≤ most_arcs }
+    ensures grown { OnOk result ((messages : List Message) → IsUnderWay messages roster.old solver.old
+        → ((n : Message) → Contains messages n → n.send ≢ number_of roster.old.under couple.now.send)
+        → IsUnderWay (numbered_message roster.old couple.now ∷ messages) roster.new solver.new) }
+    ensures retells { OnOk result (Retells roster.old roster.new) }
+    ensures arcs { OnOk result (length solver.new.graph.arcs ≤ length solver.old.graph.arcs + 2) }
+    ensures rows { OnOk result (KeepsRows solver.old solver.new) }
+{
+    let _ = roster.decl();
+    let message = message_of(roster, couple);
+    let arc = push_message(solver, &message, steps)?;
+    let partner = Partner {
+        event: message.receive,
+        arc,
+    };
+    roster.set_partner(message.send, Some(partner));
+    Ok(())
+}
