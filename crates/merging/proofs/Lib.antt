@@ -1,3 +1,4 @@
 mod OneOrder
 mod Agreeing
 mod Texts
+mod Stopping

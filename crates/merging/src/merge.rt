@@ -1,5 +1,5 @@
 // All events, merged.
-ghost use Rattle.std.specs.Prelude.{◌≡◌, ◌≤◌, ◌^◌, [], true, length};
+ghost use Rattle.std.specs.Prelude.{◌≡◌, ◌≤◌, ◌^◌, [], true, length, IsErrOf};
 ghost use Rattle.ports.specs.Content.{WritesSuch};
 ghost use Rattle.solver.specs.Solution.{IsSolutionBy};
 ghost use Rattle.decl.specs.Declaration.{IsDeclaration, declaration_of};
@@ -38,7 +38,8 @@ fn write_merged<N: Listing, O: Sink>(
     requires events { AreEvents (declaration_of decl.now) (placed_in events.now) }
     requires solved { e.now.is_solved ≡ true }
     requires valued { AreValued (N.listed names.now) (length events.now) e.now.values }
-    ensures { WritesSuch (IsTextBy (declaration_of decl.now) (times_by (N.listed names.now) e.now.values) (placed_in events.now)) stops.WriteFault (O.told out.old) (O.told out.new) result }
+    ensures writes { WritesSuch (IsTextBy (declaration_of decl.now) (times_by (N.listed names.now) e.now.values) (placed_in events.now)) stops.WriteFault (O.told out.old) (O.told out.new) result }
+    ensures untouched { IsErrOf result stops.Memory → O.told out.new ≡ O.told out.old }
 {
     let keys = keys_of(alloc, names, events, e)?;
     let order = merge_order(alloc, &keys)?;
@@ -60,7 +61,8 @@ fn write_events<N: Listing, O: Sink>(
     requires few { event_count (seen_in accepted.now) ≤ 2 ^ 20 }
     requires solution { IsSolutionBy (N.listed names.now) (problem_of_seen (declaration_of decl.now) (seen_in accepted.now)) solver.now }
     requires solved { solver.now.contradiction ≡ [] }
-    ensures { WritesSuch (Replies (problem_of_seen (declaration_of decl.now) (seen_in accepted.now)) (IsMergeText (declaration_of decl.now) (seen_in accepted.now))) stops.WriteFault (O.told out.old) (O.told out.new) result }
+    ensures writes { WritesSuch (Replies (problem_of_seen (declaration_of decl.now) (seen_in accepted.now)) (IsMergeText (declaration_of decl.now) (seen_in accepted.now))) stops.WriteFault (O.told out.old) (O.told out.new) result }
+    ensures untouched { IsErrOf result stops.Memory → O.told out.new ≡ O.told out.old }
 {
     executions();
     let events = events(alloc, accepted)?;
@@ -77,7 +79,8 @@ fn write_held<N: Listing, O: Sink>(
 ) -> Result<(), Stop>
     requires solution { IsSolutionBy (N.listed names.now) (problem_of_seen (declaration_of decl.now) (seen_in accepted.now)) solver.now }
     requires held { solver.now.contradiction ≡ [] → ⊥ }
-    ensures { WritesSuch (Replies (problem_of_seen (declaration_of decl.now) (seen_in accepted.now)) (IsMergeText (declaration_of decl.now) (seen_in accepted.now))) stops.WriteFault (O.told out.old) (O.told out.new) result }
+    ensures writes { WritesSuch (Replies (problem_of_seen (declaration_of decl.now) (seen_in accepted.now)) (IsMergeText (declaration_of decl.now) (seen_in accepted.now))) stops.WriteFault (O.told out.old) (O.told out.new) result }
+    ensures untouched { IsErrOf result stops.Memory → O.told out.new ≡ O.told out.old }
 {
     write_contradiction(names, solver.contradiction(), out)?;
     Ok(())
@@ -88,8 +91,8 @@ fn write_held<N: Listing, O: Sink>(
 /// the problem has no execution, it writes the certificate of a contradiction. The engine holds the answer of the problem, and
 /// an event's time is the value of the node that the listing gives for it; so no step is taken.
 ///
-/// `Memory` is answered for want of memory. `WriteFault` is answered only where the sink's count of faults rose, or stands at
-/// its last value; a front of such a reply is then written.
+/// `Memory` is answered for want of memory, and nothing is written then. `WriteFault` is answered only where the sink's count
+/// of faults rose, or stands at its last value; a front of such a reply is then written.
 pub fn write_merge<N: Listing, O: Sink>(
     alloc: Global,
     decl: &Decl,
@@ -102,7 +105,8 @@ pub fn write_merge<N: Listing, O: Sink>(
     requires labels { length accepted.now ≡ length decl.now.labels.items }
     requires few { event_count (seen_in accepted.now) ≤ 2 ^ 20 }
     requires solution { IsSolutionBy (N.listed names.now) (problem_of_seen (declaration_of decl.now) (seen_in accepted.now)) solver.now }
-    ensures { WritesSuch (Replies (problem_of_seen (declaration_of decl.now) (seen_in accepted.now)) (IsMergeText (declaration_of decl.now) (seen_in accepted.now))) stops.WriteFault (O.told out.old) (O.told out.new) result }
+    ensures writes { WritesSuch (Replies (problem_of_seen (declaration_of decl.now) (seen_in accepted.now)) (IsMergeText (declaration_of decl.now) (seen_in accepted.now))) stops.WriteFault (O.told out.old) (O.told out.new) result }
+    ensures untouched { IsErrOf result stops.Memory → O.told out.new ≡ O.told out.old }
 {
     if solver.contradiction().is_empty() {
         write_events(alloc, decl, accepted, names, solver, out)

@@ -9,11 +9,12 @@ use Rattle.trace_event.specs.Seen.{Seen}
 use Rattle.traces.specs.declared.accepted.Accepted.{Accepted}
 use Rattle.traces.specs.declared.event.EventId.{EventId}
 use Rattle.engine.specs.Solver.{SolverLists}
+use Rattle.engine.specs.Current.{IsCurrent}
 use Rattle.traces.specs.declared.accepted.Stream.{Stream}
 use Rattle.traces.specs.Held.{seen_in}
 use Rattle.traces.specs.Traces.{Trace, Traces, size_of, seen_of, seen_under, seen_by, IsOfKind, event_count, events_of}
 use Rattle.traces.specs.Messages.{messages_of, missing, problem_of, problem_of_seen}
-use Rattle.trace_match.specs.declared.matcher.Changed.{Changed}
+use Rattle.trace_match.specs.declared.changes.Changed.{Changed}
 use Rattle.std.specs.Prelude.{IfSome}
 use Rattle.session.specs.declared.answers.Answers.{Answers}
 use Rattle.trace_match.specs.Ends.{End, AreEndsOf, IsChange}
@@ -21,11 +22,11 @@ use Rattle.queries.specs.Consistent.{IsConsistent}
 use Rattle.session.specs.declared.refusal.Refusal.TheVariants.{TooManyEvents}
 use Rattle.session.specs.Refusals.{refusal_line}
 use Rattle.session.specs.Reply.{State, IsAdded, added_line, count_by, messages_by, pending_of}
-use Rattle.session.specs.Stands.{Held, Under, IsHeld, AreKept, AreAnswersOf, StandsFor, held_of, under_of, problem_held, seen_held, waiting, IsStreamOf}
+use Rattle.session.specs.Stands.{Held, Under, IsHeld, AreKept, AreAnswersOf, StandsFor, held_of, under_of, problem_held, seen_held, solver_of, waiting, IsStreamOf}
 use Rattle.session.specs.Inside.{AcceptAnswered, HasPlace, IsStreamWithin, IsAddedTo, IsGrownAt, IsGrownTrace, grown}
 use Rattle.session.proofs.Slotting.{kept_grown}
 use Rattle.session.proofs.Telling.{Told}
-use Rattle.session.proofs.Holding.{accepted_few, held_same, count_grown, held_grown, room_by, room_few, seen_accepted, some_same, there_some}
+use Rattle.session.proofs.Holding.{IsWithinLimits, held_by, accepted_few, held_same, count_grown, held_grown, room_by, room_few, seen_accepted, some_same, there_some}
 
 pub choose : (b b' : Bool) (P Q : Type 0) → b ≡ b' → MatchBool b' P Q → MatchBool b P Q
 choose b b' P Q e m = rw e m
@@ -218,7 +219,7 @@ module _ (d : Declaration) (accepted new : List Accepted) (kept : List EventId) 
   has_room : nat_le (event_count (seen_held (map under_of accepted)) + length events) (2 ^ 20) ≡ true
   has_room = room_by accepted (length events) true true (sym e.room) refl
 
-  pub held_extended : (after : Option SolverLists) → IsHeld (held_of d accepted kept answers) → IsHeld (held_of d new kept after)
+  pub held_extended : (after : Option SolverLists) → IsWithinLimits (held_of d accepted kept answers) → IsWithinLimits (held_of d new kept after)
   held_extended after is =
       let P : Held → Type 0 = λ h. HasPlace h.under k size in
       let Q : Held → Type 0 = λ h. IsStreamWithin h.under k size stream in
@@ -253,31 +254,47 @@ module _ (accepted new : List Accepted) (k : ℕ) (events : List Seen) (size : �
 
 -- ---- what a session holds then
 -- all that is known of what a session holds
-abbrev pub IsWhole : Declaration → List Accepted → List EventId → Option SolverLists → Option Answers → List End → Type 0
-IsWhole d accepted kept solver answers ends =
-    IsHeld (held_of d accepted kept solver) × AreEndsOf ends (seen_in accepted) × AreKept (seen_in accepted) kept × IfSome answers (AreAnswersOf d (seen_in accepted) kept)
+abbrev pub IsWhole : Declaration → List Accepted → List EventId → Option Answers → List End → Type 0
+IsWhole d accepted kept answers ends =
+    IsHeld (held_of d accepted kept (solver_of answers)) × AreEndsOf ends (seen_in accepted) × AreKept (seen_in accepted) kept × IfSome answers (AreAnswersOf d (seen_in accepted) kept)
 
-pub whole_same : (d : Declaration) (accepted new then : List Accepted) (kept : List EventId) (before after : Option SolverLists) (answers : Option Answers) (ends : List End) → then ≡ new → map under_of new ≡ map under_of accepted →
-    IsHeld (held_of d accepted kept before) → AreKept (seen_in accepted) kept → AreEndsOf ends (seen_in new) → answers ≡ None → IsWhole d then kept after answers ends
-whole_same d accepted new then kept before after answers ends is stays held lawful are none =
-    let seen : seen_in then ≡ seen_in accepted = ap seen_in is ∙ sym (seen_accepted new) ∙ ap seen_held stays ∙ seen_accepted accepted in (
-      held_same (held_of d accepted kept before) (held_of d then kept after) held refl (ap (map under_of) is ∙ stays),
+-- what stands ready is of its present graph
+pub current_of : (d : Declaration) (seen : List (List Seen)) (kept : List EventId) (answers : Option Answers) → IfSome answers (AreAnswersOf d seen kept) → IfSome (solver_of answers) IsCurrent
+current_of d seen kept None are = tt
+current_of d seen kept (Some a) are = are.solution.current
+
+pub whole_same : (d : Declaration) (accepted new then : List Accepted) (kept : List EventId) (before : Option SolverLists) (answers : Option Answers) (ends : List End) → then ≡ new → map under_of new ≡ map under_of accepted →
+    IsWithinLimits (held_of d accepted kept before) → AreKept (seen_in accepted) kept → AreEndsOf ends (seen_in new) → answers ≡ None → IsWhole d then kept answers ends
+whole_same d accepted new then kept before answers ends is stays held lawful are none =
+    let seen : seen_in then ≡ seen_in accepted = ap seen_in is ∙ sym (seen_accepted new) ∙ ap seen_held stays ∙ seen_accepted accepted in
+    let ready : IfSome answers (AreAnswersOf d (seen_in then) kept) = subst (λ (o : Option Answers). IfSome o (AreAnswersOf d (seen_in then) kept)) (sym none) tt in (
+      held_by (held_same (held_of d accepted kept before) (held_of d then kept (solver_of answers)) held refl (ap (map under_of) is ∙ stays)) (current_of d (seen_in then) kept answers ready),
       subst (λ (l : List Accepted). AreEndsOf ends (seen_in l)) (sym is) are,
       subst (λ (x : List (List Seen)). AreKept x kept) (sym seen) lawful,
-      subst (λ (o : Option Answers). IfSome o (AreAnswersOf d (seen_in then) kept)) (sym none) tt,
+      ready,
     )
 
-pub whole_grown : (d : Declaration) (accepted new then : List Accepted) (kept : List EventId) (before after : Option SolverLists) (answers : Option Answers) (held : Held) (k : ℕ) (events : List Seen) (size : ℕ) (stream : Stream)
-    (ends : List End) → Extended d accepted new kept before held k events size stream → then ≡ new → IsHeld (held_of d accepted kept before) → AreKept (seen_in accepted) kept → AreEndsOf ends (seen_in new) →
-    IfSome answers (AreAnswersOf d (seen_in then) kept) → IsWhole d then kept after answers ends
-whole_grown d accepted new then kept before after answers held k events size stream ends e is was lawful are ready = (
-  subst (λ (l : List Accepted). IsHeld (held_of d l kept after)) (sym is) (held_extended d accepted new kept before held k events size stream e after was),
+pub whole_grown : (d : Declaration) (accepted new then : List Accepted) (kept : List EventId) (before : Option SolverLists) (answers : Option Answers) (held : Held) (k : ℕ) (events : List Seen) (size : ℕ) (stream : Stream)
+    (ends : List End) → Extended d accepted new kept before held k events size stream → then ≡ new → IsWithinLimits (held_of d accepted kept before) → AreKept (seen_in accepted) kept → AreEndsOf ends (seen_in new) →
+    IfSome answers (AreAnswersOf d (seen_in then) kept) → IsWhole d then kept answers ends
+whole_grown d accepted new then kept before answers held k events size stream ends e is was lawful are ready = (
+  held_by (subst (λ (l : List Accepted). IsWithinLimits (held_of d l kept (solver_of answers))) (sym is) (held_extended d accepted new kept before held k events size stream e (solver_of answers) was)) (current_of d (seen_in then) kept answers ready),
   subst (λ (l : List Accepted). AreEndsOf ends (seen_in l)) (sym is) are,
   subst (λ (l : List Accepted). AreKept (seen_in l) kept) (sym is) (kept_then accepted new k events size stream e.grew kept lawful),
   ready,
 )
 
+-- and where other events are kept, or other answers stand ready
+pub whole_kept : (d : Declaration) (accepted : List Accepted) (kept kept' : List EventId) (before : Option SolverLists) (answers : Option Answers) (ends : List End) → IsWithinLimits (held_of d accepted kept before) → AreEndsOf ends (seen_in accepted) →
+    AreKept (seen_in accepted) kept' → IfSome answers (AreAnswersOf d (seen_in accepted) kept') → IsWhole d accepted kept' answers ends
+whole_kept d accepted kept kept' before answers ends held are lawful ready = (
+  held_by (held_same (held_of d accepted kept before) (held_of d accepted kept' (solver_of answers)) held refl refl) (current_of d (seen_in accepted) kept' answers ready),
+  are,
+  lawful,
+  ready,
+)
+
 -- so there are no more events than a session has
 pub whole_few : (d : Declaration) (accepted new : List Accepted) (kept : List EventId) (before : Option SolverLists) (held : Held) (k : ℕ) (events : List Seen) (size : ℕ) (stream : Stream) →
-    Extended d accepted new kept before held k events size stream → IsHeld (held_of d accepted kept before) → event_count (seen_in new) ≤ 2 ^ 20
+    Extended d accepted new kept before held k events size stream → IsWithinLimits (held_of d accepted kept before) → event_count (seen_in new) ≤ 2 ^ 20
 whole_few d accepted new kept before held k events size stream e was = accepted_few d new kept None (held_extended d accepted new kept before held k events size stream e None was)

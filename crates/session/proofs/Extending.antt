@@ -17,10 +17,10 @@ use Rattle.engine.specs.Solver.{SolverLists}
 use Rattle.traces.specs.declared.accepted.Stream.{Stream}
 use Rattle.traces.specs.declared.accepted.Stream.TheVariants as streams
 use Rattle.decl.specs.Declaration.{Declaration}
-use Rattle.session.specs.Stands.{Under, Held, IsUnder, IsHeld, IsWithin, held_of, under_of}
+use Rattle.session.specs.Stands.{Under, Held, IsUnder, IsWithin, held_of, under_of}
 use Rattle.session.specs.Inside.{HasPlace, IsGrownAt, IsStreamWithin, grown}
 use Rattle.session.specs.Pieces.{HasPlaceFor, SaysEvents}
-use Rattle.session.proofs.Holding.{some_same}
+use Rattle.session.proofs.Holding.{IsWithinLimits, some_same}
 
 pub in_err : {V E : Type 0} (r : Result V E) (P : Type 0) → P → OnErr r P
 in_err (Ok v) P p = tt
@@ -84,7 +84,7 @@ fits_at (v ∷ under) zero u all at_k = subst IsUnder (some_same v u at_k) (All-
 fits_at (v ∷ under) (suc k) u all at_k = fits_at under k u (All-tail IsUnder v under all) at_k
 
 -- a place by its label is a place by what the session holds
-pub inside_under : (held : Held) (k : ℕ) → IsHeld held → k < length held.declaration.labels → k < length held.under
+pub inside_under : (held : Held) (k : ℕ) → IsWithinLimits held → k < length held.declaration.labels → k < length held.under
 inside_under held k is inside = let each = is.each in omega (arith, inside, each)
 
 -- a piece that has its place can be fed
@@ -95,7 +95,7 @@ place_fits (streams.Capture tail) size n within place =
     let fits : taken tail + n ≤ 2 ^ 30 = omega (arith, read, place) in
     fits
 
-pub stream_fits : (held : Held) (k n : ℕ) (u : Under) → IsHeld held → slice_get held.under k ≡ Some u → HasPlace held.under k n → HasPlaceFor u.stream n
+pub stream_fits : (held : Held) (k n : ℕ) (u : Under) → IsWithinLimits held → slice_get held.under k ≡ Some u → HasPlace held.under k n → HasPlaceFor u.stream n
 stream_fits held k n u is at_k place = place_fits u.stream u.size n (fits_at held.under k u is.fit at_k).1 (place u at_k)
 
 -- and what is then kept is of no more than the label then has
@@ -108,7 +108,7 @@ says_within d host (streams.Capture tail) next piece events size within says =
     let fits : taken says.fed ≤ size + length piece = omega (arith, read, came) in
     subst (λ (x : Stream). IsWithin x (size + length piece)) (sym says.kept) fits
 
-pub stream_within : (held : Held) (d : Declaration) (host k : ℕ) (u : Under) (next : Stream) (piece : List ℕ) (events : List Seen) → IsHeld held → slice_get held.under k ≡ Some u →
+pub stream_within : (held : Held) (d : Declaration) (host k : ℕ) (u : Under) (next : Stream) (piece : List ℕ) (events : List Seen) → IsWithinLimits held → slice_get held.under k ≡ Some u →
     SaysEvents d host u.stream piece events next → IsStreamWithin held.under k (length piece) next
 stream_within held d host k u next piece events is at_k says v at_v =
     subst (λ (x : Under). IsWithin next (x.size + length piece)) (some_same u v (sym at_k ∙ at_v))

@@ -6,7 +6,8 @@ use Rattle.std.proofs.lemmas.List.Elements.{All-set}
 use Rattle.std.proofs.lemmas.List.Folds.{sum_by-replicate}
 use Rattle.std.proofs.lemmas.Option.{slice_get-map, slice_get_within, get_or_from_slice_get}
 use Rattle.std.proofs.Math.Seq.{map-set}
-use Rattle.decl.specs.Declaration.{Declaration}
+use Rattle.std.specs.Prelude.{All, IfSome}
+use Rattle.decl.specs.Declaration.{Declaration, IsDeclaration}
 use Rattle.trace_event.specs.Seen.{Seen, seen_events}
 use Rattle.traces.specs.declared.accepted.Accepted.{Accepted}
 use Rattle.traces.specs.declared.event.EventId.{EventId}
@@ -15,6 +16,7 @@ use Rattle.traces.specs.declared.accepted.Stream.{Stream}
 use Rattle.traces.specs.Traces.{event_count}
 use Rattle.traces.specs.Held.{seen_in}
 use Rattle.traces.proofs.Ids.{count_appended}
+use Rattle.engine.specs.Current.{IsCurrent}
 use Rattle.session.specs.Stands.{Under, Held, IsUnder, IsHeld, held_of, under_of, seen_held}
 use Rattle.session.specs.Inside.{HasPlace, IsStreamWithin, IsGrownAt, grown}
 
@@ -26,19 +28,33 @@ there_some [] k inside = absurd (omega (arith, inside))
 there_some (x ∷ xs) zero inside = (x, refl)
 there_some (x ∷ xs) (suc k) inside = there_some xs k (omega (arith, inside))
 
+-- ---- limits
+-- what a session holds is within its limits, whatever stands ready
+pub record IsWithinLimits (h : Held) : Type 0 where
+  pub declared : IsDeclaration h.declaration
+  pub each : length h.under ≡ length h.declaration.labels
+  pub fit : All IsUnder h.under
+  pub few : event_count (seen_held h.under) ≤ 2 ^ 20
+
+pub limits : {h : Held} → IsHeld h → IsWithinLimits h
+limits is = record { declared = is.declared; each = is.each; fit = is.fit; few = is.few }
+
+pub held_by : {h : Held} → IsWithinLimits h → IfSome h.answers IsCurrent → IsHeld h
+held_by is current = record { declared = is.declared; each = is.each; fit = is.fit; few = is.few; current = current }
+
 -- ---- what the code holds
 -- the events of what the code holds
 pub seen_accepted : (accepted : List Accepted) → seen_held (map under_of accepted) ≡ seen_in accepted
 seen_accepted [] = refl
 seen_accepted (a ∷ accepted) = ap (λ (more : List (List Seen)). seen_events a.events.items ∷ more) (seen_accepted accepted)
 
-pub accepted_few : (d : Declaration) (accepted : List Accepted) (kept : List EventId) (answers : Option SolverLists) → IsHeld (held_of d accepted kept answers) → event_count (seen_in accepted) ≤ 2 ^ 20
+pub accepted_few : (d : Declaration) (accepted : List Accepted) (kept : List EventId) (answers : Option SolverLists) → IsWithinLimits (held_of d accepted kept answers) → event_count (seen_in accepted) ≤ 2 ^ 20
 accepted_few d accepted kept answers held = subst (λ (seen : List (List Seen)). event_count seen ≤ 2 ^ 20) (seen_accepted accepted) held.few
 
-pub accepted_each : (d : Declaration) (accepted : List Accepted) (kept : List EventId) (answers : Option SolverLists) → IsHeld (held_of d accepted kept answers) → length accepted ≡ length d.labels
+pub accepted_each : (d : Declaration) (accepted : List Accepted) (kept : List EventId) (answers : Option SolverLists) → IsWithinLimits (held_of d accepted kept answers) → length accepted ≡ length d.labels
 accepted_each d accepted kept answers held = sym (length-map accepted under_of) ∙ held.each
 
-pub labels_few : (d : Declaration) (accepted : List Accepted) (kept : List EventId) (answers : Option SolverLists) → IsHeld (held_of d accepted kept answers) → length accepted ≤ 65536
+pub labels_few : (d : Declaration) (accepted : List Accepted) (kept : List EventId) (answers : Option SolverLists) → IsWithinLimits (held_of d accepted kept answers) → length accepted ≤ 65536
 labels_few d accepted kept answers held = let each = accepted_each d accepted kept answers held in let few = held.declared.limits.label_limit in omega (arith, each, few)
 
 -- whether there is room for more events, by what the code holds
@@ -71,8 +87,8 @@ count_grown under k at events size stream was =
     ap event_count (map-set f under k (grown at events size stream) ∙ ap (λ (x : List Seen). slice_set (seen_held under) k (x ++ events)) (sym first)) ∙ count_appended (seen_held under) k events within
 
 -- what is held is then within its limits
-pub held_grown : (held held' : Held) (k : ℕ) (events : List Seen) (size : ℕ) (stream : Stream) → IsHeld held → HasPlace held.under k size → IsStreamWithin held.under k size stream →
-    event_count (seen_held held.under) + length events ≤ 2 ^ 20 → held'.declaration ≡ held.declaration → IsGrownAt held.under held'.under k events size stream → IsHeld held'
+pub held_grown : (held held' : Held) (k : ℕ) (events : List Seen) (size : ℕ) (stream : Stream) → IsWithinLimits held → HasPlace held.under k size → IsStreamWithin held.under k size stream →
+    event_count (seen_held held.under) + length events ≤ 2 ^ 20 → held'.declaration ≡ held.declaration → IsGrownAt held.under held'.under k events size stream → IsWithinLimits held'
 held_grown held held' k events size stream is place within few same g =
     let new = grown g.at events size stream in
     let labels : length held'.declaration.labels ≡ length held.declaration.labels = ap (λ (d : Declaration). length d.labels) same in
@@ -85,7 +101,7 @@ held_grown held held' k events size stream is place within few same g =
     }
 
 -- and it is where all stays
-pub held_same : (held held' : Held) → IsHeld held → held'.declaration ≡ held.declaration → held'.under ≡ held.under → IsHeld held'
+pub held_same : (held held' : Held) → IsWithinLimits held → held'.declaration ≡ held.declaration → held'.under ≡ held.under → IsWithinLimits held'
 held_same held held' is same under = record {
   declared = rw same is.declared;
   each = rw (under, same) is.each;

@@ -17,9 +17,9 @@ use Rattle.traces.specs.declared.accepted.Stream.TheVariants as streams
 use Rattle.traces.specs.Held.{seen_in}
 use Rattle.traces.specs.Traces.{Trace, size_of, seen_of, seen_under, nothing_for, IsOfKind, event_count}
 use Rattle.session.specs.Sessions.{start}
-use Rattle.session.specs.Stands.{Held, Under, IsUnder, IsHeld, IsStreamOf, IsWithin, StandsFor, kind_of, seen_held, under_of}
+use Rattle.session.specs.Stands.{Held, Under, IsUnder, IsStreamOf, IsWithin, StandsFor, kind_of, seen_held, under_of}
 use Rattle.session.specs.Inside.{IsEmpty, AreEmpty, IsNewStream, kinds_held}
-use Rattle.session.proofs.Holding.{none_counted, seen_accepted, some_same}
+use Rattle.session.proofs.Holding.{IsWithinLimits, none_counted, seen_accepted, some_same}
 
 -- ---- a label by itself
 no_events : (d : Declaration) (host : ℕ) (kind : TraceKind) → seen_of d host (nothing_for kind) ≡ []
@@ -61,7 +61,7 @@ each_empty under labels empty =
     sym (length-map under (λ (u : Under). kind_of u.stream)) ∙ ap length empty.0 ∙ length-map labels (λ (l : Label). l.kind)
 
 -- what is held at the start is within all limits
-pub held_start : (held : Held) → IsDeclaration held.declaration → AreEmpty held.under held.declaration.labels → IsHeld held
+pub held_start : (held : Held) → IsDeclaration held.declaration → AreEmpty held.under held.declaration.labels → IsWithinLimits held
 held_start held declared empty = record {
   declared = declared;
   each = each_empty held.under held.declaration.labels empty;

@@ -1,5 +1,5 @@
 -- What a session holds, and what it stands for.
-use Rattle.std.specs.Prelude.{◌≡◌, ◌⊎◌, ℕ, ◌+◌, ◌*◌, ◌^◌, ◌≤◌, List, [], ◌∷◌, length, map, slice_get, Option, Some, None, IsSome, option_map, All, Result, OnOk, IsErrOf, ⊤}
+use Rattle.std.specs.Prelude.{◌≡◌, ◌⊎◌, ℕ, ◌+◌, ◌*◌, ◌^◌, ◌≤◌, List, [], ◌∷◌, length, map, slice_get, Option, Some, None, IsSome, IfSome, option_map, All, Result, OnOk, IsErrOf, ⊤}
 use Rattle.ports.specs.Content.{Appends, AppendsPrefix, Rose, SinkTold}
 use Rattle.ports.specs.Files.{FilesTold}
 use Rattle.captures.specs.Feeding as feeding
@@ -21,6 +21,7 @@ use Rattle.row_pool.specs.Pool.{free_rows}
 use Rattle.repair.specs.declared.slot.Slot.{Slot}
 use Rattle.repair.specs.Slots.{all_slots}
 use Rattle.engine.specs.Solver.{SolverLists}
+use Rattle.engine.specs.Current.{IsCurrent}
 use Rattle.solver.specs.Solution.{IsSolution}
 use Rattle.queries.specs.declared.stop.Stop.{Stop}
 use Rattle.queries.specs.declared.stop.Stop.TheVariants as stops
@@ -81,12 +82,14 @@ problem_held h = problem_of_seen h.declaration (seen_held h.under)
 abbrev pub IsUnder : Under → Type 0
 IsUnder u = (u.size ≤ 2 ^ 30) × IsWithin u.stream u.size
 
--- what a session holds is within its limits, with a place for each label
+-- what a session holds is within its limits, with a place for each label, and what the engine that stands ready holds is true
+-- of its graph as it is now
 pub record IsHeld (h : Held) : Type 0 where
   pub declared : IsDeclaration h.declaration
   pub each : length h.under ≡ length h.declaration.labels
   pub fit : All IsUnder h.under
   pub few : event_count (seen_held h.under) ≤ 2 ^ 20
+  pub current : IfSome h.answers IsCurrent
 
 -- what the code holds under a label
 abbrev pub under_of : Accepted → Under

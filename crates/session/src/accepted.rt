@@ -3,7 +3,7 @@ ghost use Rattle.std.specs.Prelude.{◌≡◌, ◌<◌, ◌≤◌, ◌+◌, ◌^
 ghost use Rattle.trace_event.specs.Seen.{Seen, seen_events};
 ghost use Rattle.traces.specs.Traces.{event_count, numbered};
 ghost use Rattle.traces.specs.Held.{seen_in};
-ghost use Rattle.trace_match.specs.Ends.{ends_of, AreEndsOf, IsChange};
+ghost use Rattle.trace_match.specs.Ends.{ends_of, AreEndsOf, AreChanges};
 ghost use Rattle.session.specs.Stands.{under_of, waiting, kind_of};
 ghost use Rattle.session.specs.Inside.{AreEmpty, IsNewStream, HasPlace, IsGrownAt};
 
@@ -12,7 +12,7 @@ use captures::CaptureStream;
 use decl::{Label, TraceKind};
 use std::alloc::{AllocError, Global};
 use trace_event::Event;
-use trace_match::{Changed, TraceMatcher, ends_grow};
+use trace_match::{Changes, TraceMatcher, ends_grow};
 use traces::{Accepted, Stream, event_count};
 
 // What is kept under a label of this kind of which nothing came yet.
@@ -77,19 +77,19 @@ fn append(
     matcher: &mut TraceMatcher,
     label: u32,
     mut events: Vec<Event>,
-) -> Result<Changed, AllocError>
+) -> Result<Changes, AllocError>
     requires few { length matcher.old + length events.items ≤ 2 ^ 22 }
     requires numbers { length held.old.items + length events.items ≤ 2 ^ 20 }
     ensures held_ok { OnOk result (seen_events held.new.items ≡ seen_events held.old.items ++ seen_events events.items) }
     ensures held_err { OnErr result (seen_events held.new.items ≡ seen_events held.old.items) }
     ensures ends_ok { OnOk result (matcher.new ≡ matcher.old ++ ends_of (numbered label (length held.old.items + 1) (seen_events events.items))) }
     ensures ends_err { OnErr result (matcher.new ≡ matcher.old) }
-    ensures changed { IfOk result (λ changed. (before after : List (List Seen)) → AreEndsOf matcher.old before → AreEndsOf matcher.new after → IsChange before after changed) }
+    ensures changes { IfOk result (λ changes. (before after : List (List Seen)) → AreEndsOf matcher.old before → AreEndsOf matcher.new after → AreChanges before after changes) }
 {
     let old = held.len();
     held.append(&mut events)?;
     match matcher.add(label, old as u32 + 1, &held[old..]) {
-        Ok(changed) => Ok(changed),
+        Ok(changes) => Ok(changes),
         Err(error) => {
             held.truncate(old);
             Err(error)
@@ -106,7 +106,7 @@ pub(crate) fn extend(
     events: Vec<Event>,
     size: u64,
     stream: Stream,
-) -> Result<Changed, AllocError>
+) -> Result<Changes, AllocError>
     requires inside { k < length accepted.old }
     requires labels { length accepted.old ≤ 65536 }
     requires place { HasPlace (map under_of accepted.old) k size }
@@ -115,14 +115,14 @@ pub(crate) fn extend(
     ensures grown { OnOk result (IsGrownAt (map under_of accepted.old) (map under_of accepted.new) k (seen_events events.items) size stream) }
     ensures stays { OnErr result (map under_of accepted.new ≡ map under_of accepted.old) }
     ensures ends { AreEndsOf matcher.new (seen_in accepted.new) }
-    ensures changed { IfOk result (λ changed. IsChange (seen_in accepted.old) (seen_in accepted.new) changed) }
+    ensures changes { IfOk result (λ changes. AreChanges (seen_in accepted.old) (seen_in accepted.new) changes) }
     ensures len { length accepted.new ≡ length accepted.old }
 {
     // It tells of what the ends are with more events.
     ends_grow();
     let under = &mut accepted[k];
-    let changed = append(&mut under.events, matcher, k as u32, events)?;
+    let changes = append(&mut under.events, matcher, k as u32, events)?;
     under.size += size;
     under.stream = stream;
-    Ok(changed)
+    Ok(changes)
 }

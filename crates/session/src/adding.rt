@@ -105,7 +105,7 @@ impl Session {
         let pending = waiting(&stream);
         // What stood ready is of fewer events.
         give_up(&mut self.answers);
-        let changed = extend(
+        let changes = extend(
             &mut self.accepted,
             &mut self.matcher,
             k,
@@ -122,6 +122,6 @@ impl Session {
             &self.kept,
             steps,
         )?;
-        Ok(outcome_of(consistent, more as u64, pending, changed))
+        Ok(outcome_of(consistent, more as u64, pending, changes.counts()))
     }
 }

@@ -14,8 +14,8 @@ pub(crate) fn outcome_of(consistent: bool, events: u64, pending: u64, changed: C
 {
     Outcome::Added(Added {
         events,
-        messages: u64::from(changed.messages),
-        withdrawn: u64::from(changed.withdrawn),
+        messages: changed.messages,
+        withdrawn: changed.withdrawn,
         pending,
         consistent,
     })

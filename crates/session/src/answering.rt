@@ -47,6 +47,7 @@ fn answer<O: Sink, L: Ledger>(
     ensures ready { (kept : List EventId) → AreAnswersOf (declaration_of decl.now) (seen_in accepted.now) kept answers.old
         → AreAnswersOf (declaration_of decl.now) (seen_in accepted.now) kept answers.new }
     ensures memory { IsErrOf result stops.Memory → TakesMemory (question_seen question.entry) }
+    ensures untouched { IsErrOf result stops.Memory → O.told out.new ≡ O.told out.old }
     ensures steps { IsAnsweredFromSlots answers.old.problem answers.old.solver (question_seen question.entry) → steps.new ≡ steps.old }
 {
     let p = &answers.problem;
@@ -90,6 +91,7 @@ pub(crate) fn answer_ready<O: Sink, L: Ledger>(
     ensures ready { (kept : List EventId) → IfSome answers.old (AreAnswersOf (declaration_of decl.now) (seen_in accepted.now) kept)
         → IfSome answers.new (AreAnswersOf (declaration_of decl.now) (seen_in accepted.now) kept) }
     ensures memory { IsErrOf result stops.Memory → TakesMemory (question_seen question.entry) }
+    ensures untouched { IsErrOf result stops.Memory → O.told out.new ≡ O.told out.old }
     ensures steps { IfSome answers.old (λ a. IsAnsweredFromSlots a.problem a.solver (question_seen question.entry)) → steps.new ≡ steps.old }
 {
     match answers {

@@ -1,5 +1,5 @@
 // The report on all events.
-ghost use Rattle.std.specs.Prelude.{◌≡◌, ◌≤◌, ◌^◌, length};
+ghost use Rattle.std.specs.Prelude.{◌≡◌, ◌≤◌, ◌^◌, length, IsErrOf};
 ghost use Rattle.ports.specs.Content.{WritesSuch};
 ghost use Rattle.decl.specs.Declaration.{IsDeclaration, declaration_of};
 ghost use Rattle.traces.specs.Traces.{event_count};
@@ -31,7 +31,8 @@ pub(crate) fn write_report<O: Sink>(
     requires labels { length accepted.now ≡ length decl.now.labels.items }
     requires few { event_count (seen_in accepted.now) ≤ 2 ^ 20 }
     requires solution { IsSolution (problem_of_seen (declaration_of decl.now) (seen_in accepted.now)) solver.now }
-    ensures { WritesSuch (IsReport (declaration_of decl.now) (seen_in accepted.now)) stops.WriteFault (O.told out.old) (O.told out.new) result }
+    ensures writes { WritesSuch (IsReport (declaration_of decl.now) (seen_in accepted.now)) stops.WriteFault (O.told out.old) (O.told out.new) result }
+    ensures untouched { IsErrOf result stops.Memory → O.told out.new ≡ O.told out.old }
 {
     let consistent = is_consistent(solver);
     let view = view_of(alloc, decl, accepted, consistent)?;

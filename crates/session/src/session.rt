@@ -97,7 +97,7 @@ impl Session {
     ///
     /// `WriteFault` is answered only where the sink's count of faults rose, or stands at its last value: a front of the
     /// reply is then written, and the session is as if all of it were. `Memory` is answered where memory runs out, which it
-    /// may on `add`, `keep`, `merge` and `report` alone: behind it nothing is promised of the session, nor of what is written.
+    /// may on `add`, `keep`, `merge` and `report` alone: nothing is written then, and nothing is promised of the session.
     pub fn step<F: Files, O: Sink, L: Ledger>(
         &mut self,
         line: &[u8],
@@ -111,7 +111,9 @@ impl Session {
             (O.told out.old) (O.told out.new) result }
         ensures keeps { Keeps (F.told files.old) (F.told files.new) }
         ensures ready { OnOk result (IsReady self.new) }
+        ensures ready_again { IsErrOf result stops.WriteFault → IsReady self.new }
         ensures memory { IsErrOf result stops.Memory → AsksForMemory line.now }
+        ensures untouched { IsErrOf result stops.Memory → O.told out.new ≡ O.told out.old }
         ensures steps { AsksOfRows self.old line.now → steps.new ≡ steps.old }
     {
         match read_command(line) {
@@ -148,6 +150,7 @@ impl Session {
         ensures writes { WritesReply (Asked self.old self.new (question_seen question.entry)) (O.told out.old) (O.told out.new) result }
         ensures ready { IsReady self.new }
         ensures memory { IsErrOf result stops.Memory → TakesMemory (question_seen question.entry) }
+        ensures untouched { IsErrOf result stops.Memory → O.told out.new ≡ O.told out.old }
         ensures steps { IsAnsweredFromRows self.old (question_seen question.entry) → steps.new ≡ steps.old }
     {
         answer_ready(

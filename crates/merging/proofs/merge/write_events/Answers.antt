@@ -46,8 +46,8 @@ write_merged-requires-clause-valued g c =
     (valued d seen l s c.requires.solution (length c.deref.result.now) total s.earliest.values
     (c.executions.ensures.one_each l p (all_readings p.events) s (own_readings p) c.requires.solution))
 
-pub returns : goal.returns
-returns g c =
+pub returns-clause-writes : goal.returns-clause-writes
+returns-clause-writes g c =
     let d : Declaration = declaration_of c.args.decl.now in
     let seen : List (List Seen) = seen_in c.args.accepted.now in
     let p : ProblemLists = problem_of_seen d seen in
@@ -59,4 +59,4 @@ returns g c =
     (λ text by. merge_shows d seen l s c.requires.solution s.earliest.values some.0 some.1 some.2 text
     (subst (λ (e : Values). IsTextBy d (times_by l e.values) (events_of seen) text) c.earliest.ensures
     (subst (λ (events : List Placed). IsTextBy d (times_by l c.earliest.result.now.values) events text) placed by)))
-    c.write_merged.ensures
+    c.write_merged.ensures.writes

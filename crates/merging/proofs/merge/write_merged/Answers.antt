@@ -11,6 +11,7 @@ use Rattle.merging.specs.Merged.{keys_from}
 use Rattle.merging.specs.Writing.{IsTextBy, count_line, lines_of, times_by}
 use Rattle.merging.proofs.Agreeing.{keys_apart, length_keys}
 use Rattle.merging.proofs.OneOrder.{order_within}
+use Rattle.merging.proofs.Stopping.{not_memory}
 use Rattle.merging.proofs.merge.write_merged.Goals as goal
 
 pub keys_of-requires-clause-few : goal.keys_of-requires-clause-few
@@ -34,8 +35,8 @@ write_ordered-requires-clause-inside g c =
     let order : IsMergeOrder c.deref.result.now c.deref-2.result.now = subst (IsMergeOrder c.deref.result.now) (sym c.deref-2.ensures.value) c.in_ok-order.ensures in
     subst (λ (n : ℕ). All (λ (k : ℕ). k < n) c.deref-2.result.now) total (order_within c.deref.result.now c.deref-2.result.now order)
 
-pub returns-in_err-write_ordered : goal.returns-in_err-write_ordered
-returns-in_err-write_ordered g c =
+pub returns-in_err-write_ordered-clause-writes : goal.returns-in_err-write_ordered-clause-writes
+returns-in_err-write_ordered-clause-writes g c =
     let d : Declaration = declaration_of c.args.decl.now in
     let x : Times = times_by (g.N.Listing.listed c.args.names.now) c.args.e.now.values in
     let events : List Placed = placed_in c.args.events.now in
@@ -46,8 +47,8 @@ returns-in_err-write_ordered g c =
     (c.deref-2.result.now, sorted, ap (λ (n : ℕ). count_line n ++ lines_of d x events c.deref-2.result.now) (sym (length-map c.args.events.now placed_of)))
     c.from_residual-in_err-write_ordered.ensures.0 c.in_err-write_ordered.ensures
 
-pub returns : goal.returns
-returns g c =
+pub returns-clause-writes : goal.returns-clause-writes
+returns-clause-writes g c =
     let d : Declaration = declaration_of c.args.decl.now in
     let x : Times = times_by (g.N.Listing.listed c.args.names.now) c.args.e.now.values in
     let events : List Placed = placed_in c.args.events.now in
@@ -57,3 +58,6 @@ returns g c =
     such_written (IsTextBy d x events)
     (c.deref-2.result.now, sorted, ap (λ (n : ℕ). count_line n ++ lines_of d x events c.deref-2.result.now) (sym (length-map c.args.events.now placed_of)))
     c.in_ok-write_ordered.ensures
+
+pub returns-in_err-write_ordered-clause-untouched : goal.returns-in_err-write_ordered-clause-untouched
+returns-in_err-write_ordered-clause-untouched g c = λ fails. not_memory c.from_residual-in_err-write_ordered.result c.from_residual-in_err-write_ordered.ensures.1 fails

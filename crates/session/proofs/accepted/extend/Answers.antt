@@ -22,34 +22,34 @@ pub overflow_add-under : goal.overflow_add-under
 overflow_add-under c =
     record { fits = size_fits c.args.accepted.now c.args.k _ c.args.size (slice_get-get_or _ _ c.index-accepted-k.result c.requires.inside) c.requires.place }
 
-pub returns-in_err-changed-clause-stays : goal.returns-in_err-changed-clause-stays
-returns-in_err-changed-clause-stays c =
+pub returns-in_err-changes-clause-stays : goal.returns-in_err-changes-clause-stays
+returns-in_err-changes-clause-stays c =
     in_err c.from_residual.result _ (kept_by c.args.accepted.now c.args.k (slice_index_or c.args.accepted.now c.args.k c.index-accepted-k.result) _ (slice_get-get_or _ _ c.index-accepted-k.result c.requires.inside)
-    c.in_err-changed.ensures.held_err refl refl)
+    c.in_err-changes.ensures.held_err refl refl)
 
-pub returns-in_err-changed-clause-ends : goal.returns-in_err-changed-clause-ends
-returns-in_err-changed-clause-ends c =
+pub returns-in_err-changes-clause-ends : goal.returns-in_err-changes-clause-ends
+returns-in_err-changes-clause-ends c =
     let old = slice_index_or c.args.accepted.now c.args.k c.index-accepted-k.result in
     let new : Accepted = record { events = c.append.new.held; size = old.size; stream = old.stream } in
     ends_stay c.args.accepted.now c.args.k old new c.args.matcher.now c.append.new.matcher
-    (slice_get-get_or _ _ c.index-accepted-k.result c.requires.inside) c.in_err-changed.ensures.held_err c.in_err-changed.ensures.ends_err c.requires.ends
+    (slice_get-get_or _ _ c.index-accepted-k.result c.requires.inside) c.in_err-changes.ensures.held_err c.in_err-changes.ensures.ends_err c.requires.ends
 
 pub returns-clause-grown : goal.returns-clause-grown
 returns-clause-grown c =
     grown_by c.args.accepted.now c.args.k (slice_index_or c.args.accepted.now c.args.k c.index-accepted-k.result) _ (seen_events c.args.events.items) c.args.size c.args.stream
-    (slice_get-get_or _ _ c.index-accepted-k.result c.requires.inside) c.in_ok-changed.ensures.held_ok refl refl
+    (slice_get-get_or _ _ c.index-accepted-k.result c.requires.inside) c.in_ok-changes.ensures.held_ok refl refl
 
 pub returns-clause-ends : goal.returns-clause-ends
 returns-clause-ends c =
     let old = slice_index_or c.args.accepted.now c.args.k c.index-accepted-k.result in
     let new : Accepted = record { events = c.append.new.held; size = old.size + c.args.size; stream = c.args.stream } in
     ends_then c.args.accepted.now c.args.k old new (seen_events c.args.events.items) c.args.matcher.now c.append.new.matcher c.ends_grow.ensures.grow
-    (slice_get-get_or _ _ c.index-accepted-k.result c.requires.inside) c.in_ok-changed.ensures.held_ok c.in_ok-changed.ensures.ends_ok c.requires.ends
+    (slice_get-get_or _ _ c.index-accepted-k.result c.requires.inside) c.in_ok-changes.ensures.held_ok c.in_ok-changes.ensures.ends_ok c.requires.ends
 
-pub returns-clause-changed : goal.returns-clause-changed
-returns-clause-changed c =
+pub returns-clause-changes : goal.returns-clause-changes
+returns-clause-changes c =
     let old = slice_index_or c.args.accepted.now c.args.k c.index-accepted-k.result in
     let new : Accepted = record { events = c.append.new.held; size = old.size + c.args.size; stream = c.args.stream } in
     let then = ends_then c.args.accepted.now c.args.k old new (seen_events c.args.events.items) c.args.matcher.now c.append.new.matcher c.ends_grow.ensures.grow
-    (slice_get-get_or _ _ c.index-accepted-k.result c.requires.inside) c.in_ok-changed.ensures.held_ok c.in_ok-changed.ensures.ends_ok c.requires.ends in
-    c.in_ok-changed.ensures.changed (seen_in c.args.accepted.now) (seen_in (slice_set c.args.accepted.now c.args.k new)) c.requires.ends then
+    (slice_get-get_or _ _ c.index-accepted-k.result c.requires.inside) c.in_ok-changes.ensures.held_ok c.in_ok-changes.ensures.ends_ok c.requires.ends in
+    c.in_ok-changes.ensures.changes (seen_in c.args.accepted.now) (seen_in (slice_set c.args.accepted.now c.args.k new)) c.requires.ends then

@@ -66,10 +66,10 @@ returns-in-Time-clause-writes g c =
     rw c.in-Time.is (reply_text (λ IsWritten w. time_answered d c.args.accepted.now p c.in-Time.event.now IsWritten is (t.0, t.1, w)) (c.written-in-Time.ensures.writes t.0 _ _ t.2))
 
 pub returns-in-Merge-clause-writes : goal.returns-in-Merge-clause-writes
-returns-in-Merge-clause-writes g c = rw c.in-Merge.is (reply_such (λ IsWritten. merge_answered (declaration_of c.args.decl.now) c.args.accepted.now IsWritten) c.write_merge.ensures)
+returns-in-Merge-clause-writes g c = rw c.in-Merge.is (reply_such (λ IsWritten. merge_answered (declaration_of c.args.decl.now) c.args.accepted.now IsWritten) c.write_merge.ensures.writes)
 
 pub returns-in-Report-clause-writes : goal.returns-in-Report-clause-writes
-returns-in-Report-clause-writes g c = rw c.in-Report.is (reply_such (λ IsWritten. report_answered (declaration_of c.args.decl.now) c.args.accepted.now IsWritten) c.write_report.ensures)
+returns-in-Report-clause-writes g c = rw c.in-Report.is (reply_such (λ IsWritten. report_answered (declaration_of c.args.decl.now) c.args.accepted.now IsWritten) c.write_report.ensures.writes)
 
 pub returns-in-Problem-clause-writes : goal.returns-in-Problem-clause-writes
 returns-in-Problem-clause-writes g c =

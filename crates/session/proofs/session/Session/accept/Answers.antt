@@ -6,7 +6,7 @@ use Rattle.trace_event.specs.Seen.{seen_event, seen_events}
 use Rattle.traces.specs.declared.accepted.Accepted.{Accepted}
 use Rattle.traces.specs.Traces.{event_count}
 use Rattle.traces.specs.Held.{seen_in}
-use Rattle.trace_match.specs.Ends.{AreEndsOf, IsChange}
+use Rattle.trace_match.specs.Ends.{AreEndsOf, AreChanges, IsChange}
 use Rattle.session.specs.declared.refusal.Refusal.TheVariants.{TooManyEvents}
 use Rattle.session.specs.declared.outcome.Outcome.TheVariants.{Refused}
 use Rattle.session.specs.Outcomes.{IsLineOf, outcome_line}
@@ -17,7 +17,7 @@ use Rattle.traces.specs.Messages.{problem_of_seen}
 use Rattle.queries.specs.Consistent.{IsConsistent}
 use Rattle.session.specs.Stands.{Held, AreKept, AreAnswersOf, held_of, problem_held, solver_of, under_of}
 use Rattle.session.specs.Inside.{AcceptAnswered, HasPlace}
-use Rattle.session.proofs.Holding.{labels_few, le_true, seen_accepted}
+use Rattle.session.proofs.Holding.{limits, labels_few, le_true, seen_accepted}
 use Rattle.session.proofs.Accepting.{refused_in, extended, kept_then, added_in, whole_same, whole_grown, whole_few}
 use Rattle.session.proofs.session.Session.accept.Goals as goal
 
@@ -32,7 +32,7 @@ returns-then-not-has_room-clause-answers g c =
 
 pub extend-requires-clause-labels : goal.extend-requires-clause-labels
 extend-requires-clause-labels g c =
-    subst (λ (l : List Accepted). length l ≤ 65536) (sym c.deref_mut.ensures.value) (labels_few (declaration_of c.self.inside.decl) c.self.inside.accepted.items _ _ c.self.invariant.0)
+    subst (λ (l : List Accepted). length l ≤ 65536) (sym c.deref_mut.ensures.value) (labels_few (declaration_of c.self.inside.decl) c.self.inside.accepted.items _ _ (limits c.self.invariant.0))
 
 pub extend-requires-clause-place : goal.extend-requires-clause-place
 extend-requires-clause-place g c =
@@ -56,14 +56,14 @@ renew-requires-clause-few g c =
     let fit : c.has_room.result ≡ true = search rules in
     let e = extended (declaration_of c.self.inside.decl) c.self.inside.accepted.items _ _ c.extend.new.accepted c.self.inside.kept.items (solver_of c.self.inside.answers) c.args.self.now c.args.k _
     (seen_events c.args.events.items) c.args.size c.args.stream _ c.self.view_is c.requires.inside c.requires.place c.requires.within c.deref.ensures.value count c.has_room.ensures fit
-    c.deref_mut.ensures.value c.in_ok-changed.ensures.grown in
-    let long : length c.extend.new.accepted ≡ c.self.inside.accepted.len = c.in_ok-changed.ensures.len ∙ ap length c.deref_mut.ensures.value ∙ sym c.self.inside.accepted.ok.0 in
+    c.deref_mut.ensures.value c.in_ok-changes.ensures.grown in
+    let long : length c.extend.new.accepted ≡ c.self.inside.accepted.len = c.in_ok-changes.ensures.len ∙ ap length c.deref_mut.ensures.value ∙ sym c.self.inside.accepted.ok.0 in
     let back : (with_items c.self.inside.accepted c.extend.new.accepted).items ≡ c.extend.new.accepted = with_items_is c.self.inside.accepted c.extend.new.accepted long in
     let d = declaration_of c.self.inside.decl in
     let kept = c.self.inside.kept.items in
     let before = solver_of c.self.inside.answers in
     subst (λ (l : List Accepted). event_count (seen_in l) ≤ 2 ^ 20) (sym (c.deref-2.ensures.value ∙ back))
-    (whole_few d c.self.inside.accepted.items c.extend.new.accepted kept before c.args.self.now c.args.k (seen_events c.args.events.items) c.args.size c.args.stream e c.self.invariant.0)
+    (whole_few d c.self.inside.accepted.items c.extend.new.accepted kept before c.args.self.now c.args.k (seen_events c.args.events.items) c.args.size c.args.stream e (limits c.self.invariant.0))
 
 pub renew-requires-clause-kept : goal.renew-requires-clause-kept
 renew-requires-clause-kept g c =
@@ -72,8 +72,8 @@ renew-requires-clause-kept g c =
     let fit : c.has_room.result ≡ true = search rules in
     let e = extended (declaration_of c.self.inside.decl) c.self.inside.accepted.items _ _ c.extend.new.accepted c.self.inside.kept.items (solver_of c.self.inside.answers) c.args.self.now c.args.k _
     (seen_events c.args.events.items) c.args.size c.args.stream _ c.self.view_is c.requires.inside c.requires.place c.requires.within c.deref.ensures.value count c.has_room.ensures fit
-    c.deref_mut.ensures.value c.in_ok-changed.ensures.grown in
-    let long : length c.extend.new.accepted ≡ c.self.inside.accepted.len = c.in_ok-changed.ensures.len ∙ ap length c.deref_mut.ensures.value ∙ sym c.self.inside.accepted.ok.0 in
+    c.deref_mut.ensures.value c.in_ok-changes.ensures.grown in
+    let long : length c.extend.new.accepted ≡ c.self.inside.accepted.len = c.in_ok-changes.ensures.len ∙ ap length c.deref_mut.ensures.value ∙ sym c.self.inside.accepted.ok.0 in
     let back : (with_items c.self.inside.accepted c.extend.new.accepted).items ≡ c.extend.new.accepted = with_items_is c.self.inside.accepted c.extend.new.accepted long in
     let d = declaration_of c.self.inside.decl in
     let kept = c.self.inside.kept.items in
@@ -86,11 +86,11 @@ pub invariant_of-self : goal.invariant_of-self
 invariant_of-self g c =
     let d = declaration_of c.self.inside.decl in
     let kept = c.self.inside.kept.items in
-    let long : length c.extend.new.accepted ≡ c.self.inside.accepted.len = c.in_err-changed.ensures.len ∙ ap length c.deref_mut.ensures.value ∙ sym c.self.inside.accepted.ok.0 in
+    let long : length c.extend.new.accepted ≡ c.self.inside.accepted.len = c.in_err-changes.ensures.len ∙ ap length c.deref_mut.ensures.value ∙ sym c.self.inside.accepted.ok.0 in
     let back : (with_items c.self.inside.accepted c.extend.new.accepted).items ≡ c.extend.new.accepted = with_items_is c.self.inside.accepted c.extend.new.accepted long in
-    whole_same d c.self.inside.accepted.items c.extend.new.accepted (with_items c.self.inside.accepted c.extend.new.accepted).items kept (solver_of c.self.inside.answers) (solver_of c.give_up.new.answers)
-    c.give_up.new.answers c.extend.new.matcher back (c.in_err-changed.ensures.stays ∙ ap (λ (l : List Accepted). map under_of l) c.deref_mut.ensures.value) c.self.invariant.0 c.self.invariant.2
-    c.in_err-changed.ensures.ends c.give_up.ensures
+    whole_same d c.self.inside.accepted.items c.extend.new.accepted (with_items c.self.inside.accepted c.extend.new.accepted).items kept (solver_of c.self.inside.answers)
+    c.give_up.new.answers c.extend.new.matcher back (c.in_err-changes.ensures.stays ∙ ap (λ (l : List Accepted). map under_of l) c.deref_mut.ensures.value) (limits c.self.invariant.0) c.self.invariant.2
+    c.in_err-changes.ensures.ends c.give_up.ensures
 
 pub invariant_of-self-in_err-consistent : goal.invariant_of-self-in_err-consistent
 invariant_of-self-in_err-consistent g c =
@@ -99,16 +99,16 @@ invariant_of-self-in_err-consistent g c =
     let fit : c.has_room.result ≡ true = search rules in
     let e = extended (declaration_of c.self.inside.decl) c.self.inside.accepted.items _ _ c.extend.new.accepted c.self.inside.kept.items (solver_of c.self.inside.answers) c.args.self.now c.args.k _
     (seen_events c.args.events.items) c.args.size c.args.stream _ c.self.view_is c.requires.inside c.requires.place c.requires.within c.deref.ensures.value count c.has_room.ensures fit
-    c.deref_mut.ensures.value c.in_ok-changed.ensures.grown in
-    let long : length c.extend.new.accepted ≡ c.self.inside.accepted.len = c.in_ok-changed.ensures.len ∙ ap length c.deref_mut.ensures.value ∙ sym c.self.inside.accepted.ok.0 in
+    c.deref_mut.ensures.value c.in_ok-changes.ensures.grown in
+    let long : length c.extend.new.accepted ≡ c.self.inside.accepted.len = c.in_ok-changes.ensures.len ∙ ap length c.deref_mut.ensures.value ∙ sym c.self.inside.accepted.ok.0 in
     let back : (with_items c.self.inside.accepted c.extend.new.accepted).items ≡ c.extend.new.accepted = with_items_is c.self.inside.accepted c.extend.new.accepted long in
     let d = declaration_of c.self.inside.decl in
     let kept = c.self.inside.kept.items in
     let before = solver_of c.self.inside.answers in
     let ready = subst (λ (l : List Accepted). IfSome c.renew.new.answers (AreAnswersOf d (seen_in l) kept)) c.deref-2.ensures.value
     (subst (λ (events : List EventId). IfSome c.renew.new.answers (AreAnswersOf d (seen_in c.deref-2.result.now) events)) c.deref-3.ensures.value c.in_err-consistent.ensures.ready) in
-    whole_grown d c.self.inside.accepted.items c.extend.new.accepted (with_items c.self.inside.accepted c.extend.new.accepted).items kept before (solver_of c.renew.new.answers) c.renew.new.answers c.args.self.now c.args.k (seen_events c.args.events.items) c.args.size c.args.stream
-    c.extend.new.matcher e back c.self.invariant.0 c.self.invariant.2 c.in_ok-changed.ensures.ends ready
+    whole_grown d c.self.inside.accepted.items c.extend.new.accepted (with_items c.self.inside.accepted c.extend.new.accepted).items kept before c.renew.new.answers c.args.self.now c.args.k (seen_events c.args.events.items) c.args.size c.args.stream
+    c.extend.new.matcher e back (limits c.self.invariant.0) c.self.invariant.2 c.in_ok-changes.ensures.ends ready
 
 pub invariant_of-self-2 : goal.invariant_of-self-2
 invariant_of-self-2 g c =
@@ -117,16 +117,16 @@ invariant_of-self-2 g c =
     let fit : c.has_room.result ≡ true = search rules in
     let e = extended (declaration_of c.self.inside.decl) c.self.inside.accepted.items _ _ c.extend.new.accepted c.self.inside.kept.items (solver_of c.self.inside.answers) c.args.self.now c.args.k _
     (seen_events c.args.events.items) c.args.size c.args.stream _ c.self.view_is c.requires.inside c.requires.place c.requires.within c.deref.ensures.value count c.has_room.ensures fit
-    c.deref_mut.ensures.value c.in_ok-changed.ensures.grown in
-    let long : length c.extend.new.accepted ≡ c.self.inside.accepted.len = c.in_ok-changed.ensures.len ∙ ap length c.deref_mut.ensures.value ∙ sym c.self.inside.accepted.ok.0 in
+    c.deref_mut.ensures.value c.in_ok-changes.ensures.grown in
+    let long : length c.extend.new.accepted ≡ c.self.inside.accepted.len = c.in_ok-changes.ensures.len ∙ ap length c.deref_mut.ensures.value ∙ sym c.self.inside.accepted.ok.0 in
     let back : (with_items c.self.inside.accepted c.extend.new.accepted).items ≡ c.extend.new.accepted = with_items_is c.self.inside.accepted c.extend.new.accepted long in
     let d = declaration_of c.self.inside.decl in
     let kept = c.self.inside.kept.items in
     let before = solver_of c.self.inside.answers in
     let ready = subst (λ (l : List Accepted). IfSome c.renew.new.answers (AreAnswersOf d (seen_in l) kept)) c.deref-2.ensures.value
     (subst (λ (events : List EventId). IfSome c.renew.new.answers (AreAnswersOf d (seen_in c.deref-2.result.now) events)) c.deref-3.ensures.value c.in_ok-consistent.ensures.ready) in
-    whole_grown d c.self.inside.accepted.items c.extend.new.accepted (with_items c.self.inside.accepted c.extend.new.accepted).items kept before (solver_of c.renew.new.answers) c.renew.new.answers c.args.self.now c.args.k (seen_events c.args.events.items) c.args.size c.args.stream
-    c.extend.new.matcher e back c.self.invariant.0 c.self.invariant.2 c.in_ok-changed.ensures.ends ready
+    whole_grown d c.self.inside.accepted.items c.extend.new.accepted (with_items c.self.inside.accepted c.extend.new.accepted).items kept before c.renew.new.answers c.args.self.now c.args.k (seen_events c.args.events.items) c.args.size c.args.stream
+    c.extend.new.matcher e back (limits c.self.invariant.0) c.self.invariant.2 c.in_ok-changes.ensures.ends ready
 
 pub returns-clause-answers : goal.returns-clause-answers
 returns-clause-answers g c =
@@ -135,8 +135,8 @@ returns-clause-answers g c =
     let fit : c.has_room.result ≡ true = search rules in
     let e = extended (declaration_of c.self.inside.decl) c.self.inside.accepted.items _ _ c.extend.new.accepted c.self.inside.kept.items (solver_of c.self.inside.answers) c.args.self.now c.args.k _
     (seen_events c.args.events.items) c.args.size c.args.stream _ c.self.view_is c.requires.inside c.requires.place c.requires.within c.deref.ensures.value count c.has_room.ensures fit
-    c.deref_mut.ensures.value c.in_ok-changed.ensures.grown in
-    let long : length c.extend.new.accepted ≡ c.self.inside.accepted.len = c.in_ok-changed.ensures.len ∙ ap length c.deref_mut.ensures.value ∙ sym c.self.inside.accepted.ok.0 in
+    c.deref_mut.ensures.value c.in_ok-changes.ensures.grown in
+    let long : length c.extend.new.accepted ≡ c.self.inside.accepted.len = c.in_ok-changes.ensures.len ∙ ap length c.deref_mut.ensures.value ∙ sym c.self.inside.accepted.ok.0 in
     let back : (with_items c.self.inside.accepted c.extend.new.accepted).items ≡ c.extend.new.accepted = with_items_is c.self.inside.accepted c.extend.new.accepted long in
     let d = declaration_of c.self.inside.decl in
     let kept = c.self.inside.kept.items in
@@ -146,8 +146,9 @@ returns-clause-answers g c =
     let problem : p ≡ problem_held (held_of d c.extend.new.accepted kept after) = ap (λ (x : List (List Seen)). problem_of_seen d x) (sym (seen_accepted c.extend.new.accepted)) in
     let consistent : IsConsistent p c.in_ok-consistent.consistent = subst (λ (l : List Accepted). IsConsistent (problem_of_seen d (seen_in l)) c.in_ok-consistent.consistent) (c.deref-2.ensures.value ∙ back)
     c.in_ok-consistent.ensures.consistent in
-    let change : IsChange (seen_in c.self.inside.accepted.items) (seen_in c.extend.new.accepted) c.in_ok-changed.changed =
-    subst (λ (l : List Accepted). IsChange (seen_in l) (seen_in c.extend.new.accepted) c.in_ok-changed.changed) c.deref_mut.ensures.value c.in_ok-changed.ensures.changed in
+    let changes : AreChanges (seen_in c.self.inside.accepted.items) (seen_in c.extend.new.accepted) c.in_ok-changes.changes =
+    subst (λ (l : List Accepted). AreChanges (seen_in l) (seen_in c.extend.new.accepted) c.in_ok-changes.changes) c.deref_mut.ensures.value c.in_ok-changes.ensures.changes in
+    let change : IsChange (seen_in c.self.inside.accepted.items) (seen_in c.extend.new.accepted) c.counts.result = c.counts.ensures.change (seen_in c.self.inside.accepted.items) (seen_in c.extend.new.accepted) changes in
     subst (λ (l : List Accepted). AcceptAnswered c.args.self.now (held_of d l kept after) c.args.k (seen_events c.args.events.items) c.args.size c.args.stream (IsLineOf c.outcome_of.result)) (sym back)
-    (added_in d c.self.inside.accepted.items c.extend.new.accepted kept before c.args.self.now c.args.k (seen_events c.args.events.items) c.args.size c.args.stream e p c.in_ok-changed.changed c.len-more.result c.waiting-pending.result after (IsLineOf c.outcome_of.result)
+    (added_in d c.self.inside.accepted.items c.extend.new.accepted kept before c.args.self.now c.args.k (seen_events c.args.events.items) c.args.size c.args.stream e p c.counts.result c.len-more.result c.waiting-pending.result after (IsLineOf c.outcome_of.result)
     problem change count c.waiting-pending.ensures (outcome_line c.outcome_of.result, c.outcome_of.ensures p consistent, refl))

@@ -6,12 +6,13 @@ use Rattle.trace_event.specs.Seen.{seen_events}
 use Rattle.session.specs.declared.refusal.Refusal.TheVariants.{TooManyBytes}
 use Rattle.session.specs.declared.outcome.Outcome.TheVariants.{Refused}
 use Rattle.session.specs.Outcomes.{IsLineOf}
-use Rattle.session.specs.Stands.{Held, IsHeld, under_of}
+use Rattle.session.specs.Stands.{Held, under_of}
 use Rattle.session.specs.Pieces.{SaysEvents, IsRefusedAs}
 use Rattle.session.specs.Inside.{FrontAnswered}
 use Rattle.session.proofs.Extending.{under_at, inside_under, stream_fits, stream_within}
 use Rattle.session.proofs.Growing.{says_answered, refusal_answered}
 use Rattle.session.proofs.Standing.{piece_more, piece_read, piece_without_place, fits_short, fits_place}
+use Rattle.session.proofs.Holding.{IsWithinLimits, limits}
 use Rattle.session.proofs.session.Session.add_piece.Goals as goal
 
 pub returns-then-more-clause-answers : goal.returns-then-more-clause-answers
@@ -23,7 +24,7 @@ pub returns-then-not-has_place-clause-answers : goal.returns-then-not-has_place-
 returns-then-not-has_place-clause-answers g c =
     let more : c.args.more ≡ false = search rules in
     let none : c.has_place.result ≡ false = search rules in
-    let held = subst IsHeld c.self.view_is c.self.invariant.0 in
+    let held = subst IsWithinLimits c.self.view_is (limits c.self.invariant.0) in
     let at_under = under_at (declaration_of c.self.inside.decl) c.self.inside.accepted.items _ _ c.args.self.now c.args.k c.index-under.result.now c.self.view_is (inside_under c.args.self.now c.args.k held c.requires.inside) c.index-under.ensures in
     piece_without_place c.args.self.now c.args.k (under_of c.index-under.result.now) c.args.more c.args.front.now (IsLineOf (Refused TooManyBytes)) more at_under (sym c.has_place.ensures ∙ none) refl
 
@@ -35,7 +36,7 @@ read_piece-requires-clause-short g c =
 pub read_piece-requires-clause-place : goal.read_piece-requires-clause-place
 read_piece-requires-clause-place g c =
     let place : c.has_place.result ≡ true = search rules in
-    let held = subst IsHeld c.self.view_is c.self.invariant.0 in
+    let held = subst IsWithinLimits c.self.view_is (limits c.self.invariant.0) in
     let at_under = under_at (declaration_of c.self.inside.decl) c.self.inside.accepted.items _ _ c.args.self.now c.args.k c.index-under.result.now c.self.view_is (inside_under c.args.self.now c.args.k held c.requires.inside) c.index-under.ensures in
     stream_fits c.args.self.now c.args.k (length c.args.front.now) (under_of c.index-under.result.now) held at_under
     (fits_place c.args.self.now.under c.args.k (length c.args.front.now) (under_of c.index-under.result.now) at_under (sym c.has_place.ensures ∙ place))
@@ -43,13 +44,13 @@ read_piece-requires-clause-place g c =
 pub accept-requires-clause-place : goal.accept-requires-clause-place
 accept-requires-clause-place g c =
     let place : c.has_place.result ≡ true = search rules in
-    let held = subst IsHeld c.self.view_is c.self.invariant.0 in
+    let held = subst IsWithinLimits c.self.view_is (limits c.self.invariant.0) in
     let at_under = under_at (declaration_of c.self.inside.decl) c.self.inside.accepted.items _ _ c.args.self.now c.args.k c.index-under.result.now c.self.view_is (inside_under c.args.self.now c.args.k held c.requires.inside) c.index-under.ensures in
     fits_place c.args.self.now.under c.args.k (length c.args.front.now) (under_of c.index-under.result.now) at_under (sym c.has_place.ensures ∙ place)
 
 pub accept-requires-clause-within : goal.accept-requires-clause-within
 accept-requires-clause-within g c =
-    let held = subst IsHeld c.self.view_is c.self.invariant.0 in
+    let held = subst IsWithinLimits c.self.view_is (limits c.self.invariant.0) in
     let at_under = under_at (declaration_of c.self.inside.decl) c.self.inside.accepted.items _ _ c.args.self.now c.args.k c.index-under.result.now c.self.view_is (inside_under c.args.self.now c.args.k held c.requires.inside) c.index-under.ensures in
     let says : SaysEvents (declaration_of c.self.inside.decl) c.host_of-host.result c.index-under.result.now.stream c.args.front.now (seen_events c.in-Read.events.items) c.in-Read.stream =
     rw c.in-Read.is at c.in_ok-read.ensures in
@@ -60,7 +61,7 @@ pub returns-in-Read-clause-answers : goal.returns-in-Read-clause-answers
 returns-in-Read-clause-answers g c =
     let more : c.args.more ≡ false = search rules in
     let place : c.has_place.result ≡ true = search rules in
-    let held = subst IsHeld c.self.view_is c.self.invariant.0 in
+    let held = subst IsWithinLimits c.self.view_is (limits c.self.invariant.0) in
     let at_under = under_at (declaration_of c.self.inside.decl) c.self.inside.accepted.items _ _ c.args.self.now c.args.k c.index-under.result.now c.self.view_is (inside_under c.args.self.now c.args.k held c.requires.inside) c.index-under.ensures in
     let says : SaysEvents (declaration_of c.self.inside.decl) c.host_of-host.result c.index-under.result.now.stream c.args.front.now (seen_events c.in-Read.events.items) c.in-Read.stream =
     rw c.in-Read.is at c.in_ok-read.ensures in
@@ -77,7 +78,7 @@ pub returns-in-Refused-clause-answers : goal.returns-in-Refused-clause-answers
 returns-in-Refused-clause-answers g c =
     let more : c.args.more ≡ false = search rules in
     let place : c.has_place.result ≡ true = search rules in
-    let held = subst IsHeld c.self.view_is c.self.invariant.0 in
+    let held = subst IsWithinLimits c.self.view_is (limits c.self.invariant.0) in
     let at_under = under_at (declaration_of c.self.inside.decl) c.self.inside.accepted.items _ _ c.args.self.now c.args.k c.index-under.result.now c.self.view_is (inside_under c.args.self.now c.args.k held c.requires.inside) c.index-under.ensures in
     let why : IsRefusedAs c.index-under.result.now.stream c.args.front.now c.in-Refused.refusal = rw c.in-Refused.is at c.in_ok-read.ensures in
     piece_read c.args.self.now c.args.self.now c.args.k (under_of c.index-under.result.now) c.args.more c.args.front.now (IsLineOf (Refused c.in-Refused.refusal)) more at_under (sym c.has_place.ensures ∙ place)

@@ -5,13 +5,13 @@ use Rattle.traces.specs.Traces.{event_count}
 use Rattle.traces.specs.Held.{seen_in}
 use Rattle.session.specs.Stands.{Held, seen_held, solver_of}
 use Rattle.session.proofs.Counting.{least_of_few}
-use Rattle.session.proofs.Holding.{accepted_few, seen_accepted}
+use Rattle.session.proofs.Holding.{limits, accepted_few, seen_accepted}
 use Rattle.session.proofs.session.Session.event_count.Goals as goal
 
 pub returns : goal.returns
 returns c =
     let inside = c.self.inside in
-    let few = accepted_few (declaration_of inside.decl) inside.accepted.items inside.kept.items (solver_of inside.answers) c.self.invariant.0 in
+    let few = accepted_few (declaration_of inside.decl) inside.accepted.items inside.kept.items (solver_of inside.answers) (limits c.self.invariant.0) in
     c.event_count.ensures
     ∙ ap (λ (l : List Accepted). min (event_count (seen_in l)) (2 ^ 64 - 1)) c.deref.ensures.value
     ∙ least_of_few (event_count (seen_in inside.accepted.items)) (2 ^ 64 - 1) (2 ^ 20) few (omega arith)

@@ -10,6 +10,7 @@ use Rattle.trace_match.specs.Ends.{End, AreEndsOf}
 use Rattle.session.specs.Stands.{AreKept, AreAnswersOf, under_of}
 use Rattle.session.proofs.Slotting.{none_kept}
 use Rattle.session.proofs.Starting.{starts, held_start, nothing_seen, each_empty}
+use Rattle.session.proofs.Holding.{held_by}
 use Rattle.session.proofs.session.Session.new.Goals as goal
 
 pub first_answers-requires-clause-labels : goal.first_answers-requires-clause-labels
@@ -30,7 +31,7 @@ pub invariant_of-result : goal.invariant_of-result
 invariant_of-result c =
     let d = declaration_of c.args.decl in
     let seen = seen_in c.in_ok-accepted.accepted.items in (
-      held_start _ c.requires (rw (← c.deref.ensures.value) c.in_ok-accepted.ensures),
+      held_by (held_start _ c.requires (rw (← c.deref.ensures.value) c.in_ok-accepted.ensures)) c.in_ok-answers.ensures.solution.current,
       subst (λ (ends : List End). AreEndsOf ends seen) (sym c.new-matcher.ensures) (c.ends_grow.ensures.none seen (nothing_seen c.in_ok-accepted.accepted.items _ c.in_ok-accepted.ensures)),
       subst (λ (events : List EventId). AreKept seen events) (sym c.new.ensures.items) (none_kept seen),
       subst (λ (events : List EventId). AreAnswersOf d seen events c.in_ok-answers.answers) (sym c.new.ensures.items)
