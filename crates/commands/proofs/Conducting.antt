@@ -10,11 +10,11 @@ use Rattle.line_reader.specs.Lines.{whole_lines, lines_of, most_taken}
 use Rattle.session.specs.Sessions.{Session, start}
 use Rattle.script.specs.declared.ended.Ended.{Ended}
 use Rattle.script.specs.declared.ended.Ended.TheVariants as ended
-use Rattle.script.specs.Script.{Devices, devices, OfScript, Replied, IsTaken, IsBegun, IsDone, IsScriptFault, IsTooLong, ScriptAnswered}
+use Rattle.script.specs.Script.{Devices, devices, OfScript, Replied, IsTaken, IsBegun, IsInterrupted, IsDone, IsScriptFault, IsTooLong, IsOutOfMemory, ScriptAnswered}
 use Rattle.script.proofs.Replies.{counted_earlier}
 use Rattle.script.proofs.Places.{of_script}
 use Rattle.commands.specs.Printing.{Closes, Prints}
-use Rattle.commands.specs.Sessions.{IsDeclaredAt, IsUndeclared, TellsUndeclared, ClosesScript, declaration_line, TellsSession, Conducted}
+use Rattle.commands.specs.Sessions.{IsDeclaredAt, IsUndeclared, TellsUndeclared, ClosesScript, declaration_line, TellsSession, LacksMemory, Conducted}
 use Rattle.commands.specs.declared.declaration.Undeclared.{Undeclared}
 use Rattle.commands.specs.declared.declaration.Undeclared.TheVariants as causes
 use Rattle.commands.specs.declared.status.Status.{Status}
@@ -53,6 +53,10 @@ module _ (d : Declaration) (files begun after : FilesTold) (input input' : Sourc
   begun_on is = of_script input.left (IsBegun d (devices begun input out) (devices after input' mid) First) (IsBegun d (devices files input out) (devices after input' new) Whole)
       (λ script b. record { lines = b.lines; more = b.more; are = b.are; replied = replied_on b.lines b.replied }) is
 
+  interrupted_on : OfScript input.left (IsInterrupted d (devices begun input out) (devices after input' mid) First) → OfScript input.left (IsInterrupted d (devices files input out) (devices after input' new) Whole)
+  interrupted_on is = of_script input.left (IsInterrupted d (devices begun input out) (devices after input' mid) First) (IsInterrupted d (devices files input out) (devices after input' new) Whole)
+      (λ script b. record { lines = b.lines; line = b.line; more = b.more; are = b.are; asks = b.asks; replied = replied_on b.lines b.replied }) is
+
 -- ---- a last line behind some text
 line_behind : (out mid new : SinkTold) (line text : List ℕ) → Appends mid.written new.written line → Appends out.written mid.written text → Appends out.written new.written (text ++ line)
 line_behind out mid new line text end first = appends_then out.written mid.written new.written text line first end
@@ -83,7 +87,7 @@ module _ (path : List ℕ) (old new : Devices) where
       let front = cut.1 in
       let fails = front.3 in
       inr (inl (cut.0, (fails.0, inl (front.0, undeclared_goes u is unread (AppendsPrefix old.out.written new.out.written) front.0 front.1 front.2 fails.1))))
-  undeclared u result is unread (inr (inr none)) = inr (inr none)
+  undeclared u result is unread (inr (inr none)) = inr (inr (none.0, inl none.1))
 
 -- ---- there is one
 module _ (path : List ℕ) (d : Declaration) (files begun after : FilesTold) (input input' : SourceTold) (out mid : SinkTold) (declared : IsDeclaredAt files.content path d) (keeps : Keeps files begun)
@@ -110,6 +114,10 @@ module _ (path : List ℕ) (d : Declaration) (files begun after : FilesTold) (in
   abbrev First : List ℕ → Type 0
   First = Appends out.written mid.written
 
+  lacks : IsOutOfMemory d (devices begun input out) (devices after input' mid) First → LacksMemory path old (devices after input' mid)
+  lacks (inl silent) = inl silent
+  lacks (inr is) = inr (d, declared, interrupted_on d files begun after input input' out mid mid keeps First First (λ text first. first) is)
+
   -- what is said of a session, from what its parts say
   pub conducted : (new : SinkTold) (how : Ended) (result : Status) → ScriptAnswered d (devices begun input out) (devices after input' mid) how → ClosesScript how mid new result
       → Conducted path old (devices after input' new) result
@@ -131,4 +139,6 @@ module _ (path : List ℕ) (d : Declaration) (files begun after : FilesTold) (in
           inr (d, declared, (so_far.0, begun_on d files begun after input input' out mid mid keeps (AppendsPrefix out.written mid.written) (AppendsPrefix out.written mid.written) (λ text front. front) so_far.1)),
         ),
       )))
-  conducted new ended.Memory result so_far closes = inr (inr closes)
+  conducted new ended.Memory result so_far closes =
+      subst (λ (o : SinkTold). Conducted path old (devices after input' o) result) (sym closes.1)
+      (inr (inr (closes.0, lacks so_far)))

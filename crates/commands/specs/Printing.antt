@@ -17,8 +17,8 @@ abbrev pub IsOnly : List ℕ → Status → Status → List ℕ → Type 0
 IsOnly line only status text = (status ≡ only) × (text ≡ line)
 
 -- a text that goes with the status is printed; or a write failed, behind a front of a text that goes with its own status; or memory
--- ran out
+-- ran out, and nothing is printed
 abbrev pub Prints : (Status → List ℕ → Type 0) → SinkTold → SinkTold → Status → Type 0
 Prints Goes old new result = ((text : List ℕ) × Goes result text × Appends old.written new.written text)
     ⊎ ((result ≡ WriteFault) × ((status : Status) × (text : List ℕ) × Goes status text × FailsIn text old new))
-    ⊎ (result ≡ Memory)
+    ⊎ ((result ≡ Memory) × (new ≡ old))

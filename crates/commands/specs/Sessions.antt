@@ -9,7 +9,7 @@ use Rattle.decl.specs.declared.errors.Section.{Section}
 use Rattle.decl.specs.declared.errors.Section.TheVariants.{Top, Hosts, Labels, Links}
 use Rattle.decl.specs.Declaration.{Declaration}
 use Rattle.decl.specs.Walk.{Declares, IsFirstFault}
-use Rattle.script.specs.Script.{Devices, IsDone, IsScriptFault, IsTooLong, IsCutOff}
+use Rattle.script.specs.Script.{Devices, OfScript, IsDone, IsScriptFault, IsTooLong, IsCutOff, IsInterrupted}
 use Rattle.script.specs.declared.ended.Ended.{Ended}
 use Rattle.script.specs.declared.ended.Ended.TheVariants as ended
 use Rattle.commands.specs.Printing.{Closes, IsOnly}
@@ -58,7 +58,7 @@ ClosesScript ended.Done old new result = (result ≡ Done) × (new ≡ old)
 ClosesScript ended.ReadFault old new result = Closes (codes "read fault\n") ReadFault old new result
 ClosesScript ended.Limit old new result = Closes (codes "script limit\n") ScriptLimit old new result
 ClosesScript ended.WriteFault old new result = (result ≡ WriteFault) × (new ≡ old)
-ClosesScript ended.Memory old new result = result ≡ Memory
+ClosesScript ended.Memory old new result = (result ≡ Memory) × (new ≡ old)
 
 -- what stands written so, with this status: where there is no declaration a line alone, and nothing of the script was read; else
 -- the replies, and behind them a last line where the script was not read to its end
@@ -78,7 +78,12 @@ FailsSession path old new = Rose old.out.faults new.out.faults
     × (((status : Status) × TellsSession path old new (AppendsPrefix old.out.written new.out.written) status)
     ⊎ ((d : Declaration) × IsDeclaredAt old.files.content path d × IsCutOff d old new))
 
+-- memory ran out: nothing is written, or the replies to the lines before one that may ask for memory
+abbrev pub LacksMemory : List ℕ → Devices → Devices → Type 0
+LacksMemory path old new = (new.out ≡ old.out)
+    ⊎ ((d : Declaration) × IsDeclaredAt old.files.content path d × OfScript old.input.left (IsInterrupted d old new (Appends old.out.written new.out.written)))
+
 -- what `session` prints, and when it ends with which status
 abbrev pub Conducted : List ℕ → Devices → Devices → Status → Type 0
 Conducted path old new result = TellsSession path old new (Appends old.out.written new.out.written) result
-    ⊎ ((result ≡ WriteFault) × FailsSession path old new) ⊎ (result ≡ Memory)
+    ⊎ ((result ≡ WriteFault) × FailsSession path old new) ⊎ ((result ≡ Memory) × LacksMemory path old new)

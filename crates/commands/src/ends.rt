@@ -130,7 +130,7 @@ fn solve_for<O: Sink, L: Ledger>(
     requires to { to < length p.now.events }
     ensures { Prints (TellsInterval p.now from to) (O.told out.old) (O.told out.new) result }
 {
-    match solver::solve(alloc, p, 1, steps) {
+    match solving::solve(alloc, p, 1, steps) {
         Ok(mut solver) => conclude(p, &mut solver, from, to, out, steps),
         Err(_) => Status::Memory,
     }

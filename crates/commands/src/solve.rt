@@ -63,7 +63,7 @@ fn answer<O: Sink, L: Ledger>(
 ) -> Status
     ensures { Prints (TellsSolution p.now) (O.told out.old) (O.told out.new) result }
 {
-    match solver::solve(alloc, p, 0, steps) {
+    match solving::solve(alloc, p, 0, steps) {
         Ok(solver) => certify(p, &solver, out),
         Err(_) => Status::Memory,
     }

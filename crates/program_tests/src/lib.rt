@@ -2,10 +2,12 @@
 //!
 //! `problem_commands` has the commands over a problem, `sessions` those over a declaration, `long_sessions` one over a log of
 //! thousands of rows, `verifying` those over a certificate, with its table `verify_cases`, `trials` the trials, `widenings` those
-//! over a widening; `running` is how they are run,
+//! over a widening, `failing_in_turn` has each call of a device fail; `running` is how they are run,
 //! and `fixtures` has what several of them use.
 #![tactic(auto)]
 
+#[cfg(test)]
+mod failing_in_turn;
 #[cfg(test)]
 mod fixtures;
 #[cfg(test)]

@@ -67,7 +67,7 @@ fn ends_so(alloc: Global, case: &Case) -> Result<bool, AllocError> {
     answers_so(alloc, case, &mut files)
 }
 
-const SESSIONS: [Case; 8] = [
+const SESSIONS: [Case; 9] = [
     Case {
         decl: TWO_LOGS_DECLARATION,
         log: ON_TIME,
@@ -132,6 +132,20 @@ const SESSIONS: [Case; 8] = [
         printed: "added events 2 messages 0 withdrawn 0 pending 0 consistent\n\
         added events 2 messages 2 withdrawn 0 pending 0 consistent\nrefused 20\nrefused 20\nrefused 21\nrefused 28\n\
         refused 20\nrefused 29\n",
+    },
+    // Misspelled commands, and names of events that no label can have.
+    Case {
+        decl: TWO_LOGS_DECLARATION,
+        log: ON_TIME,
+        file_fails: &[],
+        script: "add a a.csv\nadd b b.csv\nadd a\nADD a a.csv\ninterval a#1  b#1\ninterval a#0 b#1\n\
+        interval a#18446744073709551616 b#1\n",
+        read_fails: &[],
+        write_fails: &[],
+        status: Status::Done,
+        printed: "added events 2 messages 0 withdrawn 0 pending 0 consistent\n\
+        added events 2 messages 2 withdrawn 0 pending 0 consistent\nrefused 20\nrefused 20\nrefused 20\nrefused 28\n\
+        refused 28\n",
     },
     // The script fails behind its first line, which has 14 bytes.
     Case {

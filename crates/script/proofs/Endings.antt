@@ -1,5 +1,5 @@
 -- How a session over a script ends.
-use Rattle.std.proofs.Common.{◌≡◌, ℕ, ◌+◌, ◌<◌, ◌≤◌, List, [], ◌∷◌, ◌++◌, length, take, Some, Bool, true, false, refl, sym, ◌∙◌, ap, subst, Result, Ok, Err, arith, append_assoc, length-append}
+use Rattle.std.proofs.Common.{◌≡◌, inr, ℕ, ◌+◌, ◌<◌, ◌≤◌, List, [], ◌∷◌, ◌++◌, length, take, Some, Bool, true, false, refl, sym, ◌∙◌, ap, subst, Result, Ok, Err, arith, append_assoc, length-append}
 use Rattle.std.specs.Prelude.{IfErr}
 use Rattle.ports.specs.Content.{SourceTold, Rose, Appends, AppendsPrefix}
 use Rattle.ports.specs.Files.{Keeps}
@@ -13,12 +13,12 @@ use Rattle.queries.specs.declared.stop.Stop.{Stop}
 use Rattle.queries.specs.declared.stop.Stop.TheVariants as stops
 use Rattle.script.specs.declared.ended.Ended.{Ended}
 use Rattle.script.specs.declared.ended.Ended.TheVariants.{Done, ReadFault, Limit, WriteFault, Memory}
-use Rattle.script.specs.Script.{Devices, OfScript, Replied, IsTaken, ScriptAnswered}
+use Rattle.script.specs.Script.{Devices, OfScript, Replied, IsTaken, IsInterrupted, ScriptAnswered}
 use Rattle.script.specs.Stopping.{ended_of}
-use Rattle.script.specs.Turns.{AnswersLine, HasNoLine, FailsInLine, IsPastMost, HasNoReply}
+use Rattle.script.specs.Turns.{AnswersLine, RunsOut, HasNoLine, FailsInLine, IsPastMost, HasNoReply}
 use Rattle.script.proofs.Scripts.{feeds, NoFeeds, whole_broken, lines_end, feeds_cut, tail_none, take_front}
 use Rattle.script.proofs.Replies.{counted_later}
-use Rattle.script.proofs.Places.{IsPlace, IsAt, of_script, cut_at_line}
+use Rattle.script.proofs.Places.{IsPlace, IsAt, of_script, cut_at_line, lines_from}
 
 -- what is written so far is the replies to the lines that are done
 replied : (d : Declaration) (old now now' : Devices) (held : Held) (r : Reader) (script : List ℕ) (lines : List (List ℕ)) (here : IsAt d old now held r script) → lines ≡ here.done →
@@ -116,6 +116,19 @@ limit_at d old now now' held r r' script here turn keeps =
           (ap whole_lines over.1 ∙ whole_broken here.done (r.held ++ goes.front) place.1 goes.broken.part) turn.silent keeps,
     )
 
+interrupted_at : (d : Declaration) (old now now' : Devices) (held : Held) (r r' : Reader) (script : List ℕ) → IsAt d old now held r script → RunsOut r r' now now' →
+    now.files.content ≡ old.files.content → Keeps now.files now'.files → IsInterrupted d old now' (Appends old.out.written now'.out.written) script
+interrupted_at d old now now' held r r' script here turn same keeps =
+    let from = lines_from d old now now' held held r r' script here same keeps turn.off in
+    record {
+      lines = here.done;
+      line = turn.off.line;
+      more = from.0;
+      are = from.1;
+      asks = turn.asks;
+      replied = replied d old now now' held r script here.done here refl turn.silent keeps;
+    }
+
 -- the script ends as its last turn says
 pub ends_so : (d : Declaration) (old now now' : Devices) (held held' : Held) (r r' : Reader) (ended : Ended) → OfScript old.input.left (λ script. IsAt d old now held r script) →
     HasNoReply held held' r r' now now' ended → now.files.content ≡ old.files.content → Keeps now.files now'.files → old.input.faults ≤ now.input.faults → old.out.faults ≤ now.out.faults →
@@ -128,13 +141,19 @@ ends_so d old now now' held held' r r' Limit here turn same keeps r_le w_le =
     of_script old.input.left _ _ (λ script is. limit_at d old now now' held r r' script is turn keeps) here
 ends_so d old now now' held held' r r' WriteFault here turn same keeps r_le w_le =
     (rose_later _ _ _ w_le turn.0, of_script old.input.left _ _ (λ script is. cut_at_line d old now now' held held' r r' script is same keeps turn.1) here)
-ends_so d old now now' held held' r r' Memory here turn same keeps r_le w_le = tt
+ends_so d old now now' held held' r r' Memory here turn same keeps r_le w_le =
+    inr (of_script old.input.left _ _ (λ script is. interrupted_at d old now now' held r r' script is turn same keeps) here)
 
 -- a session that stopped ends its script
 pub stopped : (h h' : Held) (r r' : Reader) (old new : Devices) (stop : Stop)
-    → (stop ≡ stops.WriteFault → Rose old.out.faults new.out.faults × AnswersLine h h' r r' old new (AppendsPrefix old.out.written new.out.written)) → HasNoReply h h' r r' old new (ended_of stop)
-stopped h h' r r' old new stops.WriteFault on = on refl
-stopped h h' r r' old new stops.Memory on = tt
+    → (stop ≡ stops.WriteFault → Rose old.out.faults new.out.faults × AnswersLine h h' r r' old new (AppendsPrefix old.out.written new.out.written))
+    → (stop ≡ stops.Memory → RunsOut r r' old new) → HasNoReply h h' r r' old new (ended_of stop)
+stopped h h' r r' old new stops.WriteFault on out = on refl
+stopped h h' r r' old new stops.Memory on out = out refl
+
+-- a stop for a failed write is none for memory
+pub other_stop : (stop : Stop) → stop ≡ stops.Memory → stop ≡ stops.WriteFault → ⊥
+other_stop stop memory fault = absurd cc
 
 -- the end that a stop becomes where it is handed on
 pub handed_on : (r : Result (Unit {0}) Ended) (stop : Stop) (P : Ended → Type 0) → IfErr r (λ (e : Ended). e ≡ ended_of stop) → P (ended_of stop) → IfErr r P

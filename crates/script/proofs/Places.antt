@@ -14,7 +14,7 @@ use Rattle.session.specs.Reply.{State, Found}
 use Rattle.session.specs.Sessions.{Session, LineReply, AreCounted, start}
 use Rattle.session.specs.Stands.{Held, StandsFor}
 use Rattle.script.specs.Script.{Devices, OfScript, IsBegun, lines_within}
-use Rattle.script.specs.Turns.{AnswersLine}
+use Rattle.script.specs.Turns.{TakesOff, AnswersLine}
 use Rattle.script.proofs.Scripts.{feeds, NoFeeds, whole_feeds, lines_feeds, lines_last, feeds_more, feeds_cut, none_more, tail_none, take_feeds}
 use Rattle.script.proofs.Replies.{session_more, counted_more, counted_none, concat_more}
 
@@ -109,27 +109,34 @@ count_on bytes left left' script taken taken' count cut counted = omega (arith, 
 -- one more line was taken off, and its reply stands written so
 module _ (d : Declaration) (old now now' : Devices) (held held' : Held) (r r' : Reader) (script : List ℕ) (here : IsAt d old now held r script)
     (same : now.files.content ≡ old.files.content) (keeps : Keeps now.files now'.files) where
-  module _ (IsWritten : List ℕ → Type 0) (turn : AnswersLine held held' r r' now now' IsWritten) where
-    came_of : (rest : List ℕ) × (here.left ≡ turn.bytes ++ rest) × (now'.input.left ≡ Some rest)
-    came_of = came_off now.input now'.input here.left turn.bytes here.left_is turn.counts.came
+  module _ (off : TakesOff r r' now now') where
+    came_of : (rest : List ℕ) × (here.left ≡ off.bytes ++ rest) × (now'.input.left ≡ Some rest)
+    came_of = came_off now.input now'.input here.left off.bytes here.left_is off.counts.came
 
-    place_of : IsPlace script (here.done ++ turn.line ∷ []) (r'.held ++ came_of.0) r'.ended
+    place_of : IsPlace script (here.done ++ off.line ∷ []) (r'.held ++ came_of.0) r'.ended
     place_of =
-        place_more script here.done (r.held ++ here.left) (r'.held ++ came_of.0) turn.line r.ended r'.ended turn.gives.going here.place
-        (given_first r r' now.input now'.input here.left came_of.0 turn.bytes turn.line here.left_is came_of.1 came_of.2 turn.gives)
+        place_more script here.done (r.held ++ here.left) (r'.held ++ came_of.0) off.line r.ended r'.ended off.gives.going here.place
+        (given_first r r' now.input now'.input here.left came_of.0 off.bytes off.line here.left_is came_of.1 came_of.2 off.gives)
 
     count_of : r'.taken + length came_of.0 ≡ length script
-    count_of = count_on turn.bytes here.left came_of.0 script r.taken r'.taken here.count came_of.1 turn.counts.counted
+    count_of = count_on off.bytes here.left came_of.0 script r.taken r'.taken here.count came_of.1 off.counts.counted
 
+    -- the lines that have replies where nothing fails are those before, this one, and others
+    pub lines_from : (more : List (List ℕ)) × (lines_within script ≡ here.done ++ off.line ∷ more)
+    lines_from =
+        let more = within_behind script (here.done ++ off.line ∷ []) r'.held came_of.0 r'.ended r'.taken place_of count_of off.counts.within in
+        (more.0, more.1 ∙ append_assoc here.done (off.line ∷ []) more.0)
+
+  module _ (IsWritten : List ℕ → Type 0) (turn : AnswersLine held held' r r' now now' IsWritten) where
     -- what is found at its path, its reply, and what the session then has
-    replied_of : (found : Found) × (text : List ℕ) × (s' : State) × LineReply d old.files.content here.state turn.line found text s'
+    replied_of : (found : Found) × (text : List ℕ) × (s' : State) × LineReply d old.files.content here.state turn.off.line found text s'
         × IsWritten text × AreCounted (found ∷ []) now.files now'.files × StandsFor held' d s'
     replied_of =
         let step = turn.stepped d here.state here.stands in
-        (step.0, step.1, step.2, subst (λ (content : Content). LineReply d content here.state turn.line step.0 step.1 step.2) same step.3, step.4, step.5, step.6)
+        (step.0, step.1, step.2, subst (λ (content : Content). LineReply d content here.state turn.off.line step.0 step.1 step.2) same step.3, step.4, step.5, step.6)
 
-    session_of : Session d old.files.content (start d) (here.done ++ turn.line ∷ []) (here.founds ++ replied_of.0 ∷ []) (here.texts ++ replied_of.1 ∷ []) replied_of.2
-    session_of = session_more d old.files.content (start d) here.state replied_of.2 here.done here.founds here.texts turn.line replied_of.1 replied_of.0 here.session replied_of.3
+    session_of : Session d old.files.content (start d) (here.done ++ turn.off.line ∷ []) (here.founds ++ replied_of.0 ∷ []) (here.texts ++ replied_of.1 ∷ []) replied_of.2
+    session_of = session_more d old.files.content (start d) here.state replied_of.2 here.done here.founds here.texts turn.off.line replied_of.1 replied_of.0 here.session replied_of.3
 
     counted_of : AreCounted (here.founds ++ replied_of.0 ∷ []) old.files now'.files
     counted_of = counted_more here.founds replied_of.0 old.files now.files now'.files here.counted replied_of.5 keeps
@@ -138,10 +145,10 @@ module _ (d : Declaration) (old now now' : Devices) (held held' : Held) (r r' : 
   pub at_more : AnswersLine held held' r r' now now' (Appends now.out.written now'.out.written) → IsAt d old now' held' r' script
   at_more turn =
       let Whole : List ℕ → Type 0 = Appends now.out.written now'.out.written in
-      let came = came_of Whole turn in
+      let came = came_of turn.off in
       let replied = replied_of Whole turn in
       record {
-        done = here.done ++ turn.line ∷ [];
+        done = here.done ++ turn.off.line ∷ [];
         founds = here.founds ++ replied.0 ∷ [];
         texts = here.texts ++ replied.1 ∷ [];
         state = replied.2;
@@ -151,20 +158,20 @@ module _ (d : Declaration) (old now now' : Devices) (held held' : Held) (r r' : 
         written = rw (concat_more here.texts replied.1) (appends_then old.out.written now.out.written now'.out.written (concat here.texts) replied.1 here.written replied.4);
         left = came.0;
         left_is = came.2;
-        place = place_of Whole turn;
-        count = count_of Whole turn;
-        within = turn.counts.within;
+        place = place_of turn.off;
+        count = count_of turn.off;
+        within = turn.off.counts.within;
       }
 
   -- a front of it is written
   pub cut_at_line : AnswersLine held held' r r' now now' (AppendsPrefix now.out.written now'.out.written) → IsBegun d old now' (AppendsPrefix old.out.written now'.out.written) script
   cut_at_line turn =
       let Front : List ℕ → Type 0 = AppendsPrefix now.out.written now'.out.written in
-      let came = came_of Front turn in
+      let off = turn.off in
       let replied = replied_of Front turn in
-      let more = within_behind script (here.done ++ turn.line ∷ []) r'.held came.0 r'.ended r'.taken (place_of Front turn) (count_of Front turn) turn.counts.within in
+      let more = within_behind script (here.done ++ off.line ∷ []) r'.held (came_of off).0 r'.ended r'.taken (place_of off) (count_of off) off.counts.within in
       record {
-        lines = here.done ++ turn.line ∷ [];
+        lines = here.done ++ off.line ∷ [];
         more = more.0;
         are = more.1;
         replied = record {

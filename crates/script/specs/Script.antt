@@ -1,10 +1,11 @@
 -- A session over the lines of a script, and how it ends.
-use Rattle.std.specs.Prelude.{◌≡◌, ◌<◌, ◌≤◌, nat_le, if◌then◌else◌, ℕ, List, [], ◌++◌, length, take, Option, Some, None}
+use Rattle.std.specs.Prelude.{◌≡◌, ◌⊎◌, ◌<◌, ◌≤◌, nat_le, if◌then◌else◌, ℕ, List, [], ◌∷◌, ◌++◌, length, take, Option, Some, None}
 use Rattle.std.specs.List.{concat}
 use Rattle.ports.specs.Content.{Rose, Appends, AppendsPrefix, SourceTold, SinkTold}
 use Rattle.ports.specs.Files.{FilesTold}
 use Rattle.decl.specs.Declaration.{Declaration}
 use Rattle.line_reader.specs.Lines.{whole_lines, lines_of, most_taken}
+use Rattle.session.specs.Commands.{AsksForMemory}
 use Rattle.session.specs.Reply.{State, Found}
 use Rattle.session.specs.Sessions.{Session, AreCounted, start}
 use Rattle.script.specs.declared.ended.Ended.{Ended}
@@ -70,10 +71,23 @@ pub record IsBegun (d : Declaration) (old new : Devices) (IsWritten : List ℕ �
 abbrev pub IsCutOff : Declaration → Devices → Devices → Type 0
 IsCutOff d old new = Rose old.out.faults new.out.faults × OfScript old.input.left (IsBegun d old new (AppendsPrefix old.out.written new.out.written))
 
+-- memory ran out in a line that may ask for it: the replies to the lines before it stand written so, and nothing of its own
+pub record IsInterrupted (d : Declaration) (old new : Devices) (IsWritten : List ℕ → Type 0) (script : List ℕ) : Type 0 where
+  pub lines : List (List ℕ)
+  pub line : List ℕ
+  pub more : List (List ℕ)
+  pub are : lines_within script ≡ lines ++ line ∷ more
+  pub asks : AsksForMemory line
+  pub replied : Replied d old new lines IsWritten
+
+-- memory ran out before the first line, or in one
+abbrev pub IsOutOfMemory : Declaration → Devices → Devices → (List ℕ → Type 0) → Type 0
+IsOutOfMemory d old new IsWritten = (new.out ≡ old.out) ⊎ OfScript old.input.left (IsInterrupted d old new IsWritten)
+
 -- how a session over the script ended, and what is written
 abbrev pub ScriptAnswered : Declaration → Devices → Devices → Ended → Type 0
 ScriptAnswered d old new Done = IsDone d old new (Appends old.out.written new.out.written)
 ScriptAnswered d old new ReadFault = IsScriptFault d old new (Appends old.out.written new.out.written)
 ScriptAnswered d old new Limit = IsTooLong d old new (Appends old.out.written new.out.written)
 ScriptAnswered d old new WriteFault = IsCutOff d old new
-ScriptAnswered d old new Memory = Unit {0}
+ScriptAnswered d old new Memory = IsOutOfMemory d old new (Appends old.out.written new.out.written)

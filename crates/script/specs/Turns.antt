@@ -3,6 +3,7 @@ use Rattle.std.specs.Prelude.{◌≡◌, ℕ, ◌+◌, ◌≤◌, List, length}
 use Rattle.ports.specs.Content.{Rose, AppendsPrefix}
 use Rattle.line_reader.specs.Lines.{most_taken}
 use Rattle.line_reader.specs.Reader.{Reader, Came, Gives, Ends, BreaksOff, GoesPast}
+use Rattle.session.specs.Commands.{AsksForMemory}
 use Rattle.session.specs.Stands.{Held, Stepped}
 use Rattle.script.specs.Script.{Devices}
 use Rattle.script.specs.declared.ended.Ended.{Ended}
@@ -14,13 +15,23 @@ pub record Counts (r r' : Reader) (old new : Devices) (bytes : List ℕ) : Type 
   pub counted : r'.taken ≡ r.taken + length bytes
   pub within : r'.taken ≤ most_taken
 
--- the next line of the script was taken off, and its reply stands written so
-pub record AnswersLine (h h' : Held) (r r' : Reader) (old new : Devices) (IsWritten : List ℕ → Type 0) : Type 0 where
+-- the next line of the script was taken off
+pub record TakesOff (r r' : Reader) (old new : Devices) : Type 0 where
   pub bytes : List ℕ
   pub line : List ℕ
   pub counts : Counts r r' old new bytes
   pub gives : Gives r r' old.input new.input bytes line
-  pub stepped : Stepped line old.files new.files h h' IsWritten
+
+-- the next line was taken off, and its reply stands written so
+pub record AnswersLine (h h' : Held) (r r' : Reader) (old new : Devices) (IsWritten : List ℕ → Type 0) : Type 0 where
+  pub off : TakesOff r r' old new
+  pub stepped : Stepped off.line old.files new.files h h' IsWritten
+
+-- the next line was taken off, it may ask for memory, and nothing of its reply is written
+pub record RunsOut (r r' : Reader) (old new : Devices) : Type 0 where
+  pub off : TakesOff r r' old new
+  pub asks : AsksForMemory off.line
+  pub silent : new.out.written ≡ old.out.written
 
 -- no line is left
 pub record HasNoLine (r r' : Reader) (old new : Devices) : Type 0 where
@@ -50,4 +61,4 @@ HasNoReply h h' r r' old new Done = HasNoLine r r' old new
 HasNoReply h h' r r' old new ReadFault = FailsInLine r r' old new
 HasNoReply h h' r r' old new Limit = IsPastMost r r' old new
 HasNoReply h h' r r' old new WriteFault = Rose old.out.faults new.out.faults × AnswersLine h h' r r' old new (AppendsPrefix old.out.written new.out.written)
-HasNoReply h h' r r' old new Memory = Unit {0}
+HasNoReply h h' r r' old new Memory = RunsOut r r' old new
