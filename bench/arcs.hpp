@@ -273,8 +273,8 @@ inline std::string bound_text(const Problem &problem, const Arc &arc) {
     }
 }
 
-inline void print_run(const Problem &problem, const std::vector<Units> &values) {
-    std::string text = "certificate 1\nrun\n";
+// Appends a line for each node with its value.
+inline void append_values(std::string &text, const Problem &problem, const std::vector<Units> &values) {
     auto value = values.begin();
     const auto append_value = [&] {
         text.push_back(' ');
@@ -293,11 +293,10 @@ inline void print_run(const Problem &problem, const std::vector<Units> &values) 
         text += std::to_string(reading.stamp);
         append_value();
     }
-    std::cout << text << "end\n";
 }
 
-inline void print_cycle(const Problem &problem, const std::vector<Arc> &steps) {
-    std::string text = "certificate 1\ncycle\n";
+// Appends a line for each step.
+inline void append_steps(std::string &text, const Problem &problem, const std::vector<Arc> &steps) {
     for (const auto &arc : steps) {
         text += "step ";
         text += bound_text(problem, arc);
@@ -305,6 +304,17 @@ inline void print_cycle(const Problem &problem, const std::vector<Arc> &steps) {
         append_ns(text, arc.weight);
         text.push_back('\n');
     }
+}
+
+inline void print_run(const Problem &problem, const std::vector<Units> &values) {
+    std::string text = "certificate 1\nrun\n";
+    append_values(text, problem, values);
+    std::cout << text << "end\n";
+}
+
+inline void print_cycle(const Problem &problem, const std::vector<Arc> &steps) {
+    std::string text = "certificate 1\ncycle\n";
+    append_steps(text, problem, steps);
     std::cout << text << "end\n";
 }
 

@@ -11,8 +11,12 @@ than it took, which breaks one bound, the last delay-most of all. With --contrad
 it took at least ten times the greatest delay. From a hundred events on the others tell that it took
 less, so no real times obey the problem, and no execution is written.
 
+With --link every message from h1 to h2 declares that it took at most a quarter of the greatest delay. No execution is written, and
+from a thousand events on there is none.
+
 With --one-way the number is that of messages, all from h1 to h0, and ten events of h0 alone come with
-each of them. No execution is written.
+each of them. --drift is the same, but that messages take 1,000 to 1,100 ns, and that the clock of h1 is 0.02% fast, where 0.002% is
+declared: from fifty messages on no real times obey that. No execution is written.
 """
 
 import argparse
@@ -22,6 +26,8 @@ CLOCKS = 8
 ALONE = 10
 MOST_EVENTS = 2**20
 DRIFT = 20_000
+FAST = 200_000
+NEAR = 1_100
 LATE = 50
 LEAST = 1_000
 MOST = 100_000
@@ -44,18 +50,23 @@ class Draws:
 class Trace:
     """Events in their order, each with a clock, a real time and a stamp, all in ns."""
 
-    def __init__(self, offsets):
+    def __init__(self, offsets, fast=0):
         self.offsets = offsets
+        # In parts per billion, that of each second clock.
+        self.fast = fast
         self.events = []
         self.names = []
         self.counts = [0] * len(offsets)
         self.stamps = [set() for _ in offsets]
 
+    def stamp(self, clock, time):
+        return self.offsets[clock] + time + time * self.fast * (clock % 2) // 10**9
+
     def is_read(self, clock, time):
-        return self.offsets[clock] + time in self.stamps[clock]
+        return self.stamp(clock, time) in self.stamps[clock]
 
     def add(self, clock, time):
-        stamp = self.offsets[clock] + time
+        stamp = self.stamp(clock, time)
         self.stamps[clock].add(stamp)
         self.counts[clock] += 1
         self.names.append(f"h{clock}#{self.counts[clock]}")
@@ -82,10 +93,10 @@ def generate(count):
     return trace, delays
 
 
-def generate_one_way(count):
+def generate_one_way(count, fast, most):
     """A trace of messages from h1 to h0, and the delays of these, as above; then the events of h0 alone."""
     draws = Draws(count + 1)
-    trace = Trace([draws.below(10**9) for _ in range(2)])
+    trace = Trace([draws.below(10**9) for _ in range(2)], fast)
     delays = []
     alone = []
     time = 10**9
@@ -94,7 +105,7 @@ def generate_one_way(count):
             time += 1 + draws.below(10_000)
             alone.append(time)
         time += 1 + draws.below(10_000)
-        delay = LEAST + draws.below(MOST - LEAST + 1)
+        delay = LEAST + draws.below(most - LEAST + 1)
         trace.add(1, time)
         trace.add(0, time + delay)
         delays.append(delay)
@@ -111,11 +122,13 @@ def write_problem(out, trace, delays, form):
     for name, (clock, _, stamp) in zip(trace.names, trace.events):
         out.write(f"event {name} h{clock} {stamp}\n")
     for k, delay in enumerate(delays):
-        least, most = LEAST, MOST
+        least, most = LEAST, NEAR if form == "drift" else MOST
         if form == "broken" and k + 1 == len(delays):
             most = delay - 1
         elif form == "contradict" and k + 1 == len(delays):
             least, most = 10 * MOST, "none"
+        elif form == "link" and [trace.events[2 * k + end][0] for end in (0, 1)] == [1, 2]:
+            most = MOST // 4
         out.write(f"message {trace.names[2 * k]} {trace.names[2 * k + 1]} {least} {most}\n")
     out.write("end\n")
 
@@ -133,21 +146,23 @@ def write_execution(out, trace):
 
 def main():
     parser = argparse.ArgumentParser(description=__doc__.splitlines()[0])
-    parser.add_argument("count", type=int, help="the number of events, even, from 2 to 2^20; of messages if --one-way")
+    parser.add_argument("count", type=int, help="the number of events, even, from 2 to 2^20; of messages if --one-way or --drift")
     parser.add_argument("folder", help="where N.problem and N.execution are written")
     forms = parser.add_mutually_exclusive_group()
     for form, what in (
         ("problem", "N.problem alone"),
         ("broken", "break one bound: N-broken.problem and N-broken.execution"),
         ("contradict", "N-contradict.problem alone"),
+        ("link", "N-link.problem alone"),
         ("one-way", "N-one-way.problem alone"),
+        ("drift", "N-drift.problem alone"),
     ):
         forms.add_argument(f"--{form}", dest="form", action="store_const", const=form, help=what)
     args = parser.parse_args()
-    if args.form == "one-way":
+    if args.form in ("one-way", "drift"):
         if not 1 <= args.count <= MOST_EVENTS // (ALONE + 2):
             parser.error(f"a number of messages from 1 to {MOST_EVENTS // (ALONE + 2)}")
-        trace, delays = generate_one_way(args.count)
+        trace, delays = generate_one_way(args.count, *((FAST, NEAR) if args.form == "drift" else (0, MOST)))
     else:
         if args.count % 2 != 0 or not 2 <= args.count <= MOST_EVENTS:
             parser.error("an even number of events from 2 to 2^20")
