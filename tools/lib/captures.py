@@ -1,0 +1,138 @@
+"""Captures of packets: classic pcap and pcapng, packet by packet, as `docs/FORMATS.md` describes what the program reads of them.
+
+The n-th packet here is the event `LABEL#n` of a session. What a file says besides, such as the direction of a packet, is read too: it
+helps to find out whose addresses are whose, and no answer comes from it.
+"""
+
+import struct
+from dataclasses import dataclass, field
+
+MAGICS = {
+    b"\xa1\xb2\xc3\xd4": (">", 1000), b"\xd4\xc3\xb2\xa1": ("<", 1000),
+    b"\xa1\xb2\x3c\x4d": (">", 1), b"\x4d\x3c\xb2\xa1": ("<", 1),
+}  # fmt: skip
+SECTION, ORDERS = b"\x0a\x0d\x0d\x0a", {b"\x1a\x2b\x3c\x4d": ">", b"\x4d\x3c\x2b\x1a": "<"}
+INTERFACE, PACKET = 1, 6
+CAPTURED_MOST = 262_144
+# Options of pcapng: of an interface its name, its addresses and what its times count, and of a packet its direction.
+NAME, ADDRESS4, ADDRESS6, RESOLUTION, FLAGS = 2, 4, 5, 9, 2
+
+
+@dataclass(slots=True)
+class Packet:
+    """A packet: its stamp in ns, the number of its link type, its bytes, and whether it went out, where the file says so."""
+
+    stamp: int
+    link: int
+    data: bytes
+    is_sent: bool | None = None
+
+
+@dataclass
+class Capture:
+    """The packets of a file, the ns that its stamps count in, the addresses of its interfaces where it says so, and what was odd."""
+
+    packets: list = field(default_factory=list)
+    unit: int = 1
+    addresses: set = field(default_factory=set)
+    interfaces: list = field(default_factory=list)
+    odd: list = field(default_factory=list)
+
+    def resolution(self):
+        """Returns the ns that all stamps are multiples of, at most a second, and at least what the file counts in."""
+        size = 10**9
+        while size > self.unit and any(it.stamp % size for it in self.packets):
+            size //= 10
+        return max(size, self.unit) if self.packets else self.unit
+
+
+def is_capture(start):
+    """Returns whether a file that begins with these bytes is a capture."""
+    return start[:4] in MAGICS or start[:4] == SECTION
+
+
+def read_capture(path):
+    """Returns the capture that a file holds: its whole packets up to the first fault."""
+    with open(path, "rb") as it:
+        data = it.read()
+    if data[:4] == SECTION:
+        return Blocks(data).capture()
+    if data[:4] not in MAGICS:
+        raise ValueError(f"{path} is neither classic pcap nor pcapng")
+    return classic(data)
+
+
+def classic(data):
+    """Returns the packets of a classic capture."""
+    order, unit = MAGICS[data[:4]]
+    found = Capture(unit=unit)
+    if len(data) < 24:
+        return found
+    link, at, head = struct.unpack_from(f"{order}I", data, 20)[0] & 0xFFFF, 24, struct.Struct(f"{order}IIII")
+    while at + 16 <= len(data):
+        seconds, fraction, captured, _ = head.unpack_from(data, at)
+        if captured > CAPTURED_MOST:
+            found.odd.append(f"at byte {at} stands no packet")
+            break
+        if at + 16 + captured > len(data):
+            break
+        found.packets.append(Packet(seconds * 10**9 + fraction * unit, link, data[at + 16 : at + 16 + captured]))
+        at += 16 + captured
+    if at < len(data) and not found.odd:
+        found.odd.append(f"its last {len(data) - at} bytes are no whole packet")
+    return found
+
+
+class Blocks:
+    """Reads a capture in pcapng block by block."""
+
+    def __init__(self, data):
+        self.data, self.at, self.order, self.interfaces, self.found = data, 0, "<", [], Capture(unit=0)
+
+    def capture(self):
+        while self.at + 12 <= len(self.data):
+            if self.data[self.at : self.at + 4] == SECTION:
+                self.order, self.interfaces = ORDERS.get(self.data[self.at + 8 : self.at + 12], self.order), []
+            kind, length = struct.unpack_from(f"{self.order}II", self.data, self.at)
+            if length < 12 or length % 4 or self.at + length > len(self.data):
+                self.found.odd.append(f"the block at byte {self.at} is not whole, or malformed")
+                break
+            if kind == INTERFACE and length >= 20:
+                self.interface(self.data[self.at : self.at + length - 4])
+            elif kind == PACKET and length >= 32:
+                self.packet(self.data[self.at : self.at + length - 4])
+            self.at += length
+        self.found.unit = self.found.unit or 1000
+        return self.found
+
+    def options(self, data, at):
+        """Returns the options of a block from this place on, by code; of several with one code the first."""
+        found = {}
+        while at + 4 <= len(data):
+            code, length = struct.unpack_from(f"{self.order}HH", data, at)
+            if code == 0 or at + 4 + length > len(data):
+                break
+            found.setdefault(code, data[at + 4 : at + 4 + length])
+            at += 4 + (length + 3) // 4 * 4
+        return found
+
+    def interface(self, block):
+        options = self.options(block, 16)
+        count = options.get(RESOLUTION, b"\x06")[:1] or b"\x06"
+        per_second = 2 ** (count[0] & 127) if count[0] & 128 else 10 ** count[0]
+        self.interfaces.append((struct.unpack_from(f"{self.order}H", block, 8)[0], per_second))
+        self.found.interfaces.append(options.get(NAME, b"").decode(errors="replace"))
+        # (the coarsest of all interfaces)
+        self.found.unit = max(self.found.unit, -(-(10**9) // per_second))
+        self.found.addresses |= {options[it][:size] for it, size in ((ADDRESS4, 4), (ADDRESS6, 16)) if len(options.get(it, b"")) >= size}
+
+    def packet(self, block):
+        number, high, low, captured = struct.unpack_from(f"{self.order}IIII", block, 8)
+        if number >= len(self.interfaces) or captured > len(block) - 28:
+            self.found.odd.append(f"the packet at byte {self.at} is malformed")
+            return
+        link, per_second = self.interfaces[number]
+        flags = self.options(block, 28 + (captured + 3) // 4 * 4).get(FLAGS, b"")
+        direction = struct.unpack(f"{self.order}I", flags)[0] & 3 if len(flags) == 4 else 0
+        stamp = ((high << 32) + low) * 10**9 // per_second
+        self.found.packets.append(Packet(stamp, link, block[28 : 28 + captured], {1: False, 2: True}.get(direction)))

@@ -1,0 +1,109 @@
+"""A contradiction as a picture in SVG: the stretches of clocks and the messages of its chain, each with what is declared of it."""
+
+from html import escape
+
+from picture import BOLD, INKS
+from replies import UNITS
+from words import time_text
+
+LEFT, TOP, ROW, FOOT, WIDE, COLUMN, STEPS_MOST = 110, 70, 150, 60, 760, 170, 60
+RED = "#c22020"
+
+
+class ChainPicture:
+    """Where each stamp of a chain lies: on its host's line, in the order of the stamps there. Nothing is to scale, for there are no real times."""
+
+    def __init__(self, steps, problem):
+        self.steps, self.problem = steps, problem
+        self.spans = stretches(steps)
+        names = dict.fromkeys(name for it in steps if not it.kind.startswith("span") for name in it.names)
+        self.events = {name: problem.events[name] for name in names}
+        self.hosts = list(dict.fromkeys([host for host, _ in self.events.values()] + [host for host, *_ in self.spans]))
+        self.ink = {host: INKS[at % len(INKS)] for at, host in enumerate(self.hosts)}
+        stamps = {host: set() for host in self.hosts}
+        for host, stamp in self.events.values():
+            stamps[host].add(stamp)
+        for host, first, last, *_ in self.spans:
+            stamps[host] |= {first, last}
+        most = max(len(it) for it in stamps.values())
+        self.left = max(LEFT, 26 + max(BOLD * len(host) for host in self.hosts))
+        self.wide = max(WIDE, COLUMN * most)
+        self.x = {}
+        for host, own in stamps.items():
+            for at, stamp in enumerate(sorted(own)):
+                self.x[host, stamp] = self.left + 40 + (self.wide - 80) * (at / max(len(own) - 1, 1))
+        self.y = {host: TOP + 50 + ROW * at for at, host in enumerate(self.hosts)}
+
+    def at(self, name):
+        host, stamp = self.events[name]
+        return self.x[host, stamp], self.y[host]
+
+    def svg(self):
+        lack = -sum(it.weight for it in self.steps)
+        high, wide = TOP + 50 + ROW * (len(self.hosts) - 1) + 70 + FOOT, self.left + self.wide + 60
+        out = [
+            f'<svg xmlns="http://www.w3.org/2000/svg" viewBox="0 0 {wide:.0f} {high}" width="{wide:.0f}" height="{high}" font-family="Helvetica, Arial, sans-serif" font-size="11">',
+            f'<defs><marker id="head" viewBox="0 0 10 10" refX="9" refY="5" markerWidth="8" markerHeight="8" orient="auto"><path d="M0 1 L10 5 L0 9 z" fill="{RED}"/></marker></defs>',
+            f'<rect width="{wide:.0f}" height="{high}" fill="#fff"/>',
+            f'<text x="20" y="24" font-size="13" fill="#333">{escape(f"No real times obey all that is declared here: together it is too narrow by {time_text(lack, -1)} at least")}</text>',
+            '<text x="20" y="42" fill="#777">Stamps of each host in their order; nothing is to scale</text>',
+        ]
+        out += [line for host in self.hosts for line in self.host(host)]
+        out += [line for span in self.spans for line in self.span(*span)]
+        out += [line for it in self.steps if it.kind.startswith("delay") for line in self.message(it)]
+        out += [line for name in self.events for line in self.event(name)]
+        return "\n".join([*out, "</svg>"]) + "\n"
+
+    def host(self, host):
+        y, ink = self.y[host], self.ink[host]
+        return [f'<line x1="{self.left}" y1="{y}" x2="{self.left + self.wide:.0f}" y2="{y}" stroke="{ink}" stroke-width="2"/>',
+                f'<text x="{self.left - 12}" y="{y + 5}" text-anchor="end" font-size="14" font-weight="bold" fill="{ink}">{escape(host)}</text>']  # fmt: skip
+
+    def span(self, host, first, last, kind, weight):
+        """Returns a bracket below a host's line over a stretch of its stamps, with how long that lasts."""
+        x1, x2, y = self.x[host, first], self.x[host, last], self.y[host] + (16 if kind == "span-least" else 28)
+        told = f"shown as {time_text((last - first) * UNITS)}, lasts {'at least' if kind == 'span-least' else 'at most'} {time_text(abs(weight), 1 if kind == 'span-most' else -1)}"
+        return [f'<path d="M{x1:.1f} {y - 5} V{y} H{x2:.1f} V{y - 5}" stroke="{RED}" stroke-width="1.6" fill="none"/>', self.text((x1 + x2) / 2, y + 13, told, RED)]
+
+    def message(self, step):
+        """Returns an arrow, with how long the message took at least or at most."""
+        (x1, y1), (x2, y2) = self.at(step.names[0]), self.at(step.names[1])
+        length = ((x2 - x1) ** 2 + (y2 - y1) ** 2) ** 0.5 or 1
+        x3, y3 = x2 - (x2 - x1) / length * 6, y2 - (y2 - y1) / length * 6
+        told = f"takes {'at least' if step.kind == 'delay-least' else 'at most'} {time_text(abs(step.weight), -1 if step.kind == 'delay-least' else 1)}"
+        return [f'<line x1="{x1:.1f}" y1="{y1}" x2="{x3:.1f}" y2="{y3:.1f}" stroke="{RED}" stroke-width="1.6" marker-end="url(#head)"/>',
+                self.beside((x1 + x2) / 2, (y1 + y2) / 2 + 10, told, RED)]  # fmt: skip
+
+    def event(self, name):
+        """Returns an event with its name, and by how much it may be apart from its stamp."""
+        (x, y), ink = self.at(name), self.ink[self.events[name][0]]
+        own = [it for it in self.steps if it.kind in ("late", "early") and it.names == [name] and it.weight]
+        errors = [f"{'later' if it.kind == 'late' else 'earlier'} by {time_text(it.weight, 1)} at most" for it in own]
+        lines = [self.beside(x, y - 9 - 13 * len(errors), name, ink)]
+        lines += [self.beside(x, y - 9 - 13 * at, f"may be {told}", RED) for at, told in enumerate(errors)]
+        return [f'<circle cx="{x:.1f}" cy="{y}" r="4" fill="{ink}"/>', *lines]
+
+    def beside(self, x, y, told, ink):
+        """Returns a text on the side of a place that is nearer to the middle, so that no arrow up or down from there goes through it."""
+        is_left = x <= self.left + self.wide / 2
+        return self.text(x + 8 if is_left else x - 8, y, told, ink, "start" if is_left else "end")
+
+    def text(self, x, y, told, ink, anchor="middle"):
+        return f'<text x="{x:.1f}" y="{y:.1f}" text-anchor="{anchor}" fill="{ink}" paint-order="stroke" stroke="#fff" stroke-width="3">{escape(told)}</text>'
+
+
+def stretches(steps):
+    """Returns the stretches that neighbouring spans make together, each with its clock, first and last stamp, kind and weight."""
+    found = []
+    spans = sorted((it.names[0], it.kind, int(it.names[1]), int(it.names[2]), it.weight) for it in steps if it.kind.startswith("span"))
+    for host, kind, first, last, weight in spans:
+        if found and found[-1][0] == host and found[-1][3] == kind and found[-1][2] == first:
+            found[-1] = (host, found[-1][1], last, kind, found[-1][4] + weight)
+        else:
+            found.append((host, first, last, kind, weight))
+    return found
+
+
+def chain_svg(steps, problem):
+    """Returns the picture of a contradiction, or None where it has too many steps for one."""
+    return ChainPicture(steps, problem).svg() if len(steps) <= STEPS_MOST else None

@@ -1,0 +1,98 @@
+"""What chronyd says of a clock: the line that `chronyc -c tracking` prints, and its file chrony.conf."""
+
+from dataclasses import dataclass
+from decimal import Decimal, InvalidOperation
+
+# The fields of `chronyc -c tracking`, by their place.
+FIELDS = {"system": 4, "frequency": 7, "residual": 8, "skew": 9, "delay": 10, "dispersion": 11}
+COUNT = 14
+# As chronyd comes, in ppm: a twelfth.
+SLEW_DEFAULT = Decimal("83333.333")
+
+
+@dataclass
+class Chrony:
+    """How fast chronyd may slew (ppm), and what it estimates: its error in frequency (ppm) and in time (s), where a tracking line says so."""
+
+    slew: Decimal = SLEW_DEFAULT
+    slew_from: str = "as chronyd comes"
+    steps: str | None = None
+    skew: Decimal | None = None
+    residual: Decimal = Decimal(0)
+    system: Decimal = Decimal(0)
+    delay: Decimal = Decimal(0)
+    dispersion: Decimal | None = None
+    tracking_from: str = ""
+
+    def error(self):
+        """Returns by how many seconds the clock may be wrong, as chronyd estimates, or None."""
+        return None if self.dispersion is None else self.dispersion + self.delay / 2 + abs(self.system)
+
+
+def read_chrony(path, known=None):
+    """Returns what a file says beside what is known: a line of `chronyc -c tracking`, or else a chrony.conf."""
+    found = known or Chrony()
+    with open(path, encoding="utf-8", errors="replace") as it:
+        lines = [line.strip() for line in it]
+    words = lines[0].split(",") if lines else []
+    if len(words) == COUNT:
+        return tracking(found, words, path)
+    if any(line.startswith("Reference ID") for line in lines):
+        raise ValueError(f"{path} is what `chronyc tracking` prints for people: `chronyc -c tracking` prints what is read here")
+    if "," in (lines[0] if lines else "") and len(words) > 3:
+        raise ValueError(f"{path} has {len(words)} fields, and a line of `chronyc -c tracking` {COUNT}")
+    return conf(found, lines, path)
+
+
+def read_all_chrony(words):
+    """Returns what the files of words HOST=FILE say, by host."""
+    found = {}
+    for word in words:
+        host, equals, path = word.partition("=")
+        if not equals:
+            raise ValueError(f"--chrony {word} is not of the form HOST=FILE")
+        found[host] = read_chrony(path, found.get(host))
+    return found
+
+
+def tracking(found, words, path):
+    try:
+        for name, at in FIELDS.items():
+            if name != "frequency":
+                setattr(found, name, Decimal(words[at]))
+    except InvalidOperation:
+        raise ValueError(f"{path}: a field of the tracking line is no number")
+    if words[-1] == "Not synchronised":
+        raise ValueError(f"{path}: chronyd was not synchronised, so its estimates say nothing")
+    found.tracking_from = path
+    return found
+
+
+def conf(found, lines, path):
+    """Takes the last `maxslewrate`, and whether the clock may be set, from a chrony.conf."""
+    is_conf = includes = False
+    for line in lines:
+        words = line.split()
+        if not words or words[0][0] in "!;#%":
+            continue
+        is_conf = is_conf or words[0].isalpha()
+        if words[0].lower() == "maxslewrate" and len(words) == 2:
+            found.slew, found.slew_from = number(words[1], path), f"maxslewrate of {path}"
+        if words[0].lower() == "makestep":
+            found.steps = line
+        includes = includes or words[0].lower() in ("include", "confdir", "sourcedir")
+    if not is_conf:
+        raise ValueError(f"{path} is neither a line of `chronyc -c tracking` nor a chrony.conf")
+    if found.slew_from == "as chronyd comes":
+        found.slew_from = f"as chronyd comes, for {path} has no maxslewrate{', but it includes other files, which were not read' if includes else ''}"
+    return found
+
+
+def number(text, path):
+    try:
+        value = Decimal(text)
+    except InvalidOperation:
+        raise ValueError(f"{path}: maxslewrate {text} is no number")
+    if not 0 <= value <= 100_000:
+        raise ValueError(f"{path}: maxslewrate {text} is out of range")
+    return value

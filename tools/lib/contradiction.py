@@ -1,0 +1,140 @@
+"""A contradiction in words: its groups of bounds with their sums, the packets and rows that they name, and what would mend it."""
+
+import os
+import tempfile
+from datetime import datetime, timezone
+
+from headers import described
+from program import PROGRAM, run
+from replies import UNITS, read_cycle, read_problem
+from words import count_text, decimal_text, time_text
+
+# The first moment of 2000: what is earlier is no time since 1970, but that of a clock which began with 0.
+SINCE_1970 = 946_684_800 * 10**9
+
+# No quartz is off by so many parts per billion.
+QUARTZ_MOST = 1_000_000
+
+
+def stamp_text(stamp):
+    """Returns a stamp as a time of day in UTC, if it is one, and else in ns."""
+    if stamp < SINCE_1970:
+        return f"{stamp} ns"
+    whole = datetime.fromtimestamp(stamp // 10**9, timezone.utc)
+    return f"{whole:%Y-%m-%d %H:%M:%S}.{stamp % 10**9:09} UTC"
+
+
+def exact_ns(units):
+    """Returns units as ns with the digits that count."""
+    return decimal_text(units, UNITS, digits=9)
+
+
+class Contradiction:
+    """Tells the steps of a cycle; the problem gives stamps of events, and the inputs what they are."""
+
+    def __init__(self, steps, problem=None, inputs=None):
+        self.steps, self.problem, self.inputs = steps, problem, inputs or {}
+
+    def lines(self):
+        """Returns the groups with their sums, one on each line, and their sum."""
+        total = sum(it.weight for it in self.steps)
+        rows = [*self.groups(), (f"in all, where no less than 0 can be: they are too narrow by {time_text(-total, -1)} at least", total)]
+        wide = max(len(exact_ns(weight)) for _, weight in rows)
+        found = ["These declarations cannot all hold. Each says how much later one moment is at most, and they go round:"]
+        found += [f"  {exact_ns(weight):>{wide}} ns  {text}" for text, weight in rows]
+        return found + self.events() + self.cures(-total)
+
+    def groups(self):
+        """Returns each group in words with the sum of its weights: spans by clock, stamps' errors, and messages one by one."""
+        found = []
+        for kind, told in (("span-least", "at least"), ("span-most", "at most")):
+            for clock in dict.fromkeys(it.names[0] for it in self.steps if it.kind == kind):
+                own = [it for it in self.steps if it.kind == kind and it.names[0] == clock]
+                shown = sum(int(it.names[2]) - int(it.names[1]) for it in own)
+                weight = sum(it.weight for it in own)
+                found.append((f"{clock}'s clock {self.stretches(own)} showed {time_text(shown * UNITS)}: {told} so long", weight))
+        for kind, told in (("late", "later"), ("early", "earlier")):
+            own = [it for it in self.steps if it.kind == kind and it.weight]
+            if own:
+                names = ", ".join(dict.fromkeys(it.names[0] for it in own))
+                found.append((f"events may be so much {told} than their stamps say, {count_text(len(own), 'time')}: {names}", sum(it.weight for it in own)))
+        for kind, told in (("delay-least", "at least"), ("delay-most", "at most")):
+            for it in (it for it in self.steps if it.kind == kind):
+                found.append((f"the message from {it.names[0]} to {it.names[1]} took {told} {time_text(abs(it.weight))}", it.weight))
+        return found
+
+    def stretches(self, spans):
+        """Returns the stretches of stamps that spans make together."""
+        found = []
+        for first, last in sorted((int(it.names[1]), int(it.names[2])) for it in spans):
+            if found and found[-1][1] == first:
+                found[-1][1] = last
+            else:
+                found.append([first, last])
+        return " and ".join(f"from {first} to {last}" for first, last in found)
+
+    def events(self):
+        """Returns what the events of the chain are: the packets' addresses, ports and stamps, or the rows' texts."""
+        names = dict.fromkeys(name for it in self.steps if not it.kind.startswith("span") for name in it.names)
+        lines = []
+        for name in names:
+            stamp = stamp_text(self.problem.events[name][1]) if self.problem and name in self.problem.events else ""
+            lines.append(f"  {name}: {', '.join(it for it in (self.what(name), stamp) if it)}")
+        return ["The events are:", *lines] if any(not it.endswith(": ") for it in lines) else []
+
+    def what(self, name):
+        label, _, number = name.partition("#")
+        contents = [it.content for it in self.inputs.values() if it.label == label] if number.isdigit() else []
+        if len(contents) != 1:
+            return ""
+        of_log = getattr(contents[0], "rows", None)
+        entries = of_log if of_log is not None else contents[0].packets
+        if not 0 < int(number) <= len(entries):
+            return ""
+        it = entries[int(number) - 1]
+        return " ".join(part for part in it[1:] if part) if of_log is not None else described(it)[0]
+
+    def cures(self, lack):
+        """Returns how much each kind of bound would have to be wider to mend this chain alone."""
+        lines = []
+        for clock in dict.fromkeys(it.names[0] for it in self.steps if it.kind.startswith("span")):
+            shown = sum(int(it.names[2]) - int(it.names[1]) for it in self.steps if it.kind.startswith("span") and it.names[0] == clock)
+            # (units over ns are parts per billion)
+            if lack < shown * 10**9:
+                off = -(-lack // shown)
+                lines.append(f"  {clock}'s clock, if its rate is off by {decimal_text(off, 1000, 1)} ppm more than declared{', as no quartz is' if off > QUARTZ_MOST else ''}")
+        errors = [it for it in self.steps if it.kind in ("late", "early")]
+        if errors:
+            lines.append(f"  the stamps, if each of {len(errors)} is off by {time_text(-(-lack // len(errors)), 1)} more")
+        for it in (it for it in self.steps if it.kind.startswith("delay")):
+            kind = "more than its greatest" if it.kind == "delay-most" else "less than its least"
+            if it.kind == "delay-least" and lack > -it.weight:
+                # (no delay is below 0)
+                continue
+            lines.append(f"  the message from {it.names[0]} to {it.names[1]}, if it took {time_text(lack, 1)} {kind} delay")
+        causes = "files or addresses that were exchanged, a clock that was set, one key for two messages"
+        return ["Any one of these would mend this chain (there may be others):", *lines, f"Or it is something else: {causes}."]
+
+
+def widening_lines(problem_lines, program=PROGRAM):
+    """Returns what the program says of the least widening of a problem text; nothing where there is none."""
+    if program is None:
+        return []
+    with tempfile.TemporaryDirectory(prefix="tracesync-") as room:
+        path = os.path.join(room, "problem.txt")
+        with open(path, "w", encoding="utf-8") as it:
+            it.write("".join(f"{line}\n" for line in problem_lines))
+        printed, status = run(["widen", path], program)
+    if status or len(printed) < 2 or not printed[1].startswith("least "):
+        return []
+    least = printed[1].split(" ")[1]
+    if least == "none":
+        return ["No greatest delay, however great, mends all that is contradicted: a clock, a stamp, a least delay or a key is wrong (by `widen`)."]
+    return [f"With each `most` greater by {least} ns nothing contradicts any more, and with 1 ns less something does (by `widen`)."]
+
+
+def told_cycle(lines, problem_lines=None, inputs=None, program=PROGRAM):
+    """Returns a contradiction in words, with its least widening where the problem is known."""
+    problem = read_problem(problem_lines) if problem_lines else None
+    found = Contradiction(read_cycle(lines), problem, inputs).lines()
+    return found + (widening_lines(problem_lines, program) if problem_lines else [])

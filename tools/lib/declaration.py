@@ -1,0 +1,174 @@
+"""A declaration in words, with what is mostly a slip, and the cause of its refusal."""
+
+import re
+import tomllib
+
+from inputs import NAME
+
+HOST, LABEL, LINK = {"short", "long", "early", "late", "addresses", "addresses6"}, {"host", "kind"}, {"from", "to", "least", "most"}
+TOP = {"hosts", "labels", "links", "payload_bytes", "source"}
+ADDRESS = re.compile(r"(0|[1-9]\d{0,2})(\.(0|[1-9]\d{0,2})){3}")
+ADDRESS6 = re.compile(r"[0-9a-fA-F]{1,4}(:[0-9a-fA-F]{1,4}){7}")
+# A declared rate of so few ppb is a slip mostly: a quartz is off by 1 ppm at least.
+RATE_FEW = 1000
+
+
+def ppm(ppb):
+    return f"{ppb / 1000:.3f}".rstrip("0").rstrip(".") + " ppm"
+
+
+def ns(value):
+    for size, name in ((10**9, "s"), (10**6, "ms"), (10**3, "us")):
+        if value >= size and value % (size // 1000) == 0:
+            return f"{value / size:.3f}".rstrip("0").rstrip(".") + f" {name}"
+    return f"{value} ns"
+
+
+def read_declaration(path):
+    """Returns the tables of a declaration. Raises ValueError where it is no TOML, with the line."""
+    with open(path, "rb") as it:
+        return tomllib.load(it)
+
+
+def told_host(name, host, is_source, kinds):
+    """Returns a host in words."""
+    short, long, early, late = (host.get(it) for it in ("short", "long", "early", "late"))
+    parts = []
+    if not short and not long:
+        parts.append("the source: a clock that is true" if is_source else "a PERFECT clock, which never drifts: is this meant?")
+    else:
+        wanted = -(-(short or 0) * 10**9 // (10**9 - (short or 0)))
+        if long == wanted:
+            parts.append(f"its clock is within {ppm(short)}")
+        else:
+            parts.append(f"its clock is fast by {ppm(short or 0)} at most, and slow by some {ppm(long or 0)}")
+        few = [str(it) for it in (short, long) if it and it < RATE_FEW]
+        if few:
+            parts.append(f"{few[0]} are parts per BILLION: is {few[0]}_000 meant, {few[0]} ppm?")
+        if (long or 0) < wanted:
+            parts.append(f"`long` is less than what belongs to `short`, {wanted:_}: is this meant?")
+    if not early and not late:
+        parts.append("stamps WITHOUT ANY ERROR: is this meant?")
+    else:
+        parts.append(f"events are up to {ns(early or 0)} before and {ns(late or 0)} after their stamps")
+    addresses = [*host.get("addresses", []), *host.get("addresses6", [])]
+    if addresses:
+        parts.append(f"addresses {', '.join(addresses)}")
+    elif "capture" in kinds:
+        parts.append("NO ADDRESS, though it has a capture: no packet of it will be a message")
+    if not kinds:
+        parts.append("no label: no trace of it can be added")
+    return f"{name}: {'; '.join(parts)}."
+
+
+def told_declaration(value):
+    """Returns a declaration in words."""
+    hosts, labels = value.get("hosts", {}), value.get("labels", {})
+    lines = []
+    for name in sorted(hosts):
+        kinds = {it.get("kind") for it in labels.values() if it.get("host") == name}
+        lines.append(told_host(name, hosts[name], value.get("source") == name, kinds))
+    lines += [f"{name}: a {'capture' if it.get('kind') == 'capture' else 'log'} taken at {it.get('host')}." for name, it in sorted(labels.items())]
+    links = {(it.get("from"), it.get("to")): it for it in value.get("links", [])}
+    for (one, other), it in links.items():
+        least, most = it.get("least", 0), it.get("most")
+        told = f"from {one} to {other}: a message takes {ns(least)} at least, and {'as long as it likes' if most is None else f'{ns(most)} at most'}"
+        if not least:
+            told += "; with `least` 0 it may arrive as it is sent, and the order of its ends is open: is this meant?"
+        if most is not None and most < least:
+            told += "; `most` IS LESS THAN `least`: each message contradicts that"
+        lines.append(f"{told}.")
+    absent = [f"{one} to {other}" for one in sorted(hosts) for other in sorted(hosts) if one != other and (one, other) not in links]
+    if absent:
+        more = ", .." if len(absent) > 6 else ""
+        lines.append(f"No link is declared from {', from '.join(absent[:6])}{more}: the ends of a message there may be at one time; `least = 1` mends it.")
+    if "source" in value:
+        lines.append(f"`time` tells when an event was by the clock of {value['source']}.")
+    if any(it.get("kind") == "capture" for it in labels.values()):
+        lines.append(f"{value.get('payload_bytes', 0)} bytes of the payload are part of what a packet is known by.")
+    return lines
+
+
+def place_of(path, section, name, index):
+    """Returns the line in which a table of a declaration begins, or None."""
+    with open(path, encoding="utf-8", errors="replace") as it:
+        lines = it.read().splitlines()
+    if section == "links":
+        found = [at for at, line in enumerate(lines, 1) if re.match(r"\s*\[\[\s*links\s*\]\]", line)]
+        return found[index - 1] if len(found) >= index else None
+    wanted = re.compile(rf"\s*\[\s*{section}\s*\.\s*(\"{re.escape(name)}\"|'{re.escape(name)}'|{re.escape(name)})\s*[\].]")
+    return next((at for at, line in enumerate(lines, 1) if wanted.match(line)), None)
+
+
+def refused(path, number, section, index):
+    """Returns why a declaration was refused with these three, in words, by a look at the file."""
+    try:
+        value = read_declaration(path)
+    except OSError as why:
+        return f"{path} cannot be read: {why.strerror}"
+    except (ValueError, RecursionError) as why:
+        return f"{path} is no TOML: {why}"
+    if section == "top":
+        return f"{path}: {top_cause(value, number)}"
+    tables = value.get(section, {})
+    try:
+        name = sorted(tables, key=str.encode)[index - 1] if section != "links" else f"link {index}"
+        table = tables[name] if section != "links" else tables[index - 1]
+    except (IndexError, KeyError, TypeError):
+        return f"{path}: {section} {index}"
+    place = place_of(path, section, name, index)
+    told = {"hosts": host_cause, "labels": label_cause, "links": link_cause}[section](value, name, table, number)
+    return f"{path}{f', line {place}' if place else ''}: {name if section == 'links' else f'{section[:-1]} {name}'}: {told}"
+
+
+def top_cause(value, number):
+    if number == 2:
+        return f"another key on top: {', '.join(sorted(set(value) - TOP))}"
+    if number == 7:
+        source = value.get("source")
+        return f"source = {source!r}: there is no such host, or its `short` or `long` is not 0"
+    return {1: "it is no TOML as the program reads it: a number over 2^63, or a byte that is no UTF-8", 3: "a value of another kind than it should be",
+            5: "payload_bytes is not from 0 to 64", 8: "it has more than 2^24 bytes"}.get(number, f"cause {number}")  # fmt: skip
+
+
+def host_cause(value, name, table, number):
+    if number == 2:
+        others = sorted(set(table) - HOST)
+        nested = [it for it in others if isinstance(table[it], dict)]
+        return f"no such key: {', '.join(others)}" + (f". A name with a point needs quotes: [hosts.\"{name}.{nested[0]}\"]" if nested else "")
+    if number == 5:
+        found = [it for it in ("short", "long", "early", "late") if isinstance(table.get(it), int) and not 0 <= table[it] < 2**62]
+        return f"out of range: {', '.join(found)}" if found else "`short` is above 999_999_999, or `long` above 1_000_000_000"
+    if number == 6:
+        wrong = [it for it in table.get("addresses", []) if not ADDRESS.fullmatch(it) or any(int(part) > 255 for part in it.split("."))]
+        if wrong:
+            return f"no address such as 10.0.0.1: {', '.join(wrong)}" + (". One of IPv6 is of `addresses6`" if any(":" in it for it in wrong) else "")
+        wrong = [it for it in table.get("addresses6", []) if not ADDRESS6.fullmatch(it)]
+        if wrong:
+            return f"not eight groups of hexadecimal digits with colons, as fd00:0:0:0:0:0:0:1: {', '.join(wrong)}"
+        return "an address is there twice, at one host or at two"
+    return {3: "a value of another kind: numbers have no quotes and no point, addresses stand in brackets",
+            4: "a name is 1 to 32 letters, digits, points, lines below and hyphens"}.get(number, f"cause {number}")  # fmt: skip
+
+
+def label_cause(value, name, table, number):
+    if number == 2:
+        lacks, others = sorted(LABEL - set(table)), sorted(set(table) - LABEL)
+        return "; ".join([*([f"no such key: {', '.join(others)}"] if others else []), *([f"it lacks {', '.join(lacks)}"] if lacks else [])])
+    if number == 4:
+        if not NAME.fullmatch(name):
+            return "a name is 1 to 32 letters, digits, points, lines below and hyphens"
+        if table.get("host") not in value.get("hosts", {}):
+            return f"there is no host {table.get('host')}"
+        return f"kind = {table.get('kind')!r} is neither \"capture\" nor \"log\""
+    return "its values are texts in quotes" if number == 3 else f"cause {number}"
+
+
+def link_cause(value, name, table, number):
+    if number == 2:
+        lacks, others = sorted({"from", "to"} - set(table)), sorted(set(table) - LINK)
+        return "; ".join([*([f"no such key: {', '.join(others)}"] if others else []), *([f"it lacks {', '.join(lacks)}"] if lacks else [])])
+    if number == 4:
+        absent = [str(table.get(it)) for it in ("from", "to") if table.get(it) not in value.get("hosts", {})]
+        return f"there is no host {', '.join(absent)}" if absent else "an earlier link has the same two ends in this order"
+    return {3: "a value of another kind: `most` is left out where there is no limit", 5: "a number is negative, or 2^62 or more"}.get(number, f"cause {number}")

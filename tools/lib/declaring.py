@@ -1,0 +1,197 @@
+"""Writes a first declaration: each line with where it comes from, and what to replace it by."""
+
+from collections import Counter
+from decimal import Decimal
+from math import ceil
+
+from ends import ends_of
+from headers import address_text, decode
+
+# A quartz that runs free, in ppm, where nothing is known of it.
+QUARTZ = Decimal(100)
+# The numbers of bytes of the payload that are tried; of several that do as well the first is taken.
+PAYLOAD_BYTES = (8, 16, 32, 64, 0)
+ADDRESSES_MOST = 64
+
+
+def rates(ppm):
+    """Returns `short` and `long`, in ppb, of a clock whose rate is at most so many ppm off."""
+    short = ceil(ppm * 1000)
+    return short, -(-short * 10**9 // (10**9 - short))
+
+
+def late_of(resolution, long):
+    """Returns how late an event may be for a stamp that is cut off at this many ns."""
+    return -(-resolution * (10**9 + long) // 10**9)
+
+
+def plain(text):
+    """Returns a path or another text without signs that would end a comment."""
+    return "".join(it if it.isprintable() else "?" for it in text)
+
+
+def spelled(number):
+    return f"{number:_}"
+
+
+def unit_text(ns):
+    for size, name in ((10**9, "s"), (10**6, "ms"), (10**3, "us")):
+        if ns % size == 0:
+            return f"{ns // size} {name}"
+    return f"{ns} ns"
+
+
+def rounded_ppm(ppm):
+    """Returns a rate that is no less, in whole ppm, and in whole thousands where it is a great one."""
+    size = 1000 if ppm > 10_000 else 1
+    return Decimal(ceil(ppm / size) * size)
+
+
+class Declaring:
+    """A declaration for inputs: what is known of each host, as lines, and what could not be found out."""
+
+    def __init__(self, inputs, chrony=None, source=None, reference=None):
+        if source and reference:
+            raise ValueError("a source is a true clock, and a reference one that is taken for the measure: say one of them")
+        self.inputs, self.chrony, self.source, self.reference, self.unknown = inputs, chrony or {}, source or reference, reference, []
+        self.hosts = sorted({it.host for it in inputs})
+        self.captures = [it for it in inputs if it.kind == "capture"]
+        for name in [*self.chrony, *([self.source] if self.source else [])]:
+            if name not in self.hosts:
+                raise ValueError(f"there is no host {name}, but {', '.join(self.hosts)}")
+        self.ends = ends_of(self.captures)
+
+    def text(self):
+        """Returns the declaration."""
+        body = [line for host in self.hosts for line in self.host(host)] + self.labels() + self.links()
+        files = ", ".join(f"{it.label} of {plain(it.path)}" for it in self.inputs)
+        head = [f"# Written by tools/declare, for {files}."]
+        head += ["# Every answer follows from these lines and from the files. A line that is too wide is never wrong; one that is too narrow",
+                 "# makes answers that are definite and wrong. So look at each, and replace what you know better: docs/GUIDE.md, What to declare."]  # fmt: skip
+        head += [f"# NOT FOUND OUT: {it}." for it in self.unknown] + ["", *self.top()]
+        return "\n".join([*head, *body]) + "\n"
+
+    def top(self):
+        lines = []
+        if self.captures:
+            count, repeated, short = self.payload_bytes()
+            told = f"with {count} of them {repeated} packets look like another one of their host" + (f", and {short} were captured too short" if short else "")
+            lines += [f"# So many bytes of the payload are part of what a packet is known by: {told}.",
+                      "# Others of 0, 8, 16, 32 and 64 do no better here. See `ambiguous` and `short` in the reply to `report`.",
+                      f"payload_bytes = {count}"]  # fmt: skip
+        if self.source:
+            what = "the measure, right or wrong" if self.reference else "a true one"
+            lines += [f"# By this clock `time` tells when an event was. It was named on the command line as {what}.", f'source = "{self.source}"']
+        else:
+            lines += ["# Is one of the clocks true (GPS, or ptp4l in step with one)? Then `time` can tell when an event was by it, with",
+                      '# source = "ITS HOST" here, and short = 0 and long = 0 below.']  # fmt: skip
+        return lines
+
+    def payload_bytes(self):
+        """Returns how many bytes of the payload tell most packets apart, how many packets they do not, and how many are too short for them."""
+        packets = [(it.host, decode(packet.link, packet.data)[0]) for it in self.captures for packet in it.content.packets]
+        packets = [(host, found) for host, found in packets if found and found.key]
+        tried = []
+        for at, count in enumerate(PAYLOAD_BYTES):
+            keys = Counter((host, found.key, found.payload[:count]) for host, found in packets)
+            repeated = sum(number for number in keys.values() if number > 1)
+            short = sum(len(found.payload) < min(count, found.payload_length) for _, found in packets)
+            tried.append((repeated + short, at, count, repeated, short))
+        return min(tried)[2:]
+
+    def host(self, name):
+        told, ppm = self.rate(name)
+        short, long = rates(ppm)
+        lines = ["", f'[hosts."{name}"]' if "." in name else f"[hosts.{name}]", *(f"# {it}" for it in told)]
+        lines += [f"short = {spelled(short)}", f"long = {spelled(long)}", *self.stamps(name, long), *self.addresses(name)]
+        return lines
+
+    def rate(self, name):
+        """Returns what there is to say of a clock's rate, and by how many ppm it is off at most."""
+        if name == self.source:
+            return ["It is the source: time is measured by this clock."], Decimal(0)
+        told, ppm = self.own_rate(name)
+        if self.reference:
+            # (of two clocks that are a and b off, each is at most a + b off by the other: `long` of that sum is (a + b) / (1 - a - b))
+            other = self.own_rate(self.reference)[1]
+            return [*told, f"Time is measured by {self.reference}'s clock, which may be {other.normalize():f} ppm off itself: so both rates count."], ppm + other
+        return told, ppm
+
+    def own_rate(self, name):
+        """Returns the same by true time."""
+        found = self.chrony.get(name)
+        if found is None:
+            return ["A quartz that runs free is at most 100 ppm off. Where chronyd or ntpd corrects this clock while you record, that is",
+                    "too narrow: --chrony HOST=FILE takes a chrony.conf, and docs/GUIDE.md, Rates, has the numbers."], QUARTZ  # fmt: skip
+        told, quartz = [], QUARTZ
+        if found.skew is not None:
+            quartz = found.skew + abs(found.residual)
+            told += [f"By {plain(found.tracking_from)}: chronyd's correction of the rate is right to {quartz.normalize():f} ppm (skew, and residual). That is its estimate,",
+                     "no bound, and holds while the temperature does: 100 in its place is never too narrow."]  # fmt: skip
+        if found.error() is not None:
+            told += [f"It estimates the time to be right to {found.error().normalize():f} s (root dispersion, half the root delay, system time);",
+                     "that is no part of a declaration, for nothing is declared of offsets."]  # fmt: skip
+        told.append(f"It may slew by {found.slew.normalize():f} ppm besides ({plain(found.slew_from)}). With maxslewrate 500 while you record that is far less.")
+        if found.steps:
+            told.append(f"And it may set the clock ({plain(found.steps)}): over such a moment no rate holds.")
+        off = quartz + found.slew + quartz * found.slew / 10**6
+        return told, rounded_ppm(off)
+
+    def stamps(self, name, long):
+        found = [(it.content.resolution(), it) for it in self.inputs if it.host == name]
+        resolution, worst = max(found, key=lambda it: it[0])
+        what = "the kernel stamped the packet" if worst.kind == "capture" else "the program took the time"
+        lines = [f"# All stamps of {plain(worst.path)} are whole {unit_text(resolution)}; what is below is taken to be cut off. The event is the moment at",
+                 f"# which {what}; for another one, as on the wire, add how far that may be."]  # fmt: skip
+        if worst.kind == "log" and resolution == 1 and len(worst.content.rows) < 3:
+            lines[0] = f"# {plain(worst.path)} has too few rows to tell how fine its stamps are: 1 ns is the narrowest."
+            self.unknown.append(f"how fine the stamps of {name} are")
+        return [*lines, "early = 0", f"late = {spelled(late_of(resolution, long))}"]
+
+    def addresses(self, name):
+        if not any(it.host == name for it in self.captures):
+            return []
+        own, lines = self.ends.own[name], []
+        for size, key in ((4, "addresses"), (16, "addresses6")):
+            found = sorted(it for it in own if len(it) == size)
+            lines += [f"# {address_text(it)}: {own[it]}." for it in found]
+            if found:
+                lines.append(f"{key} = [{', '.join(f'{chr(34)}{address_text(it)}{chr(34)}' for it in found)}]")
+        pairs = self.ends.open[name]
+        if pairs:
+            shown = "; ".join(" or ".join(address_text(it) for it in pair) for pair in pairs[:4]) + ("; .." if len(pairs) > 4 else "")
+            self.unknown.append(f"which address is {name}'s: {shown}")
+            lines.append(f"# Which of these are its own could not be found out: {shown}.")
+        if not own:
+            lines.append('# addresses = ["ITS ADDRESS"]')
+            if not pairs:
+                self.unknown.append(f"the addresses of {name}: no packet of its captures is of IP between two hosts")
+        return lines
+
+    def labels(self):
+        lines, done = [], set()
+        for it in self.inputs:
+            if it.label not in done:
+                done.add(it.label)
+                lines += ["", f'[labels."{it.label}"]' if "." in it.label else f"[labels.{it.label}]", f'host = "{it.host}"', f'kind = "{it.kind}"']
+        return lines
+
+    def links(self):
+        """Returns a link for each two hosts, both ways."""
+        if len(self.hosts) < 2:
+            return []
+        lines = ["", "# Nothing arrives in the instant in which it was sent, so `least` is 1 ns. If you know the way, write more: light needs 5,000 ns",
+                 "# for each km of fibre. `most` is left out: a packet may take as long as it likes. One that is too small spoils every answer."]  # fmt: skip
+        for one in self.hosts:
+            for other in self.hosts:
+                if one != other:
+                    lines += ["[[links]]", f'from = "{one}"', f'to = "{other}"', "least = 1", ""]
+        return lines[:-1]
+
+    def notes(self):
+        """Returns what is to be said beside the declaration: what is odd, and what could not be found out."""
+        odd = [f"{plain(it.path)}: {why}" for it in self.inputs for why in it.content.odd] + self.ends.odd
+        links = Counter(packet.link for it in self.captures for packet in it.content.packets)
+        unread = [str(it) for it in links if it not in (1, 101, 113, 276)]
+        odd += [f"packets of link type {', '.join(unread)} are not read"] if unread else []
+        return odd + [f"not found out: {it}" for it in self.unknown]

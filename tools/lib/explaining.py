@@ -1,0 +1,154 @@
+"""Tells what a session prints, reply by reply."""
+
+import json
+from dataclasses import dataclass, replace
+
+import declaration as declarations
+from contradiction import stamp_text, told_cycle
+from declaration import read_declaration
+from ends import exchanged
+from inputs import Input, open_input
+from program import PROGRAM, Ended, Session
+from refusals import Refusals
+from replies import UNITS, read_cycle, read_ns, read_problem
+from words import REASONS, count_text, greatest_text, least_text, time_text
+
+
+@dataclass
+class Told:
+    """A reply with its line and its words."""
+
+    line: str
+    reply: str
+    words: str
+    is_refusal: bool = False
+
+
+class Explainer:
+    """Tells replies; what is known of the declaration and of the files that were added makes it say more."""
+
+    def __init__(self, declaration=None, program=PROGRAM):
+        self.path, self.program, self.inputs, self.done, self.problem = declaration, program, {}, [], None
+        try:
+            self.declared = read_declaration(declaration) if declaration else {}
+        except (OSError, ValueError):
+            self.declared = {}
+        self.refusals = Refusals(self.declared)
+
+    def reply(self, line, reply):
+        """Returns a reply told; the line that was asked may be empty where it is not known."""
+        words, asked = reply[0].split(" "), line.split(" ")
+        self.done.append(line)
+        told = Told(line, reply[0], self.words(words, reply, asked, line), words[0] == "refused")
+        if words[0] == "added" and len(asked) == 3:
+            self.take(asked, words)
+        return told
+
+    def take(self, asked, words):
+        """Remembers what was added."""
+        label, path = asked[1:]
+        self.problem = None
+        self.refusals.counts[label] = self.refusals.counts.get(label, 0) + int(words[2])
+        self.refusals.added.setdefault(label, []).append(path)
+        try:
+            self.inputs[len(self.inputs)] = open_input(Input(label, label, path))
+        except (OSError, ValueError):
+            pass
+
+    def words(self, words, reply, asked, line):
+        """Returns the words for a reply."""
+        names = asked[1:] if len(asked) > 1 else ["P", "Q"]
+        if words[0] == "refused":
+            return self.refusals.told(line, words[1:])
+        if words[0] == "added":
+            return self.added(words, asked)
+        if words[0] == "interval":
+            return self.interval(*(read_ns(it) for it in words[1:3]), *[*names, "P", "Q"][:2])
+        if words[0] == "order":
+            return self.order(words[1], *[*names, "P", "Q"][:2])
+        if words[0] == "time":
+            least, greatest = (read_ns(it) for it in words[1:3])
+            ends = [stamp_text(it // UNITS) if it is not None else "no limit" for it in (least, greatest)]
+            wide = f", {time_text(greatest - least, 1)} apart" if None not in (least, greatest) else ""
+            return f"by the clock of the source {names[0]} was between {ends[0]} and {ends[1]}{wide} (ns are cut off)"
+        if words[0] == "kept":
+            return f"questions about {names[0]} are answered at once from now on (the {words[1]}. of eight that can be kept)"
+        if words[0] == "merge":
+            return f"{count_text(int(words[1]), 'event')} in the order of one execution, the earliest: for two of them ask `order`"
+        if reply[0].startswith("{"):
+            return self.report(json.loads(reply[0]))
+        if reply[0] == "problem 1":
+            self.problem = reply
+            problem = read_problem(reply)
+            counts = ((problem.clocks, "clock"), (problem.events, "event"), (problem.messages, "message"))
+            return f"all that is declared and known: {', '.join(count_text(len(it), name) for it, name in counts)}"
+        if read_cycle(reply) is not None:
+            return "\n".join(self.told_cycle(reply, self.known_problem(), self.inputs))
+        if reply[0] == "certificate 1":
+            return "evidence for both ends of the interval, which `verify` checks against the reply to `problem`"
+        return "\n".join(self.told_end(reply)) or "no reply of a session"
+
+    def added(self, words, asked):
+        events, messages, withdrawn, pending, state = words[2], words[4], words[6], words[8], words[9]
+        label = asked[1] if len(asked) == 3 else "the label"
+        parts = [f"{label} has {events} events more", f"{messages} messages were found"]
+        if withdrawn != "0":
+            parts.append(f"{withdrawn} messages are none any more, for their keys came again")
+        if pending != "0":
+            parts.append(f"the last {pending} bytes are no whole packet and wait for their rest")
+        if state == "consistent":
+            return f"{', '.join(parts)}; what was declared can be true of all this"
+        return f"{', '.join(parts)}; what was declared CANNOT be true of all this: a question will show why"
+
+    def interval(self, least, greatest, one, other):
+        if least is not None and least >= 0:
+            more = "or more" if greatest is None else f"to {greatest_text(greatest)}"
+            return f"{other} came {least_text(least)} {more} after {one}"
+        if greatest is not None and greatest <= 0:
+            more = "or more" if least is None else f"to {greatest_text(-least)}"
+            return f"{other} came {least_text(-greatest)} {more} before {one}"
+        early = "any time" if least is None else f"{time_text(-least, 1)} at most"
+        late = "any time" if greatest is None else f"{time_text(greatest, 1)} at most"
+        return f"{other} came {early} before or {late} after {one}: which was first is open"
+
+    def order(self, order, one, other):
+        told = {"before": f"{one} came before {other}, whatever happened", "after": f"{one} came after {other}, whatever happened",
+                "same": f"{one} and {other} were at one time", "open": f"which of {one} and {other} came first is open: what is declared allows both"}  # fmt: skip
+        return told.get(order, order)
+
+    def report(self, report):
+        parts = [f"{count_text(report['messages'], 'message')} among {count_text(report['events'], 'event')}"]
+        parts += [f"{count} {REASONS.get(name, name)}" for name, count in report["nokey"].items() if count]
+        parts += [f"{report['unmatched']} without another end"] if report["unmatched"] else []
+        parts += [f"{count_text(len(report['ambiguous']), 'key')} with too many events"] if report["ambiguous"] else []
+        return "; ".join(parts)
+
+    def known_problem(self):
+        """Returns the problem that a contradiction is of: the last reply to `problem`, or what a session says of the same additions."""
+        if self.problem is None and self.path and self.inputs:
+            try:
+                with Session(self.path, self.program) as session:
+                    for line in self.done:
+                        if line.startswith("add "):
+                            session.ask(line)
+                    self.problem = session.ask("problem")
+            except (OSError, Ended):
+                return None
+        return self.problem
+
+    def told_cycle(self, lines, problem, inputs):
+        """Returns a contradiction in words, as lines."""
+        labels = self.declared.get("labels", {})
+        captures = [replace(it, host=labels.get(it.label, {}).get("host", it.host)) for it in inputs.values() if it.kind == "capture"]
+        return told_cycle(lines, problem, inputs, self.program) + exchanged(captures, self.declared)
+
+    def told_end(self, lines):
+        """Returns what the last line of a run says that is no reply."""
+        words = lines[-1].split(" ") if lines else []
+        if words[:1] == ["declaration"] and len(words) == 4:
+            if self.path is None:
+                return [f"the declaration is refused: cause {words[1]} at {words[2]} {words[3]}; with --declaration DECL this says more"]
+            return [declarations.refused(self.path, int(words[1]), words[2], int(words[3]))]
+        if words == ["read", "fault"]:
+            return ["the declaration is not there, or it or the script could not be read"]
+        return ["the script has more than 2^30 bytes"] if words == ["script", "limit"] else []

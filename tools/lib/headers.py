@@ -1,0 +1,116 @@
+"""What stands in a packet: its addresses, what it is known by, and what to call it in a picture."""
+
+import struct
+from dataclasses import dataclass
+from ipaddress import ip_address
+
+ETHERNET, RAW, COOKED, COOKED2 = 1, 101, 113, 276
+IPV4, IPV6, ARP, TAGS = 0x0800, 0x86DD, 0x0806, (0x8100, 0x88A8)
+TCP, UDP = 6, 17
+# How a cooked header says that a packet went out, and that it came for this host.
+OUT, FOR_US = 4, 0
+FLAG_NAMES = ((2, "SYN"), (16, "ACK"), (1, "FIN"), (4, "RST"), (8, "PSH"))
+PROTOCOLS = {1: "ICMP", 2: "IGMP", 58: "ICMPv6", 50: "ESP", 47: "GRE", 89: "OSPF", 132: "SCTP"}
+
+
+@dataclass(slots=True)
+class Headers:
+    """The addresses of a packet of IP as numbers of 4 or 16 bytes; the ports, the key and the payload of one of TCP or UDP."""
+
+    version: int
+    source: bytes
+    target: bytes
+    protocol: int
+    ports: tuple | None = None
+    key: tuple | None = None
+    payload: bytes = b""
+    # How many bytes of the payload were there to be captured.
+    payload_length: int = 0
+    flags: int = 0
+
+
+def frame(link, data):
+    """Returns the type of what a frame carries, what it carries, and whether it was sent, where the link says so; type 0 is none."""
+    if link == ETHERNET:
+        at = 12
+        while len(data) >= at + 2 and int.from_bytes(data[at : at + 2], "big") in TAGS:
+            at += 4
+        return int.from_bytes(data[at : at + 2], "big") if len(data) >= at + 2 else 0, data[at + 2 :], None
+    if link == RAW and data:
+        return {4: IPV4, 6: IPV6}.get(data[0] >> 4, 0), data, None
+    if link == COOKED and len(data) >= 16:
+        return int.from_bytes(data[14:16], "big"), data[16:], {OUT: True, FOR_US: False}.get(int.from_bytes(data[:2], "big"))
+    if link == COOKED2 and len(data) >= 20:
+        return int.from_bytes(data[:2], "big"), data[20:], {OUT: True, FOR_US: False}.get(data[10])
+    return 0, b"", None
+
+
+def decode(link, data):
+    """Returns the headers of a packet and whether it was sent; None for headers where it is none of IP, or was cut within them."""
+    kind, data, is_sent = frame(link, data)
+    if kind == IPV4 and len(data) >= 20 and data[0] >> 4 == 4:
+        return decode4(data), is_sent
+    if kind == IPV6 and len(data) >= 40 and data[0] >> 4 == 6:
+        found = Headers(6, data[8:24], data[24:40], data[6])
+        return transport(found, data[40:], int.from_bytes(data[4:6], "big"), None), is_sent
+    return None, is_sent
+
+
+def decode4(data):
+    head, total, ident, fragment = 4 * (data[0] & 15), *struct.unpack_from(">HHH", data, 2)
+    found = Headers(4, data[12:16], data[16:20], data[9])
+    if fragment & 0x3FFF or head < 20 or total < head:
+        return found
+    return transport(found, data[head:], total - head, ident)
+
+
+def transport(found, data, length, ident):
+    """Fills in what the header of TCP or UDP says, of a datagram with so many bytes behind that of IP."""
+    data = data[:length]
+    if found.protocol == UDP and len(data) >= 8:
+        found.ports, size = struct.unpack_from(">HH", data), struct.unpack_from(">H", data, 4)[0]
+        found.payload, found.payload_length = data[8:size], max(size - 8, 0)
+        found.key = (found.source, found.target, UDP, ident, *found.ports, 0, 0, 0, size)
+    elif found.protocol == TCP and len(data) >= 20:
+        found.ports, (sequence, acknowledged) = struct.unpack_from(">HH", data), struct.unpack_from(">II", data, 4)
+        head, found.flags = 4 * (data[12] >> 4), data[13]
+        found.payload, found.payload_length = data[head:], max(length - head, 0)
+        found.key = (found.source, found.target, TCP, ident, *found.ports, sequence, acknowledged, found.flags, length - head)
+    return found
+
+
+def address_text(address):
+    """Returns an address as a declaration spells it: four decimals, or eight groups of hexadecimal digits."""
+    if len(address) == 4:
+        return ".".join(str(it) for it in address)
+    return ":".join(f"{int.from_bytes(address[at : at + 2], 'big'):x}" for at in range(0, 16, 2))
+
+
+def is_unicast(address):
+    """Returns whether an address is that of one host: no multicast, no broadcast, no loop back, and not none at all."""
+    it = ip_address(address)
+    return not (it.is_multicast or it.is_loopback or it.is_unspecified or address == b"\xff" * 4)
+
+
+def end_text(address, port):
+    text = str(ip_address(address))
+    return f"[{text}]:{port}" if len(address) == 16 else f"{text}:{port}"
+
+
+def described(packet):
+    """Returns a packet in a few words with its addresses, and in fewer without them."""
+    found, _ = decode(packet.link, packet.data)
+    if found is None:
+        kind, data, _ = frame(packet.link, packet.data)
+        if kind == ARP and len(data) >= 28:
+            asks = int.from_bytes(data[6:8], "big") == 1
+            return (f"ARP who has {address_text(data[24:28])}", "ARP?") if asks else (f"ARP {address_text(data[14:18])} is here", "ARP")
+        return (f"type {kind:04x}",) * 2 if kind else (f"link {packet.link}",) * 2
+    if found.ports is None:
+        name = PROTOCOLS.get(found.protocol, {TCP: "TCP", UDP: "UDP"}.get(found.protocol, f"protocol {found.protocol}"))
+        return f"{name} {ip_address(found.source)} > {ip_address(found.target)}", name
+    ends = [end_text(address, port) for address, port in zip((found.source, found.target), found.ports)]
+    flags = " " + ",".join(name for bit, name in FLAG_NAMES if found.flags & bit) if found.protocol == TCP else ""
+    size = f" {found.payload_length} bytes" if found.payload_length or found.protocol == UDP else ""
+    what = ("TCP" if found.protocol == TCP else "UDP", f"{flags}{size}")
+    return f"{what[0]} {ends[0]} > {ends[1]}{what[1]}", f"{what[0]} {found.ports[0]}>{found.ports[1]}{what[1].replace(' bytes', ' B')}"

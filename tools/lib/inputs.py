@@ -1,0 +1,80 @@
+"""The files that a tool was given: which trace of which host each one is, and what is in it."""
+
+import os
+import re
+from dataclasses import dataclass
+
+from captures import is_capture, read_capture
+from logs import read_log
+
+NAME = re.compile(r"[A-Za-z0-9._-]{1,32}")
+# What a file begins with that is neither a capture nor a log, and what takes it off.
+PACKED = {
+    b"\x1f\x8b": ("compressed by gzip", "gunzip"),
+    b"\x28\xb5\x2f\xfd": ("compressed by zstd", "unzstd"),
+    b"\x04\x22\x4d\x18": ("compressed by lz4", "unlz4"),
+    b"\xfd7zXZ": ("compressed by xz", "unxz"),
+    b"BZh": ("compressed by bzip2", "bunzip2"),
+    b"PK\x03\x04": ("a zip archive", "unzip"),
+    b"\x54\x52\x53\x4e\x49\x46\x46": ("a capture of Sniffer", "editcap -F nsecpcap"),
+    b"snoop\x00": ("a capture of snoop", "editcap -F nsecpcap"),
+}
+
+
+@dataclass
+class Input:
+    """A trace: its label, its host, the path of its file, `capture` or `log`, and its packets or rows."""
+
+    label: str
+    host: str
+    path: str
+    kind: str = ""
+    content: object = None
+
+
+def packed(start):
+    """Returns what a file is that begins with these bytes, and the command that unpacks it, or None."""
+    return next((told for magic, told in PACKED.items() if start.startswith(magic)), None)
+
+
+def start_of(path):
+    with open(path, "rb") as it:
+        return it.read(16)
+
+
+def parse_input(word):
+    """Returns the input that a word LABEL=FILE or LABEL@HOST=FILE names."""
+    names, equals, path = word.partition("=")
+    label, at, host = names.partition("@")
+    host = host if at else label
+    if not equals or not path:
+        raise ValueError(f"{word} is not of the form LABEL=FILE")
+    for name in (label, host):
+        if not NAME.fullmatch(name):
+            raise ValueError(f"{name or 'an empty word'} is no name: 1 to 32 letters, digits, points, lines below and hyphens")
+    return Input(label, host, path)
+
+
+def open_input(it):
+    """Reads the file of an input. Raises ValueError where it is neither a capture nor a log."""
+    if os.path.isdir(it.path):
+        raise ValueError(f"{it.path} is a folder")
+    start = start_of(it.path)
+    told = packed(start)
+    if told:
+        raise ValueError(f"{it.path} is {told[0]}: {told[1]} it first")
+    it.kind = "capture" if is_capture(start) else "log"
+    it.content = read_capture(it.path) if it.kind == "capture" else read_log(it.path)
+    if it.kind == "log" and not it.content.rows and it.content.odd:
+        raise ValueError(f"{it.path} is no capture, and no log either: {it.content.odd[0]}")
+    return it
+
+
+def read_inputs(words):
+    """Returns the inputs that words name, with their files read; hosts of one label are one host."""
+    found = [open_input(parse_input(word)) for word in words]
+    for one in found:
+        for other in found:
+            if one.label == other.label and (one.host, one.kind) != (other.host, other.kind):
+                raise ValueError(f"the files of {one.label} are of two hosts, or some are captures and some logs")
+    return found

@@ -1,0 +1,141 @@
+"""Refusals of a session in words, each with its likely cause, by a look at the line and at the file that it names."""
+
+import os
+import re
+
+from captures import MAGICS, SECTION, is_capture
+from inputs import packed, start_of
+
+COMMANDS = {"add": 2, "interval": 2, "order": 2, "time": 1, "merge": 0, "prove": 2, "keep": 1, "problem": 0, "report": 0}
+ROW_CAUSES = {
+    "1": "it has not four fields STAMP,KIND,KEY,TEXT",
+    "2": "its stamp is not 1 to 19 digits of a number below 2^62",
+    "3": "its kind is none of send, receive and local, or it lacks a key, or has one though it is local",
+    "4": "its key or its text is too long, or has a byte that is not plain ASCII",
+}
+
+
+class Refusals:
+    """Tells refusals; `declared` is the declaration's tables, and `counts` how many events each label has so far, where that is known."""
+
+    def __init__(self, declared=None):
+        self.declared, self.counts, self.added = declared or {}, {}, {}
+
+    def told(self, line, words):
+        """Returns why a line was refused with these words behind `refused`."""
+        number, rest = words[0], words[1:]
+        asked = line.split(" ")
+        path = asked[2] if len(asked) > 2 and asked[0] == "add" else None
+        if number in ("24", "25", "26", "31") and path and not os.path.isfile(path):
+            path = None
+        tellers = {"20": lambda: self.no_command(line), "21": lambda: self.no_label(asked[1]), "22": lambda: self.no_file(path),
+                   "23": lambda: "the file has more than 2^28 bytes, or the label would have more than 2^30: `split -b 200M`, and add the parts in order",
+                   "24": lambda: self.no_capture(path, rest), "25": lambda: self.no_packet(path, rest, asked[1]), "26": lambda: self.no_row(path, rest),
+                   "27": lambda: "there would be more than 1,048,576 events: filter the captures of all hosts alike",
+                   "28": lambda: self.no_event(asked[1:]), "29": self.no_source,
+                   "30": lambda: "eight events are kept, and this is none of them: ask about it without keeping it",
+                   "31": lambda: self.no_block(path, rest)}  # fmt: skip
+        return tellers[number]() if number in tellers else f"refusal {number}"
+
+    def no_command(self, line):
+        """Returns what is wrong with a line that is no command."""
+        if not line:
+            return "the line is empty"
+        if line.startswith("#"):
+            return "scripts have no comments"
+        if line.endswith("\r"):
+            return "the line ends with a carriage return: tr -d '\\r' takes them out"
+        if line != line.strip(" ") or "  " in line or "\t" in line:
+            return "there is a blank too many, or a tab: one blank stands between two words, and none at the ends"
+        if len(line.encode()) > 4096:
+            return "the line has more than 4,096 bytes"
+        words = line.split(" ")
+        if words[0] not in COMMANDS:
+            small = words[0].lower()
+            return f"`{words[0]}` is no command{f': {small} is' if small in COMMANDS else ''}"
+        count = len(words) - 1
+        if words[0] == "add" and count > 2:
+            return "a path has no blanks, and no quotes help: give the file another name by a link, ln -s"
+        if count != COMMANDS[words[0]]:
+            return f"`{words[0]}` has {COMMANDS[words[0]]} words behind it, and here are {count}"
+        return "it has a byte that is not plain ASCII"
+
+    def no_label(self, label):
+        labels = sorted(self.declared.get("labels", {}))
+        told = f"; there are {', '.join(labels)}" if labels else ""
+        if label in self.declared.get("hosts", {}):
+            return f"{label} is a host, and no label: [labels.{label}] is missing{told}"
+        return f"no label {label} is declared{told}"
+
+    def no_file(self, path):
+        """Returns why a file cannot be read."""
+        if path is None:
+            return "there is no such file, or it cannot be read"
+        if path[0] in "'\"" or path.startswith("~"):
+            return f"{path} is taken as it stands: a script has no quotes and no `~`"
+        if os.path.isdir(path):
+            return f"{path} is a folder"
+        if not os.path.exists(path):
+            return f"there is no file {path} in {os.getcwd()}, from where it counts" if not os.path.isabs(path) else f"there is no file {path}"
+        return f"{path} is a pipe or a device, and only plain files are read" if not os.path.isfile(path) else f"{path} cannot be read"
+
+    def no_capture(self, path, rest):
+        """Returns why a file is no capture, by its first bytes."""
+        if rest == ["2"]:
+            return "the capture is of another version than 2.4 of pcap or 1 of pcapng: editcap makes it one that is read"
+        start = start_of(path) if path else b""
+        told = packed(start)
+        if told:
+            return f"{path} is {told[0]}: {told[1]} it first"
+        if is_capture(start):
+            return "what was added begins as no capture; this file does, so one before it does not"
+        if start and all(it in b"\r\n\t" or 32 <= it < 127 for it in start):
+            return f"{path} is text: a log is declared with kind = \"log\""
+        return f"{path or 'the file'} is neither classic pcap nor pcapng: `file {path or 'X'}` may tell what it is"
+
+    def no_packet(self, path, rest, label):
+        if path and start_of(path)[:4] in MAGICS and self.added.get(label):
+            again = path in self.added[label]
+            return f"{path} {'was added before' if again else 'begins with a header of its own, which only the first file of a label may have'}" + (
+                "" if again else ": mergecap -a -F nsecpcap -w ALL.pcap joins files")
+        return f"at byte {rest[0] if rest else '?'} of {label} stands no record of a packet: is the file damaged, or are its parts in another order?"
+
+    def no_block(self, path, rest):
+        told = packed(start_of(path)) if path else None
+        if told:
+            return f"{path} is {told[0]}: {told[1]} it first"
+        more = "" if path is None or start_of(path)[:4] != SECTION else "; the file before it may have ended inside a block: editcap CUT WHOLE takes the rest off"
+        return f"at byte {rest[0] if rest else '?'} of the label stands a malformed block of pcapng{more}"
+
+    def no_row(self, path, rest):
+        """Returns what is wrong with a row, and shows it."""
+        row, cause = [*rest, "?", "?"][:2]
+        if path and is_capture(start_of(path)):
+            return f"{path} is a capture: it is declared with kind = \"capture\""
+        shown = self.row(path, row) if path and row.isdigit() else ""
+        return f"record {row}: {ROW_CAUSES.get(cause, f'cause {cause}')}{f'. It is: {shown}' if shown else ''}. tools/rows makes rows of other logs"
+
+    def row(self, path, number):
+        """Returns a record of a log as it stands, where its records are lines."""
+        with open(path, encoding="utf-8", errors="replace") as it:
+            lines = [line for line in it.read().splitlines() if line]
+        return lines[int(number) - 1][:120] if 0 < int(number) <= len(lines) else ""
+
+    def no_event(self, names):
+        """Returns which of the names is no event."""
+        for name in names:
+            found = re.fullmatch(r"(.+)#([1-9]\d*)", name)
+            if not found:
+                return f"{name} is not of the form LABEL#n, with n from 1 on"
+            label, number = found[1], int(found[2])
+            if "labels" in self.declared and label not in self.declared["labels"]:
+                return f"no label {label} is declared; there are {', '.join(sorted(self.declared['labels']))}"
+            if label in self.counts and number > self.counts[label]:
+                return f"{label} has {self.counts[label]} events so far"
+            if self.counts and label not in self.counts:
+                return f"nothing was added to {label} so far"
+        return "there is no such event"
+
+    def no_source(self):
+        source = self.declared.get("source")
+        return f"{source}, the source, has no event so far" if source else 'no source is declared: source = "HOST" on top, with short = 0 and long = 0 at that host'

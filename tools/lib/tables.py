@@ -1,0 +1,47 @@
+"""The timeline as JSON and as CSV, with each number as the program printed it."""
+
+import csv
+import io
+import json
+
+from replies import ns_text
+from timeline import order_of
+
+
+def text_of(units, infinite):
+    return infinite if units is None else ns_text(units)
+
+
+def as_json(found):
+    """Returns the timeline as one JSON object; numbers of ns are texts with nine digits behind the point."""
+    value = {
+        "report": found.report,
+        "hosts": found.hosts,
+        "events": [
+            {"event": it.name, "host": it.host, "stamp": str(it.stamp), "earliest": ns_text(it.time), "text": it.text,
+             "since": {name: [text_of(ends[it.name][0], "-inf"), text_of(ends[it.name][1], "+inf")] for name, ends in found.ends.items()},
+             **({"time": [text_of(it.source_time[0], "-inf"), text_of(it.source_time[1], "+inf")]} if it.source_time else {})}
+            for it in found.events
+        ],
+        "messages": [
+            {"send": it.send, "receive": it.receive, **({"delay": [text_of(it.delay[0], "-inf"), text_of(it.delay[1], "+inf")]} if it.delay else {})}
+            for it in found.messages
+        ],
+        "orders": [{"first": one, "second": other, "order": order} for (one, other), order in found.orders.items()],
+        "notes": found.notes,
+    }  # fmt: skip
+    return json.dumps(value, indent=1) + "\n"
+
+
+def as_csv(found):
+    """Returns a row for each event, in the order of the earliest execution; the ends are since the first event that was chosen."""
+    out = io.StringIO()
+    write = csv.writer(out, lineterminator="\n")
+    name, ends = next(iter(found.ends.items()))
+    peers = {one: other for it in found.messages for one, other in ((it.send, it.receive), (it.receive, it.send))}
+    write.writerow(["event", "host", "stamp", "earliest", f"least since {name}", f"greatest since {name}", f"order of {name} and it", "other end", "text"])
+    for it in found.events:
+        least, greatest = ends[it.name]
+        order = order_of((least, greatest))
+        write.writerow([it.name, it.host, it.stamp, ns_text(it.time), text_of(least, "-inf"), text_of(greatest, "+inf"), order, peers.get(it.name, ""), it.text])
+    return out.getvalue()

@@ -1,0 +1,226 @@
+"""The timeline of a session: its events in one execution, how far each may lie from a chosen one, and what it says of pairs.
+
+Nothing here is worked out that the program could answer: differences of real times are replies to `interval`, orders are replies to
+`order`, or follow from the ends of one interval, or of two intervals from the same event. What was not asked is said to be unknown.
+"""
+
+import json
+import os
+from dataclasses import dataclass, field
+
+from headers import described
+from replies import read_merge, read_ns, read_problem
+
+FROM_MOST = 8
+# How many messages of a link are asked for their delays, and how many questions about orders times events are asked, if not said.
+DELAYS_MOST, PAIRS_WORK = 1000, 3_000_000
+BEFORE, AFTER, SAME, OPEN = "before", "after", "same", "open"
+
+
+@dataclass
+class Event:
+    """An event: its name, host, stamp in ns, time in the earliest execution in units, what it is, the same in few words, and its ends of `time`."""
+
+    name: str
+    host: str
+    stamp: int
+    time: int
+    text: str = ""
+    brief: str = ""
+    source_time: tuple | None = None
+
+
+@dataclass
+class Message:
+    """A message: its two events, and its delay's ends in units where they were asked for; the greatest may be None for no limit."""
+
+    send: str
+    receive: str
+    delay: tuple | None = None
+
+
+@dataclass
+class Timeline:
+    """What is known of a session; `ends` has, for each event that was asked from, the ends to each event, None for an infinite one."""
+
+    hosts: list = field(default_factory=list)
+    events: list = field(default_factory=list)
+    messages: list = field(default_factory=list)
+    ends: dict = field(default_factory=dict)
+    orders: dict = field(default_factory=dict)
+    report: dict = field(default_factory=dict)
+    added: list = field(default_factory=list)
+    cycle: list | None = None
+    problem: list = field(default_factory=list)
+    notes: list = field(default_factory=list)
+    is_proved: bool = True
+
+    def find(self, name):
+        return next((it for it in self.events if it.name == name), None)
+
+
+def order_of(ends):
+    """Returns which of two events comes first, by the ends of the interval from the first to the second: exactly as `order` replies."""
+    least, greatest = ends
+    if least is not None and least > 0:
+        return BEFORE
+    if greatest is not None and greatest < 0:
+        return AFTER
+    return SAME if least == greatest == 0 else OPEN
+
+
+def is_apart(one, other):
+    """Returns whether the first of two events is certainly earlier, by the ends of their intervals from one and the same event."""
+    return one[1] is not None and other[0] is not None and one[1] < other[0]
+
+
+class Asking:
+    """Asks a session for a timeline."""
+
+    def __init__(self, session, inputs, chosen=(), delays=DELAYS_MOST, pairs=None, source=None):
+        self.session, self.inputs, self.chosen, self.delays, self.pairs, self.source = session, inputs, list(chosen), delays, pairs, source
+        self.found = Timeline()
+
+    def timeline(self):
+        """Returns the timeline. Of a contradiction it has the cycle, the problem and the report alone."""
+        found = self.found
+        *added, report, found.problem, merged = self.session.ask_all([*(f"add {it.label} {it.path}" for it in self.inputs), "report", "problem", "merge"])
+        found.added = [(it, reply[0]) for it, reply in zip(self.inputs, added)]
+        found.report = json.loads(report[0])
+        problem = read_problem(found.problem)
+        if merged[0].startswith("certificate"):
+            found.cycle = merged
+        elif problem.events:
+            self.take_events(problem, read_merge(merged))
+            self.ask_round([*self.ends(), *self.delays_of(problem), *self.times()])
+            self.ask_orders()
+        return found
+
+    def ask_round(self, questions):
+        """Asks questions, each a line and what takes the words of its reply."""
+        for (_, take), reply in zip(questions, self.session.ask_all([line for line, _ in questions])):
+            take(reply[0].split(" "))
+
+    def take_events(self, problem, merged):
+        """Takes the events in the order of the merge, hosts by their first events, and messages."""
+        texts = self.texts(problem)
+        for name, (time, text) in merged.items():
+            host, stamp = problem.events[name]
+            self.found.events.append(Event(name, host, stamp, time, *((text, text) if text else texts.get(name, ("", "")))))
+        self.found.hosts = list(dict.fromkeys([*(it.host for it in self.found.events), *problem.clocks]))
+        self.found.messages = [Message(*it) for it in problem.messages]
+
+    def texts(self, problem):
+        """Returns what each packet is, in words and in few words, by its event's name; nothing of a label with another number of events."""
+        texts, counts = {}, {}
+        for name in problem.events:
+            label = name.partition("#")[0]
+            counts[label] = counts.get(label, 0) + 1
+        for label in dict.fromkeys(it.label for it in self.inputs if it.kind == "capture"):
+            packets = [packet for it in self.inputs if it.label == label for packet in it.content.packets]
+            if len(packets) != counts.get(label, 0):
+                self.found.notes.append(f"{label} has {counts.get(label, 0)} events, and {len(packets)} packets were read here: they have no texts")
+                continue
+            texts |= {f"{label}#{number}": described(packet) for number, packet in enumerate(packets, 1)}
+        return texts
+
+    def ends(self):
+        """Yields the questions how much later each event was than each chosen one, at least and at most."""
+        names = [it.name for it in self.found.events]
+        for name in self.chosen or names[:1]:
+            if name not in names:
+                raise ValueError(f"there is no event {name}")
+            own = self.found.ends[name] = {}
+            yield f"keep {name}", lambda words: None
+            for other in names:
+                yield f"interval {name} {other}", lambda words, own=own, other=other: own.__setitem__(other, ends_of(words))
+
+    def delays_of(self, problem):
+        """Yields the questions for the delay of each message; of a link with too many, of some that lie evenly among all."""
+        links, asked = {}, 0
+        for it in self.found.messages:
+            links.setdefault((problem.events[it.send][0], problem.events[it.receive][0]), []).append(it)
+        for messages in links.values():
+            for it in evenly(messages, self.delays):
+                asked += 1
+                yield f"interval {it.send} {it.receive}", lambda words, it=it: setattr(it, "delay", ends_of(words))
+        if asked < len(self.found.messages):
+            self.found.notes.append(f"{asked} of {len(self.found.messages)} messages were asked for their delays, of each link some evenly among all")
+
+    def times(self):
+        """Yields the questions when the events of other hosts were by the clock of the source, if there is one; of a great many, of some."""
+        for host in self.found.hosts if self.source else []:
+            for it in evenly([it for it in self.found.events if it.host == host != self.source], self.delays):
+                # (it is refused where the source has no event)
+                yield f"time {it.name}", lambda words, it=it: setattr(it, "source_time", ends_of(words) if words[0] == "time" else None)
+
+    def ask_orders(self):
+        """Asks for the order of pairs whose bars lie over one another, those nearest in the merge first."""
+        found, names, questions = self.found, [it.name for it in self.found.events], []
+        delays = {(it.send, it.receive): it.delay for it in found.messages if it.delay}
+        most = self.pairs if self.pairs is not None else PAIRS_WORK // max(len(names), 1)
+        for pair in near_pairs(names, next(iter(found.ends.values()))):
+            if pair[0] in found.ends or pair[1] in found.ends:
+                continue
+            if pair in delays:
+                found.orders[pair] = order_of(delays[pair])
+            elif len(questions) < most:
+                questions.append((f"order {pair[0]} {pair[1]}", lambda words, pair=pair: found.orders.__setitem__(pair, words[1])))
+            else:
+                found.notes.append("not all pairs whose bars lie over one another were asked for their order, only those nearest in the list")
+                break
+        if questions:
+            self.ask_round(questions)
+
+
+def ends_of(words):
+    """Returns both ends that a reply to `interval` or `time` has."""
+    if words[0] not in ("interval", "time"):
+        raise ValueError(f"the session replied {' '.join(words)} to a question about two events")
+    return read_ns(words[1]), read_ns(words[2])
+
+
+def evenly(found, most):
+    """Returns at most so many of a list, which lie evenly in it."""
+    count = min(len(found), most)
+    return [found[k * len(found) // count] for k in range(count)]
+
+
+def near_pairs(names, ends):
+    """Yields the pairs of which neither is apart from the other by these ends, as they stand in the list: neighbours first."""
+    least_behind = [None] * (len(names) + 1)
+    lowest = float("inf")
+    for at in range(len(names) - 1, -1, -1):
+        least = ends[names[at]][0]
+        lowest = min(lowest, float("-inf") if least is None else least)
+        least_behind[at] = lowest
+    least_behind[len(names)] = float("inf")
+    highest = [float("inf") if ends[it][1] is None else ends[it][1] for it in names]
+    live = range(len(names))
+    for apart in range(1, len(names)):
+        # (behind each of these some event may still be as early)
+        live = [at for at in live if at + apart < len(names) and highest[at] >= least_behind[at + apart]]
+        if not live:
+            return
+        for at in live:
+            if not is_apart(ends[names[at]], ends[names[at + apart]]):
+                yield names[at], names[at + apart]
+
+
+def make_timeline(session, inputs, chosen=(), delays=DELAYS_MOST, pairs=None, source=None):
+    """Returns the timeline that a session over inputs gives."""
+    with session:
+        return Asking(session, inputs, chosen, delays, pairs, source).timeline()
+
+
+def plain_path(path, folder, number):
+    """Returns a path that a line of a script can name: this one, or a link in the folder."""
+    if all(33 <= it <= 126 for it in os.fsencode(path)):
+        return path
+    link = os.path.join(folder, f"file-{number}")
+    if os.path.islink(link):
+        os.remove(link)
+    os.symlink(os.path.realpath(path), link)
+    if not all(33 <= it <= 126 for it in os.fsencode(link)):
+        raise ValueError(f"no script can name {path}, nor the folder {folder}: both have signs that are none of ASCII, or blanks")
+    return link

@@ -1,0 +1,188 @@
+"""Addresses are found where captures show them, and declarations are written as they should be."""
+
+import os
+import subprocess
+import sys
+import tempfile
+import tomllib
+import unittest
+from decimal import Decimal
+
+import chrony
+import declaration
+import declaring
+import ends
+import making_captures as making
+from captures import Capture, Packet
+from common import EXAMPLES, TOOLS
+from headers import address_text
+
+A, B, C, D = "10.0.0.1", "10.0.0.2", "10.0.0.3", "10.0.0.4"
+
+
+def seen(host, *packets, link=101, marks=None, named=()):
+    """Returns what a host's capture shows of packets, each a stamp, a source and a target, and an identification."""
+    found = ends.Seen(host)
+    made = [Packet(stamp, link, making.framed(link, making.udp(one, other, ident=ident), marks and marks[at])) for at, (stamp, one, other, ident) in enumerate(packets)]
+    found.add(Capture(made, addresses={making.address(it) for it in named}))
+    return found
+
+
+def own(*hosts):
+    return {host: sorted(address_text(it) for it in found) for host, found in ends.find_ends(list(hosts)).own.items()}
+
+
+class Ends(unittest.TestCase):
+    def test_an_address_in_all_packets_of_several_peers(self):
+        self.assertEqual(own(seen("a", (1, A, B, 1), (2, C, A, 2))), {"a": [A]})
+
+    def test_two_addresses_of_one_host(self):
+        self.assertEqual(own(seen("a", (1, A, B, 1), (2, C, A, 2), (3, D, "10.0.0.9", 3), (4, D, "10.0.0.8", 4))), {"a": [A, D]})
+
+    def test_the_peer_of_another_hosts_address(self):
+        self.assertEqual(own(seen("a", (1, A, B, 1)), seen("b", (1, A, B, 1), (2, C, B, 2))), {"a": [A], "b": [B]})
+
+    def test_packets_that_are_marked(self):
+        self.assertEqual(own(seen("a", (1, A, B, 1), (2, B, A, 2), link=276, marks=[True, False])), {"a": [A]})
+
+    def test_an_interface_that_names_its_address(self):
+        self.assertEqual(own(seen("a", (1, A, B, 1), named=[A])), {"a": [A]})
+
+    def test_who_asks_waits_longer_whatever_the_offset(self):
+        asks, answers = ((0, A, B, 1), (100_003, B, A, 2)), ((7 * 10**9 + 1, A, B, 1), (7 * 10**9 + 60_008, B, A, 2))
+        self.assertEqual(own(seen("x", *asks), seen("y", *answers)), {"x": [A], "y": [B]})
+        self.assertEqual(own(seen("x", *answers), seen("y", *asks)), {"x": [B], "y": [A]})
+
+    def test_nothing_is_taken_where_nothing_shows_it(self):
+        self.assertEqual(own(seen("x", (0, A, B, 1)), seen("y", (5, A, B, 1))), {"x": [], "y": []})
+
+    def test_nothing_is_taken_where_the_difference_is_within_the_stamps_error(self):
+        self.assertEqual(own(seen("x", (0, A, B, 1), (100_003, B, A, 2)), seen("y", (0, A, B, 1), (100_001, B, A, 2))), {"x": [], "y": []})
+
+    def test_a_router_has_no_address(self):
+        self.assertEqual(own(seen("r", (0, A, B, 1), (1, C, D, 2), (2, A, C, 3), (3, B, D, 4))), {"r": []})
+
+    def test_an_address_of_two_hosts_is_none_of_them(self):
+        found = ends.find_ends([seen("a", (1, A, B, 1), named=[D]), seen("b", (1, C, B, 1), named=[D])])
+        self.assertEqual((len(found.odd), any(making.address(D) in it for it in found.own.values())), (1, False))
+
+    def test_multicast_broadcast_and_loop_back_are_nobodys(self):
+        self.assertEqual(own(seen("a", (1, A, "224.0.0.1", 1), (2, "127.0.0.1", "127.0.0.1", 2), (3, A, "255.255.255.255", 3))), {"a": []})
+
+    def test_exchanged_addresses_are_told(self):
+        captures = [type("It", (), {"host": host, "content": Capture([Packet(*it) for it in packets])}) for host, packets in (
+            ("x", [(3, 101, making.udp(A, B)), (100_000, 101, making.udp(B, A, ident=2))]),
+            ("y", [(7, 101, making.udp(A, B)), (60_000, 101, making.udp(B, A, ident=2))]))]  # fmt: skip
+        self.assertEqual(len(ends.exchanged(captures, {"hosts": {"x": {"addresses": [B]}, "y": {"addresses": [A]}}})), 2)
+
+
+class Numbers(unittest.TestCase):
+    def test_rates_are_those_of_the_guide(self):
+        cases = ((1, (1_000, 1_001)), (20, (20_000, 20_001)), (50, (50_000, 50_003)), (100, (100_000, 100_011)), (601, (601_000, 601_362)), (84_000, (84_000_000, 91_703_057)))
+        for ppm, wanted in cases:
+            self.assertEqual(declaring.rates(Decimal(ppm)), wanted, ppm)
+
+    def test_late_is_that_of_the_guide(self):
+        cases = ((1, 100_011, 2), (1_000, 100_011, 1_001), (1_000, 91_703_057, 1_092), (10**6, 50_003, 1_000_051), (10**6, 601_362, 1_000_602), (10**9, 50_003, 1_000_050_003))
+        for resolution, long, wanted in cases:
+            self.assertEqual(declaring.late_of(resolution, long), wanted)
+
+
+TRACKING = "C0A80001,ntp.example,2,1795842008.123,-0.000012,0.000001,0.000020,-12.345,0.010,0.350,0.001000,0.002000,64.2,Normal\n"
+
+
+class Chrony(unittest.TestCase):
+    def read(self, *texts):
+        found = None
+        for text in texts:
+            with tempfile.NamedTemporaryFile("w", delete=False) as it:
+                it.write(text)
+            found = chrony.read_chrony(it.name, found)
+            os.remove(it.name)
+        return found
+
+    def test_maxslewrate(self):
+        cases = (("server a\nmaxslewrate 500\n", Decimal(500)), ("server a\n", chrony.SLEW_DEFAULT), ("# maxslewrate 1\nserver a\n", chrony.SLEW_DEFAULT))
+        for text, wanted in cases:
+            self.assertEqual(self.read(text).slew, wanted, text)
+
+    def test_skew_and_dispersion(self):
+        found = self.read(TRACKING)
+        self.assertEqual((found.skew, found.residual, found.error()), (Decimal("0.350"), Decimal("0.010"), Decimal("0.002512")))
+
+    def test_both(self):
+        found = self.read(TRACKING, "makestep 1.0 3\nmaxslewrate 500\n")
+        self.assertEqual((found.skew, found.slew, found.steps), (Decimal("0.350"), Decimal(500), "makestep 1.0 3"))
+
+    def test_what_is_neither_is_refused(self):
+        for text in ("Reference ID    : C0A80001\n", "1,2,3,4,5\n", TRACKING.replace("Normal", "Not synchronised"), "maxslewrate fast\n", ""):
+            with self.assertRaises(ValueError, msg=text):
+                self.read(text)
+
+
+class Text(unittest.TestCase):
+    def declare(self, *words, status=0):
+        ran = subprocess.run([sys.executable, f"{TOOLS}/declare", *words], cwd=EXAMPLES, capture_output=True, text=True)
+        self.assertEqual(ran.returncode, status, ran.stderr)
+        return tomllib.loads(ran.stdout) if ran.stdout else {}, ran.stderr, ran.stdout
+
+    def test_the_captures_of_the_examples(self):
+        found, _, _ = self.declare("left=captures/left.pcap", "right=pcapng/right.pcapng")
+        wanted = {
+            "payload_bytes": 8,
+            "hosts": {"left": {"short": 100_000, "long": 100_011, "early": 0, "late": 2, "addresses": ["10.9.0.1"]},
+                      "right": {"short": 100_000, "long": 100_011, "early": 0, "late": 1_001, "addresses": ["10.9.0.2"]}},
+            "labels": {it: {"host": it, "kind": "capture"} for it in ("left", "right")},
+            "links": [{"from": "left", "to": "right", "least": 1}, {"from": "right", "to": "left", "least": 1}],
+        }  # fmt: skip
+        self.assertEqual(found, wanted)
+
+    def test_every_number_has_a_comment_before_it(self):
+        _, _, text = self.declare("left=captures/left.pcap", "right=pcapng/right.pcapng")
+        lines = text.splitlines()
+        for at, line in enumerate(lines):
+            if line.split(" ")[0] in ("short", "early", "addresses", "payload_bytes"):
+                self.assertTrue(lines[at - 1].startswith("#"), line)
+
+    def test_logs_and_a_second_label_of_a_host(self):
+        found, _, _ = self.declare("web=session/web.csv", "db=session/db.csv", "db.again@db=session/db-again.csv")
+        self.assertEqual((sorted(found["hosts"]), found["labels"]["db.again"], "payload_bytes" in found), (["db", "web"], {"host": "db", "kind": "log"}, False))
+
+    def test_one_capture_alone_says_what_it_cannot_find_out(self):
+        found, said, text = self.declare("left=captures/left.pcap", status=1)
+        self.assertEqual(("addresses" in found["hosts"]["left"], "10.9.0.1 or 10.9.0.2" in said, "NOT FOUND OUT" in text), (False, True, True))
+
+    def test_the_source_and_a_daemon(self):
+        with tempfile.NamedTemporaryFile("w", delete=False) as it:
+            it.write("maxslewrate 500\n")
+        found, _, _ = self.declare("left=captures/left.pcap", "right=captures/right.pcap", "--source", "left", "--chrony", f"right={it.name}")
+        os.remove(it.name)
+        rates = {name: (host["short"], host["long"]) for name, host in found["hosts"].items()}
+        self.assertEqual((found["source"], rates), ("left", {"left": (0, 0), "right": (601_000, 601_362)}))
+
+    def test_a_reference_counts_for_the_rates_of_all_others(self):
+        found, _, _ = self.declare("left=captures/left.pcap", "right=captures/right.pcap", "--reference", "left")
+        rates = {name: (host["short"], host["long"]) for name, host in found["hosts"].items()}
+        self.assertEqual((found["source"], rates), ("left", {"left": (0, 0), "right": (200_000, 200_041)}))
+
+    def test_what_cannot_be_declared(self):
+        cases = ((["left"], 2), (["left=nosuch"], 1), (["le ft=captures/left.pcap"], 1), (["left=captures"], 1), ([], 2), (["--what"], 2),
+                 (["a=captures/left.pcap", "--source", "b"], 1), (["a=captures/hosts.toml"], 1))  # fmt: skip
+        for words, status in cases:
+            self.declare(*words, status=status if words != ["left"] else 1)
+
+    def test_a_path_cannot_break_a_comment(self):
+        with tempfile.TemporaryDirectory() as room:
+            path = f'{room}/x\n[hosts."evil"]'
+            with open(path, "w") as it:
+                it.write("1,local,,\n2,local,,\n5,local,,\n")
+            self.assertEqual(list(self.declare(f"a={path}")[0]["hosts"]), ["a"])
+
+    def test_what_declare_writes_has_no_slip(self):
+        found, _, _ = self.declare("left=captures/left.pcap", "right=pcapng/right.pcapng")
+        told = "\n".join(declaration.told_declaration(found))
+        self.assertFalse("meant" in told or "No link" in told or any(word.isupper() and len(word) > 4 for word in told.split()), told)
+
+
+if __name__ == "__main__":
+    unittest.main()

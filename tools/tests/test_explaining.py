@@ -1,0 +1,147 @@
+"""Replies and declarations are told, and refusals by what is mostly their cause."""
+
+import os
+import tempfile
+import unittest
+from xml.etree import ElementTree
+
+import declaration
+import making_captures as making
+from chain_picture import chain_svg
+from contradiction import Contradiction, told_cycle
+from common import EXAMPLES
+from explaining import Explainer
+from replies import read_cycle, read_problem, split_replies
+
+DECLARED = f"{EXAMPLES}/captures/hosts.toml"
+CYCLE = """certificate 1
+cycle
+step early b#2 3.000000000
+step span-least b 100 300 -199.996000000
+step late b#1 2.000000000
+step delay-least a#1 b#1 -1.000000000
+step early a#1 0.000000000
+step span-most a 50 150 100.002000000
+step late a#2 3.000000000
+step delay-most b#2 a#2 20.000000000
+end"""
+
+
+class Replies(unittest.TestCase):
+    def told(self, line, reply, **known):
+        return Explainer(**known).reply(line, reply.split("\n")).words
+
+    def test_replies(self):
+        cases = (
+            ("interval a#1 b#1", "interval 1000.000000000 2000.500000000", "b#1 came 1 us to 2.001 us after a#1"),
+            ("interval a#1 b#1", "interval -2000.500000000 -1000.000000000", "b#1 came 1 us to 2.001 us before a#1"),
+            ("interval a#1 b#1", "interval -1.000000000 +inf", "b#1 came 1 ns at most before or any time after a#1: which was first is open"),
+            ("interval a#1 b#1", "interval 5.000000000 +inf", "b#1 came 5 ns or more after a#1"),
+            ("order a#1 b#1", "order after", "a#1 came after b#1, whatever happened"),
+            ("keep a#1", "kept 2", "questions about a#1 are answered at once from now on (the 2. of eight that can be kept)"),
+            ("merge", "merge 1\n0.000000000 a#1", "1 event in the order of one execution, the earliest: for two of them ask `order`"),
+            ("time a#1", "time 1795842008123456789.000000000 1795842008123456799.000000000",
+             "by the clock of the source a#1 was between 2026-11-28 05:00:08.123456789 UTC and 2026-11-28 05:00:08.123456799 UTC, 10 ns apart (ns are cut off)"),
+            ("report", '{"ambiguous":[],"consistent":true,"events":3,"messages":1,"nokey":{"short":1,"side":0},"unmatched":0}', "1 message among 3 events; 1 captured too short"),
+            ("add a x", "added events 1 messages 0 withdrawn 0 pending 7 consistent", "a has 1 events more, 0 messages were found, the last 7 bytes are no whole packet and wait for their rest; what was declared can be true of all this"),
+        )  # fmt: skip
+        for line, reply, wanted in cases:
+            self.assertEqual(self.told(line, reply), wanted)
+
+    def test_refusals_by_the_line(self):
+        cases = (
+            ("", "20", "the line is empty"), ("# a", "20", "comments"), ("merge ", "20", "blank too many"), ("merge\r", "20", "carriage return"), ("Merge", "20", "merge is"),
+            ("add a my file", "20", "a path has no blanks"), ("order a#1", "20", "2 words"), ("add web x", "21", "no label web is declared; there are left, right"),
+            ("add a nosuch", "22", "there is no file nosuch"), ("add a ~/x", "22", "no quotes"), (f"add a {EXAMPLES}", "22", "is a folder"), ("order a#01 b#1", "28", "not of the form"),
+            ("order x#1 left#1", "28", "no label x is declared"), ("time left#1", "29", "no source is declared"), ("keep left#1", "30", "eight events"), ("add a x", "27", "1,048,576"),
+        )  # fmt: skip
+        for line, number, wanted in cases:
+            self.assertIn(wanted, self.told(line, f"refused {number}", declaration=DECLARED), line)
+
+    def test_refusals_by_the_file(self):
+        capture = making.classic([(1, making.framed(1, making.udp("10.0.0.1", "10.0.0.2")))])
+        cases = (
+            (b"\x1f\x8b123", "24 1", "compressed by gzip: gunzip"), (b"1,local,,\n", "24 1", 'kind = "log"'), (b"\x00\x01\x02\x03", "24 1", "neither classic pcap nor pcapng"),
+            (capture, "26 1 1", 'kind = "capture"'), (b"1,local,,\n2,SEND,a,\n", "26 2 3", "It is: 2,SEND,a,"), (capture, "25 9", "at byte 9"), (b"\x28\xb5\x2f\xfd", "31 12", "compressed by zstd"),
+        )  # fmt: skip
+        for data, numbers, wanted in cases:
+            with tempfile.NamedTemporaryFile(delete=False) as it:
+                it.write(data)
+            self.assertIn(wanted, self.told(f"add a {it.name}", f"refused {numbers}"), numbers)
+            os.remove(it.name)
+
+    def test_a_second_header_is_told_from_a_file_that_is_added_again(self):
+        path = f"{EXAMPLES}/captures/left.pcap"
+        other = f"{EXAMPLES}/captures/right.pcap"
+        for second, wanted in ((path, "was added before"), (other, "begins with a header of its own")):
+            explainer = Explainer()
+            explainer.reply(f"add left {path}", ["added events 58 messages 0 withdrawn 0 pending 0 consistent"])
+            self.assertIn(wanted, explainer.reply(f"add left {second}", ["refused 25 4636"]).words)
+
+    def test_an_event_that_is_not_there_yet(self):
+        explainer = Explainer(declaration=DECLARED)
+        explainer.reply("add left x", ["added events 58 messages 0 withdrawn 0 pending 0 consistent"])
+        self.assertEqual(explainer.reply("keep left#59", ["refused 28"]).words, "left has 58 events so far")
+
+    def test_replies_are_split_where_they_end(self):
+        lines = ["kept 1", "merge 2", "0.000000000 a#1 end", "1.000000000 a#2", *CYCLE.split("\n"), "problem 1", "end", "order open"]
+        self.assertEqual([len(it) for it in split_replies(lines)], [1, 3, 11, 2, 1])
+
+
+class Contradictions(unittest.TestCase):
+    def test_groups_add_up_to_the_sum(self):
+        steps = read_cycle(CYCLE.split("\n"))
+        found = Contradiction(steps)
+        self.assertEqual(sum(weight for _, weight in found.groups()), sum(it.weight for it in steps))
+
+    def test_words(self):
+        told = "\n".join(told_cycle(CYCLE.split("\n")))
+        for wanted in ("-199.996 ns  b's clock from 100 to 300 showed 200 ns: at least so long", "-72.994 ns  in all", "b's clock, if its rate is off by 364970 ppm more", "the message from b#2 to a#2, if it took 72.994 ns more"):
+            self.assertIn(wanted, told)
+
+    def test_a_picture_has_each_stretch_and_message(self):
+        problem = read_problem(["event a#1 a 50", "event a#2 a 150", "event b#1 b 100", "event b#2 b 300"])
+        steps = read_cycle(CYCLE.split("\n"))
+        texts = [it.text for it in ElementTree.fromstring(chain_svg(steps, problem)).iter() if it.tag.endswith("}text")]
+        for wanted in ("shown as 200 ns, lasts at least 199.996 ns", "shown as 100 ns, lasts at most 100.002 ns", "takes at least 1 ns", "takes at most 20 ns", "b#1", "may be earlier by 3 ns at most"):
+            self.assertIn(wanted, texts)
+
+    def test_a_long_contradiction_has_no_picture(self):
+        self.assertIsNone(chain_svg(read_cycle(CYCLE.split("\n")) * 8, read_problem([])))
+
+    def test_a_delay_below_0_mends_nothing(self):
+        self.assertNotIn("less than its least", "\n".join(told_cycle(CYCLE.split("\n"))))
+
+
+class Declarations(unittest.TestCase):
+    def told(self, **value):
+        return "\n".join(declaration.told_declaration(value))
+
+    def test_slips_are_asked_about(self):
+        host = {"short": 50_000, "long": 50_003, "late": 2}
+        cases = (
+            ({"hosts": {"a": {}}}, "a PERFECT clock"), ({"hosts": {"a": {"short": 50, "long": 51, "late": 2}}}, "is 50_000 meant, 50 ppm?"), ({"hosts": {"a": {"short": 50_000, "late": 2}}}, "`long` is less"),
+            ({"hosts": {"a": {**host, "late": 0}}}, "WITHOUT ANY ERROR"), ({"hosts": {"a": host}, "labels": {"a": {"host": "a", "kind": "capture"}}}, "NO ADDRESS"), ({"hosts": {"a": host, "b": host}}, "No link is declared from a to b"),
+            ({"hosts": {"a": host}, "links": [{"from": "a", "to": "a"}]}, "with `least` 0"), ({"hosts": {"a": host}, "links": [{"from": "a", "to": "a", "least": 5, "most": 4}]}, "IS LESS THAN"), ({"hosts": {"a": host}}, "within 50 ppm"),
+        )  # fmt: skip
+        for value, wanted in cases:
+            self.assertIn(wanted, self.told(**value))
+
+    def test_refusals_name_the_table_and_its_line(self):
+        cases = (
+            ('[hosts.web]\nshort = 1\n[hosts.app]\ndrift = 3\n', 2, "hosts", 1, "line 3: host app: no such key: drift"),
+            ('[hosts.a.example.com]\nshort = 1\n', 2, "hosts", 1, '[hosts."a.example"]'),
+            ('[hosts.a]\naddresses = ["10.0.0.1/24"]\n', 6, "hosts", 1, "no address such as 10.0.0.1: 10.0.0.1/24"),
+            ('[hosts.a]\n[labels.x]\nhost = "b"\nkind = "log"\n', 4, "labels", 1, "line 2: label x: there is no host b"),
+            ('[hosts.a]\n[[links]]\nfrom = "a"\nto = "a"\n[[links]]\nfrom = "a"\nto = "a"\n', 4, "links", 2, "line 5: link 2: an earlier link"),
+            ('source = "b"\n[hosts.a]\n', 7, "top", 0, "source = 'b'"), ("[hosts.a\n", 1, "top", 0, "line 1"), ("payload = 3\n", 2, "top", 0, "another key on top: payload"),
+        )  # fmt: skip
+        for text, number, section, index, wanted in cases:
+            with tempfile.NamedTemporaryFile("w", suffix=".toml", delete=False) as it:
+                it.write(text)
+            self.assertIn(wanted, declaration.refused(it.name, number, section, index))
+            os.remove(it.name)
+
+
+if __name__ == "__main__":
+    unittest.main()
