@@ -37,7 +37,7 @@ impl CaptureStream {
         }
     }
 
-    /// How many bytes came that wait for more: below 2^24.
+    /// How many bytes came that wait for more.
     pub fn pending(&self) -> u32
         ensures { result ≡ length (rest_of self.now) }
     {
