@@ -25,6 +25,7 @@ use Rattle.growth.proofs.Once.{pushed_once}
 use Rattle.growth.proofs.Pushed.{bound_pushed}
 use Rattle.kept_graph.specs.Kept.{KeepsRows}
 use Rattle.kept_graph.specs.Pushing.{Brings}
+use Rattle.kept_graph.proofs.Extending.{extends_itself, extends_then, extends_by_arc}
 
 -- ---- rows
 pub rows_stay : (old new : SolverLists) → KeepsSlots old new → KeepsRows old new
@@ -44,7 +45,7 @@ pub rows_same : (s : SolverLists) → KeepsRows s s
 rows_same s = record { slots = refl; source = refl; count = refl; free = refl }
 
 -- ---- one arc
-on_inside : (g : GraphLists) (k : ℕ) → length g.in_force ≡ length g.arcs → IsOn g k → k < length g.arcs
+pub on_inside : (g : GraphLists) (k : ℕ) → length g.in_force ≡ length g.arcs → IsOn g k → k < length g.arcs
 on_inside g k flags on = elim (cases_lt k (length g.in_force)) [
   | inl inside ↦ omega (arith, inside, flags)
   | inr past ↦ absurd (let none : get_or g.in_force k false ≡ false = get_or_past g.in_force k false past in let z : ⊥ = cc in z)
@@ -73,6 +74,7 @@ brings_one old new a was is current keeps =
       stay = λ k on. subst (λ (h : GraphLists). IsOn h k × (arc_at h.arcs k ≡ arc_at g.arcs k)) (sym is) (stays g a flags k on);
       once = λ rest each. subst (HasEachOnce rest) (sym is) (pushed_once g a flags a.name rest refl each);
       rows = rows_stay old new keeps;
+      extends = extends_by_arc old new a is keeps;
       room = λ n room. room_stays old new n keeps room;
     }
 
@@ -85,6 +87,7 @@ brings_none s current = record {
   stay = λ k on. (on, refl);
   once = λ rest each. each;
   rows = rows_same s;
+  extends = extends_itself s;
   room = λ n room. room;
 }
 
@@ -96,6 +99,7 @@ brings_then xs ys a b c one two = record {
   stay = λ k on. (let x = one.stay k on in let y = two.stay k x.0 in (y.0, y.1 ∙ x.1));
   once = λ rest each. two.once rest (one.once (ys ++ rest) (subst (λ (bs : List Bound). HasEachOnce bs a.graph) (append_assoc xs ys rest) each));
   rows = rows_then a b c one.rows two.rows;
+  extends = extends_then a b c one.extends two.extends;
   room = λ n room. two.room n (one.room n room);
 }
 

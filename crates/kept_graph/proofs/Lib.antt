@@ -1,6 +1,27 @@
 pub mod Bringing
-pub mod Nearest
+pub mod Seeking
+pub mod Orders
 pub mod Entered
 pub mod OneEvent
 pub mod Messages
 pub mod OneMessage
+mod Later
+mod Extending
+pub mod Flags
+pub mod ToldArcs
+pub mod Forgetting
+pub mod Leaving
+mod FewSteps
+mod Roomier
+mod StepInstances
+pub mod Held
+pub mod Carried
+pub mod Alike
+pub mod NewEnds
+pub mod Gaining
+pub mod Pushed
+pub mod InARow
+pub mod Both
+pub mod Staying
+pub mod WholeGraph
+pub mod Changed

@@ -1,5 +1,5 @@
 -- A graph of a problem with other messages.
-use Rattle.std.proofs.Common.{◌≡◌, ◌≢◌, ◌⊎◌, ℕ, List, [], ◌∷◌, ◌++◌, Option, Some, None, Contains, All, AllPairs, refl, ◌∙◌, subst, inl, inr}
+use Rattle.std.proofs.Common.{◌≡◌, ◌≢◌, ◌⊎◌, ℕ, Bool, List, [], ◌∷◌, ◌++◌, Option, Some, None, Contains, All, AllPairs, refl, ◌∙◌, subst, inl, inr}
 use Rattle.std.proofs.lemmas.List.Elements.{All-append, All-cons, All-nil, All-contains, Contains-append_left, Contains-append_right}
 use Rattle.std.proofs.lemmas.List.Kept.{AllPairs-cons}
 use Rattle.problem_model.specs.declared.items.Clock.{Clock}
@@ -15,7 +15,7 @@ use Rattle.problem_model.specs.Bounds.{Constraint, Declares}
 use Rattle.problem_model.specs.ShortList.{message_bounds, most_bound}
 use Rattle.sync_graph.specs.Graph.{GraphLists}
 use Rattle.traces.proofs.Members.{here, none_in, no_pairs}
-use Rattle.growth.specs.Entered.{IsNodeOf, IsDue, all_events}
+use Rattle.growth.specs.Entered.{IsNodeOf, IsDue}
 use Rattle.growth.specs.Growing.{IsGrowing, IsGrownTo, HasBound}
 use Rattle.growth.specs.Once.{HasEachOnce}
 
@@ -53,8 +53,8 @@ differ_by m (Some n) =
 
 -- ---- other messages
 module _ (clocks : List Clock) (events : List Event) (old new : List Message) (left : List Bound) (forth : (m : Message) → Contains old m → Contains new m)
-    (back : (m : Message) → Contains new m → Contains old m ⊎ ((b : Bound) → Contains (message_bounds m) b → Contains left b)) (g : GraphLists)
-    (grown : IsGrownTo (record { clocks = clocks; follows = []; events = events; messages = old }) all_events g) where
+    (back : (m : Message) → Contains new m → Contains old m ⊎ ((b : Bound) → Contains (message_bounds m) b → Contains left b)) (entered : ℕ → Bool) (g : GraphLists)
+    (grown : IsGrownTo (record { clocks = clocks; follows = []; events = events; messages = old }) entered g) where
   abbrev p : ProblemLists
   p = record { clocks = clocks; follows = []; events = events; messages = old }
 
@@ -70,30 +70,30 @@ module _ (clocks : List Clock) (events : List Event) (old new : List Message) (l
   declared (DelayMost send receive) c d = (d.0, d.1, forth d.0 d.2, d.3, d.4, d.5, d.6)
   declared (DelayLeast send receive) c d = (d.0, forth d.0 d.1, d.2, d.3, d.4)
 
-  node_over : (n : Node) → IsNodeOf p all_events n → IsNodeOf q all_events n
+  node_over : (n : Node) → IsNodeOf p entered n → IsNodeOf q entered n
   node_over (nodes.Event v) is = is
   node_over (nodes.Reading clock stamp) is = is
 
-  node_under : (n : Node) → IsNodeOf q all_events n → IsNodeOf p all_events n
+  node_under : (n : Node) → IsNodeOf q entered n → IsNodeOf p entered n
   node_under (nodes.Event v) is = is
   node_under (nodes.Reading clock stamp) is = is
 
-  due_under : (b : Bound) → IsDue q all_events b → IsDue p all_events b ⊎ Contains left b
+  due_under : (b : Bound) → IsDue q entered b → IsDue p entered b ⊎ Contains left b
   due_under (SpanMost clock s t) due = inl (record { first = due.first; second = due.second; rising = due.rising; none = due.none })
   due_under (SpanLeast clock s t) due = inl (record { first = due.first; second = due.second; rising = due.rising; none = due.none })
   due_under (Late v) due = inl due
   due_under (Early v) due = inl due
   due_under (bounds.Follow c s d t) due = absurd due
   due_under (DelayMost send receive) (m, most, is, most_is) = elim (back m is.among) [
-    | inl was ↦ inl (m, most, record { among = was; send_is = is.send_is; receive_is = is.receive_is; send_in = refl; receive_in = refl }, most_is)
+    | inl was ↦ inl (m, most, record { among = was; send_is = is.send_is; receive_is = is.receive_is; send_in = is.send_in; receive_in = is.receive_in }, most_is)
     | inr own ↦ inr (subst (λ (k : ℕ). Contains left (DelayMost send k)) is.receive_is (subst (λ (k : ℕ). Contains left (DelayMost k m.receive)) is.send_is (own (DelayMost m.send m.receive) (most_in m most most_is))))
   ]
   due_under (DelayLeast send receive) (m, is) = elim (back m is.among) [
-    | inl was ↦ inl (m, record { among = was; send_is = is.send_is; receive_is = is.receive_is; send_in = refl; receive_in = refl })
+    | inl was ↦ inl (m, record { among = was; send_is = is.send_is; receive_is = is.receive_is; send_in = is.send_in; receive_in = is.receive_in })
     | inr own ↦ inr (subst (λ (k : ℕ). Contains left (DelayLeast send k)) is.receive_is (subst (λ (k : ℕ). Contains left (DelayLeast k m.receive)) is.send_is (own (DelayLeast m.send m.receive) (least_in m))))
   ]
 
-  pub with_messages : IsGrowing (record { clocks = clocks; follows = []; events = events; messages = new }) all_events left g
+  pub with_messages : IsGrowing (record { clocks = clocks; follows = []; events = events; messages = new }) entered left g
   with_messages = record {
     nodes = λ n has. node_over n (grown.nodes n has);
     every_node = λ n is. grown.every_node n (node_under n is);
@@ -105,7 +105,7 @@ module _ (clocks : List Clock) (events : List Event) (old new : List Message) (l
   }
 
 -- ---- a message that comes: its bounds are not in force, and no two of them are one
-module _ (p : ProblemLists) (g : GraphLists) (grown : IsGrownTo p all_events g) (m : Message) (fresh : (n : Message) → Contains p.messages n → n.send ≢ m.send) where
+module _ (p : ProblemLists) (entered : ℕ → Bool) (g : GraphLists) (grown : IsGrownTo p entered g) (m : Message) (fresh : (n : Message) → Contains p.messages n → n.send ≢ m.send) where
   not_yet : (b : Bound) → OfMessage m b → HasBound g b → ⊥
   not_yet b (inl is) (a, force, name) =
       let own = grown.each a force in

@@ -1,9 +1,9 @@
--- One event enters: all that holds of the roster and the graph behind it.
-use Rattle.std.proofs.Common.{◌≡◌, ◌≢◌, ◌⊎◌, ◌<◌, ◌≤◌, ◌+◌, ℕ, zero, suc, Bool, true, false, List, [], ◌∷◌, ◌++◌, Option, Some, None, length, map, get_or, set, slice_get, Contains, refl, sym, ◌∙◌, ap, subst, arith, inl, inr, length-append}
-use Rattle.std.specs.Prelude.{IfSome, slice_set}
+-- One event of a roster enters: all that holds of the roster and the graph behind it.
+use Rattle.std.proofs.Common.{◌≡◌, ◌≢◌, ◌⊎◌, ◌<◌, ◌≤◌, ◌+◌, ◌==◌, ◌||◌, ℕ, zero, suc, Bool, true, false, List, [], ◌∷◌, ◌++◌, Option, Some, None, length, map, get_or, set, slice_get, Contains, refl, sym, ◌∙◌, ap, subst, arith, inl, inr, length-append}
+use Rattle.std.specs.Prelude.{IfSome}
 use Rattle.std.proofs.lemmas.Bool.{cases_Bool, cases_eq}
-use Rattle.std.specs.List.{range_with_len}
-use Rattle.std.proofs.lemmas.List.{length-map, length-set, get_or-set_same, get_or-set_other}
+use Rattle.std.proofs.lemmas.List.{length-set, get_or-set_same, get_or-set_other}
+use Rattle.std.proofs.lemmas.List.Elements.{All-nil}
 use Rattle.std.proofs.lemmas.Option.{none-some, same_Some, slice_get_within, get_or_from_slice_get}
 use Rattle.problem_model.specs.declared.items.Clock.{Clock}
 use Rattle.problem_model.specs.declared.items.Event.{Event}
@@ -21,28 +21,29 @@ use Rattle.sync_graph.specs.Graph.{GraphLists, arc_at, with_node}
 use Rattle.sync_graph.specs.Standing.{HasNode}
 use Rattle.engine.specs.Solver.{SolverLists, HasRoom, with_new_node}
 use Rattle.trace_event.specs.Seen.{Seen}
-use Rattle.traces.specs.declared.event.EventId.{EventId}
 use Rattle.traces.specs.Traces.{clock_of}
+use Rattle.traces.proofs.Members.{no_pairs}
 use Rattle.trace_problem.proofs.Lists.{place_in}
 use Rattle.roster.specs.declared.came.Came.{Came}
 use Rattle.roster.specs.Groups.{group_at}
-use Rattle.roster.specs.Readings.{Stamped, HasStamp, IsLastUnder, IsFirstOver}
-use Rattle.roster.specs.Roster.{RosterLists, IsRoster, IsUnder, Holds, IsGrown, SetsReading, event_at, id_of, no_event}
+use Rattle.roster.specs.Readings.{Stamped, HasStamp}
+use Rattle.roster.specs.Roster.{RosterLists, IsRoster, Holds, SetsReading, event_at, id_of, no_event}
 use Rattle.roster.proofs.Pushing.{get_left, get_right, get_cases}
-use Rattle.roster.proofs.Holding.{holds_more}
 use Rattle.roster.proofs.Telling.{among, set_here, set_elsewhere, holds_still, holds_restamped}
-use Rattle.growth.specs.Entered.{all_events, events_below, and_event}
+use Rattle.growth.specs.Entered.{and_event}
 use Rattle.growth.specs.Growing.{IsGrowing, IsGrownTo}
-use Rattle.growth.specs.Entering.{Enters, AreNearest, span_below, span_above}
-use Rattle.growth.specs.Once.{IsOn, HasEachOnce}
-use Rattle.growth.specs.Rosters.{named_event, problem_by_number, KnowsNodes}
+use Rattle.growth.specs.Entering.{Enters, AreMessagesOf, AreNearest, IsStampBelow, IsStampAbove, span_below, span_above}
+use Rattle.growth.specs.Once.{IsOn, HasEachOnce, AreApart}
+use Rattle.growth.specs.Rosters.{named_event, problem_by_number}
+use Rattle.growth.proofs.Entry.{entered_now}
 use Rattle.growth.proofs.Loop.{event_enters, both_enter}
-use Rattle.kept_graph.specs.Kept.{TellsMessages}
+use Rattle.growth.proofs.Once.{entered_once}
+use Rattle.kept_graph.specs.Kept.{KnowsMessages, KeepsRows}
 use Rattle.kept_graph.specs.Pushing.{Brings}
-use Rattle.kept_graph.specs.Growing.{Gains}
-use Rattle.kept_graph.specs.UnderWay.{IsUnderWay}
-use Rattle.kept_graph.proofs.Nearest.{map_back, nearest_is, under_there, over_there, own_shown, entry_left, entry_once, all_in}
-use Rattle.kept_graph.proofs.Entered.{ends_below, grown_before, told_named, knows_still, knows_new, tells_still}
+use Rattle.kept_graph.specs.Growing.{KeepsNodesThere}
+use Rattle.kept_graph.specs.UnderWay.{KnowsNodesThere, IsEntering}
+use Rattle.kept_graph.specs.Coming.{HaveCome}
+use Rattle.kept_graph.proofs.Entered.{map_back, told_named, tells_still, one_place}
 
 pub none_behind : {X : Type 0} (xs : List X) → xs ++ [] ≡ xs
 none_behind [] = refl
@@ -72,22 +73,6 @@ set_keeps readings clock place was now c t at has apart = elim (cases_eq c clock
     inside_of (x ∷ rs) zero j s at' = omega arith
     inside_of (x ∷ rs) (suc k) j s at' = (let inside = inside_of rs k j s at' in omega (arith, inside))
 
--- what a group has it has with more behind one of them
-group_more : (groups : List (List ℕ)) (label : ℕ) (more : List ℕ) (l k w : ℕ) → slice_get (group_at groups l) k ≡ Some w → slice_get (group_at (set groups label (group_at groups label ++ more)) l) k ≡ Some w
-group_more groups label more l k w at = elim (cases_eq l label) [
-  | inl same ↦ (
-      let at' : slice_get (group_at groups label) k ≡ Some w = subst (λ (j : ℕ). slice_get (group_at groups j) k ≡ Some w) same at in
-      let inside : label < length groups = inside_of groups label k w at' in
-      ap (λ (j : ℕ). slice_get (group_at (set groups label (group_at groups label ++ more)) j) k) same
-      ∙ ap (λ (g : List ℕ). slice_get g k) (get_or-set_same groups label (group_at groups label ++ more) [] inside) ∙ get_left (group_at groups label) more k w at')
-  | inr other ↦ ap (λ (g : List ℕ). slice_get g k) (get_or-set_other groups label l (group_at groups label ++ more) [] other) ∙ at
-]
-  where
-    inside_of : (rs : List (List ℕ)) (k j : ℕ) (s : ℕ) → slice_get (group_at rs k) j ≡ Some s → k < length rs
-    inside_of [] k j s at' = absurd (none-some s at')
-    inside_of (x ∷ rs) zero j s at' = omega arith
-    inside_of (x ∷ rs) (suc k) j s at' = (let inside = inside_of rs k j s at' in omega (arith, inside))
-
 -- the node of a reading is not there for an event
 pub reading_new : (s s1 : SolverLists) (v place stamp : ℕ) → s1 ≡ with_new_node s (nodes.Event v) → (HasNode s.graph (nodes.Reading place stamp) → ⊥) → (k : ℕ) → slice_get s1.graph.nodes k ≡ Some (nodes.Reading place stamp) → ⊥
 reading_new s s1 v place stamp is fresh k at =
@@ -107,283 +92,375 @@ room_two s s1 s2 true v place stamp is same new n room = subst (HasRoom n) (sym 
 room_two s s1 s2 false v place stamp is same new n room =
     subst (HasRoom n) (sym (new refl)) (subst (λ (z : SolverLists). HasRoom n (with_new_node z (nodes.Reading place stamp))) (sym is) (record { rows = room.rows; found = room.found; front = room.front }))
 
--- the event that comes
-abbrev pub comer : RosterLists → ℕ → ℕ → Came
-comer r label stamp = record { stamp = stamp; label = label; number = length (group_at r.under label) + 1; node = 0; partner = None }
+or_right : (a b : Bool) → b ≡ true → (a || b) ≡ true
+or_right true b is = refl
+or_right false b is = is
 
-module _ (old new : RosterLists) (is : IsRoster old) (is' : IsRoster new) (label stamp : ℕ) (more : IsGrown old new label (stamp ∷ [])) (messages : List Message) (s : SolverLists) (way : IsUnderWay messages old s) where
-  abbrev v : ℕ
-  v = length old.came
+-- a stamp of a clock's nodes is one that the clock has shown
+pub nodes_shown : (r : RosterLists) (is : IsRoster r) (entered : ℕ → Bool) (messages : List Message) (s : SolverLists) → IsEntering entered messages r s → (c t : ℕ) → HasNode s.graph (nodes.Reading c t) → HasStamp (group_at r.readings c) t
+nodes_shown r is entered messages s way c t has =
+    let read = way.grown.nodes (nodes.Reading c t) has in
+    let y = map_back (named_event r.declaration) r.came read.0 read.1 read.2.0 in
+    is.on_clocks.every c t (y.0, among r.came read.0 y.0 y.1, ap (λ (z : Event). z.clock) y.2 ∙ read.3, ap (λ (z : Event). z.stamp) y.2 ∙ read.4)
 
-  abbrev e : Came
-  e = comer old label stamp
+module _ (r : RosterLists) (is : IsRoster r) (v : ℕ) (e : Came) (at : slice_get r.came v ≡ Some e) (s : SolverLists) (absent : HasNode s.graph (nodes.Event v) → ⊥) (place : ℕ) (place_is : clock_of r.declaration (id_of e) ≡ place) where
+  abbrev stamp : ℕ
+  stamp = e.stamp
 
-  pub comes_at : slice_get new.came (length old.came) ≡ Some (comer old label stamp)
-  comes_at = ap (λ (cs : List Came). slice_get cs v) more.came ∙ get_right old.came (e ∷ []) v 0 (omega arith)
+  inside : v < length r.came
+  inside = slice_get_within r.came v e at
 
-  pub comes_last : length new.came ≡ suc (length old.came)
-  comes_last = ap length more.came ∙ length-append old.came (e ∷ []) ∙ (let z : v + 1 ≡ suc v = omega arith in z)
+  pub own_shown : HasStamp (group_at r.readings place) e.stamp
+  own_shown = subst (λ (k : ℕ). HasStamp (group_at r.readings k) stamp) place_is (is.on_clocks.every (clock_of r.declaration (id_of e)) stamp (e, among r.came v e at, refl, refl))
 
-  pub before_is : IsGrownTo (problem_by_number new messages) (events_below (length old.came)) s.graph
-  before_is = grown_before old new label (stamp ∷ []) more messages s.graph way.grown.grown
+  abbrev x : Event
+  x = named_event r.declaration e
 
-  ends : (m : Message) → Contains messages m → (m.send < length old.came) × (m.receive < length old.came)
-  ends m has = ends_below old messages s.graph way.grown m has
+  event_is : (messages : List Message) → EventAt (problem_by_number r messages) v x
+  event_is messages = map_at (named_event r.declaration) r.came v e at
 
-  pub event_new : (k : ℕ) → slice_get s.graph.nodes k ≡ Some (nodes.Event (length old.came)) → ⊥
-  event_new k at =
-      let x = way.grown.grown.nodes (nodes.Event v) (k, at) in
-      let inside : v < length (map (named_event old.declaration) old.came) = slice_get_within (map (named_event old.declaration) old.came) v x.0 x.1.0 in
-      omega (arith, inside, length-map old.came (named_event old.declaration))
+  -- the bounds of the entry, on a clock
+  abbrev own_bounds : ℕ → Option ℕ → Option ℕ → List Bound
+  own_bounds c o u = span_below c stamp o ++ (span_above c stamp u ++ (Late v ∷ Early v ∷ []))
 
-  module _ (place : ℕ) (place_is : clock_of new.declaration (id_of (comer old label stamp)) ≡ place) where
-    pub shown_at : HasStamp (group_at new.readings place) stamp
-    shown_at = subst (λ (k : ℕ). HasStamp (group_at new.readings k) stamp) place_is (own_shown new is' messages v e comes_at comes_last s.graph before_is)
+  abbrev there_on : ℕ → Type 0
+  there_on c = HasNode s.graph (nodes.Reading c e.stamp)
 
-    abbrev x : Event
-    x = named_event new.declaration e
+  module _ (known : Bool) (o u : Option ℕ) (has : known ≡ true → HasNode s.graph (nodes.Reading place e.stamp)) (fresh : known ≡ false → HasNode s.graph (nodes.Reading place e.stamp) → ⊥)
+      (none : known ≡ true → o ≡ None) (under : known ≡ false → IsStampBelow s.graph place e.stamp o)
+      (none' : known ≡ true → u ≡ None) (over : known ≡ false → IsStampAbove s.graph place e.stamp u) where
+    abbrev AreNearestOn : ℕ → Type 0
+    AreNearestOn c = (there_on c × (o ≡ None) × (u ≡ None)) ⊎ ((there_on c → ⊥) × IsStampBelow s.graph c stamp o × IsStampAbove s.graph c stamp u)
 
-    -- the bounds of the entry, on a clock
-    abbrev own_bounds : ℕ → Option ℕ → Option ℕ → List Bound
-    own_bounds c o u = span_below c stamp o ++ (span_above c stamp u ++ (Late v ∷ Early v ∷ []))
+    near_on : AreNearestOn place
+    near_on = elim (cases_Bool known) [
+      | inl k ↦ inl (has k, none k, none' k)
+      | inr k ↦ inr (fresh k, under k, over k)
+    ]
 
-    abbrev there_on : ℕ → Type 0
-    there_on c = HasNode s.graph (nodes.Reading c stamp)
+    near : AreNearest s.graph x o u
+    near = subst AreNearestOn (sym place_is) near_on
 
-    was_shown : (c t : ℕ) → HasNode s.graph (nodes.Reading c t) → HasStamp (group_at old.readings c) t
-    was_shown c t has =
-        let read = way.grown.grown.nodes (nodes.Reading c t) has in
-        let y = map_back (named_event old.declaration) old.came read.0 read.1 read.2.0 in
-        is.on_clocks.every c t (y.0, among old.came read.0 y.0 y.1, ap (λ (z : Event). z.clock) y.2 ∙ read.3, ap (λ (z : Event). z.stamp) y.2 ∙ read.4)
+    below_there : (o' : Option ℕ) → o ≡ o' → IfSome o' (λ t. (t < stamp) × HasNode s.graph (nodes.Reading place t))
+    below_there None same = tt
+    below_there (Some t) same = elim (cases_Bool known) [
+      | inl k ↦ absurd (let z : None ≡ Some t = sym (none k) ∙ same in let y : ⊥ = cc in y)
+      | inr k ↦ (let told : IsStampBelow s.graph place stamp (Some t) = subst (IsStampBelow s.graph place stamp) same (under k) in (told.1, told.0))
+    ]
 
-    module _ (known : Bool) (o u : Option ℕ) (has : known ≡ true → HasNode s.graph (nodes.Reading place stamp)) (fresh : known ≡ false → HasNode s.graph (nodes.Reading place stamp) → ⊥)
-        (none : known ≡ true → o ≡ None) (under : known ≡ false → IsLastUnder (group_at new.readings place) stamp o)
-        (none' : known ≡ true → u ≡ None) (over : known ≡ false → IsFirstOver (group_at new.readings place) stamp u) where
-      near : AreNearest s.graph x o u
-      near =
-          subst (λ (c : ℕ). (known ≡ true → there_on c) → (known ≡ false → there_on c → ⊥) → (known ≡ true → o ≡ None) → (known ≡ false → IsLastUnder (group_at new.readings c) stamp o)
-          → (known ≡ true → u ≡ None) → (known ≡ false → IsFirstOver (group_at new.readings c) stamp u) → AreNearest s.graph x o u) place_is
-          (λ a b c' d f g'. nearest_is new is' messages v e comes_at comes_last s.graph before_is known o u a b c' d f g') has fresh none under none' over
+    above_there : (u' : Option ℕ) → u ≡ u' → IfSome u' (λ t. (stamp < t) × HasNode s.graph (nodes.Reading place t))
+    above_there None same = tt
+    above_there (Some t) same = elim (cases_Bool known) [
+      | inl k ↦ absurd (let z : None ≡ Some t = sym (none' k) ∙ same in let y : ⊥ = cc in y)
+      | inr k ↦ (let told : IsStampAbove s.graph place stamp (Some t) = subst (IsStampAbove s.graph place stamp) same (over k) in (told.1, told.0))
+    ]
 
-      below_there : IfSome o (λ t. (t < stamp) × HasNode s.graph (nodes.Reading place t))
-      below_there = subst (λ (c : ℕ). IfSome o (λ t. (t < stamp) × HasNode s.graph (nodes.Reading c t))) place_is (under_there new is' messages v e comes_at comes_last s.graph before_is o u near)
+    -- ---- nodes that come
+    module _ (s1 s2 : SolverLists) (event_pushed : s1 ≡ with_new_node s (nodes.Event v)) (same_is : known ≡ true → s2 ≡ s1) (reading_is : known ≡ false → s2 ≡ with_new_node s1 (nodes.Reading place e.stamp)) where
+      graph_of_event : s1.graph ≡ with_node s.graph (nodes.Event v)
+      graph_of_event = ap (λ (z : SolverLists). z.graph) event_pushed
 
-      above_there : IfSome u (λ t. (stamp < t) × HasNode s.graph (nodes.Reading place t))
-      above_there = subst (λ (c : ℕ). IfSome u (λ t. (stamp < t) × HasNode s.graph (nodes.Reading c t))) place_is (over_there new is' messages v e comes_at comes_last s.graph before_is o u near)
+      graph_known : known ≡ true → s2.graph ≡ with_node s.graph (nodes.Event v)
+      graph_known k = ap (λ (z : SolverLists). z.graph) (same_is k) ∙ graph_of_event
 
-      -- ---- nodes that come
-      module _ (s1 s2 : SolverLists) (event_is : s1 ≡ with_new_node s (nodes.Event (length old.came))) (same_is : known ≡ true → s2 ≡ s1) (reading_is : known ≡ false → s2 ≡ with_new_node s1 (nodes.Reading place stamp)) where
-        graph_of_event : s1.graph ≡ with_node s.graph (nodes.Event v)
-        graph_of_event = ap (λ (z : SolverLists). z.graph) event_is
+      graph_new : known ≡ false → s2.graph ≡ with_node (with_node s.graph (nodes.Event v)) (nodes.Reading place stamp)
+      graph_new k = ap (λ (z : SolverLists). z.graph) (reading_is k) ∙ ap (λ (h : GraphLists). with_node h (nodes.Reading place stamp)) graph_of_event
 
-        graph_known : known ≡ true → s2.graph ≡ with_node s.graph (nodes.Event v)
-        graph_known k = ap (λ (z : SolverLists). z.graph) (same_is k) ∙ graph_of_event
+      enters : Enters v x s.graph s2.graph
+      enters = elim (cases_Bool known) [
+        | inl k ↦ subst (Enters v x s.graph) (sym (graph_known k)) (event_enters v x s.graph (subst there_on (sym place_is) (has k)))
+        | inr k ↦ subst (Enters v x s.graph) (sym (graph_new k) ∙ refl) (subst (λ (c : ℕ). Enters v x s.graph (with_node (with_node s.graph (nodes.Event v)) (nodes.Reading c stamp))) place_is (both_enter v x s.graph))
+      ]
 
-        graph_new : known ≡ false → s2.graph ≡ with_node (with_node s.graph (nodes.Event v)) (nodes.Reading place stamp)
-        graph_new k = ap (λ (z : SolverLists). z.graph) (reading_is k) ∙ ap (λ (h : GraphLists). with_node h (nodes.Reading place stamp)) graph_of_event
+      pub entered_event : HasNode s2.graph (nodes.Event v)
+      entered_event = enters.event
 
-        enters : Enters v x s.graph s2.graph
-        enters = elim (cases_Bool known) [
-          | inl k ↦ subst (Enters v x s.graph) (sym (graph_known k)) (event_enters v x s.graph (subst (λ (c : ℕ). there_on c) (sym place_is) (has k)))
-          | inr k ↦ subst (Enters v x s.graph) (sym (graph_new k) ∙ refl) (subst (λ (c : ℕ). Enters v x s.graph (with_node (with_node s.graph (nodes.Event v)) (nodes.Reading c stamp))) place_is (both_enter v x s.graph))
+      pub entered_reading : HasNode s2.graph (nodes.Reading place e.stamp)
+      entered_reading = subst (λ (c : ℕ). HasNode s2.graph (nodes.Reading c stamp)) place_is enters.reading
+
+      pub over_kept : (n : Node) → HasNode s.graph n → HasNode s2.graph n
+      over_kept n (k, at') = (k, enters.kept k n at')
+
+      pub entered_below : IfSome o (λ t. (t < e.stamp) × HasNode s2.graph (nodes.Reading place t))
+      entered_below = some_weaker o (λ t. (t < stamp) × HasNode s.graph (nodes.Reading place t)) (λ t. (t < stamp) × HasNode s2.graph (nodes.Reading place t)) (λ t (less, at'). (less, over_kept (nodes.Reading place t) at')) (below_there o refl)
+
+      pub entered_above : IfSome u (λ t. (e.stamp < t) × HasNode s2.graph (nodes.Reading place t))
+      entered_above = some_weaker u (λ t. (stamp < t) × HasNode s.graph (nodes.Reading place t)) (λ t. (stamp < t) × HasNode s2.graph (nodes.Reading place t)) (λ t (more', at'). (more', over_kept (nodes.Reading place t) at')) (above_there u refl)
+
+      event_long : length s1.graph.nodes ≡ length s.graph.nodes + 1
+      event_long = ap (λ (h : GraphLists). length h.nodes) graph_of_event ∙ length-append s.graph.nodes (nodes.Event v ∷ [])
+
+      pub both_long : length s2.graph.nodes ≤ length s.graph.nodes + 2
+      both_long = elim (cases_Bool known) [
+        | inl k ↦ (let same = ap (λ (z : SolverLists). length z.graph.nodes) (same_is k) in omega (arith, same, event_long))
+        | inr k ↦ (
+            let next : length s2.graph.nodes ≡ length s1.graph.nodes + 1 = ap (λ (z : SolverLists). length z.graph.nodes) (reading_is k) ∙ length-append s1.graph.nodes (nodes.Reading place stamp ∷ []) in
+            omega (arith, next, event_long))
+      ]
+
+      pub entered_arcs : length s2.graph.arcs ≡ length s.graph.arcs
+      entered_arcs = ap (λ (as' : List Arc). length as') enters.arcs
+
+      -- ---- what the roster is told
+      module _ (r2 r3 : RosterLists) (told_at : r2 ≡ record r { came = set r.came v (record (event_at r.came v) { node = length s.graph.nodes }) })
+          (same_roster : known ≡ true → r3 ≡ r2) (sets : known ≡ false → SetsReading r2 r3 place e.stamp (length s1.graph.nodes)) where
+        abbrev f : Came
+        f = record e { node = length s.graph.nodes }
+
+        told : r2 ≡ record r { came = set r.came v (record e { node = length s.graph.nodes }) }
+        told =
+            told_at ∙ ap (λ (z : Came). let a : RosterLists = record r { came = set r.came v (record z { node = length s.graph.nodes }) } in a) (get_or_from_slice_get r.came v e no_event at)
+
+        -- the parts but for readings are those of r2
+        part : {X : Type 0} (p : RosterLists → X) → ((a : RosterLists) (rs : List (List Stamped)) → p (record a { readings = rs }) ≡ p a) → p r3 ≡ p r2
+        part p alike = elim (cases_Bool known) [
+          | inl k ↦ ap p (same_roster k)
+          | inr k ↦ ap p (sets k).is ∙ alike r2 (set r2.readings place (set (group_at r2.readings place) (sets k).place (stamp, length s1.graph.nodes)))
         ]
 
-        pub entered_event : HasNode s2.graph (nodes.Event (length old.came))
-        entered_event = enters.event
+        came_is : r3.came ≡ set r.came v f
+        came_is = part (λ (a : RosterLists). a.came) (λ a rs. refl) ∙ ap (λ (a : RosterLists). a.came) told
 
-        pub entered_reading : HasNode s2.graph (nodes.Reading place stamp)
-        entered_reading = subst (λ (c : ℕ). HasNode s2.graph (nodes.Reading c stamp)) place_is enters.reading
+        declaration_is : r3.declaration ≡ r.declaration
+        declaration_is = part (λ (a : RosterLists). a.declaration) (λ a rs. refl) ∙ ap (λ (a : RosterLists). a.declaration) told
 
-        over_kept : (n : Node) → HasNode s.graph n → HasNode s2.graph n
-        over_kept n (k, at) = (k, enters.kept k n at)
+        under_is : r3.under ≡ r.under
+        under_is = part (λ (a : RosterLists). a.under) (λ a rs. refl) ∙ ap (λ (a : RosterLists). a.under) told
 
-        pub entered_below : IfSome o (λ t. (t < stamp) × HasNode s2.graph (nodes.Reading place t))
-        entered_below = some_weaker o (λ t. (t < stamp) × HasNode s.graph (nodes.Reading place t)) (λ t. (t < stamp) × HasNode s2.graph (nodes.Reading place t)) (λ t (less, at). (less, over_kept (nodes.Reading place t) at)) below_there
+        long : length r3.came ≡ length r.came
+        long = ap (λ (cs : List Came). length cs) came_is ∙ length-set r.came v f
 
-        pub entered_above : IfSome u (λ t. (stamp < t) × HasNode s2.graph (nodes.Reading place t))
-        entered_above = some_weaker u (λ t. (stamp < t) × HasNode s.graph (nodes.Reading place t)) (λ t. (stamp < t) × HasNode s2.graph (nodes.Reading place t)) (λ t (more', at). (more', over_kept (nodes.Reading place t) at)) above_there
+        problem_same : (messages : List Message) → problem_by_number r3 messages ≡ problem_by_number r messages
+        problem_same messages =
+            ap (λ (d : Declaration). let p : ProblemLists = record { clocks = d.clocks; follows = []; events = map (named_event d) r3.came; messages = messages } in p) declaration_is
+            ∙ ap (λ (cs : List Came). let p : ProblemLists = record { clocks = r.declaration.clocks; follows = []; events = map (named_event r.declaration) cs; messages = messages } in p) came_is
+            ∙ ap (λ (es : List Event). let p : ProblemLists = record { clocks = r.declaration.clocks; follows = []; events = es; messages = messages } in p) (told_named r.declaration r.came v e f at refl)
 
-        event_long : length s1.graph.nodes ≡ length s.graph.nodes + 1
-        event_long = ap (λ (h : GraphLists). length h.nodes) graph_of_event ∙ length-append s.graph.nodes (nodes.Event v ∷ [])
+        told_here : slice_get r3.came v ≡ Some f
+        told_here = ap (λ (cs : List Came). slice_get cs v) came_is ∙ set_here r.came v f inside
 
-        both_long : length s2.graph.nodes ≤ length s.graph.nodes + 2
-        both_long = elim (cases_Bool known) [
-          | inl k ↦ (let same = ap (λ (z : SolverLists). length z.graph.nodes) (same_is k) in omega (arith, same, event_long))
+        told_other : (w : ℕ) → w ≢ v → slice_get r3.came w ≡ slice_get r.came w
+        told_other w other = ap (λ (cs : List Came). slice_get cs w) came_is ∙ set_elsewhere r.came v w f other
+
+        sets_own : known ≡ false → SetsReading (record r { came = set r.came v f }) r3 place stamp (length s1.graph.nodes)
+        sets_own k = subst (λ (a : RosterLists). SetsReading a r3 place stamp (length s1.graph.nodes)) told (sets k)
+
+        readings_kept : (c : ℕ) (t : Stamped) → Contains (group_at r.readings c) t → HasNode s.graph (nodes.Reading c t.0) → Contains (group_at r3.readings c) t
+        readings_kept c t has' there = elim (cases_Bool known) [
+          | inl k ↦ subst (λ (a : RosterLists). Contains (group_at a.readings c) t) (sym (same_roster k ∙ told)) has'
           | inr k ↦ (
-              let next : length s2.graph.nodes ≡ length s1.graph.nodes + 1 = ap (λ (z : SolverLists). length z.graph.nodes) (reading_is k) ∙ length-append s1.graph.nodes (nodes.Reading place stamp ∷ []) in
-              omega (arith, next, event_long))
+              let own = sets_own k in
+              subst (λ (a : RosterLists). Contains (group_at a.readings c) t) (sym own.is)
+              (set_keeps r.readings place own.place (stamp, own.was) (stamp, length s1.graph.nodes) c t own.there has'
+              (λ on same. fresh k
+              (subst (λ (n : ℕ). HasNode s.graph (nodes.Reading place n)) (ap (λ (z : Stamped). z.0) same)
+              (subst (λ (j : ℕ). HasNode s.graph (nodes.Reading j t.0)) on there)))))
         ]
 
-        pub entered_arcs : length s2.graph.arcs ≡ length s.graph.arcs
-        entered_arcs = ap (λ (as' : List Arc). length as') enters.arcs
+        holds_kept : (seen : List (List Seen)) → Holds r seen → Holds r3 seen
+        holds_kept seen holds =
+            let held : Holds r2 seen = subst (λ (a : RosterLists). Holds a seen) (sym told) (holds_still r seen v f (ap (λ (z : Came). z.stamp) (sym (get_or_from_slice_get r.came v e no_event at))) holds) in
+            elim (cases_Bool known) [
+              | inl k ↦ subst (λ (a : RosterLists). Holds a seen) (sym (same_roster k)) held
+              | inr k ↦ holds_restamped r2 r3 place stamp (length s1.graph.nodes) seen (sets k) held
+            ]
 
-        -- ---- what the roster is told
-        module _ (r2 r3 : RosterLists) (f : Came) (f_is : f ≡ record e { node = length s.graph.nodes }) (told : r2 ≡ record new { came = set new.came (length old.came) f })
-            (same_roster : known ≡ true → r3 ≡ r2) (sets : known ≡ false → SetsReading r2 r3 place stamp (length s1.graph.nodes)) where
-          came_is : r3.came ≡ set new.came v f
-          came_is = elim (cases_Bool known) [
-            | inl k ↦ ap (λ (r : RosterLists). r.came) (same_roster k ∙ told)
-            | inr k ↦ ap (λ (r : RosterLists). r.came) (sets k).is ∙ ap (λ (r : RosterLists). r.came) told
-          ]
+        pub keeps : KeepsNodesThere s.graph r r3
+        keeps = record {
+          declaration = declaration_is;
+          count = long;
+          under = under_is;
+          events = λ w y at' there. (y, told_other w (λ same. absent (subst (λ (n : ℕ). HasNode s.graph (nodes.Event n)) same there)) ∙ at', refl, refl, refl, refl);
+          readings = readings_kept;
+          holds = holds_kept;
+        }
 
-          pub declaration_is : r3.declaration ≡ old.declaration
-          declaration_is = elim (cases_Bool known) [
-            | inl k ↦ ap (λ (r : RosterLists). r.declaration) (same_roster k ∙ told) ∙ more.declaration
-            | inr k ↦ ap (λ (r : RosterLists). r.declaration) (sets k).is ∙ ap (λ (r : RosterLists). r.declaration) told ∙ more.declaration
-          ]
+        -- ---- behind the bounds
+        module _ (s3 : SolverLists) (brings : Brings (span_below place e.stamp o ++ (span_above place e.stamp u ++ (Late v ∷ Early v ∷ []))) s2 s3) (clock : Clock) (clock_is : slice_get r.declaration.clocks place ≡ Some clock)
+            (left : (p : ProblemLists) (flags : ℕ → Bool) (y : Event) → EventAt p v y → y.clock ≡ place → y.stamp ≡ e.stamp → ClockAt p place clock
+            → IsGrowing p flags (span_below place e.stamp o ++ (span_above place e.stamp u ++ (Late v ∷ Early v ∷ []))) s2.graph → IsGrowing p flags [] s3.graph) where
+          kept_at : (k : ℕ) (n : Node) → slice_get s.graph.nodes k ≡ Some n → slice_get s3.graph.nodes k ≡ Some n
+          kept_at k n at' = ap (λ (ns : List Node). slice_get ns k) brings.nodes ∙ enters.kept k n at'
 
-          under_is : r3.under ≡ new.under
-          under_is = elim (cases_Bool known) [
-            | inl k ↦ ap (λ (r : RosterLists). r.under) (same_roster k ∙ told)
-            | inr k ↦ ap (λ (r : RosterLists). r.under) (sets k).is ∙ ap (λ (r : RosterLists). r.under) told
-          ]
+          pub stands : HasNode s3.graph (nodes.Event v)
+          stands = (let two = enters.event in (two.0, ap (λ (ns : List Node). slice_get ns two.0) brings.nodes ∙ two.1))
 
-          long : length r3.came ≡ suc v
-          long = ap (λ (cs : List Came). length cs) came_is ∙ length-set new.came v f ∙ comes_last
-
-          named_same : named_event new.declaration f ≡ x
-          named_same = ap (λ (z : Came). named_event new.declaration z) f_is
-
-          problem_same : problem_by_number r3 messages ≡ problem_by_number new messages
-          problem_same =
-              ap (λ (d : Declaration). let p : ProblemLists = record { clocks = d.clocks; follows = []; events = map (named_event d) r3.came; messages = messages } in p) (declaration_is ∙ sym more.declaration)
-              ∙ ap (λ (cs : List Came). let p : ProblemLists = record { clocks = new.declaration.clocks; follows = []; events = map (named_event new.declaration) cs; messages = messages } in p) came_is
-              ∙ ap (λ (es : List Event). let p : ProblemLists = record { clocks = new.declaration.clocks; follows = []; events = es; messages = messages } in p) (told_named new.declaration new.came v e f comes_at named_same)
-
-          -- an event before has what it had, and the one that comes has no partner
-          before_same : (w : ℕ) (y : Came) → slice_get old.came w ≡ Some y → slice_get r3.came w ≡ Some y
-          before_same w y at =
-              let inside = slice_get_within old.came w y at in
-              ap (λ (cs : List Came). slice_get cs w) came_is ∙ set_elsewhere new.came v w f (λ same. omega (arith, inside, same)) ∙ ap (λ (cs : List Came). slice_get cs w) more.came ∙ get_left old.came (e ∷ []) w y at
-
-          after_same : (w : ℕ) (y : Came) → slice_get r3.came w ≡ Some y → slice_get old.came w ≡ Some y ⊎ (y.partner ≡ None)
-          after_same w y at = elim (cases_eq w v) [
-            | inl same ↦ (
-                let one : f ≡ y = same_Some f y (sym (set_here new.came v f (omega (arith, comes_last))) ∙ ap (slice_get (set new.came v f)) (sym same) ∙ ap (λ (cs : List Came). slice_get cs w) (sym came_is) ∙ at) in
-                inr (ap (λ (z : Came). z.partner) (sym one) ∙ ap (λ (z : Came). z.partner) f_is))
-            | inr other ↦ inl (before_at w y (sym (set_elsewhere new.came v w f other) ∙ ap (λ (cs : List Came). slice_get cs w) (sym came_is) ∙ at) other)
-          ]
+          event_at_end : slice_get s3.graph.nodes (length s.graph.nodes) ≡ Some (nodes.Event v)
+          event_at_end = ap (λ (ns : List Node). slice_get ns (length s.graph.nodes)) brings.nodes ∙ at_two
             where
-              before_at : (w : ℕ) (y : Came) → slice_get new.came w ≡ Some y → w ≢ v → slice_get old.came w ≡ Some y
-              before_at w y there other =
-                  let inside = slice_get_within new.came w y there in
-                  elim (get_cases old.came (e ∷ []) w y (ap (λ (cs : List Came). slice_get cs w) (sym more.came) ∙ there)) [
-                    | inl before ↦ before
-                    | inr (j, is_j, behind) ↦ absurd (omega (arith, inside, other, comes_last, is_j))
-                  ]
+              at_one : slice_get (s.graph.nodes ++ nodes.Event v ∷ []) (length s.graph.nodes) ≡ Some (nodes.Event v)
+              at_one = get_right s.graph.nodes (nodes.Event v ∷ []) (length s.graph.nodes) 0 (omega arith)
 
-          -- ---- what the roster gains
-          clock_old : (c : ℕ) → clock_of new.declaration (id_of e) ≡ c → HasStamp (group_at old.readings c) stamp → HasNode s.graph (nodes.Reading c stamp)
-          clock_old c on (m, shown) = (m, way.grown.knows.readings c (stamp, m) shown)
-
-          readings_kept : (c : ℕ) (t : Stamped) → Contains (group_at old.readings c) t → Contains (group_at r3.readings c) t
-          readings_kept c t has' = elim (cases_Bool known) [
-            | inl k ↦ subst (λ (r : RosterLists). Contains (group_at r.readings c) t) (sym (same_roster k ∙ told)) (more.readings c t has')
-            | inr k ↦ (
-                let sets' : SetsReading (record new { came = set new.came (length old.came) f }) r3 place stamp (length s1.graph.nodes) = subst (λ (r : RosterLists). SetsReading r r3 place stamp (length s1.graph.nodes)) told (sets k) in
-                subst (λ (r : RosterLists). Contains (group_at r.readings c) t) (sym sets'.is)
-                (set_keeps new.readings place sets'.place (stamp, sets'.was) (stamp, length s1.graph.nodes) c t sets'.there (more.readings c t has')
-                (λ on at. fresh k (
-                let same : t ≡ (stamp, sets'.was) = at in
-                let own : Contains {X = Stamped} (group_at old.readings place) (stamp, sets'.was) = subst (λ (r : Stamped). Contains (group_at old.readings place) r) same (subst (λ (j : ℕ). Contains (group_at old.readings j) t) on has') in
-                clock_old place place_is (sets'.was, own)))))
-          ]
-
-          under_kept : (id : EventId) (w : ℕ) → IsUnder old.under id w → IsUnder r3.under id w
-          under_kept id w (k, is_k, at) =
-              (k, is_k, ap (λ (us : List (List ℕ)). slice_get (group_at us id.label) k) (under_is ∙ more.under) ∙ group_more old.under label (range_with_len (length old.came) 1) id.label k w at)
-
-          holds_kept : (seen : List (List Seen)) (own rest : List Seen) → Holds old seen → slice_get seen label ≡ Some own → map (λ (t : Seen). t.stamp) rest ≡ stamp ∷ [] → Holds r3 (slice_set seen label (own ++ rest))
-          holds_kept seen own rest holds at stamps =
-              let grown : IsGrown old new label (map (λ (t : Seen). t.stamp) rest) = subst (λ (xs : List ℕ). IsGrown old new label xs) (sym stamps) more in
-              let held : Holds new (slice_set seen label (own ++ rest)) = holds_more old new label seen own rest is grown holds at in
-              let same_stamp : f.stamp ≡ (event_at new.came v).stamp = ap (λ (z : Came). z.stamp) f_is ∙ ap (λ (z : Came). z.stamp) (sym (get_or_from_slice_get new.came v e no_event comes_at)) in
-              let held' : Holds r2 (slice_set seen label (own ++ rest)) = subst (λ (r : RosterLists). Holds r (slice_set seen label (own ++ rest))) (sym told) (holds_still new (slice_set seen label (own ++ rest)) v f same_stamp held) in
-              elim (cases_Bool known) [
-                | inl k ↦ subst (λ (r : RosterLists). Holds r (slice_set seen label (own ++ rest))) (sym (same_roster k)) held'
-                | inr k ↦ holds_restamped r2 r3 place stamp (length s1.graph.nodes) (slice_set seen label (own ++ rest)) (sets k) held'
+              at_two : slice_get s2.graph.nodes (length s.graph.nodes) ≡ Some (nodes.Event v)
+              at_two = elim (cases_Bool known) [
+                | inl k ↦ ap (λ (h : GraphLists). slice_get h.nodes (length s.graph.nodes)) (graph_known k) ∙ at_one
+                | inr k ↦ ap (λ (h : GraphLists). slice_get h.nodes (length s.graph.nodes)) (graph_new k) ∙ get_left (s.graph.nodes ++ nodes.Event v ∷ []) (nodes.Reading place stamp ∷ []) (length s.graph.nodes) (nodes.Event v) at_one
               ]
 
-          pub gains : Gains label (stamp ∷ []) old r3
-          gains = record {
-            declaration = declaration_is;
-            count = (let z : suc v ≡ v + 1 = omega arith in long ∙ z);
-            events = λ w y at. (y, before_same w y at, refl, refl, refl, refl);
-            readings = readings_kept;
-            under = under_kept;
-            holds = holds_kept;
-          }
+          reading_at_end : known ≡ false → slice_get s3.graph.nodes (length s1.graph.nodes) ≡ Some (nodes.Reading place stamp)
+          reading_at_end k =
+              ap (λ (ns : List Node). slice_get ns (length s1.graph.nodes)) brings.nodes
+              ∙ ap (λ (z : SolverLists). slice_get z.graph.nodes (length s1.graph.nodes)) (reading_is k)
+              ∙ get_right s1.graph.nodes (nodes.Reading place stamp ∷ []) (length s1.graph.nodes) 0 (omega arith)
 
-          -- ---- behind the bounds
-          module _ (s3 : SolverLists) (brings : Brings (span_below place stamp o ++ (span_above place stamp u ++ (Late (length old.came) ∷ Early (length old.came) ∷ []))) s2 s3) (clock : Clock) (clock_is : slice_get new.declaration.clocks place ≡ Some clock)
-              (left : (p : ProblemLists) (entered : ℕ → Bool) (y : Event) → EventAt p (length old.came) y → y.clock ≡ place → y.stamp ≡ stamp → ClockAt p place clock
-              → IsGrowing p entered (span_below place stamp o ++ (span_above place stamp u ++ (Late (length old.came) ∷ Early (length old.came) ∷ []))) s2.graph → IsGrowing p entered [] s3.graph) where
-            kept_at : (k : ℕ) (n : Node) → slice_get s.graph.nodes k ≡ Some n → slice_get s3.graph.nodes k ≡ Some n
-            kept_at k n at = ap (λ (ns : List Node). slice_get ns k) brings.nodes ∙ enters.kept k n at
+          -- a node behind it was there, or is one of these two
+          was_or_own : (n : Node) → HasNode s3.graph n → HasNode s.graph n ⊎ (n ≡ nodes.Event v) ⊎ (n ≡ nodes.Reading place stamp)
+          was_or_own n (k, at') =
+              let two : HasNode s2.graph n = (k, ap (λ (ns : List Node). slice_get ns k) (sym brings.nodes) ∙ at') in
+              subst (λ (c : ℕ). HasNode s.graph n ⊎ (n ≡ nodes.Event v) ⊎ (n ≡ nodes.Reading c stamp)) place_is (enters.only n two)
 
-            growing : IsGrowing (problem_by_number new messages) (and_event (events_below v) v) [] s3.graph
+          -- a reading that was a node has the node that it had, and one that was not has a new one
+          module _ (knows : KnowsNodesThere r s.graph) where
+            events_known : (w : ℕ) (y : Came) → slice_get r3.came w ≡ Some y → HasNode s3.graph (nodes.Event w) → slice_get s3.graph.nodes y.node ≡ Some (nodes.Event w)
+            events_known w y at' there = elim (cases_eq w v) [
+              | inl same ↦ (
+                  let one : f ≡ y = same_Some f y (sym told_here ∙ ap (slice_get r3.came) (sym same) ∙ at') in
+                  ap (slice_get s3.graph.nodes) (ap (λ (z : Came). z.node) (sym one)) ∙ event_at_end ∙ ap (λ (n : ℕ). Some (nodes.Event n)) (sym same))
+              | inr other ↦ elim (was_or_own (nodes.Event w) there) [
+                | inl old ↦ kept_at y.node (nodes.Event w) (knows.events w y (sym (told_other w other) ∙ at') old)
+                | inr (inl own) ↦ absurd (other (let z : w ≡ v = cc in z))
+                | inr (inr own) ↦ absurd (let z : ⊥ = cc in z)
+              ]
+            ]
+
+            old_known : (c : ℕ) (t : Stamped) → Contains (group_at r.readings c) t → HasNode s.graph (nodes.Reading c t.0) → slice_get s3.graph.nodes t.1 ≡ Some (nodes.Reading c t.0)
+            old_known c t has' there = kept_at t.1 (nodes.Reading c t.0) (knows.readings c t has' there)
+
+            readings_of_old : known ≡ true → (c : ℕ) (t : Stamped) → Contains (group_at r3.readings c) t → HasNode s3.graph (nodes.Reading c t.0) → slice_get s3.graph.nodes t.1 ≡ Some (nodes.Reading c t.0)
+            readings_of_old k c t has' there =
+                let was : Contains (group_at r.readings c) t = subst (λ (a : RosterLists). Contains (group_at a.readings c) t) (same_roster k ∙ told) has' in
+                elim (was_or_own (nodes.Reading c t.0) there) [
+                  | inl old ↦ old_known c t was old
+                  | inr (inl own) ↦ absurd (let z : ⊥ = cc in z)
+                  | inr (inr own) ↦ old_known c t was (subst (HasNode s.graph) (sym own) (has k))
+                ]
+
+            group_there : (rs : List (List Stamped)) (k j : ℕ) (t : Stamped) → slice_get (group_at rs k) j ≡ Some t → k < length rs
+            group_there [] k j t at' = absurd (none-some t at')
+            group_there (y ∷ rs) zero j t at' = omega arith
+            group_there (y ∷ rs) (suc k) j t at' = (let within = group_there rs k j t at' in omega (arith, within))
+
+            readings_of_new : known ≡ false → (c : ℕ) (t : Stamped) → Contains (group_at r3.readings c) t → HasNode s3.graph (nodes.Reading c t.0) → slice_get s3.graph.nodes t.1 ≡ Some (nodes.Reading c t.0)
+            readings_of_new k c t has' there =
+                let own = sets_own k in
+                let number : ℕ = length s1.graph.nodes in
+                let group : List Stamped = group_at r.readings place in
+                let new_group : List Stamped = set {A = Stamped} group own.place (stamp, number) in
+                let held : Contains (group_at (set r.readings place new_group) c) t = subst (λ (a : RosterLists). Contains (group_at a.readings c) t) own.is has' in
+                elim (cases_eq c place) [
+                  | inl same ↦ (
+                      let within : place < length r.readings = group_there r.readings place own.place (stamp, own.was) own.there in
+                      let mine : Contains new_group t =
+                      subst (λ (rs : List Stamped). Contains rs t) (get_or-set_same r.readings place new_group [] within)
+                      (subst (λ (j : ℕ). Contains (group_at (set r.readings place new_group) j) t) same held) in
+                      let i = place_in new_group t mine in
+                      elim (cases_eq i.0 own.place) [
+                        | inl here' ↦ (
+                            let one : (stamp, number) ≡ t = same_Some (stamp, number) t (sym (set_here {X = Stamped} group own.place (stamp, number) (slice_get_within {A = Stamped} group own.place (stamp, own.was) own.there))
+                            ∙ ap (slice_get new_group) (sym here') ∙ i.1) in
+                            subst (λ (z : Stamped). slice_get s3.graph.nodes z.1 ≡ Some (nodes.Reading c z.0)) one (reading_at_end k ∙ ap (λ (j : ℕ). Some (nodes.Reading j stamp)) (sym same)))
+                        | inr other ↦ (
+                            let old_at : slice_get group i.0 ≡ Some t = sym (set_elsewhere {X = Stamped} group own.place i.0 (stamp, number) other) ∙ i.1 in
+                            let was : Contains (group_at r.readings c) t = subst (λ (j : ℕ). Contains (group_at r.readings j) t) (sym same) (among group i.0 t old_at) in
+                            elim (was_or_own (nodes.Reading c t.0) there) [
+                              | inl old ↦ old_known c t was old
+                              | inr (inl own') ↦ absurd (let z : ⊥ = cc in z)
+                              | inr (inr own') ↦ absurd (other (one_place group (is.on_clocks.rise place) i.0 own.place t (stamp, own.was) old_at own.there (let z : t.0 ≡ stamp = cc in z)))
+                            ])
+                      ])
+                  | inr other ↦ (
+                      let was : Contains (group_at r.readings c) t = subst (λ (rs : List Stamped). Contains rs t) (get_or-set_other r.readings place c new_group [] other) held in
+                      elim (was_or_own (nodes.Reading c t.0) there) [
+                        | inl old ↦ old_known c t was old
+                        | inr (inl own') ↦ absurd (let z : ⊥ = cc in z)
+                        | inr (inr own') ↦ absurd (other (let z : c ≡ place = cc in z))
+                      ])
+                ]
+
+            knows_all : KnowsNodesThere r3 s3.graph
+            knows_all = record {
+              events = events_known;
+              readings = λ c t has' there. elim (cases_Bool known) [ inl k ↦ readings_of_old k c t has' there | inr k ↦ readings_of_new k c t has' there ];
+            }
+
+          module _ (entered : ℕ → Bool) (messages : List Message) (way : IsEntering entered messages r s) where
+            not_in : entered v ≡ false
+            not_in = elim (cases_Bool (entered v)) [
+              | inl is' ↦ absurd (absent (way.grown.every_node (nodes.Event v) (x, (event_is messages, is'))))
+              | inr not ↦ not
+            ]
+
+            in_and_not : (w : ℕ) → w ≡ v → entered w ≡ true → ⊥
+            in_and_not w same is' = (let z : entered v ≡ true = ap entered (sym same) ∙ is' in let n = not_in in let y : ⊥ = cc in y)
+
+            none_own : AreMessagesOf (problem_by_number r messages) entered v []
+            none_own = record {
+              sent = λ receive m of. absurd (in_and_not m.send of.send_is (way.among m of.among).0);
+              received = λ send m of. absurd (in_and_not m.receive of.receive_is (way.among m of.among).1);
+            }
+
+            none_apart : AreApart v []
+            none_apart = record {
+              own = All-nil (λ (m : Message). (m.send ≡ v) ⊎ (m.receive ≡ v));
+              differ = no_pairs (λ (a b : Message). (a.send ≡ b.send) → (a.receive ≡ b.receive) → ⊥);
+            }
+
+            growing : IsGrowing (problem_by_number r messages) (and_event entered v) [] s3.graph
             growing =
-                left (problem_by_number new messages) (and_event (events_below v) v) x (map_at (named_event new.declaration) new.came v e comes_at) place_is refl clock_is
-                (subst (λ (c : ℕ). IsGrowing (problem_by_number new messages) (and_event (events_below v) v) (own_bounds c o u) s2.graph) place_is
-                (entry_left new is' messages v e comes_at comes_last s.graph before_is ends o u near s2.graph enters))
-
-            all_grown : IsGrownTo (problem_by_number r3 messages) all_events s3.graph
-            all_grown = subst (λ (p : ProblemLists). IsGrownTo p all_events s3.graph) (sym problem_same) (all_in new is' messages v e comes_at comes_last s.graph before_is ends s3.graph growing)
+                left (problem_by_number r messages) (and_event entered v) x (event_is messages) place_is refl clock_is
+                (subst (λ (c : ℕ). IsGrowing (problem_by_number r messages) (and_event entered v) (own_bounds c o u) s2.graph) place_is
+                (entered_now (problem_by_number r messages) entered v x (event_is messages) o u [] s.graph near none_own way.grown s2.graph enters))
 
             once_grown : HasEachOnce [] s3.graph
             once_grown =
                 brings.once [] (subst (λ (bs : List Bound). HasEachOnce bs s2.graph) (sym (none_behind (own_bounds place o u)))
                 (subst (λ (c : ℕ). HasEachOnce (own_bounds c o u) s2.graph) place_is
-                (entry_once new is' messages v e comes_at comes_last s.graph before_is ends o u near s2.graph enters way.grown.once)))
+                (entered_once (problem_by_number r messages) entered v x o u [] s.graph not_in near none_apart way.grown s2.graph enters way.once)))
 
-            event_at_end : slice_get s3.graph.nodes (length s.graph.nodes) ≡ Some (nodes.Event v)
-            event_at_end = ap (λ (ns : List Node). slice_get ns (length s.graph.nodes)) brings.nodes ∙ at_two
-              where
-                at_one : slice_get (s.graph.nodes ++ nodes.Event v ∷ []) (length s.graph.nodes) ≡ Some (nodes.Event v)
-                at_one = get_right s.graph.nodes (nodes.Event v ∷ []) (length s.graph.nodes) 0 (omega arith)
-
-                at_two : slice_get s2.graph.nodes (length s.graph.nodes) ≡ Some (nodes.Event v)
-                at_two = elim (cases_Bool known) [
-                  | inl k ↦ ap (λ (h : GraphLists). slice_get h.nodes (length s.graph.nodes)) (graph_known k) ∙ at_one
-                  | inr k ↦ ap (λ (h : GraphLists). slice_get h.nodes (length s.graph.nodes)) (graph_new k) ∙ get_left (s.graph.nodes ++ nodes.Event v ∷ []) (nodes.Reading place stamp ∷ []) (length s.graph.nodes) (nodes.Event v) at_one
-                ]
-
-            reading_at_end : known ≡ false → slice_get s3.graph.nodes (length s1.graph.nodes) ≡ Some (nodes.Reading place stamp)
-            reading_at_end k =
-                ap (λ (ns : List Node). slice_get ns (length s1.graph.nodes)) brings.nodes
-                ∙ ap (λ (z : SolverLists). slice_get z.graph.nodes (length s1.graph.nodes)) (reading_is k)
-                ∙ get_right s1.graph.nodes (nodes.Reading place stamp ∷ []) (length s1.graph.nodes) 0 (omega arith)
-
-            f_node : f.node ≡ length s.graph.nodes
-            f_node = ap (λ (z : Came). z.node) f_is
-
-            knows_all : KnowsNodes r3 s3.graph
-            knows_all = elim (cases_Bool known) [
-              | inl k ↦ subst (λ (r : RosterLists). KnowsNodes r s3.graph) (sym (same_roster k ∙ told))
-                  (knows_still old new is is' label stamp more e comes_at s.graph s3.graph way.grown.knows kept_at (length s.graph.nodes) event_at_end f f_node
-                  (was_shown (clock_of new.declaration (id_of e)) stamp (subst (λ (c : ℕ). there_on c) (sym place_is) (has k))))
-              | inr k ↦
-                  knows_new old new is is' label stamp more e comes_at s.graph s3.graph way.grown.knows kept_at (length s.graph.nodes) event_at_end f f_node r3 (length s1.graph.nodes)
-                  (reading_at_end k ∙ ap (λ (c : ℕ). Some (nodes.Reading c stamp)) (sym place_is))
-                  (subst (λ (c : ℕ). SetsReading (record new { came = set new.came (length old.came) f }) r3 c stamp (length s1.graph.nodes)) (sym place_is)
-                  (subst (λ (r : RosterLists). SetsReading r r3 place stamp (length s1.graph.nodes)) told (sets k)))
-            ]
-
-            tells_all : TellsMessages r3 messages s3.graph
+            tells_all : KnowsMessages r3 messages s3.graph
             tells_all =
-                tells_still old r3 messages s.graph s3.graph (λ w y at. (y, before_same w y at, refl))
-                (λ w y p at partner. elim (after_same w y at) [ inl before ↦ (y, before, partner) | inr none'' ↦ absurd (let z : ⊥ = cc in z) ])
+                tells_still r r3 messages s.graph s3.graph
+                (λ w y at'. elim (cases_eq w v) [
+                  | inl same ↦ (
+                      let one : e ≡ y = same_Some e y (sym at ∙ ap (slice_get r.came) (sym same) ∙ at') in
+                      (f, ap (slice_get r3.came) same ∙ told_here, ap (λ (z : Came). z.partner) one))
+                  | inr other ↦ (y, told_other w other ∙ at', refl)
+                ])
+                (λ w y p at' partner. elim (cases_eq w v) [
+                  | inl same ↦ (
+                      let one : f ≡ y = same_Some f y (sym told_here ∙ ap (slice_get r3.came) (sym same) ∙ at') in
+                      (e, ap (slice_get r.came) same ∙ at, ap (λ (z : Came). z.partner) one ∙ partner))
+                  | inr other ↦ (y, sym (told_other w other) ∙ at', partner)
+                ])
                 (λ k on. (
                 let still : IsOn s2.graph k = subst (λ (fs : List Bool). get_or fs k false ≡ true) (sym enters.in_force) on in
                 let stays = brings.stay k still in
-                (stays.0, stays.1 ∙ ap (λ (as' : List Arc). arc_at as' k) enters.arcs))) way.grown.tells
+                (stays.0, stays.1 ∙ ap (λ (as' : List Arc). arc_at as' k) enters.arcs))) way.tells
 
-            pub entered_way : IsUnderWay messages r3 s3
+            entered_way : IsEntering (and_event entered v) messages r3 s3
             entered_way = record {
               current = brings.current;
-              grown = record { grown = all_grown; once = once_grown; knows = knows_all; tells = tells_all };
-              nodes = (
-                  let same : length s3.graph.nodes ≡ length s2.graph.nodes = ap (λ (ns : List Node). length ns) brings.nodes in
-                  let few = way.nodes in
-                  omega (arith, same, both_long, few, long));
+              grown = subst (λ (p : ProblemLists). IsGrownTo p (and_event entered v) s3.graph) (sym (problem_same messages)) growing;
+              once = once_grown;
+              knows = knows_all way.knows;
+              tells = tells_all;
+              among = λ m has'. (or_right (m.send == v) (entered m.send) (way.among m has').0, or_right (m.receive == v) (entered m.receive) (way.among m has').1);
             }
+
+          pub comes : HaveCome [] r r3 s s3
+          comes = record {
+            grown = λ entered messages way own. (and_event entered v, entered_way entered messages way);
+            keeps = keeps;
+            stay = λ n (k, at'). (k, kept_at k n at');
+            rows = record { slots = brings.rows.slots ∙ rows_two.slots; source = brings.rows.source ∙ rows_two.source; count = brings.rows.count ∙ rows_two.count; free = brings.rows.free ∙ rows_two.free };
+            room = λ n room. brings.room n (room_two s s1 s2 known v place stamp event_pushed same_is reading_is n room);
+          }
+            where
+              rows_two : KeepsRows s s2
+              rows_two = elim (cases_Bool known) [
+                | inl k ↦ subst (KeepsRows s) (sym (same_is k ∙ event_pushed)) (record { slots = refl; source = refl; count = refl; free = refl })
+                | inr k ↦ subst (KeepsRows s) (sym (reading_is k ∙ ap (λ (z : SolverLists). with_new_node z (nodes.Reading place stamp)) event_pushed)) (record { slots = refl; source = refl; count = refl; free = refl })
+              ]
+
+          pub nodes_few : length s3.graph.nodes ≤ length s.graph.nodes + 2
+          nodes_few = (let same = ap (λ (ns : List Node). length ns) brings.nodes in omega (arith, same, both_long))

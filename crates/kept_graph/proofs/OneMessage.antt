@@ -1,5 +1,5 @@
 -- A message that comes to a roster and its graph.
-use Rattle.std.proofs.Common.{◌≡◌, ◌≢◌, ◌<◌, ◌≤◌, ◌+◌, ◌-◌, ℕ, suc, Bool, List, [], ◌∷◌, ◌++◌, Option, Some, None, Result, Ok, Err, length, map, get_or, set, slice_get, Contains, refl, sym, ◌∙◌, ap, subst, arith, inl, inr}
+use Rattle.std.proofs.Common.{◌≡◌, ◌≢◌, ◌<◌, ◌≤◌, ◌+◌, ◌-◌, ℕ, suc, Bool, true, List, [], ◌∷◌, ◌++◌, Option, Some, None, Result, Ok, Err, length, map, get_or, set, slice_get, Contains, refl, sym, ◌∙◌, ap, subst, arith, inl, inr}
 use Rattle.std.specs.Prelude.{OnOk}
 use Rattle.std.proofs.lemmas.Bool.{cases_eq}
 use Rattle.std.proofs.lemmas.List.{length-set}
@@ -12,7 +12,6 @@ use Rattle.problem_model.specs.declared.items.Bound.{Bound}
 use Rattle.problem_model.specs.declared.items.Bound.TheVariants.{DelayMost, DelayLeast}
 use Rattle.problem_model.specs.Problem.{ProblemLists}
 use Rattle.problem_model.specs.ShortList.{most_bound, message_bounds}
-use Rattle.problem.proofs.ListedNodes.{map_at}
 use Rattle.sync_graph.specs.declared.arc.Arc.{Arc}
 use Rattle.sync_graph.specs.Graph.{GraphLists, arc_at}
 use Rattle.sync_graph.specs.Standing.{HasNode}
@@ -24,15 +23,14 @@ use Rattle.roster.specs.declared.came.Partner.{Partner}
 use Rattle.roster.specs.Groups.{group_at}
 use Rattle.roster.specs.Roster.{RosterLists, IsRoster, IsUnder, Holds, event_at, no_event}
 use Rattle.roster.proofs.Telling.{set_here, set_elsewhere, holds_still}
-use Rattle.growth.specs.Entered.{all_events}
 use Rattle.growth.specs.Growing.{IsGrowing, IsGrownTo}
 use Rattle.growth.specs.Once.{IsOn, HasEachOnce}
 use Rattle.growth.specs.Told.{number_of}
 use Rattle.growth.specs.Rosters.{named_event, problem_by_number, KnowsNodes}
-use Rattle.kept_graph.specs.Kept.{HasArcs, TellsMessages}
+use Rattle.kept_graph.specs.Kept.{HasArcs, KnowsMessages}
 use Rattle.kept_graph.specs.Pushing.{Brings}
-use Rattle.kept_graph.specs.Growing.{Retells}
-use Rattle.kept_graph.specs.UnderWay.{IsUnderWay}
+use Rattle.kept_graph.specs.Growing.{Retells, KeepsNodesThere}
+use Rattle.kept_graph.specs.UnderWay.{KnowsNodesThere, IsEntering}
 use Rattle.kept_graph.proofs.Entered.{told_named}
 use Rattle.kept_graph.proofs.OneEvent.{none_behind}
 use Rattle.kept_graph.proofs.Messages.{with_messages, message_once}
@@ -105,94 +103,119 @@ module _ (r new : RosterLists) (v : ℕ) (inside : v < length r.came) (partner :
   pub events_same : map (named_event new.declaration) new.came ≡ map (named_event r.declaration) r.came
   events_same = ap (λ (x : RosterLists). map (named_event x.declaration) x.came) is ∙ told_named r.declaration r.came v e f at refl
 
+  pub was : (w : ℕ) (y : Came) → slice_get new.came w ≡ Some y → (x : Came) × (slice_get r.came w ≡ Some x) × (x.node ≡ y.node)
+  was w y there' = elim (cases_eq w v) [
+    | inl same ↦ (
+        let one : f ≡ y = same_Some f y (sym told_here ∙ ap (slice_get new.came) (sym same) ∙ there') in
+        (e, ap (slice_get r.came) same ∙ at, ap (λ (x : Came). x.node) one))
+    | inr other ↦ (y, sym (told_other w other) ∙ there', refl)
+  ]
+
   pub knows_same : (g h : GraphLists) → h.nodes ≡ g.nodes → KnowsNodes r g → KnowsNodes new h
   knows_same g h same knows = record {
     events = λ w y there'. (let back = was w y there' in
         ap (λ (ns : List Node). slice_get ns y.node) same ∙ ap (slice_get g.nodes) (sym back.2) ∙ knows.events w back.0 back.1);
     readings = λ c s has. ap (λ (ns : List Node). slice_get ns s.1) same ∙ knows.readings c s (subst (λ (x : RosterLists). Contains (group_at x.readings c) s) is has);
   }
-    where
-      was : (w : ℕ) (y : Came) → slice_get new.came w ≡ Some y → (x : Came) × (slice_get r.came w ≡ Some x) × (x.node ≡ y.node)
-      was w y there' = elim (cases_eq w v) [
-        | inl same ↦ (
-            let one : f ≡ y = same_Some f y (sym told_here ∙ ap (slice_get new.came) (sym same) ∙ there') in
-            (e, ap (slice_get r.came) same ∙ at, ap (λ (x : Came). x.node) one))
-        | inr other ↦ (y, sym (told_other w other) ∙ there', refl)
-      ]
 
 -- ---- a message comes
-module _ (r new : RosterLists) (s s' : SolverLists) (messages : List Message) (way : IsUnderWay messages r s) (m : Message) (arc : ℕ) (inside : m.send < length r.came)
+module _ (r new : RosterLists) (s s' : SolverLists) (m : Message) (arc : ℕ) (inside : m.send < length r.came)
     (is : new ≡ record r { came = set r.came m.send (record (event_at r.came m.send) { partner = Some (record { event = m.receive; arc = arc }) }) })
-    (fresh : (n : Message) → Contains messages n → n.send ≢ m.send) (brings : Brings (message_bounds m) s s') (arcs : HasArcs s'.graph m arc)
+    (sent : HasNode s.graph (nodes.Event m.send)) (received : HasNode s.graph (nodes.Event m.receive)) (brings : Brings (message_bounds m) s s') (arcs : HasArcs s'.graph m arc)
     (left : (p : ProblemLists) (entered : ℕ → Bool) (rest : List Bound) → Contains p.messages m → IsGrowing p entered (message_bounds m ++ rest) s.graph → IsGrowing p entered rest s'.graph) where
-  abbrev p : ProblemLists
-  p = problem_by_number r (m ∷ messages)
-
   abbrev partner : Option Partner
   partner = Some (record { event = m.receive; arc = arc })
 
-  growing : IsGrowing (problem_by_number r (m ∷ messages)) all_events (message_bounds m) s.graph
-  growing =
-      with_messages r.declaration.clocks (map (named_event r.declaration) r.came) messages (m ∷ messages) (message_bounds m) (λ n has. there m n messages has)
-      (λ n has. elim (head_or_tail m n messages has) [ inl same ↦ inr (λ b among. subst (λ (x : Message). Contains (message_bounds x) b) (sym same) among) | inr more ↦ inl more ]) s.graph way.grown.grown
+  module _ (entered : ℕ → Bool) (messages : List Message) (way : IsEntering entered messages r s) (fresh : (n : Message) → Contains messages n → n.send ≢ m.send) where
+    abbrev p : ProblemLists
+    p = problem_by_number r (m ∷ messages)
 
-  grown : IsGrownTo (problem_by_number r (m ∷ messages)) all_events s'.graph
-  grown = left p all_events [] (here m messages) (subst (λ (bs : List Bound). IsGrowing p all_events bs s.graph) (sym (none_behind (message_bounds m))) growing)
+    growing : IsGrowing (problem_by_number r (m ∷ messages)) entered (message_bounds m) s.graph
+    growing =
+        with_messages r.declaration.clocks (map (named_event r.declaration) r.came) messages (m ∷ messages) (message_bounds m) (λ n has. there m n messages has)
+        (λ n has. elim (head_or_tail m n messages has) [ inl same ↦ inr (λ b among. subst (λ (x : Message). Contains (message_bounds x) b) (sym same) among) | inr more ↦ inl more ]) entered s.graph way.grown
 
-  problem_same : problem_by_number new (m ∷ messages) ≡ problem_by_number r (m ∷ messages)
-  problem_same =
-      ap (λ (es : List Event). let x : ProblemLists = record { clocks = new.declaration.clocks; follows = []; events = es; messages = m ∷ messages } in x) (events_same r new m.send inside partner is)
-      ∙ ap (λ (x : RosterLists). let y : ProblemLists = record { clocks = x.declaration.clocks; follows = []; events = map (named_event r.declaration) r.came; messages = m ∷ messages } in y) is
+    grown : IsGrownTo (problem_by_number r (m ∷ messages)) entered s'.graph
+    grown = left p entered [] (here m messages) (subst (λ (bs : List Bound). IsGrowing p entered bs s.graph) (sym (none_behind (message_bounds m))) growing)
 
-  each_once : HasEachOnce [] s'.graph
-  each_once =
-      brings.once [] (subst (λ (bs : List Bound). HasEachOnce bs s.graph) (sym (none_behind (message_bounds m)))
-      (message_once (problem_by_number r messages) s.graph way.grown.grown m fresh way.grown.once))
+    problem_same : problem_by_number new (m ∷ messages) ≡ problem_by_number r (m ∷ messages)
+    problem_same =
+        ap (λ (es : List Event). let x : ProblemLists = record { clocks = new.declaration.clocks; follows = []; events = es; messages = m ∷ messages } in x) (events_same r new m.send inside partner is)
+        ∙ ap (λ (x : RosterLists). let y : ProblemLists = record { clocks = x.declaration.clocks; follows = []; events = map (named_event r.declaration) r.came; messages = m ∷ messages } in y) is
 
-  still : (n : Message) (k : ℕ) → HasArcs s.graph n k → HasArcs s'.graph n k
-  still n k has = record {
-    on = (brings.stay k has.on).0;
-    least = ap (λ (a : Arc). a.name) (brings.stay k has.on).1 ∙ has.least;
-    most = λ w is_w. (let (j, next, on, name) = has.most w is_w in (j, next, (brings.stay j on).0, ap (λ (a : Arc). a.name) (brings.stay j on).1 ∙ name));
-  }
+    each_once : HasEachOnce [] s'.graph
+    each_once =
+        brings.once [] (subst (λ (bs : List Bound). HasEachOnce bs s.graph) (sym (none_behind (message_bounds m)))
+        (message_once (problem_by_number r messages) entered s.graph way.grown m fresh way.once))
 
-  tells : TellsMessages new (m ∷ messages) s'.graph
-  tells = record {
-    each = λ n has. elim (head_or_tail m n messages has) [
-      | inl same ↦ subst (λ (x : Message). (y : Came) × (k : ℕ) × (slice_get new.came x.send ≡ Some y) × (y.partner ≡ Some (record { event = x.receive; arc = k })) × HasArcs s'.graph x k) same
-          (record (event_at r.came m.send) { partner = partner }, arc, told_here r new m.send inside partner is, refl, arcs)
-      | inr more ↦ (
-          let (y, k, at, told, has') = way.grown.tells.each n more in
-          (y, k, told_other r new m.send inside partner is n.send (fresh n more) ∙ at, told, still n k has'))
-    ];
-    only = λ w y q at told. elim (cases_eq w m.send) [
-      | inl same ↦ (
-          let own : Came = record (event_at r.came m.send) { partner = partner } in
-          let one : own ≡ y = same_Some own y (sym (told_here r new m.send inside partner is) ∙ ap (slice_get new.came) (sym same) ∙ at) in
-          let both : partner ≡ Some q = ap (λ (x : Came). x.partner) one ∙ told in
-          let event : m.receive ≡ q.event = ap (λ (x : Partner). x.event) (same_Some (record { event = m.receive; arc = arc }) q both) in
-          (m, here m messages, sym same, event))
-      | inr other ↦ (
-          let (n, has, from, to) = way.grown.tells.only w y q (sym (told_other r new m.send inside partner is w other) ∙ at) told in
-          (n, there m n messages has, from, to))
-    ];
-  }
+    still : (n : Message) (k : ℕ) → HasArcs s.graph n k → HasArcs s'.graph n k
+    still n k has = record {
+      on = (brings.stay k has.on).0;
+      least = ap (λ (a : Arc). a.name) (brings.stay k has.on).1 ∙ has.least;
+      most = λ w is_w. (let (j, next, on, name) = has.most w is_w in (j, next, (brings.stay j on).0, ap (λ (a : Arc). a.name) (brings.stay j on).1 ∙ name));
+    }
 
-  pub joined_way : IsUnderWay (m ∷ messages) new s'
-  joined_way = record {
-    current = brings.current;
-    grown = record {
-      grown = subst (λ (x : ProblemLists). IsGrownTo x all_events s'.graph) (sym problem_same) grown;
+    tells : KnowsMessages new (m ∷ messages) s'.graph
+    tells = record {
+      each = λ n has. elim (head_or_tail m n messages has) [
+        | inl same ↦ subst (λ (x : Message). (y : Came) × (k : ℕ) × (slice_get new.came x.send ≡ Some y) × (y.partner ≡ Some (record { event = x.receive; arc = k })) × HasArcs s'.graph x k) same
+            (record (event_at r.came m.send) { partner = partner }, arc, told_here r new m.send inside partner is, refl, arcs)
+        | inr more ↦ (
+            let (y, k, at, told, has') = way.tells.each n more in
+            (y, k, told_other r new m.send inside partner is n.send (fresh n more) ∙ at, told, still n k has'))
+      ];
+      only = λ w y q at told. elim (cases_eq w m.send) [
+        | inl same ↦ (
+            let own : Came = record (event_at r.came m.send) { partner = partner } in
+            let one : own ≡ y = same_Some own y (sym (told_here r new m.send inside partner is) ∙ ap (slice_get new.came) (sym same) ∙ at) in
+            let both : partner ≡ Some q = ap (λ (x : Came). x.partner) one ∙ told in
+            let event : m.receive ≡ q.event = ap (λ (x : Partner). x.event) (same_Some (record { event = m.receive; arc = arc }) q both) in
+            (m, here m messages, sym same, event))
+        | inr other ↦ (
+            let (n, has, from, to) = way.tells.only w y q (sym (told_other r new m.send inside partner is w other) ∙ at) told in
+            (n, there m n messages has, from, to))
+      ];
+    }
+
+    there_was : (n : Node) → HasNode s'.graph n → HasNode s.graph n
+    there_was n (k, at) = (k, ap (λ (ns : List Node). slice_get ns k) (sym brings.nodes) ∙ at)
+
+    known_there : KnowsNodesThere new s'.graph
+    known_there = record {
+      events = λ w y at has. (
+          let back = was r new m.send inside partner is w y at in
+          ap (λ (ns : List Node). slice_get ns y.node) brings.nodes ∙ ap (slice_get s.graph.nodes) (sym back.2) ∙ way.knows.events w back.0 back.1 (there_was (nodes.Event w) has));
+      readings = λ c t has stands.
+          ap (λ (ns : List Node). slice_get ns t.1) brings.nodes
+          ∙ way.knows.readings c t (subst (λ (x : RosterLists). Contains (group_at x.readings c) t) is has) (there_was (nodes.Reading c t.0) stands);
+    }
+
+    in_there : (v : ℕ) → HasNode s.graph (nodes.Event v) → entered v ≡ true
+    in_there v has = let x = way.grown.nodes (nodes.Event v) has in x.1.1
+
+    pub joined_way : IsEntering entered (m ∷ messages) new s'
+    joined_way = record {
+      current = brings.current;
+      grown = subst (λ (x : ProblemLists). IsGrownTo x entered s'.graph) (sym problem_same) grown;
       once = each_once;
-      knows = knows_same r new m.send inside partner is s.graph s'.graph brings.nodes way.grown.knows;
+      knows = known_there;
       tells = tells;
-    };
-    nodes = (
-        let same : length s'.graph.nodes ≡ length s.graph.nodes = ap (λ (ns : List Node). length ns) brings.nodes in
-        let many = (retells r new m.send inside partner is).count in
-        let few = way.nodes in
-        omega (arith, same, many, few));
-  }
+      among = λ n has. elim (head_or_tail m n messages has) [
+        | inl same ↦ subst (λ (x : Message). (entered x.send ≡ true) × (entered x.receive ≡ true)) same (in_there m.send sent, in_there m.receive received)
+        | inr more ↦ way.among n more
+      ];
+    }
+
+-- a roster that tells other messages knows the same nodes
+pub keeps_told : (g : GraphLists) (old new : RosterLists) → Retells old new → KeepsNodesThere g old new
+keeps_told g old new is = record {
+  declaration = is.declaration;
+  count = is.count;
+  under = is.under;
+  events = λ v e at has. is.events v e at;
+  readings = λ c s has there'. is.readings c s has;
+  holds = is.holds;
+}
 
 -- ---- the ends of a message
 pub number_is : (under : List (List ℕ)) (id : EventId) (v : ℕ) → IsUnder under id v → number_of under id ≡ v
@@ -208,6 +231,3 @@ module _ (r : RosterLists) (is : IsRoster r) (id : EventId) (known : (v : ℕ) �
 
   pub end_inside : number_of r.under id < length r.came
   end_inside = slice_get_within r.came (number_of r.under id) came_at.0 came_at.1
-
-  pub end_there : (messages : List Message) (s : SolverLists) → IsUnderWay messages r s → HasNode s.graph (nodes.Event (number_of r.under id))
-  end_there messages s way = way.grown.grown.every_node (nodes.Event (number_of r.under id)) (named_event r.declaration came_at.0, (map_at (named_event r.declaration) r.came (number_of r.under id) came_at.0 came_at.1, refl))

@@ -1,7 +1,13 @@
 -- A roster to which events of a label come.
-use Rattle.std.specs.Prelude.{◌≡◌, ◌+◌, ℕ, List, ◌++◌, length, map, slice_get, slice_set, Some}
+use Rattle.std.specs.Prelude.{◌≡◌, ◌+◌, ℕ, List, ◌++◌, length, map, slice_get, slice_set, Some, Contains}
+use Rattle.problem_model.specs.declared.items.Node.TheVariants as nodes
+use Rattle.sync_graph.specs.Graph.{GraphLists}
+use Rattle.sync_graph.specs.Standing.{HasNode}
 use Rattle.trace_event.specs.Seen.{Seen}
 use Rattle.traces.specs.declared.event.EventId.{EventId}
+use Rattle.roster.specs.declared.came.Came.{Came}
+use Rattle.roster.specs.Groups.{group_at}
+use Rattle.roster.specs.Readings.{Stamped}
 use Rattle.roster.specs.Roster.{RosterLists, Holds, IsUnder}
 use Rattle.kept_graph.specs.Kept.{KeepsEvents, KeepsReadings}
 
@@ -22,4 +28,14 @@ pub record Retells (old new : RosterLists) : Type 0 where
   pub events : KeepsEvents old new
   pub readings : KeepsReadings old new
   pub under : new.under ≡ old.under
+  pub holds : (seen : List (List Seen)) → Holds old seen → Holds new seen
+
+-- the roster has the same events, knows those that are nodes of the graph and readings that are as before, and may tell other messages
+pub record KeepsNodesThere (g : GraphLists) (old new : RosterLists) : Type 0 where
+  pub declaration : new.declaration ≡ old.declaration
+  pub count : length new.came ≡ length old.came
+  pub under : new.under ≡ old.under
+  pub events : (v : ℕ) (e : Came) → slice_get old.came v ≡ Some e → HasNode g (nodes.Event v)
+      → (f : Came) × (slice_get new.came v ≡ Some f) × (f.stamp ≡ e.stamp) × (f.label ≡ e.label) × (f.number ≡ e.number) × (f.node ≡ e.node)
+  pub readings : (clock : ℕ) (s : Stamped) → Contains (group_at old.readings clock) s → HasNode g (nodes.Reading clock s.0) → Contains (group_at new.readings clock) s
   pub holds : (seen : List (List Seen)) → Holds old seen → Holds new seen

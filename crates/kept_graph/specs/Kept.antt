@@ -1,21 +1,25 @@
--- The graph of a roster.
-use Rattle.std.specs.Prelude.{◌≡◌, ℕ, suc, List, [], length, slice_get, Some, Contains}
+-- A graph that is kept for what was accepted.
+use Rattle.std.specs.Prelude.{◌≡◌, ℕ, ◌*◌, ◌≤◌, suc, List, [], ◌++◌, length, slice_get, slice_set, Some, Contains}
 use Rattle.problem_model.specs.declared.items.Message.{Message}
 use Rattle.problem_model.specs.declared.items.Bound.TheVariants.{DelayMost, DelayLeast}
 use Rattle.sync_graph.specs.Graph.{GraphLists, arc_at}
 use Rattle.row_pool.specs.Pool.{free_rows}
 use Rattle.engine.specs.Solver.{SolverLists}
+use Rattle.solver.specs.Solution.{IsSolutionBy}
+use Rattle.trace_event.specs.Seen.{Seen}
+use Rattle.traces.specs.Messages.{problem_of_seen}
+use Rattle.trace_problem.specs.Making.{StampsFit}
 use Rattle.roster.specs.declared.came.Came.{Came}
 use Rattle.roster.specs.declared.came.Partner.{Partner}
 use Rattle.roster.specs.Groups.{group_at}
 use Rattle.roster.specs.Readings.{Stamped}
-use Rattle.roster.specs.Roster.{RosterLists}
+use Rattle.roster.specs.Roster.{RosterLists, Holds, listed}
 use Rattle.growth.specs.Entered.{all_events}
 use Rattle.growth.specs.Growing.{IsGrownTo}
 use Rattle.growth.specs.Withdrawing.{HasMessage}
 use Rattle.growth.specs.Once.{IsOn, HasEachOnce}
 use Rattle.growth.specs.Rosters.{problem_by_number, KnowsNodes}
-pub use Rattle.growth.specs.Told.{number_of, numbered_message}
+pub use Rattle.growth.specs.Told.{number_of, numbered_message, messages_by_number}
 
 -- ---- messages
 -- the arc of this number is in force and is the message's least delay, and the one before it is its greatest delay, where there is one
@@ -24,9 +28,13 @@ pub record HasArcs (g : GraphLists) (m : Message) (arc : ℕ) : Type 0 where
   pub least : (arc_at g.arcs arc).name ≡ DelayLeast m.send m.receive
   pub most : (w : ℕ) → m.most ≡ Some w → (k : ℕ) × (arc ≡ suc k) × IsOn g k × ((arc_at g.arcs k).name ≡ DelayMost m.send m.receive)
 
--- the roster tells of each message at its send, with the number of its arc, and of no others
-pub record TellsMessages (r : RosterLists) (messages : List Message) (g : GraphLists) : Type 0 where
-  pub each : (m : Message) → Contains messages m → (e : Came) × (arc : ℕ) × (slice_get r.came m.send ≡ Some e) × (e.partner ≡ Some (record { event = m.receive; arc = arc })) × HasArcs g m arc
+-- the roster tells of the message at its send, with the number of its arc
+abbrev pub Tells : RosterLists → GraphLists → Message → Type 0
+Tells r g m = (e : Came) × (arc : ℕ) × (slice_get r.came m.send ≡ Some e) × (e.partner ≡ Some (record { event = m.receive; arc = arc })) × HasArcs g m arc
+
+-- the roster tells of each of these messages, and of no others
+pub record KnowsMessages (r : RosterLists) (messages : List Message) (g : GraphLists) : Type 0 where
+  pub each : (m : Message) → Contains messages m → Tells r g m
   pub only : (v : ℕ) (e : Came) (p : Partner) → slice_get r.came v ≡ Some e → e.partner ≡ Some p → HasMessage messages v p.event
 
 -- ---- what is kept
@@ -36,9 +44,21 @@ pub record IsGrownBy (r : RosterLists) (messages : List Message) (g : GraphLists
   pub grown : IsGrownTo (problem_by_number r messages) all_events g
   pub once : HasEachOnce [] g
   pub knows : KnowsNodes r g
-  pub tells : TellsMessages r messages g
+  pub tells : KnowsMessages r messages g
 
--- ---- what stays
+-- the roster holds these events of each label, and what is kept of the graph is of their problem; arcs are at most eight an event, withdrawn ones too
+pub record IsKeptFor (seen : List (List Seen)) (r : RosterLists) (s : SolverLists) : Type 0 where
+  pub holds : Holds r seen
+  pub stamps : StampsFit seen
+  pub solution : IsSolutionBy (listed r) (problem_of_seen r.declaration seen) s
+  pub grown : IsGrownBy r (messages_by_number r seen) s.graph
+  pub few : length s.graph.arcs ≤ 8 * length r.came
+
+-- ---- what an addition leaves
+-- the events of each label, with more behind those of one of them
+abbrev pub with_more : List (List Seen) → ℕ → List Seen → List (List Seen)
+with_more seen label more = slice_set seen label (group_at seen label ++ more)
+
 -- each event has its number, its stamp, its name and its node still
 abbrev pub KeepsEvents : RosterLists → RosterLists → Type 0
 KeepsEvents old new = (v : ℕ) (e : Came) → slice_get old.came v ≡ Some e

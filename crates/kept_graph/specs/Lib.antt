@@ -1,4 +1,10 @@
 pub mod Kept
-pub mod Pushing
 pub mod UnderWay
 pub mod Growing
+pub mod Steps
+pub mod Extending
+pub mod Pushing
+pub mod Withdrawing
+pub mod Cutting
+pub mod Planning
+pub mod Coming

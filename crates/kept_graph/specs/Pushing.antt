@@ -6,6 +6,7 @@ use Rattle.engine.specs.Solver.{SolverLists, HasRoom}
 use Rattle.engine.specs.Current.{IsCurrent}
 use Rattle.growth.specs.Once.{IsOn, HasEachOnce}
 use Rattle.kept_graph.specs.Kept.{KeepsRows}
+use Rattle.kept_graph.specs.Extending.{Extends}
 
 -- arcs of these names are in force behind all others, which stay as they were, as do nodes, slots and rows
 pub record Brings (bounds : List Bound) (old new : SolverLists) : Type 0 where
@@ -15,4 +16,5 @@ pub record Brings (bounds : List Bound) (old new : SolverLists) : Type 0 where
   pub stay : (k : ℕ) → IsOn old.graph k → IsOn new.graph k × (arc_at new.graph.arcs k ≡ arc_at old.graph.arcs k)
   pub once : (rest : List Bound) → HasEachOnce (bounds ++ rest) old.graph → HasEachOnce rest new.graph
   pub rows : KeepsRows old new
+  pub extends : Extends old new
   pub room : (n : ℕ) → HasRoom n old → HasRoom n new

@@ -14,15 +14,16 @@ ghost use Rattle.engine.specs.Solver.{HasRoom, with_new_node};
 ghost use Rattle.engine.specs.Current.{IsCurrent};
 ghost use Rattle.traces.specs.Traces.{clock_of};
 ghost use Rattle.roster.specs.Groups.{group_at};
-ghost use Rattle.roster.specs.Readings.{HasStamp, IsLastUnder, IsFirstOver, stamps_of};
-ghost use Rattle.roster.specs.Roster.{RosterLists, IsRoster, IsGrown, SetsReading, event_at, id_of};
-ghost use Rattle.growth.specs.Entering.{span_below, span_above};
+ghost use Rattle.roster.specs.Readings.{HasStamp};
+ghost use Rattle.roster.specs.Roster.{RosterLists, IsRoster, SetsReading, event_at, id_of};
+ghost use Rattle.growth.specs.Entering.{span_below, span_above, IsStampBelow, IsStampAbove};
 ghost use Rattle.growth.specs.Growing.{IsGrowing};
-ghost use Rattle.kept_graph.specs.Kept.{KeepsRows};
 ghost use Rattle.kept_graph.specs.Pushing.{Brings};
-ghost use Rattle.kept_graph.specs.UnderWay.{IsUnderWay};
-ghost use Rattle.kept_graph.specs.Growing.{Gains};
+ghost use Rattle.kept_graph.specs.Extending.{Extends, TakesFewToPush};
+ghost use Rattle.kept_graph.specs.UnderWay.{IsEntering};
+ghost use Rattle.kept_graph.specs.Coming.{HaveCome};
 
+use crate::nearest::{above, below, is_known};
 use crate::pushing::{push_span, push_stamp};
 use atto::{Nano, Steps};
 use engine::Solver;
@@ -30,44 +31,6 @@ use problem_model::{Clock, Node};
 use roster::Roster;
 use std::alloc::AllocError;
 use std::sync::ledger::Ledger;
-use trace_event::Event;
-
-// Whether a reading is a node.
-fn is_known(solver: &Solver, place: u32, stamp: Nano) -> bool
-    ensures known { result ≡ true → HasNode solver.now.graph (nodes.Reading place stamp) }
-    ensures new { result ≡ false → HasNode solver.now.graph (nodes.Reading place stamp) → ⊥ }
-{
-    solver
-        .graph()
-        .node_of(Node::Reading(place, stamp))
-        .is_some()
-}
-
-// The greatest stamp of a clock below one that it has shown, if that is a new reading.
-fn below(roster: &Roster, place: u32, stamp: Nano, known: bool) -> Option<Nano>
-    requires clock { place < length roster.now.declaration.clocks }
-    requires shown { HasStamp (group_at roster.now.readings place) stamp }
-    ensures known { known ≡ true → result ≡ None }
-    ensures new { known ≡ false → IsLastUnder (group_at roster.now.readings place) stamp result }
-{
-    if known {
-        return None;
-    }
-    roster.stamp_below(place, stamp)
-}
-
-// The least stamp of a clock above one that it has shown, if that is a new reading.
-fn above(roster: &Roster, place: u32, stamp: Nano, known: bool) -> Option<Nano>
-    requires clock { place < length roster.now.declaration.clocks }
-    requires shown { HasStamp (group_at roster.now.readings place) stamp }
-    ensures known { known ≡ true → result ≡ None }
-    ensures new { known ≡ false → IsFirstOver (group_at roster.now.readings place) stamp result }
-{
-    if known {
-        return None;
-    }
-    roster.stamp_above(place, stamp)
-}
 
 // Appends the node of an event, and tells it.
 fn push_event(roster: &mut Roster, solver: &mut Solver, v: u32) -> Result<(), AllocError>
@@ -104,6 +67,7 @@ fn push_reading(
     ensures known { known ≡ true → OnOk result ((solver.new ≡ solver.old) × (roster.new ≡ roster.old)) }
     ensures graph { known ≡ false → OnOk result (solver.new ≡ with_new_node solver.old (nodes.Reading place stamp)) }
     ensures told { known ≡ false → OnOk result (SetsReading roster.old roster.new place stamp (length solver.old.graph.nodes)) }
+    ensures declaration { roster.new.declaration ≡ roster.old.declaration }
 {
     if known {
         return Ok(());
@@ -127,6 +91,7 @@ fn push_below<L: Ledger>(
     requires below { IfSome below (λ s. (s < stamp) × HasNode solver.old.graph (nodes.Reading place s)) }
     requires room { length solver.old.graph.arcs + 2 ≤ most_arcs }
     ensures brings { OnOk result (Brings (span_below place stamp below) solver.old solver.new) }
+    ensures steps { OnOk result (TakesFewToPush solver.old solver.new steps.old steps.new) }
     ensures left { OnOk result ((p : ProblemLists) (entered : ℕ → Bool) (rest : List Bound) → ClockAt p place clock.now
         → IsGrowing p entered (span_below place stamp below ++ rest) solver.old.graph → IsGrowing p entered rest solver.new.graph) }
 {
@@ -150,6 +115,7 @@ fn push_above<L: Ledger>(
     requires above { IfSome above (λ t. (stamp < t) × HasNode solver.old.graph (nodes.Reading place t)) }
     requires room { length solver.old.graph.arcs + 2 ≤ most_arcs }
     ensures brings { OnOk result (Brings (span_above place stamp above) solver.old solver.new) }
+    ensures steps { OnOk result (TakesFewToPush solver.old solver.new steps.old steps.new) }
     ensures left { OnOk result ((p : ProblemLists) (entered : ℕ → Bool) (rest : List Bound) → ClockAt p place clock.now
         → IsGrowing p entered (span_above place stamp above ++ rest) solver.old.graph → IsGrowing p entered rest solver.new.graph) }
 {
@@ -177,6 +143,7 @@ fn push_entry<L: Ledger>(
     requires above { IfSome above (λ t. (stamp < t) × HasNode solver.old.graph (nodes.Reading place t)) }
     requires room { length solver.old.graph.arcs + 6 ≤ most_arcs }
     ensures brings { OnOk result (Brings (span_below place stamp below ++ (span_above place stamp above ++ (Late v ∷ Early v ∷ []))) solver.old solver.new) }
+    ensures steps { OnOk result (TakesFewToPush solver.old solver.new steps.old steps.new) }
     ensures left { OnOk result ((p : ProblemLists) (entered : ℕ → Bool) (e : items.Event) → EventAt p v e → e.clock ≡ place → e.stamp ≡ stamp → ClockAt p place clock.now
         → IsGrowing p entered (span_below place stamp below ++ (span_above place stamp above ++ (Late v ∷ Early v ∷ []))) solver.old.graph → IsGrowing p entered [] solver.new.graph) }
 {
@@ -203,45 +170,83 @@ fn clock_at(roster: &Roster, place: u32) -> Clock
     roster.decl().clocks[place as usize]
 }
 
-// The stamp of the only one of these events.
-fn stamp_of(events: &[Event]) -> Nano
-    requires { length events.now ≡ 1 }
-    ensures { stamps_of events.now ≡ result ∷ [] }
+/// Whether an event has entered the graph.
+pub(crate) fn has_entered(solver: &Solver, v: u32) -> bool
+    ensures is { result ≡ true → HasNode solver.now.graph (nodes.Event v) }
+    ensures not { result ≡ false → HasNode solver.now.graph (nodes.Event v) → ⊥ }
 {
-    events[0].stamp
+    solver.graph().node_of(Node::Event(v)).is_some()
 }
 
-/// An event of a label comes, and enters the graph. There is room for its nodes.
-pub fn enter<L: Ledger>(
+// The stamp above in ns, where there is one, or else the one that was a hint before.
+fn hint_of(above: &Option<Nano>, hint: u64) -> u64 {
+    match above {
+        Some(stamp) => stamp.get(),
+        None => hint,
+    }
+}
+
+// An event of the roster enters the graph.
+fn enter_new<L: Ledger>(
     roster: &mut Roster,
     solver: &mut Solver,
-    label: u32,
-    events: &[Event],
+    v: u32,
+    hint: u64,
     steps: &mut Steps<L>,
-) -> Result<(), AllocError>
-    requires one { length events.now ≡ 1 }
-    requires label { label < length roster.old.declaration.labels }
-    requires few { length roster.old.came + 1 ≤ 2 ^ 20 }
-    requires ready { (messages : List Message) × IsUnderWay messages roster.old solver.old }
-    requires room { HasRoom (2 * length roster.old.came + 2) solver.old }
+) -> Result<u64, AllocError>
+    requires inside { v < length roster.old.came }
+    requires new { HasNode solver.old.graph (nodes.Event v) → ⊥ }
+    requires ready { (entered : ℕ → Bool) × (messages : List Message) × IsEntering entered messages roster.old solver.old }
+    requires nodes { length solver.old.graph.nodes + 2 ≤ most_nodes }
+    requires room { HasRoom (length solver.old.graph.nodes + 2) solver.old }
     requires arcs { length solver.old.graph.arcs + 6 ≤ most_arcs }
-    ensures grown { OnOk result ((messages : List Message) → IsUnderWay messages roster.old solver.old → IsUnderWay messages roster.new solver.new) }
-    ensures gains { OnOk result (Gains label (stamps_of events.now) roster.old roster.new) }
+    ensures come { OnOk result (HaveCome [] roster.old roster.new solver.old solver.new) }
+    ensures entered { OnOk result (HasNode solver.new.graph (nodes.Event v)) }
+    ensures nodes { OnOk result (length solver.new.graph.nodes ≤ length solver.old.graph.nodes + 2) }
     ensures arcs { OnOk result (length solver.new.graph.arcs ≤ length solver.old.graph.arcs + 6) }
-    ensures rows { OnOk result (KeepsRows solver.old solver.new) }
-    ensures room { OnOk result ((n : ℕ) → HasRoom n solver.old → HasRoom n solver.new) }
+    ensures declaration { roster.new.declaration ≡ roster.old.declaration }
+    ensures extends { OnOk result (Extends solver.old solver.new) }
+    ensures steps { OnOk result (TakesFewToPush solver.old solver.new steps.old steps.new) }
 {
     let _ = roster.decl();
-    let v = roster.push(label, events)?;
-    let _ = roster.decl();
-    let stamp = stamp_of(events);
-    let place = clock_of(roster, label);
+    let came = roster.event(v);
+    let stamp = came.stamp;
+    let place = clock_of(roster, came.label);
     let clock = clock_at(roster, place);
     let known = is_known(solver, place, stamp);
-    let below = below(roster, place, stamp, known);
-    let above = above(roster, place, stamp, known);
+    let below = below(roster, solver, place, stamp, known);
+    let above = above(roster, solver, place, stamp, known, hint);
+    let next = hint_of(&above, hint);
     push_event(roster, solver, v)?;
     push_reading(roster, solver, place, stamp, known)?;
     push_entry(solver, v, place, &clock, stamp, below, above, steps)?;
-    Ok(())
+    Ok(next)
+}
+
+/// An event of the roster enters the graph, unless it has. There is room for its nodes. The answer is a stamp, in ns, that may
+/// be the nearest one above the next event, as the hint may be that of this one: a wrong one costs time alone.
+pub fn enter<L: Ledger>(
+    roster: &mut Roster,
+    solver: &mut Solver,
+    v: u32,
+    hint: u64,
+    steps: &mut Steps<L>,
+) -> Result<u64, AllocError>
+    requires inside { v < length roster.old.came }
+    requires ready { (entered : ℕ → Bool) × (messages : List Message) × IsEntering entered messages roster.old solver.old }
+    requires nodes { length solver.old.graph.nodes + 2 ≤ most_nodes }
+    requires room { HasRoom (length solver.old.graph.nodes + 2) solver.old }
+    requires arcs { length solver.old.graph.arcs + 6 ≤ most_arcs }
+    ensures come { OnOk result (HaveCome [] roster.old roster.new solver.old solver.new) }
+    ensures entered { OnOk result (HasNode solver.new.graph (nodes.Event v)) }
+    ensures nodes { OnOk result (length solver.new.graph.nodes ≤ length solver.old.graph.nodes + 2) }
+    ensures arcs { OnOk result (length solver.new.graph.arcs ≤ length solver.old.graph.arcs + 6) }
+    ensures declaration { roster.new.declaration ≡ roster.old.declaration }
+    ensures extends { OnOk result (Extends solver.old solver.new) }
+    ensures steps { OnOk result (TakesFewToPush solver.old solver.new steps.old steps.new) }
+{
+    if has_entered(solver, v) {
+        return Ok(hint);
+    }
+    enter_new(roster, solver, v, hint, steps)
 }

@@ -16,10 +16,11 @@ ghost use Rattle.traces.specs.Traces.{host_of};
 ghost use Rattle.roster.specs.Roster.{IsUnder};
 ghost use Rattle.growth.specs.Growing.{IsGrowing};
 ghost use Rattle.growth.specs.Once.{IsOn};
-ghost use Rattle.kept_graph.specs.Kept.{HasArcs, KeepsRows, number_of, numbered_message};
+ghost use Rattle.kept_graph.specs.Kept.{HasArcs, number_of, numbered_message};
 ghost use Rattle.kept_graph.specs.Pushing.{Brings};
-ghost use Rattle.kept_graph.specs.Growing.{Retells};
-ghost use Rattle.kept_graph.specs.UnderWay.{IsUnderWay};
+ghost use Rattle.kept_graph.specs.Extending.{Extends, TakesFewToPush};
+ghost use Rattle.kept_graph.specs.UnderWay.{IsEntering};
+ghost use Rattle.kept_graph.specs.Coming.{HaveCome};
 
 use crate::pushing::push_bound;
 use atto::{Steps, delay_units};
@@ -66,6 +67,7 @@ fn push_most<L: Ledger>(
     requires to { HasNode solver.old.graph (nodes.Event message.now.receive) }
     requires room { length solver.old.graph.arcs + 1 ≤ most_arcs }
     ensures brings { OnOk result (Brings (most_bound message.now message.now.most) solver.old solver.new) }
+    ensures steps { OnOk result (TakesFewToPush solver.old solver.new steps.old steps.new) }
     ensures arc { OnOk result ((w : ℕ) → message.now.most ≡ Some w → IsOn solver.new.graph (length solver.old.graph.arcs)
         × ((arc_at solver.new.graph.arcs (length solver.old.graph.arcs)).name ≡ DelayMost message.now.send message.now.receive)
         × (length solver.new.graph.arcs ≡ suc (length solver.old.graph.arcs))) }
@@ -100,6 +102,7 @@ pub(crate) fn push_message<L: Ledger>(
     requires to { HasNode solver.old.graph (nodes.Event message.now.receive) }
     requires room { length solver.old.graph.arcs + 2 ≤ most_arcs }
     ensures brings { OnOk result (Brings (message_bounds message.now) solver.old solver.new) }
+    ensures steps { OnOk result (TakesFewToPush solver.old solver.new steps.old steps.new) }
     ensures arc { IfOk result (λ arc. HasArcs solver.new.graph message.now arc) }
     ensures left { OnOk result ((p : ProblemLists) (entered : ℕ → Bool) (rest : List Bound) → Contains p.messages message.now
         → IsGrowing p entered (message_bounds message.now ++ rest) solver.old.graph → IsGrowing p entered rest solver.new.graph) }
@@ -128,14 +131,16 @@ pub fn join<L: Ledger>(
 ) -> Result<(), AllocError>
     requires send { (v : ℕ) × IsUnder roster.old.under couple.now.send v }
     requires receive { (v : ℕ) × IsUnder roster.old.under couple.now.receive v }
-    requires ready { (messages : List Message) × IsUnderWay messages roster.old solver.old }
+    requires sent { HasNode solver.old.graph (nodes.Event (number_of roster.old.under couple.now.send)) }
+    requires received { HasNode solver.old.graph (nodes.Event (number_of roster.old.under couple.now.receive)) }
+    requires ready { (entered : ℕ → Bool) × (messages : List Message) × IsEntering entered messages roster.old solver.old }
     requires arcs { length solver.old.graph.arcs + 2 ≤ most_arcs }
-    ensures grown { OnOk result ((messages : List Message) → IsUnderWay messages roster.old solver.old
-        → ((n : Message) → Contains messages n → n.send ≢ number_of roster.old.under couple.now.send)
-        → IsUnderWay (numbered_message roster.old couple.now ∷ messages) roster.new solver.new) }
-    ensures retells { OnOk result (Retells roster.old roster.new) }
+    ensures come { OnOk result (HaveCome (couple.now ∷ []) roster.old roster.new solver.old solver.new) }
+    ensures nodes { OnOk result (solver.new.graph.nodes ≡ solver.old.graph.nodes) }
     ensures arcs { OnOk result (length solver.new.graph.arcs ≤ length solver.old.graph.arcs + 2) }
-    ensures rows { OnOk result (KeepsRows solver.old solver.new) }
+    ensures declaration { roster.new.declaration ≡ roster.old.declaration }
+    ensures extends { OnOk result (Extends solver.old solver.new) }
+    ensures steps { OnOk result (TakesFewToPush solver.old solver.new steps.old steps.new) }
 {
     let _ = roster.decl();
     let message = message_of(roster, couple);

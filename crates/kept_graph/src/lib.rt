@@ -1,13 +1,22 @@
-//! A graph that is kept while events come: an event that comes to the roster enters the graph, and a message joins it
-//! once both its ends stand. Between any two of these calls the graph has grown to all that the roster holds, whatever
-//! the order in which it came.
+//! A graph that is kept while events come. An addition brings events of one label, and with them the messages may change:
+//! those that go are withdrawn, the events enter the graph in the order of their stamps, and each message that comes joins it as
+//! soon as both its ends have entered. Between any two of these steps the graph has grown to the events that have entered.
 //!
-//! No command uses it yet.
+//! Behind an addition the graph stands for the problem of all that was accepted, whatever the order in which it came. It has at
+//! most eight arcs an event, those of withdrawn messages among them.
 #![tactic(auto)]
 
+mod changing;
+mod coming;
 mod entering;
 mod joining;
+mod kept;
+mod nearest;
+mod planning;
 mod pushing;
+mod room;
+mod withdrawing;
 
 pub use entering::enter;
 pub use joining::join;
+pub use kept::KeptGraph;

@@ -14,6 +14,7 @@ ghost use Rattle.engine.specs.Current.{IsCurrent};
 ghost use Rattle.growth.specs.Growing.{IsGrowing};
 ghost use Rattle.growth.specs.Once.{IsOn};
 ghost use Rattle.kept_graph.specs.Pushing.{Brings};
+ghost use Rattle.kept_graph.specs.Extending.{TakesFewToPush};
 
 use atto::{Nano, Steps, delay_units, span_least, span_most};
 use engine::Solver;
@@ -47,6 +48,7 @@ pub(crate) fn push_bound<L: Ledger>(
     requires high { weight <ℤ pos (2 ^ 93) }
     requires room { length solver.old.graph.arcs < most_arcs }
     ensures brings { OnOk result (Brings (name ∷ []) solver.old solver.new) }
+    ensures steps { OnOk result (TakesFewToPush solver.old solver.new steps.old steps.new) }
     ensures nodes { OnOk result (solver.new.graph.nodes ≡ solver.old.graph.nodes) }
     ensures arcs { OnOk result (length solver.new.graph.arcs ≡ length solver.old.graph.arcs + 1) }
     ensures on { OnOk result (IsOn solver.new.graph (length solver.old.graph.arcs)) }
@@ -82,6 +84,7 @@ pub(crate) fn push_span<L: Ledger>(
     requires to { HasNode solver.old.graph (nodes.Reading place t) }
     requires room { length solver.old.graph.arcs + 2 ≤ most_arcs }
     ensures brings { OnOk result (Brings (SpanMost place s t ∷ SpanLeast place s t ∷ []) solver.old solver.new) }
+    ensures steps { OnOk result (TakesFewToPush solver.old solver.new steps.old steps.new) }
     ensures left { OnOk result ((p : ProblemLists) (entered : ℕ → Bool) (rest : List Bound)
         → ClockAt p place clock.now
         → IsGrowing p entered (SpanMost place s t ∷ SpanLeast place s t ∷ rest) solver.old.graph → IsGrowing p entered rest solver.new.graph) }
@@ -123,6 +126,7 @@ pub(crate) fn push_stamp<L: Ledger>(
     requires to { HasNode solver.old.graph (nodes.Event v) }
     requires room { length solver.old.graph.arcs + 2 ≤ most_arcs }
     ensures brings { OnOk result (Brings (Late v ∷ Early v ∷ []) solver.old solver.new) }
+    ensures steps { OnOk result (TakesFewToPush solver.old solver.new steps.old steps.new) }
     ensures left { OnOk result ((p : ProblemLists) (entered : ℕ → Bool) (rest : List Bound) (e : Event)
         → EventAt p v e → e.clock ≡ place → e.stamp ≡ stamp → ClockAt p place clock.now
         → IsGrowing p entered (Late v ∷ Early v ∷ rest) solver.old.graph → IsGrowing p entered rest solver.new.graph) }

@@ -4,6 +4,7 @@ use Rattle.problem_model.specs.declared.items.Bound.TheVariants.{Late, Early}
 use Rattle.problem_model.specs.declared.items.Node.TheVariants as nodes
 use Rattle.growth.specs.Entering.{span_below, span_above}
 use Rattle.kept_graph.proofs.Bringing.{brings_then, has_still, above_still, below_few, above_few}
+use Rattle.kept_graph.proofs.Extending.{extends_then, few_then}
 use Rattle.kept_graph.proofs.entering.push_entry.Goals as goal
 
 pub push_above-requires-clause-current : goal.push_above-requires-clause-current
@@ -55,3 +56,10 @@ returns-clause-left g c = λ p entered e event on is clock left.
     let own : List Bound = Late c.args.v ∷ Early c.args.v ∷ [] in
     c.in_ok-push_stamp.ensures.left p entered [] e event on is clock
     (c.in_ok-push_above.ensures.left p entered own clock (c.in_ok-push_below.ensures.left p entered (span_above c.args.place c.args.stamp c.args.above ++ own) clock left))
+
+pub returns-clause-steps : goal.returns-clause-steps
+returns-clause-steps g c =
+    few_then c.args.solver.now c.push_below.new.solver c.push_stamp.new.solver c.args.steps.now c.push_below.new.steps c.push_stamp.new.steps c.in_ok-push_below.ensures.brings.extends
+    (extends_then c.push_below.new.solver c.push_above.new.solver c.push_stamp.new.solver c.in_ok-push_above.ensures.brings.extends c.in_ok-push_stamp.ensures.brings.extends) c.in_ok-push_below.ensures.steps
+    (few_then c.push_below.new.solver c.push_above.new.solver c.push_stamp.new.solver c.push_below.new.steps c.push_above.new.steps c.push_stamp.new.steps
+    c.in_ok-push_above.ensures.brings.extends c.in_ok-push_stamp.ensures.brings.extends c.in_ok-push_above.ensures.steps c.in_ok-push_stamp.ensures.steps)

@@ -10,6 +10,7 @@ use Rattle.sync_graph.specs.Graph.{GraphLists}
 use Rattle.growth.specs.Growing.{IsGrowing}
 use Rattle.kept_graph.proofs.Bringing.{brings_then, has_still}
 use Rattle.kept_graph.proofs.OneMessage.{most_few, arcs_of_two}
+use Rattle.kept_graph.proofs.Extending.{few_then}
 use Rattle.kept_graph.proofs.joining.push_message.Goals as goal
 
 pub push_bound-requires-clause-current : goal.push_bound-requires-clause-current
@@ -45,3 +46,8 @@ returns-clause-left g c = λ p entered rest held is.
     c.in_ok-push_bound.ensures.left p entered rest a (m, held, refl, refl, refl) refl refl (omega (arith, ints, c.delay_units.ensures.exact))
     (c.in_ok-push_most.ensures.left p entered (DelayLeast m.send m.receive ∷ rest) held
     (subst (λ (bs : List Bound). IsGrowing p entered bs c.args.solver.now.graph) (append_assoc (most_bound m m.most) (DelayLeast m.send m.receive ∷ []) rest) is))
+
+pub returns-clause-steps : goal.returns-clause-steps
+returns-clause-steps g c =
+    few_then c.args.solver.now c.push_most.new.solver c.push_bound.new.solver c.args.steps.now c.push_most.new.steps c.push_bound.new.steps
+    c.in_ok-push_most.ensures.brings.extends c.in_ok-push_bound.ensures.brings.extends c.in_ok-push_most.ensures.steps c.in_ok-push_bound.ensures.steps

@@ -6,6 +6,7 @@ use Rattle.problem_model.specs.declared.items.Bound.TheVariants.{SpanMost, SpanL
 use Rattle.problem_model.specs.declared.items.Node.TheVariants as nodes
 use Rattle.problem_model.specs.Bounds.{Constraint}
 use Rattle.kept_graph.proofs.Bringing.{brings_then, reading_by}
+use Rattle.kept_graph.proofs.Extending.{few_then}
 use Rattle.kept_graph.proofs.pushing.push_span.Goals as goal
 
 pub returns-clause-brings : goal.returns-clause-brings
@@ -21,3 +22,8 @@ returns-clause-left g c = λ p entered rest at is.
     let least : Constraint = record { from = nodes.Reading c.args.place c.args.t; to = nodes.Reading c.args.place c.args.s; weight = neg_ℤ (pos (least_of k.rate (c.args.t - c.args.s))) } in
     c.in_ok-push_bound-2.ensures.left p entered rest least (k, at, is_s, is_t, c.requires.rising, refl) refl refl (omega (arith, ints, c.span_least-weight.ensures.exact))
     (c.in_ok-push_bound.ensures.left p entered (SpanLeast c.args.place c.args.s c.args.t ∷ rest) most (k, at, is_s, is_t, c.requires.rising, refl) refl refl (omega (arith, ints, c.span_most-weight.ensures.exact)) is)
+
+pub returns-clause-steps : goal.returns-clause-steps
+returns-clause-steps g c =
+    few_then c.args.solver.now c.push_bound.new.solver c.push_bound-2.new.solver c.args.steps.now c.push_bound.new.steps c.push_bound-2.new.steps
+    c.in_ok-push_bound.ensures.brings.extends c.in_ok-push_bound-2.ensures.brings.extends c.in_ok-push_bound.ensures.steps c.in_ok-push_bound-2.ensures.steps

@@ -5,6 +5,7 @@ use Rattle.problem_model.specs.declared.items.Bound.TheVariants.{Late, Early}
 use Rattle.problem_model.specs.declared.items.Node.TheVariants as nodes
 use Rattle.problem_model.specs.Bounds.{Constraint, ClockAt}
 use Rattle.kept_graph.proofs.Bringing.{brings_then}
+use Rattle.kept_graph.proofs.Extending.{few_then}
 use Rattle.kept_graph.proofs.pushing.push_stamp.Goals as goal
 
 pub push_bound-requires-clause-joins : goal.push_bound-requires-clause-joins
@@ -26,3 +27,8 @@ returns-clause-left g c = λ p entered rest e event on is clock left.
     let at : ClockAt p e.clock k = subst (λ (m : ℕ). ClockAt p m k) (sym on) clock in
     c.in_ok-push_bound-2.ensures.left p entered rest early (e, k, event, at, refl) refl same (omega (arith, ints, c.delay_units-early.ensures.exact))
     (c.in_ok-push_bound.ensures.left p entered (Early c.args.v ∷ rest) late (e, k, event, at, refl) same refl (omega (arith, ints, c.delay_units-late.ensures.exact)) left)
+
+pub returns-clause-steps : goal.returns-clause-steps
+returns-clause-steps g c =
+    few_then c.args.solver.now c.push_bound.new.solver c.push_bound-2.new.solver c.args.steps.now c.push_bound.new.steps c.push_bound-2.new.steps
+    c.in_ok-push_bound.ensures.brings.extends c.in_ok-push_bound-2.ensures.brings.extends c.in_ok-push_bound.ensures.steps c.in_ok-push_bound-2.ensures.steps

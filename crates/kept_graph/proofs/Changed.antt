@@ -1,0 +1,247 @@
+-- Events come at once, and the messages change: what is kept behind it.
+use Rattle.std.proofs.Common.{◌≡◌, ◌⊎◌, ◌<◌, ◌≤◌, ◌+◌, ◌*◌, ◌^◌, ℕ, zero, suc, List, [], ◌∷◌, ◌++◌, length, map, set, Contains, All, inl, inr, refl, sym, ◌∙◌, ap, subst, arith}
+use Rattle.std.specs.List.{range_with_len}
+use Rattle.std.specs.List.Sorted.{IsPermutation}
+use Rattle.std.proofs.lemmas.Bool.{cases_eq, cases_lt}
+use Rattle.std.proofs.lemmas.List.{length-map, set-get_or}
+use Rattle.std.proofs.lemmas.List.Elements.{All-append, All-cons, All-head, All-nil, All-tail}
+use Rattle.std.proofs.lemmas.List.FromFn.{length-range_with_len}
+use Rattle.std.proofs.lemmas.List.Sorted.{All-permutation, Contains-permutation, IsPermutation-sym, length_permutation}
+use Rattle.std.proofs.lemmas.Option.{slice_get-get_or}
+use Rattle.problem_model.specs.declared.items.Message.{Message}
+use Rattle.problem_model.specs.declared.items.Node.TheVariants as nodes
+use Rattle.sync_graph.specs.Standing.{HasNode}
+use Rattle.engine.specs.Solver.{SolverLists}
+use Rattle.trace_event.specs.declared.event.Event.{Event}
+use Rattle.trace_event.specs.Seen.{Seen, seen_event, seen_events}
+use Rattle.traces.specs.declared.event.Couple.{Couple}
+use Rattle.traces.specs.Traces.{events_of}
+use Rattle.traces.proofs.Members.{here, there}
+use Rattle.traces.specs.Messages.{messages_of}
+use Rattle.trace_problem.specs.Making.{StampsFit}
+use Rattle.trace_match.specs.Ends.{AreNewMessages}
+use Rattle.roster.specs.Groups.{group_at}
+use Rattle.roster.specs.Readings.{stamps_of}
+use Rattle.roster.specs.Roster.{RosterLists, IsRoster, IsUnder, IsGrown, Holds}
+use Rattle.roster.proofs.Turns.{map-map}
+use Rattle.growth.specs.Entered.{events_below}
+use Rattle.growth.specs.Told.{messages_by_number, numbered_message}
+use Rattle.kept_graph.specs.declared.planning.Due.{Due}
+use Rattle.kept_graph.specs.declared.planning.Turn.{Turn}
+use Rattle.kept_graph.specs.Kept.{IsKeptFor, with_more}
+use Rattle.kept_graph.specs.UnderWay.{IsUnderWay, IsEntering}
+use Rattle.kept_graph.specs.Growing.{Gains, Retells, KeepsNodesThere}
+use Rattle.kept_graph.specs.Withdrawing.{AreLeft}
+use Rattle.kept_graph.specs.Planning.{numbers_of, couples_of}
+use Rattle.kept_graph.specs.Coming.{HaveOwnSends, HaveCome}
+use Rattle.kept_graph.proofs.Alike.{AreAlike}
+use Rattle.kept_graph.proofs.Both.{AreInBoth, in_both, differ_permuted}
+use Rattle.kept_graph.proofs.Gaining.{gains_behind, same_numbered}
+use Rattle.kept_graph.proofs.Held.{labels_many}
+use Rattle.kept_graph.proofs.InARow.{keeps_none}
+use Rattle.kept_graph.proofs.NewEnds.{few_added}
+use Rattle.kept_graph.proofs.Pushed.{pushed_gains, came_count, begins, before_there, ends_way}
+use Rattle.kept_graph.proofs.Staying.{gone_sends, gone_receives, are_left, own_sends, come_sends, come_receives, all_there}
+use Rattle.kept_graph.proofs.WholeGraph.{kept_way, way_kept}
+
+-- ---- stamps
+abbrev Fits : Seen → Type 0
+Fits s = s.stamp < 2 ^ 62
+
+seen_fit : (events : List Event) → All (λ (stamp : ℕ). stamp < 2 ^ 62) (stamps_of events) → All Fits (seen_events events)
+seen_fit [] fit = All-nil Fits
+seen_fit (e ∷ events) fit =
+    let P : ℕ → Type 0 = λ stamp. stamp < 2 ^ 62 in
+    All-cons Fits (seen_event e) (seen_events events) (All-head P e.stamp (stamps_of events) fit) (seen_fit events (All-tail P e.stamp (stamps_of events) fit))
+
+more_fit : (seen : List (List Seen)) (label : ℕ) (more : List Seen) → StampsFit seen → All Fits more → StampsFit (set seen label (group_at seen label ++ more))
+more_fit [] label more fit also = All-nil (All Fits)
+more_fit (s ∷ seen) zero more fit also = All-cons (All Fits) (s ++ more) seen (All-append Fits s more (All-head (All Fits) s seen fit) also) (All-tail (All Fits) s seen fit)
+more_fit (s ∷ seen) (suc label) more fit also =
+    All-cons (All Fits) s (set seen label (group_at seen label ++ more)) (All-head (All Fits) s seen fit) (more_fit seen label more (All-tail (All Fits) s seen fit) also)
+
+-- ---- messages by two functions
+map_alike : (f g : Couple → Message) (ms : List Couple) → ((m : Couple) → f m ≡ g m) → map f ms ≡ map g ms
+map_alike f g [] same = refl
+map_alike f g (m ∷ ms) same = ap (λ (x : Message). x ∷ map f ms) (same m) ∙ ap (λ (l : List Message). g m ∷ l) (map_alike f g ms same)
+
+-- ---- in another order
+-- numbers from one on
+range_below : (first many top : ℕ) → first + many ≤ top → All (λ (v : ℕ). v < top) (range_with_len first many)
+range_below first zero top few = All-nil (λ (v : ℕ). v < top)
+range_below first (suc many) top few = All-cons (λ (v : ℕ). v < top) first (range_with_len (first + 1) many) (omega (arith, few)) (range_below (first + 1) many top (omega (arith, few)))
+
+range_has : (first many v : ℕ) → first ≤ v → v < first + many → Contains (range_with_len first many) v
+range_has first zero v from less = absurd (omega (arith, from, less))
+range_has first (suc many) v from less = elim (cases_eq v first) [
+  | inl same ↦ subst (Contains (first ∷ range_with_len (first + 1) many)) (sym same) (here first (range_with_len (first + 1) many))
+  | inr other ↦ there first v (range_with_len (first + 1) many) (range_has (first + 1) many v (omega (arith, from, other)) (omega (arith, less)))
+]
+
+-- ---- nothing comes
+same_seen : (seen : List (List Seen)) (label : ℕ) → with_more seen label [] ≡ seen
+same_seen seen label = ap (set seen label) (append_nil (group_at seen label)) ∙ set-get_or seen label []
+  where
+    append_nil : {X : Type 0} (xs : List X) → xs ++ [] ≡ xs
+    append_nil [] = refl
+    append_nil {X} (x ∷ xs) = ap (λ (ys : List X). x ∷ ys) (append_nil xs)
+
+no_couples : (couples : List Couple) → ((m : Couple) → Contains couples m → ⊥) → couples ≡ []
+no_couples [] none = refl
+no_couples (m ∷ couples) none = absurd (none m (here m couples))
+
+-- no message goes then
+pub none_gone : (before : List (List Seen)) (label : ℕ) (events : List Event) (gone : List Couple) → events ≡ [] → AreNewMessages (with_more before label (seen_events events)) before gone → gone ≡ []
+none_gone before label events gone none went =
+    let same : with_more before label (seen_events events) ≡ before = ap (λ (es : List Event). with_more before label (seen_events es)) none ∙ same_seen before label in
+    let new : AreNewMessages before before gone = subst (λ (after : List (List Seen)). AreNewMessages after before gone) same went in
+    no_couples gone (λ m among. (let is = new.only m among in is.1 is.0))
+
+-- the same new messages in another order
+new_permuted : (before after : List (List Seen)) (some others : List Couple) → IsPermutation some others → AreNewMessages before after some → AreNewMessages before after others
+new_permuted before after some others permuted is = record {
+  only = λ m has. is.only m (Contains-permutation others some m (IsPermutation-sym some others permuted) has);
+  all = λ m new. Contains-permutation some others m permuted (is.all m new);
+  once = differ_permuted some others permuted is.once;
+}
+
+-- ---- an addition
+module _ (before : List (List Seen)) (label : ℕ) (events : List Event) (added gone : List Couple) (r : RosterLists) (s : SolverLists) (is : IsRoster r) (inside : label < length r.declaration.labels) (kept : IsKeptFor before r s)
+    (come : AreNewMessages before (with_more before label (seen_events events)) added) (went : AreNewMessages (with_more before label (seen_events events)) before gone) where
+  abbrev after : List (List Seen)
+  after = with_more before label (seen_events events)
+
+  pub staying : (both : List Couple) × AreInBoth (messages_of (events_of before)) (messages_of (events_of after)) both
+  staying = in_both (messages_of (events_of before)) (messages_of (events_of after))
+
+  abbrev stay : List Message
+  stay = map (numbered_message r) staying.0
+
+  -- before anything comes
+  pub sends_there : All (λ (m : Couple). (v : ℕ) × IsUnder r.under m.send v) gone
+  sends_there = gone_sends r is before after kept.holds gone staying.0 went staying.1
+
+  pub receives_there : All (λ (m : Couple). (v : ℕ) × IsUnder r.under m.receive v) gone
+  receives_there = gone_receives r is before after kept.holds gone staying.0 went staying.1
+
+  pub way_there : IsUnderWay (messages_by_number r before) r s
+  way_there = kept_way r is before s kept
+
+  pub left_there : AreLeft (messages_by_number r before) (map (numbered_message r) gone) (map (numbered_message r) staying.0)
+  left_there = are_left r is before after kept.holds gone staying.0 went staying.1
+
+  -- messages are withdrawn
+  module _ (r1 : RosterLists) (s1 : SolverLists) (retells : Retells r r1) (arcs : s1.graph.arcs ≡ s.graph.arcs)
+      (left : (messages left : List Message) → IsUnderWay messages r s → AreLeft messages (map (numbered_message r) gone) left → IsUnderWay left r1 s1) where
+    pub way_left : IsUnderWay (map (numbered_message r) staying.0) r1 s1
+    way_left = left (messages_by_number r before) stay way_there left_there
+
+    -- events are pushed
+    module _ (r2 : RosterLists) (is1 : IsRoster r1) (is2 : IsRoster r2) (pushed : IsGrown r1 r2 label (stamps_of events)) where
+      pub begins_there : IsEntering (events_below (length r1.came)) (map (numbered_message r) staying.0) r2 s1
+      begins_there = begins r1 r2 is1 is2 label (stamps_of events) pushed stay s1 way_left
+
+      count_there : length r2.came ≡ length r.came + length events
+      count_there = (
+          let many = came_count r1 r2 is1 is2 label (stamps_of events) pushed in
+          let same = retells.count in
+          omega (arith, many, same, length-map events (λ (e : Event). e.stamp)))
+
+      gains_when : (last : RosterLists) → KeepsNodesThere s1.graph r2 last → Gains label (stamps_of events) r last
+      gains_when last keeps = gains_behind label (stamps_of events) r r1 last retells (pushed_gains r1 r2 is1 is2 label (stamps_of events) pushed s1.graph last way_left.grown.knows keeps)
+
+      gains : Gains label (stamps_of events) r r2
+      gains = gains_when r2 (keeps_none s1.graph r2)
+
+      holds : Holds r2 (with_more before label (seen_events events))
+      holds =
+          let within : label < length before = subst (λ (n : ℕ). label < n) (sym (labels_many r is before kept.holds)) inside in
+          gains.holds before (group_at before label) (seen_events events) kept.holds (slice_get-get_or before label [] within) (map-map (λ (x : Seen). x.stamp) seen_event events)
+
+      pub sends_came : All (λ (m : Couple). (v : ℕ) × IsUnder r2.under m.send v) added
+      sends_came = come_sends r r2 is is2 before after kept.holds holds gains.declaration gains.under added staying.0 come staying.1
+
+      pub receives_came : All (λ (m : Couple). (v : ℕ) × IsUnder r2.under m.receive v) added
+      receives_came = come_receives r r2 is is2 before after kept.holds holds gains.declaration gains.under added staying.0 come staying.1
+
+      -- turns are taken
+      module _ (turns : List Turn) (dues : List Due) (order : IsPermutation (range_with_len (length r1.came) (length events)) (numbers_of turns)) (queue : IsPermutation added (couples_of dues)) where
+        come_due : AreNewMessages before after (couples_of dues)
+        come_due = new_permuted before after added (couples_of dues) queue come
+
+        pub sends_due : All (λ (m : Couple). (v : ℕ) × IsUnder r2.under m.send v) (couples_of dues)
+        sends_due = All-permutation (λ (m : Couple). (v : ℕ) × IsUnder r2.under m.send v) added (couples_of dues) queue sends_came
+
+        pub receives_due : All (λ (m : Couple). (v : ℕ) × IsUnder r2.under m.receive v) (couples_of dues)
+        receives_due = All-permutation (λ (m : Couple). (v : ℕ) × IsUnder r2.under m.receive v) added (couples_of dues) queue receives_came
+
+        pub own_due : HaveOwnSends r2.under (couples_of dues) (map (numbered_message r) staying.0)
+        own_due = own_sends r r2 is is2 before after kept.holds holds gains.declaration gains.under (couples_of dues) staying.0 come_due staying.1
+
+        few_due : length dues ≤ length events
+        few_due =
+            let few = few_added before label (seen_events events) (couples_of dues) come_due in
+            omega (arith, few, length-map dues (λ (d : Due). d.couple), length-map events seen_event)
+
+        many_turns : length turns ≡ length events
+        many_turns =
+            let many = length_permutation (range_with_len (length r1.came) (length events)) (numbers_of turns) order in
+            omega (arith, many, length-map turns (λ (t : Turn). t.event), length-range_with_len (length r1.came) (length events))
+
+        pub inside_turns : All (λ v. v < length r2.came) (numbers_of turns)
+        inside_turns =
+            All-permutation (λ (v : ℕ). v < length r2.came) (range_with_len (length r1.came) (length events)) (numbers_of turns) order
+            (range_below (length r1.came) (length events) (length r2.came) (let many = count_there in let same = retells.count in omega (arith, many, same)))
+
+        pub all_turns : (v : ℕ) → v < length r2.came → HasNode s1.graph (nodes.Event v) ⊎ Contains (numbers_of turns) v
+        all_turns v less = elim (cases_lt v (length r1.came)) [
+          | inl old ↦ inl (before_there r1 r2 is1 is2 label (stamps_of events) pushed stay s1 way_left v old)
+          | inr new ↦ inr (Contains-permutation (range_with_len (length r1.came) (length events)) (numbers_of turns) v order
+              (range_has (length r1.came) (length events) v new (let many = count_there in let same = retells.count in omega (arith, less, many, same))))
+        ]
+
+        -- at most eight arcs and two nodes an event
+        few_arcs : length s1.graph.arcs + 6 * length turns + 2 * length dues ≤ 8 * (length r.came + length events)
+        few_arcs =
+            let few = kept.few in
+            omega (arith, few, ap length arcs, few_due, many_turns)
+
+        pub few_nodes : length s1.graph.nodes + 2 * length turns ≤ 2 * (length r.came + length events)
+        few_nodes = (let few = way_left.nodes in let same = retells.count in omega (arith, few, same, many_turns))
+
+        pub arcs_last : length r.came + length events ≤ 2 ^ 20 → length s1.graph.arcs + 6 * length turns + 2 * length dues ≤ 2 ^ 25
+        arcs_last all = let few = few_arcs in omega (arith, few, all)
+
+        pub nodes_last : length r.came + length events ≤ 2 ^ 20 → length s1.graph.nodes + 2 * length turns ≤ 2 ^ 22
+        nodes_last all = let few = few_nodes in omega (arith, few, all)
+
+        -- all have come
+        module _ (r3 : RosterLists) (s3 : SolverLists) (is3 : IsRoster r3) (have : HaveCome (couples_of dues) r2 r3 s1 s3) (all : (v : ℕ) → v < length r2.came → HasNode s3.graph (nodes.Event v))
+            (nodes_few : length s3.graph.nodes ≤ length s1.graph.nodes + 2 * length turns) (arcs_few : length s3.graph.arcs ≤ length s1.graph.arcs + 6 * length turns + 2 * length dues) where
+          pub gains_all : Gains label (stamps_of events) r r3
+          gains_all = gains_when r3 have.keeps
+
+          pub count_all : length r3.came ≡ length r.came + length events
+          count_all = have.keeps.count ∙ count_there
+
+          pub way_all : IsUnderWay (map (numbered_message r2) (couples_of dues) ++ map (numbered_message r) staying.0) r3 s3
+          way_all =
+              let (now, way) = have.grown (events_below (length r1.came)) stay begins_there own_due in
+              let same = have.keeps.count in
+              ends_way r3 is3 now (map (numbered_message r2) (couples_of dues) ++ stay) s3 way (λ v less. all v (omega (arith, less, same)))
+              (let few = few_nodes in let many = count_all in omega (arith, few, many, nodes_few))
+
+          -- at most eight arcs an event that comes
+          pub arcs_all : length s3.graph.arcs ≤ length s.graph.arcs + 8 * length events
+          arcs_all = omega (arith, ap length arcs, arcs_few, few_due, many_turns)
+
+          alike_all : AreAlike (map (numbered_message r2) (couples_of dues) ++ map (numbered_message r) staying.0) (messages_by_number r3 after)
+          alike_all =
+              subst (AreAlike (map (numbered_message r2) (couples_of dues) ++ stay))
+              (sym (map_alike (numbered_message r3) (numbered_message r2) (messages_of (events_of after)) (same_numbered r2 r3 have.keeps.declaration have.keeps.under)))
+              (all_there r r2 is is2 before after kept.holds holds gains.declaration gains.under (couples_of dues) staying.0 come_due staying.1)
+
+          pub kept_all : All (λ stamp. stamp < 2 ^ 62) (stamps_of events) → IsKeptFor (with_more before label (seen_events events)) r3 s3
+          kept_all fit =
+              way_kept r3 is3 after s3 (map (numbered_message r2) (couples_of dues) ++ stay) (have.keeps.holds after holds) (more_fit before label (seen_events events) kept.stamps (seen_fit events fit)) alike_all way_all
+              (let few = few_arcs in omega (arith, few, arcs_few, count_all))

@@ -1,0 +1,8 @@
+use Rattle.std.proofs.Common.{ap}
+use Rattle.roster.specs.Roster.{RosterLists}
+use Rattle.kept_graph.proofs.WholeGraph.{nothing_kept}
+use Rattle.kept_graph.proofs.kept.KeptGraph.new.Goals as goal
+
+pub returns-clause-kept : goal.returns-clause-kept
+returns-clause-kept c =
+    nothing_kept c.in_ok-roster.roster c.decl.ensures.lawful (ap (λ (r : RosterLists). r.came) c.in_ok-roster.ensures) c.new-2.result c.new-2.ensures.graph c.new-2.ensures.current

@@ -1,0 +1,11 @@
+use Rattle.std.proofs.Common.{ℕ, List, subst}
+use Rattle.std.specs.List.Sorted.{IsPermutation}
+use Rattle.std.proofs.lemmas.List.Sorted.{IsPermutation-map}
+use Rattle.kept_graph.specs.declared.planning.Turn.{Turn}
+use Rattle.kept_graph.specs.Planning.{numbers_of}
+use Rattle.kept_graph.proofs.planning.turns_of.Goals as goal
+
+pub returns-clause-numbers : goal.returns-clause-numbers
+returns-clause-numbers c =
+    subst (λ (l : List ℕ). IsPermutation l (numbers_of c.sort_unstable_by_key.new.self.items)) c.in_ok-turns.ensures.numbers
+    (IsPermutation-map (λ (t : Turn). t.event) _ _ c.sort_unstable_by_key.ensures.permutation)
