@@ -36,7 +36,7 @@ same_some : (x y : List ℕ) → Some x ≡ Some y → x ≡ y
 same_some x y e = cc
 
 -- where no line is left, no byte is left
-none_left : (r : Reader) (script left rest bytes : List ℕ) (before after : SourceTold) (done : List (List ℕ)) (ended : Bool) → r.ended ≡ ended →
+pub none_left : (r : Reader) (script left rest bytes : List ℕ) (before after : SourceTold) (done : List (List ℕ)) (ended : Bool) → r.ended ≡ ended →
     IsPlace script done (r.held ++ left) ended → before.left ≡ Some left → left ≡ bytes ++ rest → after.left ≡ Some rest → Ends r before after bytes → (r.held ++ left ≡ []) × (left ≡ [])
 none_left r script left rest bytes before after done true is place told cut behind ends = (place.1, tail_none r.held left place.1)
 none_left r script left rest bytes before after done false is place told cut behind ends =
@@ -44,11 +44,11 @@ none_left r script left rest bytes before after done false is place told cut beh
     let all : left ≡ [] = cut ∙ rw (ends.none, none) refl in
     (rw (ends.held, all) refl, all)
 
-lines_done : (script : List ℕ) (done : List (List ℕ)) (rest : List ℕ) (ended : Bool) → rest ≡ [] → IsPlace script done rest ended → lines_of script ≡ done
+pub lines_done : (script : List ℕ) (done : List (List ℕ)) (rest : List ℕ) (ended : Bool) → rest ≡ [] → IsPlace script done rest ended → lines_of script ≡ done
 lines_done script done rest true none place = place.0
 lines_done script done rest false none place = ap lines_of (place.0 ∙ ap (feeds done) none) ∙ lines_end done place.1
 
-few : (most taken : ℕ) (left script : List ℕ) → taken + length left ≡ length script → left ≡ [] → taken ≤ most → length script ≤ most
+pub few : (most taken : ℕ) (left script : List ℕ) → taken + length left ≡ length script → left ≡ [] → taken ≤ most → length script ≤ most
 few most taken left script count none within = omega (arith, count, ap length none, within)
 
 done_at : (d : Declaration) (old now now' : Devices) (held : Held) (r r' : Reader) (script : List ℕ) → IsAt d old now held r script → HasNoLine r r' now now' →
@@ -63,15 +63,15 @@ done_at d old now now' held r r' script here turn keeps =
     )
 
 -- where no last line was given, the script is the lines that are done, and the rest
-open_place : (script : List ℕ) (done : List (List ℕ)) (rest : List ℕ) (ended : Bool) → ended ≡ false → IsPlace script done rest ended → (script ≡ feeds done rest) × NoFeeds done
+pub open_place : (script : List ℕ) (done : List (List ℕ)) (rest : List ℕ) (ended : Bool) → ended ≡ false → IsPlace script done rest ended → (script ≡ feeds done rest) × NoFeeds done
 open_place script done rest true going place = absurd cc
 open_place script done rest false going place = place
 
-cut_at : (script held left more left' : List ℕ) (done : List (List ℕ)) → script ≡ feeds done (held ++ left) → left ≡ more ++ left' → script ≡ feeds done (held ++ more) ++ left'
+pub cut_at : (script held left more left' : List ℕ) (done : List (List ℕ)) → script ≡ feeds done (held ++ left) → left ≡ more ++ left' → script ≡ feeds done (held ++ more) ++ left'
 cut_at script held left more left' done is cut =
     is ∙ ap (λ (x : List ℕ). feeds done (held ++ x)) cut ∙ ap (feeds done) (sym (append_assoc held more left')) ∙ feeds_cut done (held ++ more) left'
 
-length_taken : (front left more left' script : List ℕ) (taken : ℕ) → taken + length left ≡ length script → left ≡ more ++ left' → script ≡ front ++ left' →
+pub length_taken : (front left more left' script : List ℕ) (taken : ℕ) → taken + length left ≡ length script → left ≡ more ++ left' → script ≡ front ++ left' →
     length front ≡ taken + length more
 length_taken front left more left' script taken count cut is =
     omega (arith, count, ap length cut, ap length is, length-append more left', length-append front left')
@@ -93,10 +93,10 @@ fault_at d old now now' held r r' script here turn keeps =
       replied = replied d old now now' held r script (whole_lines front) here (whole_broken here.done (r.held ++ turn.bytes) place.1 turn.breaks.part) turn.silent keeps;
     }
 
-one_more : (bytes front left left' : List ℕ) (another : ℕ) → left ≡ bytes ++ left' → bytes ≡ front ++ another ∷ [] → left ≡ front ++ another ∷ left'
+pub one_more : (bytes front left left' : List ℕ) (another : ℕ) → left ≡ bytes ++ left' → bytes ≡ front ++ another ∷ [] → left ≡ front ++ another ∷ left'
 one_more bytes front left left' another cut is = cut ∙ ap (λ (b : List ℕ). b ++ left') is ∙ append_assoc front (another ∷ []) left'
 
-past : (most : ℕ) (script front back : List ℕ) (another : ℕ) → script ≡ front ++ another ∷ back → length front ≡ most → (most < length script) × (take most script ≡ front)
+pub past : (most : ℕ) (script front back : List ℕ) (another : ℕ) → script ≡ front ++ another ∷ back → length front ≡ most → (most < length script) × (take most script ≡ front)
 past most script front back another is long =
     (omega (arith, ap length is, length-append front (another ∷ back), long), rw is (take_front front (another ∷ back) most long))
 

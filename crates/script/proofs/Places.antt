@@ -59,7 +59,7 @@ at_fresh d t held script stands told = record {
 pub at_start : (d : Declaration) (t : Devices) (held : Held) (r : Reader) (script : List ℕ) → r ≡ fresh → StandsFor held d (start d) → t.input.left ≡ Some script → IsAt d t t held r script
 at_start d t held r script is stands told = subst (λ (x : Reader). IsAt d t t held x script) (sym is) (at_fresh d t held script stands told)
 
-place_more : (script : List ℕ) (done : List (List ℕ)) (rest rest' line : List ℕ) (ended ended' : Bool) → ended ≡ false → IsPlace script done rest ended →
+pub place_more : (script : List ℕ) (done : List (List ℕ)) (rest rest' line : List ℕ) (ended ended' : Bool) → ended ≡ false → IsPlace script done rest ended →
     IsFirst rest line rest' ended' → IsPlace script (done ++ line ∷ []) rest' ended'
 place_more script done rest rest' line true ended' going place first = absurd cc
 place_more script done rest rest' line false false going place first =
@@ -83,7 +83,7 @@ lines_cut script done held rest false taken most place count few long =
     (whole_lines more, ap whole_lines cut ∙ whole_feeds done more place.1)
 
 -- the lines that have replies where nothing fails are those that are done and others
-within_behind : (script : List ℕ) (done : List (List ℕ)) (held rest : List ℕ) (ended : Bool) (taken : ℕ) → IsPlace script done (held ++ rest) ended → taken + length rest ≡ length script → taken ≤ most_taken →
+pub within_behind : (script : List ℕ) (done : List (List ℕ)) (held rest : List ℕ) (ended : Bool) (taken : ℕ) → IsPlace script done (held ++ rest) ended → taken + length rest ≡ length script → taken ≤ most_taken →
     (more : List (List ℕ)) × (lines_within script ≡ done ++ more)
 within_behind script done held rest ended taken place count few = go (nat_le (length script) most_taken) refl
   where
@@ -95,14 +95,14 @@ same_some : (x y : List ℕ) → Some x ≡ Some y → x ≡ y
 same_some x y e = cc
 
 -- a line that is given is the first of the bytes held and left
-given_first : (r r' : Reader) (before after : SourceTold) (left rest bytes line : List ℕ) → before.left ≡ Some left → left ≡ bytes ++ rest → after.left ≡ Some rest → Gives r r' before after bytes line →
+pub given_first : (r r' : Reader) (before after : SourceTold) (left rest bytes line : List ℕ) → before.left ≡ Some left → left ≡ bytes ++ rest → after.left ≡ Some rest → Gives r r' before after bytes line →
     IsFirst (r.held ++ left) line (r'.held ++ rest) r'.ended
 given_first r r' before after left rest bytes line told cut behind gives =
     let first = gives_first r r' before after bytes line rest gives (λ ended. same_some rest [] (sym behind ∙ nothing_left before after left told (gives.last ended))) in
     let all : r.held ++ left ≡ (r.held ++ bytes) ++ rest = ap (λ (l : List ℕ). r.held ++ l) cut ∙ sym (append_assoc r.held bytes rest) in
     rw all first
 
-count_on : (bytes left left' script : List ℕ) (taken taken' : ℕ) → taken + length left ≡ length script → left ≡ bytes ++ left' → taken' ≡ taken + length bytes →
+pub count_on : (bytes left left' script : List ℕ) (taken taken' : ℕ) → taken + length left ≡ length script → left ≡ bytes ++ left' → taken' ≡ taken + length bytes →
     taken' + length left' ≡ length script
 count_on bytes left left' script taken taken' count cut counted = omega (arith, count, ap length cut, length-append bytes left', counted)
 

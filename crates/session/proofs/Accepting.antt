@@ -1,5 +1,5 @@
 -- Events that are accepted under a label.
-use Rattle.std.proofs.Common.{◌≡◌, ◌≢◌, ◌⊎◌, inl, inr, ℕ, zero, suc, ◌+◌, ◌-◌, ◌^◌, ◌<◌, ◌≤◌, List, [], ◌∷◌, ◌++◌, length, map, slice_get, slice_set, Option, Some, None, Bool, true, false, nat_le, option_map, refl, sym, ◌∙◌, ap, subst, arith, MatchBool, length-set}
+use Rattle.std.proofs.Common.{◌≡◌, ◌≢◌, ◌⊎◌, inl, inr, ℕ, zero, suc, ◌+◌, ◌-◌, ◌*◌, ◌^◌, ◌<◌, ◌≤◌, List, [], ◌∷◌, ◌++◌, length, map, slice_get, slice_set, Option, Some, None, Bool, true, false, nat_le, option_map, refl, sym, ◌∙◌, ap, subst, arith, MatchBool, length-set}
 use Rattle.std.proofs.lemmas.Option.{slice_get-map}
 use Rattle.std.proofs.Math.Seq.{map-set}
 use Rattle.problem_model.specs.Problem.{ProblemLists}
@@ -9,21 +9,24 @@ use Rattle.trace_event.specs.Seen.{Seen}
 use Rattle.traces.specs.declared.accepted.Accepted.{Accepted}
 use Rattle.traces.specs.declared.event.EventId.{EventId}
 use Rattle.engine.specs.Solver.{SolverLists}
-use Rattle.engine.specs.Current.{IsCurrent}
+use Rattle.solver.specs.Solution.{IsSolutionBy}
+use Rattle.roster.specs.Roster.{listed}
 use Rattle.traces.specs.declared.accepted.Stream.{Stream}
 use Rattle.traces.specs.Held.{seen_in}
 use Rattle.traces.specs.Traces.{Trace, Traces, size_of, seen_of, seen_under, seen_by, IsOfKind, event_count, events_of}
 use Rattle.traces.specs.Messages.{messages_of, missing, problem_of, problem_of_seen}
 use Rattle.trace_match.specs.declared.changes.Changed.{Changed}
-use Rattle.std.specs.Prelude.{IfSome}
+use Rattle.trace_match.specs.declared.changes.Changes.{Changes}
 use Rattle.session.specs.declared.answers.Answers.{Answers}
-use Rattle.trace_match.specs.Ends.{End, AreEndsOf, IsChange}
+use Rattle.trace_match.specs.Ends.{End, AreEndsOf, AreChanges, IsChange}
 use Rattle.queries.specs.Consistent.{IsConsistent}
 use Rattle.session.specs.declared.refusal.Refusal.TheVariants.{TooManyEvents}
 use Rattle.session.specs.Refusals.{refusal_line}
 use Rattle.session.specs.Reply.{State, IsAdded, added_line, count_by, messages_by, pending_of}
-use Rattle.session.specs.Stands.{Held, Under, IsHeld, AreKept, AreAnswersOf, StandsFor, held_of, under_of, problem_held, seen_held, solver_of, waiting, IsStreamOf}
+use Rattle.session.specs.Stands.{Held, Under, IsHeld, IsKeptUp, KeepsSource, AreKept, AreAnswersOf, StandsFor, held_of, under_of, problem_held, seen_held, solver_of, waiting, IsStreamOf}
 use Rattle.session.specs.Inside.{AcceptAnswered, HasPlace, IsStreamWithin, IsAddedTo, IsGrownAt, IsGrownTrace, grown}
+use Rattle.session.specs.Keeping.{Brings}
+use Rattle.session.proofs.RosterEvents.{came_count}
 use Rattle.session.proofs.Slotting.{kept_grown}
 use Rattle.session.proofs.Telling.{Told}
 use Rattle.session.proofs.Holding.{IsWithinLimits, held_by, accepted_few, held_same, count_grown, held_grown, room_by, room_few, seen_accepted, some_same, there_some}
@@ -32,7 +35,7 @@ pub choose : (b b' : Bool) (P Q : Type 0) → b ≡ b' → MatchBool b' P Q → 
 choose b b' P Q e m = rw e m
 
 -- the place is the one that was set, or what stands there stood there
-set_or_same : {A : Type 0} (xs : List A) (k j : ℕ) (x y : A) → slice_get (slice_set xs k x) j ≡ Some y → ((j ≡ k) × (y ≡ x)) ⊎ ((j ≢ k) × (slice_get xs j ≡ Some y))
+pub set_or_same : {A : Type 0} (xs : List A) (k j : ℕ) (x y : A) → slice_get (slice_set xs k x) j ≡ Some y → ((j ≡ k) × (y ≡ x)) ⊎ ((j ≢ k) × (slice_get xs j ≡ Some y))
 set_or_same [] k j x y e = absurd cc
 set_or_same (z ∷ xs) zero zero x y e = inl (refl, sym (some_same x y e))
 set_or_same (z ∷ xs) zero (suc j) x y e = inr (λ same. omega (arith, same), e)
@@ -44,7 +47,7 @@ set_or_same (z ∷ xs) (suc k) (suc j) x y e = next (set_or_same xs k j x y e)
     next (inr p) = inr (λ same. p.0 (omega (arith, same)), p.1)
 
 -- ---- the events under each label
-seen_at : (d : Declaration) (labels : List Label) (traces : Traces) (k : ℕ) (label : Label) (trace : Trace) → slice_get labels k ≡ Some label → slice_get traces k ≡ Some trace →
+pub seen_at : (d : Declaration) (labels : List Label) (traces : Traces) (k : ℕ) (label : Label) (trace : Trace) → slice_get labels k ≡ Some label → slice_get traces k ≡ Some trace →
     slice_get (seen_under d labels traces) k ≡ Some (seen_of d label.host trace)
 seen_at d [] traces k label trace at at' = absurd cc
 seen_at d (l ∷ labels) [] k label trace at at' = absurd cc
@@ -52,7 +55,7 @@ seen_at d (l ∷ labels) (t ∷ traces) zero label trace at at' =
     ap (λ (x : Label). Some (seen_of d x.host t)) (some_same l label at) ∙ ap (λ (x : Trace). Some (seen_of d label.host x)) (some_same t trace at')
 seen_at d (l ∷ labels) (t ∷ traces) (suc k) label trace at at' = seen_at d labels traces k label trace at at'
 
-seen_set : (d : Declaration) (labels : List Label) (traces : Traces) (k : ℕ) (label : Label) (new : Trace) → slice_get labels k ≡ Some label →
+pub seen_set : (d : Declaration) (labels : List Label) (traces : Traces) (k : ℕ) (label : Label) (new : Trace) → slice_get labels k ≡ Some label →
     seen_under d labels (slice_set traces k new) ≡ slice_set (seen_under d labels traces) k (seen_of d label.host new)
 seen_set d [] traces k label new at = absurd cc
 seen_set d (l ∷ labels) [] k label new at = refl
@@ -254,47 +257,88 @@ module _ (accepted new : List Accepted) (k : ℕ) (events : List Seen) (size : �
 
 -- ---- what a session holds then
 -- all that is known of what a session holds
-abbrev pub IsWhole : Declaration → List Accepted → List EventId → Option Answers → List End → Type 0
-IsWhole d accepted kept answers ends =
-    IsHeld (held_of d accepted kept (solver_of answers)) × AreEndsOf ends (seen_in accepted) × AreKept (seen_in accepted) kept × IfSome answers (AreAnswersOf d (seen_in accepted) kept)
+abbrev pub IsWhole : List Accepted → List EventId → Bool → Answers → List End → Type 0
+IsWhole accepted kept ready a ends =
+    IsHeld (held_of a.graph.roster.declaration accepted kept (solver_of ready a)) × AreEndsOf ends (seen_in accepted) × AreKept (seen_in accepted) kept
+    × (ready ≡ true → AreAnswersOf (seen_in accepted) kept a)
 
--- what stands ready is of its present graph
-pub current_of : (d : Declaration) (seen : List (List Seen)) (kept : List EventId) (answers : Option Answers) → IfSome answers (AreAnswersOf d seen kept) → IfSome (solver_of answers) IsCurrent
-current_of d seen kept None are = tt
-current_of d seen kept (Some a) are = are.solution.current
+-- answers of all events are of what is held
+kept_up : (accepted : List Accepted) (kept : List EventId) (answers : Option SolverLists) (a : Answers) → AreAnswersOf (seen_in accepted) kept a → IsKeptUp (held_of a.graph.roster.declaration accepted kept answers) a.graph.solver
+kept_up accepted kept answers a are =
+    let r = a.graph.roster in
+    let s = a.graph.solver in
+    let same : seen_in accepted ≡ seen_held (map under_of accepted) = sym (seen_accepted accepted) in
+    let count : length r.came ≡ event_count (seen_held (map under_of accepted)) = came_count r are.lawful (seen_in accepted) are.graph.holds ∙ ap event_count same in
+    record {
+      roster = r;
+      lawful = are.lawful;
+      declared = refl;
+      solution = subst (λ (x : List (List Seen)). IsSolutionBy (listed r) (problem_of_seen r.declaration x) s) same are.graph.solution;
+      slots = are.slots;
+      stamp = a.source;
+      source = subst (λ (x : List (List Seen)). KeepsSource (listed r) (problem_of_seen r.declaration x) r.declaration.source a.source s) same are.source_slot;
+      few = subst (λ (n : ℕ). length s.graph.arcs ≤ 8 * n) count are.graph.few;
+    }
 
-pub whole_same : (d : Declaration) (accepted new then : List Accepted) (kept : List EventId) (before : Option SolverLists) (answers : Option Answers) (ends : List End) → then ≡ new → map under_of new ≡ map under_of accepted →
-    IsWithinLimits (held_of d accepted kept before) → AreKept (seen_in accepted) kept → AreEndsOf ends (seen_in new) → answers ≡ None → IsWhole d then kept answers ends
-whole_same d accepted new then kept before answers ends is stays held lawful are none =
+-- what stands ready is of all that is held
+pub held_ready : (accepted : List Accepted) (kept : List EventId) (ready : Bool) (a : Answers) → IsWithinLimits (held_of a.graph.roster.declaration accepted kept (solver_of ready a)) →
+    (ready ≡ true → AreAnswersOf (seen_in accepted) kept a) → IsHeld (held_of a.graph.roster.declaration accepted kept (solver_of ready a))
+held_ready accepted kept true a limits are =
+    held_by limits (kept_up accepted kept (solver_of true a) a (are refl))
+held_ready accepted kept false a limits are = held_by limits tt
+
+pub never_ready : (ready : Bool) (P : Type 0) → ready ≡ false → ready ≡ true → P
+never_ready ready P is not = let both : false ≡ true = sym is ∙ not in absurd cc
+
+pub whole_same : (d : Declaration) (accepted new then : List Accepted) (kept : List EventId) (before : Option SolverLists) (ready : Bool) (a : Answers) (ends : List End) → a.graph.roster.declaration ≡ d → then ≡ new →
+    map under_of new ≡ map under_of accepted → IsWithinLimits (held_of d accepted kept before) → AreKept (seen_in accepted) kept → AreEndsOf ends (seen_in new) → ready ≡ false → IsWhole then kept ready a ends
+whole_same d accepted new then kept before ready a ends declared is stays held lawful are none =
     let seen : seen_in then ≡ seen_in accepted = ap seen_in is ∙ sym (seen_accepted new) ∙ ap seen_held stays ∙ seen_accepted accepted in
-    let ready : IfSome answers (AreAnswersOf d (seen_in then) kept) = subst (λ (o : Option Answers). IfSome o (AreAnswersOf d (seen_in then) kept)) (sym none) tt in (
-      held_by (held_same (held_of d accepted kept before) (held_of d then kept (solver_of answers)) held refl (ap (map under_of) is ∙ stays)) (current_of d (seen_in then) kept answers ready),
+    let never = never_ready ready (AreAnswersOf (seen_in then) kept a) none in (
+      held_ready then kept ready a (held_same (held_of d accepted kept before) (held_of a.graph.roster.declaration then kept (solver_of ready a)) held declared (ap (map under_of) is ∙ stays)) never,
       subst (λ (l : List Accepted). AreEndsOf ends (seen_in l)) (sym is) are,
       subst (λ (x : List (List Seen)). AreKept x kept) (sym seen) lawful,
-      ready,
+      never,
     )
 
-pub whole_grown : (d : Declaration) (accepted new then : List Accepted) (kept : List EventId) (before : Option SolverLists) (answers : Option Answers) (held : Held) (k : ℕ) (events : List Seen) (size : ℕ) (stream : Stream)
-    (ends : List End) → Extended d accepted new kept before held k events size stream → then ≡ new → IsWithinLimits (held_of d accepted kept before) → AreKept (seen_in accepted) kept → AreEndsOf ends (seen_in new) →
-    IfSome answers (AreAnswersOf d (seen_in then) kept) → IsWhole d then kept answers ends
-whole_grown d accepted new then kept before answers held k events size stream ends e is was lawful are ready = (
-  held_by (subst (λ (l : List Accepted). IsWithinLimits (held_of d l kept (solver_of answers))) (sym is) (held_extended d accepted new kept before held k events size stream e (solver_of answers) was)) (current_of d (seen_in then) kept answers ready),
-  subst (λ (l : List Accepted). AreEndsOf ends (seen_in l)) (sym is) are,
-  subst (λ (l : List Accepted). AreKept (seen_in l) kept) (sym is) (kept_then accepted new k events size stream e.grew kept lawful),
-  ready,
-)
+pub whole_grown : (d : Declaration) (accepted new then : List Accepted) (kept : List EventId) (before : Option SolverLists) (ready : Bool) (a : Answers) (held : Held) (k : ℕ) (events : List Seen) (size : ℕ) (stream : Stream)
+    (ends : List End) → Extended d accepted new kept before held k events size stream → a.graph.roster.declaration ≡ d → then ≡ new → IsWithinLimits (held_of d accepted kept before) → AreKept (seen_in accepted) kept →
+    AreEndsOf ends (seen_in new) → (ready ≡ true → AreAnswersOf (seen_in then) kept a) → IsWhole then kept ready a ends
+whole_grown d accepted new then kept before ready a held k events size stream ends e declared is was lawful are answers =
+    let more : IsWithinLimits (held_of d new kept (solver_of ready a)) = held_extended d accepted new kept before held k events size stream e (solver_of ready a) was in
+    let limits : IsWithinLimits (held_of a.graph.roster.declaration then kept (solver_of ready a)) =
+    subst (λ (x : Declaration). IsWithinLimits (held_of x then kept (solver_of ready a))) (sym declared) (subst (λ (l : List Accepted). IsWithinLimits (held_of d l kept (solver_of ready a))) (sym is) more) in (
+      held_ready then kept ready a limits answers,
+      subst (λ (l : List Accepted). AreEndsOf ends (seen_in l)) (sym is) are,
+      subst (λ (l : List Accepted). AreKept (seen_in l) kept) (sym is) (kept_then accepted new k events size stream e.grew kept lawful),
+      answers,
+    )
 
--- and where other events are kept, or other answers stand ready
-pub whole_kept : (d : Declaration) (accepted : List Accepted) (kept kept' : List EventId) (before : Option SolverLists) (answers : Option Answers) (ends : List End) → IsWithinLimits (held_of d accepted kept before) → AreEndsOf ends (seen_in accepted) →
-    AreKept (seen_in accepted) kept' → IfSome answers (AreAnswersOf d (seen_in accepted) kept') → IsWhole d accepted kept' answers ends
-whole_kept d accepted kept kept' before answers ends held are lawful ready = (
-  held_by (held_same (held_of d accepted kept before) (held_of d accepted kept' (solver_of answers)) held refl refl) (current_of d (seen_in accepted) kept' answers ready),
+-- and where other events are kept, or the engine changed
+pub whole_kept : (d : Declaration) (accepted : List Accepted) (kept kept' : List EventId) (before : Option SolverLists) (ready : Bool) (a : Answers) (ends : List End) → a.graph.roster.declaration ≡ d →
+    IsWithinLimits (held_of d accepted kept before) → AreEndsOf ends (seen_in accepted) → AreKept (seen_in accepted) kept' → (ready ≡ true → AreAnswersOf (seen_in accepted) kept' a) → IsWhole accepted kept' ready a ends
+whole_kept d accepted kept kept' before ready a ends declared held are lawful answers = (
+  held_ready accepted kept' ready a (held_same (held_of d accepted kept before) (held_of a.graph.roster.declaration accepted kept' (solver_of ready a)) held declared refl) answers,
   are,
   lawful,
-  ready,
+  answers,
 )
 
 -- so there are no more events than a session has
 pub whole_few : (d : Declaration) (accepted new : List Accepted) (kept : List EventId) (before : Option SolverLists) (held : Held) (k : ℕ) (events : List Seen) (size : ℕ) (stream : Stream) →
     Extended d accepted new kept before held k events size stream → IsWithinLimits (held_of d accepted kept before) → event_count (seen_in new) ≤ 2 ^ 20
 whole_few d accepted new kept before held k events size stream e was = accepted_few d new kept None (held_extended d accepted new kept before held k events size stream e None was)
+
+-- ---- what the graph is brought
+pub brings : (accepted new : List Accepted) (k more : ℕ) (events : List Seen) (size : ℕ) (stream : Stream) (c : Changes) → IsGrownAt (map under_of accepted) (map under_of new) k events size stream → more ≡ length events →
+    AreChanges (seen_in accepted) (seen_in new) c → Brings (seen_in accepted) (seen_in new) k more c
+brings accepted new k more events size stream c grew count changes =
+    let before : seen_held (map under_of accepted) ≡ seen_in accepted = seen_accepted accepted in
+    record {
+      own = grew.at.events;
+      events = events;
+      count = sym count;
+      was = subst (λ (x : List (List Seen)). slice_get x k ≡ Some grew.at.events) before (seen_then_at accepted new k events size stream grew);
+      is = sym (seen_accepted new) ∙ seen_then_is accepted new k events size stream grew ∙ ap (λ (x : List (List Seen)). slice_set x k (grew.at.events ++ events)) before;
+      changes = changes;
+    }

@@ -1,32 +1,25 @@
 -- The answers of a problem without events.
-use Rattle.std.proofs.Common.{◌≡◌, ℕ, zero, suc, ◌+◌, List, [], ◌∷◌, ◌++◌, map, Option, Some, None, All, length, refl, sym, ◌∙◌, ap, subst}
-use Rattle.std.proofs.lemmas.List.Elements.{All-head, All-nil, All-tail}
+use Rattle.std.proofs.Common.{◌≡◌, ℕ, ◌+◌, List, [], ◌∷◌, ◌++◌, map, Option, Some, None, All, length, refl, sym, ◌∙◌, ap, subst, arith}
+use Rattle.std.proofs.lemmas.List.Elements.{All-head, All-tail, All-nil, All-cons}
 use Rattle.std.specs.Prelude.{Contains}
-use Rattle.std.specs.List.{flat_map}
-use Rattle.problem_model.specs.declared.items.Clock.{Clock}
 use Rattle.problem_model.specs.declared.items.Event.{Event}
-use Rattle.problem_model.specs.declared.items.Follow.{Follow}
-use Rattle.problem_model.specs.declared.items.Message.{Message}
-use Rattle.problem_model.specs.declared.items.Bound.{Bound}
-use Rattle.problem_model.specs.Problem.{ProblemLists, IsProblem}
-use Rattle.problem_model.specs.Nodes.{Reading, AreReadings, event_nodes, nodes_of}
-use Rattle.problem_model.specs.ShortList.{short_list, span_bounds, event_bounds, message_bounds, follow_bounds, follow_bound, clocks_before, first_reading, nearest_reading}
-use Rattle.problem.specs.Listing.{listing_of}
+use Rattle.decl.specs.declared.items.Label.{Label}
 use Rattle.decl.specs.Declaration.{Declaration}
 use Rattle.trace_event.specs.Seen.{Seen}
-use Rattle.traces.specs.Traces.{Placed, event_count, events_from, events_of, numbered}
-use Rattle.traces.proofs.Ids.{length_events}
-use Rattle.traces.specs.Messages.{linked, messages_of, event_with, problem_of_seen}
-use Rattle.traces.proofs.Members.{here, none_in}
-use Rattle.sync_graph.specs.Graph.{GraphLists, IsGraph, no_graph}
-use Rattle.sync_graph.specs.Standing.{HasBounds, IsDeclared}
-use Rattle.sync_graph.specs.ListedStanding.{StandsForListed}
+use Rattle.traces.specs.Traces.{Placed, events_from, numbered}
+use Rattle.traces.specs.Messages.{event_with, problem_of_seen}
+use Rattle.traces.proofs.Members.{none_in}
+use Rattle.row_pool.specs.Pool.{grown}
+use Rattle.repair.specs.declared.slot.Slot.{Slot}
+use Rattle.repair.specs.Slots.{all_slots, behind}
+use Rattle.roster.specs.Roster.{IsRoster, listed}
 use Rattle.engine.specs.Solver.{SolverLists}
-use Rattle.engine.specs.Current.{IsCurrent}
-use Rattle.solver.specs.Bounds.{HasShortList}
+use Rattle.kept_graph.specs.Kept.{IsKeptFor}
+use Rattle.problem.specs.Listing.{Listed}
 use Rattle.queries.specs.Replies.{HasReading}
 use Rattle.session.specs.declared.answers.Answers.{Answers}
-use Rattle.session.specs.Stands.{AreAnswersOf, HasSpareRows, KeepsSource}
+use Rattle.session.specs.Stands.{AreAnswersOf, HasSpareRows, KeepsSource, problem_by}
+use Rattle.session.proofs.KeptNext.{grown_free, grown_long}
 use Rattle.session.proofs.Slotting.{no_slots}
 
 -- ---- nothing was added
@@ -36,87 +29,50 @@ no_events_from label (s ∷ seen) all =
     ap (λ (events : List Seen). numbered label 1 events ++ events_from (label + 1) seen) (All-head (λ (events : List Seen). events ≡ []) s seen all)
     ∙ no_events_from (label + 1) seen (All-tail (λ (events : List Seen). events ≡ []) s seen all)
 
--- a problem has no event, message or follow
-pub record IsBare (p : ProblemLists) : Type 0 where
-  pub events : p.events ≡ []
-  pub messages : p.messages ≡ []
-  pub follows : p.follows ≡ []
+-- nothing under each label
+pub nothing_for : (labels : List Label) → All (λ (events : List Seen). events ≡ []) (map (λ (l : Label). []) labels)
+nothing_for [] = All-nil (λ (events : List Seen). events ≡ [])
+nothing_for (l ∷ labels) = All-cons (λ (events : List Seen). events ≡ []) [] (map (λ (x : Label). []) labels) refl (nothing_for labels)
 
-pub nothing_seen : (d : Declaration) (seen : List (List Seen)) → All (λ (events : List Seen). events ≡ []) seen → IsBare (problem_of_seen d seen)
-nothing_seen d seen all =
-    let none : events_of seen ≡ [] = no_events_from 0 seen all in
-    record {
-      events = ap (λ (events : List Placed). map (event_with d) events) none;
-      messages = ap (λ (events : List Placed). map (linked d events) (messages_of events)) none;
-      follows = refl;
-    }
+-- so many empty lists are one list, however they came
+pub all_nothing : (a b : List (List Seen)) → All (λ (events : List Seen). events ≡ []) a → All (λ (events : List Seen). events ≡ []) b → length a ≡ length b → a ≡ b
+all_nothing [] [] x y long = refl
+all_nothing [] (t ∷ b) x y long = absurd (omega (arith, long))
+all_nothing (s ∷ a) [] x y long = absurd (omega (arith, long))
+all_nothing (s ∷ a) (t ∷ b) x y long =
+    let P = λ (events : List Seen). events ≡ [] in
+    ap (λ (e : List Seen). e ∷ a) (All-head P s a x ∙ sym (All-head P t b y)) ∙ ap (λ (l : List (List Seen)). t ∷ l) (all_nothing a b (All-tail P s a x) (All-tail P t b y) (omega (arith, long)))
 
-pub no_count : (seen : List (List Seen)) → All (λ (events : List Seen). events ≡ []) seen → event_count seen ≡ 0
-no_count seen all = sym (length_events seen) ∙ ap length (no_events_from 0 seen all)
+no_reading : (d : Declaration) (seen : List (List Seen)) (clock : ℕ) → All (λ (events : List Seen). events ≡ []) seen → HasReading (problem_of_seen d seen) clock → ⊥
+no_reading d seen clock none (stamp, reading) =
+    let bare : (problem_of_seen d seen).events ≡ [] = ap (λ (events : List Placed). map (event_with d) events) (no_events_from 0 seen none) in
+    none_in reading.0 (subst (λ (events : List Event). Contains events reading.0) bare reading.1)
 
--- ---- its bounds
-module _ (p : ProblemLists) (bare : IsBare p) where
-  pub no_reading : (clock : ℕ) → HasReading p clock → ⊥
-  no_reading clock (stamp, reading) = none_in reading.0 (subst (λ (events : List Event). Contains events reading.0) bare.events reading.1)
+no_source : (l : Listed) (d : Declaration) (seen : List (List Seen)) (source : Option ℕ) (s : SolverLists) → All (λ (events : List Seen). events ≡ []) seen → s.kept.source ≡ None → KeepsSource l (problem_of_seen d seen) source None s
+no_source l d seen None s nothing none = (refl, none)
+no_source l d seen (Some clock) s nothing none = (no_reading d seen clock nothing, none)
 
-  pub readings_none : (readings : List Reading) → AreReadings p readings → readings ≡ []
-  readings_none [] are = refl
-  readings_none (r ∷ readings) are = absurd (no_reading r.0 (r.1, are.each r.0 r.1 (here r readings)))
-
-none_before : (n d : ℕ) → clocks_before [] n d ≡ []
-none_before zero d = refl
-none_before (suc n) d = refl
-
-no_follows : (k : ℕ) (clocks : List Clock) → follow_bounds [] [] k clocks ≡ []
-no_follows k [] = refl
-no_follows k (c ∷ clocks) =
-    ap (λ (before : List ℕ). follow_bound (nearest_reading [] before) (first_reading [] k) ++ follow_bounds [] [] (k + 1) clocks) (none_before k k) ∙ no_follows (k + 1) clocks
-
-bare_list : (clocks : List Clock) (p : ProblemLists) → IsBare p → p.clocks ≡ clocks → short_list p [] ≡ []
-bare_list clocks p bare are =
-    ap (λ (events : List Event). span_bounds [] ++ event_bounds 0 events ++ follow_bounds p.follows [] 0 p.clocks ++ flat_map message_bounds p.messages) bare.events
-    ∙ ap (λ (follows : List Follow). [] ++ [] ++ follow_bounds follows [] 0 p.clocks ++ flat_map message_bounds p.messages) bare.follows
-    ∙ ap (λ (bounds : List Bound). [] ++ [] ++ bounds ++ flat_map message_bounds p.messages) (no_follows 0 p.clocks)
-    ∙ ap (λ (messages : List Message). [] ++ [] ++ [] ++ flat_map message_bounds messages) bare.messages
-
-module _ (p : ProblemLists) (bare : IsBare p) (readings : List Reading) (are : AreReadings p readings) where
-  none : readings ≡ []
-  none = readings_none p bare readings are
-
-  no_nodes : [] ≡ nodes_of p readings
-  no_nodes = sym (ap (λ (rs : List Reading). nodes_of p rs) none ∙ ap (λ (events : List Event). event_nodes 0 events ++ []) bare.events)
-
-  no_bounds : short_list p readings ≡ []
-  no_bounds = ap (short_list p) none ∙ bare_list p.clocks p bare refl
-
-  has_none : HasBounds p readings [] no_graph
-  has_none = record { nodes_are = no_nodes; all_in_force = refl; named = refl; declared = All-nil (IsDeclared p readings) }
-
-  has_list : HasShortList p readings []
-  has_list = subst (λ (bounds : List Bound). All (Contains []) bounds) (sym no_bounds) (All-nil (Contains []))
-
--- what the graphs of problems stand for
-abbrev pub OwnGraphs : Type 0
-OwnGraphs = (p : ProblemLists) (readings : List Reading) (bounds : List Bound) (g : GraphLists) → IsProblem p → AreReadings p readings → IsGraph g
-    → HasBounds p readings bounds g → HasShortList p readings bounds → StandsForListed (listing_of p) p readings g
-
-no_source : (p : ProblemLists) (bare : IsBare p) (source : Option ℕ) (s : SolverLists) → s.kept.source ≡ None → KeepsSource p source None s
-no_source p bare None s none = (refl, none)
-no_source p bare (Some clock) s none = (no_reading p bare clock, none)
+-- four rows are enough where nothing is kept
+first_rows : (old new : SolverLists) → old.pool.rows ≡ [] → new.kept.slots ≡ [] → new.kept.source ≡ None → new.pool ≡ grown old.pool 4 0 → HasSpareRows new
+first_rows old new none slots source pool =
+    let free = grown_free old.pool new.pool 4 0 pool in
+    let long = grown_long old.pool new.pool 4 0 pool in
+    let empty : length old.pool.rows ≡ 0 = ap length none in
+    let few : length new.kept.slots ≡ 0 = ap length slots in
+    let all : length (all_slots new.kept) ≡ length new.kept.slots = ap (λ (x : Option Slot). length (behind x new.kept.slots)) source in
+    (omega (arith, long, empty, few), omega (arith, long, free, empty, all))
 
 -- the engine over no node holds the answer where nothing was added
-pub first_stands : OwnGraphs → (d : Declaration) (seen : List (List Seen)) (a : Answers) → All (λ (events : List Seen). events ≡ []) seen → a.problem ≡ problem_of_seen d seen → IsProblem a.problem →
-    IsCurrent a.solver → a.solver.graph ≡ no_graph → a.solver.kept.slots ≡ [] → a.solver.kept.source ≡ None → HasSpareRows a.solver → a.source ≡ None → AreAnswersOf d seen [] a
-first_stands own d seen a nothing is lawful current graph slots source rows stamp =
-    let bare : IsBare a.problem = subst IsBare (sym is) (nothing_seen d seen nothing) in
+pub first_stands : (a : Answers) (old : SolverLists) → IsRoster a.graph.roster → IsKeptFor (map (λ (l : Label). []) a.graph.roster.declaration.labels) a.graph.roster a.graph.solver →
+    a.graph.solver.kept.slots ≡ [] → a.graph.solver.kept.source ≡ None → old.pool.rows ≡ [] → a.graph.solver.pool ≡ grown old.pool 4 0 → a.source ≡ None →
+    AreAnswersOf (map (λ (l : Label). []) a.graph.roster.declaration.labels) [] a
+first_stands a old lawful kept slots source none pool stamp =
+    let nothing = nothing_for a.graph.roster.declaration.labels in
     record {
-      problem = is;
-      solution = record {
-        current = current;
-        stands = λ readings are. own a.problem readings [] a.solver.graph lawful are current.set_up.graph
-            (subst (λ (g : GraphLists). HasBounds a.problem readings [] g) (sym graph) (has_none a.problem bare readings are)) (has_list a.problem bare readings are);
-      };
-      slots = no_slots seen a.solver.kept.slots slots;
-      source_slot = subst (λ (x : Option ℕ). KeepsSource a.problem d.source x a.solver) (sym stamp) (no_source a.problem bare d.source a.solver source);
-      rows = rows;
+      lawful = lawful;
+      graph = kept;
+      slots = no_slots a.graph.roster a.graph.solver.kept.slots slots;
+      source_slot = subst (λ (x : Option ℕ). KeepsSource (listed a.graph.roster) (problem_by a (map (λ (l : Label). []) a.graph.roster.declaration.labels)) a.graph.roster.declaration.source x a.graph.solver) (sym stamp)
+          (no_source (listed a.graph.roster) a.graph.roster.declaration (map (λ (l : Label). []) a.graph.roster.declaration.labels) a.graph.roster.declaration.source a.graph.solver nothing source);
+      rows = first_rows old a.graph.solver none slots source pool;
     }

@@ -120,7 +120,7 @@ abbrev pub EndsGrow : Type 0
 EndsGrow = (seen : List (List Seen)) (label : ℕ) (old more : List Seen) (ends : List End) → slice_get seen label ≡ Some old → AreEndsOf ends seen →
     AreEndsOf (ends ++ ends_of (numbered label (length old + 1) more)) (slice_set seen label (old ++ more))
 
-seen_there : (accepted : List Accepted) (k : ℕ) (a : Accepted) → slice_get accepted k ≡ Some a → slice_get (seen_in accepted) k ≡ Some (seen_events a.events.items)
+pub seen_there : (accepted : List Accepted) (k : ℕ) (a : Accepted) → slice_get accepted k ≡ Some a → slice_get (seen_in accepted) k ≡ Some (seen_events a.events.items)
 seen_there accepted k a at_k = slice_get-map (λ (x : Accepted). seen_events x.events.items) accepted k ∙ ap (option_map (λ (x : Accepted). seen_events x.events.items)) at_k
 
 seen_set_at : (accepted : List Accepted) (k : ℕ) (new : Accepted) (events : List Seen) → seen_events new.events.items ≡ events → seen_in (slice_set accepted k new) ≡ slice_set (seen_in accepted) k events

@@ -16,8 +16,7 @@ use Rattle.traces.specs.declared.accepted.Stream.{Stream}
 use Rattle.traces.specs.Traces.{event_count}
 use Rattle.traces.specs.Held.{seen_in}
 use Rattle.traces.proofs.Ids.{count_appended}
-use Rattle.engine.specs.Current.{IsCurrent}
-use Rattle.session.specs.Stands.{Under, Held, IsUnder, IsHeld, held_of, under_of, seen_held}
+use Rattle.session.specs.Stands.{Under, Held, IsUnder, IsHeld, IsKeptUp, held_of, under_of, seen_held}
 use Rattle.session.specs.Inside.{HasPlace, IsStreamWithin, IsGrownAt, grown}
 
 pub some_same : {A : Type 0} (x y : A) → Some x ≡ Some y → x ≡ y
@@ -39,8 +38,8 @@ pub record IsWithinLimits (h : Held) : Type 0 where
 pub limits : {h : Held} → IsHeld h → IsWithinLimits h
 limits is = record { declared = is.declared; each = is.each; fit = is.fit; few = is.few }
 
-pub held_by : {h : Held} → IsWithinLimits h → IfSome h.answers IsCurrent → IsHeld h
-held_by is current = record { declared = is.declared; each = is.each; fit = is.fit; few = is.few; current = current }
+pub held_by : {h : Held} → IsWithinLimits h → IfSome h.answers (IsKeptUp h) → IsHeld h
+held_by is kept_up = record { declared = is.declared; each = is.each; fit = is.fit; few = is.few; kept_up = kept_up }
 
 -- ---- what the code holds
 -- the events of what the code holds

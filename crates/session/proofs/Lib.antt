@@ -1,5 +1,11 @@
 pub mod Asking
 pub mod OneCommand
+mod GreatestOrNone
+mod OneProof
+mod CaptureStamps
+mod LawfulStates
+mod FoundReads
+mod WholeScripts
 pub mod Holding
 mod Counting
 pub mod Placing
@@ -10,7 +16,6 @@ pub mod KeptNext
 pub mod AskedRows
 pub mod Standby
 pub mod Stepping
-pub mod Naming
 pub mod Telling
 pub mod Replying
 pub mod Starting
@@ -20,3 +25,15 @@ pub mod Accepting
 pub mod Standing
 pub mod Finding
 pub mod OneReply
+mod RosterEvents
+mod FirstReading
+mod Entering
+mod Opening
+mod Additions
+mod ToldMessages
+mod Numbers
+mod AddedThere
+mod BroughtPackets
+mod TakenUnder
+mod TakingOver
+mod Settles

@@ -1,6 +1,9 @@
 -- A line has one reply, but for which contradiction and which path of bounds is printed.
-use Rattle.std.proofs.Common.{◌≡◌, ◌≢◌, ◌⊎◌, inl, inr, ℕ, suc, ◌+◌, ◌-◌, ◌^◌, List, [], ◌∷◌, ◌++◌, length, slice_get, slice_set, Option, Some, None, Bool, true, false, nat_le, MatchBool, refl, sym, ◌∙◌, ap, subst, arith}
+use Rattle.std.proofs.Common.{◌≡◌, ◌≢◌, ◌⊎◌, inl, inr, ℕ, suc, ◌+◌, ◌-◌, ◌<◌, ◌^◌, List, [], ◌∷◌, ◌++◌, length, map, slice_get, slice_set, Option, Some, None, Bool, true, false, nat_le, MatchBool, refl, sym, ◌∙◌, ap, subst, arith}
+use Rattle.std.proofs.lemmas.List.{length-map}
+use Rattle.std.proofs.lemmas.Option.{slice_get_within}
 use Rattle.ports.specs.Files.{Content}
+use Rattle.problem_model.specs.declared.items.Event.{Event}
 use Rattle.problem_model.specs.Problem.{ProblemLists, IsProblem}
 use Rattle.problem_model.specs.Bounds.{Times, IsExecution}
 use Rattle.problem.specs.Line.{HasEvent, IsUnknown}
@@ -33,9 +36,10 @@ use Rattle.session.specs.Commands.{Command, Add, Interval, Order, Time, Merge, P
 use Rattle.session.specs.Reply.{State, Found, Unread, Bytes, Absent, Failed, Refuses, OfTwo, OfOne, IsTimeReply, IsReport, added_line, messages_by, count_by, IsAdded, pending_of, AcceptReply, with_rows, IsLogRefusal, LogReply, bytes_of, IsCaptureRefusal, CaptureReply, KindReply, fits_label, PieceReply, label_at, AddReply, IsPlacedAt, kept_line, SlotReply, KeepReply, Reply}
 use Rattle.session.specs.Sessions.{CommandReply, LineReply}
 use Rattle.session.specs.Stands.{AreKept}
-use Rattle.session.specs.OneReply.{IsState, AreOneBut}
+use Rattle.session.specs.OneReply.{IsState, AreContradictions, MayDiffer, LineMayDiffer}
 use Rattle.session.proofs.Holding.{some_same}
 use Rattle.session.proofs.OneCommand.{command_one}
+use Rattle.session.proofs.OneProof.{proofs_one}
 
 -- what the crates below say of their own answers
 pub record Below : Type 0 where
@@ -50,16 +54,24 @@ pub record Below : Type 0 where
   pub capture_fault : (s : List ℕ) (e f : CaptureError) → IsFault s e → IsFault s f → e ≢ refused.Memory → f ≢ refused.Memory → e ≡ f
   pub judged : (s : List ℕ) (c : captures.Capture) (e : CaptureError) → Reads s c → IsFault s e → e ≢ refused.Memory → ⊥
 
--- any two replies of this kind are one, and so is the state that follows
-abbrev AreOne : ProblemLists → (List ℕ → State → Type 0) → Type 0
-AreOne p IsReply = (a b : List ℕ) (after other : State) → IsReply a after → IsReply b other → AreOneBut p a b × (after ≡ other)
+-- how two texts may differ
+abbrev Differences : Type 1
+Differences = List ℕ → List ℕ → Type 0
 
-one_refusal : (p : ProblemLists) (s : State) (r : Refusal) → AreOne p (Refuses s r)
-one_refusal p s r a b after other x y = (inl (x.0 ∙ sym y.0), x.1 ∙ sym y.1)
+-- they are one, or differ so
+abbrev AreSame : Differences → List ℕ → List ℕ → Type 0
+AreSame Differ a b = (a ≡ b) ⊎ Differ a b
 
-by_test : (p : ProblemLists) (test : Bool) (Yes No : List ℕ → State → Type 0) → AreOne p Yes → AreOne p No → AreOne p (λ text s'. MatchBool test (Yes text s') (No text s'))
-by_test p true Yes No one other = one
-by_test p false Yes No one other = other
+-- any two replies of this kind are one, or differ so, and the state that follows is one
+abbrev AreOne : Differences → (List ℕ → State → Type 0) → Type 0
+AreOne Differ IsReply = (a b : List ℕ) (after other : State) → IsReply a after → IsReply b other → AreSame Differ a b × (after ≡ other)
+
+one_refusal : (Differ : Differences) (s : State) (r : Refusal) → AreOne Differ (Refuses s r)
+one_refusal Differ s r a b after other x y = (inl (x.0 ∙ sym y.0), x.1 ∙ sym y.1)
+
+by_test : (Differ : Differences) (test : Bool) (Yes No : List ℕ → State → Type 0) → AreOne Differ Yes → AreOne Differ No → AreOne Differ (λ text s'. MatchBool test (Yes text s') (No text s'))
+by_test Differ true Yes No one other = one
+by_test Differ false Yes No one other = other
 
 -- ---- additions
 one_state : (p : ProblemLists) (a b : Bool) → IsConsistent p a → IsConsistent p b → a ≡ b
@@ -73,11 +85,11 @@ one_added d old new pending a b x y =
     let line : Bool → List ℕ = added_line (count_by d new - count_by d old) (missing (messages_by d new) (messages_by d old)) (missing (messages_by d old) (messages_by d new)) pending in
     x.2 ∙ ap line (one_state (problem_of d new) x.0 y.0 x.1 y.1) ∙ sym y.2
 
-one_acceptance : (p : ProblemLists) (d : Declaration) (s : State) (k : ℕ) (trace : Trace) → AreOne p (AcceptReply d s k trace)
-one_acceptance p d s k trace =
+one_acceptance : (Differ : Differences) (d : Declaration) (s : State) (k : ℕ) (trace : Trace) → AreOne Differ (AcceptReply d s k trace)
+one_acceptance Differ d s k trace =
     let traces = slice_set s.traces k trace in
-    by_test p (nat_le (count_by d traces) (2 ^ 20)) (λ text s'. (s' ≡ record s { traces = traces }) × IsAdded d s.traces traces (pending_of trace) text) (Refuses s TooManyEvents)
-    (λ a b after other x y. (inl (one_added d s.traces traces (pending_of trace) a b x.1 y.1), x.0 ∙ sym y.0)) (one_refusal p s TooManyEvents)
+    by_test Differ (nat_le (count_by d traces) (2 ^ 20)) (λ text s'. (s' ≡ record s { traces = traces }) × IsAdded d s.traces traces (pending_of trace) text) (Refuses s TooManyEvents)
+    (λ a b after other x y. (inl (one_added d s.traces traces (pending_of trace) a b x.1 y.1), x.0 ∙ sym y.0)) (one_refusal Differ s TooManyEvents)
 
 -- ---- pieces of logs
 log_not_memory : (e : LogError) (r : Refusal) → log_refusal e ≡ Some r → e ≢ faults.Memory
@@ -95,49 +107,54 @@ module _ (below : Below) where
   rows_no_fault : (bytes : List ℕ) (rows : List Row) (r : Refusal) → AreRows (records_of bytes) rows → IsLogRefusal bytes r → ⊥
   rows_no_fault bytes rows r are (e, fault, is) = log_not_memory e r is (below.either bytes rows e are fault)
 
-  one_log : (p : ProblemLists) (d : Declaration) (s : State) (k : ℕ) (trace : Trace) (bytes : List ℕ) → AreOne p (LogReply d s k trace bytes)
-  one_log p d s k trace bytes a b after other (inl (rows, are, x)) (inl (rows', are', y)) =
+  one_log : (Differ : Differences) (d : Declaration) (s : State) (k : ℕ) (trace : Trace) (bytes : List ℕ) → AreOne Differ (LogReply d s k trace bytes)
+  one_log Differ d s k trace bytes a b after other (inl (rows, are, x)) (inl (rows', are', y)) =
       let same : rows' ≡ rows = below.rows bytes rows' rows are' are in
-      one_acceptance p d s k (with_rows trace rows (length bytes)) a b after other x (subst (λ (all : List Row). AcceptReply d s k (with_rows trace all (length bytes)) b other) same y)
-  one_log p d s k trace bytes a b after other (inl (rows, are, x)) (inr (r, fault, y)) = absurd (rows_no_fault bytes rows r are fault)
-  one_log p d s k trace bytes a b after other (inr (r, fault, x)) (inl (rows, are, y)) = absurd (rows_no_fault bytes rows r are fault)
-  one_log p d s k trace bytes a b after other (inr (r, fault, x)) (inr (r', fault', y)) =
+      one_acceptance Differ d s k (with_rows trace rows (length bytes)) a b after other x (subst (λ (all : List Row). AcceptReply d s k (with_rows trace all (length bytes)) b other) same y)
+  one_log Differ d s k trace bytes a b after other (inl (rows, are, x)) (inr (r, fault, y)) = absurd (rows_no_fault bytes rows r are fault)
+  one_log Differ d s k trace bytes a b after other (inr (r, fault, x)) (inl (rows, are, y)) = absurd (rows_no_fault bytes rows r are fault)
+  one_log Differ d s k trace bytes a b after other (inr (r, fault, x)) (inr (r', fault', y)) =
       let same : r' ≡ r = one_log_refusal bytes r' r fault' fault in
-      one_refusal p s r a b after other x (subst (λ (all : Refusal). Refuses s all b other) same y)
+      one_refusal Differ s r a b after other x (subst (λ (all : Refusal). Refuses s all b other) same y)
 
 -- ---- questions
--- where there is an execution, two texts that say this are one
-abbrev AreOneText : ProblemLists → (List ℕ → Type 0) → Type 0
-AreOneText p Says = (a b : List ℕ) → ((x : Times) × IsExecution p x) → Says a → Says b → AreOneBut p a b
+-- where there is an execution, two texts that say this are one, or differ so
+abbrev AreOneText : ProblemLists → Differences → (List ℕ → Type 0) → Type 0
+AreOneText p Differ Says = (a b : List ℕ) → ((x : Times) × IsExecution p x) → Says a → Says b → AreSame Differ a b
 
-one_answer : (p : ProblemLists) (Says : List ℕ → Type 0) (a b : List ℕ) → AreOneText p Says → Replies p Says a → Replies p Says b → AreOneBut p a b
-one_answer p Says a b one (inl x) (inl y) = one a b x.0 x.1 y.1
-one_answer p Says a b one (inl x) (inr y) = absurd (y.2 x.0.0 x.0.1)
-one_answer p Says a b one (inr x) (inl y) = absurd (x.2 y.0.0 y.0.1)
-one_answer p Says a b one (inr x) (inr y) = inr (inl (x, y))
+-- two contradictions differ so
+abbrev MayContradict : ProblemLists → Differences → Type 0
+MayContradict p Differ = (a b : List ℕ) → AreContradictions p a b → Differ a b
+
+one_answer : (p : ProblemLists) (Differ : Differences) (Says : List ℕ → Type 0) (a b : List ℕ) → MayContradict p Differ → AreOneText p Differ Says → Replies p Says a → Replies p Says b → AreSame Differ a b
+one_answer p Differ Says a b may one (inl x) (inl y) = one a b x.0 x.1 y.1
+one_answer p Differ Says a b may one (inl x) (inr y) = absurd (y.2 x.0.0 x.0.1)
+one_answer p Differ Says a b may one (inr x) (inl y) = absurd (x.2 y.0.0 y.0.1)
+one_answer p Differ Says a b may one (inr x) (inr y) = inr (may a b (x, y))
 
 known_both : (p : ProblemLists) (first second : List ℕ) (i j : ℕ) → HasEvent p i first → HasEvent p j second → IsUnknown p first ⊎ IsUnknown p second → ⊥
 known_both p first second i j at at' (inl none) = none i at
 known_both p first second i j at at' (inr none) = none j at'
 
-one_of_two : (p : ProblemLists) (s : State) (first second : List ℕ) (Says : ℕ → ℕ → List ℕ → Type 0) → IsProblem p → ((i j : ℕ) → AreOneText p (Says i j)) → AreOne p (OfTwo p first second Says s)
-one_of_two p s first second Says lawful one a b after other (inl (i, j, at_i, at_j, x, stays)) (inl (k, l, at_k, at_l, y, stays')) =
+one_of_two : (p : ProblemLists) (Differ : Differences) (s : State) (first second : List ℕ) (Says : ℕ → ℕ → List ℕ → Type 0) → IsProblem p → MayContradict p Differ →
+    ((i j : ℕ) → HasEvent p i first → HasEvent p j second → AreOneText p Differ (Says i j)) → AreOne Differ (OfTwo p first second Says s)
+one_of_two p Differ s first second Says lawful may one a b after other (inl (i, j, at_i, at_j, x, stays)) (inl (k, l, at_k, at_l, y, stays')) =
     let from : k ≡ i = one_place p k i first lawful at_k at_i in
     let to : l ≡ j = one_place p l j second lawful at_l at_j in
     let z : Replies p (Says i j) b = subst (λ (n : ℕ). Replies p (Says n j) b) from (subst (λ (n : ℕ). Replies p (Says k n) b) to y) in
-    (one_answer p (Says i j) a b (one i j) x z, stays ∙ sym stays')
-one_of_two p s first second Says lawful one a b after other (inl (i, j, at_i, at_j, x, stays)) (inr (unknown, y)) = absurd (known_both p first second i j at_i at_j unknown)
-one_of_two p s first second Says lawful one a b after other (inr (unknown, x)) (inl (i, j, at_i, at_j, y, stays)) = absurd (known_both p first second i j at_i at_j unknown)
-one_of_two p s first second Says lawful one a b after other (inr (unknown, x)) (inr (unknown', y)) = one_refusal p s UnknownEvent a b after other x y
+    (one_answer p Differ (Says i j) a b may (one i j at_i at_j) x z, stays ∙ sym stays')
+one_of_two p Differ s first second Says lawful may one a b after other (inl (i, j, at_i, at_j, x, stays)) (inr (unknown, y)) = absurd (known_both p first second i j at_i at_j unknown)
+one_of_two p Differ s first second Says lawful may one a b after other (inr (unknown, x)) (inl (i, j, at_i, at_j, y, stays)) = absurd (known_both p first second i j at_i at_j unknown)
+one_of_two p Differ s first second Says lawful may one a b after other (inr (unknown, x)) (inr (unknown', y)) = one_refusal Differ s UnknownEvent a b after other x y
 
-one_of_one : (p : ProblemLists) (event : List ℕ) (Says : ℕ → List ℕ → Type 0) → IsProblem p → ((i : ℕ) (a b : List ℕ) → Says i a → Says i b → AreOneBut p a b) →
-    (a b : List ℕ) → OfOne p event Says a → OfOne p event Says b → AreOneBut p a b
-one_of_one p event Says lawful one a b (inl (i, at, x)) (inl (j, at', y)) =
+one_of_one : (p : ProblemLists) (Differ : Differences) (event : List ℕ) (Says : ℕ → List ℕ → Type 0) → IsProblem p → ((i : ℕ) (a b : List ℕ) → Says i a → Says i b → AreSame Differ a b) →
+    (a b : List ℕ) → OfOne p event Says a → OfOne p event Says b → AreSame Differ a b
+one_of_one p Differ event Says lawful one a b (inl (i, at, x)) (inl (j, at', y)) =
     let same : j ≡ i = one_place p j i event lawful at' at in
     one i a b x (subst (λ (n : ℕ). Says n b) same y)
-one_of_one p event Says lawful one a b (inl (i, at, x)) (inr (none, y)) = absurd (none i at)
-one_of_one p event Says lawful one a b (inr (none, x)) (inl (i, at, y)) = absurd (none i at)
-one_of_one p event Says lawful one a b (inr (none, x)) (inr (none', y)) = inl (x ∙ sym y)
+one_of_one p Differ event Says lawful one a b (inl (i, at, x)) (inr (none, y)) = absurd (none i at)
+one_of_one p Differ event Says lawful one a b (inr (none, x)) (inl (i, at, y)) = absurd (none i at)
+one_of_one p Differ event Says lawful one a b (inr (none, x)) (inr (none', y)) = inl (x ∙ sym y)
 
 one_report : (d : Declaration) (seen : List (List Seen)) (a b : List ℕ) → IsReport d seen a → IsReport d seen b → a ≡ b
 one_report d seen a b (x, is_x, is) (y, is_y, is') = is ∙ ap (λ (consistent : Bool). report_text d seen consistent) (one_state (problem_of_seen d seen) x y is_x is_y) ∙ sym is'
@@ -186,6 +203,16 @@ state_lawful d s declared state = problem_lawful d (seen_by d s.traces) declared
 pub capture_not_memory : (e : CaptureError) (r : Refusal) → capture_refusal e ≡ Some r → e ≢ refused.Memory
 capture_not_memory e r is memory = let none : capture_refusal refused.Memory ≡ Some r = sym (ap capture_refusal memory) ∙ is in absurd cc
 
+event_within : (p : ProblemLists) (i : ℕ) (name : List ℕ) → HasEvent p i name → i < length p.events
+event_within p i name at =
+    let within : i < length (map (λ (e : Event). e.name) p.events) = slice_get_within (map (λ (e : Event). e.name) p.events) i name at in
+    omega (arith, within, length-map p.events (λ (e : Event). e.name))
+
+-- replies to the command of a line are replies to the line
+asked : (p : ProblemLists) (line : List ℕ) (c : Command) (a b : List ℕ) → Asks line (Some c) → AreSame (MayDiffer p c) a b → AreSame (LineMayDiffer p line) a b
+asked p line c a b asks (inl same) = inl same
+asked p line c a b asks (inr differ) = inr (c, asks, differ)
+
 module _ (below : Below) where
   one_capture_refusal : (bytes : List ℕ) (r r' : Refusal) → IsCaptureRefusal bytes r → IsCaptureRefusal bytes r' → r ≡ r'
   one_capture_refusal bytes r r' (e, fault, is) (f, fault', is') =
@@ -195,80 +222,91 @@ module _ (below : Below) where
   read_no_fault : (bytes : List ℕ) (c : captures.Capture) (r : Refusal) → Reads bytes c → IsCaptureRefusal bytes r → ⊥
   read_no_fault bytes c r reads (e, fault, is) = below.judged bytes c e reads fault (capture_not_memory e r is)
 
-  one_capture : (p : ProblemLists) (d : Declaration) (s : State) (k : ℕ) (trace : Trace) (piece : List ℕ) → AreOne p (CaptureReply d s k trace piece)
-  one_capture p d s k trace piece a b after other (inl (c, reads, x)) (inl (c', reads', y)) =
+  one_capture : (Differ : Differences) (d : Declaration) (s : State) (k : ℕ) (trace : Trace) (piece : List ℕ) → AreOne Differ (CaptureReply d s k trace piece)
+  one_capture Differ d s k trace piece a b after other (inl (c, reads, x)) (inl (c', reads', y)) =
       let bytes = bytes_of trace ++ piece in
       let same : c' ≡ c = below.capture bytes c' c reads' reads in
-      one_acceptance p d s k (Captured bytes c) a b after other x (subst (λ (z : captures.Capture). AcceptReply d s k (Captured bytes z) b other) same y)
-  one_capture p d s k trace piece a b after other (inl (c, reads, x)) (inr (r, fault, y)) = absurd (read_no_fault (bytes_of trace ++ piece) c r reads fault)
-  one_capture p d s k trace piece a b after other (inr (r, fault, x)) (inl (c, reads, y)) = absurd (read_no_fault (bytes_of trace ++ piece) c r reads fault)
-  one_capture p d s k trace piece a b after other (inr (r, fault, x)) (inr (r', fault', y)) =
+      one_acceptance Differ d s k (Captured bytes c) a b after other x (subst (λ (z : captures.Capture). AcceptReply d s k (Captured bytes z) b other) same y)
+  one_capture Differ d s k trace piece a b after other (inl (c, reads, x)) (inr (r, fault, y)) = absurd (read_no_fault (bytes_of trace ++ piece) c r reads fault)
+  one_capture Differ d s k trace piece a b after other (inr (r, fault, x)) (inl (c, reads, y)) = absurd (read_no_fault (bytes_of trace ++ piece) c r reads fault)
+  one_capture Differ d s k trace piece a b after other (inr (r, fault, x)) (inr (r', fault', y)) =
       let same : r' ≡ r = one_capture_refusal (bytes_of trace ++ piece) r' r fault' fault in
-      one_refusal p s r a b after other x (subst (λ (all : Refusal). Refuses s all b other) same y)
+      one_refusal Differ s r a b after other x (subst (λ (all : Refusal). Refuses s all b other) same y)
 
   -- ---- pieces
-  one_of_kind : (p : ProblemLists) (d : Declaration) (s : State) (k : ℕ) (trace : Trace) (kind : TraceKind) (bytes : List ℕ) → AreOne p (KindReply d s k trace kind bytes)
-  one_of_kind p d s k trace Capture bytes = one_capture p d s k trace bytes
-  one_of_kind p d s k trace Log bytes = one_log below p d s k trace bytes
+  one_of_kind : (Differ : Differences) (d : Declaration) (s : State) (k : ℕ) (trace : Trace) (kind : TraceKind) (bytes : List ℕ) → AreOne Differ (KindReply d s k trace kind bytes)
+  one_of_kind Differ d s k trace Capture bytes = one_capture Differ d s k trace bytes
+  one_of_kind Differ d s k trace Log bytes = one_log below Differ d s k trace bytes
 
-  one_piece : (p : ProblemLists) (d : Declaration) (s : State) (k : ℕ) (label : Option Label) (trace : Option Trace) (bytes : List ℕ) → AreOne p (PieceReply d s k label trace bytes)
-  one_piece p d s k None trace bytes = λ a b after other x y. absurd x
-  one_piece p d s k (Some label) None bytes = λ a b after other x y. absurd x
-  one_piece p d s k (Some label) (Some trace) bytes =
-      by_test p (fits_label trace bytes) (KindReply d s k trace label.kind bytes) (Refuses s TooManyBytes)
-      (one_of_kind p d s k trace label.kind bytes) (one_refusal p s TooManyBytes)
+  one_piece : (Differ : Differences) (d : Declaration) (s : State) (k : ℕ) (label : Option Label) (trace : Option Trace) (bytes : List ℕ) → AreOne Differ (PieceReply d s k label trace bytes)
+  one_piece Differ d s k None trace bytes = λ a b after other x y. absurd x
+  one_piece Differ d s k (Some label) None bytes = λ a b after other x y. absurd x
+  one_piece Differ d s k (Some label) (Some trace) bytes =
+      by_test Differ (fits_label trace bytes) (KindReply d s k trace label.kind bytes) (Refuses s TooManyBytes)
+      (one_of_kind Differ d s k trace label.kind bytes) (one_refusal Differ s TooManyBytes)
 
-  one_addition : (p : ProblemLists) (d : Declaration) (s : State) (place : Option ℕ) (found : Found) → AreOne p (AddReply d s place found)
-  one_addition p d s None Unread = one_refusal p s UnknownLabel
-  one_addition p d s None (Bytes bytes) = λ a b after other x y. absurd x
-  one_addition p d s None Absent = λ a b after other x y. absurd x
-  one_addition p d s None Failed = λ a b after other x y. absurd x
-  one_addition p d s (Some k) Unread = λ a b after other x y. absurd x
-  one_addition p d s (Some k) (Bytes bytes) = one_piece p d s k (slice_get d.labels k) (slice_get s.traces k) bytes
-  one_addition p d s (Some k) Absent = one_refusal p s UnreadFile
-  one_addition p d s (Some k) Failed = one_refusal p s UnreadFile
+  one_addition : (Differ : Differences) (d : Declaration) (s : State) (place : Option ℕ) (found : Found) → AreOne Differ (AddReply d s place found)
+  one_addition Differ d s None Unread = one_refusal Differ s UnknownLabel
+  one_addition Differ d s None (Bytes bytes) = λ a b after other x y. absurd x
+  one_addition Differ d s None Absent = λ a b after other x y. absurd x
+  one_addition Differ d s None Failed = λ a b after other x y. absurd x
+  one_addition Differ d s (Some k) Unread = λ a b after other x y. absurd x
+  one_addition Differ d s (Some k) (Bytes bytes) = one_piece Differ d s k (slice_get d.labels k) (slice_get s.traces k) bytes
+  one_addition Differ d s (Some k) Absent = one_refusal Differ s UnreadFile
+  one_addition Differ d s (Some k) Failed = one_refusal Differ s UnreadFile
 
   -- ---- times
-  one_time : (p : ProblemLists) (source : Option ℕ) (i : ℕ) (a b : List ℕ) → IsTimeReply p source i a → IsTimeReply p source i b → AreOneBut p a b
+  one_time : (p : ProblemLists) (source : Option ℕ) (i : ℕ) (a b : List ℕ) → IsTimeReply p source i a → IsTimeReply p source i b → AreSame (AreContradictions p) a b
   one_time p None i a b x y = inl (x ∙ sym y)
-  one_time p (Some clock) i a b (inl (has, x)) (inl (has', y)) = one_answer p (IsTimeLine p clock i) a b (λ one two some is is'. inl (below.time p clock i one two has is is')) x y
+  one_time p (Some clock) i a b (inl (has, x)) (inl (has', y)) =
+      one_answer p (AreContradictions p) (IsTimeLine p clock i) a b (λ one two are. are) (λ one two some is is'. inl (below.time p clock i one two has is is')) x y
   one_time p (Some clock) i a b (inl (has, x)) (inr (none, y)) = absurd (none has)
   one_time p (Some clock) i a b (inr (none, x)) (inl (has, y)) = absurd (none has)
   one_time p (Some clock) i a b (inr (none, x)) (inr (none', y)) = inl (x ∙ sym y)
 
   -- ---- lines
-  one_reply : (d : Declaration) (s : State) (c : Command) (found : Found) → IsProblem (problem_of d s.traces) → AreKept (seen_by d s.traces) s.kept → AreOne (problem_of d s.traces) (Reply d s c found)
-  one_reply d s (Add label path) found lawful kept = one_addition (problem_of d s.traces) d s (label_at d label) found
+  one_reply : (d : Declaration) (s : State) (c : Command) (found : Found) → IsProblem (problem_of d s.traces) → AreKept (seen_by d s.traces) s.kept →
+      AreOne (MayDiffer (problem_of d s.traces) c) (Reply d s c found)
+  one_reply d s (Add label path) found lawful kept = one_addition (λ a b. ⊥) d s (label_at d label) found
   one_reply d s (Interval first second) found lawful kept = λ a b after other x y.
       let p = problem_of d s.traces in
-      one_of_two p s first second (IsIntervalLine p) lawful (λ i j one two some is is'. inl (below.interval p i j one two is is')) a b after other x.1 y.1
+      one_of_two p (AreContradictions p) s first second (IsIntervalLine p) lawful (λ one two are. are)
+      (λ i j at at' one two some is is'. inl (below.interval p i j one two is is')) a b after other x.1 y.1
   one_reply d s (Order first second) found lawful kept = λ a b after other x y.
       let p = problem_of d s.traces in
-      one_of_two p s first second (IsOrderLine p) lawful (λ i j one two some is is'. inl (below.order p i j one two some is is')) a b after other x.1 y.1
+      one_of_two p (AreContradictions p) s first second (IsOrderLine p) lawful (λ one two are. are)
+      (λ i j at at' one two some is is'. inl (below.order p i j one two some is is')) a b after other x.1 y.1
   one_reply d s (Time event) found lawful kept = λ a b after other x y.
       let p = problem_of d s.traces in
-      (one_of_one p event (IsTimeReply p d.source) lawful (one_time p d.source) a b x.2 y.2, x.1 ∙ sym y.1)
+      (one_of_one p (AreContradictions p) event (IsTimeReply p d.source) lawful (one_time p d.source) a b x.2 y.2, x.1 ∙ sym y.1)
   one_reply d s Merge found lawful kept = λ a b after other x y.
+      let p = problem_of d s.traces in
       let seen = seen_by d s.traces in
-      (one_answer (problem_of d s.traces) (IsMergeText d seen) a b (λ one two some is is'. inl (below.merge d seen one two is is')) x.2 y.2, x.1 ∙ sym y.1)
+      (one_answer p (AreContradictions p) (IsMergeText d seen) a b (λ one two are. are) (λ one two some is is'. inl (below.merge d seen one two is is')) x.2 y.2, x.1 ∙ sym y.1)
   one_reply d s (Prove first second) found lawful kept = λ a b after other x y.
       let p = problem_of d s.traces in
-      one_of_two p s first second (IsProofText p) lawful (λ i j one two some is is'. inr (inr (i, j, is, is'))) a b after other x.1 y.1
+      one_of_two p (MayDiffer p (Prove first second)) s first second (IsProofText p) lawful (λ one two are. inl are)
+      (λ i j at at' one two some is is'. inr (inr (i, j, at, at', some, proofs_one p i j one two lawful (event_within p i first at) is is'))) a b after other x.1 y.1
   one_reply d s (Keep event) found lawful kept = λ a b after other x y.
       let one = one_keeping (problem_of d s.traces) (seen_by d s.traces) s.kept event lawful kept a b after.kept other.kept x.2 y.2 in
       (inl one.0, one_state_of after other (x.1 ∙ sym y.1) one.1)
   one_reply d s Problem found lawful kept = λ a b after other x y. (inl (x.2 ∙ sym y.2), x.1 ∙ sym y.1)
   one_reply d s Report found lawful kept = λ a b after other x y. (inl (one_report d (seen_by d s.traces) a b x.2 y.2), x.1 ∙ sym y.1)
 
-  one_of_command : (d : Declaration) (files : Content) (s : State) (c : Option Command) (found : Found) → IsProblem (problem_of d s.traces) → AreKept (seen_by d s.traces) s.kept → AreOne (problem_of d s.traces) (CommandReply d files s c found)
-  one_of_command d files s None found lawful kept = λ a b after other x y. one_refusal (problem_of d s.traces) s NoCommand a b after other x.1 y.1
-  one_of_command d files s (Some c) found lawful kept = λ a b after other x y. one_reply d s c found lawful kept a b after other x.1 y.1
-
-  pub one_line : (d : Declaration) (files : Content) (s : State) (line : List ℕ) (found : Found) → IsDeclaration d → IsState d s → AreOne (problem_of d s.traces) (LineReply d files s line found)
-  one_line d files s line found declared state =
+  one_of_command : (d : Declaration) (files : Content) (s : State) (line : List ℕ) (c : Option Command) (found : Found) → IsProblem (problem_of d s.traces) → AreKept (seen_by d s.traces) s.kept →
+      Asks line c → AreOne (LineMayDiffer (problem_of d s.traces) line) (CommandReply d files s c found)
+  one_of_command d files s line None found lawful kept asks = λ a b after other x y. one_refusal (LineMayDiffer (problem_of d s.traces) line) s NoCommand a b after other x.1 y.1
+  one_of_command d files s line (Some c) found lawful kept asks = λ a b after other x y.
       let p = problem_of d s.traces in
-      by_test p (nat_le (length line) 4096) (λ text s'. (c : Option Command) × Asks line c × CommandReply d files s c found text s') (λ text s'. (found ≡ Unread) × Refuses s NoCommand text s')
+      let one = one_reply d s c found lawful kept a b after other x.1 y.1 in
+      (asked p line c a b asks one.0, one.1)
+
+  pub one_line : (d : Declaration) (files : Content) (s : State) (line : List ℕ) (found : Found) → IsDeclaration d → IsState d s →
+      AreOne (LineMayDiffer (problem_of d s.traces) line) (LineReply d files s line found)
+  one_line d files s line found declared state =
+      let Differ = LineMayDiffer (problem_of d s.traces) line in
+      by_test Differ (nat_le (length line) 4096) (λ text s'. (c : Option Command) × Asks line c × CommandReply d files s c found text s') (λ text s'. (found ≡ Unread) × Refuses s NoCommand text s')
       (λ a b after other (c, asks, x) (c', asks', y).
       let same : c' ≡ c = command_one line c' c asks' asks in
-      one_of_command d files s c found (state_lawful d s declared state) state.kept a b after other x (subst (λ (o : Option Command). CommandReply d files s o found b other) same y))
-      (λ a b after other x y. one_refusal p s NoCommand a b after other x.1 y.1)
+      one_of_command d files s line c found (state_lawful d s declared state) state.kept asks a b after other x (subst (λ (o : Option Command). CommandReply d files s o found b other) same y))
+      (λ a b after other x y. one_refusal Differ s NoCommand a b after other x.1 y.1)

@@ -1,18 +1,16 @@
 -- Events by their places among those of all labels.
-use Rattle.std.proofs.Common.{◌≡◌, ◌⊎◌, inl, inr, ℕ, zero, suc, ◌+◌, ◌-◌, ◌<◌, ◌≤◌, List, [], ◌∷◌, ◌++◌, length, map, drop, slice_get, slice_set, Some, All, refl, sym, ◌∙◌, ap, subst, arith, length-append, length-set}
+use Rattle.std.proofs.Common.{◌≡◌, ℕ, zero, suc, ◌+◌, ◌-◌, ◌<◌, ◌≤◌, List, [], ◌∷◌, ◌++◌, length, map, drop, slice_get, slice_set, Some, All, refl, sym, ◌∙◌, ap, subst, arith, length-append, length-set}
 use Rattle.std.specs.List.{slice_index_or}
-use Rattle.std.proofs.lemmas.List.{length-map, map-append}
+use Rattle.std.proofs.lemmas.List.{map-append}
 use Rattle.std.proofs.lemmas.List.Sums.{sum_by-cons}
 use Rattle.std.proofs.lemmas.List.Elements.{All-head, All-tail}
-use Rattle.std.proofs.lemmas.Option.{slice_get_within, get_or_from_slice_get}
-use Rattle.trace_event.specs.Seen.{Seen, seen_event, seen_events}
-use Rattle.traces.specs.declared.accepted.Accepted.{Accepted}
-use Rattle.traces.specs.Held.{seen_in}
+use Rattle.trace_event.specs.Seen.{Seen}
 use Rattle.traces.specs.declared.event.EventId.{EventId}
 use Rattle.traces.specs.Traces.{Placed, numbered, events_from, events_of, event_count}
-use Rattle.traces.proofs.Ids.{ids_within, ids_differ, length_events}
+use Rattle.traces.proofs.Ids.{ids_within}
+use Rattle.roster.specs.Groups.{IsPlaceOf}
 use Rattle.session.specs.Reply.{IsPlacedAt}
-use Rattle.session.proofs.Holding.{some_same, there_some}
+use Rattle.session.proofs.Holding.{some_same}
 
 -- the names of these events
 abbrev ids : List Placed → List EventId
@@ -70,6 +68,27 @@ placed_from j (s ∷ more) (suc i) m place inside few is =
     smaller [] (suc k) = omega arith
     smaller (x ∷ xs) (suc k) = omega (arith, smaller xs k, sum_by-cons length x xs)
 
+-- at the place of an event of a group stands its name
+pub ids_at : (j : ℕ) (seen : List (List Seen)) (place h k : ℕ) → IsPlaceOf (map (λ (s : List Seen). length s) seen) place h k → slice_get (ids (events_from j seen)) place ≡ Some (id_of (j + h) (k + 1))
+ids_at j [] place h k at = absurd at
+ids_at j (s ∷ more) place zero k at =
+    let same : place ≡ k = sym at.0 in
+    let few : k < length s = at.1 in
+    let number : 1 + k ≡ k + 1 = omega arith in
+    let label : j ≡ j + 0 = omega arith in
+    let long : k < length (ids (numbered j 1 s)) = (let e = numbered_long j 1 s in omega (arith, few, e)) in
+    ap (λ (n : ℕ). slice_get (ids (events_from j (s ∷ more))) n) same
+    ∙ ap (λ (xs : List EventId). slice_get xs k) (map-append (λ (e : Placed). e.id) (numbered j 1 s) (events_from (j + 1) more))
+    ∙ at_front (ids (numbered j 1 s)) (ids (events_from (j + 1) more)) k long ∙ numbered_at j 1 s k few
+    ∙ ap (λ (n : ℕ). Some (id_of j n)) number ∙ ap (λ (n : ℕ). Some (id_of n (k + 1))) label
+ids_at j (s ∷ more) place (suc h) k at =
+    let past : length s ≤ place = at.0 in
+    let back : place ≡ length (ids (numbered j 1 s)) + (place - length s) = (let e = numbered_long j 1 s in omega (arith, past, e)) in
+    let label : j + 1 + h ≡ j + suc h = omega arith in
+    ap (λ (xs : List EventId). slice_get xs place) (map-append (λ (e : Placed). e.id) (numbered j 1 s) (events_from (j + 1) more))
+    ∙ at_back (ids (numbered j 1 s)) (ids (events_from (j + 1) more)) (place - length s) place back
+    ∙ ids_at (j + 1) more (place - length s) h k at.1 ∙ ap (λ (n : ℕ). Some (id_of n (k + 1))) label
+
 pub placed_by : (seen : List (List Seen)) (i m place : ℕ) → i < length seen → m < length (slice_index_or seen i []) → event_count (drop i seen) + place ≡ event_count seen + m →
     IsPlacedAt seen place (record { label = i; number = m + 1 })
 placed_by seen i m place inside few is =
@@ -95,41 +114,6 @@ within_at seen (e ∷ events) (suc place) event all here = within_at seen events
 
 pub within : (seen : List (List Seen)) (place : ℕ) (event : EventId) → IsPlacedAt seen place event → IsWithin seen event
 within seen place event here = within_at seen (events_of seen) place event (ids_within seen) here
-
--- ---- one place
-named_at : (xs : List Placed) (k : ℕ) (event : EventId) → slice_get (ids xs) k ≡ Some event → (e : Placed) × (slice_get xs k ≡ Some e) × (e.id ≡ event)
-named_at [] k event at = absurd cc
-named_at (x ∷ xs) zero event at = (x, refl, some_same x.id event at)
-named_at (x ∷ xs) (suc k) event at = named_at xs k event at
-
-ordered : (a b : ℕ) → (a < b) ⊎ ((a ≡ b) ⊎ (b < a))
-ordered zero zero = inr (inl refl)
-ordered zero (suc b) = inl (omega arith)
-ordered (suc a) zero = inr (inr (omega arith))
-ordered (suc a) (suc b) = next (ordered a b)
-  where
-    next : (a < b) ⊎ ((a ≡ b) ⊎ (b < a)) → (suc a < suc b) ⊎ ((suc a ≡ suc b) ⊎ (suc b < suc a))
-    next (inl below) = inl (omega (arith, below))
-    next (inr (inl same)) = inr (inl (ap suc same))
-    next (inr (inr above)) = inr (inr (omega (arith, above)))
-
-not_twice : (seen : List (List Seen)) (a b : ℕ) (event : EventId) → IsPlacedAt seen a event → IsPlacedAt seen b event → a < b → ⊥
-not_twice seen a b event at at' below =
-    let x = named_at (events_of seen) a event at in
-    let y = named_at (events_of seen) b event at' in
-    let inside : b < length (events_of seen) = slice_get_within (events_of seen) b y.0 y.1 in
-    let first : slice_index_or (events_of seen) a x.0 ≡ x.0 = get_or_from_slice_get (events_of seen) a x.0 x.0 x.1 in
-    let second : slice_index_or (events_of seen) b x.0 ≡ y.0 = get_or_from_slice_get (events_of seen) b y.0 x.0 y.1 in
-    ids_differ seen a b x.0 below inside (ap (λ (e : Placed). e.id) first ∙ x.2 ∙ sym y.2 ∙ ap (λ (e : Placed). e.id) (sym second))
-
--- an event has one place
-pub one_placed : (seen : List (List Seen)) (a b : ℕ) (event : EventId) → IsPlacedAt seen a event → IsPlacedAt seen b event → a ≡ b
-one_placed seen a b event at at' = by (ordered a b)
-  where
-    by : (a < b) ⊎ ((a ≡ b) ⊎ (b < a)) → a ≡ b
-    by (inl below) = absurd (not_twice seen a b event at at' below)
-    by (inr (inl same)) = same
-    by (inr (inr above)) = absurd (not_twice seen b a event at' at above)
 
 -- ---- more events under one label
 -- what is kept of these events
@@ -169,64 +153,3 @@ placed seen event is =
     dropped xs zero = omega arith
     dropped [] (suc k) = omega arith
     dropped (x ∷ xs) (suc k) = omega (arith, dropped xs k, sum_by-cons length x xs)
-
--- ---- one label after another
-count_dropped : (seen : List (List Seen)) (k : ℕ) → k < length seen → event_count (drop k seen) ≡ length (slice_index_or seen k []) + event_count (drop (suc k) seen)
-count_dropped [] k inside = absurd (omega (arith, inside))
-count_dropped (s ∷ seen) zero inside = sum_by-cons length s seen
-count_dropped (s ∷ seen) (suc k) inside = count_dropped seen k (omega (arith, inside))
-
-pub count_drop : (seen : List (List Seen)) (k : ℕ) → k < length seen → event_count (drop k seen) ≡ length (slice_index_or seen k []) + event_count (drop (k + 1) seen)
-count_drop seen k inside = let on : suc k ≡ k + 1 = omega arith in count_dropped seen k inside ∙ ap (λ (n : ℕ). length (slice_index_or seen k []) + event_count (drop n seen)) on
-
-pub count_past : (seen : List (List Seen)) (k : ℕ) → length seen ≤ k → event_count (drop k seen) ≡ 0
-count_past [] zero past = refl
-count_past [] (suc k) past = refl
-count_past (s ∷ seen) zero past = absurd (omega (arith, past))
-count_past (s ∷ seen) (suc k) past = count_past seen k (omega (arith, past))
-
--- the events of a label are as many as the code holds
-pub label_long : (accepted : List Accepted) (k : ℕ) (a : Accepted) → k < length accepted → a ≡ slice_index_or accepted k a → length (slice_index_or (seen_in accepted) k []) ≡ length a.events.items
-label_long [] k a inside is = absurd (omega (arith, inside))
-label_long (x ∷ accepted) zero a inside is = length-map x.events.items seen_event ∙ ap (λ (y : Accepted). length y.events.items) (sym is)
-label_long (x ∷ accepted) (suc k) a inside is = label_long accepted k a (omega (arith, inside)) is
-
-pub seen_each : (accepted : List Accepted) → length (seen_in accepted) ≡ length accepted
-seen_each accepted = length-map accepted (λ (a : Accepted). seen_events a.events.items)
-
--- the place of an event by what came before its label
-pub place_by : (seen : List (List Seen)) (event : EventId) (before label place : ℕ) → IsWithin seen event → label ≡ event.label → event_count (drop label seen) + before ≡ event_count seen → place + 1 ≡ before + event.number →
-    IsPlacedAt seen place event
-place_by seen event before label place is same count at =
-    let m : ℕ = event.number - 1 in
-    let first = is.first in
-    let last = is.last in
-    let number : m + 1 ≡ event.number = omega (arith, first) in
-    let counted : event_count (drop event.label seen) + before ≡ event_count seen = subst (λ (k : ℕ). event_count (drop k seen) + before ≡ event_count seen) same count in
-    subst (λ (e : EventId). IsPlacedAt seen place e) (ap (λ (n : ℕ). id_of event.label n) number)
-    (placed_by seen event.label m place is.label (omega (arith, first, last)) (omega (arith, counted, at, first)))
-
--- and so far no more came before it than there are
-pub before_few : (seen : List (List Seen)) (event : EventId) (before label : ℕ) → IsWithin seen event → label ≡ event.label → event_count (drop label seen) + before ≡ event_count seen →
-    (1 ≤ event.number) × (before + event.number ≤ event_count seen)
-before_few seen event before label is same count =
-    let first = is.first in
-    let last = is.last in
-    let inside = is.label in
-    let rest = count_drop seen event.label inside in
-    let counted : event_count (drop event.label seen) + before ≡ event_count seen = subst (λ (k : ℕ). event_count (drop k seen) + before ≡ event_count seen) same count in
-    (first, omega (arith, last, rest, counted))
-
--- a place is below the number of all events
-pub placed_below : (seen : List (List Seen)) (place : ℕ) (event : EventId) → IsPlacedAt seen place event → place < event_count seen
-placed_below seen place event at =
-    let inside : place < length (ids (events_of seen)) = slice_get_within (ids (events_of seen)) place event at in
-    let e = length-map (events_of seen) (λ (x : Placed). x.id) in
-    let f = length_events seen in
-    omega (arith, inside, e, f)
-
-pub placed_some : (seen : List (List Seen)) (place : ℕ) → place < event_count seen → (event : EventId) × IsPlacedAt seen place event
-placed_some seen place below =
-    let e = length-map (events_of seen) (λ (x : Placed). x.id) in
-    let f = length_events seen in
-    there_some (ids (events_of seen)) place (omega (arith, below, e, f))

@@ -1,5 +1,5 @@
 -- Replies of a session that stands for traces.
-use Rattle.std.proofs.Common.{◌≡◌, inl, inr, ℕ, ◌≤◌, List, [], ◌∷◌, length, map, Option, Some, None, Result, Ok, Err, IfOk, IfSome, true, nat_le, refl, sym, ◌∙◌, ap, subst, arith}
+use Rattle.std.proofs.Common.{◌≡◌, inl, inr, ℕ, ◌≤◌, List, [], ◌∷◌, length, Option, Some, None, IfSome, true, nat_le, refl, sym, ◌∙◌, ap, subst, arith}
 use Rattle.problem_model.specs.Problem.{ProblemLists}
 use Rattle.problem_model.specs.ProblemText.{problem_text}
 use Rattle.ports.specs.Files.{Content, FilesTold, Keeps}
@@ -19,19 +19,12 @@ use Rattle.session.specs.Refusals.{refusal_line}
 use Rattle.session.specs.Commands.{Command, Add, Interval, Order, Time, Merge, Prove, Keep, Problem, Report, Asks}
 use Rattle.session.specs.Reply.{State, Found, Unread, OfTwo, OfOne, IsTimeReply, IsReport, KeepReply}
 use Rattle.session.specs.Sessions.{CommandReply, LineReply, FoundAt, AreCounted}
-use Rattle.session.specs.Stands.{Held, Under, StandsFor, Stepped, held_of, problem_held, seen_held, under_of}
+use Rattle.session.specs.Stands.{Held, StandsFor, Stepped, held_of, problem_held, seen_held}
 use Rattle.session.specs.Inside.{IsReplyOfTwo, Answered, Asked, CommandAnswered}
 use Rattle.session.proofs.Telling.{Told}
 use Rattle.session.proofs.Holding.{seen_accepted}
 
 -- ---- the problem of what a session stands for
-pub built : {E : Type 0} (d : Declaration) (accepted : List Accepted) (held : Held) (r : Result ProblemLists E) → held.declaration ≡ d → held.under ≡ map under_of accepted →
-    IfOk r (λ p. p ≡ problem_of_seen d (seen_in accepted)) → IfOk r (λ p. p ≡ problem_held held)
-built d accepted held (Ok p) same under is =
-    is ∙ ap (λ (seen : List (List Seen)). problem_of_seen d seen) (sym (seen_accepted accepted)) ∙ ap (λ (us : List Under). problem_of_seen d (seen_held us)) (sym under)
-    ∙ ap (λ (x : Declaration). problem_of_seen x (seen_held held.under)) (sym same)
-built d accepted held (Err e) same under is = tt
-
 pub problem_stands : (held : Held) (d : Declaration) (s : State) → StandsFor held d s → problem_held held ≡ problem_of d s.traces
 problem_stands held d s stands =
     ap (λ (x : Declaration). problem_of_seen x (seen_held held.under)) stands.declaration ∙ ap (λ (seen : List (List Seen)). problem_of_seen d seen) stands.events

@@ -4,10 +4,16 @@ use Rattle.std.proofs.lemmas.Option.{slice_get_within}
 use Rattle.trace_event.specs.Seen.{Seen}
 use Rattle.traces.specs.declared.event.EventId.{EventId}
 use Rattle.repair.specs.declared.slot.Slot.{Slot}
+use Rattle.sync_graph.specs.Graph.{GraphLists}
+use Rattle.roster.specs.declared.came.Came.{Came}
+use Rattle.roster.specs.Roster.{RosterLists, IsRoster, id_of}
+use Rattle.growth.specs.Rosters.{KnowsNodes}
+use Rattle.kept_graph.specs.Kept.{KeepsEvents}
 use Rattle.session.specs.Reply.{IsPlacedAt, IsAmong, most_kept}
-use Rattle.session.specs.Stands.{AreKept, AreSlotsOf}
+use Rattle.session.specs.Stands.{AreKept, AreSlotsOf, HasNodeOf}
 use Rattle.session.proofs.Holding.{some_same, there_some}
-use Rattle.session.proofs.Placing.{within, more_within, one_placed, placed}
+use Rattle.session.proofs.Placing.{within, more_within, placed}
+use Rattle.session.proofs.RosterEvents.{event_of_one, node_of_one}
 
 -- ---- one more
 -- what stands in a list with one more stands in the list, or is the one more
@@ -35,14 +41,6 @@ found_node (s ∷ slots) node slot is = by (s.node == node) refl is (found_node 
     by true same here next = let e : s ≡ slot = some_same s slot here in subst (λ (x : Slot). x.node ≡ node) e (grind (arith, same))
     by false other here next = next here
 
-none_found : (slots : List Slot) (node : ℕ) → ((k : ℕ) (slot : Slot) → slice_get slots k ≡ Some slot → slot.node ≡ node → ⊥) → find (λ (s : Slot). s.node == node) slots ≡ None
-none_found [] node other = refl
-none_found (s ∷ slots) node other = by (s.node == node) refl (none_found slots node (λ k slot here. other (suc k) slot here))
-  where
-    by : (b : Bool) → (s.node == node) ≡ b → find (λ (x : Slot). x.node == node) slots ≡ None → cond b (Some s) (find (λ (x : Slot). x.node == node) slots) ≡ None
-    by true same next = absurd (other 0 s refl (grind (arith, same)))
-    by false same next = next
-
 -- the node of a slot has one
 pub slot_found : (slots : List Slot) (k : ℕ) (slot : Slot) → slice_get slots k ≡ Some slot → find (λ (x : Slot). x.node == slot.node) slots ≡ None → ⊥
 slot_found [] k slot at none = absurd cc
@@ -57,52 +55,61 @@ slot_found (s ∷ slots) (suc k) slot at none = by (s.node == slot.node) refl no
     by true same is next = absurd cc
     by false other is next = next is
 
-module _ (seen : List (List Seen)) (kept : List EventId) (slots : List Slot) (are : AreSlotsOf seen kept slots) (node : ℕ) (event : EventId) (at : IsPlacedAt seen node event) where
+module _ (r : RosterLists) (is : IsRoster r) (g : GraphLists) (knows : KnowsNodes r g) (kept : List EventId) (slots : List Slot) (are : AreSlotsOf r kept slots) (node : ℕ) (event : EventId) (at : HasNodeOf r event node) where
   -- the event of a slot of this node is this one
   event_of : (k : ℕ) (slot : Slot) → slice_get slots k ≡ Some slot → slot.node ≡ node → slice_get kept k ≡ Some event
   event_of k slot here same =
       let inside : k < length slots = slice_get_within slots k slot here in
       let each : length slots ≡ length kept = are.each in
       let other = there_some kept k (omega (arith, inside, each)) in
-      let there : IsPlacedAt seen node other.0 = subst (λ (n : ℕ). IsPlacedAt seen n other.0) same (are.nodes k other.0 slot other.1 here) in
-      other.1 ∙ ap (λ (e : EventId). Some e) (some_same other.0 event (sym there ∙ at))
+      let there : HasNodeOf r other.0 node = subst (λ (n : ℕ). HasNodeOf r other.0 n) same (are.nodes k other.0 slot other.1 here) in
+      other.1 ∙ ap (λ (e : EventId). Some e) (event_of_one r is g knows other.0 event node there at)
 
   -- the slot of a node has its event's place among those that are kept
   pub has_place : (k : ℕ) (slot : Slot) → slice_get slots k ≡ Some slot → find (λ (s : Slot). s.node == node) slots ≡ Some slot → slice_get kept k ≡ Some event
   has_place k slot here found = event_of k slot here (found_node slots node slot found)
 
-  -- the node of an event that is not kept has no slot
-  pub no_slot : (IsAmong kept event → ⊥) → find (λ (s : Slot). s.node == node) slots ≡ None
-  no_slot other = none_found slots node (λ k slot here same. other (k, event_of k slot here same))
-
-  -- and where its node has none, it is not kept
+  -- an event whose node has no slot is not kept
   pub not_among : find (λ (s : Slot). s.node == node) slots ≡ None → IsAmong kept event → ⊥
   not_among none (k, here) =
       let inside : k < length kept = slice_get_within kept k event here in
       let each : length slots ≡ length kept = are.each in
       let slot = there_some slots k (omega (arith, inside, each)) in
-      let there : IsPlacedAt seen slot.0.node event = are.nodes k event slot.0 here slot.1 in
-      let same : slot.0.node ≡ node = one_placed seen slot.0.node node event there at in
+      let same : slot.0.node ≡ node = node_of_one r is event slot.0.node node (are.nodes k event slot.0 here slot.1) at in
       slot_found slots k slot.0 slot.1 (subst (λ (n : ℕ). find (λ (s : Slot). s.node == n) slots ≡ None) (sym same) none)
 
   -- with one more event, the slots have one more
-  pub slots_more : (slot : Slot) → slot.node ≡ node → AreSlotsOf seen (kept ++ event ∷ []) (slots ++ slot ∷ [])
+  pub slots_more : (slot : Slot) → slot.node ≡ node → AreSlotsOf r (kept ++ event ∷ []) (slots ++ slot ∷ [])
   slots_more slot same = record {
     each = let a = snoc_long slots slot in let b = snoc_long kept event in let e = are.each in omega (arith, a, b, e);
     nodes = λ k e s here there. joined k e s (snoc_parts kept event k e here) (snoc_parts slots slot k s there);
   }
     where
-      joined : (k : ℕ) (e : EventId) (s : Slot) → (slice_get kept k ≡ Some e) ⊎ ((k ≡ length kept) × (event ≡ e)) → (slice_get slots k ≡ Some s) ⊎ ((k ≡ length slots) × (slot ≡ s)) → IsPlacedAt seen s.node e
+      joined : (k : ℕ) (e : EventId) (s : Slot) → (slice_get kept k ≡ Some e) ⊎ ((k ≡ length kept) × (event ≡ e)) → (slice_get slots k ≡ Some s) ⊎ ((k ≡ length slots) × (slot ≡ s)) → HasNodeOf r e s.node
       joined k e s (inl here) (inl there) = are.nodes k e s here there
       joined k e s (inl here) (inr last) = let inside : k < length kept = slice_get_within kept k e here in let each = are.each in let l = last.0 in absurd (omega (arith, inside, each, l))
       joined k e s (inr last) (inl there) = let inside : k < length slots = slice_get_within slots k s there in let each = are.each in let l = last.0 in absurd (omega (arith, inside, each, l))
       joined k e s (inr last) (inr last') =
           let node_is : node ≡ s.node = sym same ∙ ap (λ (x : Slot). x.node) last'.1 in
-          subst (λ (x : EventId). IsPlacedAt seen s.node x) last.1 (subst (λ (n : ℕ). IsPlacedAt seen n event) node_is at)
+          subst (λ (x : EventId). HasNodeOf r x s.node) last.1 (subst (λ (n : ℕ). HasNodeOf r event n) node_is at)
 
 -- no slots are those of no event
-pub no_slots : (seen : List (List Seen)) (slots : List Slot) → slots ≡ [] → AreSlotsOf seen [] slots
-no_slots seen slots none = record { each = ap length none; nodes = λ k event slot here there. absurd cc }
+pub no_slots : (r : RosterLists) (slots : List Slot) → slots ≡ [] → AreSlotsOf r [] slots
+no_slots r slots none = record { each = ap length none; nodes = λ k event slot here there. absurd cc }
+
+-- events keep their nodes where more come
+same_id : (e f : Came) → f.label ≡ e.label → f.number ≡ e.number → id_of f ≡ id_of e
+same_id e f label number =
+    ap (λ (l : ℕ). let i : EventId = record { label = l; number = f.number } in i) label
+    ∙ ap (λ (n : ℕ). let i : EventId = record { label = e.label; number = n } in i) number
+
+pub node_kept : (old new : RosterLists) (event : EventId) (node : ℕ) → KeepsEvents old new → HasNodeOf old event node → HasNodeOf new event node
+node_kept old new event node keeps is =
+    let f = keeps is.number is.came is.there in
+    record { number = is.number; came = f.0; there = f.1; id_is = same_id is.came f.0 f.3 f.4 ∙ is.id_is; node_is = f.5 ∙ is.node_is }
+
+pub slots_kept : (old new : RosterLists) (kept : List EventId) (slots : List Slot) → KeepsEvents old new → AreSlotsOf old kept slots → AreSlotsOf new kept slots
+slots_kept old new kept slots keeps are = record { each = are.each; nodes = λ k event slot here there. node_kept old new event slot.node keeps (are.nodes k event slot here there) }
 
 -- ---- events that are kept
 pub none_kept : (seen : List (List Seen)) → AreKept seen []

@@ -1,25 +1,26 @@
 -- Answers that stand ready, by what the code holds.
-use Rattle.std.proofs.Common.{◌≡◌, List, Option, Some, None}
-use Rattle.std.specs.Prelude.{IsSome, IfSome}
-use Rattle.decl.specs.Declaration.{Declaration}
-use Rattle.trace_event.specs.Seen.{Seen}
-use Rattle.traces.specs.declared.event.EventId.{EventId}
+use Rattle.std.proofs.Common.{◌≡◌, Bool, true, false, Result, Ok, Err, OnOk, refl, subst, sym}
+use Rattle.std.specs.Prelude.{IsSome}
+use Rattle.std.specs.Result.{is_err}
 use Rattle.session.specs.declared.answers.Answers.{Answers}
-use Rattle.session.specs.Commands.{Command}
-use Rattle.session.specs.Stands.{Held, AreAnswersOf, IsAnsweredFromRows, solver_of}
-use Rattle.session.specs.Keeping.{IsAnsweredFromSlots}
-use Rattle.session.proofs.AskedRows.{from_slots}
+use Rattle.session.specs.Stands.{Held, solver_of}
 
-pub some_answers : (o : Option Answers) → IsSome (solver_of o) → IsSome o
-some_answers None is = is
-some_answers (Some a) is = is
+-- whether they stand ready
+pub ready_is : (ready : Bool) (a : Answers) → IsSome (solver_of ready a) → ready ≡ true
+ready_is true a is = refl
+ready_is false a is = let no : false ≡ true = is in absurd cc
 
-pub answers_some : (o : Option Answers) → IsSome o → IsSome (solver_of o)
-answers_some None is = is
-answers_some (Some a) is = is
+pub ready_some : (ready : Bool) (a : Answers) → ready ≡ true → IsSome (solver_of ready a)
+ready_some true a is = refl
+ready_some false a is = absurd cc
 
--- what is read off the rows of kept events is read off those of slots
-pub slots_of_rows : (d : Declaration) (seen : List (List Seen)) (kept : List EventId) (o : Option Answers) (h : Held) (c : Command) → h.declaration ≡ d → h.kept ≡ kept → IfSome o (AreAnswersOf d seen kept) → IsAnsweredFromRows h c →
-    IfSome o (λ a. IsAnsweredFromSlots a.problem a.solver c)
-slots_of_rows d seen kept None h c declared same are rows = tt
-slots_of_rows d seen kept (Some a) h c declared same are rows = from_slots d seen kept a are h declared same c rows
+pub ready_of : (h : Held) (ready : Bool) (a : Answers) → solver_of ready a ≡ h.answers → IsSome h.answers → ready ≡ true
+ready_of h ready a same is = ready_is ready a (subst IsSome (sym same) is)
+
+pub on_ok : {A E : Type 0} (r : Result A E) (P : Type 0) → P → OnOk r P
+on_ok (Ok x) P is = is
+on_ok (Err e) P is = tt
+
+pub of_ok : {A E : Type 0} (r : Result A E) (P : Type 0) → is_err r ≡ false → OnOk r P → P
+of_ok (Ok x) P fine is = is
+of_ok (Err e) P fine is = absurd cc

@@ -35,7 +35,7 @@ new_within streams.Log n new = tt
 new_within (streams.Capture tail) n new = let none : taken tail ≡ 0 = new_taken tail new in let within : taken tail ≤ n = omega (arith, none) in within
 
 -- ---- all labels
-events_start : (d : Declaration) (labels : List Label) → seen_under d labels (map (λ (l : Label). nothing_for l.kind) labels) ≡ replicate (length labels) []
+pub events_start : (d : Declaration) (labels : List Label) → seen_under d labels (map (λ (l : Label). nothing_for l.kind) labels) ≡ replicate (length labels) []
 events_start d [] = refl
 events_start d (label ∷ labels) = rw (no_events d label.host label.kind, events_start d labels) refl
 
@@ -80,24 +80,25 @@ cons_parts : {A : Type 0} (x y : A) (xs ys : List A) → x ∷ xs ≡ y ∷ ys �
 cons_parts x y xs ys is = (cc, cc)
 
 -- ---- what it stands for, by what is true of captures of which nothing came yet
-module _ (nothing_reads : Reads [] nothing) (new_stands : (t : Tail) → IsNew t → feeding.StandsFor t [] nothing) where
+module _ (nothing_reads : Reads [] nothing) where
   of_kind : (kind : TraceKind) → IsOfKind kind (nothing_for kind)
   of_kind Capture = nothing_reads
   of_kind Log = tt
 
-  new_stream : (kind : TraceKind) (stream : Stream) → IsNewStream stream → kind_of stream ≡ kind → IsStreamOf stream (nothing_for kind)
-  new_stream Capture streams.Log new is = absurd cc
-  new_stream Capture (streams.Capture tail) new is = new_stands tail new
-  new_stream Log streams.Log new is = tt
-  new_stream Log (streams.Capture tail) new is = absurd cc
-
-  kinds_start : (labels : List Label) (k : ℕ) (label : Label) (trace : Trace) → slice_get labels k ≡ Some label → slice_get (map (λ (l : Label). nothing_for l.kind) labels) k ≡ Some trace →
+  pub kinds_start : (labels : List Label) (k : ℕ) (label : Label) (trace : Trace) → slice_get labels k ≡ Some label → slice_get (map (λ (l : Label). nothing_for l.kind) labels) k ≡ Some trace →
       IsOfKind label.kind trace
   kinds_start [] k label trace at at' = absurd cc
   kinds_start (l ∷ labels) zero label trace at at' =
       subst (λ (t : Trace). IsOfKind label.kind t) (some_same (nothing_for l.kind) trace at')
       (subst (λ (x : Label). IsOfKind x.kind (nothing_for l.kind)) (some_same l label at) (of_kind l.kind))
   kinds_start (l ∷ labels) (suc k) label trace at at' = kinds_start labels k label trace at at'
+
+module _ (nothing_reads : Reads [] nothing) (new_stands : (t : Tail) → IsNew t → feeding.StandsFor t [] nothing) where
+  new_stream : (kind : TraceKind) (stream : Stream) → IsNewStream stream → kind_of stream ≡ kind → IsStreamOf stream (nothing_for kind)
+  new_stream Capture streams.Log new is = absurd cc
+  new_stream Capture (streams.Capture tail) new is = new_stands tail new
+  new_stream Log streams.Log new is = tt
+  new_stream Log (streams.Capture tail) new is = absurd cc
 
   streams_start : (labels : List Label) (under : List Under) → kinds_held under ≡ map (λ (l : Label). l.kind) labels → All IsEmpty under → (k : ℕ) (u : Under) (trace : Trace) → slice_get under k ≡ Some u →
       slice_get (map (λ (l : Label). nothing_for l.kind) labels) k ≡ Some trace → IsStreamOf u.stream trace
@@ -114,7 +115,7 @@ module _ (nothing_reads : Reads [] nothing) (new_stands : (t : Tail) → IsNew t
   starts held d same empty none = record {
     declaration = same;
     labels = length-map d.labels (λ (l : Label). nothing_for l.kind);
-    kinds = kinds_start d.labels;
+    kinds = kinds_start nothing_reads d.labels;
     events = events_empty held.under empty.1 ∙ ap (λ (n : ℕ). replicate {A = List Seen} n []) (each_empty held.under d.labels empty) ∙ sym (events_start d d.labels);
     sizes = sizes_empty held.under empty.1 ∙ ap (λ (n : ℕ). replicate n 0) (each_empty held.under d.labels empty) ∙ sym (sizes_start d.labels);
     streams = streams_start d.labels held.under empty.0 empty.1;

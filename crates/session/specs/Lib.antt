@@ -9,3 +9,9 @@ pub mod Keeping
 pub mod Pieces
 pub mod Inside
 pub mod OneReply
+pub mod Lawful
+pub mod OneProof
+pub mod Taken
+pub mod Taking
+pub mod Settled
+pub mod TakingInside

@@ -1,5 +1,5 @@
 -- What a session holds, and what it stands for.
-use Rattle.std.specs.Prelude.{◌≡◌, ◌⊎◌, ℕ, ◌+◌, ◌*◌, ◌^◌, ◌≤◌, List, [], ◌∷◌, length, map, slice_get, Option, Some, None, IsSome, IfSome, option_map, All, Result, OnOk, IsErrOf, ⊤}
+use Rattle.std.specs.Prelude.{◌≡◌, ◌⊎◌, ℕ, ◌+◌, ◌*◌, ◌^◌, ◌≤◌, List, [], ◌∷◌, length, map, slice_get, Bool, true, false, Option, Some, None, IsSome, IfSome, All, Result, OnOk, IsErrOf, ⊤}
 use Rattle.ports.specs.Content.{Appends, AppendsPrefix, Rose, SinkTold}
 use Rattle.ports.specs.Files.{FilesTold}
 use Rattle.captures.specs.Feeding as feeding
@@ -16,13 +16,16 @@ use Rattle.traces.specs.declared.accepted.Stream.TheVariants as streams
 use Rattle.traces.specs.Traces.{Trace, Captured, Logged, size_of, seen_by, name_of, IsOfKind, event_count}
 use Rattle.traces.specs.Messages.{problem_of_seen}
 use Rattle.problem_model.specs.Problem.{ProblemLists}
-use Rattle.problem.specs.Listing.{listing_of}
+use Rattle.problem.specs.Listing.{Listed}
 use Rattle.row_pool.specs.Pool.{free_rows}
 use Rattle.repair.specs.declared.slot.Slot.{Slot}
 use Rattle.repair.specs.Slots.{all_slots}
 use Rattle.engine.specs.Solver.{SolverLists}
-use Rattle.engine.specs.Current.{IsCurrent}
-use Rattle.solver.specs.Solution.{IsSolution}
+use Rattle.roster.specs.declared.came.Came.{Came}
+use Rattle.roster.specs.Roster.{RosterLists, IsRoster, id_of, listed}
+use Rattle.solver.specs.Solution.{IsSolutionBy}
+use Rattle.kept_graph.specs.Kept.{IsKeptFor}
+use Rattle.kept_graph.specs.Steps.{IsBetween, TakesFewToAdd}
 use Rattle.queries.specs.declared.stop.Stop.{Stop}
 use Rattle.queries.specs.declared.stop.Stop.TheVariants as stops
 use Rattle.queries.specs.Asking.{IsSourceReading}
@@ -82,15 +85,6 @@ problem_held h = problem_of_seen h.declaration (seen_held h.under)
 abbrev pub IsUnder : Under → Type 0
 IsUnder u = (u.size ≤ 2 ^ 30) × IsWithin u.stream u.size
 
--- what a session holds is within its limits, with a place for each label, and what the engine that stands ready holds is true
--- of its graph as it is now
-pub record IsHeld (h : Held) : Type 0 where
-  pub declared : IsDeclaration h.declaration
-  pub each : length h.under ≡ length h.declaration.labels
-  pub fit : All IsUnder h.under
-  pub few : event_count (seen_held h.under) ≤ 2 ^ 20
-  pub current : IfSome h.answers IsCurrent
-
 -- what the code holds under a label
 abbrev pub under_of : Accepted → Under
 under_of a = record { events = seen_events a.events.items; size = a.size; stream = a.stream }
@@ -106,34 +100,71 @@ pub record AreKept (seen : List (List Seen)) (kept : List EventId) : Type 0 wher
   pub there : (k : ℕ) (event : EventId) → slice_get kept k ≡ Some event → (place : ℕ) × IsPlacedAt seen place event
   pub differ : (j k : ℕ) (event : EventId) → slice_get kept j ≡ Some event → slice_get kept k ≡ Some event → j ≡ k
 
--- the nodes of the slots are the places of the kept events, in their order
-pub record AreSlotsOf (seen : List (List Seen)) (kept : List EventId) (slots : List Slot) : Type 0 where
+-- a roster has this node of the event
+pub record HasNodeOf (r : RosterLists) (event : EventId) (node : ℕ) : Type 0 where
+  pub number : ℕ
+  pub came : Came
+  pub there : slice_get r.came number ≡ Some came
+  pub id_is : id_of came ≡ event
+  pub node_is : came.node ≡ node
+
+-- the nodes of the slots are those of the kept events, in their order
+pub record AreSlotsOf (r : RosterLists) (kept : List EventId) (slots : List Slot) : Type 0 where
   pub each : length slots ≡ length kept
-  pub nodes : (k : ℕ) (event : EventId) (slot : Slot) → slice_get kept k ≡ Some event → slice_get slots k ≡ Some slot → IsPlacedAt seen slot.node event
+  pub nodes : (k : ℕ) (event : EventId) (slot : Slot) → slice_get kept k ≡ Some event → slice_get slots k ≡ Some slot → HasNodeOf r event slot.node
 
 -- the source's slot is that of a reading of its clock with this stamp; there is none where no source is declared, or where
 -- its clock has no reading
-abbrev pub KeepsSource : ProblemLists → Option ℕ → Option ℕ → SolverLists → Type 0
-KeepsSource p None stamp s = (stamp ≡ None) × (s.kept.source ≡ None)
-KeepsSource p (Some clock) None s = (HasReading p clock → ⊥) × (s.kept.source ≡ None)
-KeepsSource p (Some clock) (Some stamp) s = IsSourceReading (listing_of p) s clock stamp
+abbrev pub KeepsSource : Listed → ProblemLists → Option ℕ → Option ℕ → SolverLists → Type 0
+KeepsSource l p None stamp s = (stamp ≡ None) × (s.kept.source ≡ None)
+KeepsSource l p (Some clock) None s = (HasReading p clock → ⊥) × (s.kept.source ≡ None)
+KeepsSource l p (Some clock) (Some stamp) s = IsSourceReading l s clock stamp
 
--- two rows are free for a question, and no row is taken but those of the slots
+-- there are at most eight arcs for each of so many events, withdrawn ones included
+abbrev pub HasFewArcs : ℕ → SolverLists → Type 0
+HasFewArcs events s = length s.graph.arcs ≤ 8 * events
+
+-- what stands ready is of what is held: by some roster its graph stands for the problem of all that was accepted, the slots are those
+-- of the kept events, and the source's slot is that of a reading of its clock; and the graph has few arcs
+pub record IsKeptUp (h : Held) (s : SolverLists) : Type 0 where
+  pub roster : RosterLists
+  pub lawful : IsRoster roster
+  pub declared : roster.declaration ≡ h.declaration
+  pub solution : IsSolutionBy (listed roster) (problem_held h) s
+  pub slots : AreSlotsOf roster h.kept s.kept.slots
+  pub stamp : Option ℕ
+  pub source : KeepsSource (listed roster) (problem_held h) h.declaration.source stamp s
+  pub few : HasFewArcs (event_count (seen_held h.under)) s
+
+-- what a session holds is within its limits, with a place for each label, and what stands ready is of it
+pub record IsHeld (h : Held) : Type 0 where
+  pub declared : IsDeclaration h.declaration
+  pub each : length h.under ≡ length h.declaration.labels
+  pub fit : All IsUnder h.under
+  pub few : event_count (seen_held h.under) ≤ 2 ^ 20
+  pub kept_up : IfSome h.answers (IsKeptUp h)
+
+-- there are at least two rows for each kept event, two for the source and two for a question, and none is taken but those of the slots
 abbrev pub HasSpareRows : SolverLists → Type 0
-HasSpareRows s = (2 ≤ free_rows s.pool) × (length s.pool.rows ≤ free_rows s.pool + 2 * length (all_slots s.kept))
+HasSpareRows s = (2 * length s.kept.slots + 4 ≤ length s.pool.rows) × (length s.pool.rows ≤ free_rows s.pool + 2 * length (all_slots s.kept))
 
--- the answers are those of these events by a declaration: their problem, the engine that holds its answer, with the rows of
--- the kept events and of the source, and the stamp of the source's reading
-pub record AreAnswersOf (d : Declaration) (seen : List (List Seen)) (kept : List EventId) (a : Answers) : Type 0 where
-  pub problem : a.problem ≡ problem_of_seen d seen
-  pub solution : IsSolution a.problem a.solver
-  pub slots : AreSlotsOf seen kept a.solver.kept.slots
-  pub source_slot : KeepsSource a.problem d.source a.source a.solver
-  pub rows : HasSpareRows a.solver
+-- the problem of events by the declaration of the answers
+abbrev pub problem_by : Answers → List (List Seen) → ProblemLists
+problem_by a seen = problem_of_seen a.graph.roster.declaration seen
 
--- the engine of the answers
-abbrev pub solver_of : Option Answers → Option SolverLists
-solver_of answers = option_map (λ (a : Answers). a.solver) answers
+-- the answers are those of these events: the graph is kept for them, with the rows of the kept events and of the source, and
+-- the stamp of the source's reading
+pub record AreAnswersOf (seen : List (List Seen)) (kept : List EventId) (a : Answers) : Type 0 where
+  pub lawful : IsRoster a.graph.roster
+  pub graph : IsKeptFor seen a.graph.roster a.graph.solver
+  pub slots : AreSlotsOf a.graph.roster kept a.graph.solver.kept.slots
+  pub source_slot : KeepsSource (listed a.graph.roster) (problem_by a seen) a.graph.roster.declaration.source a.source a.graph.solver
+  pub rows : HasSpareRows a.graph.solver
+
+-- the engine of the answers, where they stand ready
+abbrev pub solver_of : Bool → Answers → Option SolverLists
+solver_of true a = Some a.graph.solver
+solver_of false a = None
 
 -- no call before ran out of memory
 abbrev pub IsReady : Held → Type 0
@@ -159,6 +190,25 @@ IsAnsweredFromRows h Report = ⊤
 -- the line spells such a command
 abbrev pub AsksOfRows : Held → List ℕ → Type 0
 AsksOfRows h line = (c : Command) × Asks line (Some c) × IsAnsweredFromRows h c
+
+-- ---- additions
+-- what an addition of so many events makes of what stood ready: slots stay, and where an execution existed, there is the graph between
+-- them; it takes no more steps than the changes ask for, and none where no event came and an execution exists
+pub record IsAddition (events : ℕ) (before after : SolverLists) (first last : ℕ) : Type 0 where
+  pub slots : after.kept.slots ≡ before.kept.slots
+  pub source : (slot : Slot) → before.kept.source ≡ Some slot → after.kept.source ≡ Some slot
+  pub between : before.earliest.is_solved ≡ true → (between : SolverLists) × IsBetween before after between
+  pub steps : TakesFewToAdd events before after first last
+  pub nothing : events ≡ 0 → before.earliest.is_solved ≡ true → last ≤ first
+
+-- so it is of as many events as are held more afterwards, where answers stand ready before and after
+abbrev pub AddsSo : Held → Held → ℕ → ℕ → Type 0
+AddsSo old new first last = (events : ℕ) → event_count (seen_held new.under) ≡ event_count (seen_held old.under) + events
+    → IfSome old.answers (λ before. IfSome new.answers (λ after. IsAddition events before after first last))
+
+-- so it is where the line spells an addition
+abbrev pub AddsByLine : List ℕ → Held → Held → ℕ → ℕ → Type 0
+AddsByLine line old new first last = (label path : List ℕ) → Asks line (Some (Add label path)) → AddsSo old new first last
 
 -- ---- what it stands for
 

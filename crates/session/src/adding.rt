@@ -1,27 +1,39 @@
 // Additions to the labels of a session.
-ghost use Rattle.std.specs.Prelude.{◌<◌, length, Some, IfOk, OnOk};
+ghost use Rattle.std.specs.Prelude.{◌≡◌, ◌<◌, [], length, Some, true, IfOk, OnOk};
 ghost use Rattle.ports.specs.Files.{Keeps};
+ghost use Rattle.captures.specs.Feeding.{seen_packets};
 ghost use Rattle.trace_event.specs.Seen.{seen_events};
 ghost use Rattle.session.specs.Commands as asked;
 ghost use Rattle.session.specs.Outcomes.{IsLineOf};
-ghost use Rattle.session.specs.Stands.{IsReady};
+ghost use Rattle.session.specs.Stands.{AddsSo, IsReady};
 ghost use Rattle.session.specs.Inside.{HasPlace, IsStreamWithin, FrontAnswered, AcceptAnswered, CommandAnswered};
+ghost use Rattle.session.specs.TakingInside.{CompletesFront, HadRoom, KeepsFound, UnderAnswered};
 
 use crate::Session;
 use crate::accepted::{extend, has_place, has_room, waiting};
 use crate::addition::outcome_of;
-use crate::answers::{give_up, renew};
+use crate::answers::{decl_of, renew};
 use crate::labels::{host_of, label_at};
 use crate::limits::MOST_PIECE;
 use crate::outcome::Outcome;
 use crate::reading::{Piece, read_piece};
 use crate::refusal::Refusal;
 use atto::Steps;
+use captures::Packet;
 use ports::{FileFault, Files, read_file};
 use std::alloc::AllocError;
 use std::sync::ledger::Ledger;
 use trace_event::Event;
 use traces::Stream;
+
+// Lets packets go that are not to be kept.
+fn keep_only(keeps: bool, packets: &mut Vec<Packet>)
+    ensures { keeps ≡ true → packets.new.items ≡ packets.old.items }
+{
+    if !keeps {
+        packets.clear();
+    }
+}
 
 impl Session {
     /// Adds the file at a path to the label of this name, and answers what came of it, before anything is written.
@@ -36,15 +48,43 @@ impl Session {
         ensures answers { IfOk result (λ outcome. CommandAnswered (Some (asked.Add label.now path.now)) (F.told files.old) (F.told files.new) self.old self.new (IsLineOf outcome)) }
         ensures keeps { Keeps (F.told files.old) (F.told files.new) }
         ensures ready { OnOk result (IsReady self.new) }
+        ensures addition { AddsSo self.old self.new steps.old steps.new }
     {
-        match label_at(&self.decl.labels, label) {
-            Some(k) => match read_file(self.alloc, files, path, MOST_PIECE) {
-                Ok(file) => self.add_piece(k, &file.bytes, file.more, steps),
-                Err(FileFault::Absent) => Ok(Outcome::Refused(Refusal::UnreadFile)),
-                Err(FileFault::Read) => Ok(Outcome::Refused(Refusal::UnreadFile)),
-                Err(FileFault::Memory) => Err(AllocError),
-            },
+        match label_at(&decl_of(&self.answers).labels, label) {
+            Some(k) => {
+                let mut packets = Vec::new(self.alloc);
+                self.add_under(k, path, files, false, &mut packets, steps)
+            }
             None => Ok(Outcome::Refused(Refusal::UnknownLabel)),
+        }
+    }
+
+    /// Adds the file at a path to the label at a place. Where the packets that a capture's bytes complete are to be kept, they
+    /// are appended to `packets`, which has none yet.
+    pub(crate) fn add_under<F: Files, L: Ledger>(
+        &mut self,
+        k: usize,
+        path: &str,
+        files: &mut F,
+        keeps: bool,
+        packets: &mut Vec<Packet>,
+        steps: &mut Steps<L>,
+    ) -> Result<Outcome, AllocError>
+        requires inside { k < length self.old.declaration.labels }
+        requires ready { IsReady self.old }
+        requires none { packets.old.items ≡ [] }
+        ensures answers { IfOk result (λ outcome. UnderAnswered k path.now (F.told files.old) (F.told files.new) self.old self.new
+            (KeepsFound keeps self.old k (seen_packets packets.new.items) outcome) (IsLineOf outcome)) }
+        ensures room { keeps ≡ true → IfOk result (HadRoom self.old (length packets.new.items)) }
+        ensures keeps { Keeps (F.told files.old) (F.told files.new) }
+        ensures ready { OnOk result (IsReady self.new) }
+        ensures addition { AddsSo self.old self.new steps.old steps.new }
+    {
+        match read_file(self.alloc, files, path, MOST_PIECE) {
+            Ok(file) => self.add_piece(k, &file.bytes, file.more, keeps, packets, steps),
+            Err(FileFault::Absent) => Ok(Outcome::Refused(Refusal::UnreadFile)),
+            Err(FileFault::Read) => Ok(Outcome::Refused(Refusal::UnreadFile)),
+            Err(FileFault::Memory) => Err(AllocError),
         }
     }
 
@@ -54,22 +94,30 @@ impl Session {
         k: usize,
         front: &[u8],
         more: bool,
+        keeps: bool,
+        packets: &mut Vec<Packet>,
         steps: &mut Steps<L>,
     ) -> Result<Outcome, AllocError>
         requires inside { k < length self.old.declaration.labels }
         requires ready { IsReady self.old }
+        requires none { packets.old.items ≡ [] }
         ensures answers { IfOk result (λ outcome. FrontAnswered more front.now self.old self.new k (IsLineOf outcome)) }
+        ensures packets { keeps ≡ true → IfOk result (CompletesFront more front.now self.old k (seen_packets packets.new.items)) }
+        ensures room { keeps ≡ true → IfOk result (HadRoom self.old (length packets.new.items)) }
         ensures ready { OnOk result (IsReady self.new) }
+        ensures addition { AddsSo self.old self.new steps.old steps.new }
     {
+        let under = &self.accepted[k];
         if more {
             return Ok(Outcome::Refused(Refusal::TooManyBytes));
         }
-        let under = &self.accepted[k];
         if !has_place(under.size, front.len() as u64) {
             return Ok(Outcome::Refused(Refusal::TooManyBytes));
         }
-        let host = host_of(&self.decl.labels, k);
-        let read = read_piece(self.alloc, &self.decl, host, &under.stream, front)?;
+        let decl = decl_of(&self.answers);
+        let host = host_of(&decl.labels, k);
+        let read = read_piece(self.alloc, decl, host, &under.stream, front, packets)?;
+        keep_only(keeps, packets);
         match read {
             Piece::Read { events, stream } => self.accept(
                 k,
@@ -96,7 +144,9 @@ impl Session {
         requires within { IsStreamWithin self.old.under k size stream }
         requires ready { IsReady self.old }
         ensures answers { IfOk result (λ outcome. AcceptAnswered self.old self.new k (seen_events events.items) size stream (IsLineOf outcome)) }
+        ensures room { IfOk result (HadRoom self.old (length events.items)) }
         ensures ready { OnOk result (IsReady self.new) }
+        ensures addition { AddsSo self.old self.new steps.old steps.new }
     {
         let more = events.len();
         if !has_room(&self.accepted, more) {
@@ -104,7 +154,7 @@ impl Session {
         }
         let pending = waiting(&stream);
         // What stood ready is of fewer events.
-        give_up(&mut self.answers);
+        self.ready = false;
         let changes = extend(
             &mut self.accepted,
             &mut self.matcher,
@@ -113,15 +163,8 @@ impl Session {
             size,
             stream,
         )?;
-        let consistent = renew(
-            &mut self.answers,
-            self.alloc,
-            &self.decl,
-            &self.accepted,
-            &self.matcher,
-            &self.kept,
-            steps,
-        )?;
+        let consistent = renew(&mut self.answers, &self.accepted, k, more, &changes, steps)?;
+        self.ready = true;
         Ok(outcome_of(consistent, more as u64, pending, changes.counts()))
     }
 }

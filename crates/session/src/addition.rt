@@ -1,8 +1,10 @@
 // What an addition changed.
+ghost use Rattle.std.specs.Prelude.{⊤};
 ghost use Rattle.problem_model.specs.Problem.{ProblemLists};
 ghost use Rattle.queries.specs.Consistent.{IsConsistent};
 ghost use Rattle.session.specs.Inside.{IsAddedTo};
 ghost use Rattle.session.specs.Outcomes.{outcome_line};
+ghost use Rattle.session.specs.TakingInside.{WhereAdded};
 
 use crate::outcome::{Added, Outcome};
 use trace_match::Changed;
@@ -10,7 +12,8 @@ use trace_match::Changed;
 /// What is told of an addition of so many events, behind which so many bytes wait, by whether some execution obeys all
 /// bounds and how the messages changed.
 pub(crate) fn outcome_of(consistent: bool, events: u64, pending: u64, changed: Changed) -> Outcome
-    ensures { (p : ProblemLists) → IsConsistent p consistent → IsAddedTo p changed events pending (outcome_line result) }
+    ensures line { (p : ProblemLists) → IsConsistent p consistent → IsAddedTo p changed events pending (outcome_line result) }
+    ensures added { WhereAdded ⊤ result }
 {
     Outcome::Added(Added {
         events,

@@ -1,37 +1,32 @@
 // What stands ready for questions.
-ghost use Rattle.std.specs.Prelude.{◌≡◌, ◌≤◌, ◌+◌, ◌*◌, ◌^◌, [], None, All, length, IsSome, IfSome, IfOk, OnOk};
+ghost use Rattle.std.specs.Prelude.{◌≡◌, ◌<◌, ◌≤◌, ◌+◌, ◌++◌, ◌*◌, ◌^◌, ◌↔◌, List, [], Some, length, map, IfOk, OnOk, IsTrue};
+ghost use Rattle.decl.specs.declared.items.Label.{Label};
 ghost use Rattle.decl.specs.Declaration.{IsDeclaration, declaration_of};
-ghost use Rattle.sync_graph.specs.Graph.{no_graph};
-ghost use Rattle.engine.specs.Current.{IsCurrent};
-ghost use Rattle.trace_match.specs.Ends.{AreEndsOf};
+ghost use Rattle.trace_event.specs.Seen.{Seen, seen_events};
+ghost use Rattle.traces.specs.declared.event.EventId.{EventId};
 ghost use Rattle.traces.specs.Traces.{event_count};
 ghost use Rattle.traces.specs.Held.{seen_in};
-ghost use Rattle.traces.specs.Messages.{problem_of_seen};
+ghost use Rattle.roster.specs.Roster.{IsRoster};
 ghost use Rattle.queries.specs.Consistent.{IsConsistent};
 ghost use Rattle.session.specs.Reply.{most_kept};
-ghost use Rattle.session.specs.Stands.{AreKept, AreAnswersOf, HasSpareRows};
-ghost use Rattle.session.specs.Keeping.{IsEngineOf};
+ghost use Rattle.session.specs.Stands.{AreAnswersOf, IsAddition, problem_by};
+ghost use Rattle.session.specs.Keeping.{AreAnswersBut, Brings, BringsSource, clock_at};
 
-use crate::slots::{keep_events, keep_source};
+use crate::slots::keep_source;
 use atto::{Nano, Steps};
 use decl::Decl;
-use engine::Solver;
-use problem::Problem;
+use kept_graph::KeptGraph;
 use queries::is_consistent;
-use solver::own_graphs;
-use solving::solve;
 use std::alloc::{AllocError, Global};
 use std::sync::ledger::Ledger;
-use trace_match::TraceMatcher;
-use trace_problem::problem_of;
-use traces::{Accepted, EventId, events};
+use trace_event::Event;
+use trace_match::Changes;
+use traces::Accepted;
 
-/// The problem of all that was added, and the engine that holds its answer, with the rows of the kept events and of the
-/// source.
+/// The graph of all that was added, with its declaration, and with the rows of the kept events and of the source.
 #[derive(Drop)]
 pub struct Answers {
-    pub problem: Problem,
-    pub solver: Solver,
+    pub graph: KeptGraph,
     /// The stamp, in ns, of the source's reading whose rows are kept. None where there is no source, or its clock has no
     /// reading.
     pub source: Option<Nano>,
@@ -45,156 +40,98 @@ pub(crate) fn rows_for(kept: usize) -> u32
     2 * kept as u32 + 4
 }
 
-// The problem of all that was added.
-fn problem_now(
-    alloc: Global,
-    decl: &Decl,
-    accepted: &[Accepted],
-    matcher: &TraceMatcher,
-) -> Result<Problem, AllocError>
-    requires declared { IsDeclaration (declaration_of decl.now) }
-    requires labels { length accepted.now ≡ length decl.now.labels.items }
-    requires few { event_count (seen_in accepted.now) ≤ 2 ^ 20 }
-    requires ends { AreEndsOf matcher.now (seen_in accepted.now) }
-    ensures { IfOk result (λ p. p ≡ problem_of_seen (declaration_of decl.now) (seen_in accepted.now)) }
+/// The declaration.
+pub(crate) fn decl_of(answers: &Answers) -> &Decl
+    ensures same { declaration_of result.now ≡ answers.now.graph.roster.declaration }
+    ensures lawful { IsRoster answers.now.graph.roster }
 {
-    let events = events(alloc, accepted)?;
-    let messages = matcher.messages(&events)?;
-    problem_of(alloc, decl, accepted, &messages)
-}
-
-// The engine over no node, with the rows that a question needs.
-fn empty_engine(alloc: Global) -> Result<Solver, AllocError>
-    ensures current { IfOk result (λ s. IsCurrent s) }
-    ensures graph { IfOk result (λ s. s.graph ≡ no_graph) }
-    ensures slots { IfOk result (λ s. s.kept.slots ≡ []) }
-    ensures source { IfOk result (λ s. s.kept.source ≡ None) }
-    ensures rows { IfOk result HasSpareRows }
-{
-    let mut solver = Solver::new(alloc);
-    solver.reserve(rows_for(0), 0)?;
-    Ok(solver)
+    answers.graph.roster.decl()
 }
 
 /// The answers where nothing was added. It answers an error only where memory runs out.
-pub(crate) fn first_answers(
-    alloc: Global,
-    decl: &Decl,
-    accepted: &[Accepted],
-    matcher: &TraceMatcher,
-) -> Result<Answers, AllocError>
-    requires declared { IsDeclaration (declaration_of decl.now) }
-    requires labels { length accepted.now ≡ length decl.now.labels.items }
-    requires nothing { All (λ events. events ≡ []) (seen_in accepted.now) }
-    requires ends { AreEndsOf matcher.now (seen_in accepted.now) }
-    ensures { IfOk result (λ answers. AreAnswersOf (declaration_of decl.now) (seen_in accepted.now) [] answers) }
+pub(crate) fn first_answers(alloc: Global, decl: Decl) -> Result<Answers, AllocError>
+    requires { IsDeclaration (declaration_of decl) }
+    ensures declared { IfOk result (λ answers. answers.graph.roster.declaration ≡ declaration_of decl) }
+    ensures ready { IfOk result (λ answers. AreAnswersOf (map (λ (l : Label). []) answers.graph.roster.declaration.labels) [] answers) }
 {
-    let problem = problem_now(alloc, decl, accepted, matcher)?;
-    // They tell that the problem is lawful, and what graphs stand for it.
-    let _ = problem.events();
-    own_graphs();
+    let mut graph = KeptGraph::new(alloc, decl)?;
+    // It tells that the roster is lawful.
+    let _ = graph.roster.decl();
+    graph.solver.reserve(rows_for(0), 0)?;
     Ok(Answers {
-        problem,
-        solver: empty_engine(alloc)?,
+        graph,
         source: None,
     })
 }
 
-// The engine that holds the answer of a problem, with the rows of these events.
-fn engine_of<L: Ledger>(
-    alloc: Global,
-    accepted: &[Accepted],
-    kept: &[EventId],
-    problem: &Problem,
-    steps: &mut Steps<L>,
-) -> Result<Solver, AllocError>
-    requires labels { length accepted.now ≤ 65536 }
-    requires few { event_count (seen_in accepted.now) ≤ 2 ^ 20 }
-    requires problem { length problem.now.events ≡ event_count (seen_in accepted.now) }
-    requires kept { AreKept (seen_in accepted.now) kept.now }
-    ensures { IfOk result (λ s. IsEngineOf problem.now (seen_in accepted.now) kept.now s) }
+// The events under a label that came last, so many.
+fn newest(under: &Accepted, more: usize) -> &[Event]
+    requires { more ≤ length under.now.events.items }
+    ensures events { (old events : List Seen) → seen_events under.now.events.items ≡ old ++ events → length events ≡ more → seen_events result.now ≡ events }
+    ensures count { length result.now ≡ more }
 {
-    // It tells that the graph has a node for each event.
-    let _ = problem.readings();
-    let mut solver = solve(alloc, problem, rows_for(kept.len()), steps)?;
-    keep_events(&mut solver, accepted, kept, steps);
-    Ok(solver)
+    let first = under.events.len() - more;
+    &under.events[first..]
 }
 
-// Solves a problem, and keeps the rows of these events and of the source.
-fn answers_of<L: Ledger>(
-    alloc: Global,
-    decl: &Decl,
-    accepted: &[Accepted],
-    kept: &[EventId],
-    problem: Problem,
-    steps: &mut Steps<L>,
-) -> Result<Answers, AllocError>
-    requires labels { length accepted.now ≤ 65536 }
-    requires few { event_count (seen_in accepted.now) ≤ 2 ^ 20 }
-    requires problem { problem ≡ problem_of_seen (declaration_of decl.now) (seen_in accepted.now) }
-    requires kept { AreKept (seen_in accepted.now) kept.now }
-    ensures { IfOk result (λ answers. AreAnswersOf (declaration_of decl.now) (seen_in accepted.now) kept.now answers) }
+// Whether the label at a place is on the source's clock.
+fn is_on_source(decl: &Decl, k: usize) -> bool
+    requires { k < length decl.now.labels.items }
+    ensures { IsTrue result ↔ (decl.now.source ≡ Some (clock_at (declaration_of decl.now) k)) }
 {
-    let mut solver = engine_of(alloc, accepted, kept, &problem, steps)?;
-    let source = keep_source(&mut solver, &problem, decl.source, steps);
-    Ok(Answers {
-        problem,
-        solver,
+    match decl.source {
+        Some(clock) => decl.labels[k].clock == clock,
+        None => false,
+    }
+}
+
+// Keeps the rows of a reading of the source's clock, where events that came under the label at a place brought its first.
+fn keep_source_now<L: Ledger>(answers: &mut Answers, k: usize, steps: &mut Steps<L>)
+    requires label { k < length answers.old.graph.roster.declaration.labels }
+    requires so_far { (seen : List (List Seen)) × (kept : List EventId) × AreAnswersBut k seen kept answers.old }
+    ensures roster { answers.new.graph.roster ≡ answers.old.graph.roster }
+    ensures source { BringsSource answers.old.graph.solver answers.new.graph.solver steps.old steps.new }
+    ensures ready { (seen : List (List Seen)) (kept : List EventId) → AreAnswersBut k seen kept answers.old → AreAnswersOf seen kept answers.new }
+{
+    if answers.source.is_some() {
+        return;
+    }
+    let decl = answers.graph.roster.decl();
+    if !is_on_source(decl, k) {
+        return;
+    }
+    let source = decl.source;
+    answers.source = keep_source(
+        &mut answers.graph.solver,
+        &answers.graph.roster,
         source,
-    })
+        steps,
+    );
 }
 
-// The answers of all that was added.
-fn solve_all<L: Ledger>(
-    alloc: Global,
-    decl: &Decl,
-    accepted: &[Accepted],
-    matcher: &TraceMatcher,
-    kept: &[EventId],
-    steps: &mut Steps<L>,
-) -> Result<Answers, AllocError>
-    requires declared { IsDeclaration (declaration_of decl.now) }
-    requires labels { length accepted.now ≡ length decl.now.labels.items }
-    requires few { event_count (seen_in accepted.now) ≤ 2 ^ 20 }
-    requires ends { AreEndsOf matcher.now (seen_in accepted.now) }
-    requires kept { AreKept (seen_in accepted.now) kept.now }
-    ensures { IfOk result (λ answers. AreAnswersOf (declaration_of decl.now) (seen_in accepted.now) kept.now answers) }
-{
-    let problem = problem_now(alloc, decl, accepted, matcher)?;
-    answers_of(alloc, decl, accepted, kept, problem, steps)
-}
-
-/// Gives answers up.
-pub(crate) fn give_up(answers: &mut Option<Answers>)
-    ensures { answers.new ≡ None }
-{
-    *answers = None;
-}
-
-/// Makes the answers of all that was added, and tells whether some execution obeys all bounds. It answers an error only
-/// where memory runs out, and then there are none.
+/// Brings the events into the graph that came last under the label at a place, and tells whether some execution obeys all
+/// bounds. It answers an error only where memory runs out, and then the graph is used no more.
 pub(crate) fn renew<L: Ledger>(
-    answers: &mut Option<Answers>,
-    alloc: Global,
-    decl: &Decl,
+    answers: &mut Answers,
     accepted: &[Accepted],
-    matcher: &TraceMatcher,
-    kept: &[EventId],
+    k: usize,
+    more: usize,
+    changes: &Changes,
     steps: &mut Steps<L>,
 ) -> Result<bool, AllocError>
-    requires none { answers.old ≡ None }
-    requires declared { IsDeclaration (declaration_of decl.now) }
-    requires labels { length accepted.now ≡ length decl.now.labels.items }
+    requires inside { k < length accepted.now }
     requires few { event_count (seen_in accepted.now) ≤ 2 ^ 20 }
-    requires ends { AreEndsOf matcher.now (seen_in accepted.now) }
-    requires kept { AreKept (seen_in accepted.now) kept.now }
-    ensures consistent { IfOk result (λ b. IsConsistent (problem_of_seen (declaration_of decl.now) (seen_in accepted.now)) b) }
-    ensures some { OnOk result (IsSome answers.new) }
-    ensures ready { IfSome answers.new (AreAnswersOf (declaration_of decl.now) (seen_in accepted.now) kept.now) }
+    requires brings { (before : List (List Seen)) × (kept : List EventId) × AreAnswersOf before kept answers.old × Brings before (seen_in accepted.now) k more changes.now }
+    ensures declaration { answers.new.graph.roster.declaration ≡ answers.old.graph.roster.declaration }
+    ensures consistent { IfOk result (λ b. IsConsistent (problem_by answers.new (seen_in accepted.now)) b) }
+    ensures ready { OnOk result ((before : List (List Seen)) (kept : List EventId) → AreAnswersOf before kept answers.old → Brings before (seen_in accepted.now) k more changes.now
+        → AreAnswersOf (seen_in accepted.now) kept answers.new) }
+    ensures addition { OnOk result (IsAddition more answers.old.graph.solver answers.new.graph.solver steps.old steps.new) }
 {
-    let made = solve_all(alloc, decl, accepted, matcher, kept, steps)?;
-    let consistent = is_consistent(&made.solver);
-    *answers = Some(made);
-    Ok(consistent)
+    let events = newest(&accepted[k], more);
+    answers.graph.add(k as u32, events, changes, steps)?;
+    // It tells that the roster is lawful.
+    let _ = decl_of(answers);
+    keep_source_now(answers, k, steps);
+    Ok(is_consistent(&answers.graph.solver))
 }

@@ -1,31 +1,27 @@
 // Events that are kept from now on.
-ghost use Rattle.std.specs.Prelude.{◌≡◌, ◌<◌, ◌≤◌, ◌^◌, None, length, IsSome, IfSome, IfOk, OnOk, OnErr};
-ghost use Rattle.decl.specs.Declaration.{Declaration};
-ghost use Rattle.traces.specs.Traces.{event_count};
-ghost use Rattle.traces.specs.Held.{seen_in};
-ghost use Rattle.traces.specs.Messages.{problem_of_seen};
+ghost use Rattle.std.specs.Prelude.{◌≡◌, ◌<◌, ◌≤◌, None, List, length, IfOk, OnOk, OnErr};
+ghost use Rattle.trace_event.specs.Seen.{Seen};
 ghost use Rattle.repair.specs.Slots.{slot_of};
 ghost use Rattle.engine.specs.Current.{IsCurrent};
 ghost use Rattle.session.specs.Commands as asked;
 ghost use Rattle.session.specs.Outcomes.{IsLineOf, outcome_line};
 ghost use Rattle.session.specs.Reply.{KeepReply, most_kept};
-ghost use Rattle.session.specs.Stands.{AreKept, AreAnswersOf, HasSpareRows, IsReady};
+ghost use Rattle.session.specs.Stands.{AreKept, AreAnswersOf, HasSpareRows, IsReady, problem_by};
 ghost use Rattle.session.specs.Keeping.{IsKeptNext};
 ghost use Rattle.session.specs.Inside.{Asked};
 
 use crate::Session;
-use crate::answers::{Answers, give_up, rows_for};
-use crate::events::event_of;
+use crate::answers::{Answers, rows_for};
+use crate::events::find_event;
 use crate::limits::MOST_KEPT;
 use crate::outcome::Outcome;
-use crate::places::event_at;
 use crate::refusal::Refusal;
 use crate::slots::keep_node;
 use atto::Steps;
 use engine::Solver;
 use std::alloc::AllocError;
 use std::sync::ledger::Ledger;
-use traces::{Accepted, EventId};
+use traces::EventId;
 
 // Keeps the rows of a node that has no slot, unless eight have one, and notes its event.
 fn keep_new<L: Ledger>(
@@ -55,59 +51,24 @@ fn keep_new<L: Ledger>(
 
 // Keeps the rows of the event of this name.
 fn keep_event<L: Ledger>(
-    accepted: &[Accepted],
     kept: &mut Vec<EventId>,
     answers: &mut Answers,
     name: &[u8],
     steps: &mut Steps<L>,
 ) -> Result<Outcome, AllocError>
-    requires labels { length accepted.now ≤ 65536 }
-    requires few { event_count (seen_in accepted.now) ≤ 2 ^ 20 }
-    requires kept { AreKept (seen_in accepted.now) kept.old.items }
-    requires ready { (d : Declaration) × AreAnswersOf d (seen_in accepted.now) kept.old.items answers.old }
-    ensures replies { IfOk result (λ outcome. KeepReply answers.old.problem (seen_in accepted.now) kept.old.items name.now (outcome_line outcome) kept.new.items) }
-    ensures kept { AreKept (seen_in accepted.now) kept.new.items }
-    ensures ready { OnOk result ((d : Declaration) → AreAnswersOf d (seen_in accepted.now) kept.old.items answers.old → AreAnswersOf d (seen_in accepted.now) kept.new.items answers.new) }
+    requires ready { (seen : List (List Seen)) × AreKept seen kept.old.items × AreAnswersOf seen kept.old.items answers.old }
+    ensures replies { (seen : List (List Seen)) → AreKept seen kept.old.items → AreAnswersOf seen kept.old.items answers.old
+        → IfOk result (λ outcome. KeepReply (problem_by answers.old seen) seen kept.old.items name.now (outcome_line outcome) kept.new.items) }
+    ensures roster { answers.new.graph.roster ≡ answers.old.graph.roster }
+    ensures kept { (seen : List (List Seen)) → AreKept seen kept.old.items → AreAnswersOf seen kept.old.items answers.old → AreKept seen kept.new.items }
+    ensures ready { OnOk result ((seen : List (List Seen)) → AreKept seen kept.old.items → AreAnswersOf seen kept.old.items answers.old → AreAnswersOf seen kept.new.items answers.new) }
 {
-    // It tells that the graph has the nodes of the problem.
-    let _ = answers.problem.readings();
-    match event_of(&answers.problem, name) {
-        Some(place) => match answers.solver.slot_of(place) {
+    match find_event(&answers.graph.roster, name) {
+        Some((event, node)) => match answers.graph.solver.slot_of(node) {
             Some(slot) => Ok(Outcome::Kept(slot)),
-            None => keep_new(
-                kept,
-                &mut answers.solver,
-                event_at(accepted, place),
-                place,
-                steps,
-            ),
+            None => keep_new(kept, &mut answers.graph.solver, event, node, steps),
         },
         None => Ok(Outcome::Refused(Refusal::UnknownEvent)),
-    }
-}
-
-// The same over answers that stand ready.
-fn keep_by<L: Ledger>(
-    accepted: &[Accepted],
-    kept: &mut Vec<EventId>,
-    answers: &mut Option<Answers>,
-    name: &[u8],
-    steps: &mut Steps<L>,
-) -> Result<Outcome, AllocError>
-    requires labels { length accepted.now ≤ 65536 }
-    requires few { event_count (seen_in accepted.now) ≤ 2 ^ 20 }
-    requires kept { AreKept (seen_in accepted.now) kept.old.items }
-    requires some { IsSome answers.old }
-    requires ready { (d : Declaration) × IfSome answers.old (AreAnswersOf d (seen_in accepted.now) kept.old.items) }
-    ensures replies { (d : Declaration) → IfSome answers.old (AreAnswersOf d (seen_in accepted.now) kept.old.items)
-        → IfOk result (λ outcome. KeepReply (problem_of_seen d (seen_in accepted.now)) (seen_in accepted.now) kept.old.items name.now (outcome_line outcome) kept.new.items) }
-    ensures kept { AreKept (seen_in accepted.now) kept.new.items }
-    ensures some { IsSome answers.new }
-    ensures ready { OnOk result ((d : Declaration) → IfSome answers.old (AreAnswersOf d (seen_in accepted.now) kept.old.items) → IfSome answers.new (AreAnswersOf d (seen_in accepted.now) kept.new.items)) }
-{
-    match answers {
-        Some(answers) => keep_event(accepted, kept, answers, name, steps),
-        None => unreachable!(),
     }
 }
 
@@ -122,15 +83,9 @@ impl Session {
         ensures answers { IfOk result (λ outcome. Asked self.old self.new (asked.Keep event.now) (IsLineOf outcome)) }
         ensures ready { OnOk result (IsReady self.new) }
     {
-        let kept = keep_by(
-            &self.accepted,
-            &mut self.kept,
-            &mut self.answers,
-            event,
-            steps,
-        );
+        let kept = keep_event(&mut self.kept, &mut self.answers, event, steps);
         if kept.is_err() {
-            give_up(&mut self.answers);
+            self.ready = false;
         }
         kept
     }

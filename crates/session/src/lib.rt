@@ -5,8 +5,10 @@
 //! one order, `problem` the problem of all that was added, and `report` what there is to say of its events. Every line has
 //! one reply: an answer, or `refused` with a number.
 //!
-//! Between two lines the problem of all that was added stands ready with its answer, and questions are answered from it.
-//! `keep EVENT` has the distances of an event made ready too.
+//! Between two lines the graph of all that was added stands ready with what is known of it, and questions are answered from
+//! it. An addition brings its events and its messages into that graph, and only what they change of values and rows is
+//! worked out. Where a contradiction that was held goes, all values and rows are made anew, and so are the rows of the
+//! source when its first reading comes. `keep EVENT` has the distances of an event made ready too.
 #![tactic(auto)]
 
 mod accepted;
@@ -23,14 +25,21 @@ mod laws;
 mod limits;
 mod lines;
 mod outcome;
-mod places;
 mod questions;
 mod reading;
 mod refusal;
+mod refused;
 mod reporting;
 mod session;
+mod settling;
 mod slots;
+mod taking;
 
-pub use laws::{commands_are_one, replies_are_one};
+pub use laws::{
+    commands_are_one, outputs_are_one, proofs_are_one, reads_are_one, replies_are_one,
+    sessions_are_lawful,
+};
 pub use queries::Stop;
+pub use refused::{RefusedText, too_long_text};
 pub use session::Session;
+pub use taking::AddAnswer;

@@ -1,12 +1,13 @@
 // What a piece says, by the kind of its label.
-ghost use Rattle.std.specs.Prelude.{◌≤◌, ◌+◌, ◌^◌, ℕ, length, IfOk};
-ghost use Rattle.captures.specs.Feeding.{taken};
+ghost use Rattle.std.specs.Prelude.{◌≡◌, ◌≤◌, ◌+◌, ◌^◌, ℕ, [], length, IfOk};
+ghost use Rattle.captures.specs.Feeding.{taken, seen_packets};
 ghost use Rattle.decl.specs.Declaration.{Declaration, declaration_of};
 ghost use Rattle.traces.specs.declared.accepted.Stream.TheVariants as streams;
 ghost use Rattle.session.specs.Pieces.{IsRead, HasPlaceFor};
+ghost use Rattle.session.specs.TakingInside.{HasPackets};
 
 use crate::refusal::{Refusal, capture_refusal, log_refusal};
-use captures::CaptureStream;
+use captures::{CaptureStream, Packet};
 use decl::Decl;
 use event_log::read_rows;
 use std::alloc::{AllocError, Global};
@@ -27,22 +28,26 @@ pub enum Piece {
     Refused(Refusal),
 }
 
-/// Reads a piece for a label of this host, under which this is kept.
+/// Reads a piece for a label of this host, under which this is kept. The packets that a capture's piece completes are appended
+/// to `packets`, which has none yet.
 pub(crate) fn read_piece(
     alloc: Global,
     decl: &Decl,
     host: u32,
     stream: &Stream,
     piece: &[u8],
+    packets: &mut Vec<Packet>,
 ) -> Result<Piece, AllocError>
     requires payload { decl.now.payload_bytes ≤ 64 }
     requires short { length piece.now ≤ 2 ^ 28 }
     requires place { HasPlaceFor stream.now (length piece.now) }
-    ensures { IfOk result (λ read. IsRead (declaration_of decl.now) host stream.now piece.now read) }
+    requires none { packets.old.items ≡ [] }
+    ensures read { IfOk result (λ read. IsRead (declaration_of decl.now) host stream.now piece.now read) }
+    ensures packets { IfOk result (λ read. HasPackets stream.now piece.now (seen_packets packets.new.items) read) }
 {
     match stream {
         Stream::Log => read_log(alloc, piece),
-        Stream::Capture(stream) => read_capture(alloc, decl, host, stream, piece),
+        Stream::Capture(stream) => read_capture(alloc, decl, host, stream, piece, packets),
     }
 }
 
@@ -71,15 +76,17 @@ fn read_capture(
     host: u32,
     stream: &CaptureStream,
     piece: &[u8],
+    packets: &mut Vec<Packet>,
 ) -> Result<Piece, AllocError>
     requires payload { decl.now.payload_bytes ≤ 64 }
     requires place { taken stream.now + length piece.now ≤ 2 ^ 30 }
-    ensures { IfOk result (λ read. IsRead (declaration_of decl.now) host (streams.Capture stream.now) piece.now read) }
+    requires none { packets.old.items ≡ [] }
+    ensures read { IfOk result (λ read. IsRead (declaration_of decl.now) host (streams.Capture stream.now) piece.now read) }
+    ensures packets { IfOk result (λ read. HasPackets (streams.Capture stream.now) piece.now (seen_packets packets.new.items) read) }
 {
-    let mut packets = Vec::new(alloc);
-    match stream.feed(piece, &mut packets) {
+    match stream.feed(piece, packets) {
         Ok(next) => {
-            let events = packet_events(alloc, decl, host, &packets)?;
+            let events = packet_events(alloc, decl, host, packets)?;
             let stream = Stream::Capture(next);
             Ok(Piece::Read { events, stream })
         }

@@ -5,7 +5,8 @@ ghost use Rattle.decl.specs.Declaration.{IsDeclaration, declaration_of};
 ghost use Rattle.traces.specs.Traces.{event_count};
 ghost use Rattle.traces.specs.Held.{seen_in};
 ghost use Rattle.traces.specs.Messages.{problem_of_seen};
-ghost use Rattle.solver.specs.Solution.{IsSolution};
+ghost use Rattle.problem.specs.Listing.{Listed};
+ghost use Rattle.solver.specs.Solution.{IsSolutionBy};
 ghost use Rattle.queries.specs.declared.stop.Stop.TheVariants as stops;
 ghost use Rattle.session.specs.Reply.{IsReport};
 
@@ -30,7 +31,7 @@ pub(crate) fn write_report<O: Sink>(
     requires declared { IsDeclaration (declaration_of decl.now) }
     requires labels { length accepted.now ≡ length decl.now.labels.items }
     requires few { event_count (seen_in accepted.now) ≤ 2 ^ 20 }
-    requires solution { IsSolution (problem_of_seen (declaration_of decl.now) (seen_in accepted.now)) solver.now }
+    requires solution { (l : Listed) × IsSolutionBy l (problem_of_seen (declaration_of decl.now) (seen_in accepted.now)) solver.now }
     ensures writes { WritesSuch (IsReport (declaration_of decl.now) (seen_in accepted.now)) stops.WriteFault (O.told out.old) (O.told out.new) result }
     ensures untouched { IsErrOf result stops.Memory → O.told out.new ≡ O.told out.old }
 {

@@ -1,5 +1,5 @@
 // One line at a time.
-ghost use Rattle.std.specs.Prelude.{◌≡◌, ◌≤◌, ◌↔◌, length, IsTrue, IfOk, IfErr, OnOk, IsErrOf};
+ghost use Rattle.std.specs.Prelude.{◌≡◌, ◌≤◌, ◌↔◌, length, IsTrue, IfSome, IfOk, IfErr, OnOk, IsErrOf};
 ghost use Rattle.ports.specs.Content.{Writes};
 ghost use Rattle.ports.specs.Files.{Keeps};
 ghost use Rattle.decl.specs.Declaration.{IsDeclaration, declaration_of};
@@ -9,12 +9,12 @@ ghost use Rattle.session.specs.CommandSeen.{question_seen};
 ghost use Rattle.session.specs.declared.refusal.Refusal.TheVariants as refusals;
 ghost use Rattle.session.specs.Refusals.{refusal_line};
 ghost use Rattle.session.specs.Sessions.{start};
-ghost use Rattle.session.specs.Stands.{WritesReply, StandsFor, Stepped, IsReady, IsAnsweredFromRows, AsksOfRows};
+ghost use Rattle.session.specs.Stands.{WritesReply, StandsFor, Stepped, IsReady, IsKeptUp, AddsByLine, IsAnsweredFromRows, AsksOfRows};
 ghost use Rattle.session.specs.Inside.{Asked};
 
 use crate::accepted::nothing_under;
-use crate::answering::answer_ready;
-use crate::answers::{Answers, first_answers};
+use crate::answering::answer;
+use crate::answers::{Answers, decl_of, first_answers};
 use crate::command::{Command, Question, read_command};
 use crate::lines::{write_line, written};
 use crate::refusal::{Refusal, write_refusal};
@@ -34,29 +34,28 @@ use traces::{Accepted, EventId};
 #[derive(Drop)]
 pub struct Session {
     pub(crate) alloc: Global,
-    pub(crate) decl: Decl,
     pub(crate) accepted: Vec<Accepted>,
     pub(crate) matcher: TraceMatcher,
     pub(crate) kept: Vec<EventId>,
-    // None where memory ran out while they were made.
-    pub(crate) answers: Option<Answers>,
+    pub(crate) answers: Answers,
+    // Not where memory ran out in a change: the answers are used no more then, but for the declaration.
+    pub(crate) ready: bool,
 }
 
 impl Model for Session {
-    ghost use Rattle.std.specs.Prelude.{IfSome};
-    ghost use Rattle.decl.specs.Declaration.{declaration_of};
+    ghost use Rattle.std.specs.Prelude.{◌≡◌, true};
     ghost use Rattle.traces.specs.Held.{seen_in};
     ghost use Rattle.trace_match.specs.Ends.{AreEndsOf};
     ghost use Rattle.session.specs.Stands.{Held, IsHeld, AreKept, AreAnswersOf, held_of, solver_of};
 
     ghost Value = { Held };
 
-    ghost view = { λ s. held_of (declaration_of s.decl) s.accepted.items s.kept.items (solver_of s.answers) };
+    ghost view = { λ s. held_of s.answers.graph.roster.declaration s.accepted.items s.kept.items (solver_of s.ready s.answers) };
 
-    ghost invariant = { λ s. IsHeld (held_of (declaration_of s.decl) s.accepted.items s.kept.items (solver_of s.answers))
+    ghost invariant = { λ s. IsHeld (held_of s.answers.graph.roster.declaration s.accepted.items s.kept.items (solver_of s.ready s.answers))
         × AreEndsOf s.matcher (seen_in s.accepted.items)
         × AreKept (seen_in s.accepted.items) s.kept.items
-        × IfSome s.answers (AreAnswersOf (declaration_of s.decl) (seen_in s.accepted.items) s.kept.items) };
+        × (s.ready ≡ true → AreAnswersOf (seen_in s.accepted.items) s.kept.items s.answers) };
 }
 
 impl Session {
@@ -65,35 +64,40 @@ impl Session {
         requires { IsDeclaration (declaration_of decl) }
         ensures stands { IfOk result (λ session. StandsFor session (declaration_of decl) (start (declaration_of decl))) }
         ensures ready { IfOk result (λ session. IsReady session) }
+        ensures current { IfOk result (λ session. IfSome session.answers (IsKeptUp session)) }
     {
         // They tell that there are no ends of messages, and what a capture is of which nothing came yet.
         ends_grow();
         nothing_reads();
         new_stands();
-        let accepted = nothing_under(alloc, &decl.labels)?;
+        let answers = first_answers(alloc, decl)?;
+        let accepted = nothing_under(alloc, &decl_of(&answers).labels)?;
         let matcher = TraceMatcher::new(alloc);
-        let answers = first_answers(alloc, &decl, &accepted, &matcher)?;
         Ok(Session {
             alloc,
-            decl,
             accepted,
             matcher,
             kept: Vec::new(alloc),
-            answers: Some(answers),
+            answers,
+            ready: true,
         })
     }
 
-    /// Whether lines may be answered: no call before ran out of memory.
+    /// Whether lines may be answered: no call before ran out of memory. Then what stands ready is of all that was accepted: the
+    /// graph is that of its problem, with what is known of it as it is now, with the rows of the kept events and of the source,
+    /// and with at most eight arcs for each event, withdrawn ones included.
     pub fn is_ready(&self) -> bool
-        ensures { IsTrue result ↔ IsReady self.now }
+        ensures ready { IsTrue result ↔ IsReady self.now }
+        ensures current { IfSome self.now.answers (IsKeptUp self.now) }
     {
-        self.answers.is_some()
+        self.ready
     }
 
     /// Writes the reply to a line, which is given without its line feed and has at most 4,096 bytes. A command that is
     /// refused changes nothing. The steps of its searches are counted: `time`, `merge`, `problem` and `report` take none, nor
     /// do `interval`, `order` and `prove` where the first event is kept, nor `interval` and `order` where the second one is.
-    /// No call before answered `Memory`.
+    /// Where some execution exists before and after an `add`, its steps go by the nodes whose values or distances it changes,
+    /// unless it brings the source's first reading; without a new event it takes none. No call before answered `Memory`.
     ///
     /// `WriteFault` is answered only where the sink's count of faults rose, or stands at its last value: a front of the
     /// reply is then written, and the session is as if all of it were. `Memory` is answered where memory runs out, which it
@@ -115,6 +119,43 @@ impl Session {
         ensures memory { IsErrOf result stops.Memory → AsksForMemory line.now }
         ensures untouched { IsErrOf result stops.Memory → O.told out.new ≡ O.told out.old }
         ensures steps { AsksOfRows self.old line.now → steps.new ≡ steps.old }
+        ensures addition { AddsByLine line.now self.old self.new steps.old steps.new }
+        ensures current { IfSome self.new.answers (IsKeptUp self.new) }
+    {
+        let replied = self.reply_to(line, files, out, steps);
+        // It tells that what stands ready is of all that is held.
+        let _ = self.is_ready();
+        replied
+    }
+
+    /// Writes the reply to a line of more than 4,096 bytes, which is refused.
+    pub fn too_long<O: Sink>(&mut self, out: &mut O) -> Result<(), Stop>
+        ensures writes { Writes (refusal_line refusals.NoCommand) (O.told out.old) (O.told out.new) result }
+        ensures only { IfErr result (λ stop. stop ≡ stops.WriteFault) }
+        ensures unchanged { self.new ≡ self.old }
+    {
+        written(write_refusal(Refusal::NoCommand, out))
+    }
+
+    // Writes the reply to a line.
+    fn reply_to<F: Files, O: Sink, L: Ledger>(
+        &mut self,
+        line: &[u8],
+        files: &mut F,
+        out: &mut O,
+        steps: &mut Steps<L>,
+    ) -> Result<(), Stop>
+        requires short { length line.now ≤ 4096 }
+        requires ready { IsReady self.old }
+        ensures writes { WritesReply (Stepped line.now (F.told files.old) (F.told files.new) self.old self.new)
+            (O.told out.old) (O.told out.new) result }
+        ensures keeps { Keeps (F.told files.old) (F.told files.new) }
+        ensures ready { OnOk result (IsReady self.new) }
+        ensures ready_again { IsErrOf result stops.WriteFault → IsReady self.new }
+        ensures memory { IsErrOf result stops.Memory → AsksForMemory line.now }
+        ensures untouched { IsErrOf result stops.Memory → O.told out.new ≡ O.told out.old }
+        ensures steps { AsksOfRows self.old line.now → steps.new ≡ steps.old }
+        ensures addition { AddsByLine line.now self.old self.new steps.old steps.new }
     {
         match read_command(line) {
             Some(Command::Add { label, path }) => {
@@ -128,15 +169,6 @@ impl Session {
             Some(Command::Ask(question)) => self.ask(question, out, steps),
             None => written(write_refusal(Refusal::NoCommand, out)),
         }
-    }
-
-    /// Writes the reply to a line of more than 4,096 bytes, which is refused.
-    pub fn too_long<O: Sink>(&mut self, out: &mut O) -> Result<(), Stop>
-        ensures writes { Writes (refusal_line refusals.NoCommand) (O.told out.old) (O.told out.new) result }
-        ensures only { IfErr result (λ stop. stop ≡ stops.WriteFault) }
-        ensures unchanged { self.new ≡ self.old }
-    {
-        written(write_refusal(Refusal::NoCommand, out))
     }
 
     // Writes the answer to a question.
@@ -153,9 +185,8 @@ impl Session {
         ensures untouched { IsErrOf result stops.Memory → O.told out.new ≡ O.told out.old }
         ensures steps { IsAnsweredFromRows self.old (question_seen question.entry) → steps.new ≡ steps.old }
     {
-        answer_ready(
+        answer(
             self.alloc,
-            &self.decl,
             &self.accepted,
             &mut self.answers,
             question,

@@ -1,24 +1,18 @@
-// Events and a source whose rows an engine keeps.
-ghost use Rattle.std.specs.Prelude.{◌≡◌, ◌<◌, ◌≤◌, ◌+◌, ◌*◌, ◌^◌, ℕ, [], None, IfNone, IfSome, length};
+// Nodes and a source whose rows an engine keeps.
+ghost use Rattle.std.specs.Prelude.{◌≡◌, ◌<◌, ◌≤◌, ◌+◌, ℕ, None, Some, IfNone, IfSome, length};
 ghost use Rattle.problem_model.specs.Problem.{ProblemLists};
-ghost use Rattle.problem.specs.Listing.{listing_of};
 ghost use Rattle.row_pool.specs.Pool.{free_rows};
 ghost use Rattle.repair.specs.Slots.{slot_of};
-ghost use Rattle.engine.specs.Changes.{KeepsAnswer};
 ghost use Rattle.engine.specs.Current.{IsCurrent};
-ghost use Rattle.solver.specs.Solution.{IsSolution};
+ghost use Rattle.solver.specs.Solution.{IsSolutionBy};
 ghost use Rattle.queries.specs.Asking.{IsReadingAt};
-ghost use Rattle.traces.specs.Traces.{event_count};
-ghost use Rattle.traces.specs.Held.{seen_in};
-ghost use Rattle.session.specs.Stands.{AreKept, AreSlotsOf, KeepsSource};
+ghost use Rattle.session.specs.Stands.{KeepsSource};
 ghost use Rattle.session.specs.Keeping.{TakesFree, TakesForSource, HasNextSlot};
 
-use crate::places::place_of;
 use atto::{Nano, Steps};
 use engine::Solver;
-use problem::{Listing, Problem};
+use problem::Listing;
 use std::sync::ledger::Ledger;
-use traces::{Accepted, EventId};
 
 /// Keeps the rows of a node that has no slot, where fewer than eight have one, and answers the number of its slot.
 pub(crate) fn keep_node<L: Ledger>(solver: &mut Solver, node: u32, steps: &mut Steps<L>) -> u32
@@ -37,30 +31,6 @@ pub(crate) fn keep_node<L: Ledger>(solver: &mut Solver, node: u32, steps: &mut S
     }
 }
 
-/// Keeps the rows of events, in their order, over an engine that keeps none.
-pub(crate) fn keep_events<L: Ledger>(
-    solver: &mut Solver,
-    accepted: &[Accepted],
-    kept: &[EventId],
-    steps: &mut Steps<L>,
-)
-    requires labels { length accepted.now ≤ 65536 }
-    requires few { event_count (seen_in accepted.now) ≤ 2 ^ 20 }
-    requires kept { AreKept (seen_in accepted.now) kept.now }
-    requires current { IsCurrent solver.old }
-    requires nodes { event_count (seen_in accepted.now) ≤ length solver.old.graph.nodes }
-    requires none { solver.old.kept.slots ≡ [] }
-    requires free { 2 * length kept.now ≤ free_rows solver.old.pool }
-    ensures slots { AreSlotsOf (seen_in accepted.now) kept.now solver.new.kept.slots }
-    ensures source { solver.new.kept.source ≡ solver.old.kept.source }
-    ensures takes { TakesFree (2 * length kept.now) solver.old solver.new }
-{
-    for event in kept {
-        let node = place_of(accepted, *event);
-        keep_node(solver, node, steps);
-    }
-}
-
 // The stamp and the node of the first reading of a clock.
 fn first_reading<N: Listing>(names: &N, clock: u32) -> Option<(Nano, u32)>
     ensures some { IfSome result (λ reading. IsReadingAt (N.listed names.now) clock reading.0 reading.1) }
@@ -76,22 +46,21 @@ fn first_reading<N: Listing>(names: &N, clock: u32) -> Option<(Nano, u32)>
 }
 
 // Keeps the rows of the first reading of a clock, and answers its stamp.
-fn keep_reading<L: Ledger>(
+fn keep_reading<N: Listing, L: Ledger>(
     solver: &mut Solver,
-    p: &Problem,
+    names: &N,
     clock: u32,
     steps: &mut Steps<L>,
 ) -> Option<Nano>
-    requires solution { IsSolution p.now solver.old }
+    requires solution { (p : ProblemLists) × IsSolutionBy (N.listed names.now) p solver.old }
     requires none { solver.old.kept.source ≡ None }
     requires free { 2 ≤ free_rows solver.old.pool }
-    ensures source { KeepsSource p.now (Some clock) result solver.new }
+    ensures source { (p : ProblemLists) → IsSolutionBy (N.listed names.now) p solver.old → KeepsSource (N.listed names.now) p (Some clock) result solver.new }
     ensures slots { solver.new.kept.slots ≡ solver.old.kept.slots }
     ensures takes { TakesForSource solver.old solver.new }
+    ensures idle { solver.new.kept.source ≡ solver.old.kept.source → steps.new ≡ steps.old }
 {
-    // It tells that the graph has the nodes of the problem.
-    let _ = p.readings();
-    match first_reading(p, clock) {
+    match first_reading(names, clock) {
         Some((stamp, node)) => {
             solver.keep_source(node, steps);
             Some(stamp)
@@ -101,21 +70,22 @@ fn keep_reading<L: Ledger>(
 }
 
 /// Keeps the rows of a reading of the source's clock, where there are a source and such a reading, and answers its stamp.
-pub(crate) fn keep_source<L: Ledger>(
+pub(crate) fn keep_source<N: Listing, L: Ledger>(
     solver: &mut Solver,
-    p: &Problem,
+    names: &N,
     source: Option<u32>,
     steps: &mut Steps<L>,
 ) -> Option<Nano>
-    requires solution { IsSolution p.now solver.old }
+    requires solution { (p : ProblemLists) × IsSolutionBy (N.listed names.now) p solver.old }
     requires none { solver.old.kept.source ≡ None }
     requires free { 2 ≤ free_rows solver.old.pool }
-    ensures source { KeepsSource p.now source result solver.new }
+    ensures source { (p : ProblemLists) → IsSolutionBy (N.listed names.now) p solver.old → KeepsSource (N.listed names.now) p source result solver.new }
     ensures slots { solver.new.kept.slots ≡ solver.old.kept.slots }
     ensures takes { TakesForSource solver.old solver.new }
+    ensures idle { solver.new.kept.source ≡ solver.old.kept.source → steps.new ≡ steps.old }
 {
     match source {
-        Some(clock) => keep_reading(solver, p, clock, steps),
+        Some(clock) => keep_reading(solver, names, clock, steps),
         None => None,
     }
 }

@@ -1,12 +1,18 @@
-use Rattle.std.proofs.Common.{refl, arith}
-use Rattle.decl.specs.Declaration.{declaration_of}
-use Rattle.traces.specs.Held.{seen_in}
-use Rattle.session.proofs.Beginning.{no_count, first_stands}
+use Rattle.std.proofs.Common.{◌∙◌, ℕ, refl, ap}
+use Rattle.row_pool.specs.Pool.{grown}
+use Rattle.repair.specs.Slots.{KeptRows}
+use Rattle.session.proofs.Engines.{kept_stays}
+use Rattle.session.proofs.Beginning.{first_stands}
 use Rattle.session.proofs.answers.first_answers.Goals as goal
 
-pub problem_now-requires-clause-few : goal.problem_now-requires-clause-few
-problem_now-requires-clause-few c = let none = no_count (seen_in c.args.accepted.now) c.requires.nothing in omega (arith, none)
+pub reserve-requires-clause-current : goal.reserve-requires-clause-current
+reserve-requires-clause-current c = c.in_ok-graph.ensures.kept.solution.current
 
-pub returns : goal.returns
-returns c = first_stands c.own_graphs.ensures (declaration_of c.args.decl.now) (seen_in c.args.accepted.now) _ c.requires.nothing c.in_ok-problem.ensures c.events.ensures.lawful
-    c.in_ok-empty_engine.ensures.current c.in_ok-empty_engine.ensures.graph c.in_ok-empty_engine.ensures.slots c.in_ok-empty_engine.ensures.source c.in_ok-empty_engine.ensures.rows refl
+pub returns-clause-ready : goal.returns-clause-ready
+returns-clause-ready c =
+    let old = c.in_ok-graph.graph in
+    let kept = c.in_ok-reserve.ensures.kept in
+    first_stands (record { graph = record { roster = old.roster; solver = c.reserve.new.self }; source = _ }) old.solver c.decl.ensures.lawful
+    (kept_stays _ old.roster old.solver c.reserve.new.self c.in_ok-reserve.ensures.answer c.in_ok-reserve.ensures.current c.in_ok-graph.ensures.kept)
+    (ap (λ (k : KeptRows). k.slots) kept ∙ c.in_ok-graph.ensures.slots) (ap (λ (k : KeptRows). k.source) kept ∙ c.in_ok-graph.ensures.source) c.in_ok-graph.ensures.rows
+    (c.in_ok-reserve.ensures.pool ∙ ap (λ (n : ℕ). grown old.solver.pool n 0) c.rows_for.ensures) refl

@@ -1,5 +1,4 @@
 use Rattle.std.proofs.Common.{◌∙◌, ap}
-use Rattle.problem.specs.Listing.{listing_of}
 use Rattle.decl.specs.Declaration.{declaration_of}
 use Rattle.report.specs.Report.{report_line}
 use Rattle.traces.specs.Held.{seen_in}
@@ -13,7 +12,7 @@ pub returns-clause-writes : goal.returns-clause-writes
 returns-clause-writes g c =
     let p = problem_of_seen (declaration_of c.args.decl.now) (seen_in c.args.accepted.now) in
     such_of (IsReport (declaration_of c.args.decl.now) (seen_in c.args.accepted.now))
-    (c.is_consistent-consistent.result, c.is_consistent-consistent.ensures (listing_of p) p c.requires.solution, c.deref.ensures.value ∙ c.in_ok-line.ensures ∙ ap report_line c.in_ok-view.ensures.view) c.write_line.ensures.writes
+    (c.is_consistent-consistent.result, c.is_consistent-consistent.ensures c.requires.solution.0 p c.requires.solution.1, c.deref.ensures.value ∙ c.in_ok-line.ensures ∙ ap report_line c.in_ok-view.ensures.view) c.write_line.ensures.writes
 
 pub returns-clause-untouched : goal.returns-clause-untouched
 returns-clause-untouched g c = λ fails. never_memory c.write_line.result c.write_line.ensures.only fails

@@ -1,24 +1,25 @@
-use Rattle.std.proofs.Common.{◌≡◌, ◌∙◌, ◌+◌, refl, ◌^◌, ◌≤◌, ℕ, sym, ap, subst, nat_le, List, length, map, true, false, rules}
+use Rattle.std.proofs.Common.{◌≡◌, ◌∙◌, ◌+◌, refl, ◌^◌, ◌≤◌, ◌<◌, ℕ, sym, ap, subst, nat_le, List, length, map, true, false, rules, arith}
 use Rattle.std.specs.Vec.{with_items}
 use Rattle.std.proofs.lemmas.List.{length-map, with_items_is}
-use Rattle.decl.specs.Declaration.{declaration_of}
-use Rattle.trace_event.specs.Seen.{seen_event, seen_events}
+use Rattle.decl.specs.Declaration.{Declaration}
+use Rattle.trace_event.specs.Seen.{Seen, seen_event, seen_events}
 use Rattle.traces.specs.declared.accepted.Accepted.{Accepted}
 use Rattle.traces.specs.Traces.{event_count}
 use Rattle.traces.specs.Held.{seen_in}
+use Rattle.traces.specs.Messages.{problem_of_seen}
 use Rattle.trace_match.specs.Ends.{AreEndsOf, AreChanges, IsChange}
+use Rattle.queries.specs.Consistent.{IsConsistent}
 use Rattle.session.specs.declared.refusal.Refusal.TheVariants.{TooManyEvents}
 use Rattle.session.specs.declared.outcome.Outcome.TheVariants.{Refused}
 use Rattle.session.specs.Outcomes.{IsLineOf, outcome_line}
-use Rattle.std.specs.Prelude.{IfSome}
-use Rattle.trace_event.specs.Seen.{Seen}
-use Rattle.traces.specs.declared.event.EventId.{EventId}
-use Rattle.traces.specs.Messages.{problem_of_seen}
-use Rattle.queries.specs.Consistent.{IsConsistent}
-use Rattle.session.specs.Stands.{Held, AreKept, AreAnswersOf, held_of, problem_held, solver_of, under_of}
+use Rattle.session.specs.Stands.{Held, AreAnswersOf, held_of, problem_held, seen_held, solver_of, under_of}
+use Rattle.session.specs.Keeping.{Brings}
 use Rattle.session.specs.Inside.{AcceptAnswered, HasPlace}
+use Rattle.session.proofs.AddedThere.{where_weaker}
 use Rattle.session.proofs.Holding.{limits, labels_few, le_true, seen_accepted}
-use Rattle.session.proofs.Accepting.{refused_in, extended, kept_then, added_in, whole_same, whole_grown, whole_few}
+use Rattle.session.proofs.Standby.{ready_of}
+use Rattle.session.proofs.Additions.{adds_nothing, added_so}
+use Rattle.session.proofs.Accepting.{refused_in, extended, added_in, whole_same, whole_grown, whole_few, brings, never_ready}
 use Rattle.session.proofs.session.Session.accept.Goals as goal
 
 pub returns-then-not-has_room-clause-answers : goal.returns-then-not-has_room-clause-answers
@@ -27,12 +28,12 @@ returns-then-not-has_room-clause-answers g c =
     let count : c.len-more.result ≡ length (seen_events c.args.events.items) = len ∙ sym (length-map c.args.events.items seen_event) in
     let room : c.has_room.result ≡ nat_le (event_count (seen_in c.self.inside.accepted.items) + c.len-more.result) (2 ^ 20) = rw (← c.deref.ensures.value) c.has_room.ensures in
     let full : c.has_room.result ≡ false = search rules in
-    refused_in (declaration_of c.self.inside.decl) c.self.inside.accepted.items _ _ c.args.self.now c.args.k c.len-more.result (seen_events c.args.events.items) c.args.size c.args.stream
+    refused_in c.self.inside.answers.graph.roster.declaration c.self.inside.accepted.items _ _ c.args.self.now c.args.k c.len-more.result (seen_events c.args.events.items) c.args.size c.args.stream
     c.has_room.result (IsLineOf (Refused TooManyEvents)) c.self.view_is c.requires.inside count room full refl
 
 pub extend-requires-clause-labels : goal.extend-requires-clause-labels
 extend-requires-clause-labels g c =
-    subst (λ (l : List Accepted). length l ≤ 65536) (sym c.deref_mut.ensures.value) (labels_few (declaration_of c.self.inside.decl) c.self.inside.accepted.items _ _ (limits c.self.invariant.0))
+    subst (λ (l : List Accepted). length l ≤ 65536) (sym c.deref_mut.ensures.value) (labels_few c.self.inside.answers.graph.roster.declaration c.self.inside.accepted.items _ _ (limits c.self.invariant.0))
 
 pub extend-requires-clause-place : goal.extend-requires-clause-place
 extend-requires-clause-place g c =
@@ -49,106 +50,175 @@ extend-requires-clause-few g c =
 pub extend-requires-clause-ends : goal.extend-requires-clause-ends
 extend-requires-clause-ends g c = subst (λ (l : List Accepted). AreEndsOf c.self.inside.matcher (seen_in l)) (sym c.deref_mut.ensures.value) c.self.invariant.1
 
+pub renew-requires-clause-inside : goal.renew-requires-clause-inside
+renew-requires-clause-inside g c =
+    let len : c.len-more.result ≡ length c.args.events.items = search rules in
+    let count : c.len-more.result ≡ length (seen_events c.args.events.items) = len ∙ sym (length-map c.args.events.items seen_event) in
+    let fit : c.has_room.result ≡ true = search rules in
+    let d = c.self.inside.answers.graph.roster.declaration in
+    let before = solver_of c.self.inside.ready c.self.inside.answers in
+    let e = extended d c.self.inside.accepted.items _ _ c.extend.new.accepted c.self.inside.kept.items before c.args.self.now c.args.k _
+    (seen_events c.args.events.items) c.args.size c.args.stream _ c.self.view_is c.requires.inside c.requires.place c.requires.within c.deref.ensures.value count c.has_room.ensures fit
+    c.deref_mut.ensures.value c.in_ok-changes.ensures.grown in
+    let long : length c.extend.new.accepted ≡ c.self.inside.accepted.len = c.in_ok-changes.ensures.len ∙ ap length c.deref_mut.ensures.value ∙ sym c.self.inside.accepted.ok.0 in
+    let back : (with_items c.self.inside.accepted c.extend.new.accepted).items ≡ c.extend.new.accepted = with_items_is c.self.inside.accepted c.extend.new.accepted long in
+    let under : c.args.k < length (map under_of c.self.inside.accepted.items) = subst (λ (h : Held). c.args.k < length h.under) (sym c.self.view_is) c.requires.inside in
+    let many = length-map c.self.inside.accepted.items under_of in
+    let all : length c.deref-2.result.now ≡ length c.self.inside.accepted.items = ap length (c.deref-2.ensures.value ∙ back) ∙ c.in_ok-changes.ensures.len ∙ ap length c.deref_mut.ensures.value in
+    omega (arith, under, many, all)
+
 pub renew-requires-clause-few : goal.renew-requires-clause-few
 renew-requires-clause-few g c =
     let len : c.len-more.result ≡ length c.args.events.items = search rules in
     let count : c.len-more.result ≡ length (seen_events c.args.events.items) = len ∙ sym (length-map c.args.events.items seen_event) in
     let fit : c.has_room.result ≡ true = search rules in
-    let e = extended (declaration_of c.self.inside.decl) c.self.inside.accepted.items _ _ c.extend.new.accepted c.self.inside.kept.items (solver_of c.self.inside.answers) c.args.self.now c.args.k _
+    let d = c.self.inside.answers.graph.roster.declaration in
+    let before = solver_of c.self.inside.ready c.self.inside.answers in
+    let e = extended d c.self.inside.accepted.items _ _ c.extend.new.accepted c.self.inside.kept.items before c.args.self.now c.args.k _
     (seen_events c.args.events.items) c.args.size c.args.stream _ c.self.view_is c.requires.inside c.requires.place c.requires.within c.deref.ensures.value count c.has_room.ensures fit
     c.deref_mut.ensures.value c.in_ok-changes.ensures.grown in
     let long : length c.extend.new.accepted ≡ c.self.inside.accepted.len = c.in_ok-changes.ensures.len ∙ ap length c.deref_mut.ensures.value ∙ sym c.self.inside.accepted.ok.0 in
     let back : (with_items c.self.inside.accepted c.extend.new.accepted).items ≡ c.extend.new.accepted = with_items_is c.self.inside.accepted c.extend.new.accepted long in
-    let d = declaration_of c.self.inside.decl in
-    let kept = c.self.inside.kept.items in
-    let before = solver_of c.self.inside.answers in
     subst (λ (l : List Accepted). event_count (seen_in l) ≤ 2 ^ 20) (sym (c.deref-2.ensures.value ∙ back))
-    (whole_few d c.self.inside.accepted.items c.extend.new.accepted kept before c.args.self.now c.args.k (seen_events c.args.events.items) c.args.size c.args.stream e (limits c.self.invariant.0))
+    (whole_few d c.self.inside.accepted.items c.extend.new.accepted c.self.inside.kept.items before c.args.self.now c.args.k (seen_events c.args.events.items) c.args.size c.args.stream e (limits c.self.invariant.0))
 
-pub renew-requires-clause-kept : goal.renew-requires-clause-kept
-renew-requires-clause-kept g c =
+pub renew-requires-clause-brings : goal.renew-requires-clause-brings
+renew-requires-clause-brings g c =
     let len : c.len-more.result ≡ length c.args.events.items = search rules in
     let count : c.len-more.result ≡ length (seen_events c.args.events.items) = len ∙ sym (length-map c.args.events.items seen_event) in
     let fit : c.has_room.result ≡ true = search rules in
-    let e = extended (declaration_of c.self.inside.decl) c.self.inside.accepted.items _ _ c.extend.new.accepted c.self.inside.kept.items (solver_of c.self.inside.answers) c.args.self.now c.args.k _
+    let d = c.self.inside.answers.graph.roster.declaration in
+    let before = solver_of c.self.inside.ready c.self.inside.answers in
+    let e = extended d c.self.inside.accepted.items _ _ c.extend.new.accepted c.self.inside.kept.items before c.args.self.now c.args.k _
     (seen_events c.args.events.items) c.args.size c.args.stream _ c.self.view_is c.requires.inside c.requires.place c.requires.within c.deref.ensures.value count c.has_room.ensures fit
     c.deref_mut.ensures.value c.in_ok-changes.ensures.grown in
     let long : length c.extend.new.accepted ≡ c.self.inside.accepted.len = c.in_ok-changes.ensures.len ∙ ap length c.deref_mut.ensures.value ∙ sym c.self.inside.accepted.ok.0 in
     let back : (with_items c.self.inside.accepted c.extend.new.accepted).items ≡ c.extend.new.accepted = with_items_is c.self.inside.accepted c.extend.new.accepted long in
-    let d = declaration_of c.self.inside.decl in
-    let kept = c.self.inside.kept.items in
-    let before = solver_of c.self.inside.answers in
-    let after = kept_then c.self.inside.accepted.items c.extend.new.accepted c.args.k (seen_events c.args.events.items) c.args.size c.args.stream e.grew kept c.self.invariant.2 in
-    subst (λ (events : List EventId). AreKept (seen_in c.deref-2.result.now) events) (sym c.deref-3.ensures.value)
-    (subst (λ (l : List Accepted). AreKept (seen_in l) kept) (sym (c.deref-2.ensures.value ∙ back)) after)
+    let same : c.deref-2.result.now ≡ c.extend.new.accepted = c.deref-2.ensures.value ∙ back in
+    let changes : AreChanges (seen_in c.self.inside.accepted.items) (seen_in c.extend.new.accepted) c.in_ok-changes.changes =
+    subst (λ (l : List Accepted). AreChanges (seen_in l) (seen_in c.extend.new.accepted) c.in_ok-changes.changes) c.deref_mut.ensures.value c.in_ok-changes.ensures.changes in
+    let more : Brings (seen_in c.self.inside.accepted.items) (seen_in c.extend.new.accepted) c.args.k c.len-more.result c.in_ok-changes.changes =
+    brings c.self.inside.accepted.items c.extend.new.accepted c.args.k c.len-more.result (seen_events c.args.events.items) c.args.size c.args.stream c.in_ok-changes.changes e.grew count changes in
+    let ready : c.self.inside.ready ≡ true = ready_of c.args.self.now c.self.inside.ready c.self.inside.answers (ap (λ (h : Held). h.answers) c.self.view_is) c.requires.ready in
+    let are = c.self.invariant.3 ready in
+    let here : Brings (seen_in c.self.inside.accepted.items) (seen_in c.deref-2.result.now) c.args.k c.len-more.result c.in_ok-changes.changes =
+    subst (λ (l : List Accepted). Brings (seen_in c.self.inside.accepted.items) (seen_in l) c.args.k c.len-more.result c.in_ok-changes.changes) (sym same) more in
+    (seen_in c.self.inside.accepted.items, c.self.inside.kept.items, are, here)
 
 pub invariant_of-self : goal.invariant_of-self
 invariant_of-self g c =
-    let d = declaration_of c.self.inside.decl in
+    let d = c.self.inside.answers.graph.roster.declaration in
     let kept = c.self.inside.kept.items in
     let long : length c.extend.new.accepted ≡ c.self.inside.accepted.len = c.in_err-changes.ensures.len ∙ ap length c.deref_mut.ensures.value ∙ sym c.self.inside.accepted.ok.0 in
     let back : (with_items c.self.inside.accepted c.extend.new.accepted).items ≡ c.extend.new.accepted = with_items_is c.self.inside.accepted c.extend.new.accepted long in
-    whole_same d c.self.inside.accepted.items c.extend.new.accepted (with_items c.self.inside.accepted c.extend.new.accepted).items kept (solver_of c.self.inside.answers)
-    c.give_up.new.answers c.extend.new.matcher back (c.in_err-changes.ensures.stays ∙ ap (λ (l : List Accepted). map under_of l) c.deref_mut.ensures.value) (limits c.self.invariant.0) c.self.invariant.2
-    c.in_err-changes.ensures.ends c.give_up.ensures
+    whole_same d c.self.inside.accepted.items c.extend.new.accepted (with_items c.self.inside.accepted c.extend.new.accepted).items kept (solver_of c.self.inside.ready c.self.inside.answers)
+    false c.self.inside.answers c.extend.new.matcher refl back (c.in_err-changes.ensures.stays ∙ ap (λ (l : List Accepted). map under_of l) c.deref_mut.ensures.value) (limits c.self.invariant.0) c.self.invariant.2
+    c.in_err-changes.ensures.ends refl
 
 pub invariant_of-self-in_err-consistent : goal.invariant_of-self-in_err-consistent
 invariant_of-self-in_err-consistent g c =
     let len : c.len-more.result ≡ length c.args.events.items = search rules in
     let count : c.len-more.result ≡ length (seen_events c.args.events.items) = len ∙ sym (length-map c.args.events.items seen_event) in
     let fit : c.has_room.result ≡ true = search rules in
-    let e = extended (declaration_of c.self.inside.decl) c.self.inside.accepted.items _ _ c.extend.new.accepted c.self.inside.kept.items (solver_of c.self.inside.answers) c.args.self.now c.args.k _
+    let d = c.self.inside.answers.graph.roster.declaration in
+    let before = solver_of c.self.inside.ready c.self.inside.answers in
+    let e = extended d c.self.inside.accepted.items _ _ c.extend.new.accepted c.self.inside.kept.items before c.args.self.now c.args.k _
     (seen_events c.args.events.items) c.args.size c.args.stream _ c.self.view_is c.requires.inside c.requires.place c.requires.within c.deref.ensures.value count c.has_room.ensures fit
     c.deref_mut.ensures.value c.in_ok-changes.ensures.grown in
     let long : length c.extend.new.accepted ≡ c.self.inside.accepted.len = c.in_ok-changes.ensures.len ∙ ap length c.deref_mut.ensures.value ∙ sym c.self.inside.accepted.ok.0 in
     let back : (with_items c.self.inside.accepted c.extend.new.accepted).items ≡ c.extend.new.accepted = with_items_is c.self.inside.accepted c.extend.new.accepted long in
-    let d = declaration_of c.self.inside.decl in
-    let kept = c.self.inside.kept.items in
-    let before = solver_of c.self.inside.answers in
-    let ready = subst (λ (l : List Accepted). IfSome c.renew.new.answers (AreAnswersOf d (seen_in l) kept)) c.deref-2.ensures.value
-    (subst (λ (events : List EventId). IfSome c.renew.new.answers (AreAnswersOf d (seen_in c.deref-2.result.now) events)) c.deref-3.ensures.value c.in_err-consistent.ensures.ready) in
-    whole_grown d c.self.inside.accepted.items c.extend.new.accepted (with_items c.self.inside.accepted c.extend.new.accepted).items kept before c.renew.new.answers c.args.self.now c.args.k (seen_events c.args.events.items) c.args.size c.args.stream
-    c.extend.new.matcher e back (limits c.self.invariant.0) c.self.invariant.2 c.in_ok-changes.ensures.ends ready
+    let then = (with_items c.self.inside.accepted c.extend.new.accepted).items in
+    whole_grown d c.self.inside.accepted.items c.extend.new.accepted then c.self.inside.kept.items before false c.renew.new.answers c.args.self.now c.args.k (seen_events c.args.events.items) c.args.size c.args.stream
+    c.extend.new.matcher e c.renew.ensures.declaration back (limits c.self.invariant.0) c.self.invariant.2 c.in_ok-changes.ensures.ends
+    (never_ready false (AreAnswersOf (seen_in then) c.self.inside.kept.items c.renew.new.answers) refl)
 
 pub invariant_of-self-2 : goal.invariant_of-self-2
 invariant_of-self-2 g c =
     let len : c.len-more.result ≡ length c.args.events.items = search rules in
     let count : c.len-more.result ≡ length (seen_events c.args.events.items) = len ∙ sym (length-map c.args.events.items seen_event) in
     let fit : c.has_room.result ≡ true = search rules in
-    let e = extended (declaration_of c.self.inside.decl) c.self.inside.accepted.items _ _ c.extend.new.accepted c.self.inside.kept.items (solver_of c.self.inside.answers) c.args.self.now c.args.k _
+    let d = c.self.inside.answers.graph.roster.declaration in
+    let before = solver_of c.self.inside.ready c.self.inside.answers in
+    let e = extended d c.self.inside.accepted.items _ _ c.extend.new.accepted c.self.inside.kept.items before c.args.self.now c.args.k _
     (seen_events c.args.events.items) c.args.size c.args.stream _ c.self.view_is c.requires.inside c.requires.place c.requires.within c.deref.ensures.value count c.has_room.ensures fit
     c.deref_mut.ensures.value c.in_ok-changes.ensures.grown in
     let long : length c.extend.new.accepted ≡ c.self.inside.accepted.len = c.in_ok-changes.ensures.len ∙ ap length c.deref_mut.ensures.value ∙ sym c.self.inside.accepted.ok.0 in
     let back : (with_items c.self.inside.accepted c.extend.new.accepted).items ≡ c.extend.new.accepted = with_items_is c.self.inside.accepted c.extend.new.accepted long in
-    let d = declaration_of c.self.inside.decl in
+    let same : c.deref-2.result.now ≡ c.extend.new.accepted = c.deref-2.ensures.value ∙ back in
+    let changes : AreChanges (seen_in c.self.inside.accepted.items) (seen_in c.extend.new.accepted) c.in_ok-changes.changes =
+    subst (λ (l : List Accepted). AreChanges (seen_in l) (seen_in c.extend.new.accepted) c.in_ok-changes.changes) c.deref_mut.ensures.value c.in_ok-changes.ensures.changes in
+    let more : Brings (seen_in c.self.inside.accepted.items) (seen_in c.extend.new.accepted) c.args.k c.len-more.result c.in_ok-changes.changes =
+    brings c.self.inside.accepted.items c.extend.new.accepted c.args.k c.len-more.result (seen_events c.args.events.items) c.args.size c.args.stream c.in_ok-changes.changes e.grew count changes in
+    let ready : c.self.inside.ready ≡ true = ready_of c.args.self.now c.self.inside.ready c.self.inside.answers (ap (λ (h : Held). h.answers) c.self.view_is) c.requires.ready in
+    let are = c.self.invariant.3 ready in
+    let here : Brings (seen_in c.self.inside.accepted.items) (seen_in c.deref-2.result.now) c.args.k c.len-more.result c.in_ok-changes.changes =
+    subst (λ (l : List Accepted). Brings (seen_in c.self.inside.accepted.items) (seen_in l) c.args.k c.len-more.result c.in_ok-changes.changes) (sym same) more in
     let kept = c.self.inside.kept.items in
-    let before = solver_of c.self.inside.answers in
-    let ready = subst (λ (l : List Accepted). IfSome c.renew.new.answers (AreAnswersOf d (seen_in l) kept)) c.deref-2.ensures.value
-    (subst (λ (events : List EventId). IfSome c.renew.new.answers (AreAnswersOf d (seen_in c.deref-2.result.now) events)) c.deref-3.ensures.value c.in_ok-consistent.ensures.ready) in
-    whole_grown d c.self.inside.accepted.items c.extend.new.accepted (with_items c.self.inside.accepted c.extend.new.accepted).items kept before c.renew.new.answers c.args.self.now c.args.k (seen_events c.args.events.items) c.args.size c.args.stream
-    c.extend.new.matcher e back (limits c.self.invariant.0) c.self.invariant.2 c.in_ok-changes.ensures.ends ready
+    let then = (with_items c.self.inside.accepted c.extend.new.accepted).items in
+    let done : AreAnswersOf (seen_in then) kept c.renew.new.answers =
+    subst (λ (l : List Accepted). AreAnswersOf (seen_in l) kept c.renew.new.answers) c.deref-2.ensures.value (c.in_ok-consistent.ensures.ready (seen_in c.self.inside.accepted.items) kept are here) in
+    whole_grown d c.self.inside.accepted.items c.extend.new.accepted then kept before true c.renew.new.answers c.args.self.now c.args.k (seen_events c.args.events.items) c.args.size c.args.stream
+    c.extend.new.matcher e c.renew.ensures.declaration back (limits c.self.invariant.0) c.self.invariant.2 c.in_ok-changes.ensures.ends (λ is. done)
 
 pub returns-clause-answers : goal.returns-clause-answers
 returns-clause-answers g c =
     let len : c.len-more.result ≡ length c.args.events.items = search rules in
     let count : c.len-more.result ≡ length (seen_events c.args.events.items) = len ∙ sym (length-map c.args.events.items seen_event) in
     let fit : c.has_room.result ≡ true = search rules in
-    let e = extended (declaration_of c.self.inside.decl) c.self.inside.accepted.items _ _ c.extend.new.accepted c.self.inside.kept.items (solver_of c.self.inside.answers) c.args.self.now c.args.k _
+    let d = c.self.inside.answers.graph.roster.declaration in
+    let before = solver_of c.self.inside.ready c.self.inside.answers in
+    let e = extended d c.self.inside.accepted.items _ _ c.extend.new.accepted c.self.inside.kept.items before c.args.self.now c.args.k _
     (seen_events c.args.events.items) c.args.size c.args.stream _ c.self.view_is c.requires.inside c.requires.place c.requires.within c.deref.ensures.value count c.has_room.ensures fit
     c.deref_mut.ensures.value c.in_ok-changes.ensures.grown in
     let long : length c.extend.new.accepted ≡ c.self.inside.accepted.len = c.in_ok-changes.ensures.len ∙ ap length c.deref_mut.ensures.value ∙ sym c.self.inside.accepted.ok.0 in
     let back : (with_items c.self.inside.accepted c.extend.new.accepted).items ≡ c.extend.new.accepted = with_items_is c.self.inside.accepted c.extend.new.accepted long in
-    let d = declaration_of c.self.inside.decl in
-    let kept = c.self.inside.kept.items in
-    let before = solver_of c.self.inside.answers in
-    let after = solver_of c.renew.new.answers in
-    let p = problem_of_seen d (seen_in c.extend.new.accepted) in
-    let problem : p ≡ problem_held (held_of d c.extend.new.accepted kept after) = ap (λ (x : List (List Seen)). problem_of_seen d x) (sym (seen_accepted c.extend.new.accepted)) in
-    let consistent : IsConsistent p c.in_ok-consistent.consistent = subst (λ (l : List Accepted). IsConsistent (problem_of_seen d (seen_in l)) c.in_ok-consistent.consistent) (c.deref-2.ensures.value ∙ back)
-    c.in_ok-consistent.ensures.consistent in
+    let same : c.deref-2.result.now ≡ c.extend.new.accepted = c.deref-2.ensures.value ∙ back in
     let changes : AreChanges (seen_in c.self.inside.accepted.items) (seen_in c.extend.new.accepted) c.in_ok-changes.changes =
     subst (λ (l : List Accepted). AreChanges (seen_in l) (seen_in c.extend.new.accepted) c.in_ok-changes.changes) c.deref_mut.ensures.value c.in_ok-changes.ensures.changes in
+    let more : Brings (seen_in c.self.inside.accepted.items) (seen_in c.extend.new.accepted) c.args.k c.len-more.result c.in_ok-changes.changes =
+    brings c.self.inside.accepted.items c.extend.new.accepted c.args.k c.len-more.result (seen_events c.args.events.items) c.args.size c.args.stream c.in_ok-changes.changes e.grew count changes in
+    let ready : c.self.inside.ready ≡ true = ready_of c.args.self.now c.self.inside.ready c.self.inside.answers (ap (λ (h : Held). h.answers) c.self.view_is) c.requires.ready in
+    let are = c.self.invariant.3 ready in
+    let here : Brings (seen_in c.self.inside.accepted.items) (seen_in c.deref-2.result.now) c.args.k c.len-more.result c.in_ok-changes.changes =
+    subst (λ (l : List Accepted). Brings (seen_in c.self.inside.accepted.items) (seen_in l) c.args.k c.len-more.result c.in_ok-changes.changes) (sym same) more in
+    let kept = c.self.inside.kept.items in
+    let after = solver_of true c.renew.new.answers in
+    let p = problem_of_seen d (seen_in c.extend.new.accepted) in
+    let problem : p ≡ problem_held (held_of d c.extend.new.accepted kept after) = ap (λ (x : List (List Seen)). problem_of_seen d x) (sym (seen_accepted c.extend.new.accepted)) in
+    let consistent : IsConsistent p c.in_ok-consistent.consistent =
+    subst (λ (x : Declaration). IsConsistent (problem_of_seen x (seen_in c.extend.new.accepted)) c.in_ok-consistent.consistent) c.renew.ensures.declaration
+    (subst (λ (l : List Accepted). IsConsistent (problem_of_seen c.renew.new.answers.graph.roster.declaration (seen_in l)) c.in_ok-consistent.consistent) same c.in_ok-consistent.ensures.consistent) in
     let change : IsChange (seen_in c.self.inside.accepted.items) (seen_in c.extend.new.accepted) c.counts.result = c.counts.ensures.change (seen_in c.self.inside.accepted.items) (seen_in c.extend.new.accepted) changes in
-    subst (λ (l : List Accepted). AcceptAnswered c.args.self.now (held_of d l kept after) c.args.k (seen_events c.args.events.items) c.args.size c.args.stream (IsLineOf c.outcome_of.result)) (sym back)
+    subst (λ (x : Declaration). AcceptAnswered c.args.self.now (held_of x (with_items c.self.inside.accepted c.extend.new.accepted).items kept after) c.args.k (seen_events c.args.events.items) c.args.size c.args.stream (IsLineOf c.outcome_of.result)) (sym c.renew.ensures.declaration)
+    (subst (λ (l : List Accepted). AcceptAnswered c.args.self.now (held_of d l kept after) c.args.k (seen_events c.args.events.items) c.args.size c.args.stream (IsLineOf c.outcome_of.result)) (sym back)
     (added_in d c.self.inside.accepted.items c.extend.new.accepted kept before c.args.self.now c.args.k (seen_events c.args.events.items) c.args.size c.args.stream e p c.counts.result c.len-more.result c.waiting-pending.result after (IsLineOf c.outcome_of.result)
-    problem change count c.waiting-pending.ensures (outcome_line c.outcome_of.result, c.outcome_of.ensures p consistent, refl))
+    problem change count c.waiting-pending.ensures (outcome_line c.outcome_of.result, c.outcome_of.ensures.line p consistent, refl)))
+
+pub returns-clause-room : goal.returns-clause-room
+returns-clause-room g c =
+    let len : c.len-more.result ≡ length c.args.events.items = search rules in
+    let few : event_count (seen_in c.deref.result.now) + c.len-more.result ≤ 2 ^ 20 = le_true _ _ (sym c.if-not-has_room.ensures) in
+    let seen : seen_in c.deref.result.now ≡ seen_held c.args.self.now.under =
+    ap seen_in c.deref.ensures.value ∙ sym (seen_accepted c.self.inside.accepted.items) ∙ ap (λ (h : Held). seen_held h.under) c.self.view_is in
+    let room : event_count (seen_held c.args.self.now.under) + length c.args.events.items ≤ 2 ^ 20 =
+    subst (λ (n : ℕ). event_count (seen_held c.args.self.now.under) + n ≤ 2 ^ 20) len
+    (subst (λ (x : List (List Seen)). event_count x + c.len-more.result ≤ 2 ^ 20) seen few) in
+    where_weaker c.outcome_of.result (λ there. room) c.outcome_of.ensures.added
+
+pub returns-then-not-has_room-clause-addition : goal.returns-then-not-has_room-clause-addition
+returns-then-not-has_room-clause-addition g c = adds_nothing _ c.args.self.now c.args.steps.now c.self.view_is c.self.invariant.0
+
+pub returns-clause-addition : goal.returns-clause-addition
+returns-clause-addition g c =
+    let len : c.len-more.result ≡ length c.args.events.items = search rules in
+    let count : c.len-more.result ≡ length (seen_events c.args.events.items) = len ∙ sym (length-map c.args.events.items seen_event) in
+    let fit : c.has_room.result ≡ true = search rules in
+    let d = c.self.inside.answers.graph.roster.declaration in
+    let before = solver_of c.self.inside.ready c.self.inside.answers in
+    let e = extended d c.self.inside.accepted.items _ _ c.extend.new.accepted c.self.inside.kept.items before c.args.self.now c.args.k _
+    (seen_events c.args.events.items) c.args.size c.args.stream _ c.self.view_is c.requires.inside c.requires.place c.requires.within c.deref.ensures.value count c.has_room.ensures fit
+    c.deref_mut.ensures.value c.in_ok-changes.ensures.grown in
+    let long : length c.extend.new.accepted ≡ c.self.inside.accepted.len = c.in_ok-changes.ensures.len ∙ ap length c.deref_mut.ensures.value ∙ sym c.self.inside.accepted.ok.0 in
+    let back : (with_items c.self.inside.accepted c.extend.new.accepted).items ≡ c.extend.new.accepted = with_items_is c.self.inside.accepted c.extend.new.accepted long in
+    added_so d c.renew.new.answers.graph.roster.declaration c.self.inside.accepted.items c.extend.new.accepted (with_items c.self.inside.accepted c.extend.new.accepted).items c.self.inside.kept.items c.self.inside.ready
+    c.self.inside.answers c.renew.new.answers c.args.self.now c.args.k c.len-more.result (seen_events c.args.events.items) c.args.size c.args.stream c.args.steps.now c.renew.new.steps e back count c.in_ok-consistent.ensures.addition

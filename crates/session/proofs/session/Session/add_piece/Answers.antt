@@ -1,18 +1,25 @@
-use Rattle.std.proofs.Common.{◌≡◌, ◌∙◌, sym, subst, refl, length, map, slice_get, Some, true, false, rules}
+use Rattle.std.proofs.Common.{◌≡◌, ◌∙◌, ◌<◌, ◌≤◌, ℕ, List, sym, ap, subst, refl, ◌+◌, ◌^◌, length, map, slice_get, Some, true, false, rules, arith}
 use Rattle.std.proofs.lemmas.Result.{IfOk-weaker}
+use Rattle.std.proofs.lemmas.List.{length-map}
 use Rattle.decl.specs.declared.items.Label.{Label}
-use Rattle.decl.specs.Declaration.{declaration_of}
+use Rattle.decl.specs.Declaration.{Declaration, declaration_of}
 use Rattle.trace_event.specs.Seen.{seen_events}
 use Rattle.session.specs.declared.refusal.Refusal.TheVariants.{TooManyBytes}
 use Rattle.session.specs.declared.outcome.Outcome.TheVariants.{Refused}
 use Rattle.session.specs.Outcomes.{IsLineOf}
-use Rattle.session.specs.Stands.{Held, under_of}
+use Rattle.captures.specs.Feeding.{Packet, seen_packet, seen_packets}
+use Rattle.traces.specs.Traces.{event_count}
+use Rattle.session.specs.declared.reading.Piece.TheVariants as pieces
+use Rattle.session.specs.Stands.{Held, Under, under_of, seen_held}
+use Rattle.session.specs.TakingInside.{Completes, CompletesFront, HadRoom, HasPackets}
 use Rattle.session.specs.Pieces.{SaysEvents, IsRefusedAs}
 use Rattle.session.specs.Inside.{FrontAnswered}
 use Rattle.session.proofs.Extending.{under_at, inside_under, stream_fits, stream_within}
 use Rattle.session.proofs.Growing.{says_answered, refusal_answered}
 use Rattle.session.proofs.Standing.{piece_more, piece_read, piece_without_place, fits_short, fits_place}
-use Rattle.session.proofs.Holding.{IsWithinLimits, limits}
+use Rattle.session.proofs.Additions.{adds_nothing}
+use Rattle.session.proofs.AddedThere.{where_weaker}
+use Rattle.session.proofs.Holding.{IsWithinLimits, limits, some_same}
 use Rattle.session.proofs.session.Session.add_piece.Goals as goal
 
 pub returns-then-more-clause-answers : goal.returns-then-more-clause-answers
@@ -25,8 +32,17 @@ returns-then-not-has_place-clause-answers g c =
     let more : c.args.more ≡ false = search rules in
     let none : c.has_place.result ≡ false = search rules in
     let held = subst IsWithinLimits c.self.view_is (limits c.self.invariant.0) in
-    let at_under = under_at (declaration_of c.self.inside.decl) c.self.inside.accepted.items _ _ c.args.self.now c.args.k c.index-under.result.now c.self.view_is (inside_under c.args.self.now c.args.k held c.requires.inside) c.index-under.ensures in
+    let at_under = under_at c.self.inside.answers.graph.roster.declaration c.self.inside.accepted.items _ _ c.args.self.now c.args.k c.index-under.result.now c.self.view_is (inside_under c.args.self.now c.args.k held c.requires.inside) c.index-under.ensures in
     piece_without_place c.args.self.now c.args.k (under_of c.index-under.result.now) c.args.more c.args.front.now (IsLineOf (Refused TooManyBytes)) more at_under (sym c.has_place.ensures ∙ none) refl
+
+pub host_of-host-requires : goal.host_of-host-requires
+host_of-host-requires g c =
+    let inside : c.args.k < length c.args.self.now.declaration.labels = c.requires.inside in
+    subst (λ (xs : List Label). c.args.k < length xs) (sym (ap (λ (d : Declaration). d.labels) (c.decl_of-decl.ensures.same ∙ ap (λ (h : Held). h.declaration) c.self.view_is)) ∙ sym c.deref.ensures.value) inside
+
+pub read_piece-requires-clause-payload : goal.read_piece-requires-clause-payload
+read_piece-requires-clause-payload g c =
+    subst (λ (n : ℕ). n ≤ 64) (sym (ap (λ (d : Declaration). d.payload_bytes) c.decl_of-decl.ensures.same)) c.self.invariant.0.declared.limits.payload_limit
 
 pub read_piece-requires-clause-short : goal.read_piece-requires-clause-short
 read_piece-requires-clause-short g c =
@@ -37,7 +53,7 @@ pub read_piece-requires-clause-place : goal.read_piece-requires-clause-place
 read_piece-requires-clause-place g c =
     let place : c.has_place.result ≡ true = search rules in
     let held = subst IsWithinLimits c.self.view_is (limits c.self.invariant.0) in
-    let at_under = under_at (declaration_of c.self.inside.decl) c.self.inside.accepted.items _ _ c.args.self.now c.args.k c.index-under.result.now c.self.view_is (inside_under c.args.self.now c.args.k held c.requires.inside) c.index-under.ensures in
+    let at_under = under_at c.self.inside.answers.graph.roster.declaration c.self.inside.accepted.items _ _ c.args.self.now c.args.k c.index-under.result.now c.self.view_is (inside_under c.args.self.now c.args.k held c.requires.inside) c.index-under.ensures in
     stream_fits c.args.self.now c.args.k (length c.args.front.now) (under_of c.index-under.result.now) held at_under
     (fits_place c.args.self.now.under c.args.k (length c.args.front.now) (under_of c.index-under.result.now) at_under (sym c.has_place.ensures ∙ place))
 
@@ -45,16 +61,16 @@ pub accept-requires-clause-place : goal.accept-requires-clause-place
 accept-requires-clause-place g c =
     let place : c.has_place.result ≡ true = search rules in
     let held = subst IsWithinLimits c.self.view_is (limits c.self.invariant.0) in
-    let at_under = under_at (declaration_of c.self.inside.decl) c.self.inside.accepted.items _ _ c.args.self.now c.args.k c.index-under.result.now c.self.view_is (inside_under c.args.self.now c.args.k held c.requires.inside) c.index-under.ensures in
+    let at_under = under_at c.self.inside.answers.graph.roster.declaration c.self.inside.accepted.items _ _ c.args.self.now c.args.k c.index-under.result.now c.self.view_is (inside_under c.args.self.now c.args.k held c.requires.inside) c.index-under.ensures in
     fits_place c.args.self.now.under c.args.k (length c.args.front.now) (under_of c.index-under.result.now) at_under (sym c.has_place.ensures ∙ place)
 
 pub accept-requires-clause-within : goal.accept-requires-clause-within
 accept-requires-clause-within g c =
     let held = subst IsWithinLimits c.self.view_is (limits c.self.invariant.0) in
-    let at_under = under_at (declaration_of c.self.inside.decl) c.self.inside.accepted.items _ _ c.args.self.now c.args.k c.index-under.result.now c.self.view_is (inside_under c.args.self.now c.args.k held c.requires.inside) c.index-under.ensures in
-    let says : SaysEvents (declaration_of c.self.inside.decl) c.host_of-host.result c.index-under.result.now.stream c.args.front.now (seen_events c.in-Read.events.items) c.in-Read.stream =
-    rw c.in-Read.is at c.in_ok-read.ensures in
-    stream_within c.args.self.now (declaration_of c.self.inside.decl) c.host_of-host.result c.args.k (under_of c.index-under.result.now) c.in-Read.stream c.args.front.now (seen_events c.in-Read.events.items)
+    let at_under = under_at c.self.inside.answers.graph.roster.declaration c.self.inside.accepted.items _ _ c.args.self.now c.args.k c.index-under.result.now c.self.view_is (inside_under c.args.self.now c.args.k held c.requires.inside) c.index-under.ensures in
+    let says : SaysEvents (declaration_of c.decl_of-decl.result.now) c.host_of-host.result c.index-under.result.now.stream c.args.front.now (seen_events c.in-Read.events.items) c.in-Read.stream =
+    rw c.in-Read.is at c.in_ok-read.ensures.read in
+    stream_within c.args.self.now (declaration_of c.decl_of-decl.result.now) c.host_of-host.result c.args.k (under_of c.index-under.result.now) c.in-Read.stream c.args.front.now (seen_events c.in-Read.events.items)
     held at_under says
 
 pub returns-in-Read-clause-answers : goal.returns-in-Read-clause-answers
@@ -62,12 +78,13 @@ returns-in-Read-clause-answers g c =
     let more : c.args.more ≡ false = search rules in
     let place : c.has_place.result ≡ true = search rules in
     let held = subst IsWithinLimits c.self.view_is (limits c.self.invariant.0) in
-    let at_under = under_at (declaration_of c.self.inside.decl) c.self.inside.accepted.items _ _ c.args.self.now c.args.k c.index-under.result.now c.self.view_is (inside_under c.args.self.now c.args.k held c.requires.inside) c.index-under.ensures in
-    let says : SaysEvents (declaration_of c.self.inside.decl) c.host_of-host.result c.index-under.result.now.stream c.args.front.now (seen_events c.in-Read.events.items) c.in-Read.stream =
-    rw c.in-Read.is at c.in_ok-read.ensures in
-    let host : slice_get (map (λ (l : Label). l.host) c.self.inside.decl.labels.items) c.args.k ≡ Some c.host_of-host.result = rw (← c.deref.ensures.value) c.host_of-host.ensures in
-    let at_host = subst (λ (h : Held). slice_get (map (λ (l : Label). l.host) h.declaration.labels) c.args.k ≡ Some c.host_of-host.result) c.self.view_is host in
-    let by_held = subst (λ (h : Held). SaysEvents h.declaration c.host_of-host.result c.index-under.result.now.stream c.args.front.now (seen_events c.in-Read.events.items) c.in-Read.stream) c.self.view_is says in
+    let at_under = under_at c.self.inside.answers.graph.roster.declaration c.self.inside.accepted.items _ _ c.args.self.now c.args.k c.index-under.result.now c.self.view_is (inside_under c.args.self.now c.args.k held c.requires.inside) c.index-under.ensures in
+    let says : SaysEvents (declaration_of c.decl_of-decl.result.now) c.host_of-host.result c.index-under.result.now.stream c.args.front.now (seen_events c.in-Read.events.items) c.in-Read.stream =
+    rw c.in-Read.is at c.in_ok-read.ensures.read in
+    let host : slice_get (map (λ (l : Label). l.host) c.decl_of-decl.result.now.labels.items) c.args.k ≡ Some c.host_of-host.result = rw (← c.deref.ensures.value) c.host_of-host.ensures in
+    let declared = c.decl_of-decl.ensures.same ∙ ap (λ (h : Held). h.declaration) c.self.view_is in
+    let at_host = subst (λ (d : Declaration). slice_get (map (λ (l : Label). l.host) d.labels) c.args.k ≡ Some c.host_of-host.result) declared host in
+    let by_held = subst (λ (d : Declaration). SaysEvents d c.host_of-host.result c.index-under.result.now.stream c.args.front.now (seen_events c.in-Read.events.items) c.in-Read.stream) declared says in
     IfOk-weaker c.accept.result _ (λ outcome. FrontAnswered c.args.more c.args.front.now c.args.self.now c.accept.new.self c.args.k (IsLineOf outcome))
     (λ outcome answered. piece_read c.args.self.now c.accept.new.self c.args.k (under_of c.index-under.result.now) c.args.more c.args.front.now (IsLineOf outcome) more at_under (sym c.has_place.ensures ∙ place)
     (says_answered c.args.self.now c.accept.new.self c.args.k c.host_of-host.result c.args.front.now (under_of c.index-under.result.now) (seen_events c.in-Read.events.items) c.in-Read.stream (IsLineOf outcome)
@@ -79,7 +96,33 @@ returns-in-Refused-clause-answers g c =
     let more : c.args.more ≡ false = search rules in
     let place : c.has_place.result ≡ true = search rules in
     let held = subst IsWithinLimits c.self.view_is (limits c.self.invariant.0) in
-    let at_under = under_at (declaration_of c.self.inside.decl) c.self.inside.accepted.items _ _ c.args.self.now c.args.k c.index-under.result.now c.self.view_is (inside_under c.args.self.now c.args.k held c.requires.inside) c.index-under.ensures in
-    let why : IsRefusedAs c.index-under.result.now.stream c.args.front.now c.in-Refused.refusal = rw c.in-Refused.is at c.in_ok-read.ensures in
+    let at_under = under_at c.self.inside.answers.graph.roster.declaration c.self.inside.accepted.items _ _ c.args.self.now c.args.k c.index-under.result.now c.self.view_is (inside_under c.args.self.now c.args.k held c.requires.inside) c.index-under.ensures in
+    let why : IsRefusedAs c.index-under.result.now.stream c.args.front.now c.in-Refused.refusal = rw c.in-Refused.is at c.in_ok-read.ensures.read in
     piece_read c.args.self.now c.args.self.now c.args.k (under_of c.index-under.result.now) c.args.more c.args.front.now (IsLineOf (Refused c.in-Refused.refusal)) more at_under (sym c.has_place.ensures ∙ place)
     (refusal_answered c.args.self.now c.args.k c.args.front.now (under_of c.index-under.result.now) c.in-Refused.refusal (IsLineOf (Refused c.in-Refused.refusal)) at_under refl why)
+
+pub returns-in-Read-clause-packets : goal.returns-in-Read-clause-packets
+returns-in-Read-clause-packets g c = λ keeps.
+    let more : c.args.more ≡ false = search rules in
+    let held = subst IsWithinLimits c.self.view_is (limits c.self.invariant.0) in
+    let at_under = under_at c.self.inside.answers.graph.roster.declaration c.self.inside.accepted.items _ _ c.args.self.now c.args.k c.index-under.result.now c.self.view_is (inside_under c.args.self.now c.args.k held c.requires.inside) c.index-under.ensures in
+    let has : HasPackets c.index-under.result.now.stream c.args.front.now (seen_packets c.read_piece.new.packets.items) (pieces.Read c.in-Read.events c.in-Read.stream) = rw c.in-Read.is at c.in_ok-read.ensures.packets in
+    let here : Completes c.index-under.result.now.stream c.args.front.now (seen_packets c.keep_only.new.packets.items) =
+    subst (λ (ps : List Packet). Completes c.index-under.result.now.stream c.args.front.now (seen_packets ps)) (sym (c.keep_only.ensures keeps)) has.0 in
+    IfOk-weaker c.accept.result _ (CompletesFront c.args.more c.args.front.now c.args.self.now c.args.k (seen_packets c.keep_only.new.packets.items))
+    (λ outcome. where_weaker outcome (λ room. (more, λ u at. subst (λ (v : Under). Completes v.stream c.args.front.now (seen_packets c.keep_only.new.packets.items)) (some_same (under_of c.index-under.result.now) u (sym at_under ∙ at)) here)))
+    c.accept.ensures.room
+
+pub returns-in-Read-clause-room : goal.returns-in-Read-clause-room
+returns-in-Read-clause-room g c = λ keeps.
+    let has : HasPackets c.index-under.result.now.stream c.args.front.now (seen_packets c.read_piece.new.packets.items) (pieces.Read c.in-Read.events c.in-Read.stream) = rw c.in-Read.is at c.in_ok-read.ensures.packets in
+    let few : length (seen_packets c.read_piece.new.packets.items) ≤ length c.in-Read.events.items = has.1 in
+    let count = length-map c.read_piece.new.packets.items seen_packet in
+    let same : length c.keep_only.new.packets.items ≡ length c.read_piece.new.packets.items = ap length (c.keep_only.ensures keeps) in
+    let events : ℕ = event_count (seen_held c.args.self.now.under) in
+    IfOk-weaker c.accept.result _ (HadRoom c.args.self.now (length c.keep_only.new.packets.items))
+    (λ outcome. where_weaker outcome (λ room. let all : events + length c.in-Read.events.items ≤ 2 ^ 20 = room in let less : events + length c.keep_only.new.packets.items ≤ 2 ^ 20 = omega (arith, all, few, count, same) in less))
+    c.accept.ensures.room
+
+pub returns-then-more-clause-addition : goal.returns-then-more-clause-addition
+returns-then-more-clause-addition g c = adds_nothing _ c.args.self.now c.args.steps.now c.self.view_is c.self.invariant.0

@@ -1,39 +1,61 @@
-use Rattle.std.proofs.Common.{List, sym, ap, subst}
-use Rattle.std.specs.Prelude.{IfSome}
-use Rattle.decl.specs.Declaration.{declaration_of}
+use Rattle.std.proofs.Common.{◌≡◌, ◌∙◌, ◌≤◌, ◌^◌, List, length, true, sym, ap, subst}
+use Rattle.decl.specs.Declaration.{Declaration}
+use Rattle.roster.specs.Roster.{RosterLists}
 use Rattle.traces.specs.declared.accepted.Accepted.{Accepted}
+use Rattle.traces.specs.Traces.{event_count}
 use Rattle.traces.specs.Held.{seen_in}
 use Rattle.session.specs.CommandSeen.{question_seen}
 use Rattle.session.specs.Stands.{Held, AreAnswersOf, held_of, solver_of}
 use Rattle.session.specs.Inside.{Asked}
 use Rattle.session.proofs.Telling.{reply_as}
-use Rattle.session.proofs.Standby.{slots_of_rows}
+use Rattle.session.proofs.Standby.{ready_of, ready_some}
+use Rattle.session.proofs.AskedRows.{from_slots}
 use Rattle.session.proofs.Accepting.{whole_kept}
-use Rattle.session.proofs.Holding.{limits}
+use Rattle.session.proofs.Holding.{limits, accepted_each, accepted_few}
 use Rattle.session.proofs.session.Session.ask.Goals as goal
+
+pub answer-requires-clause-labels : goal.answer-requires-clause-labels
+answer-requires-clause-labels g c = ap length c.deref.ensures.value ∙ accepted_each c.self.inside.answers.graph.roster.declaration c.self.inside.accepted.items _ _ (limits c.self.invariant.0)
+
+pub answer-requires-clause-few : goal.answer-requires-clause-few
+answer-requires-clause-few g c =
+    subst (λ (l : List Accepted). event_count (seen_in l) ≤ 2 ^ 20) (sym c.deref.ensures.value) (accepted_few c.self.inside.answers.graph.roster.declaration c.self.inside.accepted.items _ _ (limits c.self.invariant.0))
+
+pub answer-requires-clause-ready : goal.answer-requires-clause-ready
+answer-requires-clause-ready g c =
+    let ready : c.self.inside.ready ≡ true = ready_of c.args.self.now c.self.inside.ready c.self.inside.answers (ap (λ (h : Held). h.answers) c.self.view_is) c.requires in
+    (c.self.inside.kept.items, subst (λ (l : List Accepted). AreAnswersOf (seen_in l) c.self.inside.kept.items c.self.inside.answers) (sym c.deref.ensures.value) (c.self.invariant.3 ready))
 
 pub returns-clause-writes : goal.returns-clause-writes
 returns-clause-writes g c =
-    let d = declaration_of c.self.inside.decl in
+    let d = c.self.inside.answers.graph.roster.declaration in
     let kept = c.self.inside.kept.items in
-    let before = solver_of c.self.inside.answers in
-    let after = solver_of c.answer_ready.new.answers in
+    let before = solver_of c.self.inside.ready c.self.inside.answers in
+    let after = solver_of c.self.inside.ready c.answer.new.answers in
     let command = question_seen c.args.question in
-    reply_as (λ IsWritten says. subst (λ (h : Held). Asked h (held_of d c.self.inside.accepted.items kept after) command IsWritten) c.self.view_is
-    (subst (λ (l : List Accepted). Asked (held_of d l kept before) (held_of d l kept after) command IsWritten) c.deref.ensures.value (says kept before after))) c.answer_ready.ensures.writes
+    let same : c.answer.new.answers.graph.roster.declaration ≡ d = ap (λ (r : RosterLists). r.declaration) c.answer.ensures.roster in
+    reply_as (λ IsWritten says. subst (λ (x : Declaration). Asked c.args.self.now (held_of x c.self.inside.accepted.items kept after) command IsWritten) (sym same)
+    (subst (λ (h : Held). Asked h (held_of d c.self.inside.accepted.items kept after) command IsWritten) c.self.view_is
+    (subst (λ (l : List Accepted). Asked (held_of d l kept before) (held_of d l kept after) command IsWritten) c.deref.ensures.value (says kept before after)))) c.answer.ensures.writes
+
+pub returns-clause-ready : goal.returns-clause-ready
+returns-clause-ready g c =
+    ready_some c.self.inside.ready c.answer.new.answers (ready_of c.args.self.now c.self.inside.ready c.self.inside.answers (ap (λ (h : Held). h.answers) c.self.view_is) c.requires)
 
 pub returns-clause-steps : goal.returns-clause-steps
 returns-clause-steps g c = λ rows.
-    let d = declaration_of c.self.inside.decl in
     let kept = c.self.inside.kept.items in
-    let ready = subst (λ (l : List Accepted). IfSome c.self.inside.answers (AreAnswersOf d (seen_in l) kept)) (sym c.deref.ensures.value) c.self.invariant.3 in
-    c.answer_ready.ensures.steps (slots_of_rows d (seen_in c.deref.result.now) kept c.self.inside.answers c.args.self.now (question_seen c.args.question)
-    (sym (ap (λ (h : Held). h.declaration) c.self.view_is)) (sym (ap (λ (h : Held). h.kept) c.self.view_is)) ready rows)
+    let ready : c.self.inside.ready ≡ true = ready_of c.args.self.now c.self.inside.ready c.self.inside.answers (ap (λ (h : Held). h.answers) c.self.view_is) c.requires in
+    c.answer.ensures.steps (from_slots (seen_in c.self.inside.accepted.items) kept c.self.inside.answers (c.self.invariant.3 ready) c.args.self.now
+    (sym (ap (λ (h : Held). h.declaration) c.self.view_is)) (sym (ap (λ (h : Held). h.kept) c.self.view_is)) (question_seen c.args.question) rows)
 
 pub invariant_of-self : goal.invariant_of-self
 invariant_of-self g c =
-    let d = declaration_of c.self.inside.decl in
+    let d = c.self.inside.answers.graph.roster.declaration in
     let kept = c.self.inside.kept.items in
-    let was = subst (λ (l : List Accepted). IfSome c.self.inside.answers (AreAnswersOf d (seen_in l) kept)) (sym c.deref.ensures.value) c.self.invariant.3 in
-    let ready = subst (λ (l : List Accepted). IfSome c.answer_ready.new.answers (AreAnswersOf d (seen_in l) kept)) c.deref.ensures.value (c.answer_ready.ensures.ready kept was) in
-    whole_kept d c.self.inside.accepted.items kept kept (solver_of c.self.inside.answers) c.answer_ready.new.answers c.self.inside.matcher (limits c.self.invariant.0) c.self.invariant.1 c.self.invariant.2 ready
+    let accepted = c.self.inside.accepted.items in
+    let left : c.self.inside.ready ≡ true → AreAnswersOf (seen_in accepted) kept c.answer.new.answers = λ is.
+    subst (λ (l : List Accepted). AreAnswersOf (seen_in l) kept c.answer.new.answers) c.deref.ensures.value
+    (c.answer.ensures.ready kept (subst (λ (l : List Accepted). AreAnswersOf (seen_in l) kept c.self.inside.answers) (sym c.deref.ensures.value) (c.self.invariant.3 is))) in
+    whole_kept d accepted kept kept (solver_of c.self.inside.ready c.self.inside.answers) c.self.inside.ready c.answer.new.answers c.self.inside.matcher (ap (λ (r : RosterLists). r.declaration) c.answer.ensures.roster)
+    (limits c.self.invariant.0) c.self.invariant.1 c.self.invariant.2 left

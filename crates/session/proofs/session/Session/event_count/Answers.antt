@@ -1,5 +1,4 @@
 use Rattle.std.proofs.Common.{◌^◌, ◌-◌, ◌∙◌, List, ap, sym, min, arith}
-use Rattle.decl.specs.Declaration.{declaration_of}
 use Rattle.traces.specs.declared.accepted.Accepted.{Accepted}
 use Rattle.traces.specs.Traces.{event_count}
 use Rattle.traces.specs.Held.{seen_in}
@@ -11,7 +10,7 @@ use Rattle.session.proofs.session.Session.event_count.Goals as goal
 pub returns : goal.returns
 returns c =
     let inside = c.self.inside in
-    let few = accepted_few (declaration_of inside.decl) inside.accepted.items inside.kept.items (solver_of inside.answers) (limits c.self.invariant.0) in
+    let few = accepted_few inside.answers.graph.roster.declaration inside.accepted.items inside.kept.items (solver_of inside.ready inside.answers) (limits c.self.invariant.0) in
     c.event_count.ensures
     ∙ ap (λ (l : List Accepted). min (event_count (seen_in l)) (2 ^ 64 - 1)) c.deref.ensures.value
     ∙ least_of_few (event_count (seen_in inside.accepted.items)) (2 ^ 64 - 1) (2 ^ 20) few (omega arith)

@@ -1,5 +1,0 @@
-use Rattle.session.proofs.Naming.{no_name}
-use Rattle.session.proofs.events.event_of.Goals as goal
-
-pub returns-in-None-clause-none : goal.returns-in-None-clause-none
-returns-in-None-clause-none c = no_name _ _ c.events.ensures.lawful c.in-None.ensures
