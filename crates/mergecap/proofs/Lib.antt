@@ -1,6 +1,6 @@
 mod Links
 mod OneOrder
-mod Orders
+pub mod Orders
 mod ReadBack
 mod Records
 mod Worked

@@ -1,0 +1,4 @@
+mod ShortPackets
+mod AllPackets
+mod Adding
+mod Merges
