@@ -1,5 +1,5 @@
 -- From the parts of a session to what is said of it.
-use Rattle.std.proofs.Common.{◌≡◌, inl, inr, ℕ, ◌<◌, ◌≤◌, List, [], ◌++◌, length, take, Option, Some, codes, sym, ◌∙◌, subst}
+use Rattle.std.proofs.Common.{◌≡◌, inl, inr, ℕ, ◌<◌, ◌≤◌, List, [], ◌++◌, length, take, Some, codes, sym, subst}
 use Rattle.std.specs.List.{concat}
 use Rattle.ports.specs.Content.{Appends, AppendsPrefix, SourceTold, SinkTold}
 use Rattle.ports.specs.Files.{Content, FilesTold, Keeps}
@@ -14,7 +14,7 @@ use Rattle.script.specs.Script.{Devices, devices, OfScript, Replied, IsTaken, Is
 use Rattle.script.proofs.Replies.{counted_earlier}
 use Rattle.script.proofs.Places.{of_script}
 use Rattle.commands.specs.Printing.{Closes, Prints}
-use Rattle.commands.specs.Sessions.{IsDeclaredAt, IsUndeclared, TellsUndeclared, ClosesScript, declaration_line, TellsSession, LacksMemory, Conducted}
+use Rattle.commands.specs.Sessions.{IsDeclaredAt, IsUndeclared, TellsUndeclared, ClosesScript, TellsSession, LacksMemory, Conducted}
 use Rattle.commands.specs.declared.declaration.Undeclared.{Undeclared}
 use Rattle.commands.specs.declared.declaration.Undeclared.TheVariants as causes
 use Rattle.commands.specs.declared.status.Status.{Status}

@@ -1,5 +1,5 @@
 -- The words of each form.
-use Rattle.std.proofs.Common.{◌≡◌, ℕ, ◌<◌, ◌≤◌, ◌^◌, List, [], ◌∷◌, length, get_or, Some, slice_get, slice_index_or, codes, refl, sym, ◌∙◌, ap, subst, arith}
+use Rattle.std.proofs.Common.{◌≡◌, ℕ, ◌<◌, ◌^◌, List, [], ◌∷◌, length, get_or, Some, slice_get, slice_index_or, codes, refl, sym, ◌∙◌, ap, subst, arith}
 use Rattle.atto.specs.Decimal.{decimal_of}
 use Rattle.atto.specs.Number.{IsFault}
 use Rattle.atto.specs.declared.text.NumFault.{NumFault}
@@ -8,12 +8,13 @@ use Rattle.atto.proofs.OneSpelling.{decimal_of_injective}
 use Rattle.ports.specs.Content.{SinkTold}
 use Rattle.ports.specs.Files.{FilesTold}
 use Rattle.script.specs.Script.{Devices}
-use Rattle.commands.specs.Run.{obey_words, solve_words, ends_words, verify_words, session_words, trial_words, widen_words, judge_words, IsNoNumber, IsNoCommand}
+use Rattle.commands.specs.Run.{obey_words, solve_words, ends_words, verify_words, session_words, trial_words, widen_words, judge_words, mergecap_words, IsNoNumber, IsNoCommand}
 use Rattle.commands.specs.Printing.{Prints}
 use Rattle.commands.specs.Obey.{Obeyed}
 use Rattle.commands.specs.Solve.{Solved}
 use Rattle.commands.specs.Intervals.{IntervalAnswered}
 use Rattle.commands.specs.Verify.{Verified}
+use Rattle.commands.specs.MergedCapture.{MergedAt}
 use Rattle.commands.specs.Sessions.{Conducted}
 use Rattle.commands.specs.Widening.{WideningFound, WideningJudged}
 use Rattle.commands.specs.Trials.{Tried}
@@ -98,6 +99,16 @@ widen_two ws problem is = ap length is
 pub judge_three : (ws : List (List ℕ)) (problem widening : List ℕ) → ws ≡ judge_words problem widening → length ws ≡ 3
 judge_three ws problem widening is = ap length is
 
+-- two words, the first of which is `mergecap`
+pub is_mergecap : (ws : List (List ℕ)) (a : List ℕ) → length ws ≡ 2 → slice_get ws 0 ≡ Some a → a ≡ codes "mergecap" → (decl : List ℕ) × (ws ≡ mergecap_words decl)
+is_mergecap [] a long e is = absurd (omega (arith, long))
+is_mergecap (x ∷ []) a long e is = absurd (omega (arith, long))
+is_mergecap (x ∷ y ∷ []) a long e is = (y, cc)
+is_mergecap (x ∷ y ∷ z ∷ ws) a long e is = absurd (omega (arith, long))
+
+pub mergecap_two : (ws : List (List ℕ)) (decl : List ℕ) → ws ≡ mergecap_words decl → length ws ≡ 2
+mergecap_two ws decl is = ap length is
+
 -- words have one length
 pub other_length : (ws : List (List ℕ)) (m n : ℕ) → length ws ≡ m → length ws ≡ n → (m ≡ n → ⊥) → ⊥
 other_length ws m n a b differ = differ (sym a ∙ b)
@@ -143,6 +154,30 @@ pub trial_or_widen : (ws : List (List ℕ)) (n : ℕ) (problem : List ℕ) → w
 trial_or_widen ws n problem a b =
     let same = first_word_one ws (trial_words n) (widen_words problem) (codes "trial") (codes "widen") a b refl refl in
     let letter : 116 ≡ 119 = ap (λ (w : List ℕ). get_or w 0 0) same in
+    omega (arith, letter)
+
+pub solve_or_mergecap : (ws : List (List ℕ)) (problem : List ℕ) (decl : List ℕ) → ws ≡ solve_words problem → ws ≡ mergecap_words decl → ⊥
+solve_or_mergecap ws problem decl a b =
+    let same = first_word_one ws (solve_words problem) (mergecap_words decl) (codes "solve") (codes "mergecap") a b refl refl in
+    let letter : 115 ≡ 109 = ap (λ (w : List ℕ). get_or w 0 0) same in
+    omega (arith, letter)
+
+pub session_or_mergecap : (ws : List (List ℕ)) (file : List ℕ) (decl : List ℕ) → ws ≡ session_words file → ws ≡ mergecap_words decl → ⊥
+session_or_mergecap ws file decl a b =
+    let same = first_word_one ws (session_words file) (mergecap_words decl) (codes "session") (codes "mergecap") a b refl refl in
+    let letter : 115 ≡ 109 = ap (λ (w : List ℕ). get_or w 0 0) same in
+    omega (arith, letter)
+
+pub widen_or_mergecap : (ws : List (List ℕ)) (problem : List ℕ) (decl : List ℕ) → ws ≡ widen_words problem → ws ≡ mergecap_words decl → ⊥
+widen_or_mergecap ws problem decl a b =
+    let same = first_word_one ws (widen_words problem) (mergecap_words decl) (codes "widen") (codes "mergecap") a b refl refl in
+    let letter : 119 ≡ 109 = ap (λ (w : List ℕ). get_or w 0 0) same in
+    omega (arith, letter)
+
+pub trial_or_mergecap : (ws : List (List ℕ)) (n : ℕ) (decl : List ℕ) → ws ≡ trial_words n → ws ≡ mergecap_words decl → ⊥
+trial_or_mergecap ws n decl a b =
+    let same = first_word_one ws (trial_words n) (mergecap_words decl) (codes "trial") (codes "mergecap") a b refl refl in
+    let letter : 116 ≡ 109 = ap (λ (w : List ℕ). get_or w 0 0) same in
     omega (arith, letter)
 
 pub obey_or_judge : (ws : List (List ℕ)) (problem exec problem' widening : List ℕ) → ws ≡ obey_words problem exec → ws ≡ judge_words problem' widening → ⊥
@@ -207,6 +242,11 @@ pub session_by : (ws : List (List ℕ)) (a decl : List ℕ) (old new : Devices) 
     → Conducted a old new result → Conducted decl old new result
 session_by ws a decl old new result e is said = subst (λ (v : List ℕ). Conducted v old new result) (word_is ws (session_words decl) 1 a decl e is refl) said
 
+-- what `mergecap` says of the second word
+pub mergecap_by : (ws : List (List ℕ)) (a decl : List ℕ) (old new : Devices) (out out' : SinkTold) (result : Status) → slice_get ws 1 ≡ Some a → ws ≡ mergecap_words decl
+    → Prints (MergedAt a old new) out out' result → Prints (MergedAt decl old new) out out' result
+mergecap_by ws a decl old new out out' result e is said = subst (λ (v : List ℕ). Prints (MergedAt v old new) out out' result) (word_is ws (mergecap_words decl) 1 a decl e is refl) said
+
 -- what `widen` says of the second word
 pub widen_by : (ws : List (List ℕ)) (a problem : List ℕ) (files files' : FilesTold) (out out' : SinkTold) (result : Status) → slice_get ws 1 ≡ Some a → ws ≡ widen_words problem
     → Prints (WideningFound a files files') out out' result → Prints (WideningFound problem files files') out out' result
@@ -264,4 +304,5 @@ module _ (ws : List (List ℕ)) (b : List ℕ) (long : length ws ≡ 2) (first :
     trial = λ n below is. none n below (word_is ws (trial_words n) 1 b (decimal_of n) second is refl);
     widen = λ problem is. other_word (codes "widen") (widen_words problem) refl (λ e. let same : 116 ≡ 119 = ap (λ (w : List ℕ). slice_index_or w 0 0) e in omega (arith, same)) is;
     judge = λ problem widening is. other_length ws 2 3 long (judge_three ws problem widening is) (λ e. omega (arith, e));
+    mergecap = λ decl is. other_word (codes "mergecap") (mergecap_words decl) refl (λ e. let same : 116 ≡ 109 = ap (λ (w : List ℕ). slice_index_or w 0 0) e in omega (arith, same)) is;
   }

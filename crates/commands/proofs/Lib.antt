@@ -10,3 +10,6 @@ pub mod Verifying
 pub mod Declaring
 pub mod Conducting
 pub mod Widenings
+pub mod OneText
+pub mod Completing
+mod MergedScripts

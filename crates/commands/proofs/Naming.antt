@@ -2,7 +2,7 @@
 use Rattle.std.proofs.Common.{ℕ, ℤ, inl, inr, List}
 use Rattle.problem_model.specs.declared.items.Bound.{Bound}
 use Rattle.problem_model.specs.Problem.{ProblemLists, IsProblem}
-use Rattle.problem_model.specs.Bounds.{Constraint, Declares, Times}
+use Rattle.problem_model.specs.Bounds.{Times}
 use Rattle.problem_model.specs.ShortList.{IsFirstBroken}
 use Rattle.problem.specs.Listing.{listing_of}
 use Rattle.cert.specs.declared.certificate.Cert.{Cert}

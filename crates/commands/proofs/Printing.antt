@@ -1,5 +1,5 @@
 -- From what the parts of a run print to what is said of a command.
-use Rattle.std.proofs.Common.{◌≡◌, inl, inr, ℕ, List, Result, Ok, Err, refl, sym, subst, codes}
+use Rattle.std.proofs.Common.{◌≡◌, inl, inr, ℕ, List, Ok, Err, refl, sym, subst, codes}
 use Rattle.ports.specs.Content.{SinkTold, Writes}
 use Rattle.ports.specs.Files.{FilesTold, HasBytes}
 use Rattle.commands.specs.Printing.{Closes, IsOnly, Prints}

@@ -1,5 +1,5 @@
 -- From the texts in the files to what is said of the files.
-use Rattle.std.proofs.Common.{◌≡◌, inl, inr, ℕ, ◌≤◌, List, length, Option, Some, None, Bool, false, Result, Ok, Err, sym, subst, arith}
+use Rattle.std.proofs.Common.{◌≡◌, ℕ, ◌≤◌, List, length, Some, None, Bool, false, Result, Ok, Err, sym, subst, arith}
 use Rattle.std.specs.Prelude.{ℤ, IfOk, IfErr}
 use Rattle.std.proofs.lemmas.Grind.{common_steps}
 use Rattle.ports.specs.Files.{Content, FilesTold, HasBytes, IsFront}

@@ -1,5 +1,5 @@
 -- From the problem in a file to what `solve` and `ends` say of it.
-use Rattle.std.proofs.Common.{◌≡◌, ◌⊎◌, inl, inr, ℕ, List, refl, codes}
+use Rattle.std.proofs.Common.{◌⊎◌, inl, inr, ℕ, List, refl, codes}
 use Rattle.ports.specs.Content.{SinkTold}
 use Rattle.ports.specs.Files.{FilesTold, HasBytes}
 use Rattle.problem_model.specs.Problem.{ProblemLists}

@@ -10,3 +10,5 @@ pub mod Intervals
 pub mod Verify
 pub mod Sessions
 pub mod Widening
+pub mod Complete
+pub mod MergedCapture

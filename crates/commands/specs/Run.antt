@@ -2,9 +2,9 @@
 use Rattle.std.specs.Prelude.{◌≡◌, ◌<◌, ◌^◌, ◌∷◌, [], ℕ, List, codes}
 use Rattle.atto.specs.Decimal.{decimal_of}
 use Rattle.commands.specs.declared.form.Form.{Form}
-use Rattle.commands.specs.declared.form.Form.TheVariants.{Obey, Solve, Ends, Verify, Session, Trial, Widen, Judge, Unknown}
+use Rattle.commands.specs.declared.form.Form.TheVariants.{Obey, Solve, Ends, Verify, Session, Trial, Widen, Judge, Mergecap, Unknown}
 use Rattle.commands.specs.declared.status.Status.{Status}
-use Rattle.commands.specs.declared.status.Status.TheVariants.{Done, No, Usage, BadDecl, BadProblem, BadExec, BadCert, ReadFault, WriteFault, Memory, ScriptLimit, UnknownEvent}
+use Rattle.commands.specs.declared.status.Status.TheVariants.{Done, No, Usage, BadDecl, BadProblem, BadExec, BadCert, ReadFault, WriteFault, Memory, ScriptLimit, UnknownEvent, NoMerge}
 
 -- the exit status
 abbrev pub code_of : Status → ℕ
@@ -20,6 +20,7 @@ code_of WriteFault = 8
 code_of Memory = 9
 code_of ScriptLimit = 10
 code_of UnknownEvent = 11
+code_of NoMerge = 12
 
 -- ---- the words
 abbrev pub obey_words : List ℕ → List ℕ → List (List ℕ)
@@ -50,9 +51,17 @@ widen_words problem = codes "widen" ∷ problem ∷ []
 abbrev pub judge_words : List ℕ → List ℕ → List (List ℕ)
 judge_words problem widening = codes "judge" ∷ problem ∷ widening ∷ []
 
+abbrev pub mergecap_words : List ℕ → List (List ℕ)
+mergecap_words decl = codes "mergecap" ∷ decl ∷ []
+
 -- the words are of no session
 abbrev pub IsNoSession : List (List ℕ) → Type 0
 IsNoSession ws = (decl : List ℕ) → ws ≡ session_words decl → ⊥
+
+-- they are of no command that reads a script
+pub record IsNoScript (ws : List (List ℕ)) : Type 0 where
+  pub session : IsNoSession ws
+  pub mergecap : (decl : List ℕ) → ws ≡ mergecap_words decl → ⊥
 
 -- the words are of none of the forms
 pub record IsNoCommand (ws : List (List ℕ)) : Type 0 where
@@ -64,6 +73,7 @@ pub record IsNoCommand (ws : List (List ℕ)) : Type 0 where
   pub trial : (n : ℕ) → n < 2 ^ 32 → ws ≡ trial_words n → ⊥
   pub widen : (problem : List ℕ) → ws ≡ widen_words problem → ⊥
   pub judge : (problem widening : List ℕ) → ws ≡ judge_words problem widening → ⊥
+  pub mergecap : (decl : List ℕ) → ws ≡ mergecap_words decl → ⊥
 
 -- the words are of this form
 abbrev pub IsForm : List (List ℕ) → Form → Type 0
@@ -75,8 +85,9 @@ IsForm ws Session = (decl : List ℕ) × (ws ≡ session_words decl)
 IsForm ws (Trial n) = (n < 2 ^ 32) × (ws ≡ trial_words n)
 IsForm ws Widen = (problem : List ℕ) × (ws ≡ widen_words problem)
 IsForm ws Judge = (problem : List ℕ) × (widening : List ℕ) × (ws ≡ judge_words problem widening)
+IsForm ws Mergecap = (decl : List ℕ) × (ws ≡ mergecap_words decl)
 IsForm ws Unknown = IsNoCommand ws
 
 -- what is printed where the words are of none of the forms
 abbrev pub usage_line : List ℕ
-usage_line = codes "usage: tracesync obey PROBLEM EXEC | solve PROBLEM | ends PROBLEM P Q | verify PROBLEM CERT | session DECL | trial N | widen PROBLEM | judge PROBLEM WIDENING\n"
+usage_line = codes "usage: tracesync obey PROBLEM EXEC | solve PROBLEM | ends PROBLEM P Q | verify PROBLEM CERT | session DECL | trial N | widen PROBLEM | judge PROBLEM WIDENING | mergecap DECL\n"

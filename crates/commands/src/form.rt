@@ -25,6 +25,8 @@ pub enum Form {
     Widen,
     /// `judge PROBLEM WIDENING`.
     Judge,
+    /// `mergecap DECL`.
+    Mergecap,
     /// None of the forms.
     Unknown,
 }
@@ -80,6 +82,9 @@ pub fn form_of(words: &Words) -> Form
     }
     if count == 2 && words.word(0) == "trial" {
         return trial_form(words);
+    }
+    if count == 2 && words.word(0) == "mergecap" {
+        return Form::Mergecap;
     }
     Form::Unknown
 }

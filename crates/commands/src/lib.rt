@@ -7,6 +7,7 @@ mod ending;
 mod ends;
 mod form;
 mod judging;
+mod merged;
 mod obey;
 mod print;
 mod program;

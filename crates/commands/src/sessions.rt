@@ -14,8 +14,8 @@ use script::{Ended, answer_script};
 use std::alloc::Global;
 use std::sync::ledger::Ledger;
 
-// Prints why there is no declaration, and answers the status.
-fn refuse<O: Sink>(undeclared: Undeclared, out: &mut O) -> Status
+/// Prints why there is no declaration, and answers the status.
+pub fn refuse<O: Sink>(undeclared: Undeclared, out: &mut O) -> Status
     ensures { Prints (TellsUndeclared undeclared) (O.told out.old) (O.told out.new) result }
 {
     match undeclared {

@@ -29,6 +29,9 @@ pub enum Status {
     ScriptLimit,
     /// The problem has no event of a name in the words.
     UnknownEvent,
+    /// The packets of a script are not merged: a line is refused, or they are too many, or no execution exists, or their link
+    /// types differ, or a time is too late.
+    NoMerge,
 }
 
 impl Status {
@@ -49,6 +52,7 @@ impl Status {
             Status::Memory => 9,
             Status::ScriptLimit => 10,
             Status::UnknownEvent => 11,
+            Status::NoMerge => 12,
         }
     }
 }

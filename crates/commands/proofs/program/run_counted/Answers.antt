@@ -1,6 +1,8 @@
 use Rattle.std.proofs.Common.{arith, refl}
 use Rattle.script.specs.Script.{devices}
-use Rattle.commands.proofs.Forms.{obey_by, solve_by, ends_by, verify_by, session_by, trial_by, widen_by, judge_by, other_length, obey_or_verify, solve_or_session, solve_or_trial, session_or_trial, solve_or_widen, session_or_widen, trial_or_widen, obey_or_judge, verify_or_judge, obey_three, solve_two, ends_four, verify_three, session_two, trial_two, widen_two, judge_three}
+use Rattle.merge_script.specs.Turns.{reads}
+use Rattle.commands.proofs.Forms.{obey_by, solve_by, ends_by, verify_by, session_by, trial_by, widen_by, judge_by, mergecap_by, mergecap_two, solve_or_mergecap, session_or_mergecap, widen_or_mergecap, trial_or_mergecap, other_length, obey_or_verify, solve_or_session, solve_or_trial, session_or_trial, solve_or_widen, session_or_widen, trial_or_widen, obey_or_judge, verify_or_judge, obey_three, solve_two, ends_four, verify_three, session_two, trial_two, widen_two, judge_three}
+use Rattle.commands.proofs.Completing.{obey_answered, solve_answered, ends_answered, verify_answered, session_answered, trial_answered, widen_answered, judge_answered, mergecap_answered}
 use Rattle.commands.proofs.program.run_counted.Goals as goal
 
 pub returns-in-Obey-clause-obey : goal.returns-in-Obey-clause-obey
@@ -120,7 +122,7 @@ pub returns-in-Session-clause-usage : goal.returns-in-Session-clause-usage
 returns-in-Session-clause-usage g c = λ none. absurd (none.session _ c.in-Session.ensures.1)
 
 pub returns-in-Session-clause-input : goal.returns-in-Session-clause-input
-returns-in-Session-clause-input g c = λ none. absurd (none _ c.in-Session.ensures.1)
+returns-in-Session-clause-input g c = λ none. absurd (none.session _ c.in-Session.ensures.1)
 
 pub returns-in-Obey-clause-input : goal.returns-in-Obey-clause-input
 returns-in-Obey-clause-input g c = λ none. refl
@@ -338,3 +340,127 @@ returns-in-Trial-clause-widen g c = λ problem is. absurd (trial_or_widen c.args
 
 pub returns-in-Trial-clause-judge : goal.returns-in-Trial-clause-judge
 returns-in-Trial-clause-judge g c = λ problem widening is. absurd (other_length c.args.words.now 2 3 (trial_two c.args.words.now c.in-Trial.number c.in-Trial.ensures.1) (judge_three c.args.words.now problem widening is) (λ e. omega (arith, e)))
+
+pub returns-in-Obey-clause-complete : goal.returns-in-Obey-clause-complete
+returns-in-Obey-clause-complete g c = λ lawful none. let is = c.in-Obey.ensures.2 in obey_answered
+    (devices (g.F.Files.told c.args.files.now) (g.I.Source.told c.args.input.now) (g.O.Sink.told c.args.out.now))
+    (devices (g.F.Files.told c.obey.new.files) (g.I.Source.told c.args.input.now) (g.O.Sink.told c.obey.new.out))
+    none _ _ _ (lawful.obey _ _ is) (returns-in-Obey-clause-obey g c _ _ is)
+
+pub returns-in-Solve-clause-complete : goal.returns-in-Solve-clause-complete
+returns-in-Solve-clause-complete g c = λ lawful none. let is = c.in-Solve.ensures.1 in solve_answered
+    (devices (g.F.Files.told c.args.files.now) (g.I.Source.told c.args.input.now) (g.O.Sink.told c.args.out.now))
+    (devices (g.F.Files.told c.solve.new.files) (g.I.Source.told c.args.input.now) (g.O.Sink.told c.solve.new.out))
+    none _ _ (lawful.solve _ is) (returns-in-Solve-clause-solve g c _ is)
+
+pub returns-in-Ends-clause-complete : goal.returns-in-Ends-clause-complete
+returns-in-Ends-clause-complete g c = λ lawful none. let is = c.in-Ends.ensures.3 in ends_answered
+    (devices (g.F.Files.told c.args.files.now) (g.I.Source.told c.args.input.now) (g.O.Sink.told c.args.out.now))
+    (devices (g.F.Files.told c.ends.new.files) (g.I.Source.told c.args.input.now) (g.O.Sink.told c.ends.new.out))
+    none _ _ _ _ (lawful.ends _ _ _ is) (returns-in-Ends-clause-ends g c _ _ _ is)
+
+pub returns-in-Verify-clause-complete : goal.returns-in-Verify-clause-complete
+returns-in-Verify-clause-complete g c = λ lawful none. let is = c.in-Verify.ensures.2 in verify_answered
+    (devices (g.F.Files.told c.args.files.now) (g.I.Source.told c.args.input.now) (g.O.Sink.told c.args.out.now))
+    (devices (g.F.Files.told c.verify.new.files) (g.I.Source.told c.args.input.now) (g.O.Sink.told c.verify.new.out))
+    none _ _ _ (lawful.verify _ _ is) (returns-in-Verify-clause-verify g c _ _ is)
+
+pub returns-in-Session-clause-complete : goal.returns-in-Session-clause-complete
+returns-in-Session-clause-complete g c = λ lawful none. let is = c.in-Session.ensures.1 in session_answered
+    (devices (g.F.Files.told c.args.files.now) (g.I.Source.told c.args.input.now) (g.O.Sink.told c.args.out.now))
+    (devices (g.F.Files.told c.session.new.files) (g.I.Source.told c.session.new.input) (g.O.Sink.told c.session.new.out))
+    none _ _ (lawful.session _ is) (returns-in-Session-clause-session g c _ is)
+
+pub returns-in-Trial-clause-complete : goal.returns-in-Trial-clause-complete
+returns-in-Trial-clause-complete g c = λ lawful none. trial_answered
+    (devices (g.F.Files.told c.args.files.now) (g.I.Source.told c.args.input.now) (g.O.Sink.told c.args.out.now))
+    (devices (g.F.Files.told c.args.files.now) (g.I.Source.told c.args.input.now) (g.O.Sink.told c.trial.new.out))
+    none c.in-Trial.number _ c.trial.ensures
+
+pub returns-in-Widen-clause-complete : goal.returns-in-Widen-clause-complete
+returns-in-Widen-clause-complete g c = λ lawful none. let is = c.in-Widen.ensures.1 in widen_answered
+    (devices (g.F.Files.told c.args.files.now) (g.I.Source.told c.args.input.now) (g.O.Sink.told c.args.out.now))
+    (devices (g.F.Files.told c.widen.new.files) (g.I.Source.told c.args.input.now) (g.O.Sink.told c.widen.new.out))
+    none _ _ (lawful.widen _ is) (returns-in-Widen-clause-widen g c _ is)
+
+pub returns-in-Judge-clause-complete : goal.returns-in-Judge-clause-complete
+returns-in-Judge-clause-complete g c = λ lawful none. let is = c.in-Judge.ensures.2 in judge_answered
+    (devices (g.F.Files.told c.args.files.now) (g.I.Source.told c.args.input.now) (g.O.Sink.told c.args.out.now))
+    (devices (g.F.Files.told c.judge.new.files) (g.I.Source.told c.args.input.now) (g.O.Sink.told c.judge.new.out))
+    none _ _ _ (lawful.judge _ _ is) (returns-in-Judge-clause-judge g c _ _ is)
+
+pub returns-clause-complete : goal.returns-clause-complete
+returns-clause-complete g c = λ lawful none. absurd (lawful.command c.in-Unknown.ensures)
+
+pub returns-in-Obey-clause-mergecap : goal.returns-in-Obey-clause-mergecap
+returns-in-Obey-clause-mergecap g c = λ decl is. absurd (other_length c.args.words.now 3 2 (obey_three c.args.words.now _ _ c.in-Obey.ensures.2) (mergecap_two c.args.words.now decl is) (λ e. omega (arith, e)))
+
+pub returns-in-Verify-clause-mergecap : goal.returns-in-Verify-clause-mergecap
+returns-in-Verify-clause-mergecap g c = λ decl is. absurd (other_length c.args.words.now 3 2 (verify_three c.args.words.now _ _ c.in-Verify.ensures.2) (mergecap_two c.args.words.now decl is) (λ e. omega (arith, e)))
+
+pub returns-in-Judge-clause-mergecap : goal.returns-in-Judge-clause-mergecap
+returns-in-Judge-clause-mergecap g c = λ decl is. absurd (other_length c.args.words.now 3 2 (judge_three c.args.words.now _ _ c.in-Judge.ensures.2) (mergecap_two c.args.words.now decl is) (λ e. omega (arith, e)))
+
+pub returns-in-Ends-clause-mergecap : goal.returns-in-Ends-clause-mergecap
+returns-in-Ends-clause-mergecap g c = λ decl is. absurd (other_length c.args.words.now 4 2 (ends_four c.args.words.now _ _ _ c.in-Ends.ensures.3) (mergecap_two c.args.words.now decl is) (λ e. omega (arith, e)))
+
+pub returns-in-Solve-clause-mergecap : goal.returns-in-Solve-clause-mergecap
+returns-in-Solve-clause-mergecap g c = λ decl is. absurd (solve_or_mergecap c.args.words.now _ decl c.in-Solve.ensures.1 is)
+
+pub returns-in-Session-clause-mergecap : goal.returns-in-Session-clause-mergecap
+returns-in-Session-clause-mergecap g c = λ decl is. absurd (session_or_mergecap c.args.words.now _ decl c.in-Session.ensures.1 is)
+
+pub returns-in-Widen-clause-mergecap : goal.returns-in-Widen-clause-mergecap
+returns-in-Widen-clause-mergecap g c = λ decl is. absurd (widen_or_mergecap c.args.words.now _ decl c.in-Widen.ensures.1 is)
+
+pub returns-in-Trial-clause-mergecap : goal.returns-in-Trial-clause-mergecap
+returns-in-Trial-clause-mergecap g c = λ decl is. absurd (trial_or_mergecap c.args.words.now c.in-Trial.number decl c.in-Trial.ensures.1 is)
+
+pub returns-clause-mergecap : goal.returns-clause-mergecap
+returns-clause-mergecap g c = λ decl is. absurd (c.in-Unknown.ensures.mergecap decl is)
+
+pub returns-in-Mergecap-clause-obey : goal.returns-in-Mergecap-clause-obey
+returns-in-Mergecap-clause-obey g c = λ problem exec is. absurd (other_length c.args.words.now 2 3 (mergecap_two c.args.words.now _ c.in-Mergecap.ensures.1) (obey_three c.args.words.now problem exec is) (λ e. omega (arith, e)))
+
+pub returns-in-Mergecap-clause-verify : goal.returns-in-Mergecap-clause-verify
+returns-in-Mergecap-clause-verify g c = λ problem cert is. absurd (other_length c.args.words.now 2 3 (mergecap_two c.args.words.now _ c.in-Mergecap.ensures.1) (verify_three c.args.words.now problem cert is) (λ e. omega (arith, e)))
+
+pub returns-in-Mergecap-clause-judge : goal.returns-in-Mergecap-clause-judge
+returns-in-Mergecap-clause-judge g c = λ problem widening is. absurd (other_length c.args.words.now 2 3 (mergecap_two c.args.words.now _ c.in-Mergecap.ensures.1) (judge_three c.args.words.now problem widening is) (λ e. omega (arith, e)))
+
+pub returns-in-Mergecap-clause-ends : goal.returns-in-Mergecap-clause-ends
+returns-in-Mergecap-clause-ends g c = λ problem first second is. absurd (other_length c.args.words.now 2 4 (mergecap_two c.args.words.now _ c.in-Mergecap.ensures.1) (ends_four c.args.words.now problem first second is) (λ e. omega (arith, e)))
+
+pub returns-in-Mergecap-clause-solve : goal.returns-in-Mergecap-clause-solve
+returns-in-Mergecap-clause-solve g c = λ problem is. absurd (solve_or_mergecap c.args.words.now problem _ is c.in-Mergecap.ensures.1)
+
+pub returns-in-Mergecap-clause-session : goal.returns-in-Mergecap-clause-session
+returns-in-Mergecap-clause-session g c = λ decl is. absurd (session_or_mergecap c.args.words.now decl _ is c.in-Mergecap.ensures.1)
+
+pub returns-in-Mergecap-clause-widen : goal.returns-in-Mergecap-clause-widen
+returns-in-Mergecap-clause-widen g c = λ problem is. absurd (widen_or_mergecap c.args.words.now problem _ is c.in-Mergecap.ensures.1)
+
+pub returns-in-Mergecap-clause-trial : goal.returns-in-Mergecap-clause-trial
+returns-in-Mergecap-clause-trial g c = λ n below is. absurd (trial_or_mergecap c.args.words.now n _ is c.in-Mergecap.ensures.1)
+
+pub returns-in-Mergecap-clause-trial_unread : goal.returns-in-Mergecap-clause-trial_unread
+returns-in-Mergecap-clause-trial_unread g c = λ n below is. absurd (trial_or_mergecap c.args.words.now n _ is c.in-Mergecap.ensures.1)
+
+pub returns-in-Mergecap-clause-usage : goal.returns-in-Mergecap-clause-usage
+returns-in-Mergecap-clause-usage g c = λ none. absurd (none.mergecap _ c.in-Mergecap.ensures.1)
+
+pub returns-in-Mergecap-clause-unread : goal.returns-in-Mergecap-clause-unread
+returns-in-Mergecap-clause-unread g c = λ none. absurd (none.mergecap _ c.in-Mergecap.ensures.1)
+
+pub returns-in-Mergecap-clause-input : goal.returns-in-Mergecap-clause-input
+returns-in-Mergecap-clause-input g c = λ none. absurd (none.mergecap _ c.in-Mergecap.ensures.1)
+
+pub returns-in-Mergecap-clause-mergecap : goal.returns-in-Mergecap-clause-mergecap
+returns-in-Mergecap-clause-mergecap g c = λ decl is. mergecap_by c.args.words.now _ decl
+    (reads (g.F.Files.told c.args.files.now) (g.I.Source.told c.args.input.now)) (reads (g.F.Files.told c.mergecap.new.files) (g.I.Source.told c.mergecap.new.input)) (g.O.Sink.told c.args.out.now) (g.O.Sink.told c.mergecap.new.out)
+    _ c.word-in-Mergecap.ensures is c.mergecap.ensures.merged
+
+pub returns-in-Mergecap-clause-complete : goal.returns-in-Mergecap-clause-complete
+returns-in-Mergecap-clause-complete g c = λ lawful none. let is = c.in-Mergecap.ensures.1 in mergecap_answered
+    (g.F.Files.told c.args.files.now) (g.F.Files.told c.mergecap.new.files) (g.I.Source.told c.args.input.now) (g.I.Source.told c.mergecap.new.input) (g.O.Sink.told c.args.out.now) (g.O.Sink.told c.mergecap.new.out)
+    none.files none.input none.out _ _ (lawful.mergecap _ is) (returns-in-Mergecap-clause-mergecap g c _ is)

@@ -1,5 +1,5 @@
 use Rattle.std.proofs.Common.{◌<◌, sym, ◌∙◌, ap, subst}
-use Rattle.std.specs.Prelude.{All, ℕ, length}
+use Rattle.std.specs.Prelude.{All, length}
 use Rattle.difference_bounds.specs.Executions.{at}
 use Rattle.cert.specs.Listed.{listed_run}
 use Rattle.problem.specs.Listing.{listing_of, listed_nodes}

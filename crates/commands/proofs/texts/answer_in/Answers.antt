@@ -1,4 +1,3 @@
-use Rattle.cert.specs.declared.certificate.Cert.{Cert}
 use Rattle.cert_check.specs.CheckedText.{IsCheckOf}
 use Rattle.commands.specs.Texts.{SpellsCert, RefusesCert}
 use Rattle.commands.proofs.Reading.{cert_in, err_in, unread_certificate}

@@ -1,6 +1,5 @@
-use Rattle.std.proofs.Common.{◌≡◌, ◌++◌, ◌∙◌, ℕ, List, ap}
+use Rattle.std.proofs.Common.{◌++◌, ◌∙◌, ℕ, List, ap}
 use Rattle.ports.proofs.Writing.{writes_as, writes_then, writes_front, writes_failed}
-use Rattle.commands.specs.Trials.{counts_line}
 use Rattle.commands.proofs.trials.write_outcome.Goals as goal
 
 pub returns-in_err-write_whole : goal.returns-in_err-write_whole

@@ -1,0 +1,99 @@
+-- A merge since the declaration was read, and what is printed of it.
+use Rattle.std.proofs.Common.{inl, inr, ℕ, List, [], ◌∷◌, ◌++◌, take, refl, subst}
+use Rattle.ports.specs.Content.{SourceTold, SinkTold}
+use Rattle.ports.specs.Files.{Content, FilesTold, Keeps}
+use Rattle.decl.specs.Declaration.{Declaration}
+use Rattle.line_reader.specs.Lines.{lines_of, whole_lines, most_taken}
+use Rattle.mergecap.specs.MergedCapture.{Timed, merged_capture}
+use Rattle.trace_event.specs.Seen.{Seen}
+use Rattle.session.specs.Reply.{State}
+use Rattle.session.specs.Sessions.{start}
+use Rattle.script.specs.Script.{OfScript}
+use Rattle.script.proofs.Replies.{counted_earlier}
+use Rattle.script.proofs.Places.{of_script}
+use Rattle.merge_script.specs.declared.unmerged.Unmerged.{Unmerged}
+use Rattle.merge_script.specs.declared.unmerged.Unmerged.TheVariants as whys
+use Rattle.merge_script.specs.Gathered.{AreAdded, AddsAll, AddsScript, MergeReply, StopsAt, TakesPart, IsTooLong}
+use Rattle.merge_script.specs.Turns.{reads}
+use Rattle.merge_script.specs.Merged.{IsMergeOf, LacksMerge, OfAllAdded, MergesTo, MergesNot}
+use Rattle.commands.specs.Printing.{IsOnly, Prints}
+use Rattle.commands.specs.Sessions.{IsDeclaredAt, IsUndeclared, TellsUndeclared}
+use Rattle.commands.specs.MergedCapture.{MergedAt, TellsUnmerged}
+use Rattle.commands.specs.declared.declaration.Undeclared.{Undeclared}
+use Rattle.commands.specs.declared.status.Status.{Status}
+use Rattle.commands.specs.declared.status.Status.TheVariants as statuses
+use Rattle.commands.proofs.Printing.{prints_as}
+
+module _ (d : Declaration) (files begun after : FilesTold) (input input' : SourceTold) (keeps : Keeps files begun) where
+  adds_since : (lines : List (List ℕ)) (s : State) → AddsAll d (reads begun input) (reads after input') lines s → AddsAll d (reads files input) (reads after input') lines s
+  adds_since lines s a = record {
+    founds = a.founds;
+    added = subst (λ (c : Content). AreAdded d c (start d) lines a.founds s) keeps.same a.added;
+    counted = counted_earlier a.founds files begun after keeps a.counted;
+  }
+
+  script_since : (s : State) (script : List ℕ) → AddsScript d (reads begun input) (reads after input') s script → AddsScript d (reads files input) (reads after input') s script
+  script_since s script a = record { short = a.short; none_left = a.none_left; adds = adds_since (lines_of script) s a.adds }
+
+  stops_since : (why : Unmerged) (script : List ℕ) → StopsAt d (reads begun input) (reads after input') why script → StopsAt d (reads files input) (reads after input') why script
+  stops_since why script a = record {
+    lines = a.lines;
+    line = a.line;
+    more = a.more;
+    are = a.are;
+    founds = a.founds;
+    state = a.state;
+    added = subst (λ (c : Content). AreAdded d c (start d) a.lines a.founds a.state) keeps.same a.added;
+    found = a.found;
+    text = a.text;
+    then = a.then;
+    reply = subst (λ (c : Content). MergeReply d c a.state a.line a.found a.text a.then) keeps.same a.reply;
+    last = a.last;
+    counted = counted_earlier (a.founds ++ a.found ∷ []) files begun after keeps a.counted;
+  }
+
+  part_since : (script : List ℕ) → TakesPart d (reads begun input) (reads after input') script → TakesPart d (reads files input) (reads after input') script
+  part_since script a = record { taken = a.taken; rest = a.rest; is = a.is; left = a.left; short = a.short; state = a.state; adds = adds_since (whole_lines a.taken) a.state a.adds }
+
+  long_since : (script : List ℕ) → IsTooLong d (reads begun input) (reads after input') script → IsTooLong d (reads files input) (reads after input') script
+  long_since script a = record { long = a.long; state = a.state; adds = adds_since (whole_lines (take most_taken script)) a.state a.adds }
+
+  all_since : (Says : List (List Seen) → List Timed → Type 0) → OfScript input.left (OfAllAdded d (reads begun input) (reads after input') Says) → OfScript input.left (OfAllAdded d (reads files input) (reads after input') Says)
+  all_since Says is = of_script input.left (OfAllAdded d (reads begun input) (reads after input') Says) (OfAllAdded d (reads files input) (reads after input') Says)
+      (λ script a. record { state = a.state; adds = script_since a.state script a.adds; all = a.all; are = a.are; says = a.says }) is
+
+  stop_since : (why : Unmerged) → OfScript input.left (StopsAt d (reads begun input) (reads after input') why) → OfScript input.left (StopsAt d (reads files input) (reads after input') why)
+  stop_since why is = of_script input.left (StopsAt d (reads begun input) (reads after input') why) (StopsAt d (reads files input) (reads after input') why) (stops_since why) is
+
+  pub merges_since : (ordered : List Timed) → MergesTo d (reads begun input) (reads after input') ordered → MergesTo d (reads files input) (reads after input') ordered
+  merges_since ordered is = all_since (λ seen all. IsMergeOf d seen all ordered) is
+
+  pub unmerged_since : (why : Unmerged) → MergesNot d (reads begun input) (reads after input') why → MergesNot d (reads files input) (reads after input') why
+  unmerged_since (whys.Refused said) is = stop_since (whys.Refused said) is
+  unmerged_since whys.Size is = stop_since whys.Size is
+  unmerged_since whys.Inconsistent is = all_since (λ seen all. LacksMerge d seen all whys.Inconsistent) is
+  unmerged_since whys.Links is = all_since (λ seen all. LacksMerge d seen all whys.Links) is
+  unmerged_since whys.Range is = all_since (λ seen all. LacksMerge d seen all whys.Range) is
+  unmerged_since whys.ReadFault is =
+      (is.0, of_script input.left (TakesPart d (reads begun input) (reads after input')) (TakesPart d (reads files input) (reads after input')) part_since is.1)
+  unmerged_since whys.Limit is = of_script input.left (IsTooLong d (reads begun input) (reads after input')) (IsTooLong d (reads files input) (reads after input')) long_since is
+  unmerged_since whys.Memory is = tt
+
+  -- ---- what is printed
+  module _ (path : List ℕ) (declared : IsDeclaredAt files.content path d) (out out' : SinkTold) (result : Status) where
+    pub merged_printed : (ordered : List Timed) → MergesTo d (reads begun input) (reads after input') ordered → Prints (IsOnly (merged_capture ordered) statuses.Done) out out' result →
+        Prints (MergedAt path (reads files input) (reads after input')) out out' result
+    merged_printed ordered is prints =
+        prints_as (IsOnly (merged_capture ordered) statuses.Done) (MergedAt path (reads files input) (reads after input')) out out' result
+        (λ status text only. inl (d, declared, inl (ordered, merges_since ordered is, only))) prints
+
+    pub unmerged_printed : (why : Unmerged) → MergesNot d (reads begun input) (reads after input') why → Prints (TellsUnmerged why) out out' result →
+        Prints (MergedAt path (reads files input) (reads after input')) out out' result
+    unmerged_printed why is prints =
+        prints_as (TellsUnmerged why) (MergedAt path (reads files input) (reads after input')) out out' result
+        (λ status text tells. inl (d, declared, inr (why, unmerged_since why is, tells))) prints
+
+pub undeclared_printed : (path : List ℕ) (files begun : FilesTold) (input : SourceTold) (out out' : SinkTold) (result : Status) (u : Undeclared) → IsUndeclared path files begun u → Prints (TellsUndeclared u) out out' result →
+    Prints (MergedAt path (reads files input) (reads begun input)) out out' result
+undeclared_printed path files begun input out out' result u is prints =
+    prints_as (TellsUndeclared u) (MergedAt path (reads files input) (reads begun input)) out out' result (λ status text tells. inr (u, is, refl, tells)) prints

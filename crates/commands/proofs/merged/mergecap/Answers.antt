@@ -1,0 +1,27 @@
+use Rattle.std.proofs.Common.{List, subst}
+use Rattle.mergecap.specs.declared.stored.Stored.{Stored}
+use Rattle.mergecap.specs.MergedCapture.{merged_capture}
+use Rattle.commands.specs.Printing.{IsOnly, Prints}
+use Rattle.commands.specs.declared.status.Status.TheVariants as statuses
+use Rattle.decl.specs.Declaration.{declaration_of}
+use Rattle.mergecap.specs.Packets.{all_timed}
+use Rattle.commands.proofs.MergedScripts.{merged_printed, unmerged_printed, undeclared_printed}
+use Rattle.commands.proofs.merged.mergecap.Goals as goal
+
+pub returns-in-Err-clause-merged : goal.returns-in-Err-clause-merged
+returns-in-Err-clause-merged g c =
+    undeclared_printed c.args.decl.now (g.F.Files.told c.args.files.now) (g.F.Files.told c.decl_in.new.files) (g.I.Source.told c.args.input.now) (g.O.Sink.told c.args.out.now) (g.O.Sink.told c.refuse.new.out)
+    c.refuse.result c.in-Err.undeclared c.in-Err.ensures.err c.refuse.ensures
+
+pub returns-in-Ok-merge_script-clause-merged : goal.returns-in-Ok-merge_script-clause-merged
+returns-in-Ok-merge_script-clause-merged g c =
+    merged_printed (declaration_of c.in-Ok.decl) (g.F.Files.told c.args.files.now) (g.F.Files.told c.decl_in.new.files) (g.F.Files.told c.merge_script.new.files)
+    (g.I.Source.told c.args.input.now) (g.I.Source.told c.merge_script.new.input) c.in-Ok.ensures.keeps c.args.decl.now c.in-Ok.ensures.ok (g.O.Sink.told c.args.out.now) (g.O.Sink.told c.print.new.out)
+    c.print.result (all_timed c.in-Ok-merge_script.ordered.items) c.in-Ok-merge_script.ensures.ok
+    (subst (λ (xs : List Stored). Prints (IsOnly (merged_capture (all_timed xs)) statuses.Done) (g.O.Sink.told c.args.out.now) (g.O.Sink.told c.print.new.out) c.print.result) c.deref.ensures.value c.print.ensures)
+
+pub returns-in-Err-merge_script-clause-merged : goal.returns-in-Err-merge_script-clause-merged
+returns-in-Err-merge_script-clause-merged g c =
+    unmerged_printed (declaration_of c.in-Ok.decl) (g.F.Files.told c.args.files.now) (g.F.Files.told c.decl_in.new.files) (g.F.Files.told c.merge_script.new.files)
+    (g.I.Source.told c.args.input.now) (g.I.Source.told c.merge_script.new.input) c.in-Ok.ensures.keeps c.args.decl.now c.in-Ok.ensures.ok (g.O.Sink.told c.args.out.now) (g.O.Sink.told c.tell.new.out)
+    c.tell.result c.in-Err-merge_script.why c.in-Err-merge_script.ensures.err c.tell.ensures

@@ -1,0 +1,66 @@
+-- When all that the words of a run ask for is lawful, and how the run then ends.
+use Rattle.std.specs.Prelude.{◌≡◌, ◌⊎◌, ◌≤◌, ℕ, ℤ, List, length, Option, IsSomeAnd}
+use Rattle.ports.specs.Content.{Rose}
+use Rattle.ports.specs.Files.{Content}
+use Rattle.line_reader.specs.Lines.{most_taken}
+use Rattle.problem_model.specs.Problem.{ProblemLists}
+use Rattle.problem_model.specs.Nodes.{Reading, AreReadings}
+use Rattle.problem.specs.Line.{HasEvent}
+use Rattle.cert.specs.declared.certificate.Cert.{Cert}
+use Rattle.cert.specs.ReadsExecution.{IsTextOf}
+use Rattle.decl.specs.Declaration.{Declaration}
+use Rattle.decl.specs.Walk.{Declares}
+use Rattle.widen.specs.declared.widening.Widening.{Widening}
+use Rattle.script.specs.Script.{Devices}
+use Rattle.commands.specs.Run.{IsNoCommand, obey_words, solve_words, ends_words, verify_words, session_words, widen_words, judge_words, mergecap_words}
+use Rattle.commands.specs.Texts.{SpellsProblem, SpellsCert}
+use Rattle.commands.specs.Widening.{SpellsWidening}
+use Rattle.commands.specs.declared.status.Status.{Status}
+use Rattle.commands.specs.declared.status.Status.TheVariants.{Done, No, Memory, NoMerge}
+
+-- ---- the files
+-- the files tell that something is at the path, and that its bytes are such
+abbrev pub Holds : Content → List ℕ → (List ℕ → Type 0) → Type 0
+Holds files path P = IsSomeAnd files (λ all. IsSomeAnd (all path) P)
+
+-- the file at the path is the text of a problem of which P holds
+abbrev pub HoldsProblem : Content → List ℕ → (ProblemLists → Type 0) → Type 0
+HoldsProblem files path P = (p : ProblemLists) × Holds files path (SpellsProblem p) × P p
+
+-- the text is that of a value for each node of the problem, whether or not they obey its bounds
+abbrev pub IsExecutionText : ProblemLists → List ℕ → Type 0
+IsExecutionText p text = (readings : List Reading) × (values : List ℤ) × AreReadings p readings × IsTextOf p readings values text
+
+-- the text is that of a certificate of the problem, or of a widening, whether or not it shows what it should
+abbrev pub IsCertText : ProblemLists → List ℕ → Type 0
+IsCertText p text = (c : Cert) × SpellsCert p c text
+
+abbrev pub IsWideningText : ProblemLists → List ℕ → Type 0
+IsWideningText p text = (w : Widening) × SpellsWidening p w text
+
+-- ---- the run
+-- the words are of one of the forms; each file that they name is there and valid; an event that they name is one of the problem; a script
+-- is not too long. A trial names nothing
+pub record IsLawful (ws : List (List ℕ)) (files : Content) (script : Option (List ℕ)) : Type 0 where
+  pub command : IsNoCommand ws → ⊥
+  pub obey : (problem exec : List ℕ) → ws ≡ obey_words problem exec → HoldsProblem files problem (λ p. Holds files exec (IsExecutionText p))
+  pub solve : (problem : List ℕ) → ws ≡ solve_words problem → HoldsProblem files problem (λ p. Unit {0})
+  pub ends : (problem first second : List ℕ) → ws ≡ ends_words problem first second
+      → HoldsProblem files problem (λ p. ((from : ℕ) × HasEvent p from first) × ((to : ℕ) × HasEvent p to second))
+  pub verify : (problem cert : List ℕ) → ws ≡ verify_words problem cert → HoldsProblem files problem (λ p. Holds files cert (IsCertText p))
+  pub session : (decl : List ℕ) → ws ≡ session_words decl
+      → ((d : Declaration) × Holds files decl (λ bytes. Declares bytes d)) × IsSomeAnd script (λ bytes. length bytes ≤ most_taken)
+  pub mergecap : (decl : List ℕ) → ws ≡ mergecap_words decl
+      → ((d : Declaration) × Holds files decl (λ bytes. Declares bytes d)) × IsSomeAnd script (λ bytes. length bytes ≤ most_taken)
+  pub widen : (problem : List ℕ) → ws ≡ widen_words problem → HoldsProblem files problem (λ p. Unit {0})
+  pub judge : (problem widening : List ℕ) → ws ≡ judge_words problem widening → HoldsProblem files problem (λ p. Holds files widening (IsWideningText p))
+
+-- no count of faults rose
+pub record IsFaultless (old new : Devices) : Type 0 where
+  pub files : Rose old.files.faults new.files.faults → ⊥
+  pub input : Rose old.input.faults new.input.faults → ⊥
+  pub out : Rose old.out.faults new.out.faults → ⊥
+
+-- the command was answered, also by a reason why packets are not merged, or memory ran out
+abbrev pub IsAnswered : Status → Type 0
+IsAnswered status = (status ≡ Done) ⊎ (status ≡ No) ⊎ (status ≡ Memory) ⊎ (status ≡ NoMerge)

@@ -1,0 +1,34 @@
+-- What `mergecap` prints and answers.
+use Rattle.std.specs.Prelude.{◌≡◌, ◌⊎◌, ℕ, List, [], ◌∷◌, ◌++◌, codes}
+use Rattle.decl.specs.Declaration.{Declaration}
+use Rattle.mergecap.specs.MergedCapture.{Timed, merged_capture}
+use Rattle.script.specs.Script.{Devices}
+use Rattle.merge_script.specs.declared.unmerged.Unmerged.{Unmerged}
+use Rattle.merge_script.specs.declared.unmerged.Unmerged.TheVariants as causes
+use Rattle.merge_script.specs.Merged.{MergesTo, MergesNot}
+use Rattle.commands.specs.Printing.{IsOnly}
+use Rattle.commands.specs.Sessions.{IsDeclaredAt, IsUndeclared, TellsUndeclared}
+use Rattle.commands.specs.declared.declaration.Undeclared.{Undeclared}
+use Rattle.commands.specs.declared.status.Status.{Status}
+use Rattle.commands.specs.declared.status.Status.TheVariants.{Done, ReadFault, ScriptLimit, NoMerge}
+
+-- what is printed where packets are not merged, and with which status
+abbrev pub TellsUnmerged : Unmerged → Status → List ℕ → Type 0
+TellsUnmerged (causes.Refused said) = IsOnly (said.items ++ 10 ∷ []) NoMerge
+TellsUnmerged causes.Size = IsOnly (codes "size\n") NoMerge
+TellsUnmerged causes.Inconsistent = IsOnly (codes "inconsistent\n") NoMerge
+TellsUnmerged causes.Links = IsOnly (codes "links\n") NoMerge
+TellsUnmerged causes.Range = IsOnly (codes "range\n") NoMerge
+TellsUnmerged causes.ReadFault = IsOnly (codes "read fault\n") ReadFault
+TellsUnmerged causes.Limit = IsOnly (codes "script limit\n") ScriptLimit
+TellsUnmerged causes.Memory = λ status text. ⊥
+
+-- the capture of the merge of all packets of the script, or a line that says why there is none
+abbrev pub MergedOver : Declaration → Devices → Devices → Status → List ℕ → Type 0
+MergedOver d old new status text = ((ordered : List Timed) × MergesTo d old new ordered × IsOnly (merged_capture ordered) Done status text)
+    ⊎ ((why : Unmerged) × MergesNot d old new why × TellsUnmerged why status text)
+
+-- the same over the declaration at the path; where there is none, a line says so, and nothing of the script was read
+abbrev pub MergedAt : List ℕ → Devices → Devices → Status → List ℕ → Type 0
+MergedAt path old new status text = ((d : Declaration) × IsDeclaredAt old.files.content path d × MergedOver d old new status text)
+    ⊎ ((u : Undeclared) × IsUndeclared path old.files new.files u × (new.input ≡ old.input) × TellsUndeclared u status text)
