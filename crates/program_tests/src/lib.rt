@@ -2,7 +2,7 @@
 //!
 //! `problem_commands` has the commands over a problem, `sessions` those over a declaration, `long_sessions` one over a log of
 //! thousands of rows, `verifying` those over a certificate, with its table `verify_cases`, `trials` the trials, `widenings` those
-//! over a widening, `failing_in_turn` has each call of a device fail; `running` is how they are run,
+//! over a widening, `merged_captures` merges, `failing_in_turn` has each call of a device fail; `running` is how they are run,
 //! and `fixtures` has what several of them use.
 #![tactic(auto)]
 
@@ -12,6 +12,8 @@ mod failing_in_turn;
 mod fixtures;
 #[cfg(test)]
 mod long_sessions;
+#[cfg(test)]
+mod merged_captures;
 #[cfg(test)]
 mod problem_commands;
 #[cfg(test)]
