@@ -7,7 +7,8 @@ With no numbers 7, 1000, 1000000 and 4294967295, the greatest. Both must print t
 computes all rows anew, or repairs them; it counts the steps of both. The first table has the least processor time of RUNS runs, 3 if it is
 not set, and the peak memory. The second has, for the first N and some batches, the steps of an addition in both ways, and how long an
 addition takes in a session: the time of a script as far as that batch, less that of one as far as the batch before, by the additions of the
-batch. TRACESYNC names another program than crates/tracesync/out/tracesync, and CXX another compiler than g++.
+batch. TRACESYNC names another program than crates/tracesync/out/tracesync, and CXX another compiler than g++. OTHER names a second tracesync, which
+has its own columns and must print the same text: one whose additions make all rows anew, say.
 """
 import os
 import resource
@@ -17,6 +18,7 @@ import tempfile
 
 BENCH = os.path.dirname(os.path.abspath(__file__))
 PROGRAM = os.environ.get("TRACESYNC", f"{BENCH}/../crates/tracesync/out/tracesync")
+PROGRAMS = [PROGRAM, *filter(None, [os.environ.get("OTHER")])]
 RUNS = int(os.environ.get("RUNS", "3"))
 HOSTS, BATCHES, ROUNDS = 8, 20, 100
 SHOWN = (2, 5, 10, 15, 20)
@@ -38,14 +40,24 @@ def run(words, script=""):
 
 
 def peak_of(words):
-    """The peak memory of a command in KiB, which a process of its own starts, since that of all children is counted."""
+    """The peak memory of a command in KiB. Without /usr/bin/time the peak of python, which starts the command, is counted too: some 14,000 KiB."""
+    if os.access("/usr/bin/time", os.X_OK):
+        return int(subprocess.run(["/usr/bin/time", "-f", "%M", *words], stdout=subprocess.DEVNULL, stderr=subprocess.PIPE, text=True, check=True).stderr.split()[-1])
     told = "import resource, subprocess, sys; subprocess.run(sys.argv[1:], stdout=subprocess.DEVNULL, stderr=subprocess.DEVNULL); "
     told += "print(resource.getrusage(resource.RUSAGE_CHILDREN).ru_maxrss)"
     return int(subprocess.run([sys.executable, "-c", told, *words], capture_output=True, text=True, check=True).stdout)
 
 
+def names():
+    return ["tracesync", "OTHER"][: len(PROGRAMS)]
+
+
+def table_head(cells):
+    print(f"| {' | '.join(cells)} |\n|" + "---:|" * len(cells))
+
+
 def compare(number, theirs):
-    ways = [[PROGRAM, "trial", number], [theirs, "anew", number], [theirs, "kept", number]]
+    ways = [*([it, "trial", number] for it in PROGRAMS), [theirs, "anew", number], [theirs, "kept", number]]
     answers = [run(words) for words in ways]
     if len({it[0] for it in answers}) > 1:
         sys.exit(f"the answers differ on {number}")
@@ -104,8 +116,8 @@ def write_workload(number, folder):
     return scripts
 
 
-def seconds_of(scripts, folder):
-    out, _, taken = run([PROGRAM, "session", f"{folder}/hosts.toml"], "".join("".join(lines) for lines in scripts))
+def seconds_of(program, scripts, folder):
+    out, _, taken = run([program, "session", f"{folder}/hosts.toml"], "".join("".join(lines) for lines in scripts))
     if "refused" in out or "inconsistent" in out:
         sys.exit(f"a session went wrong: {out[:300]!r}")
     return taken
@@ -116,14 +128,14 @@ def show_growth(number, theirs):
     for way in ("anew", "kept"):
         told = run([theirs, way, number])[1].splitlines()
         counts.append([dict(zip(it.split()[::2], map(int, it.split()[1::2]))) for it in told])
-    print("| events | steps of an addition, rows anew | steps of an addition, rows repaired | an addition, ms |\n|---:|---:|---:|---:|")
+    table_head(["events", "steps of an addition, rows anew", "steps of an addition, rows repaired", *(f"an addition of {it}, ms" for it in names())])
     with tempfile.TemporaryDirectory() as folder:
         scripts = write_workload(int(number), folder)
         for shown in SHOWN:
             anew, kept = (it[shown - 1] for it in counts)
-            taken = seconds_of(scripts[:shown], folder) - seconds_of(scripts[: shown - 1], folder)
+            taken = [seconds_of(it, scripts[:shown], folder) - seconds_of(it, scripts[: shown - 1], folder) for it in PROGRAMS]
             each = [it["steps"] // it["additions"] for it in (anew, kept)]
-            print(f"| {anew['events']} | {each[0]} | {each[1]} | {1000 * taken / kept['additions']:.1f} |", flush=True)
+            print(f"| {anew['events']} | {each[0]} | {each[1]} | " + " | ".join(f"{1000 * it / kept['additions']:.2f}" for it in taken) + " |", flush=True)
 
 
 def main():
@@ -131,7 +143,7 @@ def main():
     theirs = f"{BENCH}/out/trial"
     os.makedirs(f"{BENCH}/out", exist_ok=True)
     subprocess.run([os.environ.get("CXX", "g++"), "-std=c++17", "-O2", "-Wall", "-Wextra", "-o", theirs, f"{BENCH}/trial.cpp"], check=True)
-    print("| N | tracesync, s | KiB | C++, rows anew, s | KiB | C++, rows repaired, s | KiB |\n|" + "---:|" * 7)
+    table_head(["N", *(cell for it in [*names(), "C++, rows anew", "C++, rows repaired"] for cell in (f"{it}, s", "KiB"))])
     for number in numbers:
         compare(number, theirs)
     print()
