@@ -273,7 +273,7 @@ module _ (files files' : FilesTold) (input input' : SourceTold) (out out' : Sink
   long_merge d (Some bytes) short is = let long = is.long in omega (arith, short, long)
 
   over_goes : (d : Declaration) → IsSomeAnd input.left (λ bytes. length bytes ≤ most_taken) → (status : Status) (text : List ℕ) → MergedOver d (reads files input) (reads files' input') status text → IsAnswered status
-  over_goes d short status text (inl (ordered, merges, only)) = inl only.0
+  over_goes d short status text (inl (ordered, merges, writable, few, only)) = inl only.0
   over_goes d short status text (inr (whys.Refused said, not, tells)) = inr (inr (inr tells.0))
   over_goes d short status text (inr (whys.Size, not, tells)) = inr (inr (inr tells.0))
   over_goes d short status text (inr (whys.Inconsistent, not, tells)) = inr (inr (inr tells.0))

@@ -39,8 +39,8 @@ abbrev pub IsWideningText : ProblemLists → List ℕ → Type 0
 IsWideningText p text = (w : Widening) × SpellsWidening p w text
 
 -- ---- the run
--- the words are of one of the forms; each file that they name is there and valid; an event that they name is one of the problem; a script
--- is not too long. A trial names nothing
+-- the words are of one of the forms; no file that they name is absent or refused, and events by name are ones of the problem; a script is
+-- not too long. A trial names nothing
 pub record IsLawful (ws : List (List ℕ)) (files : Content) (script : Option (List ℕ)) : Type 0 where
   pub command : IsNoCommand ws → ⊥
   pub obey : (problem exec : List ℕ) → ws ≡ obey_words problem exec → HoldsProblem files problem (λ p. Holds files exec (IsExecutionText p))

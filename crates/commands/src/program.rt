@@ -101,15 +101,16 @@ fn run_counted<F: Files, I: Source, O: Sink, L: Ledger>(
 /// end, and its replies to the last questions for intervals; `widen PROBLEM` prints the least widening of the problem, with what
 /// shows it from both sides, or that there is none; `judge PROBLEM WIDENING` says whether such a text shows what it should, or
 /// the first reason why not; `mergecap DECL` adds what the lines of the input say, each an `add`, in a session over the declaration,
-/// and prints the packets of all captures as one, in the order of their events' times. `Usage` comes where the words are of no form, `BadDecl`, `BadProblem`, `BadExec` and `BadCert` where a text
-/// is refused, `UnknownEvent` where the problem has no event of a name, `ReadFault` where a named file is not there or a read
-/// failed, `ScriptLimit` where the input of a session or of a merge is too long, `NoMerge` where there is no merge, with one line that says why, `WriteFault` where a write failed, `Memory` where memory
-/// ran out, and else `Done` or `No` with the answer. Beside `WriteFault` a front of what was to be printed stands written;
+/// and prints the packets of all captures as one, in the order of their events' times. `Usage` comes where the words are of no
+/// form, `BadDecl`, `BadProblem`, `BadExec` and `BadCert` where a text is refused, `UnknownEvent` where the problem has no event
+/// of a name, `ReadFault` where a named file is not there or a read failed, `ScriptLimit` where the input of a session or of a
+/// merge is too long, `NoMerge` where there is no merge, with one line that says why, `WriteFault` where a write failed, `Memory`
+/// where memory ran out, and else `Done` or `No` with the answer. Beside `WriteFault` a front of what was to be printed stands written;
 /// beside `Memory` nothing, but in a session the replies to the lines before one that may ask for memory. No command but
 /// `session` and `mergecap` reads the input, and `trial` reads no file, nor is one read where the words are of no form.
 ///
-/// Where the words are of a form, each file that they name is there and valid, an event that they name is one of the problem,
-/// the input of a session or of a merge is not too long, and no count of faults rose, nothing ends the run but `Done`, `No`,
+/// Where the words are of a form, no file that they name is absent or refused, events by name are ones of the problem, the
+/// input of a session or of a merge is not too long, and no count of faults rose, nothing ends the run but `Done`, `No`,
 /// `Memory` and, in a merge, `NoMerge` (`complete`); what is printed with them, and when which of them comes, the clause of the
 /// form says.
 pub fn run<F: Files, I: Source, O: Sink>(

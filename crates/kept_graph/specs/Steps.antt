@@ -66,12 +66,12 @@ differs xs ys k = int_lt (at xs k) (at ys k) || int_lt (at ys k) (at xs k)
 abbrev pub steps_of_changed : ℕ → (ℕ → ℕ) → (ℕ → Bool) → ℕ
 steps_of_changed nodes arcs changed = flagged_sum nodes (λ k. arcs k + 2) changed + 2
 
--- for the earliest execution: a node is changed where it is new or its value differs, and the arcs are those that reach it
+-- for the earliest execution: changed are new nodes and those of another value, and the arcs are those that reach a node
 abbrev pub inserting_values : SolverLists → SolverLists → ℕ
 inserting_values between after =
     steps_of_changed (length after.graph.nodes) (reaching after.graph) (λ k. is_new between k || differs between.earliest.values after.earliest.values k)
 
--- for a row: a node is changed where it is new, or its cell differs in its value or in whether it is known
+-- for a row: changed are new nodes and those whose cell has another value, or is known in one of both alone
 abbrev pub inserting_row : SolverLists → SolverLists → (ℕ → ℕ) → ℕ → ℕ
 inserting_row between after arcs row =
     steps_of_changed (length after.graph.nodes) arcs (λ k. is_new between k || is_changed (cells_of (row_of between.pool row)) (cells_of (row_of after.pool row)) k)

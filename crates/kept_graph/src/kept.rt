@@ -23,7 +23,9 @@ use trace_match::Changes;
 /// The events of a session by number, with its declaration, and their graph with what is known of it.
 #[derive(Drop)]
 pub struct KeptGraph {
+    /// The declaration, the events by number, and the readings, each with its node.
     pub roster: Roster,
+    /// The graph, its earliest execution or a contradiction, and the rows of kept nodes.
     pub solver: Solver,
 }
 
@@ -49,9 +51,10 @@ impl KeptGraph {
     /// Adds events of a label, behind those that it has, which change the messages so. Arcs keep their numbers. An error comes only
     /// where memory runs out, and then the graph is used no more.
     ///
-    /// Where an execution exists before and after, and the first reading of the source does not come now, the steps are at most
-    /// those of the withdrawing part, which is none where no message goes, and for each event eight times the inserting part: that
-    /// counts the nodes that are new or changed, in the earliest execution and in each kept row, with the arcs at them.
+    /// Where an execution exists before and after, the steps are at most those of the withdrawing part, which is none where no
+    /// message goes, and for each event eight times the inserting part: that counts the nodes that are new or changed, in the
+    /// earliest execution and in each kept row, with the arcs at them. Without an event there is no step where an execution
+    /// existed before.
     pub fn add<L: Ledger>(
         &mut self,
         label: u32,

@@ -93,7 +93,7 @@ pub record IsTooLong (d : Declaration) (old new : Devices) (script : List ℕ) :
   pub state : State
   pub adds : AddsAll d old new (whole_lines (take most_taken script)) state
 
--- the script was read to its end, and its lines are added
+-- the whole script was taken, and its lines are added
 pub record AddsScript (d : Declaration) (old new : Devices) (s : State) (script : List ℕ) : Type 0 where
   pub short : length script ≤ most_taken
   pub none_left : new.input.left ≡ Some []

@@ -46,7 +46,7 @@ pub fn replies_are_one()
 }
 
 /// A law, which does nothing when it runs: what a session has when it starts is lawful, and so is what it has behind a line,
-/// whatever the line and its reply, and behind a script.
+/// whatever the line and its reply, and behind a script, where what is read is bytes.
 pub fn sessions_are_lawful()
     ensures start { (d : Declaration) → IsLawful d (start d) }
     ensures line { (d : Declaration) (files : Content) (s after : State) (line text : List ℕ) (found : Found) → IsLawful d s → FindsBytes found → LineReply d files s line found text after → IsLawful d after }
@@ -56,15 +56,15 @@ pub fn sessions_are_lawful()
     old_packets_stay();
 }
 
-/// A law: where files tell what they hold, and no read of them fails, what the reads of a script come to is one, whatever its
+/// A law, which does nothing when it runs: where files tell what they hold, and no read of them fails, what the reads of a script come to is one, whatever its
 /// replies. Where they hold bytes, it is bytes.
 pub fn reads_are_one()
     ensures one { (d : Declaration) (files : List ℕ → Option (List ℕ)) (lines a b : List (List ℕ)) (founds others : List Found) (s t after other : State) → NoneFailed founds → NoneFailed others → Session d (Some files) s lines founds a after → Session d (Some files) t lines others b other → founds ≡ others }
     ensures bytes { (d : Declaration) (files : List ℕ → Option (List ℕ)) (lines texts : List (List ℕ)) (founds : List Found) (s after : State) → HoldBytes files → Session d (Some files) s lines founds texts after → All FindsBytes founds }
 {}
 
-/// A law: a declaration, files, a script and what its reads came to make one output, but for which contradictions and which
-/// paths of bounds are printed, and one state behind each line and behind them all.
+/// A law, which does nothing when it runs: a declaration, files, a script and what its reads came to, where that is bytes, make
+/// one output, save the choice of contradictions and of paths of bounds, and one state behind each line and behind them all.
 pub fn outputs_are_one()
     ensures output { (d : Declaration) (files : Content) (lines a b : List (List ℕ)) (founds : List Found) (after other : State) → IsDeclaration d → All FindsBytes founds → Session d files (start d) lines founds a after → Session d files (start d) lines founds b other → AreOneOutput d files (start d) lines founds a b }
     ensures last { (d : Declaration) (files : Content) (lines a b : List (List ℕ)) (founds : List Found) (after other : State) → IsDeclaration d → All FindsBytes founds → Session d files (start d) lines founds a after → Session d files (start d) lines founds b other → after ≡ other }

@@ -59,7 +59,7 @@ impl Model for Session {
 }
 
 impl Session {
-    /// A session in which nothing was added.
+    /// A session in which nothing was added; an error only where memory runs out, which drops the declaration.
     pub fn new(alloc: Global, decl: Decl) -> Result<Session, AllocError>
         requires { IsDeclaration (declaration_of decl) }
         ensures stands { IfOk result (λ session. StandsFor session (declaration_of decl) (start (declaration_of decl))) }
@@ -128,7 +128,8 @@ impl Session {
         replied
     }
 
-    /// Writes the reply to a line of more than 4,096 bytes, which is refused.
+    /// Writes the reply to a line of more than 4,096 bytes, which is refused. `WriteFault` is answered only where the sink's count
+    /// of faults rose, or stands at its last value.
     pub fn too_long<O: Sink>(&mut self, out: &mut O) -> Result<(), Stop>
         ensures writes { Writes (refusal_line refusals.NoCommand) (O.told out.old) (O.told out.new) result }
         ensures only { IfErr result (λ stop. stop ≡ stops.WriteFault) }

@@ -68,8 +68,8 @@ impl Session {
         is_consistent(&self.answers.graph.solver)
     }
 
-    /// Gives each packet the time of its event, the one with its place and its number, in the earliest execution of what was
-    /// added, in units of 1e-9 ns, and changes nothing else. It takes no memory, and time by the number of packets alone.
+    /// Gives each packet the time that the event of its place and number has in the earliest execution of what was added, in
+    /// units of 1e-9 ns, and changes nothing else. It takes no memory.
     ///
     /// No call before ran out of memory, some execution obeys all bounds, and the event of each packet was accepted.
     pub fn settle(&self, kept: &mut [Stored])

@@ -56,8 +56,8 @@ fn store(
 
 impl Session {
     /// Adds a file by a line `add LABEL PATH`, which is given without its line feed and has at most 4,096 bytes, as `step`
-    /// does, and appends the packets that a capture's bytes complete to those that are kept: in their order, each with its
-    /// label's place, its event's number there and time 0. No reply is written. `Accepted` is answered exactly where the
+    /// does, and appends the packets that a capture's bytes complete to those that are kept: as they stand, by the place of the
+    /// label and the number of the event there, at time 0. No reply is written. `Accepted` is answered exactly where the
     /// reply tells what was added; else the reply is a refusal, and nothing is kept. A line that asks for anything else
     /// is refused as one that spells no command.
     ///

@@ -17,7 +17,7 @@ pub returns-in-Ok-merge_script-clause-merged : goal.returns-in-Ok-merge_script-c
 returns-in-Ok-merge_script-clause-merged g c =
     merged_printed (declaration_of c.in-Ok.decl) (g.F.Files.told c.args.files.now) (g.F.Files.told c.decl_in.new.files) (g.F.Files.told c.merge_script.new.files)
     (g.I.Source.told c.args.input.now) (g.I.Source.told c.merge_script.new.input) c.in-Ok.ensures.keeps c.args.decl.now c.in-Ok.ensures.ok (g.O.Sink.told c.args.out.now) (g.O.Sink.told c.print.new.out)
-    c.print.result (all_timed c.in-Ok-merge_script.ordered.items) c.in-Ok-merge_script.ensures.ok
+    c.print.result (all_timed c.in-Ok-merge_script.ordered.items) c.in-Ok-merge_script.ensures.ok c.in-Ok-merge_script.ensures.writable c.in-Ok-merge_script.ensures.short
     (subst (λ (xs : List Stored). Prints (IsOnly (merged_capture (all_timed xs)) statuses.Done) (g.O.Sink.told c.args.out.now) (g.O.Sink.told c.print.new.out) c.print.result) c.deref.ensures.value c.print.ensures)
 
 pub returns-in-Err-merge_script-clause-merged : goal.returns-in-Err-merge_script-clause-merged
