@@ -123,7 +123,7 @@ class Held:
         return [(f"{label}#{n}", label, row) for label, rows in self.rows.items() for n, row in enumerate(rows, 1)]
 
     def by_key(self):
-        """The sends and the receives of each key, in the order of each key's first event."""
+        """The sends and the receives of each key, keys as they first come."""
         found = {}
         for name, _, (_, kind, key, _) in self.events():
             if key:

@@ -82,7 +82,7 @@ def merges(folder, case, declaration, lines, captures=("left", "right")):
     done = run("mergecap", declaration, lines)
     assert done.returncode == 0, (case, done.returncode, done.stdout[:80])
     merged = [line.split(" ") for line in replies(declaration, lines + ["merge"])[-1][1:]]
-    # (log labels help to synchronise, and are not written)
+    # (rows of logs bound the times, and have no packets)
     merged = [(int(time.split(".")[0]), event) for time, event in merged if event.split("#")[0] in captures]
     packets = packets_of(folder, lines, captures)
     link, written = records(done.stdout)
