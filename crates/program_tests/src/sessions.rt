@@ -103,10 +103,10 @@ const SESSIONS: [Case; 9] = [
         write_fails: &[],
         status: Status::Done,
         printed: "added events 2 messages 0 withdrawn 0 pending 0 consistent\n\
-        added events 2 messages 2 withdrawn 0 pending 0 inconsistent\ncertificate 1\ncycle\nstep early b#1 0.000000000\n\
-        step span-most b 250 300 50.000000000\nstep late b#2 0.000000000\nstep delay-most b#2 a#2 20.000000000\n\
-        step early a#2 0.000000000\nstep span-least a 100 195 -95.000000000\nstep late a#1 0.000000000\n\
-        step delay-most a#1 b#1 20.000000000\nend\nadded events 1 messages 0 withdrawn 1 pending 0 consistent\n\
+        added events 2 messages 2 withdrawn 0 pending 0 inconsistent\ncertificate 1\ncycle\nstep early a#2 0.000000000\n\
+        step span-least a 100 195 -95.000000000\nstep late a#1 0.000000000\nstep delay-most a#1 b#1 20.000000000\n\
+        step early b#1 0.000000000\nstep span-most b 250 300 50.000000000\nstep late b#2 0.000000000\n\
+        step delay-most b#2 a#2 20.000000000\nend\nadded events 1 messages 0 withdrawn 1 pending 0 consistent\n\
         interval 10.000000000 20.000000000\n",
     },
     // The first read of a log fails; the third is the first behind those of the declaration.

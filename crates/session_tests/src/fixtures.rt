@@ -79,9 +79,9 @@ pub(crate) const TWO_LOGS_PROBLEM: &str =
 
 // The contradiction of two messages: the way there and back takes 90 ns at most, and 95 ns by the clock of host a.
 pub(crate) const CYCLE: &str =
-    "certificate 1\ncycle\nstep early b#1 0.000000000\nstep span-most b 250 300 50.000000000\nstep late b#2 0.000000000\n\
-    step delay-most b#2 a#2 20.000000000\nstep early a#2 0.000000000\nstep span-least a 100 195 -95.000000000\n\
-    step late a#1 0.000000000\nstep delay-most a#1 b#1 20.000000000\nend\n";
+    "certificate 1\ncycle\nstep early a#2 0.000000000\nstep span-least a 100 195 -95.000000000\nstep late a#1 0.000000000\n\
+    step delay-most a#1 b#1 20.000000000\nstep early b#1 0.000000000\nstep span-most b 250 300 50.000000000\n\
+    step late b#2 0.000000000\nstep delay-most b#2 a#2 20.000000000\nend\n";
 
 // A capture of the first host in two pieces, and the one of the other.
 pub(crate) fn put_cut(
