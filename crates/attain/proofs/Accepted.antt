@@ -3,6 +3,7 @@ use Rattle.std.proofs.Common.{◌<◌, ◌≤◌, ◌^◌, ℕ, List, length, ge
 use Rattle.std.specs.Prelude.{ℤ, pos, negsuc, neg_ℤ, ◌≤ℤ◌, All}
 use Rattle.std.proofs.lemmas.Int.{ints}
 use Rattle.atto.specs.Number.{FitsUnits}
+use Rattle.line_format.specs.Format.{most_bytes}
 use Rattle.problem_model.specs.Problem.{ProblemLists, IsProblem}
 use Rattle.problem_model.specs.Nodes.{Reading, AreReadings, nodes_of}
 use Rattle.problem.proofs.ListedNodes.{few_nodes}
@@ -22,11 +23,14 @@ units_below m (negsuc n) few low high = omega (arith, ints, few, low)
 value_fits : (z : ℤ) → IsUnder 116 z → FitsUnits z
 value_fits z (low, high) = units_below (2 ^ 116) z (omega arith) (omega (arith, ints, low)) (omega (arith, ints, high))
 
+time_fits : (z : ℤ) → IsUnder 117 z → FitsUnits z
+time_fits z (low, high) = units_below (2 ^ 117) z (omega arith) (omega (arith, ints, low)) (omega (arith, ints, high))
+
 weight_fits : (z : ℤ) → IsUnder 93 z → FitsUnits z
 weight_fits z (low, high) = units_below (2 ^ 93) z (omega arith) (omega (arith, ints, low)) (omega (arith, ints, high))
 
-pub values_fit : (xs : List ℤ) → All (IsUnder 116) xs → All FitsUnits xs
-values_fit xs small i d inside = value_fits (get_or xs i d) (small i d inside)
+pub values_fit : (xs : List ℤ) → All (IsUnder 117) xs → All FitsUnits xs
+values_fit xs small i d inside = time_fits (get_or xs i d) (small i d inside)
 
 pub weights_fit : (path : List Step) → All (λ s. IsUnder 93 s.weight) path → All (λ s. FitsUnits s.weight) path
 weights_fit path small i d inside = weight_fits (get_or path i d).weight (small i d inside)
@@ -51,8 +55,8 @@ module _ (p : ProblemLists) (readings : List Reading) (lawful : IsProblem p) (ar
 pub ends_accepted : (p : ProblemLists) (readings : List Reading) (first second : ℕ) (text : List ℕ) → IsTightText p readings first second text → IsProblem p → AreReadings p readings → first < length p.events → second < length p.events
     → IsAccepted p readings text
 ends_accepted p readings first second text (upper, lower, tight, is) lawful are there there' =
-    let below : length text < 2 ^ 30 = text_short p readings first second text (upper, lower, tight, is) lawful are in
-    let short : length text ≤ 2 ^ 30 = omega (arith, below) in
+    let below : length text < most_bytes = text_short p readings first second text (upper, lower, tight, is) lawful are in
+    let short : length text ≤ most_bytes = omega (arith, below) in
     let fits = ends_fit p readings lawful are first second upper lower tight in
     subst (IsAccepted p readings) (sym is)
-    (ends_shown_again p readings first second upper lower lawful are there there' tight.upper_of tight.lower_of fits.0 fits.1 (subst (λ (t : List ℕ). length t ≤ 2 ^ 30) is short) tight.upper_shown tight.lower_shown)
+    (ends_shown_again p readings first second upper lower lawful are there there' tight.upper_of tight.lower_of fits.0 fits.1 (subst (λ (t : List ℕ). length t ≤ most_bytes) is short) tight.upper_shown tight.lower_shown)

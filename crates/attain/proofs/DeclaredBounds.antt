@@ -9,6 +9,7 @@ use Rattle.std.proofs.lemmas.List.Elements.{All-nil, All-cons, All-head, All-tai
 use Rattle.std.proofs.lemmas.Option.{slice_get_within, get_or_from_slice_get}
 use Rattle.atto.specs.Span.{least_of, most_of}
 use Rattle.problem_model.specs.declared.items.Clock.{Clock}
+use Rattle.problem_model.specs.declared.items.Follow as items
 use Rattle.problem_model.specs.declared.items.Event.{Event}
 use Rattle.problem_model.specs.declared.items.Message.{Message}
 use Rattle.problem_model.specs.declared.items.Bound.{Bound}
@@ -16,9 +17,9 @@ use Rattle.problem_model.specs.declared.items.Bound.TheVariants.{SpanMost, SpanL
 use Rattle.problem_model.specs.Problem.{ProblemLists, IsProblem, ClockFits, MessageFits}
 use Rattle.problem_model.specs.Bounds.{Constraint, Declares, IsReading, ClockAt}
 use Rattle.problem_model.specs.Nodes.{Reading, AreReadings, ComesBefore}
-use Rattle.problem_model.specs.ShortList.{short_list, neighbour_bounds, span_bounds, event_bounds, most_bound, message_bounds}
-use Rattle.problem_model.proofs.Following.{chained_by}
-use Rattle.problem_model.proofs.Walking.{none_follows, short_without}
+use Rattle.problem_model.specs.ShortList.{short_list, neighbour_bounds, span_bounds, event_bounds, clocks_before, first_reading, nearest_reading, follow_bound, follow_bounds, most_bound, message_bounds}
+use Rattle.problem_model.proofs.Following.{chained_by, by_last}
+use Rattle.problem_model.proofs.NearestFollows.{Joins, follows_are}
 use Rattle.problem_model.proofs.OneName.{declared_one}
 use Rattle.difference_bounds.specs.Executions.{Arc}
 use Rattle.difference_bounds.specs.Problems.{IsArcOf, StandsFor}
@@ -65,7 +66,9 @@ module _ (p : ProblemLists) (lawful : IsProblem p) where
   weight_small (Early e) c (v, k, at, at', same) =
       let fits = holds_at ClockFits p.clocks v.clock k lawful.fits.clocks_fit at' in
       subst (IsUnder 93) (sym (ap (λ (v : Constraint). v.weight) same)) (up_to (k.early * 1000000000) (delay_few k.early fits.2))
-  weight_small (Follow b s e t) c declares = absurd (none_follows p b s e t c lawful.formed.no_follows declares)
+  weight_small (Follow earlier s later t) c (f, has, to, after, is, is', same) =
+      let fits : f.gap < 2 ^ 62 = All-contains (λ (v : items.Follow). v.gap < 2 ^ 62) p.follows f lawful.fits.gaps_fit has in
+      subst (IsUnder 93) (sym (ap (λ (v : Constraint). v.weight) same)) (down_to (f.gap * 1000000000) (delay_few f.gap fits))
   weight_small (DelayMost send receive) c (m, most, has, is, is', is_most, same) =
       let fits = All-contains MessageFits p.messages m lawful.fits.messages_fit has in
       subst (IsUnder 93) (sym (ap (λ (v : Constraint). v.weight) same)) (up_to (most * 1000000000) (delay_few most (most_fits m.most most fits.1 is_most)))
@@ -136,13 +139,41 @@ module _ (p : ProblemLists) (lawful : IsProblem p) where
       (delays ms (All-tail (Contains p.messages) m ms has))
 
   module _ (readings : List Reading) (are : AreReadings p readings) where
+    -- what the short list has for a clock is a follow
+    abbrev IsFollow : Bound → Type 0
+    IsFollow b = (c : ℕ) × (s : ℕ) × (d : ℕ) × (t : ℕ) × (b ≡ Follow c s d t)
+
+    one_follow : (o q : Option Reading) → All IsFollow (follow_bound o q)
+    one_follow None q = All-nil IsFollow
+    one_follow (Some a) None = All-nil IsFollow
+    one_follow (Some a) (Some b) = All-cons IsFollow (Follow a.0 a.1 b.0 b.1) [] (a.0, a.1, b.0, b.1, refl) (All-nil IsFollow)
+
+    all_follow : (k : ℕ) (clocks : List Clock) → All IsFollow (follow_bounds p.follows readings k clocks)
+    all_follow k [] = All-nil IsFollow
+    all_follow k (v ∷ clocks) =
+        let before = nearest_reading readings (clocks_before p.follows k k) in
+        All-append IsFollow (follow_bound before (first_reading readings k)) (follow_bounds p.follows readings (k + 1) clocks) (one_follow before (first_reading readings k)) (all_follow (k + 1) clocks)
+
+    joined_of : (c s d t : ℕ) → Joins p (chained_by p lawful.formed) readings are c s d t → IsOf (Follow c s d t)
+    joined_of c s d t (near, last, first) =
+        let line = by_last p c d near.0 in
+        (_, (line.0, line.1.0, line.1.1, near.0, last.0, first.0, refl))
+
+    follows : All IsOf (follow_bounds p.follows readings 0 p.clocks)
+    follows i d inside =
+        let bounds = follow_bounds p.follows readings 0 p.clocks in
+        let (c, s, e, t, is) = all_follow 0 p.clocks i d inside in
+        subst IsOf (sym is) (joined_of c s e t ((follows_are p (chained_by p lawful.formed) readings are c s e t).0 (subst (Contains bounds) is (Contains-get_or bounds i d inside))))
+
     short_declared : All IsOf (short_list p readings)
-    short_declared = subst (All IsOf) (sym (short_without p readings lawful.formed.no_follows)) (
-        All-append IsOf (span_bounds readings ++ event_bounds 0 p.events) (flat_map message_bounds p.messages)
+    short_declared =
+        All-append IsOf (span_bounds readings ++ event_bounds 0 p.events ++ follow_bounds p.follows readings 0 p.clocks) (flat_map message_bounds p.messages)
+        (All-append IsOf (span_bounds readings ++ event_bounds 0 p.events) (follow_bounds p.follows readings 0 p.clocks)
         (All-append IsOf (span_bounds readings) (event_bounds 0 p.events)
         (spans readings (λ i d inside. are.each (get_or readings i d).0 (get_or readings i d).1 (Contains-get_or readings i d inside)) are.rising)
         (stamps 0 p.events (λ i e at. subst (λ (n : ℕ). slice_get p.events n ≡ Some e) (let same : i ≡ 0 + i = omega arith in same) at)))
-        (delays p.messages (All-contains_itself p.messages)))
+        follows)
+        (delays p.messages (All-contains_itself p.messages))
 
     -- ---- arcs
     abbrev IsSome : Arc → Type 0

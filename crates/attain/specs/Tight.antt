@@ -52,10 +52,10 @@ IsLowerCut p first inside = (clock : ℕ) → Contains inside clock ↔ ((n : No
 abbrev pub IsUnder : ℕ → ℤ → Type 0
 IsUnder bits x = (neg_ℤ (pos (2 ^ bits)) <ℤ x) × (x <ℤ pos (2 ^ bits))
 
--- the limit and the real times are below 2^116 in absolute value, the weights below 2^93
+-- the limit is below 2^116 in absolute value, the weights are below 2^93 and the real times below 2^117
 abbrev pub IsSmallEnd : EndLists → Type 0
-IsSmallEnd (Limited value path execution) = IsUnder 116 value × All (λ s. IsUnder 93 s.weight) path × All (IsUnder 116) execution
-IsSmallEnd (Unlimited inside execution) = All (IsUnder 116) execution
+IsSmallEnd (Limited value path execution) = IsUnder 116 value × All (λ s. IsUnder 93 s.weight) path × All (IsUnder 117) execution
+IsSmallEnd (Unlimited inside execution) = All (IsUnder 117) execution
 
 -- ---- ends
 -- at a limit the latest execution, with a path of fewer steps than there are nodes; else the earliest execution and the cut

@@ -1,6 +1,7 @@
 //! What the written certificates are to the problem that a listing lists, that they are accepted, and which graphs stand for
 //! the problem. The functions do nothing.
-ghost use Rattle.std.specs.Prelude.{◌≡◌, ◌<◌, ◌≤◌, ◌^◌, ℕ, ℤ, List, length, map, All};
+ghost use Rattle.std.specs.Prelude.{◌≡◌, ◌<◌, ◌≤◌, ℕ, ℤ, List, length, map, All};
+ghost use Rattle.line_format.specs.Format.{most_bytes};
 ghost use Rattle.problem_model.specs.declared.items.Bound.{Bound};
 ghost use Rattle.problem_model.specs.declared.items.Node.{Node};
 ghost use Rattle.problem_model.specs.Problem.{ProblemLists, IsProblem};
@@ -37,13 +38,13 @@ pub fn listed_problems()
 
 /// What is written is read again as a certificate that shows what it should, and is refused for want of memory alone: of
 /// the ends of an interval, of a contradiction with no more bounds than there are nodes, of the earliest execution. Its
-/// numbers are in range, its weights below 2^93 and its real times below 2^116 in absolute value, and its text is not too
-/// long. So checking it answers yes.
+/// numbers are in range, its weights below 2^93 and its real times below 2^117 in absolute value, those of the earliest
+/// execution below 2^116, and its text is not too long. So checking it answers yes.
 pub fn accepted()
     ensures fits { (p : ProblemLists) (readings : List Reading) (first second : ℕ) (upper lower : EndLists) → AreTight p readings first second upper lower
         → IsProblem p → AreReadings p readings → FitsEndLists upper × FitsEndLists lower }
     ensures ends_short { (p : ProblemLists) (readings : List Reading) (first second : ℕ) (text : List ℕ) → IsTightText p readings first second text
-        → IsProblem p → AreReadings p readings → length text < 2 ^ 30 }
+        → IsProblem p → AreReadings p readings → length text < most_bytes }
     ensures ends { (p : ProblemLists) (readings : List Reading) (first second : ℕ) (text : List ℕ) → IsTightText p readings first second text
         → IsProblem p → AreReadings p readings → first < length p.events → second < length p.events
         → IsAccepted p readings text }
@@ -52,7 +53,7 @@ pub fn accepted()
         → IsAccepted p readings (certificate_text p (nodes_of p readings) (Cycle steps)) }
     ensures cycle_short { (p : ProblemLists) (readings : List Reading) (steps : List Step) → IsContradictionOf p (weighed_bounds steps)
         → length steps ≤ length (nodes_of p readings) → IsProblem p → AreReadings p readings
-        → length (certificate_text p (nodes_of p readings) (Cycle steps)) < 2 ^ 30 }
+        → length (certificate_text p (nodes_of p readings) (Cycle steps)) < most_bytes }
     ensures run { (p : ProblemLists) (readings : List Reading) (x : Times) → IsEarliestExecution p x → IsProblem p → AreReadings p readings
         → IsAccepted p readings (certificate_text p (nodes_of p readings) (Run (map x (nodes_of p readings)))) }
     ensures cycle_small { (p : ProblemLists) (steps : List Step) → IsContradictionOf p (weighed_bounds steps) → IsProblem p
@@ -60,16 +61,16 @@ pub fn accepted()
     ensures run_small { (p : ProblemLists) (readings : List Reading) (x : Times) → IsEarliestExecution p x → IsProblem p → AreReadings p readings
         → All (IsUnder 116) (map x (nodes_of p readings)) }
     ensures run_short { (p : ProblemLists) (readings : List Reading) (x : Times) → IsEarliestExecution p x → IsProblem p → AreReadings p readings
-        → length (certificate_text p (nodes_of p readings) (Run (map x (nodes_of p readings)))) < 2 ^ 30 }
+        → length (certificate_text p (nodes_of p readings) (Run (map x (nodes_of p readings)))) < most_bytes }
 {}
 
 /// Declared bounds of a problem that lead from one node to another, onward or back, in fewer steps than it has nodes, have a
-/// sum below 2^114 in absolute value, in units of 1e-9 ns.
+/// sum below 2^115 in absolute value, in units of 1e-9 ns.
 pub fn short_paths()
     ensures onward { (p : ProblemLists) (readings : List Reading) (m n : Node) (steps : List WeighedBound) → Leads p m steps n
-        → length steps < length (nodes_of p readings) → IsProblem p → AreReadings p readings → IsUnder 114 (weight_of steps) }
+        → length steps < length (nodes_of p readings) → IsProblem p → AreReadings p readings → IsUnder 115 (weight_of steps) }
     ensures back { (p : ProblemLists) (readings : List Reading) (m n : Node) (steps : List WeighedBound) → LeadsAgainst p m steps n
-        → length steps < length (nodes_of p readings) → IsProblem p → AreReadings p readings → IsUnder 114 (weight_of steps) }
+        → length steps < length (nodes_of p readings) → IsProblem p → AreReadings p readings → IsUnder 115 (weight_of steps) }
 {}
 
 /// A graph that has the nodes of a problem in their order, and its short list as its arcs, stands for the problem as it

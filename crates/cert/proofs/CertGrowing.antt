@@ -5,6 +5,7 @@ use Rattle.std.specs.List.{flat_map}
 use Rattle.std.proofs.lemmas.Bool.{cases_lt}
 use Rattle.std.proofs.lemmas.Grind.{flat_map-append}
 use Rattle.std.proofs.lemmas.List.{append_cancel_left}
+use Rattle.std.proofs.lemmas.List.Elements.{All-contains}
 use Rattle.std.proofs.lemmas.Option.{slice_get_within}
 use Rattle.atto.specs.NsText.{ns_text}
 use Rattle.line_format.specs.Words.{line_of}
@@ -18,9 +19,9 @@ use Rattle.problem_model.specs.Name.{IsEventName, IsClockName}
 use Rattle.problem_model.specs.Problem.{ProblemLists, IsProblem}
 use Rattle.problem_model.specs.ProblemText.{clock_name, event_name}
 use Rattle.problem_model.specs.BoundText.{bound_words}
+use Rattle.problem_model.specs.Bounds.{IsReading}
 use Rattle.problem_model.specs.Nodes.{Reading, nodes_of}
 use Rattle.problem_model.specs.ExecutionText.{execution_head, value_lines}
-use Rattle.problem_model.proofs.Walking.{none_follows}
 use Rattle.problem.specs.Line.{HasClock, HasEvent}
 use Rattle.cert.specs.declared.chain.Step.{Step}
 use Rattle.cert.specs.declared.kinds.Extreme.TheVariants.{Most, Least}
@@ -33,7 +34,7 @@ use Rattle.cert.specs.CertificateText.{step_line, inside_line}
 use Rattle.cert.specs.CertificateFormat.{NamedBound, Said, Names, IsDeclared, IsBoundSpelled, cert_words, named_words, end_size, side_line, side_lines, events_line, certificate_format}
 use Rattle.cert.specs.EndLists.{EndLists, Limited, Unlimited}
 use Rattle.cert.specs.CertificateFormat.CertLine.{CycleLine, RunLine, EndsLine, SideLine, StepLine}
-use Rattle.cert.specs.CertificateFormat.NamedBound.{Span, Stamp, Delay}
+use Rattle.cert.specs.CertificateFormat.NamedBound.{Span, Stamp, Follow, Delay}
 use Rattle.cert.specs.CertificateFormat.Said.{NoneSaid, CycleSaid, RunSaid, EventsSaid, UpperSaid, EndsSaid}
 use Rattle.cert.specs.TakesPart.{EndGrows, begun}
 use Rattle.cert.proofs.Places.{event_named, clock_named}
@@ -107,6 +108,7 @@ names_words p (Span Most clock s t) b named = rw (named.2, clock_at_name p.clock
 names_words p (Span Least clock s t) b named = rw (named.2, clock_at_name p.clocks named.0 clock named.1) refl
 names_words p (Stamp Late event) b named = rw (named.2, event_at_name p.events named.0 event named.1) refl
 names_words p (Stamp Early event) b named = rw (named.2, event_at_name p.events named.0 event named.1) refl
+names_words p (Follow earlier s later t) b named = rw (named.4, clock_at_name p.clocks named.0 earlier named.2, clock_at_name p.clocks named.1 later named.3) refl
 names_words p (Delay Most send receive) b named = rw (named.4, event_at_name p.events named.0 send named.2, event_at_name p.events named.1 receive named.3) refl
 names_words p (Delay Least send receive) b named = rw (named.4, event_at_name p.events named.0 send named.2, event_at_name p.events named.1 receive named.3) refl
 
@@ -118,6 +120,10 @@ names_one p lawful (Span Most clock s t) b b' x y = let same = clock_one p lawfu
 names_one p lawful (Span Least clock s t) b b' x y = let same = clock_one p lawful x.0 y.0 clock x.1 y.1 in x.2 ∙ ap (λ (k : ℕ). bounds.SpanLeast k s t) same ∙ sym y.2
 names_one p lawful (Stamp Late event) b b' x y = let same = event_one p lawful x.0 y.0 event x.1 y.1 in x.2 ∙ ap bounds.Late same ∙ sym y.2
 names_one p lawful (Stamp Early event) b b' x y = let same = event_one p lawful x.0 y.0 event x.1 y.1 in x.2 ∙ ap bounds.Early same ∙ sym y.2
+names_one p lawful (Follow earlier s later t) b b' x y =
+    let one = clock_one p lawful x.0 y.0 earlier x.2 y.2 in
+    let two = clock_one p lawful x.1 y.1 later x.3 y.3 in
+    x.4 ∙ ap (λ (j : ℕ). bounds.Follow j s x.1 t) one ∙ ap (λ (k : ℕ). bounds.Follow y.0 s k t) two ∙ sym y.4
 names_one p lawful (Delay Most send receive) b b' x y =
     let one = event_one p lawful x.0 y.0 send x.2 y.2 in
     let two = event_one p lawful x.1 y.1 receive x.3 y.3 in
@@ -143,6 +149,9 @@ ends_known p lawful m send receive has s r =
     let receives : m.receive < length p.events = subst (λ (x : Message). x.receive < length p.events) has.2 (lawful.formed.receives has.0 m has.1) in
     (omega (arith, sends, s), omega (arith, receives, r))
 
+pub clock_read : (p : ProblemLists) → IsProblem p → (k s : ℕ) → IsReading p k s → k < length p.clocks
+clock_read p lawful k s (e, has, clock, stamp) = subst (λ (j : ℕ). j < length p.clocks) clock (All-contains (λ (v : Event). v.clock < length p.clocks) p.events e lawful.formed.event_clocks has)
+
 pub declared_named : (p : ProblemLists) → IsProblem p → (b : Bound) → IsDeclared p b → Named p b
 declared_named p lawful (bounds.SpanMost k s t) (c, d) =
     let inside = slice_get_within p.clocks k d.0 d.1 in
@@ -156,7 +165,10 @@ declared_named p lawful (bounds.Late k) (c, d) =
 declared_named p lawful (bounds.Early k) (c, d) =
     let inside = slice_get_within p.events k d.0 d.2 in
     (Stamp Early (event_name p.events k), (k, event_has p.events k inside, refl), event_spelled p lawful k inside)
-declared_named p lawful (bounds.Follow c s d t) (k, declares) = absurd (none_follows p c s d t k lawful.formed.no_follows declares)
+declared_named p lawful (bounds.Follow j s k t) (c, d) =
+    let inside = clock_read p lawful j s d.4 in
+    let inside' = clock_read p lawful k t d.5 in
+    (Follow (clock_name p.clocks j) s (clock_name p.clocks k) t, (j, k, clock_has p.clocks j inside, clock_has p.clocks k inside', refl), (clock_spelled p lawful j inside, clock_spelled p lawful k inside'))
 declared_named p lawful (bounds.DelayMost j k) (c, d) =
     let inside = ends_known p lawful d.0 j k d.2 d.3 d.4 in
     (Delay Most (event_name p.events j) (event_name p.events k), (j, k, event_has p.events j inside.0, event_has p.events k inside.1, refl), (event_spelled p lawful j inside.0, event_spelled p lawful k inside.1))

@@ -21,7 +21,7 @@ use Rattle.cert.specs.declared.kinds.Side.TheVariants.{Upper, Lower}
 use Rattle.cert.specs.ExecutionFormat.ExecutionLine.{EventLine, ReadingLine, EndLine}
 use Rattle.cert.specs.CertificateFormat.{CertLine, NamedBound, cert_words, named_words, span_word, stamp_word, delay_word, side_word, unlimited_word, limit_word, IsSpelled, IsBoundSpelled}
 use Rattle.cert.specs.CertificateFormat.CertLine.{CycleLine, RunLine, EndsLine, SideLine, StepLine, InsideLine, NodeLine}
-use Rattle.cert.specs.CertificateFormat.NamedBound.{Span, Stamp, Delay}
+use Rattle.cert.specs.CertificateFormat.NamedBound.{Span, Stamp, Follow, Delay}
 use Rattle.cert.proofs.Forms.{line_lacks, one_line}
 use Rattle.cert.proofs.Lacking.{clock_name_lacks, event_name_lacks, decimal_lacks, ns_lacks}
 
@@ -42,6 +42,9 @@ pub stamp_lacks : (d : ℕ) (k : StampBound) → d ≤ 32 → Lacks d (stamp_wor
 stamp_lacks d Late low = high_test d (codes "late") low refl
 stamp_lacks d Early low = high_test d (codes "early") low refl
 
+pub follow_lacks : (d : ℕ) → d ≤ 32 → Lacks d (codes "follow")
+follow_lacks d low = high_test d (codes "follow") low refl
+
 pub delay_lacks : (d : ℕ) (e : Extreme) → d ≤ 32 → Lacks d (delay_word e)
 delay_lacks d Most low = high_test d (codes "delay-most") low refl
 delay_lacks d Least low = high_test d (codes "delay-least") low refl
@@ -51,6 +54,8 @@ step_words_lack d (Span e clock s t) z low spelled =
     (high_test d (codes "step") low refl, (span_lacks d e low, (clock_name_lacks d clock low spelled, (decimal_lacks d s low, (decimal_lacks d t low, (ns_lacks d z low, tt))))))
 step_words_lack d (Stamp k event) z low spelled =
     (high_test d (codes "step") low refl, (stamp_lacks d k low, (event_name_lacks d event low spelled, (ns_lacks d z low, tt))))
+step_words_lack d (Follow earlier s later t) z low spelled =
+    (high_test d (codes "step") low refl, (follow_lacks d low, (clock_name_lacks d earlier low spelled.0, (decimal_lacks d s low, (clock_name_lacks d later low spelled.1, (decimal_lacks d t low, (ns_lacks d z low, tt)))))))
 step_words_lack d (Delay e send receive) z low spelled =
     (high_test d (codes "step") low refl, (delay_lacks d e low, (event_name_lacks d send low spelled.0, (event_name_lacks d receive low spelled.1, (ns_lacks d z low, tt)))))
 
@@ -133,6 +138,9 @@ delay_one Least Most is = absurd (let h = ap (λ xs. get_or xs 6 0) is in omega 
 span_same : (e e' : Extreme) (c c' : List ℕ) (s s' t t' : ℕ) → e ≡ e' → c ≡ c' → s ≡ s' → t ≡ t' → Span e c s t ≡ Span e' c' s' t'
 span_same e e' c c' s s' t t' a b x y = cc
 
+follow_same : (c c' d d' : List ℕ) (s s' t t' : ℕ) → c ≡ c' → s ≡ s' → d ≡ d' → t ≡ t' → Follow c s d t ≡ Follow c' s' d' t'
+follow_same c c' d d' s s' t t' a x b y = cc
+
 step_same : (n n' : NamedBound) (z z' : ℤ) → n ≡ n' → z ≡ z' → StepLine n z ≡ StepLine n' z'
 step_same n n' z z' a b = cc
 
@@ -141,11 +149,19 @@ unfolding word_at
 step_one (Span e c s t) (Span e' c' s' t') z z' is =
     step_same _ _ z z' (span_same e e' c c' s s' t t' (span_one e e' (ap (word_at 1) is)) (ap (word_at 2) is) (decimal_of_injective s s' (ap (word_at 3) is)) (decimal_of_injective t t' (ap (word_at 4) is))) (ns_text_injective z z' (ap (word_at 5) is))
 step_one (Stamp k v) (Stamp k' v') z z' is = rw (stamp_one k k' (ap (word_at 1) is), ap (word_at 2) is, ns_text_injective z z' (ap (word_at 3) is)) refl
+step_one (Follow c s d t) (Follow c' s' d' t') z z' is =
+    step_same _ _ z z' (follow_same c c' d d' s s' t t' (ap (word_at 2) is) (decimal_of_injective s s' (ap (word_at 3) is)) (ap (word_at 4) is) (decimal_of_injective t t' (ap (word_at 5) is))) (ns_text_injective z z' (ap (word_at 6) is))
 step_one (Delay e v w) (Delay e' v' w') z z' is = rw (delay_one e e' (ap (word_at 1) is), ap (word_at 2) is, ap (word_at 3) is, ns_text_injective z z' (ap (word_at 4) is)) refl
 step_one (Span e c s t) (Stamp k' v') z z' is = absurd (let h = ap length is in omega (arith, h))
 step_one (Span e c s t) (Delay e' v' w') z z' is = absurd (let h = ap length is in omega (arith, h))
 step_one (Stamp k v) (Span e' c' s' t') z z' is = absurd (let h = ap length is in omega (arith, h))
 step_one (Stamp k v) (Delay e' v' w') z z' is = absurd (let h = ap length is in omega (arith, h))
+step_one (Span e c s t) (Follow c' s' d' t') z z' is = absurd (let h = ap length is in omega (arith, h))
+step_one (Stamp k v) (Follow c' s' d' t') z z' is = absurd (let h = ap length is in omega (arith, h))
+step_one (Follow c s d t) (Span e' c' s' t') z z' is = absurd (let h = ap length is in omega (arith, h))
+step_one (Follow c s d t) (Stamp k' v') z z' is = absurd (let h = ap length is in omega (arith, h))
+step_one (Follow c s d t) (Delay e' v' w') z z' is = absurd (let h = ap length is in omega (arith, h))
+step_one (Delay e v w) (Follow c' s' d' t') z z' is = absurd (let h = ap length is in omega (arith, h))
 step_one (Delay e v w) (Span e' c' s' t') z z' is = absurd (let h = ap length is in omega (arith, h))
 step_one (Delay e v w) (Stamp k' v') z z' is = absurd (let h = ap length is in omega (arith, h))
 
@@ -205,6 +221,7 @@ tag_is (SideLine Upper v) = refl
 tag_is (SideLine Lower v) = refl
 tag_is (StepLine (Span e c s t) z) = refl
 tag_is (StepLine (Stamp k v) z) = refl
+tag_is (StepLine (Follow c s d t) z) = refl
 tag_is (StepLine (Delay e v w) z) = refl
 tag_is (InsideLine c) = refl
 tag_is (NodeLine (EventLine name z)) = refl

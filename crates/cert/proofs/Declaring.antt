@@ -7,16 +7,18 @@ use Rattle.std.proofs.lemmas.Option.{get_or_from_slice_get}
 use Rattle.problem_model.specs.declared.items.Event.{Event}
 use Rattle.problem_model.specs.declared.items.Message.{Message}
 use Rattle.problem_model.specs.declared.items.Bound.{Bound}
+use Rattle.problem_model.specs.declared.items.Bound.TheVariants as bounds
 use Rattle.problem_model.specs.Problem.{ProblemLists, IsProblem}
-use Rattle.problem_model.specs.Bounds.{IsReading}
+use Rattle.problem_model.specs.Bounds.{IsReading, ComesAfter}
 use Rattle.problem_model.specs.Nodes.{Reading, AreReadings}
+use Rattle.problem_model.proofs.Following.{by_last}
 use Rattle.problem.specs.Line.{HasClock, HasEvent, HasMessage}
 use Rattle.cert.specs.declared.kinds.Extreme.{Extreme}
 use Rattle.cert.specs.declared.kinds.Extreme.TheVariants.{Most, Least}
 use Rattle.cert.specs.declared.kinds.StampBound.{StampBound}
 use Rattle.cert.specs.declared.kinds.StampBound.TheVariants.{Late, Early}
 use Rattle.cert.specs.CertificateFormat.{Names, IsDeclared, span_bound, stamp_bound, delay_bound}
-use Rattle.cert.specs.CertificateFormat.NamedBound.{Span, Stamp, Delay}
+use Rattle.cert.specs.CertificateFormat.NamedBound.{Span, Stamp, Follow, Delay}
 use Rattle.cert.specs.TakesPart.{HasBound}
 use Rattle.cert.proofs.Certificates.{there_is}
 use Rattle.cert.proofs.CertGrowing.{clock_one, event_one, event_inside}
@@ -31,6 +33,14 @@ pub span_parts : (p : ProblemLists) (e : Extreme) (k s t : ℕ) → IsDeclared p
 span_parts p Most k s t d = (d.1.2, d.1.3, d.1.4)
 span_parts p Least k s t d = (d.1.2, d.1.3, d.1.4)
 
+-- ---- follows
+pub follow_declared : (p : ProblemLists) (c s d t : ℕ) → ComesAfter p c d → IsReading p c s → IsReading p d t → IsDeclared p (bounds.Follow c s d t)
+follow_declared p c s d t after a b = let last = by_last p c d after in (_, (last.0, last.1.0, last.1.1, after, a, b, refl))
+
+pub follow_parts : (p : ProblemLists) (c s d t : ℕ) → IsDeclared p (bounds.Follow c s d t) → ComesAfter p c d × IsReading p c s × IsReading p d t
+follow_parts p c s d t (a, declares) = (declares.3, declares.4, declares.5)
+
+-- ---- readings
 pub read_at : (p : ProblemLists) (readings : List Reading) (k m s : ℕ) → AreReadings p readings → slice_get readings m ≡ Some (k, s) → IsReading p k s
 read_at p readings k m s are at = are.each k s (contained readings m (k, s) at)
   where
@@ -67,6 +77,27 @@ module _ (p : ProblemLists) (lawful : IsProblem p) where
   pub span_not : (e : Extreme) (clock : List ℕ) (k x y s t : ℕ) (b : Bound) → HasClock p k clock → x ≡ s → y ≡ t → (IsDeclared p (span_bound e k s t) → ⊥) → Names p (Span e clock x y) b → IsDeclared p b → ⊥
   span_not e clock k x y s t b at sx ty none named declared =
       none (subst (λ (u : ℕ). IsDeclared p (span_bound e k s u)) ty (subst (λ (u : ℕ). IsDeclared p (span_bound e k u y)) sx (span_as e clock k x y b at named declared)))
+
+  -- ---- follows
+  pub follow_named : (earlier later : List ℕ) (j k x y s t : ℕ) (b : Bound) → HasClock p j earlier → HasClock p k later → x ≡ s → y ≡ t → b ≡ bounds.Follow j s k t → Names p (Follow earlier x later y) b
+  follow_named earlier later j k x y s t b at at' sx ty is = (j, k, at, at', is ∙ ap (λ (u : ℕ). bounds.Follow j u k t) (sym sx) ∙ ap (λ (u : ℕ). bounds.Follow j x k u) (sym ty))
+
+  -- a declared bound of these names is the bound at the clocks' places
+  pub follow_as : (earlier later : List ℕ) (j k x y : ℕ) (b : Bound) → HasClock p j earlier → HasClock p k later → Names p (Follow earlier x later y) b → IsDeclared p b → IsDeclared p (bounds.Follow j x k y)
+  follow_as earlier later j k x y b at at' named declared =
+      let one = clock_one p lawful named.0 j earlier named.2 at in
+      let two = clock_one p lawful named.1 k later named.3 at' in
+      subst (IsDeclared p) (named.4 ∙ ap (λ (i : ℕ). bounds.Follow i x named.1 y) one ∙ ap (λ (i : ℕ). bounds.Follow j x i y) two) declared
+
+  pub follow_reads : (earlier later : List ℕ) (x y : ℕ) (b : Bound) → Names p (Follow earlier x later y) b → IsDeclared p b → (x < 2 ^ 62) × (y < 2 ^ 62)
+  follow_reads earlier later x y b named declared =
+      let parts = follow_parts p named.0 x named.1 y (subst (IsDeclared p) named.4 declared) in
+      (reading_fits p named.0 x lawful parts.1, reading_fits p named.1 y lawful parts.2)
+
+  pub follow_not : (earlier later : List ℕ) (j k x y s t : ℕ) (b : Bound) → HasClock p j earlier → HasClock p k later → x ≡ s → y ≡ t → (IsDeclared p (bounds.Follow j s k t) → ⊥)
+      → Names p (Follow earlier x later y) b → IsDeclared p b → ⊥
+  follow_not earlier later j k x y s t b at at' sx ty none named declared =
+      none (subst (λ (u : ℕ). IsDeclared p (bounds.Follow j s k u)) ty (subst (λ (u : ℕ). IsDeclared p (bounds.Follow j u k y)) sx (follow_as earlier later j k x y b at at' named declared)))
 
   -- ---- stamps
   pub stamp_declared : (kind : StampBound) (k : ℕ) → k < length p.events → IsDeclared p (stamp_bound kind k)

@@ -14,15 +14,16 @@ use Rattle.cert.specs.declared.kinds.StampBound.{StampBound}
 use Rattle.cert.specs.declared.kinds.StampBound.TheVariants.{Late, Early}
 use Rattle.cert.specs.declared.steps.SpanWords.{SpanWords}
 use Rattle.cert.specs.declared.steps.StampWords.{StampWords}
+use Rattle.cert.specs.declared.steps.FollowWords.{FollowWords}
 use Rattle.cert.specs.declared.steps.DelayWords.{DelayWords}
 use Rattle.cert.specs.declared.steps.StepWords.{StepWords}
 use Rattle.cert.specs.declared.steps.StepWords.TheVariants as steps
 use Rattle.cert.specs.CertificateFormat.{NamedBound, cert_words, span_word, stamp_word, delay_word}
 use Rattle.cert.specs.CertificateFormat.CertLine.{StepLine}
-use Rattle.cert.specs.CertificateFormat.NamedBound.{Span, Stamp, Delay}
-use Rattle.cert.specs.SaidStep.{SpanParts, SaysSpan, NoSpan, span_rest, StampParts, SaysStamp, NoStamp, stamp_rest, DelayParts, SaysDelay, NoDelay, delay_rest, SaysKind, NoKind, kind_word, kind_rest, SaysStep, NoStep}
+use Rattle.cert.specs.CertificateFormat.NamedBound.{Span, Stamp, Follow, Delay}
+use Rattle.cert.specs.SaidStep.{SpanParts, SaysSpan, NoSpan, span_rest, StampParts, SaysStamp, NoStamp, stamp_rest, FollowParts, SaysFollow, NoFollow, follow_rest, DelayParts, SaysDelay, NoDelay, delay_rest, SaysKind, NoKind, kind_word, kind_rest, SaysStep, NoStep}
 use Rattle.cert.proofs.Lacking.{clock_name_lacks, event_name_lacks, decimal_lacks}
-use Rattle.cert.proofs.CertLines.{span_lacks, stamp_lacks, delay_lacks}
+use Rattle.cert.proofs.CertLines.{span_lacks, stamp_lacks, follow_lacks, delay_lacks}
 
 -- ---- spans
 span_fields : (rest clock : List ℕ) (x y : ℕ) (z : ℤ) → IsClockName clock → rest ≡ span_rest clock x y z → fields 3 rest ≡ Some (clock ∷ decimal_of x ∷ decimal_of y ∷ ns_text z ∷ [])
@@ -82,6 +83,37 @@ stamp_says rest a b w two parts = record {
   held = parts.weight_is.held;
 }
 
+-- ---- follows
+follow_fields : (rest earlier later : List ℕ) (x y : ℕ) (z : ℤ) → IsClockName earlier → IsClockName later → rest ≡ follow_rest earlier x later y z
+    → fields 4 rest ≡ Some (earlier ∷ decimal_of x ∷ later ∷ decimal_of y ∷ ns_text z ∷ [])
+follow_fields rest earlier later x y z named named' is =
+    rw is (fields_again 4 (earlier ∷ decimal_of x ∷ later ∷ decimal_of y ∷ ns_text z ∷ []) refl
+    (clock_name_lacks 32 earlier (omega arith) named, (decimal_lacks 32 x (omega arith), (clock_name_lacks 32 later (omega arith) named', (decimal_lacks 32 y (omega arith), tt)))))
+
+pub follow_not_five : (rest : List ℕ) → fields 4 rest ≡ None → NoFollow rest
+follow_not_five rest none earlier later x y z named named' is = let f = follow_fields rest earlier later x y z named named' is in cc
+
+pub follow_not_parts : (rest a b c d e : List ℕ) → fields 4 rest ≡ Some (a ∷ b ∷ c ∷ d ∷ e ∷ [])
+    → ((x : ℕ) (y : ℕ) (z : ℤ) → IsClockName a → b ≡ decimal_of x → IsClockName c → d ≡ decimal_of y → e ≡ ns_text z → ⊥) → NoFollow rest
+follow_not_parts rest a b c d e five none earlier later x y z named named' is =
+    let f = follow_fields rest earlier later x y z named named' is in
+    let a-is : earlier ≡ a = cc in
+    let c-is : later ≡ c = cc in
+    none x y z (rw a-is at named) (cc) (rw c-is at named') (cc) (cc)
+
+pub follow_says : (rest a b c d e : List ℕ) (w : FollowWords) → fields 4 rest ≡ Some (a ∷ b ∷ c ∷ d ∷ e ∷ []) → FollowParts a b c d e w → SaysFollow rest w
+follow_says rest a b c d e w five parts = record {
+  x = parts.s_is.m;
+  y = parts.t_is.m;
+  z = parts.weight_is.z;
+  earlier_named = parts.earlier_named;
+  later_named = parts.later_named;
+  is = (fields_take 4 rest (a ∷ b ∷ c ∷ d ∷ e ∷ []) five).0 ∙ rw (parts.earlier_is, parts.s_is.is, parts.later_is, parts.t_is.is, parts.weight_is.is) refl;
+  s_held = parts.s_is.held;
+  t_held = parts.t_is.held;
+  held = parts.weight_is.held;
+}
+
 -- ---- delays
 delay_fields : (rest send receive : List ℕ) (z : ℤ) → IsEventName send → IsEventName receive → rest ≡ delay_rest send receive z → fields 2 rest ≡ Some (send ∷ receive ∷ ns_text z ∷ [])
 delay_fields rest send receive z named named' is =
@@ -134,6 +166,19 @@ stamp_not_delay : (k : StampBound) (e : Extreme) → stamp_word k ≡ delay_word
 unfolding first_byte
 stamp_not_delay k e is = let h : get_or (stamp_word k) 0 0 ≡ get_or (delay_word e) 0 0 = ap first_byte is in let a = stamp_byte k in let b = delay_byte e in omega (arith, h, a.1, b)
 
+span_not_follow : (e : Extreme) → span_word e ≡ codes "follow" → ⊥
+unfolding first_byte
+span_not_follow e is = let h : get_or (span_word e) 0 0 ≡ 102 = ap first_byte is in let a = span_byte e in omega (arith, h, a)
+
+stamp_not_follow : (k : StampBound) → stamp_word k ≡ codes "follow" → ⊥
+unfolding first_byte
+stamp_not_follow Late is = let h : 108 ≡ 102 = ap first_byte is in omega (arith, h)
+stamp_not_follow Early is = let h : 101 ≡ 102 = ap first_byte is in omega (arith, h)
+
+follow_not_delay : (e : Extreme) → codes "follow" ≡ delay_word e → ⊥
+unfolding first_byte
+follow_not_delay e is = let h : 102 ≡ get_or (delay_word e) 0 0 = ap first_byte is in let b = delay_byte e in omega (arith, h, b)
+
 pub span_kind_says : (kind rest : List ℕ) (e : Extreme) (w : SpanWords) → kind ≡ span_word e → SaysSpan rest w → SaysKind kind rest (steps.Span e w)
 span_kind_says kind rest e w is says = record {
   n = Span e w.clock says.x says.y;
@@ -147,6 +192,7 @@ span_kind_says kind rest e w is says = record {
 pub span_kind_not : (kind rest : List ℕ) (e : Extreme) → kind ≡ span_word e → NoSpan rest → NoKind kind rest
 span_kind_not kind rest e is none (Span e' c x y) z spelled kind_is rest_is = none c x y z spelled rest_is
 span_kind_not kind rest e is none (Stamp k v) z spelled kind_is rest_is = span_not_stamp e k (sym is ∙ kind_is)
+span_kind_not kind rest e is none (Follow c x d y) z spelled kind_is rest_is = span_not_follow e (sym is ∙ kind_is)
 span_kind_not kind rest e is none (Delay e' v w) z spelled kind_is rest_is = span_not_delay e e' (sym is ∙ kind_is)
 
 pub stamp_kind_says : (kind rest : List ℕ) (k : StampBound) (w : StampWords) → kind ≡ stamp_word k → SaysStamp rest w → SaysKind kind rest (steps.Stamp k w)
@@ -155,7 +201,24 @@ stamp_kind_says kind rest k w is says = record { n = Stamp k w.event; z = says.z
 pub stamp_kind_not : (kind rest : List ℕ) (k : StampBound) → kind ≡ stamp_word k → NoStamp rest → NoKind kind rest
 stamp_kind_not kind rest k is none (Span e' c x y) z spelled kind_is rest_is = span_not_stamp e' k (sym kind_is ∙ is)
 stamp_kind_not kind rest k is none (Stamp k' v) z spelled kind_is rest_is = none v z spelled rest_is
+stamp_kind_not kind rest k is none (Follow c x d y) z spelled kind_is rest_is = stamp_not_follow k (sym is ∙ kind_is)
 stamp_kind_not kind rest k is none (Delay e' v w) z spelled kind_is rest_is = stamp_not_delay k e' (sym is ∙ kind_is)
+
+pub follow_kind_says : (kind rest : List ℕ) (w : FollowWords) → kind ≡ codes "follow" → SaysFollow rest w → SaysKind kind rest (steps.Follow w)
+follow_kind_says kind rest w is says = record {
+  n = Follow w.earlier says.x w.later says.y;
+  z = says.z;
+  held = (says.x, says.y, says.s_held, says.t_held, says.held, refl);
+  spelled = (says.earlier_named, says.later_named);
+  kind_is = is;
+  rest_is = says.is;
+}
+
+pub follow_kind_not : (kind rest : List ℕ) → kind ≡ codes "follow" → NoFollow rest → NoKind kind rest
+follow_kind_not kind rest is none (Span e c x y) z spelled kind_is rest_is = span_not_follow e (sym kind_is ∙ is)
+follow_kind_not kind rest is none (Stamp k v) z spelled kind_is rest_is = stamp_not_follow k (sym kind_is ∙ is)
+follow_kind_not kind rest is none (Follow c x d y) z spelled kind_is rest_is = none c d x y z spelled.0 spelled.1 rest_is
+follow_kind_not kind rest is none (Delay e v w) z spelled kind_is rest_is = follow_not_delay e (sym is ∙ kind_is)
 
 pub delay_kind_says : (kind rest : List ℕ) (e : Extreme) (w : DelayWords) → kind ≡ delay_word e → SaysDelay rest w → SaysKind kind rest (steps.Delay e w)
 delay_kind_says kind rest e w is says = record { n = Delay e w.send w.receive; z = says.z; held = (says.held, refl); spelled = (says.send_named, says.receive_named); kind_is = is; rest_is = says.is }
@@ -163,22 +226,27 @@ delay_kind_says kind rest e w is says = record { n = Delay e w.send w.receive; z
 pub delay_kind_not : (kind rest : List ℕ) (e : Extreme) → kind ≡ delay_word e → NoDelay rest → NoKind kind rest
 delay_kind_not kind rest e is none (Span e' c x y) z spelled kind_is rest_is = span_not_delay e' e (sym kind_is ∙ is)
 delay_kind_not kind rest e is none (Stamp k v) z spelled kind_is rest_is = stamp_not_delay k e (sym kind_is ∙ is)
+delay_kind_not kind rest e is none (Follow c x d y) z spelled kind_is rest_is = follow_not_delay e (sym kind_is ∙ is)
 delay_kind_not kind rest e is none (Delay e' v w) z spelled kind_is rest_is = none v w z spelled.0 spelled.1 rest_is
 
-pub no_kind : (kind rest : List ℕ) → ((e : Extreme) → kind ≡ span_word e → ⊥) → ((k : StampBound) → kind ≡ stamp_word k → ⊥) → ((e : Extreme) → kind ≡ delay_word e → ⊥) → NoKind kind rest
-no_kind kind rest a b c (Span e v x y) z spelled kind_is rest_is = a e kind_is
-no_kind kind rest a b c (Stamp k v) z spelled kind_is rest_is = b k kind_is
-no_kind kind rest a b c (Delay e v w) z spelled kind_is rest_is = c e kind_is
+pub no_kind : (kind rest : List ℕ) → ((e : Extreme) → kind ≡ span_word e → ⊥) → ((k : StampBound) → kind ≡ stamp_word k → ⊥) → (kind ≡ codes "follow" → ⊥) → ((e : Extreme) → kind ≡ delay_word e → ⊥)
+    → NoKind kind rest
+no_kind kind rest a b c d (Span e v x y) z spelled kind_is rest_is = a e kind_is
+no_kind kind rest a b c d (Stamp k v) z spelled kind_is rest_is = b k kind_is
+no_kind kind rest a b c d (Follow v x w y) z spelled kind_is rest_is = c kind_is
+no_kind kind rest a b c d (Delay e v w) z spelled kind_is rest_is = d e kind_is
 
 -- ---- the whole line
 step_body : (n : NamedBound) (z : ℤ) → words (codes "step" ∷ kind_word n ∷ kind_rest n z ∷ []) ≡ words (cert_words (StepLine n z))
 step_body (Span e c x y) z = refl
 step_body (Stamp k v) z = refl
+step_body (Follow c x d y) z = refl
 step_body (Delay e v w) z = refl
 
 kind_lacks : (n : NamedBound) → Lacks 32 (kind_word n)
 kind_lacks (Span e c x y) = span_lacks 32 e (omega arith)
 kind_lacks (Stamp k v) = stamp_lacks 32 k (omega arith)
+kind_lacks (Follow c x d y) = follow_lacks 32 (omega arith)
 kind_lacks (Delay e v w) = delay_lacks 32 e (omega arith)
 
 step_fields : (body : List ℕ) (n : NamedBound) (z : ℤ) → body ≡ words (cert_words (StepLine n z)) → fields 2 body ≡ Some (codes "step" ∷ kind_word n ∷ kind_rest n z ∷ [])

@@ -6,11 +6,12 @@ use Rattle.atto.specs.Number.{FitsUnits}
 use Rattle.line_format.specs.Words.{line_of}
 use Rattle.line_format.specs.Format.{Format}
 use Rattle.problem_model.specs.declared.items.Bound.{Bound}
+use Rattle.problem_model.specs.declared.items.Bound.TheVariants as bounds
 use Rattle.problem_model.specs.declared.items.Bound.TheVariants.{SpanMost, SpanLeast, Late, Early, DelayMost, DelayLeast}
 use Rattle.problem_model.specs.Name.{IsEventName, IsClockName}
 use Rattle.problem_model.specs.Problem.{ProblemLists}
 use Rattle.problem_model.specs.ProblemText.{event_name}
-use Rattle.problem_model.specs.BoundText.{span_words, stamp_words, delay_words}
+use Rattle.problem_model.specs.BoundText.{span_words, stamp_words, follow_words, delay_words}
 use Rattle.problem_model.specs.Bounds.{Constraint, Declares}
 use Rattle.problem_model.specs.Nodes.{Reading, nodes_of}
 use Rattle.problem_model.specs.ExecutionText.{value_lines}
@@ -33,10 +34,11 @@ use Rattle.cert.specs.ExecutionFormat.ExecutionLine.{EndLine}
 use Rattle.cert.specs.CertificateText.{step_line, inside_line, IsStepOf}
 
 -- ---- bounds by their names
--- a bound by the names of its clock or events, with stamps as large as they are written
+-- a bound by the names of its clocks or events, with stamps as large as they are written
 pub data NamedBound : Type 0 where
   Span : Extreme → List ℕ → ℕ → ℕ → NamedBound
   Stamp : StampBound → List ℕ → NamedBound
+  Follow : List ℕ → ℕ → List ℕ → ℕ → NamedBound
   Delay : Extreme → List ℕ → List ℕ → NamedBound
 
 -- the first word of a bound over a span
@@ -58,12 +60,14 @@ delay_word Least = codes "delay-least"
 abbrev pub named_words : NamedBound → List (List ℕ)
 named_words (Span extreme clock s t) = span_words (span_word extreme) clock s t
 named_words (Stamp kind event) = stamp_words (stamp_word kind) event
+named_words (Follow earlier s later t) = follow_words earlier s later t
 named_words (Delay extreme send receive) = delay_words (delay_word extreme) send receive
 
 -- each name is spelled as one of its kind
 abbrev pub IsBoundSpelled : NamedBound → Type 0
 IsBoundSpelled (Span extreme clock s t) = IsClockName clock
 IsBoundSpelled (Stamp kind event) = IsEventName event
+IsBoundSpelled (Follow earlier s later t) = IsClockName earlier × IsClockName later
 IsBoundSpelled (Delay extreme send receive) = IsEventName send × IsEventName receive
 
 -- the bound over a span of the clock at a place
@@ -81,10 +85,11 @@ abbrev pub delay_bound : Extreme → ℕ → ℕ → Bound
 delay_bound Most send receive = DelayMost send receive
 delay_bound Least send receive = DelayLeast send receive
 
--- b is the bound of these names, by the places of its clock or events
+-- b is the bound of these names, by the places of its clocks or events
 abbrev pub Names : ProblemLists → NamedBound → Bound → Type 0
 Names p (Span extreme clock s t) b = (k : ℕ) × HasClock p k clock × (b ≡ span_bound extreme k s t)
 Names p (Stamp kind event) b = (k : ℕ) × HasEvent p k event × (b ≡ stamp_bound kind k)
+Names p (Follow earlier s later t) b = (j : ℕ) × (k : ℕ) × HasClock p j earlier × HasClock p k later × (b ≡ bounds.Follow j s k t)
 Names p (Delay extreme send receive) b = (j : ℕ) × (k : ℕ) × HasEvent p j send × HasEvent p k receive × (b ≡ delay_bound extreme j k)
 
 -- the problem declares it

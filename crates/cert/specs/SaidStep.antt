@@ -1,5 +1,5 @@
 -- What the code holds of the lines of certificates: a number that is too large is held as None.
-use Rattle.std.specs.Prelude.{◌≡◌, ℕ, ◌^◌, List, [], ◌∷◌, SomeIff, ℤ}
+use Rattle.std.specs.Prelude.{◌≡◌, ℕ, ◌^◌, List, [], ◌∷◌, SomeIff, codes, ℤ}
 use Rattle.atto.specs.Decimal.{decimal_of}
 use Rattle.atto.specs.NsText.{ns_text}
 use Rattle.atto.specs.Number.{Counts, FitsUnits}
@@ -9,6 +9,7 @@ use Rattle.problem_model.specs.declared.items.Bound.{Bound}
 use Rattle.problem_model.specs.Problem.{ProblemLists}
 use Rattle.cert.specs.declared.steps.SpanWords.{SpanWords}
 use Rattle.cert.specs.declared.steps.StampWords.{StampWords}
+use Rattle.cert.specs.declared.steps.FollowWords.{FollowWords}
 use Rattle.cert.specs.declared.steps.DelayWords.{DelayWords}
 use Rattle.cert.specs.declared.steps.StepWords.{StepWords}
 use Rattle.cert.specs.declared.steps.StepWords.TheVariants as steps
@@ -17,7 +18,7 @@ use Rattle.cert.specs.declared.kinds.Extreme.{Extreme}
 use Rattle.cert.specs.Said.{SpellsValue, SpellsNumber}
 use Rattle.cert.specs.CertificateFormat.{NamedBound, IsBoundSpelled, Names, IsDeclared, cert_words, span_word, stamp_word, delay_word}
 use Rattle.cert.specs.CertificateFormat.CertLine.{EndsLine, StepLine, InsideLine}
-use Rattle.cert.specs.CertificateFormat.NamedBound.{Span, Stamp, Delay}
+use Rattle.cert.specs.CertificateFormat.NamedBound.{Span, Stamp, Follow, Delay}
 
 -- ---- bounds over spans
 -- what the words behind `step span-most` or `step span-least` say
@@ -65,6 +66,34 @@ pub record SaysStamp (rest : List ℕ) (w : StampWords) : Type 0 where
 abbrev pub NoStamp : List ℕ → Type 0
 NoStamp rest = (event : List ℕ) (z : ℤ) → IsEventName event → rest ≡ stamp_rest event z → ⊥
 
+-- ---- bounds between clocks that follow each other
+-- what the words behind `step follow` say
+pub record FollowParts (earlier s later t weight : List ℕ) (w : FollowWords) : Type 0 where
+  pub earlier_is : earlier ≡ w.earlier
+  pub earlier_named : IsClockName w.earlier
+  pub s_is : SpellsNumber s w.s
+  pub later_is : later ≡ w.later
+  pub later_named : IsClockName w.later
+  pub t_is : SpellsNumber t w.t
+  pub weight_is : SpellsValue weight w.weight
+
+abbrev pub follow_rest : List ℕ → ℕ → List ℕ → ℕ → ℤ → List ℕ
+follow_rest earlier s later t z = words (earlier ∷ decimal_of s ∷ later ∷ decimal_of t ∷ ns_text z ∷ [])
+
+pub record SaysFollow (rest : List ℕ) (w : FollowWords) : Type 0 where
+  pub x : ℕ
+  pub y : ℕ
+  pub z : ℤ
+  pub earlier_named : IsClockName w.earlier
+  pub later_named : IsClockName w.later
+  pub is : rest ≡ follow_rest w.earlier x w.later y z
+  pub s_held : Counts (2 ^ 64) x w.s
+  pub t_held : Counts (2 ^ 64) y w.t
+  pub held : SomeIff w.weight (FitsUnits z) z
+
+abbrev pub NoFollow : List ℕ → Type 0
+NoFollow rest = (earlier later : List ℕ) (x y : ℕ) (z : ℤ) → IsClockName earlier → IsClockName later → rest ≡ follow_rest earlier x later y z → ⊥
+
 -- ---- bounds on delays
 pub record DelayParts (send receive weight : List ℕ) (w : DelayWords) : Type 0 where
   pub send_is : send ≡ w.send
@@ -91,18 +120,21 @@ NoDelay rest = (send receive : List ℕ) (z : ℤ) → IsEventName send → IsEv
 abbrev pub HoldsStep : StepWords → NamedBound → ℤ → Type 0
 HoldsStep (steps.Span extreme w) n z = (x : ℕ) × (y : ℕ) × Counts (2 ^ 64) x w.s × Counts (2 ^ 64) y w.t × SomeIff w.weight (FitsUnits z) z × (n ≡ Span extreme w.clock x y)
 HoldsStep (steps.Stamp kind w) n z = SomeIff w.weight (FitsUnits z) z × (n ≡ Stamp kind w.event)
+HoldsStep (steps.Follow w) n z = (x : ℕ) × (y : ℕ) × Counts (2 ^ 64) x w.s × Counts (2 ^ 64) y w.t × SomeIff w.weight (FitsUnits z) z × (n ≡ Follow w.earlier x w.later y)
 HoldsStep (steps.Delay extreme w) n z = SomeIff w.weight (FitsUnits z) z × (n ≡ Delay extreme w.send w.receive)
 
 -- the first word of a bound
 abbrev pub kind_word : NamedBound → List ℕ
 kind_word (Span extreme clock s t) = span_word extreme
 kind_word (Stamp kind event) = stamp_word kind
+kind_word (Follow earlier s later t) = codes "follow"
 kind_word (Delay extreme send receive) = delay_word extreme
 
 -- its other words, with a weight behind
 abbrev pub kind_rest : NamedBound → ℤ → List ℕ
 kind_rest (Span extreme clock s t) z = span_rest clock s t z
 kind_rest (Stamp kind event) z = stamp_rest event z
+kind_rest (Follow earlier s later t) z = follow_rest earlier s later t z
 kind_rest (Delay extreme send receive) z = delay_rest send receive z
 
 -- the words behind `step` are those of w
@@ -173,6 +205,13 @@ FindsSpan p extreme w b = (x y : ℕ) → Counts (2 ^ 64) x w.s → Counts (2 ^ 
 
 abbrev pub FindsNoSpan : ProblemLists → Extreme → SpanWords → Type 0
 FindsNoSpan p extreme w = (x y : ℕ) → Counts (2 ^ 64) x w.s → Counts (2 ^ 64) y w.t → FindsNoNamed p (Span extreme w.clock x y)
+
+-- the same of a bound between clocks that follow each other
+abbrev pub FindsFollow : ProblemLists → FollowWords → Bound → Type 0
+FindsFollow p w b = (x y : ℕ) → Counts (2 ^ 64) x w.s → Counts (2 ^ 64) y w.t → FindsNamed p (Follow w.earlier x w.later y) b
+
+abbrev pub FindsNoFollow : ProblemLists → FollowWords → Type 0
+FindsNoFollow p w = (x y : ℕ) → Counts (2 ^ 64) x w.s → Counts (2 ^ 64) y w.t → FindsNoNamed p (Follow w.earlier x w.later y)
 
 -- the same of any bound
 abbrev pub Finds : ProblemLists → StepWords → Bound → Type 0

@@ -1,13 +1,14 @@
 // The bounds of a problem by their names.
 ghost use Rattle.std.specs.Prelude.{◌≡◌, ◌↔◌, ◌<◌, ◌^◌, ℕ, SomeIff, IfSome, IfNone, IsTrue, length};
 ghost use Rattle.atto.specs.Number.{Counts};
+ghost use Rattle.problem_model.specs.declared.items.Bound.TheVariants as bounds;
 ghost use Rattle.cert.specs.CertificateFormat.{IsDeclared, span_bound, stamp_bound, delay_bound};
 ghost use Rattle.cert.specs.CertificateFormat.NamedBound.{Stamp, Delay};
-ghost use Rattle.cert.specs.SaidStep.{FindsNamed, FindsNoNamed, FindsSpan, FindsNoSpan, Finds, FindsNone};
+ghost use Rattle.cert.specs.SaidStep.{FindsNamed, FindsNoNamed, FindsSpan, FindsNoSpan, FindsFollow, FindsNoFollow, Finds, FindsNone};
 ghost use Rattle.cert.specs.TakesPart.{HasBound};
 
 use crate::kinds::{Extreme, StampBound};
-use crate::steps::{SpanWords, StepWords};
+use crate::steps::{FollowWords, SpanWords, StepWords};
 use atto::Nano;
 use problem::{Bound, Message, Name, Problem};
 
@@ -71,6 +72,39 @@ fn stamp_of(p: &Problem, kind: StampBound, event: &Name) -> Option<Bound>
     Some(stamp_named(kind, event))
 }
 
+// The bound between a reading of a clock and one of a clock that comes after it.
+fn follow_between(p: &Problem, earlier: u32, s: Nano, later: u32, t: Nano) -> Option<Bound>
+    requires earlier { earlier < length p.now.clocks }
+    requires later { later < length p.now.clocks }
+    ensures some { IfSome result (λ b. (b ≡ bounds.Follow earlier s later t) × IsDeclared p.now b) }
+    ensures none { IfNone result (IsDeclared p.now (bounds.Follow earlier s later t) → ⊥) }
+{
+    if !p.comes_after(earlier, later) {
+        return None;
+    }
+    let _ = p.readings();
+    let _first = p.reading_place(earlier, s)?;
+    let _second = p.reading_place(later, t)?;
+    Some(Bound::Follow {
+        earlier,
+        s,
+        later,
+        t,
+    })
+}
+
+fn follow_of(p: &Problem, w: &FollowWords) -> Option<Bound>
+    ensures some { IfSome result (λ b. FindsFollow p.now w.now b) }
+    ensures none { IfNone result (FindsNoFollow p.now w.now) }
+{
+    let _ = p.events();
+    let earlier = p.clock_place(&w.earlier)?;
+    let later = p.clock_place(&w.later)?;
+    let s = nano_of(w.s)?;
+    let t = nano_of(w.t)?;
+    follow_between(p, earlier, s, later, t)
+}
+
 fn delay_named(extreme: Extreme, send: u32, receive: u32) -> Bound
     ensures { result ≡ delay_bound extreme send receive }
 {
@@ -121,6 +155,7 @@ pub fn bound_of(p: &Problem, words: &StepWords) -> Option<Bound>
     match words {
         StepWords::Span(extreme, w) => span_of(p, *extreme, w),
         StepWords::Stamp(kind, w) => stamp_of(p, *kind, &w.event),
+        StepWords::Follow(w) => follow_of(p, w),
         StepWords::Delay(extreme, w) => delay_of(p, *extreme, &w.send, &w.receive),
     }
 }

@@ -16,10 +16,10 @@ pub struct Step {
     pub weight: Units,
 }
 
-/// The most steps of a chain, so that a sum of the weights of so many bounds is below 2^115 in absolute value.
-pub const MOST_STEPS: usize = 1 << 22;
+/// The most steps of a chain, so that a sum of the weights of so many bounds is below 2^116 in absolute value.
+pub const MOST_STEPS: usize = 1 << 23;
 
-/// At most 2^22 steps, one after another: a cycle or a path of difference constraints.
+/// At most 2^23 steps, one after another: a cycle or a path of difference constraints.
 #[derive(Drop)]
 pub struct Chain {
     held: Vec<Step>,

@@ -19,7 +19,7 @@ pub enum CertError {
     /// There is one step too many in a list. An execution is never refused so.
     #[error("line {0} is one too many of its kind")]
     Limit(u32),
-    /// The text has more than 2^30 bytes.
+    /// The text has more than 2^31 bytes.
     #[error("the text is too long")]
     Long,
     /// Memory ran out.

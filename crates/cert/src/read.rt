@@ -138,7 +138,7 @@ fn read_text(alloc: Global, nodes: &Nodes<'_>, text: &[u8]) -> Result<Execution,
 }
 
 /// The execution of a problem that a text spells, or the first fault of the text: `Syntax`, `Name` or
-/// `Range` with its line, and `Long` beyond 2^30 bytes. `Limit` never comes, and `Memory` only where
+/// `Range` with its line, and `Long` beyond 2^31 bytes. `Limit` never comes, and `Memory` only where
 /// memory runs out.
 pub fn read_execution(alloc: Global, p: &Problem, text: &[u8]) -> Result<Execution, CertError>
     ensures { Reads p.now text.now result }

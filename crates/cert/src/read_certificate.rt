@@ -220,7 +220,7 @@ fn read_text(alloc: Global, p: &Problem, text: &[u8]) -> Result<Cert, CertError>
 }
 
 /// The certificate of a problem that a text spells, or the first fault of the text: `Syntax`, `Name`, `Range` or
-/// `Limit` with its line, and `Long` beyond 2^30 bytes. `Memory` comes only where memory runs out.
+/// `Limit` with its line, and `Long` beyond 2^31 bytes. `Memory` comes only where memory runs out.
 pub fn read_cert(alloc: Global, p: &Problem, text: &[u8]) -> Result<Cert, CertError>
     ensures { ReadsCert p.now text.now result }
 {

@@ -6,12 +6,12 @@ ghost use Rattle.problem_model.specs.Name.{IsEventName, IsClockName};
 ghost use Rattle.cert.specs.declared.kinds.Extreme.{Extreme};
 ghost use Rattle.cert.specs.declared.kinds.StampBound.{StampBound};
 ghost use Rattle.cert.specs.CertificateFormat.{span_word, stamp_word, delay_word};
-ghost use Rattle.cert.specs.SaidStep.{SpanParts, SaysSpan, NoSpan, StampParts, SaysStamp, NoStamp, DelayParts, SaysDelay, NoDelay, SaysKind, NoKind, SaysStep, NoStep};
+ghost use Rattle.cert.specs.SaidStep.{SpanParts, SaysSpan, NoSpan, StampParts, SaysStamp, NoStamp, FollowParts, SaysFollow, NoFollow, DelayParts, SaysDelay, NoDelay, SaysKind, NoKind, SaysStep, NoStep};
 
 use crate::kinds::{Extreme, StampBound};
 use crate::words::{clock_name, number_of, value_of};
 use atto::Units;
-use line_format::{cut, four_words, three_words};
+use line_format::{cut, five_words, four_words, three_words};
 use problem::Name;
 
 /// A bound over a span with a weight. A stamp of 2^64 or more is None, and a weight out of range.
@@ -36,6 +36,21 @@ pub struct StampWords {
     pub weight: Option<Units>,
 }
 
+/// A bound between clocks that follow each other with a weight. A stamp of 2^64 or more is None, and a weight out of range.
+#[derive(Clone, Copy)]
+pub struct FollowWords {
+    /// The name of the clock that comes first.
+    pub earlier: Name,
+    /// The stamp on it, in ns.
+    pub s: Option<u64>,
+    /// The name of the clock that comes after it.
+    pub later: Name,
+    /// The stamp on that one, in ns.
+    pub t: Option<u64>,
+    /// In units of 1e-9 ns.
+    pub weight: Option<Units>,
+}
+
 /// A bound on a message's delay with a weight. A weight out of range is None.
 #[derive(Clone, Copy)]
 pub struct DelayWords {
@@ -54,6 +69,8 @@ pub enum StepWords {
     Span(Extreme, SpanWords),
     /// `late` or `early`.
     Stamp(StampBound, StampWords),
+    /// `follow`.
+    Follow(FollowWords),
     /// `delay-most` or `delay-least`.
     Delay(Extreme, DelayWords),
 }
@@ -144,6 +161,30 @@ fn stamp_words(rest: &[u8]) -> Option<StampWords>
     }
 }
 
+fn follow_of(earlier: &[u8], s: &[u8], later: &[u8], t: &[u8], weight: &[u8]) -> Option<FollowWords>
+    ensures some { IfSome result (λ w. FollowParts earlier.now s.now later.now t.now weight.now w) }
+    ensures none { IfNone result ((x : ℕ) (y : ℕ) (z : ℤ) → IsClockName earlier.now → s.now ≡ decimal_of x → IsClockName later.now → t.now ≡ decimal_of y → weight.now ≡ ns_text z → ⊥) }
+{
+    Some(FollowWords {
+        earlier: clock_name(earlier)?,
+        s: number_of(s)?,
+        later: clock_name(later)?,
+        t: number_of(t)?,
+        weight: value_of(weight)?,
+    })
+}
+
+// The words `EARLIER S LATER T WEIGHT`.
+fn follow_words(rest: &[u8]) -> Option<FollowWords>
+    ensures some { IfSome result (λ w. SaysFollow rest.now w) }
+    ensures none { IfNone result (NoFollow rest.now) }
+{
+    match five_words(rest) {
+        Some((earlier, s, later, t, weight)) => follow_of(earlier, s, later, t, weight),
+        None => None,
+    }
+}
+
 fn delay_of(send: &[u8], receive: &[u8], weight: &[u8]) -> Option<DelayWords>
     ensures some { IfSome result (λ w. DelayParts send.now receive.now weight.now w) }
     ensures none { IfNone result ((z : ℤ) → IsEventName send.now → IsEventName receive.now → weight.now ≡ ns_text z → ⊥) }
@@ -180,6 +221,12 @@ fn step_of(kind: &[u8], rest: &[u8]) -> Option<StepWords>
     if let Some(bound) = stamp_kind(kind) {
         return match stamp_words(rest) {
             Some(words) => Some(StepWords::Stamp(bound, words)),
+            None => None,
+        };
+    }
+    if kind == b"follow".as_slice() {
+        return match follow_words(rest) {
+            Some(words) => Some(StepWords::Follow(words)),
             None => None,
         };
     }

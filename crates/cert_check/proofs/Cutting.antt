@@ -2,7 +2,7 @@
 use Rattle.std.proofs.Common.{◌≡◌, ◌<◌, ℕ, zero, suc, List, [], ◌∷◌, ◌++◌, length, get_or, Option, Some, None, refl, sym, ◌∙◌, ap, subst, arith, append_assoc}
 use Rattle.std.specs.Prelude.{Contains, All}
 use Rattle.std.specs.List.{flat_map}
-use Rattle.std.proofs.lemmas.List.Elements.{All-append, All-nil, All-cons, All-head, All-tail}
+use Rattle.std.proofs.lemmas.List.Elements.{All-append, All-nil, All-cons, All-head}
 use Rattle.problem_model.specs.declared.items.Event.{Event}
 use Rattle.problem_model.specs.declared.items.Message.{Message}
 use Rattle.problem_model.specs.declared.items.Node.{Node}
@@ -11,19 +11,26 @@ use Rattle.problem_model.specs.declared.items.Bound.{Bound}
 use Rattle.problem_model.specs.declared.items.Bound.TheVariants.{SpanMost, SpanLeast, Late, Early, Follow, DelayMost, DelayLeast}
 use Rattle.problem_model.specs.Problem.{ProblemLists, IsWellFormed}
 use Rattle.problem_model.specs.Bounds.{Constraint, Declares, EventAt}
-use Rattle.problem_model.specs.ShortList.{most_bound, message_bounds}
+use Rattle.problem_model.specs.Nodes.{Reading, AreReadings}
+use Rattle.problem_model.specs.ShortList.{follow_bounds, most_bound, message_bounds}
+use Rattle.problem_model.proofs.Chains.{among}
+use Rattle.problem_model.proofs.Following.{chained_by}
 use Rattle.problem_model.proofs.OneName.{declared_one}
 use Rattle.cert.specs.Shows.{IsOnClock, IsInside, IsCutOf, Parts}
-use Rattle.problem_model.proofs.Walking.{none_follows}
 use Rattle.cert_check.specs.declared.answer.Part.{Part}
 use Rattle.cert_check.specs.declared.answer.Reason.{Reason}
 use Rattle.cert_check.specs.declared.answer.Reason.TheVariants.{Home, Away, Leaves}
-use Rattle.cert_check.specs.Reasons.{home_of, away_of, IsLeaving, IsFirstLeaving, CutIs, IsNoLater}
+use Rattle.cert_check.specs.Reasons.{joining_bounds, home_of, away_of, IsLeaving, IsFirstLeaving, CutIs, IsNoLater}
 use Rattle.cert_check.specs.Faults.{IsFirstOf, StaysInside, FindsLeaving}
+use Rattle.cert_check.proofs.Chained.{front, back, inside_before}
 use Rattle.cert_check.proofs.Turns.{cut_cases, earlier_kind, same_kind, home_turn, away_turn, leaves_turn}
 
 some_same : {X : Type 0} (a b : X) → Some a ≡ Some b → a ≡ b
 some_same a b e = cc
+
+pub none_found : {X : Type 0} (o : Option X) → ((x : X) → o ≡ Some x → ⊥) → o ≡ None
+none_found None none = refl
+none_found (Some x) none = absurd (none x refl)
 
 -- ---- an event is inside where its clock is
 pub inside_by : (p : ProblemLists) (inside : List ℕ) (e : ℕ) (v : Event) → EventAt p e v → Contains inside v.clock → IsInside p inside (nodes.Event e)
@@ -89,37 +96,34 @@ module _ (p : ProblemLists) (inside : List ℕ) where
   Kept c = IsInside p inside c.from → IsInside p inside c.to
 
   -- ---- every bound of a message stays
-  front : (xs ys : List Bound) → All (StaysInside p inside) (xs ++ ys) → All (StaysInside p inside) xs
-  front [] ys every = All-nil (StaysInside p inside)
-  front (x ∷ xs) ys every = All-cons (StaysInside p inside) x xs (All-head (StaysInside p inside) x (xs ++ ys) every) (front xs ys (All-tail (StaysInside p inside) x (xs ++ ys) every))
-
-  back : (xs ys : List Bound) → All (StaysInside p inside) (xs ++ ys) → All (StaysInside p inside) ys
-  back [] ys every = every
-  back (x ∷ xs) ys every = back xs ys (All-tail (StaysInside p inside) x (xs ++ ys) every)
-
   at_place : (ms : List Message) (k : ℕ) (m : Message) → k < length ms → get_or ms k m ≡ m → All (StaysInside p inside) (flat_map message_bounds ms) → All (StaysInside p inside) (message_bounds m)
   at_place [] k m within is every = absurd (omega (arith, within))
-  at_place (n ∷ ms) zero m within is every = subst (λ (v : Message). All (StaysInside p inside) (message_bounds v)) is (front (message_bounds n) (flat_map message_bounds ms) every)
-  at_place (n ∷ ms) (suc k) m within is every = at_place ms k m (omega (arith, within)) is (back (message_bounds n) (flat_map message_bounds ms) every)
+  at_place (n ∷ ms) zero m within is every = subst (λ (v : Message). All (StaysInside p inside) (message_bounds v)) is (front p inside (message_bounds n) (flat_map message_bounds ms) every)
+  at_place (n ∷ ms) (suc k) m within is every = at_place ms k m (omega (arith, within)) is (back p inside (message_bounds n) (flat_map message_bounds ms) every)
 
-  -- no bound of a message leaves, so none at all does
-  pub cut_is : IsWellFormed p → All (StaysInside p inside) (flat_map message_bounds p.messages) → IsCutOf p inside
-  cut_is lawful every (SpanMost clock s t) c d = subst Kept (sym d.5) (on_one_clock (nodes.Reading clock s) (nodes.Reading clock t) (λ k on. on))
-  cut_is lawful every (SpanLeast clock s t) c d = subst Kept (sym d.5) (on_one_clock (nodes.Reading clock t) (nodes.Reading clock s) (λ k on. on))
-  cut_is lawful every (Late e) c d = subst Kept (sym d.4) (on_one_clock (nodes.Reading d.0.clock d.0.stamp) (nodes.Event e) (λ k on. (d.0, d.2, on)))
-  cut_is lawful every (Early e) c d =
+  -- no follow of the short list and no bound of a message leaves, so none at all does
+  pub cut_is : (readings : List Reading) → IsWellFormed p → AreReadings p readings → All (StaysInside p inside) (joining_bounds p readings) → IsCutOf p inside
+  cut_is readings lawful are every (SpanMost clock s t) c d = subst Kept (sym d.5) (on_one_clock (nodes.Reading clock s) (nodes.Reading clock t) (λ k on. on))
+  cut_is readings lawful are every (SpanLeast clock s t) c d = subst Kept (sym d.5) (on_one_clock (nodes.Reading clock t) (nodes.Reading clock s) (λ k on. on))
+  cut_is readings lawful are every (Late e) c d = subst Kept (sym d.4) (on_one_clock (nodes.Reading d.0.clock d.0.stamp) (nodes.Event e) (λ k on. (d.0, d.2, on)))
+  cut_is readings lawful are every (Early e) c d =
       subst Kept (sym d.4) (on_one_clock (nodes.Event e) (nodes.Reading d.0.clock d.0.stamp) (λ k on. ap (λ (u : Event). u.clock) (some_same d.0 on.0 (sym d.2 ∙ on.1)) ∙ on.2))
-  cut_is lawful every (Follow k s l t) c d = absurd (none_follows p k s l t c lawful.no_follows d)
-  cut_is lawful every (DelayMost send receive) c d =
+  cut_is readings lawful are every (Follow k s l t) c d = subst Kept (sym d.6) (λ from.
+      let follows = front p inside (follow_bounds p.follows readings 0 p.clocks) (flat_map message_bounds p.messages) every in
+      let held = inside_before p inside (chained_by p lawful) readings are follows (suc l) l k s t (omega arith) d.3 (among readings (k, s) (are.every k s d.4)) (among readings (l, t) (are.every l t d.5)) (subst (Contains inside) (sym from.1) from.2) in
+      (k, refl, held))
+  cut_is readings lawful are every (DelayMost send receive) c d =
+      let delays = back p inside (follow_bounds p.follows readings 0 p.clocks) (flat_map message_bounds p.messages) every in
       let m : Message = d.0 in
-      let bounds : All (StaysInside p inside) (message_bounds m) = at_place p.messages d.2.0 m d.2.1 d.2.2 every in
-      let first : All (StaysInside p inside) (most_bound m (Some d.1)) = subst (λ (o : Option ℕ). All (StaysInside p inside) (most_bound m o)) d.5 (front (most_bound m m.most) (DelayLeast m.send m.receive ∷ []) bounds) in
+      let bounds : All (StaysInside p inside) (message_bounds m) = at_place p.messages d.2.0 m d.2.1 d.2.2 delays in
+      let first : All (StaysInside p inside) (most_bound m (Some d.1)) = subst (λ (o : Option ℕ). All (StaysInside p inside) (most_bound m o)) d.5 (front p inside (most_bound m m.most) (DelayLeast m.send m.receive ∷ []) bounds) in
       let stays : StaysInside p inside (DelayMost m.send m.receive) = All-head (StaysInside p inside) (DelayMost m.send m.receive) [] first in
       subst (λ (v : ℕ). StaysInside p inside (DelayMost v receive)) d.3 (subst (λ (v : ℕ). StaysInside p inside (DelayMost m.send v)) d.4 stays) c d
-  cut_is lawful every (DelayLeast send receive) c d =
+  cut_is readings lawful are every (DelayLeast send receive) c d =
+      let delays = back p inside (follow_bounds p.follows readings 0 p.clocks) (flat_map message_bounds p.messages) every in
       let m : Message = d.0 in
-      let bounds : All (StaysInside p inside) (message_bounds m) = at_place p.messages d.1.0 m d.1.1 d.1.2 every in
-      let stays : StaysInside p inside (DelayLeast m.send m.receive) = All-head (StaysInside p inside) (DelayLeast m.send m.receive) [] (back (most_bound m m.most) (DelayLeast m.send m.receive ∷ []) bounds) in
+      let bounds : All (StaysInside p inside) (message_bounds m) = at_place p.messages d.1.0 m d.1.1 d.1.2 delays in
+      let stays : StaysInside p inside (DelayLeast m.send m.receive) = All-head (StaysInside p inside) (DelayLeast m.send m.receive) [] (back p inside (most_bound m m.most) (DelayLeast m.send m.receive ∷ []) bounds) in
       subst (λ (v : ℕ). StaysInside p inside (DelayLeast v receive)) d.2 (subst (λ (v : ℕ). StaysInside p inside (DelayLeast m.send v)) d.3 stays) c d
 
 -- ---- what is wrong with a cut first
@@ -145,4 +149,4 @@ module _ (p : ProblemLists) (part : Part) (first second : ℕ) (inside : List �
   -- a cut between them has no fault
   pub cut_sound : Parts p inside (home_of part first second) (away_of part first second) → (r : Reason) → CutIs p part first second inside r → ⊥
   cut_sound parts = cut_cases p part first second inside (λ r. ⊥) (λ so. so parts.home) (λ so. parts.away so)
-      (λ b so. let leaves = so.leaves in leaves.3 (parts.cut b leaves.0 leaves.1 leaves.2))
+      (λ b so. let leaves = so.2.leaves in leaves.3 (parts.cut b leaves.0 leaves.1 leaves.2))

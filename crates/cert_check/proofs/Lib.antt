@@ -9,6 +9,7 @@ pub mod Turns
 pub mod Paths
 pub mod Cycles
 pub mod Agreeing
+pub mod Chained
 pub mod Cutting
 pub mod Rising
 pub mod Attaining

@@ -11,7 +11,7 @@ use Rattle.problem_model.specs.Problem.{ProblemLists, IsWellFormed}
 use Rattle.problem_model.specs.Bounds.{Constraint, Declares, IsReading}
 use Rattle.problem_model.proofs.Walking.{clock_there}
 
-there_is : {X : Type 0} (xs : List X) (k : ℕ) → k < length xs → (x : X) × (slice_get xs k ≡ Some x)
+pub there_is : {X : Type 0} (xs : List X) (k : ℕ) → k < length xs → (x : X) × (slice_get xs k ≡ Some x)
 there_is [] k inside = absurd (omega (arith, inside))
 there_is (y ∷ ys) k inside = (get_or (y ∷ ys) k y, slice_get-get_or (y ∷ ys) k y inside)
 

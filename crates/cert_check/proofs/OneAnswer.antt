@@ -24,7 +24,7 @@ use Rattle.cert_check.specs.declared.answer.Reason.{Reason}
 use Rattle.cert_check.specs.declared.answer.Reason.TheVariants.{Empty, Weight, Join, Sum, Broken, Difference, Home, Away, Leaves}
 use Rattle.cert_check.specs.declared.answer.Answer.{Answer}
 use Rattle.cert_check.specs.declared.answer.Answer.TheVariants.{Yes, No}
-use Rattle.cert_check.specs.Reasons.{IsLeaving, CycleIs, IsBrokenBy, PathIs, DifferenceIs, CutIs, EndIs, IsSo, part_turn, kind_turn, step_turn, IsNoLater, IsAnswer}
+use Rattle.cert_check.specs.Reasons.{IsLeaving, joining_bounds, IsFirstLeaving, CycleIs, IsBrokenBy, PathIs, DifferenceIs, CutIs, EndIs, IsSo, part_turn, kind_turn, step_turn, IsNoLater, IsAnswer}
 use Rattle.cert_check.proofs.Agreeing.{agree, declared_ends}
 use Rattle.cert_check.proofs.Turns.{path_cases, cycle_cases, cut_cases, broken_cases, difference_cases, join_turn, weight_turn, path_early, cut_early, broken_late, broken_early, difference_late, times_late}
 use Rattle.cert_check.proofs.Answering.{no_reason}
@@ -102,13 +102,19 @@ path_one p part first second value path is_path r o so so' = path_cases p part f
     (λ t is differs. path_cases p part first second value path (Same part (Sum t)) (λ k astray kinds turns. absurd (omega (arith, kinds))) (λ k weighs kinds turns. absurd (omega (arith, kinds))) (λ s is' differs' kinds turns. ap Sum (is ∙ sym is')))
     r so o so'
 
+leaving_one : (p : ProblemLists) (inside : List ℕ) (a b : Bound) → IsFirstLeaving p inside a → IsFirstLeaving p inside b → a ≡ b
+leaving_one p inside a b (readings, are, first) (readings', are', first') =
+    let one : readings ≡ readings' = readings_one p readings readings' are are' in
+    first_one (λ c. IsLeaving p inside c → ⊥) first.front first'.front first.back first'.back a b first.within first'.within (λ not. not first.leaves) (λ not. not first'.leaves)
+    (sym first.place ∙ ap (joining_bounds p) one ∙ first'.place)
+
 cut_one : (p : ProblemLists) (part : Part) (first second : ℕ) (inside : List ℕ) (r o : Reason) → CutIs p part first second inside r → CutIs p part first second inside o → Same part r o
 unfolding Same
 cut_one p part first second inside r o so so' = cut_cases p part first second inside (λ r. (o : Reason) → CutIs p part first second inside o → Same part r o)
     (λ out. cut_cases p part first second inside (Same part Home) (λ out' kinds turns. refl) (λ away kinds turns. absurd (omega (arith, kinds))) (λ b leaves kinds turns. absurd (omega (arith, kinds))))
     (λ away. cut_cases p part first second inside (Same part Away) (λ out kinds turns. absurd (omega (arith, kinds))) (λ away' kinds turns. refl) (λ b leaves kinds turns. absurd (omega (arith, kinds))))
     (λ a leaves. cut_cases p part first second inside (Same part (Leaves a)) (λ out kinds turns. absurd (omega (arith, kinds))) (λ away kinds turns. absurd (omega (arith, kinds)))
-    (λ b leaves' kinds turns. ap Leaves (first_one (λ c. IsLeaving p inside c → ⊥) leaves.front leaves'.front leaves.back leaves'.back a b leaves.within leaves'.within (λ not. not leaves.leaves) (λ not. not leaves'.leaves) (sym leaves.place ∙ leaves'.place))))
+    (λ b leaves' kinds turns. ap Leaves (leaving_one p inside a b leaves leaves')))
     r so o so'
 
 run_one : (p : ProblemLists) (lawful : IsWellFormed p) (part : Part) (values : List ℤ) (r o : Reason) → IsBrokenBy p values r → IsBrokenBy p values o → Same part r o

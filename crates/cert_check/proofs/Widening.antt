@@ -3,17 +3,20 @@ use Rattle.std.proofs.Common.{◌≡◌, ◌≢◌, ◌<◌, ◌+◌, ◌*◌, �
 use Rattle.std.specs.Prelude.{All, AllPairs, Contains, pos}
 use Rattle.std.specs.List.{flat_map}
 use Rattle.std.proofs.lemmas.List.{length-map, get_or-map}
+use Rattle.problem_model.specs.declared.items.Follow.{Follow}
 use Rattle.problem_model.specs.declared.items.Message.{Message}
 use Rattle.problem_model.specs.declared.items.Bound.{Bound}
-use Rattle.problem_model.specs.declared.items.Bound.TheVariants.{SpanMost, SpanLeast, Late, Early, Follow, DelayMost, DelayLeast}
+use Rattle.problem_model.specs.declared.items.Bound.TheVariants as bounds
+use Rattle.problem_model.specs.declared.items.Bound.TheVariants.{SpanMost, SpanLeast, Late, Early, DelayMost, DelayLeast}
 use Rattle.problem_model.specs.declared.items.Node.TheVariants as nodes
 use Rattle.problem_model.specs.Problem.{ProblemLists, IsWellFormed}
-use Rattle.problem_model.specs.Bounds.{Constraint, Declares, Times}
+use Rattle.problem_model.specs.Bounds.{Constraint, LinesLead, Declares, Times}
 use Rattle.problem_model.specs.Nodes.{Reading, AreReadings}
-use Rattle.problem_model.specs.ShortList.{span_bounds, event_bounds, most_bound, message_bounds}
+use Rattle.problem_model.specs.ShortList.{span_bounds, event_bounds, follow_bounds, most_bound, message_bounds}
 use Rattle.cert.specs.declared.chain.Step.{Step}
 use Rattle.cert.specs.CertificateText.{IsStepOf}
 use Rattle.cert_check.specs.declared.verdict.Verdict.{Verdict}
+use Rattle.cert_check.specs.Reasons.{joining_bounds}
 use Rattle.cert_check.specs.Verdict.{Judges, IsVerdict}
 use Rattle.cert_check.specs.Widened.{widened_most, widened_message, widened}
 use Rattle.cert_check.proofs.Loops.{whole_verdict}
@@ -74,7 +77,9 @@ module _ (p : ProblemLists) (e : ℕ) where
   formed f = record {
     clock_names = f.clock_names;
     clocks_differ = f.clocks_differ;
-    no_follows = f.no_follows;
+    follow_ends = f.follow_ends;
+    earliers_differ = f.earliers_differ;
+    laters_differ = f.laters_differ;
     event_names = f.event_names;
     events_differ = f.events_differ;
     event_clocks = f.event_clocks;
@@ -93,18 +98,25 @@ module _ (p : ProblemLists) (e : ℕ) where
 
   -- ---- a verdict over the short list of the problem is one over that of the widened problem
   pub widened_verdict : (x : Times) (readings : List Reading) (v : Verdict) → IsWellFormed p → AreReadings p readings
-      → Judges q x (span_bounds readings ++ event_bounds 0 p.events ++ flat_map message_bounds p.messages) v → IsVerdict q x v
+      → Judges q x (span_bounds readings ++ event_bounds 0 p.events ++ joining_bounds p readings) v → IsVerdict q x v
   widened_verdict x readings v f are judged =
       whole_verdict q x readings v (formed f) (readings_on readings are)
-      (subst (λ (bounds : List Bound). Judges q x (span_bounds readings ++ event_bounds 0 p.events ++ bounds) v) (sym (bounds_same e p.messages)) judged)
+      (subst (λ (bounds : List Bound). Judges q x (span_bounds readings ++ event_bounds 0 p.events ++ (follow_bounds p.follows readings 0 p.clocks ++ bounds)) v) (sym (bounds_same e p.messages)) judged)
 
   -- ---- a step of the problem is one of the widened problem
+  leads_on : (c : ℕ) (lines : List Follow) (d : ℕ) → LinesLead p c lines d → LinesLead q c lines d
+  leads_on c [] d leads = leads
+  leads_on c (f ∷ lines) d leads = (leads.0, leads.1, leads_on f.later lines d leads.2)
+
+  pub follow_on : (k s l t : ℕ) (c : Constraint) → Declares p (bounds.Follow k s l t) c → Declares q (bounds.Follow k s l t) c
+  follow_on k s l t c d = (d.0, d.1, d.2, (d.3.0, d.3.1, leads_on k (d.3.0 ∷ d.3.1) l d.3.2), d.4, d.5, d.6)
+
   declared_on : (b : Bound) (c : Constraint) → Declares p b c → (d : Constraint) × Declares q b d
   declared_on (SpanMost clock s t) c d = (c, d)
   declared_on (SpanLeast clock s t) c d = (c, d)
   declared_on (Late k) c d = (c, d)
   declared_on (Early k) c d = (c, d)
-  declared_on (Follow k s l t) c d = (c, d)
+  declared_on (bounds.Follow k s l t) c d = (c, follow_on k s l t c d)
   declared_on (DelayMost send receive) c (m, most, has, from, to, at, is) = (
     record { from = nodes.Event send; to = nodes.Event receive; weight = pos ((most + e) * 1000000000) },
     (widened_message e m, most + e, contained e p.messages m has, from, to, ap (widened_most e) at, refl),

@@ -7,7 +7,8 @@ use Rattle.problem_model.specs.declared.items.Bound.{Bound}
 use Rattle.problem_model.specs.Problem.{ProblemLists}
 use Rattle.problem_model.specs.Bounds.{Constraint, Declares, Times}
 use Rattle.problem_model.specs.Nodes as lists
-use Rattle.problem_model.specs.ShortList.{message_bounds, IsFirstBroken}
+use Rattle.problem_model.specs.Nodes.{Reading, AreReadings}
+use Rattle.problem_model.specs.ShortList.{follow_bounds, message_bounds, IsFirstBroken}
 use Rattle.difference_bounds.specs.Solutions.{weight_of}
 use Rattle.cert.specs.declared.chain.Step.{Step}
 use Rattle.cert.specs.declared.certificate.EndProof.{EndProof}
@@ -105,9 +106,13 @@ pub record IsFirstLeavingOf (p : ProblemLists) (inside : List ℕ) (bounds : Lis
   pub within : All (λ a. IsLeaving p inside a → ⊥) front
   pub leaves : IsLeaving p inside b
 
--- the first such bound of a message, in the order of the short list
+-- the bounds of the short list that join two clocks: its follows, then the delays of its messages
+abbrev pub joining_bounds : ProblemLists → List Reading → List Bound
+joining_bounds p readings = follow_bounds p.follows readings 0 p.clocks ++ flat_map message_bounds p.messages
+
+-- the first such bound of follows or messages, in the order of the short list
 abbrev pub IsFirstLeaving : ProblemLists → List ℕ → Bound → Type 0
-IsFirstLeaving p inside b = IsFirstLeavingOf p inside (flat_map message_bounds p.messages) b
+IsFirstLeaving p inside b = (readings : List Reading) × AreReadings p readings × IsFirstLeavingOf p inside (joining_bounds p readings) b
 
 -- ---- ends
 -- what is wrong with the path that shows a value

@@ -1,5 +1,6 @@
 -- Walks over steps: along bounds, in an upper part against them.
 use Rattle.std.specs.Prelude.{◌≡◌, ◌≢◌, ℕ, ◌+◌, List, [], ◌∷◌, take, slice_get, Some, Contains}
+use Rattle.problem_model.specs.declared.items.Follow.{Follow}
 use Rattle.problem_model.specs.declared.items.Message.{Message}
 use Rattle.problem_model.specs.declared.items.Node.{Node}
 use Rattle.problem_model.specs.Problem.{ProblemLists}
@@ -20,6 +21,10 @@ constraint d = record { from = d.from; to = d.to; weight = d.weight }
 -- some message goes from the one event to the other
 abbrev pub HasMessageBetween : ProblemLists → ℕ → ℕ → Type 0
 HasMessageBetween p send receive = (m : Message) × Contains p.messages m × (m.send ≡ send) × (m.receive ≡ receive)
+
+-- the follow is one of the problem's, and this is its later clock
+abbrev pub LeadsTo : ProblemLists → Follow → ℕ → Type 0
+LeadsTo p f later = Contains p.follows f × (f.later ≡ later)
 
 -- the node where a walk enters a bound: in the upper part the bound's last one
 abbrev pub entry_of : Part → Constraint → Node

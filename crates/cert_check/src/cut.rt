@@ -4,14 +4,16 @@ ghost use Rattle.std.specs.List.{flat_map};
 ghost use Rattle.problem_model.specs.declared.items.Node.TheVariants as nodes;
 ghost use Rattle.problem_model.specs.Problem.{ProblemLists, IsWellFormed};
 ghost use Rattle.problem_model.specs.Bounds.{Constraint, Declares};
-ghost use Rattle.problem_model.specs.ShortList.{most_bound, message_bounds};
+ghost use Rattle.problem_model.specs.Nodes.{Reading, AreReadings};
+ghost use Rattle.problem_model.specs.ShortList.{clocks_before, first_reading, nearest_reading, follow_bound, follow_bounds, most_bound, message_bounds};
 ghost use Rattle.cert.specs.Shows.{IsInside, Parts};
-ghost use Rattle.cert_check.specs.Reasons.{home_of, away_of, CutIs};
+ghost use Rattle.cert_check.specs.Reasons.{joining_bounds, home_of, away_of, CutIs};
 ghost use Rattle.cert_check.specs.Faults.{FindsFault, FindsLeaving};
 ghost use Rattle.cert_check.specs.Sizes.{IsSmallReason};
 ghost use Rattle.std.specs.Prelude.{IfSome};
 
 use crate::answer::{Part, Reason};
+use crate::declared::listed_bound;
 use problem::{Bound, Message, Problem};
 
 // Whether a clock is among those inside, which rise.
@@ -73,8 +75,40 @@ fn leaving_bound(message: &Message, send: bool, receive: bool) -> Option<Bound>
     }
 }
 
+// The follow of the short list whose later clock this is, where there is one and it leads out: from this clock, which is
+// inside, to the earlier one, which is not.
+fn leaving_follow(p: &Problem, inside: &[u32], later: u32) -> Option<Bound>
+    requires rising { AllPairs (λ j k. j < k) inside.now }
+    requires later { later < length p.now.clocks }
+    ensures { (readings : List Reading) → AreReadings p.now readings
+        → FindsLeaving p.now inside.now (follow_bound (nearest_reading readings (clocks_before p.now.follows later later)) (first_reading readings later)) result }
+{
+    let _ = p.clocks();
+    match p.nearest_follow(later) {
+        Some(follow) => {
+            let from = has_clock(inside, later);
+            let to = has_clock(inside, follow.earlier);
+            crossing(listed_bound(later, &follow), from, to)
+        }
+        None => None,
+    }
+}
+
+// The first follow of the short list that leads from a clock inside to one outside.
+fn first_follow_leaving(p: &Problem, inside: &[u32]) -> Option<Bound>
+    requires { AllPairs (λ j k. j < k) inside.now }
+    ensures { (readings : List Reading) → AreReadings p.now readings → FindsLeaving p.now inside.now (follow_bounds p.now.follows readings 0 p.now.clocks) result }
+{
+    for later in 0..p.clocks().len() as u32 {
+        if let Some(bound) = leaving_follow(p, inside, later) {
+            return Some(bound);
+        }
+    }
+    None
+}
+
 // The first bound of the messages that leads from a clock inside to one outside.
-fn first_leaving(p: &Problem, inside: &[u32]) -> Option<Bound>
+fn first_delay_leaving(p: &Problem, inside: &[u32]) -> Option<Bound>
     requires { AllPairs (λ j k. j < k) inside.now }
     ensures { FindsLeaving p.now inside.now (flat_map message_bounds p.now.messages) result }
 {
@@ -87,6 +121,17 @@ fn first_leaving(p: &Problem, inside: &[u32]) -> Option<Bound>
         }
     }
     None
+}
+
+// The first bound of the follows and the messages that leads from a clock inside to one outside.
+fn first_leaving(p: &Problem, inside: &[u32]) -> Option<Bound>
+    requires { AllPairs (λ j k. j < k) inside.now }
+    ensures { (readings : List Reading) → AreReadings p.now readings → FindsLeaving p.now inside.now (joining_bounds p.now readings) result }
+{
+    match first_follow_leaving(p, inside) {
+        None => first_delay_leaving(p, inside),
+        leaving => leaving,
+    }
 }
 
 // The event whose clock should be inside.
@@ -118,6 +163,7 @@ pub fn cut_fault(p: &Problem, part: Part, first: u32, second: u32, inside: &[u32
     ensures small { IfSome result IsSmallReason }
 {
     let _ = p.events();
+    let _readings = p.readings();
     if !is_inside(p, inside, home_of(part, first, second)) {
         return Some(Reason::Home);
     }

@@ -24,7 +24,7 @@ use problem::{Node, Problem};
 
 // What is wrong with a cycle whose walk from where the first step comes from went over all so many steps.
 fn closing_fault(start: &Node, held: Held, count: u32) -> Option<Reason>
-    requires { unsigned_abs held.sum < 2 ^ 115 }
+    requires { unsigned_abs held.sum < 2 ^ 116 }
     ensures found { (p : ProblemLists) (steps : List Step) (f : Step) (a : Constraint) → IsWellFormed p → All (IsStepOf p) steps → count ≡ length steps → slice_get steps 0 ≡ Some f → Declares p f.bound a → a.from ≡ start.now
         → IsWalk p parts.Cycle start.now steps (walks.Arrived held) → FindsFault parts.Cycle (CycleIs p steps) (IsContradictionOf p (weighed_bounds steps)) result }
     ensures small { IfSome result IsSmallReason }

@@ -4,11 +4,12 @@ ghost use Rattle.problem_model.specs.declared.items.Bound.TheVariants as bounds;
 ghost use Rattle.problem_model.specs.Problem.{ProblemLists, IsWellFormed};
 ghost use Rattle.problem_model.specs.Bounds.{Constraint, Declares, ClockAt, EventAt, IsReading};
 ghost use Rattle.problem.specs.Line.{HasMessage};
-ghost use Rattle.cert_check.specs.Walks.{constraint, HasMessageBetween};
+ghost use Rattle.problem_model.specs.declared.items.Follow.{Follow};
+ghost use Rattle.cert_check.specs.Walks.{constraint, HasMessageBetween, LeadsTo};
 ghost use Rattle.cert_check.specs.Widened.{widened};
 
 use atto::{Nano, delay_units, span_least, span_most};
-use problem::{Bound, Clock, Event, Message, Node, Problem};
+use problem::{Bound, Clock, Event, Message, NearestFollow, Node, Problem};
 
 /// The difference constraint `x_to - x_from <= weight` that a problem declares. The weight is in units of 1e-9 ns.
 #[derive(Clone, Copy, Debug, PartialEq, Eq)]
@@ -34,6 +35,18 @@ pub fn widened_units(most: Nano, extra: Nano) -> i128
     ensures below { unsigned_abs result < 2 ^ 93 }
 {
     delay_units(most) + delay_units(extra)
+}
+
+/// The bound of the short list whose later clock this is.
+pub fn listed_bound(later: u32, follow: &NearestFollow) -> Bound
+    ensures { result ≡ bounds.Follow follow.now.earlier follow.now.s later follow.now.t }
+{
+    Bound::Follow {
+        earlier: follow.earlier,
+        s: follow.s,
+        later,
+        t: follow.t,
+    }
 }
 
 // The greatest real time of a span.
@@ -163,17 +176,29 @@ fn slowest_between(p: &Problem, extra: Nano, send: u32, receive: u32) -> Declara
     }
 }
 
-// Clocks of a problem do not follow each other, so it declares no such bound.
-fn no_follow(p: &Problem, extra: Nano, earlier: u32, s: Nano, later: u32, t: Nano) -> Declaration
+// The gap in ns of the follow whose later clock this is.
+fn gap_to(p: &Problem, later: u32) -> Nano
+    requires { (f : Follow) × LeadsTo p.now f later }
+    ensures { (f : Follow) → LeadsTo p.now f later → result ≡ f.gap }
+{
+    let _ = p.follows();
+    match p.follow_to(later) {
+        Some(follow) => follow.gap,
+        None => unreachable!(),
+    }
+}
+
+// How long a reading of one clock comes at least before one of a clock that comes after it, by the gap of the follow whose later
+// clock that is.
+fn following(p: &Problem, extra: Nano, earlier: u32, s: Nano, later: u32, t: Nano) -> Declaration
     requires { (c : Constraint) × Declares p.now (bounds.Follow earlier s later t) c }
     ensures declares { Declares (widened p.now extra) (bounds.Follow earlier s later t) (constraint result) }
     ensures below { unsigned_abs result.weight < 2 ^ 93 }
 {
-    let _ = p.events();
     Declaration {
         from: Node::Reading(later, t),
         to: Node::Reading(earlier, s),
-        weight: 0,
+        weight: -delay_units(gap_to(p, later)),
     }
 }
 
@@ -200,7 +225,7 @@ pub fn declared(p: &Problem, extra: Nano, bound: &Bound) -> Declaration
             s,
             later,
             t,
-        } => no_follow(p, extra, earlier, s, later, t),
+        } => following(p, extra, earlier, s, later, t),
         Bound::DelayMost { send, receive } => slowest_between(p, extra, send, receive),
         Bound::DelayLeast { send, receive } => quickest(message_between(p, send, receive)),
     }

@@ -3,16 +3,17 @@ ghost use Rattle.std.specs.Prelude.{◌≡◌, ◌<◌, ◌+◌, ℕ, List, [], 
 ghost use Rattle.problem_model.specs.Problem.{IsWellFormed, ProblemLists};
 ghost use Rattle.problem_model.specs.Bounds.{Constraint, Declares, Times, ClockAt, EventAt, IsReading};
 ghost use Rattle.problem_model.specs.Nodes.{Reading, AreReadings, Lists};
-ghost use Rattle.problem_model.specs.ShortList.{neighbour_bounds, span_bounds, event_bounds, message_bounds, most_bound};
+ghost use Rattle.problem_model.specs.ShortList.{neighbour_bounds, span_bounds, event_bounds, clocks_before, first_reading, nearest_reading, follow_bound, follow_bounds, message_bounds, most_bound};
 ghost use Rattle.std.specs.List.{flat_map};
 ghost use Rattle.problem_model.specs.declared.items.Node.TheVariants as nodes;
 ghost use Rattle.problem_model.specs.declared.items.Bound.TheVariants.{Late, Early};
 ghost use Rattle.cert.specs.CertificateText.{HasOneEach};
+ghost use Rattle.cert_check.specs.Reasons.{joining_bounds};
 ghost use Rattle.cert_check.specs.Verdict.{Judges, IsVerdict, AreTimes};
 ghost use Rattle.cert_check.specs.Sizes.{IsSmallVerdict};
 ghost use Rattle.cert_check.specs.Widened.{widened};
 
-use crate::declared::{no_extra, widened_units};
+use crate::declared::{listed_bound, no_extra, widened_units};
 use atto::{Nano, Units, delay_units, span_least, span_most};
 use cert::Execution;
 use problem::{Bound, Clock, Event, Message, Problem};
@@ -20,7 +21,7 @@ use problem::{Bound, Clock, Event, Message, Problem};
 /// Whether an execution obeys the bounds of a problem. Weight and difference are in units of 1e-9 ns.
 #[derive(Clone, Copy, Debug, PartialEq, Eq)]
 pub enum Verdict {
-    /// Every declared bound is obeyed, between every two readings of a clock.
+    /// Every declared bound is obeyed, between every two readings of a clock and of clocks that come after each other.
     Obeys,
     /// The first bound of the short list that is not obeyed, its weight, and what `x_to - x_from` is.
     Broken {
@@ -226,9 +227,58 @@ fn judge_messages(p: &Problem, extra: Nano, e: &Execution) -> Verdict
     Verdict::Obeys
 }
 
+// Judges the follow of the short list whose later clock this is, where there is one. It is that of the problem however it is
+// widened.
+fn judge_follow(p: &Problem, e: &Execution, later: u32) -> Verdict
+    requires each { HasOneEach p.now e.now }
+    requires later { later < length p.now.clocks }
+    ensures verdict { (extra : ℕ) (x : Times) (readings : List Reading) → AreTimes p.now x readings e.now
+        → Judges (widened p.now extra) x (follow_bound (nearest_reading readings (clocks_before p.now.follows later later)) (first_reading readings later)) result }
+    ensures small { IsSmallVerdict result }
+{
+    let _ = p.clocks();
+    match p.nearest_follow(later) {
+        Some(follow) => {
+            let from = reading_time(p, e, place_of(p, later, follow.t));
+            let to = reading_time(p, e, place_of(p, follow.earlier, follow.s));
+            let bound = listed_bound(later, &follow);
+            judge(bound, -delay_units(follow.gap), from, to)
+        }
+        None => Verdict::Obeys,
+    }
+}
+
+// Judges the follows of the short list, which are those of the problem however it is widened.
+fn judge_follows(p: &Problem, e: &Execution) -> Verdict
+    requires { HasOneEach p.now e.now }
+    ensures verdict { (extra : ℕ) (x : Times) (readings : List Reading) → AreTimes p.now x readings e.now → Judges (widened p.now extra) x (follow_bounds p.now.follows readings 0 p.now.clocks) result }
+    ensures small { IsSmallVerdict result }
+{
+    for later in 0..p.clocks().len() as u32 {
+        match judge_follow(p, e, later) {
+            Verdict::Obeys => {}
+            broken => return broken,
+        }
+    }
+    Verdict::Obeys
+}
+
+// Judges the bounds that join two clocks in a problem that is widened: the follows of the short list, then the messages.
+fn judge_joining(p: &Problem, extra: Nano, e: &Execution) -> Verdict
+    requires { HasOneEach p.now e.now }
+    ensures verdict { (x : Times) (readings : List Reading) → AreTimes p.now x readings e.now → Judges (widened p.now extra) x (joining_bounds p.now readings) result }
+    ensures small { IsSmallVerdict result }
+{
+    match judge_follows(p, e) {
+        Verdict::Obeys => judge_messages(p, extra, e),
+        broken => broken,
+    }
+}
+
 /// Whether an execution of `p` obeys every bound that `p` declares where each greatest delay of a message is `extra` ns
-/// greater, between every two readings of a clock; else the first bound of the short list that it breaks. Its weight, which
-/// is then the greater one, is below 2^93 in absolute value, and the difference at most 2^121. It takes no memory.
+/// greater, between every two readings of a clock and of clocks that come after each other; else the first bound of the
+/// short list that it breaks. Its weight, which is then the greater one, is below 2^93 in absolute value, and the difference
+/// at most 2^121. It takes no memory.
 pub fn obeys_widened(p: &Problem, extra: Nano, e: &Execution) -> Verdict
     requires { HasOneEach p.now e.now }
     ensures verdict { (x : Times) → Lists p.now x e.now → IsVerdict (widened p.now extra) x result }
@@ -237,16 +287,16 @@ pub fn obeys_widened(p: &Problem, extra: Nano, e: &Execution) -> Verdict
     let _ = p.events();
     match judge_spans(p, e) {
         Verdict::Obeys => match judge_stamps(p, e) {
-            Verdict::Obeys => judge_messages(p, extra, e),
+            Verdict::Obeys => judge_joining(p, extra, e),
             broken => broken,
         },
         broken => broken,
     }
 }
 
-/// Whether an execution of `p` obeys every bound that `p` declares, between every two readings of a clock; else the
-/// first bound of the short list that it breaks. Its weight is then below 2^93 in absolute value, and the difference at
-/// most 2^121. It takes no memory.
+/// Whether an execution of `p` obeys every bound that `p` declares, between every two readings of a clock and of clocks that
+/// come after each other; else the first bound of the short list that it breaks. Its weight is then below 2^93 in absolute
+/// value, and the difference at most 2^121. It takes no memory.
 pub fn obeys(p: &Problem, e: &Execution) -> Verdict
     requires { HasOneEach p.now e.now }
     ensures verdict { (x : Times) → Lists p.now x e.now → IsVerdict p.now x result }

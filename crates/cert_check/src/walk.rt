@@ -43,7 +43,7 @@ fn exit(part: Part, bound: &Declaration) -> Node
     }
 }
 
-/// Where a walk has come to, and the sum of the weights so far in units of 1e-9 ns, below 2^115 in absolute value.
+/// Where a walk has come to, and the sum of the weights so far in units of 1e-9 ns, below 2^116 in absolute value.
 #[derive(Clone, Copy, Debug, PartialEq, Eq)]
 pub struct Held {
     pub node: Node,
@@ -67,7 +67,7 @@ fn onward(part: Part, held: Held, bound: &Declaration, taken: usize) -> Held
 
 /// Walks over the steps from a node, in an upper part against their bounds and elsewhere along them. Each step must be
 /// entered where the walk has come to, and have the weight of its bound where each greatest delay of a message is `extra` ns
-/// greater. The sum of all is below 2^115 in absolute value. It takes no memory.
+/// greater. The sum of all is below 2^116 in absolute value. It takes no memory.
 pub fn walk_over(p: &Problem, extra: Nano, part: Part, start: &Node, chain: &Chain) -> Walk
     requires { All (IsStepOf p.now) chain.now }
     ensures walk { IsWalk (widened p.now extra) part start.now chain.now result }

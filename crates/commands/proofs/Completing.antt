@@ -29,7 +29,7 @@ use Rattle.commands.specs.Widening.{RefusesWidening, WideningFound, WideningJudg
 use Rattle.commands.specs.declared.refusal.Refusal.{Refusal}
 use Rattle.commands.specs.declared.status.Status.{Status}
 use Rattle.commands.specs.declared.status.Status.TheVariants as statuses
-use Rattle.commands.proofs.OneText.{problems_one, no_bad_problem, no_bad_execution, no_bad_cert, no_bad_widening, no_bad_decl}
+use Rattle.commands.proofs.OneText.{HaveOneAnswer, problems_one, no_bad_problem, no_bad_execution, no_bad_cert, no_bad_widening, no_bad_decl}
 
 -- ---- one file
 some_one : (a b : List ℕ) → Some a ≡ Some b → a ≡ b
@@ -85,17 +85,17 @@ none_missed : (P Q : List ℕ → Type 0) (problem other : List ℕ) (old new : 
 none_missed P Q problem other old new held also none (inl missed) = not_missed P problem old new held none missed
 none_missed P Q problem other old new held also none (inr (p, has, (mid, keeps, missed))) = not_missed_since Q other old mid new also none keeps missed
 
-not_bad : (p : ProblemLists) (problem line : List ℕ) (files : Content) → Holds files problem (SpellsProblem p) → IsBadProblem problem files line → ⊥
-not_bad p problem line files held (refusal, has, is) =
-    no_bytes (SpellsProblem p) (λ text. RefusesProblem text refusal) files problem (λ text spelled refused. no_bad_problem p text refusal spelled refused) held has
+not_bad : (law : HaveOneAnswer) (p : ProblemLists) (problem line : List ℕ) (files : Content) → Holds files problem (SpellsProblem p) → IsBadProblem problem files line → ⊥
+not_bad law p problem line files held (refusal, has, is) =
+    no_bytes (SpellsProblem p) (λ text. RefusesProblem text refusal) files problem (λ text spelled refused. no_bad_problem law p text refusal spelled refused) held has
 
 -- the second file is refused for no cause
-no_refused_pair : (Fits : ProblemLists → List ℕ → Type 0) (Refuses : ProblemLists → List ℕ → Refusal → Type 0) (p q : ProblemLists) (refusal : Refusal) (files : Content) (problem other : List ℕ)
+no_refused_pair : (law : HaveOneAnswer) (Fits : ProblemLists → List ℕ → Type 0) (Refuses : ProblemLists → List ℕ → Refusal → Type 0) (p q : ProblemLists) (refusal : Refusal) (files : Content) (problem other : List ℕ)
     → ((text : List ℕ) → IsProblem p → Fits p text → Refuses p text refusal → ⊥)
     → Holds files problem (SpellsProblem p) → Holds files other (Fits p) → BothHave files problem other (λ text more. SpellsProblem q text × Refuses q more refusal) → ⊥
-no_refused_pair Fits Refuses p q refusal files problem other clash held also both =
+no_refused_pair law Fits Refuses p q refusal files problem other clash held also both =
     no_both (SpellsProblem p) (Fits p) (λ text more. SpellsProblem q text × Refuses q more refusal) files problem other
-    (λ text more spelled fits refused. clash more spelled.1 fits (subst (λ (r : ProblemLists). Refuses r more refusal) (problems_one q p text refused.0 spelled) refused.1))
+    (λ text more spelled fits refused. clash more spelled.1 fits (subst (λ (r : ProblemLists). Refuses r more refusal) (problems_one law q p text refused.0 spelled) refused.1))
     held also both
 
 -- ---- what is printed
@@ -106,15 +106,15 @@ printed Goes old new result on none (inr (inl (is, (status, text, goes, (rose, f
 printed Goes old new result on none (inr (inr (is, same))) = inr (inr (inl is))
 
 -- ---- the commands
-module _ (old new : FilesTold) (none : Rose old.faults new.faults → ⊥) where
+module _ (law : HaveOneAnswer) (old new : FilesTold) (none : Rose old.faults new.faults → ⊥) where
   obey_goes : (problem exec : List ℕ) → HoldsProblem old.content problem (λ p. Holds old.content exec (IsExecutionText p)) → (status : Status) (line : List ℕ) → Obeyed problem exec old new status line → IsAnswered status
   obey_goes problem exec lawful statuses.Done line goes = inl refl
   obey_goes problem exec lawful statuses.No line goes = inr (inl refl)
   obey_goes problem exec lawful statuses.Usage line goes = absurd goes
   obey_goes problem exec lawful statuses.BadDecl line goes = absurd goes
-  obey_goes problem exec (p, held, also) statuses.BadProblem line goes = absurd (not_bad p problem line old.content held goes)
+  obey_goes problem exec (p, held, also) statuses.BadProblem line goes = absurd (not_bad law p problem line old.content held goes)
   obey_goes problem exec (p, held, also) statuses.BadExec line (q, refusal, both, is) =
-      absurd (no_refused_pair IsExecutionText RefusesExecution p q refusal old.content problem exec (λ text. no_bad_execution p text refusal) held also both)
+      absurd (no_refused_pair law IsExecutionText RefusesExecution p q refusal old.content problem exec (λ text. no_bad_execution p text refusal) held also both)
   obey_goes problem exec lawful statuses.BadCert line goes = absurd goes
   obey_goes problem exec (p, held, also) statuses.ReadFault line goes = absurd (none_missed (SpellsProblem p) (IsExecutionText p) problem exec old new held also none goes.0)
   obey_goes problem exec lawful statuses.WriteFault line goes = absurd goes
@@ -128,7 +128,7 @@ module _ (old new : FilesTold) (none : Rose old.faults new.faults → ⊥) where
   solve_goes problem lawful statuses.No text goes = absurd goes
   solve_goes problem lawful statuses.Usage text goes = absurd goes
   solve_goes problem lawful statuses.BadDecl text goes = absurd goes
-  solve_goes problem (p, held, also) statuses.BadProblem text goes = absurd (not_bad p problem text old.content held goes)
+  solve_goes problem (p, held, also) statuses.BadProblem text goes = absurd (not_bad law p problem text old.content held goes)
   solve_goes problem lawful statuses.BadExec text goes = absurd goes
   solve_goes problem lawful statuses.BadCert text goes = absurd goes
   solve_goes problem (p, held, also) statuses.ReadFault text goes = absurd (not_missed (SpellsProblem p) problem old new held none goes.0)
@@ -149,7 +149,7 @@ module _ (old new : FilesTold) (none : Rose old.faults new.faults → ⊥) where
   ends_goes problem first second lawful statuses.No text goes = absurd goes
   ends_goes problem first second lawful statuses.Usage text goes = absurd goes
   ends_goes problem first second lawful statuses.BadDecl text goes = absurd goes
-  ends_goes problem first second (p, held, (from, to)) statuses.BadProblem text goes = absurd (not_bad p problem text old.content held goes)
+  ends_goes problem first second (p, held, (from, to)) statuses.BadProblem text goes = absurd (not_bad law p problem text old.content held goes)
   ends_goes problem first second lawful statuses.BadExec text goes = absurd goes
   ends_goes problem first second lawful statuses.BadCert text goes = absurd goes
   ends_goes problem first second (p, held, (from, to)) statuses.ReadFault text goes = absurd (not_missed (SpellsProblem p) problem old new held none goes.0)
@@ -157,7 +157,7 @@ module _ (old new : FilesTold) (none : Rose old.faults new.faults → ⊥) where
   ends_goes problem first second lawful statuses.Memory text goes = absurd goes
   ends_goes problem first second lawful statuses.ScriptLimit text goes = absurd goes
   ends_goes problem first second (p, held, (from, to)) statuses.UnknownEvent text (q, has, unknown, is) = absurd (
-      no_bytes (SpellsProblem p) (SpellsProblem q) old.content problem (λ bytes spelled other. known p first second text q from to (problems_one p q bytes spelled other) unknown) held has)
+      no_bytes (SpellsProblem p) (SpellsProblem q) old.content problem (λ bytes spelled other. known p first second text q from to (problems_one law p q bytes spelled other) unknown) held has)
   ends_goes problem first second lawful statuses.NoMerge text goes = absurd goes
 
   verify_goes : (problem cert : List ℕ) → HoldsProblem old.content problem (λ p. Holds old.content cert (IsCertText p)) → (status : Status) (line : List ℕ) → Verified problem cert old new status line → IsAnswered status
@@ -165,10 +165,10 @@ module _ (old new : FilesTold) (none : Rose old.faults new.faults → ⊥) where
   verify_goes problem cert lawful statuses.No line goes = inr (inl refl)
   verify_goes problem cert lawful statuses.Usage line goes = absurd goes
   verify_goes problem cert lawful statuses.BadDecl line goes = absurd goes
-  verify_goes problem cert (p, held, also) statuses.BadProblem line goes = absurd (not_bad p problem line old.content held goes)
+  verify_goes problem cert (p, held, also) statuses.BadProblem line goes = absurd (not_bad law p problem line old.content held goes)
   verify_goes problem cert lawful statuses.BadExec line goes = absurd goes
   verify_goes problem cert (p, held, also) statuses.BadCert line (q, refusal, both, is) =
-      absurd (no_refused_pair IsCertText RefusesCert p q refusal old.content problem cert (λ text. no_bad_cert p text refusal) held also both)
+      absurd (no_refused_pair law IsCertText RefusesCert p q refusal old.content problem cert (λ text. no_bad_cert p text refusal) held also both)
   verify_goes problem cert (p, held, also) statuses.ReadFault line goes = absurd (none_missed (SpellsProblem p) (IsCertText p) problem cert old new held also none goes.0)
   verify_goes problem cert lawful statuses.WriteFault line goes = absurd goes
   verify_goes problem cert lawful statuses.Memory line goes = absurd goes
@@ -181,7 +181,7 @@ module _ (old new : FilesTold) (none : Rose old.faults new.faults → ⊥) where
   widen_goes problem lawful statuses.No text goes = absurd goes
   widen_goes problem lawful statuses.Usage text goes = absurd goes
   widen_goes problem lawful statuses.BadDecl text goes = absurd goes
-  widen_goes problem (p, held, also) statuses.BadProblem text goes = absurd (not_bad p problem text old.content held goes)
+  widen_goes problem (p, held, also) statuses.BadProblem text goes = absurd (not_bad law p problem text old.content held goes)
   widen_goes problem lawful statuses.BadExec text goes = absurd goes
   widen_goes problem lawful statuses.BadCert text goes = absurd goes
   widen_goes problem (p, held, also) statuses.ReadFault text goes = absurd (not_missed (SpellsProblem p) problem old new held none goes.0)
@@ -196,10 +196,10 @@ module _ (old new : FilesTold) (none : Rose old.faults new.faults → ⊥) where
   judge_goes problem widening lawful statuses.No line goes = inr (inl refl)
   judge_goes problem widening lawful statuses.Usage line goes = absurd goes
   judge_goes problem widening lawful statuses.BadDecl line goes = absurd goes
-  judge_goes problem widening (p, held, also) statuses.BadProblem line goes = absurd (not_bad p problem line old.content held goes)
+  judge_goes problem widening (p, held, also) statuses.BadProblem line goes = absurd (not_bad law p problem line old.content held goes)
   judge_goes problem widening lawful statuses.BadExec line goes = absurd goes
   judge_goes problem widening (p, held, also) statuses.BadCert line (q, refusal, both, is) =
-      absurd (no_refused_pair IsWideningText RefusesWidening p q refusal old.content problem widening (λ text. no_bad_widening p text refusal) held also both)
+      absurd (no_refused_pair law IsWideningText RefusesWidening p q refusal old.content problem widening (λ text. no_bad_widening p text refusal) held also both)
   judge_goes problem widening (p, held, also) statuses.ReadFault line goes = absurd (none_missed (SpellsProblem p) (IsWideningText p) problem widening old new held also none goes.0)
   judge_goes problem widening lawful statuses.WriteFault line goes = absurd goes
   judge_goes problem widening lawful statuses.Memory line goes = absurd goes
@@ -207,30 +207,31 @@ module _ (old new : FilesTold) (none : Rose old.faults new.faults → ⊥) where
   judge_goes problem widening lawful statuses.UnknownEvent line goes = absurd goes
   judge_goes problem widening lawful statuses.NoMerge line goes = absurd goes
 
-module _ (old new : Devices) (none : IsFaultless old new) where
+module _ (law : HaveOneAnswer) (old new : Devices) (none : IsFaultless old new) where
   pub obey_answered : (problem exec : List ℕ) (result : Status) → HoldsProblem old.files.content problem (λ p. Holds old.files.content exec (IsExecutionText p))
       → Prints (Obeyed problem exec old.files new.files) old.out new.out result → IsAnswered result
-  obey_answered problem exec result lawful = printed (Obeyed problem exec old.files new.files) old.out new.out result (obey_goes old.files new.files none.files problem exec lawful) none.out
+  obey_answered problem exec result lawful = printed (Obeyed problem exec old.files new.files) old.out new.out result (obey_goes law old.files new.files none.files problem exec lawful) none.out
 
   pub solve_answered : (problem : List ℕ) (result : Status) → HoldsProblem old.files.content problem (λ p. Unit {0}) → Prints (Solved problem old.files new.files) old.out new.out result → IsAnswered result
-  solve_answered problem result lawful = printed (Solved problem old.files new.files) old.out new.out result (solve_goes old.files new.files none.files problem lawful) none.out
+  solve_answered problem result lawful = printed (Solved problem old.files new.files) old.out new.out result (solve_goes law old.files new.files none.files problem lawful) none.out
 
   pub ends_answered : (problem first second : List ℕ) (result : Status) → HoldsProblem old.files.content problem (λ p. ((from : ℕ) × HasEvent p from first) × ((to : ℕ) × HasEvent p to second))
       → Prints (IntervalAnswered problem first second old.files new.files) old.out new.out result → IsAnswered result
   ends_answered problem first second result lawful =
-      printed (IntervalAnswered problem first second old.files new.files) old.out new.out result (ends_goes old.files new.files none.files problem first second lawful) none.out
+      printed (IntervalAnswered problem first second old.files new.files) old.out new.out result (ends_goes law old.files new.files none.files problem first second lawful) none.out
 
   pub verify_answered : (problem cert : List ℕ) (result : Status) → HoldsProblem old.files.content problem (λ p. Holds old.files.content cert (IsCertText p))
       → Prints (Verified problem cert old.files new.files) old.out new.out result → IsAnswered result
-  verify_answered problem cert result lawful = printed (Verified problem cert old.files new.files) old.out new.out result (verify_goes old.files new.files none.files problem cert lawful) none.out
+  verify_answered problem cert result lawful = printed (Verified problem cert old.files new.files) old.out new.out result (verify_goes law old.files new.files none.files problem cert lawful) none.out
 
   pub widen_answered : (problem : List ℕ) (result : Status) → HoldsProblem old.files.content problem (λ p. Unit {0}) → Prints (WideningFound problem old.files new.files) old.out new.out result → IsAnswered result
-  widen_answered problem result lawful = printed (WideningFound problem old.files new.files) old.out new.out result (widen_goes old.files new.files none.files problem lawful) none.out
+  widen_answered problem result lawful = printed (WideningFound problem old.files new.files) old.out new.out result (widen_goes law old.files new.files none.files problem lawful) none.out
 
   pub judge_answered : (problem widening : List ℕ) (result : Status) → HoldsProblem old.files.content problem (λ p. Holds old.files.content widening (IsWideningText p))
       → Prints (WideningJudged problem widening old.files new.files) old.out new.out result → IsAnswered result
-  judge_answered problem widening result lawful = printed (WideningJudged problem widening old.files new.files) old.out new.out result (judge_goes old.files new.files none.files problem widening lawful) none.out
+  judge_answered problem widening result lawful = printed (WideningJudged problem widening old.files new.files) old.out new.out result (judge_goes law old.files new.files none.files problem widening lawful) none.out
 
+module _ (old new : Devices) (none : IsFaultless old new) where
   pub trial_answered : (n : ℕ) (result : Status) → Prints (Tried n) old.out new.out result → IsAnswered result
   trial_answered n result = printed (Tried n) old.out new.out result (λ status text goes. inl goes.0) none.out
 
@@ -273,7 +274,7 @@ module _ (files files' : FilesTold) (input input' : SourceTold) (out out' : Sink
   long_merge d (Some bytes) short is = let long = is.long in omega (arith, short, long)
 
   over_goes : (d : Declaration) → IsSomeAnd input.left (λ bytes. length bytes ≤ most_taken) → (status : Status) (text : List ℕ) → MergedOver d (reads files input) (reads files' input') status text → IsAnswered status
-  over_goes d short status text (inl (ordered, merges, writable, few, only)) = inl only.0
+  over_goes d short status text (inl (ordered, merges, writable, few, back, only)) = inl only.0
   over_goes d short status text (inr (whys.Refused said, not, tells)) = inr (inr (inr tells.0))
   over_goes d short status text (inr (whys.Size, not, tells)) = inr (inr (inr tells.0))
   over_goes d short status text (inr (whys.Inconsistent, not, tells)) = inr (inr (inr tells.0))

@@ -6,6 +6,7 @@ use Rattle.decl.specs.Declaration.{Declaration}
 use Rattle.line_reader.specs.Lines.{lines_of, whole_lines, most_taken}
 use Rattle.std.specs.Prelude.{All}
 use Rattle.mergecap.specs.MergedCapture.{Timed, AreWritable, IsShort, merged_capture}
+use Rattle.mergecap.specs.Reading.{IsReadBack}
 use Rattle.trace_event.specs.Seen.{Seen}
 use Rattle.session.specs.Reply.{State}
 use Rattle.session.specs.Sessions.{start}
@@ -82,11 +83,11 @@ module _ (d : Declaration) (files begun after : FilesTold) (input input' : Sourc
 
   -- ---- what is printed
   module _ (path : List ℕ) (declared : IsDeclaredAt files.content path d) (out out' : SinkTold) (result : Status) where
-    pub merged_printed : (ordered : List Timed) → MergesTo d (reads begun input) (reads after input') ordered → AreWritable ordered → All IsShort ordered → Prints (IsOnly (merged_capture ordered) statuses.Done) out out' result →
+    pub merged_printed : (ordered : List Timed) → MergesTo d (reads begun input) (reads after input') ordered → AreWritable ordered → All IsShort ordered → IsReadBack ordered → Prints (IsOnly (merged_capture ordered) statuses.Done) out out' result →
         Prints (MergedAt path (reads files input) (reads after input')) out out' result
-    merged_printed ordered is writable short prints =
+    merged_printed ordered is writable short back prints =
         prints_as (IsOnly (merged_capture ordered) statuses.Done) (MergedAt path (reads files input) (reads after input')) out out' result
-        (λ status text only. inl (d, declared, inl (ordered, merges_since ordered is, writable, short, only))) prints
+        (λ status text only. inl (d, declared, inl (ordered, merges_since ordered is, writable, short, back, only))) prints
 
     pub unmerged_printed : (why : Unmerged) → MergesNot d (reads begun input) (reads after input') why → Prints (TellsUnmerged why) out out' result →
         Prints (MergedAt path (reads files input) (reads after input')) out out' result

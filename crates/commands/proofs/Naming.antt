@@ -65,7 +65,7 @@ module _ (p : ProblemLists) (lawful : IsProblem p) where
     leaves_end part first second (At value path execution) (inl is) = absurd is
     leaves_end part first second (At value path execution) (inr (inl is)) = absurd is
     leaves_end part first second (At value path execution) (inr (inr is)) = absurd is
-    leaves_end part first second (Unbounded inside execution) (inl is) = let leaves = is.leaves in is_named p b leaves.0 leaves.1 lawful
+    leaves_end part first second (Unbounded inside execution) (inl is) = let leaves = is.2.leaves in is_named p b leaves.0 leaves.1 lawful
     leaves_end part first second (Unbounded inside execution) (inr is) = absurd is
 
     leaves_named : (c : Cert) (part : Part) → IsSo p c part (Leaves b) → IsNamed (listing_of p) b

@@ -1,14 +1,12 @@
 -- A text has one answer: what spells a value is refused for no cause.
-use Rattle.std.proofs.Common.{◌≡◌, ℕ, List, Some, None, sym, ◌∙◌, ap, subst}
+use Rattle.std.proofs.Common.{◌≡◌, ℕ, List, Some, None, Ok, sym, ◌∙◌, ap, subst}
+use Rattle.std.specs.Prelude.{◌↔◌}
 use Rattle.line_format.specs.Format.{Answer, Answers}
 use Rattle.line_format.specs.Format.Answer.{Found}
-use Rattle.line_format.proofs.OneAnswer.{answers_one}
-use Rattle.problem_model.specs.Problem.{ProblemLists, IsProblem, empty_problem}
+use Rattle.problem_model.specs.Problem.{ProblemLists, IsProblem}
 use Rattle.problem_model.specs.Nodes.{Reading}
 use Rattle.problem_model.proofs.OneList.{readings_one}
-use Rattle.problem.specs.Line.{problem_format}
-use Rattle.problem.proofs.Answering.{reads_found}
-use Rattle.problem.proofs.Steps.{With, size, problem_readable}
+use Rattle.problem.specs.Reading.{AnswersProblem, Reads}
 use Rattle.cert.specs.CertificateFormat.{certificate_format, said}
 use Rattle.cert.specs.ExecutionFormat.{execution_format}
 use Rattle.cert.proofs.Executions.{execution_one}
@@ -39,14 +37,17 @@ said_or_refused s refusals.Long same = absurd cc
 found_one : (p q : ProblemLists) → Found p ≡ Found q → p ≡ q
 found_one p q same = cc
 
-problem_answers : (text : List ℕ) (a b : Answer ProblemLists) → Answers problem_format text a → Answers problem_format text b → a ≡ b
-problem_answers = answers_one problem_format With empty_problem size problem_readable
+-- the law of `problem`: a text has one answer, and it is a problem exactly where it reads as one
+pub record HaveOneAnswer : Type 0 where
+  pub one : (text : List ℕ) (a : Answer ProblemLists) (b : Answer ProblemLists) → AnswersProblem text a → AnswersProblem text b → a ≡ b
+  pub found : (text : List ℕ) (p : ProblemLists) → AnswersProblem text (Found p) ↔ Reads text (Ok p)
 
-pub problems_one : (p q : ProblemLists) (text : List ℕ) → SpellsProblem p text → SpellsProblem q text → p ≡ q
-problems_one p q text x y = found_one p q (problem_answers text (Found p) (Found q) (reads_found text p x) (reads_found text q y))
+module _ (law : HaveOneAnswer) where
+  pub problems_one : (p q : ProblemLists) (text : List ℕ) → SpellsProblem p text → SpellsProblem q text → p ≡ q
+  problems_one p q text x y = found_one p q (law.one text (Found p) (Found q) ((law.found text p).1 x) ((law.found text q).1 y))
 
-pub no_bad_problem : (p : ProblemLists) (text : List ℕ) (refusal : Refusal) → SpellsProblem p text → RefusesProblem text refusal → ⊥
-no_bad_problem p text refusal is refused = said_or_refused p refusal (problem_answers text (Found p) (answer_of refusal) (reads_found text p is) refused)
+  pub no_bad_problem : (p : ProblemLists) (text : List ℕ) (refusal : Refusal) → SpellsProblem p text → RefusesProblem text refusal → ⊥
+  no_bad_problem p text refusal is refused = said_or_refused p refusal (law.one text (Found p) (answer_of refusal) ((law.found text p).1 is) refused)
 
 pub no_bad_execution : (p : ProblemLists) (text : List ℕ) (refusal : Refusal) → IsProblem p → IsExecutionText p text → RefusesExecution p text refusal → ⊥
 no_bad_execution p text refusal lawful (readings, values, are, is) (others, are', refused) =

@@ -2,6 +2,7 @@
 use Rattle.std.specs.Prelude.{◌≡◌, ◌⊎◌, ℕ, List, [], ◌∷◌, ◌++◌, All, codes}
 use Rattle.decl.specs.Declaration.{Declaration}
 use Rattle.mergecap.specs.MergedCapture.{Timed, AreWritable, IsShort, merged_capture}
+use Rattle.mergecap.specs.Reading.{IsReadBack}
 use Rattle.script.specs.Script.{Devices}
 use Rattle.merge_script.specs.declared.unmerged.Unmerged.{Unmerged}
 use Rattle.merge_script.specs.declared.unmerged.Unmerged.TheVariants as causes
@@ -23,9 +24,11 @@ TellsUnmerged causes.ReadFault = IsOnly (codes "read fault\n") ReadFault
 TellsUnmerged causes.Limit = IsOnly (codes "script limit\n") ScriptLimit
 TellsUnmerged causes.Memory = λ status text. ⊥
 
--- the capture of the merge of all packets of the script, which can stand in one, or a line that says why there is none
+-- the capture of the merge of all packets of the script, which can stand in one and are read from it again, or a line that says why
+-- there is none
 abbrev pub MergedOver : Declaration → Devices → Devices → Status → List ℕ → Type 0
-MergedOver d old new status text = ((ordered : List Timed) × MergesTo d old new ordered × AreWritable ordered × All IsShort ordered × IsOnly (merged_capture ordered) Done status text)
+MergedOver d old new status text = ((ordered : List Timed) × MergesTo d old new ordered × AreWritable ordered × All IsShort ordered × IsReadBack ordered
+    × IsOnly (merged_capture ordered) Done status text)
     ⊎ ((why : Unmerged) × MergesNot d old new why × TellsUnmerged why status text)
 
 -- the same over the declaration at the path; where there is none, a line says so, and nothing of the script was read

@@ -9,7 +9,7 @@ use Rattle.problem_model.specs.Bounds.{Times}
 use Rattle.problem_model.specs.Nodes.{Reading, AreReadings, nodes_of}
 use Rattle.problem_model.specs.ProblemText.{problem_text}
 use Rattle.problem_model.specs.ExecutionText.{execution_text}
-use Rattle.problem.specs.Line.{problem_format}
+use Rattle.problem.specs.Reading.{AnswersProblem}
 use Rattle.cert.specs.declared.certificate.Cert.{Cert}
 use Rattle.cert.specs.CertificateFormat.{certificate_format}
 use Rattle.cert.specs.ExecutionFormat.{execution_format}
@@ -38,7 +38,7 @@ SpellsCert p c text = (readings : List Reading) × AreReadings p readings × IsC
 
 -- the text is no problem text, for this cause
 abbrev pub RefusesProblem : List ℕ → Refusal → Type 0
-RefusesProblem text refusal = Answers problem_format text (answer_of refusal)
+RefusesProblem text refusal = AnswersProblem text (answer_of refusal)
 
 -- the text is no execution text of p, for this cause
 abbrev pub RefusesExecution : ProblemLists → List ℕ → Refusal → Type 0

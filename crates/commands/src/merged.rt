@@ -4,6 +4,7 @@ ghost use Rattle.ports.specs.Content.{Writes};
 ghost use Rattle.ports.specs.Files.{Keeps};
 ghost use Rattle.mergecap.specs.MergedCapture.{AreWritable, IsShort, merged_capture};
 ghost use Rattle.mergecap.specs.Packets.{all_timed};
+ghost use Rattle.mergecap.specs.Reading.{IsReadBack};
 ghost use Rattle.merge_script.specs.Turns.{reads};
 ghost use Rattle.commands.specs.MergedCapture.{MergedAt, TellsUnmerged};
 ghost use Rattle.commands.specs.Printing.{Closes, IsOnly, Prints};
@@ -58,7 +59,8 @@ fn tell<O: Sink>(why: Unmerged, out: &mut O) -> Status
 fn print<O: Sink>(ordered: &[Stored], out: &mut O) -> Status
     requires writable { AreWritable (all_timed ordered.now) }
     requires short { All IsShort (all_timed ordered.now) }
-    ensures { Prints (IsOnly (merged_capture (all_timed ordered.now)) statuses.Done) (O.told out.old) (O.told out.new) result }
+    ensures prints { Prints (IsOnly (merged_capture (all_timed ordered.now)) statuses.Done) (O.told out.old) (O.told out.new) result }
+    ensures read_back { IsReadBack (all_timed ordered.now) }
 {
     match write_capture(ordered, out) {
         Ok(()) => Status::Done,

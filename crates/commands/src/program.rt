@@ -30,6 +30,7 @@ use crate::verify::verify;
 use crate::widening::widen;
 use atto::Steps;
 use ports::{Files, Sink, Source, Words};
+use problem::problem_answers_are_one;
 use std::alloc::Global;
 use std::marker::Brand;
 use std::sync::ledger::{Blank, Ledger};
@@ -67,6 +68,7 @@ fn run_counted<F: Files, I: Source, O: Sink, L: Ledger>(
     ensures complete { let old = devices (F.told files.old) (I.told input.old) (O.told out.old) in let new = devices (F.told files.new) (I.told input.new) (O.told out.new) in
         IsLawful words.now old.files.content old.input.left → IsFaultless old new → IsAnswered result }
 {
+    problem_answers_are_one();
     let mut steps = Steps::<L>::open(blank);
     match form_of(words) {
         Form::Obey => obey(alloc, files, words.word(1), words.word(2), out),

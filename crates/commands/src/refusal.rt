@@ -4,12 +4,12 @@ ghost use Rattle.commands.specs.Refusal.{number_of, place_of};
 
 use line_format::FaultKind;
 
-/// Why a text is refused: the first fault and its line, or that it is longer than 2^30 bytes.
+/// Why a text is refused: the first fault and its line, or that it is longer than 2^31 bytes.
 #[derive(Clone, Copy, Debug)]
 pub enum Refusal {
     /// The first faulty line, counted from 1, and what is wrong with it.
     Faulty(FaultKind, u32),
-    /// The text has more than 2^30 bytes.
+    /// The text has more than 2^31 bytes.
     Long,
 }
 

@@ -8,7 +8,8 @@ use std::alloc::{AllocError, Global};
 use std::marker::Model;
 use std::sync::ledger::Ledger;
 
-/// An event that comes next behind another: on its clock, or as the receive of a message behind its send.
+/// An event that comes next behind another: on its clock, as the first one of a clock that follows another, or as the
+/// receive of a message behind its send.
 #[derive(Clone, Copy)]
 pub struct Succession {
     /// The place of the event before.

@@ -57,6 +57,43 @@ fn push_clocks(pairs: &mut Vec<Succession>, all: &[Stamped]) -> Result<(), Alloc
     Ok(())
 }
 
+// Appends the first event of a clock behind the last one of another clock.
+fn push_between(
+    pairs: &mut Vec<Succession>,
+    all: &[Stamped],
+    earlier: u32,
+    later: u32,
+) -> Result<(), AllocError>
+    ensures { OnOk result ((events : ℕ) → All (λ entry. entry.event < events) all.now → AreSuccessions events pairs.old.items
+        → AreSuccessions events pairs.new.items) }
+{
+    let behind = all.partition_point(|entry| entry.clock <= earlier);
+    let first = all.partition_point(|entry| entry.clock < later);
+    if behind > 0 && first < all.len() {
+        pairs.push(Succession {
+            before: all[behind - 1].event,
+            after: all[first].event,
+        })?;
+    }
+    Ok(())
+}
+
+// Appends, for each clock that follows another, its first event behind the last one of the nearest clock before it that
+// has any.
+fn push_follows(pairs: &mut Vec<Succession>, p: &Problem, all: &[Stamped]) -> Result<(), AllocError>
+    requires all { All (λ entry. entry.event < length p.now.events) all.now }
+    requires pairs { AreSuccessions (length p.now.events) pairs.old.items }
+    ensures { OnOk result (AreSuccessions (length p.now.events) pairs.new.items) }
+{
+    let clocks = p.clocks().len();
+    for clock in 0..clocks {
+        if let Some(follow) = p.nearest_follow(clock as u32) {
+            push_between(pairs, all, follow.earlier, clock as u32)?;
+        }
+    }
+    Ok(())
+}
+
 // Appends the receive of each message behind its send.
 fn push_messages(pairs: &mut Vec<Succession>, p: &Problem) -> Result<(), AllocError>
     requires { AreSuccessions (length p.now.events) pairs.old.items }
@@ -78,6 +115,7 @@ fn successions(alloc: Global, p: &Problem) -> Result<Vec<Succession>, AllocError
     let all = by_clock(alloc, p)?;
     let mut pairs = Vec::new(alloc);
     push_clocks(&mut pairs, &all)?;
+    push_follows(&mut pairs, p, &all)?;
     push_messages(&mut pairs, p)?;
     pairs.sort_unstable_by_key(|pair| (pair.before, pair.after));
     Ok(pairs)
@@ -158,8 +196,8 @@ fn take_all<L: Ledger>(
     Ok(())
 }
 
-// All events, in an order that goes up on each clock and has each send before its receive, and otherwise goes by time.
-// Where clocks and messages allow no such order, the earliest event comes first.
+// All events, in an order that goes up on each clock and on those that follow it, has each send before its receive, and
+// otherwise goes by time. Where clocks, follows and messages allow no such order, the earliest event comes first.
 fn event_order<L: Ledger>(
     alloc: Global,
     p: &Problem,

@@ -1,14 +1,14 @@
 // The graph of two logs with a message each way, and the lists of a graph whose arcs come and go.
 ghost use Rattle.std.specs.Prelude.{◌≡◌, ◌<◌, ◌≤◌, length};
 
+use crate::fixtures::{Link, fill, first_wrong_arc, graph_from, push};
 use atto::{Nano, Steps};
-use problem::read_problem;
 use problem_model::{Bound, Node};
 use std::alloc::Global;
 use std::marker::Brand;
 use std::sync::ledger::{Blank, Ledger};
 use std::test::*;
-use sync_graph::{Arc, Graph, graph_of};
+use sync_graph::{Arc, Graph};
 
 // Two logs, and a message in each direction; the clock of b may be 3 ns early and 7 ns late. Events a#1, a#2, b#1 and b#2 are
 // the nodes 0 to 3; their readings 100, 180, 250 and 300 are the nodes 4 to 7.
@@ -17,7 +17,7 @@ const LATE_LOGS_PROBLEM: &str =
     message a#1 b#1 10 20\nmessage b#2 a#2 10 20\nend\n";
 
 // Tail, head and weight in ns of each arc of that problem: four spans, eight stamps, four delays.
-const ARCS: [(u32, u32, i128); 16] = [
+const ARCS: [Link; 16] = [
     (4, 5, 80),
     (5, 4, -80),
     (6, 7, 50),
@@ -35,25 +35,6 @@ const ARCS: [(u32, u32, i128); 16] = [
     (3, 1, 20),
     (1, 3, -10),
 ];
-
-fn two_logs(alloc: Global) -> Option<Graph> {
-    let p = read_problem(alloc, LATE_LOGS_PROBLEM.as_bytes()).ok()?;
-    graph_of(alloc, &p).ok()
-}
-
-// The first arc that is another, or is not there.
-fn first_wrong_arc(g: &Graph) -> Option<usize> {
-    for (k, (from, to, weight)) in ARCS.iter().enumerate() {
-        if (k as u32) >= g.arcs() {
-            return Some(k);
-        }
-        let a = g.arc(k as u32);
-        if a.from != *from || a.to != *to || a.weight != *weight * 1_000_000_000 {
-            return Some(k);
-        }
-    }
-    None
-}
 
 // Whether these are the arcs at node 0, leaving it and arriving.
 fn has_arcs_at_first<L: Ledger>(g: &Graph, blank: Blank) -> bool
@@ -89,63 +70,48 @@ fn has_counts(g: &Graph) -> bool {
 
 // Whether all of it is that of the problem.
 fn is_its_graph(g: &Graph) -> bool {
-    first_wrong_arc(g).is_none()
+    first_wrong_arc(g, &ARCS).is_none()
         && has_counts(g)
         && has_readings(g)
         && has_arcs_at_first::<Brand>(g, Blank::new(1))
 }
 
+// Whether the problem has this graph.
+fn has_its_graph(alloc: Global) -> bool {
+    match graph_from(alloc, LATE_LOGS_PROBLEM) {
+        Some(g) => is_its_graph(&g),
+        None => false,
+    }
+}
+
 #[test]
 fn a_problem_has_its_graph(rt: HostRuntime) {
-    let g = two_logs(rt.alloc()).expect(&rt, "a graph");
-    assert!(rt; is_its_graph(&g));
+    assert!(rt; has_its_graph(rt.alloc()));
 }
 
-// Appends the event at the next place.
-fn push_event(g: &mut Graph) -> Option<u32> {
-    let place = g.nodes();
-    if place >= 4 || g.node_of(Node::Event(place)).is_some() {
-        return None;
-    }
-    g.push_node(Node::Event(place)).ok()
-}
-
-// Appends the arc of a greatest delay from one event to another, and tells whether its nodes are those of the graph and
-// it comes back as it was.
-fn push_delay(g: &mut Graph, send: u32, receive: u32) -> Option<bool> {
-    let from = g.node_of(Node::Event(send))?;
-    let to = g.node_of(Node::Event(receive))?;
-    let name = Bound::DelayMost { send, receive };
-    if g.arcs() >= 40 {
-        return None;
-    }
-    let arc = Arc {
-        from,
-        to,
-        weight: 1,
-        name,
+// Whether the arc of a greatest delay from one event to another is appended between the nodes of these numbers, and comes
+// back as it was.
+fn push_delay(g: &mut Graph, send: u32, receive: u32) -> bool {
+    let Some(k) = push(g, &(send, receive, 1)) else {
+        return false;
     };
-    let k = g.push_arc(arc).ok()?;
-    Some(g.arc(k) == arc && from == send && to == receive)
+    let arc = Arc {
+        from: send,
+        to: receive,
+        weight: 1,
+        name: Bound::DelayMost { send, receive },
+    };
+    k < g.arcs() && g.arc(k) == arc
 }
 
-// In each of ten turns an arc from event 0 to 1, one from 1 to 2 and one from 0 to 3.
-fn push_turns(g: &mut Graph) -> Option<bool> {
-    let mut sound = true;
+// Four events and, in each of ten turns, an arc from event 0 to 1, one from 1 to 2 and one from 0 to 3, so that the lists
+// of event 0 and of the others grow past one another.
+fn push_turns(g: &mut Graph) -> bool {
+    let mut sound = fill(g, 4, &[]);
     for _ in 0..10 {
-        sound &= push_delay(g, 0, 1)?;
-        sound &= push_delay(g, 1, 2)?;
-        sound &= push_delay(g, 0, 3)?;
+        sound = sound && push_delay(g, 0, 1) && push_delay(g, 1, 2) && push_delay(g, 0, 3);
     }
-    Some(sound)
-}
-
-// Four events, with arcs so that the lists of event 0 and of the others grow past one another.
-fn fill(g: &mut Graph) -> Option<bool> {
-    for _ in 0..4 {
-        push_event(g)?;
-    }
-    push_turns(g)
+    sound
 }
 
 // The arcs that leave a node, each as a bit, and how many there are.
@@ -190,17 +156,16 @@ fn withdraw_at<L: Ledger>(g: &mut Graph, node: u32, place: u32, steps: &mut Step
 // Every third arc begins at event 1.
 const FROM_1: u64 = 0b010_010_010_010_010_010_010_010_010_010;
 
+// The others begin at event 0.
 const FROM_0: u64 = FROM_1 << 1 | FROM_1 >> 1;
 
 // Whether the lists are those of all 30 arcs.
 fn has_all<L: Ledger>(g: &Graph, steps: &mut Steps<L>) -> bool {
     g.nodes() == 4
-        && leaving_bits(g, 0, steps) == (FROM_0, 20)
-        && leaving_bits(g, 1, steps) == (FROM_1, 10)
         && leaving_bits(g, 2, steps) == (0, 0)
         && arriving_bits(g, 1, steps) == (FROM_1 >> 1, 10)
-        && arriving_bits(g, 2, steps) == (FROM_1, 10)
         && arriving_bits(g, 3, steps) == (FROM_1 << 1, 10)
+        && has_all_but(g, 0, 0, steps)
 }
 
 // Whether the lists are those of all arcs but for these, which leave event 0.
@@ -235,11 +200,12 @@ fn they_go<L: Ledger>(g: &mut Graph, places: &[u32], steps: &mut Steps<L>) -> bo
     true
 }
 
+// Whether all arcs are in the lists of a new graph, and some leave them again.
 fn lists_are_kept<L: Ledger>(g: &mut Graph, blank: Blank) -> bool
     requires { (blank.name ≡ L.name) × (blank.parts ≡ L.parts) × (0 < L.parts) }
 {
     let mut steps = Steps::<L>::open(blank);
-    fill(g) == Some(true) && has_all(g, &mut steps) && they_go(g, &[0, 18, 5, 5, 15], &mut steps)
+    push_turns(g) && has_all(g, &mut steps) && they_go(g, &[0, 18, 5, 5, 15], &mut steps)
 }
 
 // Lists that move several times keep all their entries, and a withdrawn arc leaves both its lists and no other.

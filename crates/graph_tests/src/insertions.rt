@@ -1,67 +1,26 @@
-ghost use Rattle.std.specs.Prelude.{◌≡◌, ◌+◌, ◌^◌, ◌<◌, ◌≤◌, [], ◌∷◌, ◌++◌, true, false, slice_index_or, IfOk, OnOk, length, ℤ, pos, neg_ℤ, ◌<ℤ◌, slice_get, Some};
-ghost use Rattle.problem_model.specs.declared.items.Node.TheVariants.{Event};
+// Values as arcs come and go, and values that are made anew.
+ghost use Rattle.std.specs.Prelude.{◌≡◌, ◌<◌, ◌≤◌, [], true, false, slice_index_or, OnOk, length};
 ghost use Rattle.frontier.specs.Keys.{IsEmpty};
-ghost use Rattle.sync_graph.specs.Graph.{no_graph, most_arcs};
+ghost use Rattle.sync_graph.specs.Graph.{no_graph};
 ghost use Rattle.earliest.specs.Values.{IsEarliestOf};
-ghost use Rattle.earliest.specs.Inserted.{IsInserted};
 
+use crate::fixtures::{Link, bring_in, fill, push};
 use atto::Steps;
 use earliest::{Earliest, Inserted};
 use frontier::Frontier;
-use problem_model::{Bound, Node};
+use problem_model::Node;
 use std::alloc::{AllocError, Global};
 use std::marker::Brand;
 use std::sync::ledger::{Blank, Ledger};
 use std::test::*;
-use sync_graph::{Arc, Graph};
-
-// Pushes an arc from one event to another, and brings it in.
-fn add<L: Ledger>(
-    g: &mut Graph,
-    e: &mut Earliest,
-    front: &mut Frontier,
-    from: u32,
-    to: u32,
-    weight: i128,
-    steps: &mut Steps<L>,
-) -> Result<Inserted, AllocError>
-    requires from { slice_get g.old.nodes from ≡ Some (Event from) }
-    requires to { slice_get g.old.nodes to ≡ Some (Event to) }
-    requires low { neg_ℤ (pos (2 ^ 93)) <ℤ weight }
-    requires high { weight <ℤ pos (2 ^ 93) }
-    requires few { length g.old.arcs < most_arcs }
-    requires solved { e.old.is_solved ≡ true }
-    requires earliest { IsEarliestOf g.old e.old.values }
-    requires empty { IsEmpty front.old }
-    requires room { length g.old.nodes ≤ length front.old }
-    ensures found { IfOk result (λ found. IsInserted g.new e.new found) }
-    ensures nodes { OnOk result (g.new.nodes ≡ g.old.nodes) }
-    ensures arcs { OnOk result (length g.new.arcs ≡ length g.old.arcs + 1) }
-    ensures in_force { OnOk result (g.new.in_force ≡ g.old.in_force ++ true ∷ []) }
-    ensures empty { IsEmpty front.new }
-    ensures room { length front.new ≡ length front.old }
-{
-    g.exact();
-    let arc = g.push_arc(Arc {
-        from,
-        to,
-        weight,
-        name: Bound::DelayMost {
-            send: from,
-            receive: to,
-        },
-    })?;
-    e.insert(g, arc, front, steps)
-}
+use sync_graph::Graph;
 
 // Two nodes without arcs, both of value 0, and a frontier with room for them.
 fn begin(g: &mut Graph, e: &mut Earliest, front: &mut Frontier) -> Result<(), AllocError>
     requires graph { g.old ≡ no_graph }
     requires values { e.old ≡ record { values = []; is_solved = true } }
     requires front { front.old ≡ [] }
-    ensures nodes { OnOk result (g.new.nodes ≡ Event 0 ∷ Event 1 ∷ []) }
-    ensures arcs { OnOk result (length g.new.arcs ≡ 0) }
-    ensures in_force { OnOk result (g.new.in_force ≡ []) }
+    ensures nodes { OnOk result (length g.new.nodes ≡ 2) }
     ensures solved { OnOk result (e.new.is_solved ≡ true) }
     ensures earliest { OnOk result (IsEarliestOf g.new e.new.values) }
     ensures empty { OnOk result (IsEmpty front.new) }
@@ -83,98 +42,92 @@ fn takes_no_more<L: Ledger>(
     e: &mut Earliest,
     front: &mut Frontier,
     steps: &mut Steps<L>,
-) -> Result<bool, AllocError>
-    requires nodes { g.old.nodes ≡ Event 0 ∷ Event 1 ∷ [] }
-    requires few { length g.old.arcs < most_arcs }
+) -> bool
     requires solved { e.old.is_solved ≡ true }
     requires earliest { IsEarliestOf g.old e.old.values }
     requires empty { IsEmpty front.old }
-    requires room { length front.old ≡ 2 }
+    requires room { length g.old.nodes ≤ length front.old }
 {
-    match add(g, e, front, 1, 0, 2, steps)? {
-        Inserted::Kept => Ok(false),
-        Inserted::Negative(cycle) => Ok(cycle.len() == 2 && !e.solved()),
+    g.exact();
+    let Some(arc) = push(g, &(1, 0, 2)) else {
+        return false;
+    };
+    match e.insert(g, arc, front, steps) {
+        Ok(Inserted::Negative(cycle)) => cycle.len() == 2 && !e.solved(),
+        _ => false,
     }
 }
 
-// Node 0 comes at least 3 after node 1; then an arc that leaves no values.
-fn takes_both<L: Ledger>(
+// Takes an arc of two nodes out of force, and tells whether the value of node 0 falls to 0.
+fn falls<L: Ledger>(
     g: &mut Graph,
     e: &mut Earliest,
     front: &mut Frontier,
+    arc: u32,
     steps: &mut Steps<L>,
-) -> Result<bool, AllocError>
+) -> bool
+    requires nodes { length g.old.nodes ≡ 2 }
+    requires in_force { slice_index_or g.old.in_force arc false ≡ true }
+    requires solved { e.old.is_solved ≡ true }
+    requires earliest { IsEarliestOf g.old e.old.values }
+    requires empty { IsEmpty front.old }
+    requires room { length g.old.nodes ≤ length front.old }
+{
+    g.exact();
+    let removed = [g.arc(arc)];
+    g.withdraw(arc);
+    g.exact();
+    e.withdraw(g, &removed, front, steps);
+    e.value(0) == 0
+}
+
+// Node 0 comes at least 3 after node 1. Then that is withdrawn, or an arc comes that leaves no values.
+fn takes_one<L: Ledger>(
+    g: &mut Graph,
+    e: &mut Earliest,
+    front: &mut Frontier,
+    withdrawn: bool,
+    steps: &mut Steps<L>,
+) -> bool
     requires graph { g.old ≡ no_graph }
     requires values { e.old ≡ record { values = []; is_solved = true } }
     requires front { front.old ≡ [] }
 {
-    begin(g, e, front)?;
-    match add(g, e, front, 0, 1, -3, steps)? {
-        Inserted::Kept => {
-            let is_so = e.value(0) == 3 && e.value(1) == 0;
-            Ok(takes_no_more(g, e, front, steps)? && is_so)
-        }
-        Inserted::Negative(_) => Ok(false),
+    if begin(g, e, front).is_err() {
+        return false;
+    }
+    let Some(arc) = bring_in(g, e, &(0, 1, -3), front, steps) else {
+        return false;
+    };
+    if e.value(0) != 3 || e.value(1) != 0 {
+        return false;
+    }
+    if withdrawn {
+        falls(g, e, front, arc, steps)
+    } else {
+        takes_no_more(g, e, front, steps)
     }
 }
 
-fn arcs_brought_in<L: Ledger>(alloc: Global, blank: Blank) -> Result<bool, AllocError>
+// The same of nodes and values that are made here.
+fn is_taken<L: Ledger>(alloc: Global, withdrawn: bool, blank: Blank) -> bool
     requires { (blank.name ≡ L.name) × (blank.parts ≡ L.parts) × (0 < L.parts) }
 {
     let mut steps = Steps::<L>::open(blank);
     let mut g = Graph::new(alloc);
     let mut e = Earliest::new(alloc);
     let mut front = Frontier::new(alloc);
-    takes_both(&mut g, &mut e, &mut front, &mut steps)
+    takes_one(&mut g, &mut e, &mut front, withdrawn, &mut steps)
 }
 
 #[test]
 fn arcs_are_brought_in(rt: HostRuntime) {
-    assert!(rt; arcs_brought_in::<Brand>(rt.alloc(), Blank::new(1)) == Ok(true));
+    assert!(rt; is_taken::<Brand>(rt.alloc(), false, Blank::new(1)));
 }
 
-// Two nodes, and an arc of each weight there and back.
-fn push_both(g: &mut Graph, there: i128, back: i128) -> Result<(), AllocError>
-    requires graph { g.old ≡ no_graph }
-    requires there_low { neg_ℤ (pos (2 ^ 93)) <ℤ there }
-    requires there_high { there <ℤ pos (2 ^ 93) }
-    requires back_low { neg_ℤ (pos (2 ^ 93)) <ℤ back }
-    requires back_high { back <ℤ pos (2 ^ 93) }
-    ensures { OnOk result (length g.new.nodes ≡ 2) }
-{
-    g.push_node(Node::Event(0))?;
-    g.push_node(Node::Event(1))?;
-    g.push_arc(Arc {
-        from: 0,
-        to: 1,
-        weight: there,
-        name: Bound::DelayMost {
-            send: 0,
-            receive: 1,
-        },
-    })?;
-    g.push_arc(Arc {
-        from: 1,
-        to: 0,
-        weight: back,
-        name: Bound::DelayMost {
-            send: 1,
-            receive: 0,
-        },
-    })?;
-    Ok(())
-}
-
-fn between(alloc: Global, there: i128, back: i128) -> Result<Graph, AllocError>
-    requires there_low { neg_ℤ (pos (2 ^ 93)) <ℤ there }
-    requires there_high { there <ℤ pos (2 ^ 93) }
-    requires back_low { neg_ℤ (pos (2 ^ 93)) <ℤ back }
-    requires back_high { back <ℤ pos (2 ^ 93) }
-    ensures { IfOk result (λ g. length g.nodes ≡ 2) }
-{
-    let mut g = Graph::new(alloc);
-    push_both(&mut g, there, back)?;
-    Ok(g)
+#[test]
+fn values_fall_once_an_arc_is_withdrawn(rt: HostRuntime) {
+    assert!(rt; is_taken::<Brand>(rt.alloc(), true, Blank::new(1)));
 }
 
 // Two values, and a frontier with room for them.
@@ -191,14 +144,14 @@ fn ready(e: &mut Earliest, front: &mut Frontier) -> Result<(), AllocError>
     Ok(())
 }
 
-// The values of two nodes, made anew; None where the graph has a negative cycle.
+// Whether the values of two nodes are these when they are made anew, or the graph has a negative cycle where there are none.
 fn anew<L: Ledger>(
     e: &mut Earliest,
     front: &mut Frontier,
     g: &Graph,
+    want: Option<(i128, i128)>,
     steps: &mut Steps<L>,
-) -> Result<Option<(i128, i128)>, AllocError>
-    requires nodes { length g.now.nodes ≡ 2 }
+) -> bool
     requires values { length e.old.values ≡ 2 }
     requires empty { IsEmpty front.old }
     requires room { length front.old ≡ 2 }
@@ -206,25 +159,25 @@ fn anew<L: Ledger>(
     ensures empty { IsEmpty front.new }
     ensures room { length front.new ≡ 2 }
 {
-    match e.rebuild(g, front, steps)? {
-        Inserted::Kept => Ok(Some((e.value(0), e.value(1)))),
-        Inserted::Negative(_) => Ok(None),
+    if g.nodes() != 2 {
+        return false;
+    }
+    match e.rebuild(g, front, steps) {
+        Ok(Inserted::Kept) => want == Some((e.value(0), e.value(1))),
+        Ok(Inserted::Negative(_)) => want.is_none(),
+        Err(_) => false,
     }
 }
 
-// The same of arcs of these weights there and back.
+// The same of two nodes with these arcs.
 fn anew_between<L: Ledger>(
     alloc: Global,
     e: &mut Earliest,
     front: &mut Frontier,
-    there: i128,
-    back: i128,
+    links: &[Link],
+    want: Option<(i128, i128)>,
     steps: &mut Steps<L>,
-) -> Result<Option<(i128, i128)>, AllocError>
-    requires there_low { neg_ℤ (pos (2 ^ 93)) <ℤ there }
-    requires there_high { there <ℤ pos (2 ^ 93) }
-    requires back_low { neg_ℤ (pos (2 ^ 93)) <ℤ back }
-    requires back_high { back <ℤ pos (2 ^ 93) }
+) -> bool
     requires values { length e.old.values ≡ 2 }
     requires empty { IsEmpty front.old }
     requires room { length front.old ≡ 2 }
@@ -232,8 +185,9 @@ fn anew_between<L: Ledger>(
     ensures empty { IsEmpty front.new }
     ensures room { length front.new ≡ 2 }
 {
-    let g = between(alloc, there, back)?;
-    anew(e, front, &g, steps)
+    let mut g = Graph::new(alloc);
+    let is_filled = fill(&mut g, 2, links);
+    anew(e, front, &g, want, steps) && is_filled
 }
 
 // Two arcs without an execution, and then two with one, which is made where the values were not solved.
@@ -242,18 +196,25 @@ fn both_over<L: Ledger>(
     e: &mut Earliest,
     front: &mut Frontier,
     steps: &mut Steps<L>,
-) -> Result<bool, AllocError>
+) -> bool
     requires values { length e.old.values ≡ 0 }
     requires front { front.old ≡ [] }
 {
-    ready(e, front)?;
-    let first = anew_between(alloc, e, front, -3, 2, steps)?;
-    let unsolved = !e.solved();
-    let second = anew_between(alloc, e, front, -3, 4, steps)?;
-    Ok(unsolved && first == None && second == Some((3, 0)))
+    ready(e, front).is_ok()
+        && anew_between(alloc, e, front, &[(0, 1, -3), (1, 0, 2)], None, steps)
+        && !e.solved()
+        && anew_between(
+            alloc,
+            e,
+            front,
+            &[(0, 1, -3), (1, 0, 4)],
+            Some((3, 0)),
+            steps,
+        )
 }
 
-fn both<L: Ledger>(alloc: Global, blank: Blank) -> Result<bool, AllocError>
+// The same of values that are made here.
+fn both<L: Ledger>(alloc: Global, blank: Blank) -> bool
     requires { (blank.name ≡ L.name) × (blank.parts ≡ L.parts) × (0 < L.parts) }
 {
     let mut steps = Steps::<L>::open(blank);
@@ -264,66 +225,5 @@ fn both<L: Ledger>(alloc: Global, blank: Blank) -> Result<bool, AllocError>
 
 #[test]
 fn values_are_made_anew(rt: HostRuntime) {
-    assert!(rt; both::<Brand>(rt.alloc(), Blank::new(1)) == Ok(true));
-}
-
-// Takes an arc out of force, and lets the values fall.
-fn take_out<L: Ledger>(
-    g: &mut Graph,
-    e: &mut Earliest,
-    front: &mut Frontier,
-    arc: u32,
-    steps: &mut Steps<L>,
-)
-    requires in_force { slice_index_or g.old.in_force arc false ≡ true }
-    requires solved { e.old.is_solved ≡ true }
-    requires earliest { IsEarliestOf g.old e.old.values }
-    requires empty { IsEmpty front.old }
-    requires room { length g.old.nodes ≤ length front.old }
-    ensures nodes { g.new.nodes ≡ g.old.nodes }
-    ensures solved { e.new.is_solved ≡ true }
-    ensures earliest { IsEarliestOf g.new e.new.values }
-{
-    g.exact();
-    let removed = [g.arc(arc)];
-    g.withdraw(arc);
-    g.exact();
-    e.withdraw(g, &removed, front, steps);
-}
-
-// Node 0 comes at least 3 after node 1, until that is withdrawn.
-fn falls_to_zero<L: Ledger>(
-    g: &mut Graph,
-    e: &mut Earliest,
-    front: &mut Frontier,
-    steps: &mut Steps<L>,
-) -> Result<bool, AllocError>
-    requires graph { g.old ≡ no_graph }
-    requires values { e.old ≡ record { values = []; is_solved = true } }
-    requires front { front.old ≡ [] }
-{
-    begin(g, e, front)?;
-    match add(g, e, front, 0, 1, -3, steps)? {
-        Inserted::Kept => {
-            let before = e.value(0);
-            take_out(g, e, front, 0, steps);
-            Ok(before == 3 && e.value(0) == 0)
-        }
-        Inserted::Negative(_) => Ok(false),
-    }
-}
-
-fn arc_taken_out<L: Ledger>(alloc: Global, blank: Blank) -> Result<bool, AllocError>
-    requires { (blank.name ≡ L.name) × (blank.parts ≡ L.parts) × (0 < L.parts) }
-{
-    let mut steps = Steps::<L>::open(blank);
-    let mut g = Graph::new(alloc);
-    let mut e = Earliest::new(alloc);
-    let mut front = Frontier::new(alloc);
-    falls_to_zero(&mut g, &mut e, &mut front, &mut steps)
-}
-
-#[test]
-fn values_fall_once_an_arc_is_withdrawn(rt: HostRuntime) {
-    assert!(rt; arc_taken_out::<Brand>(rt.alloc(), Blank::new(1)) == Ok(true));
+    assert!(rt; both::<Brand>(rt.alloc(), Blank::new(1)));
 }

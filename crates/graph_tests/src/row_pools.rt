@@ -33,12 +33,16 @@ fn distance_at(pool: &RowPool, id: &RowId, place: usize) -> Option<i128> {
 
 // Whether each cell of a row from a place on is unknown.
 fn unknown_from(pool: &RowPool, id: &RowId, place: usize) -> bool {
-    pool.is_taken(id)
-        && pool
-            .row(id)
-            .iter()
-            .skip(place)
-            .all(|cell| *cell == Cell::unknown())
+    if !pool.is_taken(id) {
+        return false;
+    }
+    let row = pool.row(id);
+    for k in place..row.len() {
+        if row[k] != Cell::unknown() {
+            return false;
+        }
+    }
+    true
 }
 
 // Puts a distance into the first cell of each of two rows.

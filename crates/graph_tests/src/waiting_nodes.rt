@@ -1,34 +1,41 @@
-ghost use Rattle.std.specs.Prelude.{◌≡◌, ◌<◌, length};
+// The order in which nodes are taken.
+ghost use Rattle.std.specs.Prelude.{◌≡◌, ◌<◌, [], ◌∷◌, None, length};
 
 use atto::Steps;
 use frontier::Frontier;
 use std::alloc::{AllocError, Global};
 use std::marker::Brand;
 use std::sync::ledger::{Blank, Ledger};
-use std::test::Fail;
+use std::test::*;
 
 // Nodes come by key, then by node; a lowered key counts, and so do the extremes.
 #[test]
-fn the_least_comes_first(rt: HostRuntime) -> Result<(), Fail> {
-    assert!(rt; the_least_come::<Brand>(rt.alloc(), Blank::new(1))?);
-    Ok(())
+fn the_least_comes_first(rt: HostRuntime) {
+    assert!(rt; the_least_come::<Brand>(rt.alloc(), Blank::new(1)));
 }
 
-fn the_least_come<L: Ledger>(alloc: Global, blank: Blank) -> Result<bool, AllocError>
+// The same of a frontier that is made here.
+fn the_least_come<L: Ledger>(alloc: Global, blank: Blank) -> bool
     requires { (blank.name ≡ L.name) × (blank.parts ≡ L.parts) × (0 < L.parts) }
 {
     let mut steps = Steps::<L>::open(blank);
     let mut front = Frontier::new(alloc);
-    front.reserve(5)?;
+    front.reserve(5).is_ok() && put_all(&mut front) && comes_as(&mut front, &mut steps)
+}
+
+// Puts four of five nodes, and tells whether their keys are there.
+fn put_all(front: &mut Frontier) -> bool
+    requires { front.old ≡ None ∷ None ∷ None ∷ None ∷ None ∷ [] }
+{
     front.put(4, 7);
     front.lower(4, i128::MIN);
     front.put(1, -3);
     front.put(3, -3);
     front.put(0, i128::MAX);
-    let keys = front.key(1) == Some(-3) && front.key(2).is_none() && front.key(5).is_none();
-    Ok(keys && comes_as(&mut front, &mut steps))
+    front.key(1) == Some(-3) && front.key(2).is_none() && front.key(5).is_none()
 }
 
+// Whether these nodes come in this order, and no other.
 fn comes_as<L: Ledger>(front: &mut Frontier, steps: &mut Steps<L>) -> bool {
     for want in [
         Some((4, i128::MIN)),
@@ -46,14 +53,14 @@ fn comes_as<L: Ledger>(front: &mut Frontier, steps: &mut Steps<L>) -> bool {
 
 // The same calls in any order give what a table of keys gives in which all are looked at.
 #[test]
-fn it_answers_as_a_table_of_keys(rt: HostRuntime) -> Result<(), Fail> {
+fn it_answers_as_a_table_of_keys(rt: HostRuntime) {
     for seed in [1, 2, 3] {
-        assert!(rt; table_agrees::<Brand>(rt.alloc(), Blank::new(1), seed)?);
+        assert!(rt; table_agrees::<Brand>(rt.alloc(), Blank::new(1), seed));
     }
-    Ok(())
 }
 
-fn table_agrees<L: Ledger>(alloc: Global, blank: Blank, seed: u64) -> Result<bool, AllocError>
+// Whether a frontier and a table that are made here agree.
+fn table_agrees<L: Ledger>(alloc: Global, blank: Blank, seed: u64) -> bool
     requires { (blank.name ≡ L.name) × (blank.parts ≡ L.parts) × (0 < L.parts) }
 {
     let mut steps = Steps::<L>::open(blank);
@@ -62,7 +69,7 @@ fn table_agrees<L: Ledger>(alloc: Global, blank: Blank, seed: u64) -> Result<boo
         room: 0,
         table: [None; 24],
     };
-    agree(&mut tried, &mut steps, seed)
+    agree(&mut tried, &mut steps, seed) == Ok(true)
 }
 
 // A frontier, its room, and a table of keys that is given the same calls.
@@ -110,19 +117,23 @@ fn call<L: Ledger>(
     Ok(true)
 }
 
+// The keys that are drawn from.
 const KEYS: [i128; 8] = [i128::MIN, -2, -1, -1, 0, 0, 3, i128::MAX];
 
+// Nothing waits in either.
 fn clear(tried: &mut Tried) {
     tried.front.clear();
     tried.table = [None; 24];
 }
 
+// Room for so many nodes, if there is less.
 fn reserve(tried: &mut Tried, nodes: u32) -> Result<(), AllocError> {
     tried.front.reserve(nodes)?;
     tried.room = tried.room.max(nodes);
     Ok(())
 }
 
+// Puts a node that has room and does not wait.
 fn put(tried: &mut Tried, node: u32, key: i128) {
     if node < tried.room && tried.front.key(node).is_none() {
         tried.front.put(node, key);
@@ -130,6 +141,7 @@ fn put(tried: &mut Tried, node: u32, key: i128) {
     }
 }
 
+// Lowers the key of a node that waits, where it is not less already.
 fn lower(tried: &mut Tried, node: u32, key: i128) {
     if let Some(before) = tried.front.key(node) {
         if key <= before {
@@ -139,6 +151,7 @@ fn lower(tried: &mut Tried, node: u32, key: i128) {
     }
 }
 
+// Whether the node that comes is the least of the table.
 fn pop<L: Ledger>(tried: &mut Tried, steps: &mut Steps<L>) -> bool {
     let least = least(&tried.table);
     if let Some((node, _)) = least {
@@ -147,6 +160,7 @@ fn pop<L: Ledger>(tried: &mut Tried, steps: &mut Steps<L>) -> bool {
     tried.front.pop(steps) == least
 }
 
+// Whether both have the same keys.
 fn same_keys(tried: &Tried) -> bool {
     for (node, key) in tried.table.iter().enumerate() {
         if tried.front.key(node as u32) != *key {
@@ -156,6 +170,7 @@ fn same_keys(tried: &Tried) -> bool {
     true
 }
 
+// Writes the key of a node into a table that has it.
 fn set_key(table: &mut [Option<i128>], node: u32, key: Option<i128>) {
     if let Some(place) = table.get_mut(node as usize) {
         *place = key;

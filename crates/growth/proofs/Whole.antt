@@ -40,10 +40,10 @@ pairs_of f xs differ i j d less inside same =
     let long = length-map xs f in
     differ i j (f d) less (omega (arith, inside, long)) (get_or-map f xs i d (f d) (omega (arith, less, inside)) ∙ same ∙ sym (get_or-map f xs j d (f d) inside))
 
-module _ (l : Listed) (p q : ProblemLists) (readings : List Reading) (g : GraphLists) (is : IsGraph g) (lawful : IsProblem q) (are : AreReadings q readings) (listed : IsListedBy l q readings) (by : IsByNumber l p q) (tells : TellsNodes l g)
+module _ (l : Listed) (p q : ProblemLists) (readings : List Reading) (g : GraphLists) (is : IsGraph g) (lawful : IsProblem q) (alone : q.follows ≡ []) (are : AreReadings q readings) (listed : IsListedBy l q readings) (by : IsByNumber l p q) (tells : TellsNodes l g)
     (grown : IsGrownTo p all_events g) where
   no_follows : p.follows ≡ []
-  no_follows = sym by.follows ∙ lawful.formed.no_follows
+  no_follows = sym by.follows ∙ alone
 
   -- a number stands for one node, and a node has one number
   one_number : (j k : ℕ) (n : Node) → slice_get g.nodes j ≡ Some n → slice_get g.nodes k ≡ Some n → j ≡ k
@@ -173,5 +173,5 @@ module _ (l : Listed) (p q : ProblemLists) (readings : List Reading) (g : GraphL
     nodes = told_below g.nodes (listed_nodes l) (numbered_nodes l) told numbered_differ;
     nodes_differ = told_differ g.nodes (listed_nodes l) (numbered_nodes l) told numbered_differ;
     each = each_arc;
-    every = All-weaker (λ (b : Bound). IsDue q all_events b) (λ (b : Bound). (a : Arc) × IsInForce g a × IsBoundBy l q readings b a) bound_there (short_list q readings) (short_due q readings are lawful.formed.no_follows);
+    every = All-weaker (λ (b : Bound). IsDue q all_events b) (λ (b : Bound). (a : Arc) × IsInForce g a × IsBoundBy l q readings b a) bound_there (short_list q readings) (short_due q readings are alone);
   }

@@ -66,9 +66,10 @@ pub fn bounds_are_in_force_once()
     ensures pushed { (b : Bound) (rest : List Bound) (g : GraphLists) (a : Arc) → IsGraph g → a.name ≡ b → HasEachOnce (b ∷ rest) g → HasEachOnce rest (with_arc g a) }
 {}
 
-/// A law, which does nothing when it runs: a graph that has grown to all events of a problem stands for the problem as it is listed.
+/// A law, which does nothing when it runs: a graph that has grown to all events of a problem in which no clock follows another stands
+/// for the problem as it is listed.
 pub fn the_whole_stands_for_its_problem()
-    ensures { (l : Listed) (p q : ProblemLists) (readings : List Reading) (g : GraphLists) → IsGraph g → IsProblem q → AreReadings q readings → IsListedBy l q readings → IsByNumber l p q → TellsNodes l g → IsGrownTo p all_events g
+    ensures { (l : Listed) (p q : ProblemLists) (readings : List Reading) (g : GraphLists) → IsGraph g → IsProblem q → q.follows ≡ [] → AreReadings q readings → IsListedBy l q readings → IsByNumber l p q → TellsNodes l g → IsGrownTo p all_events g
         → StandsForListed l q readings g }
 {}
 

@@ -69,7 +69,7 @@ module _ (r : RosterLists) (is : IsRoster r) (seen : List (List Seen)) (s : Solv
         stamps = fit;
         solution = record {
           current = way.current;
-          stands = λ readings are. stands (listed r) (problem_by_number r (messages_by_number r seen)) (problem_of_seen r.declaration seen) readings s.graph way.current.set_up.graph (lawful holds fit) are
+          stands = λ readings are. stands (listed r) (problem_by_number r (messages_by_number r seen)) (problem_of_seen r.declaration seen) readings s.graph way.current.set_up.graph (lawful holds fit) refl are
               (listed_by r is seen holds readings are) (by_number r is seen holds (messages_by_number r seen) (carried r is seen holds)) (tells r is s.graph grown.knows) grown.grown;
         };
         grown = grown;

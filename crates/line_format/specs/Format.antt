@@ -10,7 +10,7 @@ use Rattle.line_format.specs.declared.fault.Taken.TheVariants as taken
 
 -- the most bytes of a text that is read
 abbrev pub most_bytes : ℕ
-most_bytes = 2 ^ 30
+most_bytes = 2 ^ 31
 
 -- A format: a head, then lines that say what is so far said, then the end.
 -- A State is what the lines so far say; a Line has its numbers as large as they are written.

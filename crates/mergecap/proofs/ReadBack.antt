@@ -71,10 +71,6 @@ links_are : (ts : List Timed) → HasOneLink ts → All (λ (t : Timed). t.packe
 links_are [] one = All-nil (λ (t : Timed). t.packet.link ≡ 1)
 links_are (t ∷ ts) one = λ k d inside. one (get_or (t ∷ ts) k d) t (Contains-get_or (t ∷ ts) k d inside) (0, omega arith, refl)
 
-link_small : (ts : List Timed) → All HasLinkType ts → link_of ts < 65536
-link_small [] small = omega arith
-link_small (t ∷ ts) small = All-head HasLinkType t ts small
-
 -- ---- the whole
 said_link : (n said : ℕ) → n < 65536 → said ≡ n → n ≡ said % 65536
 said_link n said small is = omega (arith, small, is)
@@ -91,7 +87,7 @@ nothing_left : HasRecord Little [] → ⊥
 nothing_left (r, after, is, whole) =
     omega (arith, is.size, ap (λ (l : List ℕ). length l) whole, length-append (r.head ++ r.captured) after, length-append r.head r.captured)
 
-pub read_back : (ts : List Timed) → AreWritable ts → All IsShort ts → All HasLinkType ts → IsReadBack ts
+pub read_back : (ts : List Timed) → AreWritable ts → All IsShort ts → HasLinkType ts → IsReadBack ts
 read_back ts writable short links =
     let link : ℕ = link_of ts in
     record {
@@ -99,7 +95,7 @@ read_back ts writable short links =
       reads = record {
         made = record {
           header = header link;
-          says = header_is link (link_small ts links);
+          says = header_is link links;
           are_records = records_are ts short;
           whole = sym (append-nil (merged_capture ts));
         };

@@ -1,11 +1,11 @@
 -- A merged capture that is read.
 use Rattle.std.specs.Prelude.{◌≡◌, ◌<◌, List, [], map}
 use Rattle.pcap_stream.specs.Capture.{Capture, Reads, Seen, packets_of}
-use Rattle.mergecap.specs.MergedCapture.{Timed, merged_capture, whole_nanos}
+use Rattle.mergecap.specs.MergedCapture.{Timed, link_of, merged_capture, whole_nanos}
 
--- link types have 16 bits
-abbrev pub HasLinkType : Timed → Type 0
-HasLinkType t = t.packet.link < 65536
+-- the link type of the capture has 16 bits
+abbrev pub HasLinkType : List Timed → Type 0
+HasLinkType ts = link_of ts < 65536
 
 -- the packet with its time, in whole ns, as its stamp
 abbrev pub stamped : Timed → Seen

@@ -1,8 +1,9 @@
 // What stands before the packets of a capture, and before the bytes of each.
-ghost use Rattle.std.specs.Prelude.{◌≡◌, ◌≤◌, ◌+◌, ◌++◌, length};
+ghost use Rattle.std.specs.Prelude.{◌≡◌, ◌≤◌, ◌<◌, ◌+◌, ◌++◌, length};
 ghost use Rattle.byteorder.specs.Endian.{little_bytes};
 ghost use Rattle.mergecap.specs.MergedCapture.{header, link_of, record_of, IsWritable};
 ghost use Rattle.mergecap.specs.Packets.{timed, all_timed};
+ghost use Rattle.mergecap.specs.Reading.{HasLinkType};
 
 use crate::Stored;
 use arrayvec::ArrayVec;
@@ -30,12 +31,21 @@ const UNITS_A_NANO: u128 = 1_000_000_000;
 
 const NANOS_A_SECOND: u128 = 1_000_000_000;
 
+// The link type of a packet, which has 16 bits.
+fn link_type(stored: &Stored) -> u16
+    ensures value { result ≡ (timed stored.now).packet.link }
+    ensures small { result < 65536 }
+{
+    stored.packet.link
+}
+
 /// The link type of the first packet; that of Ethernet where there is none.
 pub(crate) fn link_of(kept: &[Stored]) -> u16
-    ensures { result ≡ link_of (all_timed kept.now) }
+    ensures value { result ≡ link_of (all_timed kept.now) }
+    ensures small { HasLinkType (all_timed kept.now) }
 {
     match kept.first() {
-        Some(stored) => stored.packet.link,
+        Some(stored) => link_type(stored),
         None => ETHERNET,
     }
 }

@@ -11,5 +11,5 @@ pub fn arranged_in_one_way()
 /// A law: a merged capture is read as a capture of these packets, each with its time in whole ns as its stamp, and nothing
 /// is left.
 pub fn merged_captures_are_read()
-    ensures { (ts : List Timed) → AreWritable ts → All IsShort ts → All HasLinkType ts → IsReadBack ts }
+    ensures { (ts : List Timed) → AreWritable ts → All IsShort ts → HasLinkType ts → IsReadBack ts }
 {}

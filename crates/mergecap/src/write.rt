@@ -5,9 +5,11 @@ ghost use Rattle.ports.specs.Content.{Writes};
 ghost use Rattle.pcap_stream.specs.Capture.{bytes_of};
 ghost use Rattle.mergecap.specs.MergedCapture.{AreWritable, IsShort, IsWritable, merged_capture, record_of};
 ghost use Rattle.mergecap.specs.Packets.{timed, all_timed};
+ghost use Rattle.mergecap.specs.Reading.{IsReadBack};
 
 use crate::Stored;
 use crate::heads::{header, link_of, record_head};
+use crate::laws::merged_captures_are_read;
 use ports::{Failed, Sink, write_whole};
 
 // Writes the record of a packet.
@@ -35,13 +37,16 @@ fn write_records<O: Sink>(kept: &[Stored], out: &mut O) -> Result<(), Failed>
 /// original length stands how many bytes were captured.
 ///
 /// All packets have one link type, each time is at least 0 and below 2^32 s, and each packet has at most 262,144 bytes. It
-/// takes no memory. `Failed` comes only where the sink's count of faults rose, or stands at its last value; a front of the
-/// capture is then written.
+/// takes no memory. Read as a capture, the whole of it says these packets with these stamps, in their order, and nothing is
+/// left. `Failed` comes only where the sink's count of faults rose, or stands at its last value; a front of the capture is
+/// then written.
 pub fn write_capture<O: Sink>(kept: &[Stored], out: &mut O) -> Result<(), Failed>
     requires writable { AreWritable (all_timed kept.now) }
     requires short { All IsShort (all_timed kept.now) }
-    ensures { Writes (merged_capture (all_timed kept.now)) (O.told out.old) (O.told out.new) result }
+    ensures written { Writes (merged_capture (all_timed kept.now)) (O.told out.old) (O.told out.new) result }
+    ensures read_back { IsReadBack (all_timed kept.now) }
 {
+    merged_captures_are_read();
     write_whole(out, header(link_of(kept)).as_slice())?;
     write_records(kept, out)
 }

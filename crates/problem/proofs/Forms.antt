@@ -9,9 +9,10 @@ use Rattle.problem_model.specs.ProblemText.{most_word}
 use Rattle.line_format.specs.Cut.{Lacks, fields}
 use Rattle.line_format.proofs.Lacking.{lacks_low, all_high}
 use Rattle.line_format.proofs.Fields.{fields_again, fields_take}
-use Rattle.problem.specs.Written.{Spells, ClockParts, ClockSays, NoClock, clock_rest, EventParts, EventSays, NoEvent, event_rest, SpellsMost, MessageParts, MessageSays, NoMessage, message_rest}
+use Rattle.problem.specs.Written.{Spells, ClockParts, ClockSays, NoClock, clock_rest, FollowParts, FollowSays, NoFollow, follow_rest, EventParts, EventSays, NoEvent, event_rest, SpellsMost, MessageParts, MessageSays, NoMessage, message_rest}
 use Rattle.problem.specs.declared.words.MessageWords.{MessageWords}
 use Rattle.problem.specs.declared.words.ClockWords.{ClockWords}
+use Rattle.problem.specs.declared.words.FollowWords.{FollowWords}
 use Rattle.problem.specs.declared.words.EventWords.{EventWords}
 
 -- ---- what words lack
@@ -73,6 +74,30 @@ clock_says rest a b c d e w five parts = record {
   long_is = parts.long_is.counts;
   early_is = parts.early_is.counts;
   late_is = parts.late_is.counts;
+}
+
+pub follow_fields : (rest earlier later : List ℕ) (gap : ℕ) → IsClockName earlier → IsClockName later → rest ≡ follow_rest earlier later gap →
+    fields 2 rest ≡ Some (earlier ∷ later ∷ decimal_of gap ∷ [])
+follow_fields rest earlier later gap named later_named is =
+    rw is (fields_again 2 (earlier ∷ later ∷ decimal_of gap ∷ []) refl (clock_name_lacks 32 earlier (omega arith) named, (clock_name_lacks 32 later (omega arith) later_named, tt)))
+
+pub follow_not_three : (rest : List ℕ) → fields 2 rest ≡ None → NoFollow rest
+follow_not_three rest none earlier later gap named later_named is = let f = follow_fields rest earlier later gap named later_named is in cc
+
+pub follow_not_parts : (rest a b c : List ℕ) → fields 2 rest ≡ Some (a ∷ b ∷ c ∷ []) → ((g : ℕ) → IsClockName a → IsClockName b → c ≡ decimal_of g → ⊥) → NoFollow rest
+follow_not_parts rest a b c three none earlier later gap named later_named is =
+    let f = follow_fields rest earlier later gap named later_named is in
+    let a-is : earlier ≡ a = cc in
+    let b-is : later ≡ b = cc in
+    none gap (rw a-is at named) (rw b-is at later_named) (cc)
+
+pub follow_says : (rest a b c : List ℕ) (w : FollowWords) → fields 2 rest ≡ Some (a ∷ b ∷ c ∷ []) → FollowParts a b c w → FollowSays rest w
+follow_says rest a b c w three parts = record {
+  gap = parts.gap_is.m;
+  earlier_named = parts.earlier_named;
+  later_named = parts.later_named;
+  is = (fields_take 2 rest (a ∷ b ∷ c ∷ []) three).0 ∙ rw (parts.earlier_is, parts.later_is, parts.gap_is.is) refl;
+  gap_is = parts.gap_is.counts;
 }
 
 pub event_fields : (rest name clock : List ℕ) (s : ℕ) → IsEventName name → IsClockName clock → rest ≡ event_rest name clock s →

@@ -6,11 +6,15 @@ use Rattle.std.proofs.lemmas.List.Elements.{All-push, All-from_recursion, recurs
 use Rattle.std.proofs.lemmas.List.{map-append}
 use Rattle.problem_model.specs.declared.items.Clock.{Clock}
 use Rattle.problem_model.specs.declared.items.Event.{Event}
+use Rattle.problem_model.specs.declared.items.Follow.{Follow}
 use Rattle.problem_model.specs.declared.items.Message.{Message}
 use Rattle.problem_model.specs.Name.{IsClockName, IsEventName}
-use Rattle.problem_model.specs.Problem.{ProblemLists, IsProblem, ClockFits, MessageFits}
-use Rattle.problem.specs.Growing.{IsNewClock, IsNewEvent, IsNewPair, IsNewMessage, HasRoomForClock, HasRoomForEvent, HasRoomForMessage, with_clock, with_event, with_message}
-use Rattle.problem.specs.Inside.{AreItems}
+use Rattle.problem_model.specs.Problem.{ProblemLists, IsProblem, ClockFits, MessageFits, LeadsOn}
+use Rattle.problem_model.specs.ChainNumbers.{with_follow}
+use Rattle.problem.specs.Growing.{IsNewClock, IsNewFollow, IsNewEvent, IsNewPair, IsNewMessage, HasRoomForClock, HasRoomForEvent, HasRoomForMessage, with_clock, with_event, with_message}
+use Rattle.problem.specs.Inside.{AreItems, AreLinks}
+use Rattle.problem.specs.declared.chains.Link.{Link}
+use Rattle.problem.proofs.Linked.{lone, links_clock, links_event, links_message}
 
 -- ---- a key that stands at no place differs from each
 module _ {A K : Type 0} (key : A → K) where
@@ -52,7 +56,9 @@ more_clock p c lawful fits new room = record {
   formed = record {
     clock_names = All-push (λ x. IsClockName x.name) p.clocks c lawful.formed.clock_names new.named;
     clocks_differ = all_pairs_push (λ a b. a.name ≢ b.name) p.clocks c lawful.formed.clocks_differ new.new;
-    no_follows = lawful.formed.no_follows;
+    follow_ends = λ k d inside. let ends = lawful.formed.follow_ends k d inside in (ends.0, rw length-append (let end = ends.1 in omega (arith, end)));
+    earliers_differ = lawful.formed.earliers_differ;
+    laters_differ = lawful.formed.laters_differ;
     event_names = lawful.formed.event_names;
     events_differ = lawful.formed.events_differ;
     event_clocks = λ k d inside. rw length-append (omega (arith, lawful.formed.event_clocks k d inside));
@@ -64,6 +70,34 @@ more_clock p c lawful fits new room = record {
   fits = record {
     clocks_fit = All-push ClockFits p.clocks c lawful.fits.clocks_fit fits;
     clock_limit = grind (arith, length-append, room);
+    gaps_fit = lawful.fits.gaps_fit;
+    stamps_fit = lawful.fits.stamps_fit;
+    event_limit = lawful.fits.event_limit;
+    messages_fit = lawful.fits.messages_fit;
+    message_limit = lawful.fits.message_limit;
+  };
+}
+
+pub more_follow : (p : ProblemLists) (f : Follow) → IsProblem p → f.gap < 2 ^ 62 → IsNewFollow p f → IsProblem (with_follow p f)
+more_follow p f lawful fits new = record {
+  formed = record {
+    clock_names = lawful.formed.clock_names;
+    clocks_differ = lawful.formed.clocks_differ;
+    follow_ends = All-push (LeadsOn p.clocks) p.follows f lawful.formed.follow_ends new.leads;
+    earliers_differ = all_pairs_push (λ a b. a.earlier ≢ b.earlier) p.follows f lawful.formed.earliers_differ new.earlier_new;
+    laters_differ = all_pairs_push (λ a b. a.later ≢ b.later) p.follows f lawful.formed.laters_differ new.later_new;
+    event_names = lawful.formed.event_names;
+    events_differ = lawful.formed.events_differ;
+    event_clocks = lawful.formed.event_clocks;
+    sends = lawful.formed.sends;
+    receives = lawful.formed.receives;
+    two_ends = lawful.formed.two_ends;
+    messages_differ = lawful.formed.messages_differ;
+  };
+  fits = record {
+    clocks_fit = lawful.fits.clocks_fit;
+    clock_limit = lawful.fits.clock_limit;
+    gaps_fit = All-push (λ x. x.gap < 2 ^ 62) p.follows f lawful.fits.gaps_fit fits;
     stamps_fit = lawful.fits.stamps_fit;
     event_limit = lawful.fits.event_limit;
     messages_fit = lawful.fits.messages_fit;
@@ -76,7 +110,9 @@ more_event p e lawful named fits new room = record {
   formed = record {
     clock_names = lawful.formed.clock_names;
     clocks_differ = lawful.formed.clocks_differ;
-    no_follows = lawful.formed.no_follows;
+    follow_ends = lawful.formed.follow_ends;
+    earliers_differ = lawful.formed.earliers_differ;
+    laters_differ = lawful.formed.laters_differ;
     event_names = All-push (λ x. IsEventName x.name) p.events e lawful.formed.event_names named;
     events_differ = all_pairs_push (λ a b. a.name ≢ b.name) p.events e lawful.formed.events_differ new.new;
     event_clocks = All-push (λ x. x.clock < length p.clocks) p.events e lawful.formed.event_clocks new.clock;
@@ -88,6 +124,7 @@ more_event p e lawful named fits new room = record {
   fits = record {
     clocks_fit = lawful.fits.clocks_fit;
     clock_limit = lawful.fits.clock_limit;
+    gaps_fit = lawful.fits.gaps_fit;
     stamps_fit = All-push (λ x. x.stamp < 2 ^ 62) p.events e lawful.fits.stamps_fit fits;
     event_limit = grind (arith, length-append, room);
     messages_fit = lawful.fits.messages_fit;
@@ -100,7 +137,9 @@ more_message p m lawful fits new room = record {
   formed = record {
     clock_names = lawful.formed.clock_names;
     clocks_differ = lawful.formed.clocks_differ;
-    no_follows = lawful.formed.no_follows;
+    follow_ends = lawful.formed.follow_ends;
+    earliers_differ = lawful.formed.earliers_differ;
+    laters_differ = lawful.formed.laters_differ;
     event_names = lawful.formed.event_names;
     events_differ = lawful.formed.events_differ;
     event_clocks = lawful.formed.event_clocks;
@@ -112,6 +151,7 @@ more_message p m lawful fits new room = record {
   fits = record {
     clocks_fit = lawful.fits.clocks_fit;
     clock_limit = lawful.fits.clock_limit;
+    gaps_fit = lawful.fits.gaps_fit;
     stamps_fit = lawful.fits.stamps_fit;
     event_limit = lawful.fits.event_limit;
     messages_fit = All-push MessageFits p.messages m lawful.fits.messages_fit fits;
@@ -120,61 +160,75 @@ more_message p m lawful fits new room = record {
 }
 
 -- ---- with the look-ups
-pub items_clock : (p : ProblemLists) (ns ns' es : List (List ℕ)) (ps : List (ℕ × ℕ)) (cs : List Clock) (c : Clock) → AreItems p ns es ps → ClockFits c → IsNewClock p c → HasRoomForClock p →
-    cs ≡ p.clocks ++ c ∷ [] → ns' ≡ ns ++ c.name ∷ [] → AreItems (record p { clocks = cs }) ns' es ps
-items_clock p ns ns' es ps cs c items fits new room grown names =
-    rw (grown, names) (record {
+pub items_clock : (p : ProblemLists) (ns ns' es : List (List ℕ)) (ps : List (ℕ × ℕ)) (ls ls' : List Link) (cs : List Clock) (c : Clock) → AreItems p ns es ps ls → ClockFits c → IsNewClock p c → HasRoomForClock p →
+    cs ≡ p.clocks ++ c ∷ [] → ns' ≡ ns ++ c.name ∷ [] → ls' ≡ ls ++ lone (length p.clocks) ∷ [] → AreItems (record p { clocks = cs }) ns' es ps ls'
+items_clock p ns ns' es ps ls ls' cs c items fits new room grown names links =
+    rw (grown, names, links) (record {
       lawful = more_clock p c items.lawful fits new room;
       clock_names_are = rw items.clock_names_are (sym (map-append (λ c. c.name) p.clocks (c ∷ [])));
       event_names_are = items.event_names_are;
       pairs_are = items.pairs_are;
+      links_are = links_clock p c ls items.lawful.formed items.links_are;
     })
 
-pub items_event : (p : ProblemLists) (ns es es' : List (List ℕ)) (ps : List (ℕ × ℕ)) (vs : List Event) (e : Event) → AreItems p ns es ps → IsEventName e.name → e.stamp < 2 ^ 62 → IsNewEvent p e → HasRoomForEvent p →
-    vs ≡ p.events ++ e ∷ [] → es' ≡ es ++ e.name ∷ [] → AreItems (record p { events = vs }) ns es' ps
-items_event p ns es es' ps vs e items named fits new room grown names =
+pub items_follow : (p : ProblemLists) (ns es : List (List ℕ)) (ps : List (ℕ × ℕ)) (ls ls' : List Link) (fs : List Follow) (f : Follow) → AreItems p ns es ps ls → f.gap < 2 ^ 62 → IsNewFollow p f →
+    fs ≡ p.follows ++ f ∷ [] → AreLinks (with_follow p f) ls' → AreItems (record p { follows = fs }) ns es ps ls'
+items_follow p ns es ps ls ls' fs f items fits new grown links =
+    rw grown (record {
+      lawful = more_follow p f items.lawful fits new;
+      clock_names_are = items.clock_names_are;
+      event_names_are = items.event_names_are;
+      pairs_are = items.pairs_are;
+      links_are = links;
+    })
+
+pub items_event : (p : ProblemLists) (ns es es' : List (List ℕ)) (ps : List (ℕ × ℕ)) (ls : List Link) (vs : List Event) (e : Event) → AreItems p ns es ps ls → IsEventName e.name → e.stamp < 2 ^ 62 → IsNewEvent p e → HasRoomForEvent p →
+    vs ≡ p.events ++ e ∷ [] → es' ≡ es ++ e.name ∷ [] → AreItems (record p { events = vs }) ns es' ps ls
+items_event p ns es es' ps ls vs e items named fits new room grown names =
     rw (grown, names) (record {
       lawful = more_event p e items.lawful named fits new room;
       clock_names_are = items.clock_names_are;
       event_names_are = rw items.event_names_are (sym (map-append (λ c. c.name) p.events (e ∷ [])));
       pairs_are = items.pairs_are;
+      links_are = links_event p e ls items.links_are;
     })
 
-pub items_message : (p : ProblemLists) (ns es : List (List ℕ)) (ps ps' : List (ℕ × ℕ)) (ms : List Message) (m : Message) → AreItems p ns es ps → MessageFits m → IsNewMessage p m → HasRoomForMessage p →
-    ms ≡ p.messages ++ m ∷ [] → ps' ≡ ps ++ (m.send, m.receive) ∷ [] → AreItems (record p { messages = ms }) ns es ps'
-items_message p ns es ps ps' ms m items fits new room grown pairs =
+pub items_message : (p : ProblemLists) (ns es : List (List ℕ)) (ps ps' : List (ℕ × ℕ)) (ls : List Link) (ms : List Message) (m : Message) → AreItems p ns es ps ls → MessageFits m → IsNewMessage p m → HasRoomForMessage p →
+    ms ≡ p.messages ++ m ∷ [] → ps' ≡ ps ++ (m.send, m.receive) ∷ [] → AreItems (record p { messages = ms }) ns es ps' ls
+items_message p ns es ps ps' ls ms m items fits new room grown pairs =
     rw (grown, pairs) (record {
       lawful = more_message p m items.lawful fits new room;
       clock_names_are = items.clock_names_are;
       event_names_are = items.event_names_are;
       pairs_are = rw items.pairs_are (sym (map-append {A = Message} {B = ℕ × ℕ} (λ m. (m.send, m.receive)) p.messages (m ∷ [])));
+      links_are = links_message p m ls items.links_are;
     })
 
 -- ---- the look-ups answer what may be added
-module _ (p : ProblemLists) (ns es : List (List ℕ)) (ps : List (ℕ × ℕ)) where
-  pub known_clock : (c : Clock) (k : ℕ) → AreItems p ns es ps → slice_get ns k ≡ Some c.name → IsNewClock p c → ⊥
+module _ (p : ProblemLists) (ns es : List (List ℕ)) (ps : List (ℕ × ℕ)) (ls : List Link) where
+  pub known_clock : (c : Clock) (k : ℕ) → AreItems p ns es ps ls → slice_get ns k ≡ Some c.name → IsNewClock p c → ⊥
   known_clock c k items at new = at_none (λ x. x.name) p.clocks c.name new.new k (rw items.clock_names_are at at)
 
-  pub unknown_clock : (c : Clock) → AreItems p ns es ps → ((k : ℕ) → slice_get ns k ≡ Some c.name → ⊥) → IsClockName c.name → IsNewClock p c
+  pub unknown_clock : (c : Clock) → AreItems p ns es ps ls → ((k : ℕ) → slice_get ns k ≡ Some c.name → ⊥) → IsClockName c.name → IsNewClock p c
   unknown_clock c items none named = record { named = named; new = absent (λ x. x.name) p.clocks c.name (rw items.clock_names_are at none) }
 
-  pub still_new_clock : (c : Clock) → AreItems p ns es ps → IsNewClock p c → (k : ℕ) → slice_get ns k ≡ Some c.name → ⊥
+  pub still_new_clock : (c : Clock) → AreItems p ns es ps ls → IsNewClock p c → (k : ℕ) → slice_get ns k ≡ Some c.name → ⊥
   still_new_clock c items new k at = known_clock c k items at new
 
-  pub known_event : (e : Event) (k : ℕ) → AreItems p ns es ps → slice_get es k ≡ Some e.name → IsNewEvent p e → ⊥
+  pub known_event : (e : Event) (k : ℕ) → AreItems p ns es ps ls → slice_get es k ≡ Some e.name → IsNewEvent p e → ⊥
   known_event e k items at new = at_none (λ x. x.name) p.events e.name new.new k (rw items.event_names_are at at)
 
-  pub unknown_event : (e : Event) → AreItems p ns es ps → ((k : ℕ) → slice_get es k ≡ Some e.name → ⊥) → e.clock < length p.clocks → IsNewEvent p e
+  pub unknown_event : (e : Event) → AreItems p ns es ps ls → ((k : ℕ) → slice_get es k ≡ Some e.name → ⊥) → e.clock < length p.clocks → IsNewEvent p e
   unknown_event e items none known = record { new = absent (λ x. x.name) p.events e.name (rw items.event_names_are at none); clock = known }
 
-  pub still_new_event : (e : Event) → AreItems p ns es ps → IsNewEvent p e → (k : ℕ) → slice_get es k ≡ Some e.name → ⊥
+  pub still_new_event : (e : Event) → AreItems p ns es ps ls → IsNewEvent p e → (k : ℕ) → slice_get es k ≡ Some e.name → ⊥
   still_new_event e items new k at = known_event e k items at new
 
-  pub known_pair : (send receive : ℕ) (k : ℕ) → AreItems p ns es ps → slice_get {X = ℕ × ℕ} ps k ≡ Some (send, receive) → IsNewPair p send receive → ⊥
+  pub known_pair : (send receive : ℕ) (k : ℕ) → AreItems p ns es ps ls → slice_get {X = ℕ × ℕ} ps k ≡ Some (send, receive) → IsNewPair p send receive → ⊥
   known_pair send receive k items at new = pair_at_none p.messages send receive new.new k (rw items.pairs_are at at)
 
-  pub unknown_pair : (send receive : ℕ) → AreItems p ns es ps → ((k : ℕ) → slice_get {X = ℕ × ℕ} ps k ≡ Some (send, receive) → ⊥) → (send < length p.events) × (receive < length p.events) × (send ≢ receive) → IsNewPair p send receive
+  pub unknown_pair : (send receive : ℕ) → AreItems p ns es ps ls → ((k : ℕ) → slice_get {X = ℕ × ℕ} ps k ≡ Some (send, receive) → ⊥) → (send < length p.events) × (receive < length p.events) × (send ≢ receive) → IsNewPair p send receive
   unknown_pair send receive items none ends = record { sends = ends.0; receives = ends.1; two_ends = ends.2; new = pair_absent p.messages send receive (rw items.pairs_are at none) }
 
-  pub still_new_pair : (send receive : ℕ) → AreItems p ns es ps → IsNewPair p send receive → (k : ℕ) → slice_get {X = ℕ × ℕ} ps k ≡ Some (send, receive) → ⊥
+  pub still_new_pair : (send receive : ℕ) → AreItems p ns es ps ls → IsNewPair p send receive → (k : ℕ) → slice_get {X = ℕ × ℕ} ps k ≡ Some (send, receive) → ⊥
   still_new_pair send receive items new k at = known_pair send receive k items at new

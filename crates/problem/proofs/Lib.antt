@@ -11,3 +11,6 @@ pub mod AllReadings
 pub mod ListedNodes
 pub mod Searching
 pub mod Naming
+mod Linked
+mod Renumbering
+mod Nearby

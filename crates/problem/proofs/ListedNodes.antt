@@ -1,9 +1,9 @@
 -- The nodes that a listing lists, by their places, and the numbers of those of a problem listed in its own order.
-use Rattle.std.proofs.Common.{◌≡◌, ◌<◌, ◌≤◌, ◌+◌, ◌^◌, ℕ, zero, suc, List, [], ◌∷◌, ◌++◌, length, map, slice_get, Some, All, refl, sym, ◌∙◌, ap, subst, arith}
+use Rattle.std.proofs.Common.{◌≡◌, ◌<◌, ◌≤◌, ◌+◌, ℕ, zero, suc, List, [], ◌∷◌, ◌++◌, length, map, slice_get, Some, All, refl, sym, ◌∙◌, ap, subst, arith}
 use Rattle.std.proofs.lemmas.List.{length-map, length-append}
 use Rattle.problem_model.specs.declared.items.Event.{Event}
 use Rattle.problem_model.specs.Problem.{ProblemLists, IsProblem}
-use Rattle.problem_model.specs.Nodes.{Reading, AreReadings, nodes_of, event_nodes, reading_nodes}
+use Rattle.problem_model.specs.Nodes.{most_nodes, Reading, AreReadings, nodes_of, event_nodes, reading_nodes}
 use Rattle.problem.specs.Listing.{Listed, listing_of, listed_nodes, event_places, reading_places, all_readings}
 use Rattle.problem.proofs.AllReadings.{readings_are, few_readings}
 
@@ -20,7 +20,7 @@ pub length-nodes_of : (p : ProblemLists) (readings : List Reading) → length (n
 length-nodes_of p readings = omega (arith, length-append (event_nodes 0 p.events) (reading_nodes readings), length-event_nodes 0 p.events, length-reading_nodes readings)
 
 -- a problem has no more nodes than events and readings of them
-pub few_nodes : (p : ProblemLists) (readings : List Reading) → IsProblem p → AreReadings p readings → length (nodes_of p readings) ≤ 2 ^ 21
+pub few_nodes : (p : ProblemLists) (readings : List Reading) → IsProblem p → AreReadings p readings → length (nodes_of p readings) ≤ most_nodes
 few_nodes p readings lawful are = omega (arith, length-nodes_of p readings, few_readings p readings are, lawful.fits.event_limit)
 
 pub nodes_count : (l : Listed) → length (listed_nodes l) ≡ length l.events + length l.readings

@@ -8,9 +8,9 @@ use Rattle.line_format.specs.Cut.{Lacks}
 use Rattle.line_format.proofs.Lacking.{lacks_test, words_lack}
 use Rattle.problem_model.specs.ProblemText.{most_word}
 use Rattle.problem.specs.Line.{Line, line_words, IsSpelled}
-use Rattle.problem.specs.Line.Line.{ClockLine, EventLine, MessageLine, EndLine}
-use Rattle.problem.specs.Written.{clock_rest, event_rest, message_rest}
-use Rattle.problem.proofs.Forms.{clock_fields, event_fields, message_fields, decimal_lacks, clock_name_lacks, event_name_lacks}
+use Rattle.problem.specs.Line.Line.{ClockLine, FollowLine, EventLine, MessageLine, EndLine}
+use Rattle.problem.specs.Written.{clock_rest, follow_rest, event_rest, message_rest}
+use Rattle.problem.proofs.Forms.{clock_fields, follow_fields, event_fields, message_fields, decimal_lacks, clock_name_lacks, event_name_lacks}
 
 -- ---- a line lacks line feeds
 most_lacks : (m : Option ℕ) → Lacks 10 (most_word m)
@@ -20,6 +20,8 @@ most_lacks (Some m) = decimal_lacks 10 m (omega arith)
 pub line_lacks : (line : Line) → IsSpelled line → Lacks 10 (words (line_words line))
 line_lacks (ClockLine name s l e t) spelled = words_lack (codes "clock" ∷ name ∷ decimal_of s ∷ decimal_of l ∷ decimal_of e ∷ decimal_of t ∷ [])
     (lacks_test 10 (codes "clock") refl, (clock_name_lacks 10 name (omega arith) spelled, (decimal_lacks 10 s (omega arith), (decimal_lacks 10 l (omega arith), (decimal_lacks 10 e (omega arith), (decimal_lacks 10 t (omega arith), tt))))))
+line_lacks (FollowLine earlier later gap) spelled = words_lack (codes "follow" ∷ earlier ∷ later ∷ decimal_of gap ∷ [])
+    (lacks_test 10 (codes "follow") refl, (clock_name_lacks 10 earlier (omega arith) spelled.0, (clock_name_lacks 10 later (omega arith) spelled.1, (decimal_lacks 10 gap (omega arith), tt))))
 line_lacks (EventLine name clock stamp) spelled = words_lack (codes "event" ∷ name ∷ clock ∷ decimal_of stamp ∷ [])
     (lacks_test 10 (codes "event") refl, (event_name_lacks 10 name (omega arith) spelled.0, (clock_name_lacks 10 clock (omega arith) spelled.1, (decimal_lacks 10 stamp (omega arith), tt))))
 line_lacks (MessageLine send receive least most) spelled = words_lack (codes "message" ∷ send ∷ receive ∷ decimal_of least ∷ most_word most ∷ [])
@@ -52,6 +54,9 @@ unfolding word_at
 words_one (ClockLine a s l e t) (ClockLine b s' l' e' t') x y is =
     let f = some_list _ _ (sym (clock_fields (clock_rest a s l e t) a s l e t x refl) ∙ clock_fields (clock_rest a s l e t) b s' l' e' t' y (ap (drop 6) is)) in
     clock_same a b s s' l l' e e' t t' (ap (word_at 0) f) (decimal_of_injective s s' (ap (word_at 1) f)) (decimal_of_injective l l' (ap (word_at 2) f)) (decimal_of_injective e e' (ap (word_at 3) f)) (decimal_of_injective t t' (ap (word_at 4) f))
+words_one (FollowLine a c s) (FollowLine b d s') x y is =
+    let f = some_list _ _ (sym (follow_fields (follow_rest a c s) a c s x.0 x.1 refl) ∙ follow_fields (follow_rest a c s) b d s' y.0 y.1 (ap (drop 7) is)) in
+    rw (ap (word_at 0) f, ap (word_at 1) f, decimal_of_injective s s' (ap (word_at 2) f)) refl
 words_one (EventLine a c s) (EventLine b d s') x y is =
     let f = some_list _ _ (sym (event_fields (event_rest a c s) a c s x.0 x.1 refl) ∙ event_fields (event_rest a c s) b d s' y.0 y.1 (ap (drop 6) is)) in
     rw (ap (word_at 0) f, ap (word_at 1) f, decimal_of_injective s s' (ap (word_at 2) f)) refl
@@ -59,15 +64,23 @@ words_one (MessageLine a c l m) (MessageLine b d l' m') x y is =
     let f = some_list _ _ (sym (message_fields (message_rest a c l m) a c l m x.0 x.1 refl) ∙ message_fields (message_rest a c l m) b d l' m' y.0 y.1 (ap (drop 8) is)) in
     rw (ap (word_at 0) f, ap (word_at 1) f, decimal_of_injective l l' (ap (word_at 2) f), most_one m m' (ap (word_at 3) f)) refl
 words_one EndLine EndLine x y is = refl
+words_one (ClockLine a s l e t) (FollowLine b d s') x y is = absurd (let h = ap (λ xs. get_or xs 0 0) is in omega (arith, h))
 words_one (ClockLine a s l e t) (EventLine b d s') x y is = absurd (let h = ap (λ xs. get_or xs 0 0) is in omega (arith, h))
 words_one (ClockLine a s l e t) (MessageLine b d l' m') x y is = absurd (let h = ap (λ xs. get_or xs 0 0) is in omega (arith, h))
 words_one (ClockLine a s l e t) EndLine x y is = absurd (let h = ap (λ xs. get_or xs 0 0) is in omega (arith, h))
+words_one (FollowLine a c s) (ClockLine b s' l' e' t') x y is = absurd (let h = ap (λ xs. get_or xs 0 0) is in omega (arith, h))
+words_one (FollowLine a c s) (EventLine b d s') x y is = absurd (let h = ap (λ xs. get_or xs 0 0) is in omega (arith, h))
+words_one (FollowLine a c s) (MessageLine b d l' m') x y is = absurd (let h = ap (λ xs. get_or xs 0 0) is in omega (arith, h))
+words_one (FollowLine a c s) EndLine x y is = absurd (let h = ap (λ xs. get_or xs 0 0) is in omega (arith, h))
 words_one (EventLine a c s) (ClockLine b s' l' e' t') x y is = absurd (let h = ap (λ xs. get_or xs 0 0) is in omega (arith, h))
+words_one (EventLine a c s) (FollowLine b d s') x y is = absurd (let h = ap (λ xs. get_or xs 0 0) is in omega (arith, h))
 words_one (EventLine a c s) (MessageLine b d l' m') x y is = absurd (let h = ap (λ xs. get_or xs 0 0) is in omega (arith, h))
 words_one (EventLine a c s) EndLine x y is = absurd (let h = ap (λ xs. get_or xs 1 0) is in omega (arith, h))
 words_one (MessageLine a c l m) (ClockLine b s' l' e' t') x y is = absurd (let h = ap (λ xs. get_or xs 0 0) is in omega (arith, h))
+words_one (MessageLine a c l m) (FollowLine b d s') x y is = absurd (let h = ap (λ xs. get_or xs 0 0) is in omega (arith, h))
 words_one (MessageLine a c l m) (EventLine b d s') x y is = absurd (let h = ap (λ xs. get_or xs 0 0) is in omega (arith, h))
 words_one (MessageLine a c l m) EndLine x y is = absurd (let h = ap (λ xs. get_or xs 0 0) is in omega (arith, h))
 words_one EndLine (ClockLine b s' l' e' t') x y is = absurd (let h = ap (λ xs. get_or xs 0 0) is in omega (arith, h))
+words_one EndLine (FollowLine b d s') x y is = absurd (let h = ap (λ xs. get_or xs 0 0) is in omega (arith, h))
 words_one EndLine (EventLine b d s') x y is = absurd (let h = ap (λ xs. get_or xs 1 0) is in omega (arith, h))
 words_one EndLine (MessageLine b d l' m') x y is = absurd (let h = ap (λ xs. get_or xs 0 0) is in omega (arith, h))

@@ -16,9 +16,11 @@ use Rattle.std.proofs.lemmas.List.Kept.{Contains-dedup, Contains-from_dedup, IsS
 use Rattle.std.proofs.lemmas.Map.Keys.{Less-from_sorted}
 use Rattle.problem_model.specs.declared.items.Clock.{Clock}
 use Rattle.problem_model.specs.declared.items.Event.{Event}
+use Rattle.problem_model.specs.declared.items.Follow.{Follow}
 use Rattle.problem_model.specs.declared.items.Message.{Message}
 use Rattle.problem_model.specs.Problem.{ProblemLists}
 use Rattle.problem_model.specs.Bounds.{IsReading}
+use Rattle.problem_model.specs.ChainNumbers.{with_follow}
 use Rattle.problem_model.specs.Nodes.{Reading, ComesBefore, AreReadings}
 use Rattle.problem.specs.Growing.{reading_of, AddsReading, with_clock, with_event, with_message}
 use Rattle.problem.specs.Listing.{reading_order}
@@ -256,9 +258,12 @@ put_rising xs at r within rising parted =
 pub put_adds : (xs : List Reading) (at : ℕ) (r : Reading) → at ≤ length xs → AddsReading xs (insert xs at r) r
 put_adds xs at r within = inserted_adds xs at r within
 
--- ---- clocks and messages have no readings
+-- ---- clocks, follows and messages have no readings
 pub readings_clock : (p : ProblemLists) (c : Clock) (rs : List Reading) → AreReadings p rs → AreReadings (with_clock p c) rs
 readings_clock p c rs are = record { each = are.each; every = are.every; rising = are.rising }
+
+pub readings_follow : (p : ProblemLists) (f : Follow) (rs : List Reading) → AreReadings p rs → AreReadings (with_follow p f) rs
+readings_follow p f rs are = record { each = are.each; every = are.every; rising = are.rising }
 
 pub readings_message : (p : ProblemLists) (m : Message) (rs : List Reading) → AreReadings p rs → AreReadings (with_message p m) rs
 readings_message p m rs are = record { each = are.each; every = are.every; rising = are.rising }

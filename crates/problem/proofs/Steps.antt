@@ -1,53 +1,45 @@
 -- Each problem is the empty one, or one smaller with one line more.
 use Rattle.std.proofs.Common.{◌≡◌, ◌≢◌, ◌<◌, ◌+◌, ◌^◌, ◌⊎◌, ℕ, zero, suc, List, [], ◌∷◌, ◌++◌, length, map, slice_get, get_or, All, AllPairs, Some, inl, inr, refl, sym, ◌∙◌, ap, subst, arith, length-append}
 use Rattle.std.proofs.Math.ListN.{get_or-append}
-use Rattle.std.proofs.lemmas.Bool.{cases_lt}
-use Rattle.line_format.specs.Format.{Grows}
+use Rattle.line_format.specs.Format.{Answer, Grows}
+use Rattle.line_format.proofs.OneAnswer.{answers_one}
 use Rattle.line_format.proofs.Readable.{IsReadable, IsStep}
 use Rattle.problem_model.specs.declared.items.Clock.{Clock}
 use Rattle.problem_model.specs.declared.items.Follow.{Follow}
 use Rattle.problem_model.specs.declared.items.Event.{Event}
 use Rattle.problem_model.specs.declared.items.Message.{Message}
 use Rattle.problem_model.specs.Name.{IsClockName, IsEventName}
-use Rattle.problem_model.specs.Problem.{ProblemLists, IsProblem, ClockFits, MessageFits, empty_problem}
-use Rattle.problem_model.specs.ProblemText.{clock_line, event_line, message_line, event_name, clock_name}
+use Rattle.problem_model.specs.ChainNumbers.{with_follow}
+use Rattle.problem_model.specs.Problem.{ProblemLists, IsProblem, LeadsOn, ClockFits, MessageFits, empty_problem}
+use Rattle.problem_model.specs.ProblemText.{clock_line, follow_line, event_line, message_line, event_name, clock_name}
 use Rattle.problem.specs.Growing.{with_clock, with_event, with_message}
-use Rattle.problem.specs.Line.{Line, HasClock, HasEvent, problem_format}
-use Rattle.problem.specs.Line.Line.{ClockLine, EventLine, MessageLine, EndLine}
+use Rattle.problem.specs.Line.{Line, HasClock, HasEvent, HasFollow, IsInOrder, IsSaid, problem_format}
+use Rattle.problem.specs.Line.Line.{ClockLine, FollowLine, EventLine, MessageLine, EndLine}
+use Rattle.problem.specs.Reading.{AnswersProblem}
+use Rattle.problem.specs.declared.version.Version.{Version}
+use Rattle.problem.specs.declared.version.Version.TheVariants.{First, Second}
 use Rattle.problem.proofs.OneLine.{line_lacks, words_one}
-use Rattle.problem.proofs.Taking.{one_place, clock_grows, event_grows, message_grows}
+use Rattle.problem.proofs.Taking.{one_place, one_clock, clock_grows, follow_grows, event_grows, message_grows, clocks_in_order, more_in_order}
+use Rattle.problem.proofs.Answering.{second_or_not, start_is}
 
 -- q is p with the line
 abbrev pub With : ProblemLists → Line → ProblemLists → Type 0
 With p (ClockLine name s l e t) q = q ≡ with_clock p (record { name = name; rate = record { short = s; long = l }; early = e; late = t })
+With p (FollowLine x y g) q = (c : ℕ) × (d : ℕ) × HasClock p c x × HasClock p d y × (q ≡ with_follow p (record { earlier = c; later = d; gap = g }))
 With p (EventLine name clock t) q = (k : ℕ) × HasClock p k clock × (q ≡ with_event p (record { name = name; clock = k; stamp = t }))
 With p (MessageLine x y l m) q = (j : ℕ) × (k : ℕ) × HasEvent p j x × HasEvent p k y × (q ≡ with_message p (record { send = j; receive = k; least = l; most = m }))
 With p EndLine q = ⊥
 
 abbrev pub size : ProblemLists → ℕ
-size p = length p.messages + length p.events + length p.clocks
+size p = length p.messages + length p.events + length p.follows + length p.clocks
 
 -- ---- the line tells the next problem
-pub clock_at : (cs : List Clock) (j : ℕ) (name : List ℕ) (d : Clock) → slice_get (map (λ c. c.name) cs) j ≡ Some name → (j < length cs) × ((get_or cs j d).name ≡ name)
-clock_at [] j name d at = absurd cc
-clock_at (c ∷ cs) zero name d at = (omega arith, cc)
-clock_at (c ∷ cs) (suc j) name d at = let r = clock_at cs j name d at in (omega (arith, r.0), r.1)
-
-one_clock : (p : ProblemLists) (j k : ℕ) (name : List ℕ) → IsProblem p → HasClock p j name → HasClock p k name → j ≡ k
-one_clock p j k name sound at at' =
-    let d : Clock = record { name = []; rate = record { short = 0; long = 0 }; early = 0; late = 0 } in
-    let a = clock_at p.clocks j name d at in
-    let b = clock_at p.clocks k name d at' in
-    elim (cases_lt j k) [
-      | inl below ↦ absurd (sound.formed.clocks_differ j k d below b.0 (a.1 ∙ sym b.1))
-      | inr le ↦ elim (cases_lt k j) [
-        | inl below ↦ absurd (sound.formed.clocks_differ k j d below a.0 (b.1 ∙ sym a.1))
-        | inr le' ↦ omega (arith, le, le')
-      ]
-    ]
-
 pub with_one : (p : ProblemLists) (line : Line) (q q' : ProblemLists) → IsProblem p → With p line q → With p line q' → q ≡ q'
 with_one p (ClockLine name s l e t) q q' sound a b = a ∙ sym b
+with_one p (FollowLine x y g) q q' sound a b =
+    let c = one_clock p a.0 b.0 x sound a.2 b.2 in
+    let d = one_clock p a.1 b.1 y sound a.3 b.3 in
+    a.4 ∙ ap (λ (j : ℕ). with_follow p (record { earlier = j; later = a.1; gap = g })) c ∙ ap (λ (k : ℕ). with_follow p (record { earlier = b.0; later = k; gap = g })) d ∙ sym b.4
 with_one p (EventLine name clock t) q q' sound a b =
     let same = one_clock p a.0 b.0 clock sound a.1 b.1 in
     a.2 ∙ ap (λ (k : ℕ). with_event p (record { name = name; clock = k; stamp = t })) same ∙ sym b.2
@@ -94,8 +86,21 @@ nil : {A : Type 0} (xs : List A) → length xs ≡ 0 → xs ≡ []
 nil [] len = refl
 nil (x ∷ xs) len = absurd (omega (arith, len))
 
-abbrev LastLine : ProblemLists → ℕ → Type 0
-LastLine s n = (r : ProblemLists) × (line : Line) × (size r ≡ n) × IsStep problem_format With r line s
+-- a list with a last item is not empty
+some_of : {A : Type 0} (xs : List A) → Snoc xs → xs ≢ []
+some_of xs s none = let count : length xs ≡ length s.front + 1 = ap length s.is ∙ length-append s.front (s.last ∷ []) in let no : length xs ≡ 0 = ap length none in omega (arith, count, no)
+
+-- ---- the follows that a version asks for
+has_by : (version : Version) (p : ProblemLists) → IsInOrder version p → ((p.events ≡ []) × (p.messages ≡ []) → ⊥) → HasFollow version p
+has_by First p ordered some = tt
+has_by Second p ordered some = λ none. some (ordered none)
+
+has_for : (version : Version) (p q : ProblemLists) → q.follows ≡ p.follows → HasFollow version p → HasFollow version q
+has_for First p q same has = tt
+has_for Second p q same has = λ none. has (sym same ∙ none)
+
+abbrev LastLine : Version → ProblemLists → ℕ → Type 0
+LastLine version s n = (r : ProblemLists) × (line : Line) × (size r ≡ n) × IsStep (problem_format version) With r line s
 
 -- ---- clocks
 abbrev clocks_alone : List Clock → ProblemLists
@@ -106,7 +111,9 @@ less_clock ds c lawful = record {
   formed = record {
     clock_names = all_init (λ x. IsClockName x.name) ds c lawful.formed.clock_names;
     clocks_differ = pairs_init (λ a b. a.name ≢ b.name) ds c lawful.formed.clocks_differ;
-    no_follows = refl;
+    follow_ends = λ k d inside. absurd (omega (arith, inside));
+    earliers_differ = lawful.formed.earliers_differ;
+    laters_differ = lawful.formed.laters_differ;
     event_names = lawful.formed.event_names;
     events_differ = lawful.formed.events_differ;
     event_clocks = λ k d inside. absurd (omega (arith, inside));
@@ -118,6 +125,7 @@ less_clock ds c lawful = record {
   fits = record {
     clocks_fit = all_init ClockFits ds c lawful.fits.clocks_fit;
     clock_limit = omega (arith, lawful.fits.clock_limit, length-append ds (c ∷ []));
+    gaps_fit = lawful.fits.gaps_fit;
     stamps_fit = lawful.fits.stamps_fit;
     event_limit = lawful.fits.event_limit;
     messages_fit = lawful.fits.messages_fit;
@@ -125,8 +133,8 @@ less_clock ds c lawful = record {
   };
 }
 
-last_clock : (n : ℕ) (cs : List Clock) → Snoc cs → IsProblem (clocks_alone cs) → length cs ≡ suc n → LastLine (clocks_alone cs) n
-last_clock n cs s lawful len =
+last_clock : (version : Version) (n : ℕ) (cs : List Clock) → Snoc cs → IsProblem (clocks_alone cs) → length cs ≡ suc n → LastLine version (clocks_alone cs) n
+last_clock version n cs s lawful len =
     let c = s.last in
     let all = subst (λ (ds : List Clock). IsProblem (clocks_alone ds)) s.is lawful in
     let is : clocks_alone cs ≡ with_clock (clocks_alone s.front) c = ap clocks_alone s.is in (
@@ -134,44 +142,16 @@ last_clock n cs s lawful len =
       ClockLine c.name c.rate.short c.rate.long c.early c.late,
       omega (arith, len, ap length s.is, length-append s.front (c ∷ [])),
       record {
-        sound = less_clock s.front c all;
-        may = (refl, refl);
+        sound = (less_clock s.front c all, clocks_in_order version (clocks_alone s.front) refl refl refl);
+        may = (refl, refl, refl);
         spelled = all_last (λ x. IsClockName x.name) s.front c all.formed.clock_names;
         names = pairs_last (λ a b. a.name ≢ b.name) s.front c all.formed.clocks_differ;
         numbers = all_last ClockFits s.front c all.fits.clocks_fit;
         room = omega (arith, all.fits.clock_limit, length-append s.front (c ∷ []));
         adds = is;
-        grows = subst (λ (q : ProblemLists). Grows problem_format (clocks_alone s.front) q (clock_line c)) (sym is) (clock_grows (clocks_alone s.front) c refl refl);
+        grows = subst (λ (q : ProblemLists). Grows (problem_format version) (clocks_alone s.front) q (clock_line c)) (sym is) (clock_grows version (clocks_alone s.front) c refl refl refl);
       },
     )
-
--- ---- events
-abbrev events_on : List Clock → List Event → ProblemLists
-events_on cs es = record { clocks = cs; follows = []; events = es; messages = [] }
-
-less_event : (cs : List Clock) (ds : List Event) (e : Event) → IsProblem (events_on cs (ds ++ e ∷ [])) → IsProblem (events_on cs ds)
-less_event cs ds e lawful = record {
-  formed = record {
-    clock_names = lawful.formed.clock_names;
-    clocks_differ = lawful.formed.clocks_differ;
-    no_follows = refl;
-    event_names = all_init (λ x. IsEventName x.name) ds e lawful.formed.event_names;
-    events_differ = pairs_init (λ a b. a.name ≢ b.name) ds e lawful.formed.events_differ;
-    event_clocks = all_init (λ x. x.clock < length cs) ds e lawful.formed.event_clocks;
-    sends = λ k d inside. absurd (omega (arith, inside));
-    receives = λ k d inside. absurd (omega (arith, inside));
-    two_ends = lawful.formed.two_ends;
-    messages_differ = lawful.formed.messages_differ;
-  };
-  fits = record {
-    clocks_fit = lawful.fits.clocks_fit;
-    clock_limit = lawful.fits.clock_limit;
-    stamps_fit = all_init (λ x. x.stamp < 2 ^ 62) ds e lawful.fits.stamps_fit;
-    event_limit = omega (arith, lawful.fits.event_limit, length-append ds (e ∷ []));
-    messages_fit = lawful.fits.messages_fit;
-    message_limit = lawful.fits.message_limit;
-  };
-}
 
 has_clock : (cs : List Clock) (k : ℕ) → k < length cs → slice_get (map (λ c. c.name) cs) k ≡ Some (clock_name cs k)
 has_clock [] k inside = absurd (omega (arith, inside))
@@ -188,38 +168,128 @@ clock_named cs k all inside =
     let d : Clock = record { name = []; rate = record { short = 0; long = 0 }; early = 0; late = 0 } in
     subst IsClockName (clock_name_is cs k d inside) (all k d inside)
 
-last_event : (n : ℕ) (cs : List Clock) (es : List Event) → Snoc es → IsProblem (events_on cs es) → length es + length cs ≡ suc n → LastLine (events_on cs es) n
-last_event n cs es s lawful len =
+-- ---- follows
+abbrev follows_on : List Clock → List Follow → ProblemLists
+follows_on cs fs = record { clocks = cs; follows = fs; events = []; messages = [] }
+
+less_follow : (cs : List Clock) (gs : List Follow) (f : Follow) → IsProblem (follows_on cs (gs ++ f ∷ [])) → IsProblem (follows_on cs gs)
+less_follow cs gs f lawful = record {
+  formed = record {
+    clock_names = lawful.formed.clock_names;
+    clocks_differ = lawful.formed.clocks_differ;
+    follow_ends = all_init (LeadsOn cs) gs f lawful.formed.follow_ends;
+    earliers_differ = pairs_init (λ a b. a.earlier ≢ b.earlier) gs f lawful.formed.earliers_differ;
+    laters_differ = pairs_init (λ a b. a.later ≢ b.later) gs f lawful.formed.laters_differ;
+    event_names = lawful.formed.event_names;
+    events_differ = lawful.formed.events_differ;
+    event_clocks = lawful.formed.event_clocks;
+    sends = lawful.formed.sends;
+    receives = lawful.formed.receives;
+    two_ends = lawful.formed.two_ends;
+    messages_differ = lawful.formed.messages_differ;
+  };
+  fits = record {
+    clocks_fit = lawful.fits.clocks_fit;
+    clock_limit = lawful.fits.clock_limit;
+    gaps_fit = all_init (λ x. x.gap < 2 ^ 62) gs f lawful.fits.gaps_fit;
+    stamps_fit = lawful.fits.stamps_fit;
+    event_limit = lawful.fits.event_limit;
+    messages_fit = lawful.fits.messages_fit;
+    message_limit = lawful.fits.message_limit;
+  };
+}
+
+last_follow : (version : Version) (n : ℕ) (cs : List Clock) (fs : List Follow) → Snoc fs → IsSaid version (follows_on cs fs) → length fs + length cs ≡ suc n → LastLine version (follows_on cs fs) n
+last_follow First n cs fs s said len = absurd (some_of fs s said.1)
+last_follow Second n cs fs s said len =
+    let f = s.last in
+    let all = subst (λ (gs : List Follow). IsProblem (follows_on cs gs)) s.is said.0 in
+    let is : follows_on cs fs ≡ with_follow (follows_on cs s.front) f = ap (follows_on cs) s.is in
+    let leads : LeadsOn cs f = all_last (LeadsOn cs) s.front f all.formed.follow_ends in
+    let from : f.earlier < length cs = let before = leads.0 in let last = leads.1 in omega (arith, before, last) in
+    let at = has_clock cs f.earlier from in
+    let at' = has_clock cs f.later leads.1 in (
+      follows_on cs s.front,
+      FollowLine (clock_name cs f.earlier) (clock_name cs f.later) f.gap,
+      omega (arith, len, ap length s.is, length-append s.front (f ∷ [])),
+      record {
+        sound = (less_follow cs s.front f all, λ none. (refl, refl));
+        may = (refl, refl);
+        spelled = (clock_named cs f.earlier all.formed.clock_names from, clock_named cs f.later all.formed.clock_names leads.1);
+        names = (f.earlier, f.later, at, at', leads.0, pairs_last (λ a b. a.earlier ≢ b.earlier) s.front f all.formed.earliers_differ, pairs_last (λ a b. a.later ≢ b.later) s.front f all.formed.laters_differ);
+        numbers = all_last (λ x. x.gap < 2 ^ 62) s.front f all.fits.gaps_fit;
+        room = tt;
+        adds = (f.earlier, f.later, at, at', is);
+        grows = subst (λ (q : ProblemLists). Grows (problem_format Second) (follows_on cs s.front) q (follow_line cs f)) (sym is) (follow_grows Second (follows_on cs s.front) f refl refl);
+      },
+    )
+
+-- ---- events
+abbrev events_on : List Clock → List Follow → List Event → ProblemLists
+events_on cs fs es = record { clocks = cs; follows = fs; events = es; messages = [] }
+
+less_event : (cs : List Clock) (fs : List Follow) (ds : List Event) (e : Event) → IsProblem (events_on cs fs (ds ++ e ∷ [])) → IsProblem (events_on cs fs ds)
+less_event cs fs ds e lawful = record {
+  formed = record {
+    clock_names = lawful.formed.clock_names;
+    clocks_differ = lawful.formed.clocks_differ;
+    follow_ends = lawful.formed.follow_ends;
+    earliers_differ = lawful.formed.earliers_differ;
+    laters_differ = lawful.formed.laters_differ;
+    event_names = all_init (λ x. IsEventName x.name) ds e lawful.formed.event_names;
+    events_differ = pairs_init (λ a b. a.name ≢ b.name) ds e lawful.formed.events_differ;
+    event_clocks = all_init (λ x. x.clock < length cs) ds e lawful.formed.event_clocks;
+    sends = λ k d inside. absurd (omega (arith, inside));
+    receives = λ k d inside. absurd (omega (arith, inside));
+    two_ends = lawful.formed.two_ends;
+    messages_differ = lawful.formed.messages_differ;
+  };
+  fits = record {
+    clocks_fit = lawful.fits.clocks_fit;
+    clock_limit = lawful.fits.clock_limit;
+    gaps_fit = lawful.fits.gaps_fit;
+    stamps_fit = all_init (λ x. x.stamp < 2 ^ 62) ds e lawful.fits.stamps_fit;
+    event_limit = omega (arith, lawful.fits.event_limit, length-append ds (e ∷ []));
+    messages_fit = lawful.fits.messages_fit;
+    message_limit = lawful.fits.message_limit;
+  };
+}
+
+last_event : (version : Version) (n : ℕ) (cs : List Clock) (fs : List Follow) (es : List Event) → Snoc es → IsSaid version (events_on cs fs es) → length es + length fs + length cs ≡ suc n → LastLine version (events_on cs fs es) n
+last_event version n cs fs es s said len =
     let e = s.last in
-    let all = subst (λ (ds : List Event). IsProblem (events_on cs ds)) s.is lawful in
-    let is : events_on cs es ≡ with_event (events_on cs s.front) e = ap (events_on cs) s.is in
+    let all = subst (λ (ds : List Event). IsProblem (events_on cs fs ds)) s.is said.0 in
+    let is : events_on cs fs es ≡ with_event (events_on cs fs s.front) e = ap (events_on cs fs) s.is in
+    let has = has_by version (events_on cs fs es) said.1 (λ none. some_of es s none.0) in
     let known = all_last (λ x. x.clock < length cs) s.front e all.formed.event_clocks in
     let at = has_clock cs e.clock known in (
-      events_on cs s.front,
+      events_on cs fs s.front,
       EventLine e.name (clock_name cs e.clock) e.stamp,
       omega (arith, len, ap length s.is, length-append s.front (e ∷ [])),
       record {
-        sound = less_event cs s.front e all;
-        may = refl;
+        sound = (less_event cs fs s.front e all, more_in_order version (events_on cs fs es) (events_on cs fs s.front) has refl said.1);
+        may = (has_for version (events_on cs fs es) (events_on cs fs s.front) refl has, refl);
         spelled = (all_last (λ x. IsEventName x.name) s.front e all.formed.event_names, clock_named cs e.clock all.formed.clock_names known);
         names = (pairs_last (λ a b. a.name ≢ b.name) s.front e all.formed.events_differ, (e.clock, at));
         numbers = all_last (λ x. x.stamp < 2 ^ 62) s.front e all.fits.stamps_fit;
         room = omega (arith, all.fits.event_limit, length-append s.front (e ∷ []));
         adds = (e.clock, at, is);
-        grows = subst (λ (q : ProblemLists). Grows problem_format (events_on cs s.front) q (event_line cs e)) (sym is) (event_grows (events_on cs s.front) e refl);
+        grows = subst (λ (q : ProblemLists). Grows (problem_format version) (events_on cs fs s.front) q (event_line cs e)) (sym is) (event_grows version (events_on cs fs s.front) e refl);
       },
     )
 
 -- ---- messages
-abbrev all_on : List Clock → List Event → List Message → ProblemLists
-all_on cs es ms = record { clocks = cs; follows = []; events = es; messages = ms }
+abbrev all_on : List Clock → List Follow → List Event → List Message → ProblemLists
+all_on cs fs es ms = record { clocks = cs; follows = fs; events = es; messages = ms }
 
-less_message : (cs : List Clock) (es : List Event) (ds : List Message) (m : Message) → IsProblem (all_on cs es (ds ++ m ∷ [])) → IsProblem (all_on cs es ds)
-less_message cs es ds m lawful = record {
+less_message : (cs : List Clock) (fs : List Follow) (es : List Event) (ds : List Message) (m : Message) → IsProblem (all_on cs fs es (ds ++ m ∷ [])) → IsProblem (all_on cs fs es ds)
+less_message cs fs es ds m lawful = record {
   formed = record {
     clock_names = lawful.formed.clock_names;
     clocks_differ = lawful.formed.clocks_differ;
-    no_follows = refl;
+    follow_ends = lawful.formed.follow_ends;
+    earliers_differ = lawful.formed.earliers_differ;
+    laters_differ = lawful.formed.laters_differ;
     event_names = lawful.formed.event_names;
     events_differ = lawful.formed.events_differ;
     event_clocks = lawful.formed.event_clocks;
@@ -231,6 +301,7 @@ less_message cs es ds m lawful = record {
   fits = record {
     clocks_fit = lawful.fits.clocks_fit;
     clock_limit = lawful.fits.clock_limit;
+    gaps_fit = lawful.fits.gaps_fit;
     stamps_fit = lawful.fits.stamps_fit;
     event_limit = lawful.fits.event_limit;
     messages_fit = all_init MessageFits ds m lawful.fits.messages_fit;
@@ -251,72 +322,87 @@ event_name_is (e ∷ es) (suc k) d inside = event_name_is es k d (omega (arith, 
 event_named : (es : List Event) (k : ℕ) → All (λ e. IsEventName e.name) es → k < length es → IsEventName (event_name es k)
 event_named es k all inside = let d : Event = record { name = []; clock = 0; stamp = 0 } in subst IsEventName (event_name_is es k d inside) (all k d inside)
 
-last_message : (n : ℕ) (cs : List Clock) (es : List Event) (ms : List Message) → Snoc ms → IsProblem (all_on cs es ms) → length ms + length es + length cs ≡ suc n → LastLine (all_on cs es ms) n
-last_message n cs es ms s lawful len =
+last_message : (version : Version) (n : ℕ) (cs : List Clock) (fs : List Follow) (es : List Event) (ms : List Message) → Snoc ms → IsSaid version (all_on cs fs es ms) → length ms + length es + length fs + length cs ≡ suc n →
+    LastLine version (all_on cs fs es ms) n
+last_message version n cs fs es ms s said len =
     let m = s.last in
-    let all = subst (λ (ds : List Message). IsProblem (all_on cs es ds)) s.is lawful in
-    let is : all_on cs es ms ≡ with_message (all_on cs es s.front) m = ap (all_on cs es) s.is in
+    let all = subst (λ (ds : List Message). IsProblem (all_on cs fs es ds)) s.is said.0 in
+    let is : all_on cs fs es ms ≡ with_message (all_on cs fs es s.front) m = ap (all_on cs fs es) s.is in
+    let has = has_by version (all_on cs fs es ms) said.1 (λ none. some_of ms s none.1) in
     let send = all_last (λ x. x.send < length es) s.front m all.formed.sends in
     let receive = all_last (λ x. x.receive < length es) s.front m all.formed.receives in
     let at = has_event es m.send send in
     let at' = has_event es m.receive receive in (
-      all_on cs es s.front,
+      all_on cs fs es s.front,
       MessageLine (event_name es m.send) (event_name es m.receive) m.least m.most,
       omega (arith, len, ap length s.is, length-append s.front (m ∷ [])),
       record {
-        sound = less_message cs es s.front m all;
-        may = tt;
+        sound = (less_message cs fs es s.front m all, more_in_order version (all_on cs fs es ms) (all_on cs fs es s.front) has refl said.1);
+        may = has_for version (all_on cs fs es ms) (all_on cs fs es s.front) refl has;
         spelled = (event_named es m.send all.formed.event_names send, event_named es m.receive all.formed.event_names receive);
         names = (m.send, m.receive, at, at', all_last (λ x. x.send ≢ x.receive) s.front m all.formed.two_ends, pairs_last (λ a b. (a.send ≡ b.send) → (a.receive ≡ b.receive) → ⊥) s.front m all.formed.messages_differ);
         numbers = all_last MessageFits s.front m all.fits.messages_fit;
         room = omega (arith, all.fits.message_limit, length-append s.front (m ∷ []));
         adds = (m.send, m.receive, at, at', is);
-        grows = subst (λ (q : ProblemLists). Grows problem_format (all_on cs es s.front) q (message_line es m)) (sym is) (message_grows (all_on cs es s.front) m);
+        grows = subst (λ (q : ProblemLists). Grows (problem_format version) (all_on cs fs es s.front) q (message_line es m)) (sym is) (message_grows version (all_on cs fs es s.front) m);
       },
     )
 
 -- ---- all
-all_is : (p : ProblemLists) → p.follows ≡ [] → p ≡ all_on p.clocks p.events p.messages
-all_is p alone = ap (λ (follows : List Follow). record p { follows = follows }) alone
+no_messages_is : (p : ProblemLists) → p.messages ≡ [] → p ≡ events_on p.clocks p.follows p.events
+no_messages_is p none = ap (all_on p.clocks p.follows p.events) none
 
-no_messages_is : (p : ProblemLists) → p.follows ≡ [] → p.messages ≡ [] → p ≡ events_on p.clocks p.events
-no_messages_is p alone none = all_is p alone ∙ ap (all_on p.clocks p.events) none
+no_events_is : (p : ProblemLists) → p.messages ≡ [] → p.events ≡ [] → p ≡ follows_on p.clocks p.follows
+no_events_is p none none' = no_messages_is p none ∙ ap (events_on p.clocks p.follows) none'
 
-no_events_is : (p : ProblemLists) → p.follows ≡ [] → p.messages ≡ [] → p.events ≡ [] → p ≡ clocks_alone p.clocks
-no_events_is p alone none none' = no_messages_is p alone none ∙ ap (events_on p.clocks) none'
+no_follows_is : (p : ProblemLists) → p.messages ≡ [] → p.events ≡ [] → p.follows ≡ [] → p ≡ clocks_alone p.clocks
+no_follows_is p none none' none'' = no_events_is p none none' ∙ ap (follows_on p.clocks) none''
 
-last_line : (p : ProblemLists) (n : ℕ) → IsProblem p → size p ≡ suc n → LastLine p n
-last_line p n lawful len =
+last_line : (version : Version) (p : ProblemLists) (n : ℕ) → IsSaid version p → size p ≡ suc n → LastLine version p n
+last_line version p n said len =
     elim (ended p.messages) [
-      | inr s ↦ subst (λ (q : ProblemLists). LastLine q n) (sym (all_is p lawful.formed.no_follows)) (last_message n p.clocks p.events p.messages s (subst IsProblem (all_is p lawful.formed.no_follows) lawful) len)
+      | inr s ↦ last_message version n p.clocks p.follows p.events p.messages s said len
       | inl none ↦
           let no_messages = ap length none in
-          let same = no_messages_is p lawful.formed.no_follows none in
+          let same = no_messages_is p none in
           elim (ended p.events) [
-            | inr s ↦ subst (λ (q : ProblemLists). LastLine q n) (sym same) (last_event n p.clocks p.events s (subst IsProblem same lawful) (omega (arith, len, no_messages)))
+            | inr s ↦ subst (λ (q : ProblemLists). LastLine version q n) (sym same) (last_event version n p.clocks p.follows p.events s (subst (IsSaid version) same said) (omega (arith, len, no_messages)))
             | inl none' ↦
                 let no_events = ap length none' in
-                let same' = no_events_is p lawful.formed.no_follows none none' in
-                elim (ended p.clocks) [
-                  | inr s ↦ subst (λ (q : ProblemLists). LastLine q n) (sym same') (last_clock n p.clocks s (subst IsProblem same' lawful) (omega (arith, len, no_messages, no_events)))
-                  | inl none'' ↦ absurd (let no_clocks = ap length none'' in omega (arith, len, no_messages, no_events, no_clocks))
+                let same' = no_events_is p none none' in
+                elim (ended p.follows) [
+                  | inr s ↦ subst (λ (q : ProblemLists). LastLine version q n) (sym same') (last_follow version n p.clocks p.follows s (subst (IsSaid version) same' said) (omega (arith, len, no_messages, no_events)))
+                  | inl none'' ↦
+                      let no_follows = ap length none'' in
+                      let same'' = no_follows_is p none none' none'' in
+                      elim (ended p.clocks) [
+                        | inr s ↦ subst (λ (q : ProblemLists). LastLine version q n) (sym same'') (last_clock version n p.clocks s (subst IsProblem same'' said.0) (omega (arith, len, no_messages, no_events, no_follows)))
+                        | inl bare ↦ absurd (let no_clocks = ap length bare in omega (arith, len, no_messages, no_events, no_follows, no_clocks))
+                      ]
                 ]
           ]
     ]
 
-first_is : (p : ProblemLists) → IsProblem p → size p ≡ 0 → p ≡ empty_problem
-first_is p lawful len =
-    no_events_is p lawful.formed.no_follows (nil p.messages (omega (arith, len))) (nil p.events (omega (arith, len))) ∙ ap clocks_alone (nil p.clocks (omega (arith, len)))
+first_is : (p : ProblemLists) → size p ≡ 0 → p ≡ empty_problem
+first_is p len =
+    no_follows_is p (nil p.messages (omega (arith, len))) (nil p.events (omega (arith, len))) (nil p.follows (omega (arith, len))) ∙ ap clocks_alone (nil p.clocks (omega (arith, len)))
 
-pub problem_readable : IsReadable problem_format With empty_problem size
-problem_readable = record {
+pub problem_readable : (version : Version) → IsReadable (problem_format version) With empty_problem size
+problem_readable version = record {
   lacks = line_lacks;
   one_line = words_one;
-  one_next = λ s line t u lawful a b. with_one s line t u lawful a b;
+  one_next = λ s line t u said a b. with_one s line t u said.0 a b;
   end_spelled = tt;
   end_fits = λ s. (tt, tt, tt);
   end_adds = λ s t adds. adds;
-  start_text = refl;
-  start_size = λ s lawful len. first_is s lawful len;
-  last_line = last_line;
+  start_text = start_is version;
+  start_size = λ s said len. first_is s len;
+  last_line = last_line version;
 }
+
+-- ---- a text has one answer
+pub problem_answers_one : (text : List ℕ) (a b : Answer ProblemLists) → AnswersProblem text a → AnswersProblem text b → a ≡ b
+problem_answers_one text a b x y = elim (second_or_not text) [
+  | inl second ↦ answers_one (problem_format Second) With empty_problem size (problem_readable Second) text a b (x.second second) (y.second second)
+  | inr other ↦ answers_one (problem_format First) With empty_problem size (problem_readable First) text a b (x.first other) (y.first other)
+]

@@ -1,10 +1,11 @@
 -- What may be added to a problem, and what it then is.
 use Rattle.std.specs.Prelude.{ℕ, ◌≡◌, ◌≢◌, ◌<◌, ◌⊎◌, Contains, List, [], ◌∷◌, ◌++◌, All, length, Result, Ok, Err}
 use Rattle.problem_model.specs.declared.items.Clock.{Clock}
+use Rattle.problem_model.specs.declared.items.Follow.{Follow}
 use Rattle.problem_model.specs.declared.items.Event.{Event}
 use Rattle.problem_model.specs.declared.items.Message.{Message}
 use Rattle.problem_model.specs.Name.{IsClockName}
-use Rattle.problem_model.specs.Problem.{ProblemLists, most_clocks, most_events, most_messages}
+use Rattle.problem_model.specs.Problem.{ProblemLists, LeadsOn, most_clocks, most_events, most_messages}
 use Rattle.problem_model.specs.Nodes.{Reading}
 use Rattle.problem.specs.declared.errors.PushError.{PushError}
 use Rattle.problem.specs.declared.errors.PushError.TheVariants as errors
@@ -13,6 +14,13 @@ use Rattle.problem.specs.declared.errors.PushError.TheVariants as errors
 pub record IsNewClock (p : ProblemLists) (c : Clock) : Type 0 where
   pub named : IsClockName c.name
   pub new : All (λ k. k.name ≢ c.name) p.clocks
+
+-- both clocks are known, the earlier one stands before the later, and no follow has the one as its earlier clock or the other
+-- as its later one
+pub record IsNewFollow (p : ProblemLists) (f : Follow) : Type 0 where
+  pub leads : LeadsOn p.clocks f
+  pub earlier_new : All (λ g. g.earlier ≢ f.earlier) p.follows
+  pub later_new : All (λ g. g.later ≢ f.later) p.follows
 
 -- the name is that of no event, and the clock is known
 pub record IsNewEvent (p : ProblemLists) (e : Event) : Type 0 where

@@ -5,3 +5,4 @@ pub mod Reading
 pub mod Written
 pub mod Faults
 pub mod Listing
+pub mod Nearest

@@ -6,12 +6,15 @@ use Rattle.line_format.specs.Words.{line_of}
 use Rattle.line_format.specs.Format.{Format}
 use Rattle.problem_model.specs.Name.{IsEventName, IsClockName}
 use Rattle.problem_model.specs.Problem.{ProblemLists, IsProblem}
-use Rattle.problem_model.specs.ProblemText.{problem_head, clock_line, event_line, message_line, most_word}
+use Rattle.problem_model.specs.ProblemText.{problem_head, followed_head, clock_line, follow_line, event_line, message_line, most_word}
+use Rattle.problem.specs.declared.version.Version.{Version}
+use Rattle.problem.specs.declared.version.Version.TheVariants.{First, Second}
 use Rattle.problem.specs.Growing.{HasRoomForClock, HasRoomForEvent, HasRoomForMessage}
 
--- a line: NAME SHORT LONG EARLY LATE; NAME CLOCK STAMP; SEND RECEIVE LEAST MOST; the end
+-- a line: NAME SHORT LONG EARLY LATE; EARLIER LATER GAP; NAME CLOCK STAMP; SEND RECEIVE LEAST MOST; the end
 pub data Line : Type 0 where
   ClockLine : List ℕ → ℕ → ℕ → ℕ → ℕ → Line
+  FollowLine : List ℕ → List ℕ → ℕ → Line
   EventLine : List ℕ → List ℕ → ℕ → Line
   MessageLine : List ℕ → List ℕ → ℕ → Option ℕ → Line
   EndLine : Line
@@ -19,6 +22,7 @@ pub data Line : Type 0 where
 -- the words of a line
 abbrev pub line_words : Line → List (List ℕ)
 line_words (ClockLine name short long early late) = codes "clock" ∷ name ∷ decimal_of short ∷ decimal_of long ∷ decimal_of early ∷ decimal_of late ∷ []
+line_words (FollowLine earlier later gap) = codes "follow" ∷ earlier ∷ later ∷ decimal_of gap ∷ []
 line_words (EventLine name clock stamp) = codes "event" ∷ name ∷ clock ∷ decimal_of stamp ∷ []
 line_words (MessageLine send receive least most) = codes "message" ∷ send ∷ receive ∷ decimal_of least ∷ most_word most ∷ []
 line_words EndLine = codes "end" ∷ []
@@ -26,16 +30,39 @@ line_words EndLine = codes "end" ∷ []
 -- each name is spelled as one of its kind
 abbrev pub IsSpelled : Line → Type 0
 IsSpelled (ClockLine name short long early late) = IsClockName name
+IsSpelled (FollowLine earlier later gap) = IsClockName earlier × IsClockName later
 IsSpelled (EventLine name clock stamp) = IsEventName name × IsClockName clock
 IsSpelled (MessageLine send receive least most) = IsEventName send × IsEventName receive
 IsSpelled EndLine = Unit {0}
 
--- clocks before events before messages before the end
-abbrev pub MayStand : ProblemLists → Line → Type 0
-MayStand p (ClockLine name short long early late) = (p.events ≡ []) × (p.messages ≡ [])
-MayStand p (EventLine name clock stamp) = p.messages ≡ []
-MayStand p (MessageLine send receive least most) = Unit {0}
-MayStand p EndLine = Unit {0}
+-- the head of a version
+abbrev pub head_with : Version → List (List ℕ)
+head_with First = problem_head
+head_with Second = followed_head
+
+-- what a version asks for by now: the second one a follow, the first one nothing
+abbrev pub HasFollow : Version → ProblemLists → Type 0
+HasFollow First p = Unit {0}
+HasFollow Second p = p.follows ≢ []
+
+-- clocks before follows before events before messages before the end; follows stand in the second version alone, and there
+-- nothing but clocks comes before the first of them
+abbrev pub MayStand : Version → ProblemLists → Line → Type 0
+MayStand version p (ClockLine name short long early late) = (p.follows ≡ []) × (p.events ≡ []) × (p.messages ≡ [])
+MayStand First p (FollowLine earlier later gap) = ⊥
+MayStand Second p (FollowLine earlier later gap) = (p.events ≡ []) × (p.messages ≡ [])
+MayStand version p (EventLine name clock stamp) = HasFollow version p × (p.messages ≡ [])
+MayStand version p (MessageLine send receive least most) = HasFollow version p
+MayStand version p EndLine = HasFollow version p
+
+-- follows stand in the second version alone, and there nothing but clocks comes before the first of them
+abbrev pub IsInOrder : Version → ProblemLists → Type 0
+IsInOrder First p = p.follows ≡ []
+IsInOrder Second p = p.follows ≡ [] → (p.events ≡ []) × (p.messages ≡ [])
+
+-- a problem that the lines of a version may say
+abbrev pub IsSaid : Version → ProblemLists → Type 0
+IsSaid version p = IsProblem p × IsInOrder version p
 
 -- the clock at this place has this name
 abbrev pub HasClock : ProblemLists → ℕ → List ℕ → Type 0
@@ -53,9 +80,12 @@ IsUnknown p name = (k : ℕ) → HasEvent p k name → ⊥
 abbrev pub HasMessage : ProblemLists → ℕ → ℕ → ℕ → Type 0
 HasMessage p k send receive = slice_get {X = ℕ × ℕ} (map (λ m. (m.send, m.receive)) p.messages) k ≡ Some (send, receive)
 
--- a name of its own; a clock that is known; two known events that no message joins in this order
+-- a name of its own; two known clocks in their order, the one not followed yet and the other not following; a clock that is
+-- known; two known events that no message joins in this order
 abbrev pub NamesFit : ProblemLists → Line → Type 0
 NamesFit p (ClockLine name short long early late) = All (λ c. c.name ≢ name) p.clocks
+NamesFit p (FollowLine earlier later gap) = (c : ℕ) × (d : ℕ) × HasClock p c earlier × HasClock p d later × (c < d)
+    × All (λ f. f.earlier ≢ c) p.follows × All (λ f. f.later ≢ d) p.follows
 NamesFit p (EventLine name clock stamp) = All (λ e. e.name ≢ name) p.events × ((k : ℕ) × HasClock p k clock)
 NamesFit p (MessageLine send receive least most) = (s : ℕ) × (r : ℕ) × HasEvent p s send × HasEvent p r receive × (s ≢ r)
     × All (λ m. (m.send ≡ s) → (m.receive ≡ r) → ⊥) p.messages
@@ -64,6 +94,7 @@ NamesFit p EndLine = Unit {0}
 -- each number is in its range
 abbrev pub NumbersFit : Line → Type 0
 NumbersFit (ClockLine name short long early late) = (short ≤ 999999999) × (long ≤ 1000000000) × (early < 2 ^ 62) × (late < 2 ^ 62)
+NumbersFit (FollowLine earlier later gap) = gap < 2 ^ 62
 NumbersFit (EventLine name clock stamp) = stamp < 2 ^ 62
 NumbersFit (MessageLine send receive least most) = (least < 2 ^ 62) × IfSome most (λ n. n < 2 ^ 62)
 NumbersFit EndLine = Unit {0}
@@ -71,30 +102,32 @@ NumbersFit EndLine = Unit {0}
 -- there is room for one more of its kind
 abbrev pub HasRoom : ProblemLists → Line → Type 0
 HasRoom p (ClockLine name short long early late) = HasRoomForClock p
+HasRoom p (FollowLine earlier later gap) = Unit {0}
 HasRoom p (EventLine name clock stamp) = HasRoomForEvent p
 HasRoom p (MessageLine send receive least most) = HasRoomForMessage p
 HasRoom p EndLine = Unit {0}
 
 -- the text of a problem without its end
-abbrev pub open_text : ProblemLists → List ℕ
-open_text p = line_of problem_head ++ flat_map clock_line p.clocks ++ flat_map (event_line p.clocks) p.events ++ flat_map (message_line p.events) p.messages
+abbrev pub open_text : Version → ProblemLists → List ℕ
+open_text version p = line_of (head_with version) ++ flat_map clock_line p.clocks ++ (flat_map (follow_line p.clocks) p.follows ++ flat_map (event_line p.clocks) p.events)
+    ++ flat_map (message_line p.events) p.messages
 
 -- how many lines that text has
 abbrev pub open_lines : ProblemLists → ℕ
-open_lines p = 1 + length p.clocks + length p.events + length p.messages
+open_lines p = 1 + length p.clocks + length p.follows + length p.events + length p.messages
 
--- the format of problem texts
-abbrev pub problem_format : Format ProblemLists Line
-problem_format = record {
-  head = problem_head;
+-- the format of problem texts of a version
+abbrev pub problem_format : Version → Format ProblemLists Line
+problem_format version = record {
+  head = head_with version;
   end = EndLine;
   line_words = line_words;
   IsSpelled = IsSpelled;
-  MayStand = MayStand;
+  MayStand = MayStand version;
   NamesFit = NamesFit;
   NumbersFit = NumbersFit;
   HasRoom = HasRoom;
-  IsSound = IsProblem;
-  text_of = open_text;
+  IsSound = IsSaid version;
+  text_of = open_text version;
   lines_of = open_lines;
 }

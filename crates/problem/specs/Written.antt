@@ -11,10 +11,12 @@ use Rattle.problem_model.specs.declared.items.Clock.{Clock}
 use Rattle.problem_model.specs.Problem.{ProblemLists}
 use Rattle.problem_model.specs.Name.{IsEventName, IsClockName}
 use Rattle.problem_model.specs.ProblemText.{most_word}
-use Rattle.problem.specs.Line.{NumbersFit, HasEvent, problem_format}
-use Rattle.problem.specs.Line.Line.{ClockLine, MessageLine}
+use Rattle.problem.specs.Line.{NumbersFit, HasClock, HasEvent, problem_format}
+use Rattle.problem.specs.Line.Line.{ClockLine, FollowLine, MessageLine}
 use Rattle.problem.specs.declared.words.ClockWords.{ClockWords}
+use Rattle.problem.specs.declared.words.FollowWords.{FollowWords}
 use Rattle.problem.specs.declared.words.EventWords.{EventWords}
+use Rattle.problem.specs.declared.version.Version.{Version}
 use Rattle.problem.specs.declared.words.MessageWords.{MessageWords}
 
 -- the text spells m, which is held as n
@@ -56,6 +58,30 @@ pub record ClockSays (rest : List ℕ) (w : ClockWords) : Type 0 where
 -- the words behind `clock` are no clock's
 abbrev pub NoClock : List ℕ → Type 0
 NoClock rest = (name : List ℕ) (s l e t : ℕ) → IsClockName name → rest ≡ clock_rest name s l e t → ⊥
+
+-- what the words behind `follow` say
+pub record FollowParts (earlier later gap : List ℕ) (w : FollowWords) : Type 0 where
+  pub earlier_is : earlier ≡ w.earlier
+  pub earlier_named : IsClockName w.earlier
+  pub later_is : later ≡ w.later
+  pub later_named : IsClockName w.later
+  pub gap_is : Spells gap w.gap
+
+-- the words of a follow's line behind the first
+abbrev pub follow_rest : List ℕ → List ℕ → ℕ → List ℕ
+follow_rest earlier later gap = words (earlier ∷ later ∷ decimal_of gap ∷ [])
+
+-- the words behind `follow` are those of w
+pub record FollowSays (rest : List ℕ) (w : FollowWords) : Type 0 where
+  pub gap : ℕ
+  pub earlier_named : IsClockName w.earlier
+  pub later_named : IsClockName w.later
+  pub is : rest ≡ follow_rest w.earlier w.later gap
+  pub gap_is : Counts (2 ^ 64) gap w.gap
+
+-- the words behind `follow` are no follow's
+abbrev pub NoFollow : List ℕ → Type 0
+NoFollow rest = (earlier later : List ℕ) (gap : ℕ) → IsClockName earlier → IsClockName later → rest ≡ follow_rest earlier later gap → ⊥
 
 -- what the words behind `event` say
 pub record EventParts (name clock stamp : List ℕ) (w : EventWords) : Type 0 where
@@ -145,12 +171,20 @@ joined name rate early late = do
 
 -- why no message may stand between the events at s and r whose numbers are out of their ranges
 abbrev pub RefusesDelays : ProblemLists → ℕ → ℕ → LineError → Type 0
-RefusesDelays p s r e = (x y : List ℕ) (l : ℕ) (m : Option ℕ) → HasEvent p s x → HasEvent p r y → (NumbersFit (MessageLine x y l m) → ⊥)
-    → TakesLine problem_format p (MessageLine x y l m) (Err e) p
+RefusesDelays p s r e = (version : Version) (x y : List ℕ) (l : ℕ) (m : Option ℕ) → HasEvent p s x → HasEvent p r y → (NumbersFit (MessageLine x y l m) → ⊥)
+    → TakesLine (problem_format version) p (MessageLine x y l m) (Err e) p
+
+-- why no follow may lead from the clock at c to that at d whose gap is out of its range
+abbrev pub RefusesGap : ProblemLists → ℕ → ℕ → LineError → Type 0
+RefusesGap p c d e = (version : Version) (x y : List ℕ) (gap : ℕ) → HasClock p c x → HasClock p d y → (NumbersFit (FollowLine x y gap) → ⊥)
+    → TakesLine (problem_format version) p (FollowLine x y gap) (Err e) p
 
 -- ---- the texts of the forms, by what follows their first word
 abbrev pub clock_body : List ℕ → List ℕ
 clock_body rest = codes "clock" ++ 32 ∷ rest
+
+abbrev pub follow_body : List ℕ → List ℕ
+follow_body rest = codes "follow" ++ 32 ∷ rest
 
 abbrev pub event_body : List ℕ → List ℕ
 event_body rest = codes "event" ++ 32 ∷ rest

@@ -10,7 +10,7 @@ use std::alloc::{AllocError, AllocFailed};
 /// Why nothing was added to a problem, in the order in which the causes are looked for.
 #[derive(Clone, Copy, Debug, PartialEq, Eq, thiserror::Error)]
 pub enum PushError {
-    /// A name, a pair of events or a place that may not stand there.
+    /// A name, a pair of clocks or of events, or a place that may not stand there.
     #[error("a name that may not stand there")]
     Name,
     /// There are as many of its kind as there may be.
@@ -53,20 +53,21 @@ impl From<PushError> for LineError {
 /// first in this order counts.
 #[derive(Clone, Copy, Debug, PartialEq, Eq, thiserror::Error)]
 pub enum ProblemError {
-    /// The line has no form that its place allows, a word in it is misspelled, the text ends before its end line, or it
-    /// goes on behind it.
+    /// The line has no form that its place allows, as one that is neither a clock's nor a follow's before the first follow
+    /// of version 2; a word in it is misspelled; the text ends before its end line, or it goes on behind it.
     #[error("line {0} is none of the forms that may stand there")]
     Syntax(u32),
-    /// A name stands before, is unknown, or two names are of one event or of a message that stands before.
+    /// A name stands before or is unknown; two names are of one event or of a message that stands before; or a follow's
+    /// clocks are not in their order, or the one is the earlier or the other the later clock of a follow before.
     #[error("line {0} has a name that may not stand there")]
     Name(u32),
     /// A short above 999,999,999, a long above 1,000,000,000, or another number of 2^62 or more.
     #[error("line {0} has a number out of its range")]
     Range(u32),
-    /// There are 65,536 clocks, or 2^20 events or messages, before it already.
+    /// There are 65,536 clocks, or 2^21 events or messages, before it already.
     #[error("line {0} is one too many of its kind")]
     Limit(u32),
-    /// The text has more than 2^30 bytes.
+    /// The text has more than 2^31 bytes.
     #[error("the text is too long")]
     Long,
     /// Memory ran out.

@@ -1,46 +1,52 @@
 // The lists of a problem with the look-ups of their names.
 ghost use Rattle.std.specs.Prelude.{◌≡◌, ◌≢◌, ◌↔◌, ◌<◌, ℕ, IsTrue, OnOk, OnErr, IfSome, IfNone, length};
 ghost use Rattle.problem_model.specs.Problem.{IsProblem, MessageFits, empty_problem};
+ghost use Rattle.problem_model.specs.Bounds.{ComesAfter};
+ghost use Rattle.problem_model.specs.ShortList.{follow_to};
 ghost use Rattle.problem.specs.Line.{HasClock, HasEvent, HasMessage};
-ghost use Rattle.problem.specs.Growing.{IsNewClock, IsNewEvent, IsNewPair, IsNewMessage, HasRoomForClock, HasRoomForEvent, HasRoomForMessage, Allows, with_clock, with_event, with_message};
+ghost use Rattle.problem_model.specs.ChainNumbers.{with_follow};
+ghost use Rattle.problem.specs.Inside.{follow_from};
+ghost use Rattle.problem.specs.Growing.{IsNewClock, IsNewFollow, IsNewEvent, IsNewPair, IsNewMessage, HasRoomForClock, HasRoomForEvent, HasRoomForMessage, Allows, with_clock, with_event, with_message};
 
+use crate::chains::{Link, join};
 use crate::errors::PushError;
 use crate::names::{Names, Pairs};
 use atto::Nano;
-use problem_model::{Clock, Event, Message, Name};
+use problem_model::{Clock, Event, Follow, Message, Name};
 use std::alloc::{AllocError, Global};
 use std::marker::Model;
 
 /// The most clocks of a problem.
 pub const MOST_CLOCKS: usize = 65_536;
 
-/// The most events of a problem: with its readings it then has at most 2^21 nodes, so that no sum of weights overflows.
-pub const MOST_EVENTS: usize = 1 << 20;
+/// The most events of a problem: with its readings it then has at most 2^22 nodes, so that no sum of weights overflows.
+pub const MOST_EVENTS: usize = 1 << 21;
 
 /// The most messages of a problem.
-pub const MOST_MESSAGES: usize = 1 << 20;
+pub const MOST_MESSAGES: usize = 1 << 21;
 
-/// The lists of a problem, each with a look-up of its names or pairs.
+/// The lists of a problem, each with a look-up of its names, pairs or clocks.
 #[derive(Drop)]
 pub struct Items {
     clocks: Vec<Clock>,
+    follows: Vec<Follow>,
     events: Vec<Event>,
     messages: Vec<Message>,
     clock_names: Names,
     event_names: Names,
     pairs: Pairs,
+    links: Vec<Link>,
 }
 
 impl Model for Items {
-    ghost use Rattle.std.specs.Prelude.{[]};
     ghost use Rattle.problem_model.specs.Problem.{ProblemLists};
     ghost use Rattle.problem.specs.Inside.{AreItems};
 
     ghost Value = { ProblemLists };
 
-    ghost view = { λ i. record { clocks = i.clocks.items; follows = []; events = i.events.items; messages = i.messages.items } };
+    ghost view = { λ i. record { clocks = i.clocks.items; follows = i.follows.items; events = i.events.items; messages = i.messages.items } };
 
-    ghost invariant = { λ i. AreItems (record { clocks = i.clocks.items; follows = []; events = i.events.items; messages = i.messages.items }) i.clock_names i.event_names i.pairs };
+    ghost invariant = { λ i. AreItems (record { clocks = i.clocks.items; follows = i.follows.items; events = i.events.items; messages = i.messages.items }) i.clock_names i.event_names i.pairs i.links.items };
 }
 
 impl Items {
@@ -50,11 +56,13 @@ impl Items {
     {
         Items {
             clocks: Vec::new(alloc),
+            follows: Vec::new(alloc),
             events: Vec::new(alloc),
             messages: Vec::new(alloc),
             clock_names: Names::new(alloc),
             event_names: Names::new(alloc),
             pairs: Pairs::new(alloc),
+            links: Vec::new(alloc),
         }
     }
 
@@ -64,6 +72,14 @@ impl Items {
         ensures lawful { IsProblem self.now }
     {
         &self.clocks
+    }
+
+    /// The follows in their order.
+    pub fn follows(&self) -> &[Follow]
+        ensures value { result.now ≡ self.now.follows }
+        ensures lawful { IsProblem self.now }
+    {
+        &self.follows
     }
 
     /// The events by their places.
@@ -87,6 +103,7 @@ impl Items {
         ensures some { IfSome result (λ k. HasClock self.now k name.now) }
         ensures none { IfNone result ((k : ℕ) → HasClock self.now k name.now → ⊥) }
         ensures within { IfSome result (λ k. k < length self.now.clocks) }
+        ensures lawful { IsProblem self.now }
     {
         let place = self.clock_names.place(name)?;
         Some(place as u32)
@@ -142,8 +159,86 @@ impl Items {
         ensures err { OnErr result (self.new ≡ self.old) }
     {
         self.clocks.reserve(1)?;
+        self.links.reserve(1)?;
         self.clock_names.push(&c.name)?;
+        let number = self.clocks.len() as u32;
+        self.links.push_reserved(Link {
+            before: None,
+            after: None,
+            number,
+        });
         self.clocks.push_reserved(c);
+        Ok(())
+    }
+
+    /// The follow whose later clock this is.
+    pub fn follow_to(&self, later: u32) -> Option<Follow>
+        ensures value { result ≡ follow_to self.now.follows later }
+        ensures lawful { IsProblem self.now }
+    {
+        match self.links.get(later as usize) {
+            Some(link) => link.before,
+            None => None,
+        }
+    }
+
+    /// Whether one clock comes after another.
+    pub fn comes_after(&self, earlier: u32, later: u32) -> bool
+        requires earlier { earlier < length self.now.clocks }
+        requires later { later < length self.now.clocks }
+        ensures { IsTrue result ↔ ComesAfter self.now earlier later }
+    {
+        earlier < later && self.links[earlier as usize].number == self.links[later as usize].number
+    }
+
+    // The follow whose earlier clock this is.
+    fn follow_from(&self, earlier: u32) -> Option<Follow>
+        ensures { result ≡ follow_from self.now.follows earlier }
+    {
+        match self.links.get(earlier as usize) {
+            Some(link) => link.after,
+            None => None,
+        }
+    }
+
+    fn are_clocks_in_order(&self, earlier: u32, later: u32) -> bool
+        ensures { IsTrue result ↔ ((earlier < later) × (later < length self.now.clocks)) }
+    {
+        earlier < later && (later as usize) < self.clocks.len()
+    }
+
+    /// Whether a follow may lead from the one clock to the other, whatever its gap is.
+    pub fn is_new_follow(&self, earlier: u32, later: u32) -> bool
+        ensures test { (gap : ℕ) → IsTrue result ↔ IsNewFollow self.now (record { earlier = earlier; later = later; gap = gap }) }
+        ensures lawful { IsProblem self.now }
+    {
+        match (self.follow_from(earlier), self.follow_to(later)) {
+            (None, None) => self.are_clocks_in_order(earlier, later),
+            _ => false,
+        }
+    }
+
+    /// Whether this follow may be added. Only `Name` is against it: no clock is the later one of two follows, so there are
+    /// fewer of them than clocks.
+    pub fn allows_follow(&self, f: &Follow) -> Result<(), PushError>
+        ensures { Allows (IsNewFollow self.now f.now) (Unit {0}) result }
+    {
+        if self.is_new_follow(f.earlier, f.later) {
+            Ok(())
+        } else {
+            Err(PushError::Name)
+        }
+    }
+
+    /// Adds a follow, and leaves all as it was where memory runs out.
+    pub fn add_follow(&mut self, f: Follow) -> Result<(), AllocError>
+        requires new { IsNewFollow self.old f }
+        ensures ok { OnOk result (self.new ≡ with_follow self.old f) }
+        ensures err { OnErr result (self.new ≡ self.old) }
+    {
+        self.follows.reserve(1)?;
+        join(&mut self.links, &f);
+        self.follows.push_reserved(f);
         Ok(())
     }
 

@@ -1,23 +1,26 @@
 // Lines that are taken one by one.
-ghost use Rattle.std.specs.Prelude.{◌≡◌, ◌↔◌, [], ℕ, Option, IsTrue};
+ghost use Rattle.std.specs.Prelude.{◌≡◌, ◌≢◌, ◌↔◌, [], ℕ, Option, IsTrue, OnOk};
 ghost use Rattle.line_format.specs.Format.{Takes, TakesLine};
 ghost use Rattle.problem_model.specs.Name.{IsClockName};
 ghost use Rattle.problem_model.specs.Problem.{IsProblem};
-ghost use Rattle.problem.specs.Line.{problem_format};
-ghost use Rattle.problem.specs.Line.Line.{ClockLine, EventLine, MessageLine};
-ghost use Rattle.problem.specs.Written.{ClockIs, NanoIs, MostIs, RefusesDelays, clock_body, event_body, message_body};
+ghost use Rattle.problem.specs.Line.{IsInOrder, IsSaid, HasFollow, problem_format};
+ghost use Rattle.problem.specs.Line.Line.{ClockLine, FollowLine, EventLine, MessageLine};
+ghost use Rattle.problem.specs.Written.{ClockIs, NanoIs, MostIs, RefusesDelays, RefusesGap, clock_body, follow_body, event_body, message_body};
+ghost use Rattle.problem.specs.declared.version.Version.{Version};
+ghost use Rattle.problem.specs.declared.version.Version.TheVariants.{Second};
 
 use crate::items::Items;
 use crate::ranges::{clock_of, most_of, nano_of};
-use crate::words::{clock_words, event_words, message_words};
+use crate::version::Version;
+use crate::words::{clock_words, event_words, follow_words, message_words};
 use atto::Nano;
 use line_format::{FaultKind, LineError, Taken, cut};
-use problem_model::{Clock, Event, Message, Name};
+use problem_model::{Clock, Event, Follow, Message, Name};
 
-fn has_no_events(items: &Items) -> bool
-    ensures { IsTrue result ↔ (items.now.events ≡ []) }
+fn has_clocks_alone(items: &Items) -> bool
+    ensures { IsTrue result ↔ ((items.now.follows ≡ []) × (items.now.events ≡ []) × (items.now.messages ≡ [])) }
 {
-    items.events().is_empty()
+    items.follows().is_empty() && items.events().is_empty() && items.messages().is_empty()
 }
 
 fn has_no_messages(items: &Items) -> bool
@@ -26,12 +29,34 @@ fn has_no_messages(items: &Items) -> bool
     items.messages().is_empty()
 }
 
+// Whether a follow may come next.
+fn may_follow(version: Version, items: &Items) -> bool
+    ensures { IsTrue result ↔ ((version ≡ Second) × (items.now.events ≡ []) × (items.now.messages ≡ [])) }
+{
+    match version {
+        Version::First => false,
+        Version::Second => items.events().is_empty() && items.messages().is_empty(),
+    }
+}
+
+// Whether the follows that the version asks for are there.
+fn has_follow(version: Version, items: &Items) -> bool
+    ensures { IsTrue result ↔ HasFollow version items.now }
+{
+    match version {
+        Version::First => true,
+        Version::Second => !items.follows().is_empty(),
+    }
+}
+
 // Adds the clock of a line, which is None where a number is out of its range.
 fn take_clock(items: &mut Items, name: &Name, clock: Option<Clock>) -> Result<(), LineError>
+    requires follows { items.old.follows ≡ [] }
     requires events { items.old.events ≡ [] }
     requires messages { items.old.messages ≡ [] }
     requires named { IsClockName name.now }
-    ensures { (s : ℕ) (l : ℕ) (e : ℕ) (t : ℕ) → ClockIs clock name.now s l e t → TakesLine problem_format items.old (ClockLine name.now s l e t) result items.new }
+    ensures taken { (version : Version) (s : ℕ) (l : ℕ) (e : ℕ) (t : ℕ) → ClockIs clock name.now s l e t → TakesLine (problem_format version) items.old (ClockLine name.now s l e t) result items.new }
+    ensures alone { OnOk result ((items.new.follows ≡ []) × (items.new.events ≡ []) × (items.new.messages ≡ [])) }
 {
     let Some(clock) = clock else {
         return match items.clock_place(name) {
@@ -46,15 +71,75 @@ fn take_clock(items: &mut Items, name: &Name, clock: Option<Clock>) -> Result<()
 
 // A clock's line behind its first word.
 fn clock_line(items: &mut Items, rest: &[u8]) -> Result<Taken, LineError>
-    ensures { Takes problem_format items.old (clock_body rest.now) result items.new }
+    ensures taken { (version : Version) → Takes (problem_format version) items.old (clock_body rest.now) result items.new }
+    ensures ordered { (version : Version) → OnOk result (IsInOrder version items.new) }
 {
-    if !has_no_events(items) || !has_no_messages(items) {
+    if !has_clocks_alone(items) {
         return Err(LineError::Fault(FaultKind::Syntax));
     }
     let Some(w) = clock_words(rest) else {
         return Err(LineError::Fault(FaultKind::Syntax));
     };
     match take_clock(items, &w.name, clock_of(&w)) {
+        Ok(()) => Ok(Taken::Line),
+        Err(fault) => Err(fault),
+    }
+}
+
+// Why a follow from the one clock to the other may not stand where its gap is out of its range.
+fn gap_fault(items: &Items, earlier: u32, later: u32) -> LineError
+    ensures { RefusesGap items.now earlier later result }
+{
+    if items.is_new_follow(earlier, later) {
+        LineError::Fault(FaultKind::Range)
+    } else {
+        LineError::Fault(FaultKind::Name)
+    }
+}
+
+// Adds the follow of a line, whose gap is None where it is out of its range.
+fn take_follow(
+    items: &mut Items,
+    earlier: &Name,
+    later: &Name,
+    gap: Option<Nano>,
+) -> Result<(), LineError>
+    requires events { items.old.events ≡ [] }
+    requires messages { items.old.messages ≡ [] }
+    ensures taken { (version : Version) (g : ℕ) → NanoIs gap g → TakesLine (problem_format version) items.old (FollowLine earlier.now later.now g) result items.new }
+    ensures followed { OnOk result (items.new.follows ≢ []) }
+{
+    let Some(c) = items.clock_place(earlier) else {
+        return Err(LineError::Fault(FaultKind::Name));
+    };
+    let Some(d) = items.clock_place(later) else {
+        return Err(LineError::Fault(FaultKind::Name));
+    };
+    let Some(gap) = gap else {
+        return Err(gap_fault(items, c, d));
+    };
+    let follow = Follow {
+        earlier: c,
+        later: d,
+        gap,
+    };
+    items.allows_follow(&follow)?;
+    items.add_follow(follow)?;
+    Ok(())
+}
+
+// A follow's line behind its first word.
+fn follow_line(version: Version, items: &mut Items, rest: &[u8]) -> Result<Taken, LineError>
+    ensures taken { Takes (problem_format version) items.old (follow_body rest.now) result items.new }
+    ensures ordered { OnOk result (IsInOrder version items.new) }
+{
+    if !may_follow(version, items) {
+        return Err(LineError::Fault(FaultKind::Syntax));
+    }
+    let Some(w) = follow_words(rest) else {
+        return Err(LineError::Fault(FaultKind::Syntax));
+    };
+    match take_follow(items, &w.earlier, &w.later, nano_of(w.gap)) {
         Ok(()) => Ok(Taken::Line),
         Err(fault) => Err(fault),
     }
@@ -68,7 +153,8 @@ fn take_event(
     stamp: Option<Nano>,
 ) -> Result<(), LineError>
     requires { items.old.messages ≡ [] }
-    ensures { (t : ℕ) → NanoIs stamp t → TakesLine problem_format items.old (EventLine name.now clock.now t) result items.new }
+    ensures taken { (version : Version) (t : ℕ) → NanoIs stamp t → TakesLine (problem_format version) items.old (EventLine name.now clock.now t) result items.new }
+    ensures follows { OnOk result (items.new.follows ≡ items.old.follows) }
 {
     let Some(place) = items.clock_place(clock) else {
         return Err(LineError::Fault(FaultKind::Name));
@@ -90,10 +176,11 @@ fn take_event(
 }
 
 // An event's line behind its first word.
-fn event_line(items: &mut Items, rest: &[u8]) -> Result<Taken, LineError>
-    ensures { Takes problem_format items.old (event_body rest.now) result items.new }
+fn event_line(version: Version, items: &mut Items, rest: &[u8]) -> Result<Taken, LineError>
+    ensures taken { Takes (problem_format version) items.old (event_body rest.now) result items.new }
+    ensures ordered { IsInOrder version items.old → OnOk result (IsInOrder version items.new) }
 {
-    if !has_no_messages(items) {
+    if !has_follow(version, items) || !has_no_messages(items) {
         return Err(LineError::Fault(FaultKind::Syntax));
     }
     let Some(w) = event_words(rest) else {
@@ -124,7 +211,8 @@ fn take_message(
     least: Option<Nano>,
     most: Option<Option<Nano>>,
 ) -> Result<(), LineError>
-    ensures { (l : ℕ) (m : Option ℕ) → NanoIs least l → MostIs most m → TakesLine problem_format items.old (MessageLine send.now receive.now l m) result items.new }
+    ensures taken { (version : Version) (l : ℕ) (m : Option ℕ) → NanoIs least l → MostIs most m → TakesLine (problem_format version) items.old (MessageLine send.now receive.now l m) result items.new }
+    ensures follows { OnOk result (items.new.follows ≡ items.old.follows) }
 {
     let Some(s) = items.event_place(send) else {
         return Err(LineError::Fault(FaultKind::Name));
@@ -150,9 +238,13 @@ fn take_message(
 }
 
 // A message's line behind its first word.
-fn message_line(items: &mut Items, rest: &[u8]) -> Result<Taken, LineError>
-    ensures { Takes problem_format items.old (message_body rest.now) result items.new }
+fn message_line(version: Version, items: &mut Items, rest: &[u8]) -> Result<Taken, LineError>
+    ensures taken { Takes (problem_format version) items.old (message_body rest.now) result items.new }
+    ensures ordered { IsInOrder version items.old → OnOk result (IsInOrder version items.new) }
 {
+    if !has_follow(version, items) {
+        return Err(LineError::Fault(FaultKind::Syntax));
+    }
     let Some(w) = message_words(rest) else {
         return Err(LineError::Fault(FaultKind::Syntax));
     };
@@ -168,11 +260,12 @@ fn message_line(items: &mut Items, rest: &[u8]) -> Result<Taken, LineError>
     }
 }
 
-fn take_form(items: &mut Items, body: &[u8]) -> Result<Taken, LineError>
-    ensures { Takes problem_format items.old body.now result items.new }
+fn take_form(version: Version, items: &mut Items, body: &[u8]) -> Result<Taken, LineError>
+    ensures taken { Takes (problem_format version) items.old body.now result items.new }
+    ensures ordered { IsInOrder version items.old → OnOk result (IsInOrder version items.new) }
 {
     let Some((first, rest)) = cut(b' ', body) else {
-        return if body == b"end".as_slice() {
+        return if body == b"end".as_slice() && has_follow(version, items) {
             Ok(Taken::End)
         } else {
             Err(LineError::Fault(FaultKind::Syntax))
@@ -181,21 +274,25 @@ fn take_form(items: &mut Items, body: &[u8]) -> Result<Taken, LineError>
     if first == b"clock".as_slice() {
         return clock_line(items, rest);
     }
+    if first == b"follow".as_slice() {
+        return follow_line(version, items, rest);
+    }
     if first == b"event".as_slice() {
-        return event_line(items, rest);
+        return event_line(version, items, rest);
     }
     if first == b"message".as_slice() {
-        return message_line(items, rest);
+        return message_line(version, items, rest);
     }
     Err(LineError::Fault(FaultKind::Syntax))
 }
 
-/// Takes a line behind the head, without its line feed: says whether it was the end, or why it was not taken.
-pub fn take(items: &mut Items, body: &[u8]) -> Result<Taken, LineError>
-    ensures taken { Takes problem_format items.old body.now result items.new }
-    ensures lawful { IsProblem items.new }
+/// Takes a line behind the head of this version, without its line feed: says whether it was the end, or why it was not
+/// taken.
+pub fn take(version: Version, items: &mut Items, body: &[u8]) -> Result<Taken, LineError>
+    ensures taken { Takes (problem_format version) items.old body.now result items.new }
+    ensures said { IsSaid version items.old → OnOk result (IsSaid version items.new) }
 {
-    let taken = take_form(items, body);
+    let taken = take_form(version, items, body);
     let _ = items.clocks();
     taken
 }

@@ -1,20 +1,25 @@
 // A problem: its lists and its readings.
-ghost use Rattle.std.specs.Prelude.{◌≡◌, ◌↔◌, ℕ, List, slice_get, Some, IfSome, IfNone, OnOk, OnErr, IfOk, IsErrOf};
-ghost use Rattle.problem_model.specs.Bounds.{IsReading};
+ghost use Rattle.std.specs.Prelude.{◌≡◌, ◌↔◌, ◌<◌, ℕ, List, length, slice_get, Some, IfSome, IfNone, IsTrue, OnOk, OnErr, IfOk, IsErrOf};
+ghost use Rattle.problem_model.specs.declared.items.Bound.TheVariants as bounds;
+ghost use Rattle.problem_model.specs.ChainNumbers.{with_follow};
+ghost use Rattle.problem_model.specs.ShortList.{follow_to, clocks_before, first_reading, nearest_reading, follow_bound};
+ghost use Rattle.problem.specs.Nearest.{listed_follow, gap_between};
+ghost use Rattle.problem_model.specs.Bounds.{IsReading, ComesAfter, Declares};
 ghost use Rattle.problem_model.specs.Nodes.{Reading, AreReadings};
 ghost use Rattle.problem_model.specs.Problem.{IsProblem, empty_problem};
 ghost use Rattle.problem.specs.Line.{HasClock, HasEvent, HasMessage};
-ghost use Rattle.problem.specs.Growing.{IsNewClock, IsNewEvent, IsNewMessage, HasRoomForClock, HasRoomForEvent, HasRoomForMessage, with_clock, with_event, with_message};
+ghost use Rattle.problem.specs.Growing.{IsNewClock, IsNewFollow, IsNewEvent, IsNewMessage, HasRoomForClock, HasRoomForEvent, HasRoomForMessage, with_clock, with_event, with_message};
 
 use crate::errors::PushError;
 use crate::items::Items;
+use crate::nearest::{NearestFollow, nearest_follow};
 use crate::readings::{insert_reading, place_of, readings_of};
 use atto::Nano;
-use problem_model::{Clock, Event, Message, Name};
+use problem_model::{Clock, Event, Follow, Message, Name};
 use std::alloc::{AllocError, Global};
 use std::marker::Model;
 
-/// Clocks, events and messages that meet the rules of a problem, with the readings of the clocks.
+/// Clocks, follows, events and messages that meet the rules of a problem, with the readings of the clocks.
 #[derive(Drop)]
 pub struct Problem {
     items: Items,
@@ -57,6 +62,14 @@ impl Problem {
         ensures lawful { IsProblem self.now }
     {
         self.items.clocks()
+    }
+
+    /// The follows. The later clock of each comes after its earlier one, and after each that the earlier one comes after.
+    pub fn follows(&self) -> &[Follow]
+        ensures value { result.now ≡ self.now.follows }
+        ensures lawful { IsProblem self.now }
+    {
+        self.items.follows()
     }
 
     /// The events; a message's send and receive are places here, from 0 on.
@@ -131,8 +144,51 @@ impl Problem {
         Ok(())
     }
 
+    /// The follow whose later clock this is, where there is one.
+    pub fn follow_to(&self, later: u32) -> Option<Follow>
+        ensures { result ≡ follow_to self.now.follows later }
+    {
+        self.items.follow_to(later)
+    }
+
+    /// Whether one clock comes after another: one or more follows lead there, each one's later clock being the earlier
+    /// one of the next. Both places are those of clocks. It costs one comparison.
+    pub fn comes_after(&self, earlier: u32, later: u32) -> bool
+        requires earlier { earlier < length self.now.clocks }
+        requires later { later < length self.now.clocks }
+        ensures { IsTrue result ↔ ComesAfter self.now earlier later }
+    {
+        self.items.comes_after(earlier, later)
+    }
+
+    /// The bound that the nearest reading before a clock and the clock's first reading make, with the gap of the follow
+    /// that leads to the clock, whose place is that of a clock; None where the clock has no reading, or no clock before it in
+    /// its chain has one. It looks at the clocks from there to the nearest one that has a reading.
+    pub fn nearest_follow(&self, later: u32) -> Option<NearestFollow>
+        requires { later < length self.now.clocks }
+        ensures bound { (readings : List Reading) → AreReadings self.now readings
+            → follow_bound (nearest_reading readings (clocks_before self.now.follows later later)) (first_reading readings later) ≡ listed_follow later result }
+        ensures declared { IfSome result (λ f. Declares self.now (bounds.Follow f.earlier f.s later f.t) (gap_between f.earlier f.s later f.t f.gap)) }
+    {
+        nearest_follow(&self.items, &self.readings, later)
+    }
+
+    /// Adds a follow. Answers `Name` where a clock's place is out of range, the earlier clock does not stand before the
+    /// later, a follow has the same earlier clock, or one has the same later clock, else `Memory` where memory runs out. All
+    /// stays as it was on each of them.
+    pub fn push_follow(&mut self, f: Follow) -> Result<(), PushError>
+        ensures ok { OnOk result (self.new ≡ with_follow self.old f) }
+        ensures err { OnErr result (self.new ≡ self.old) }
+        ensures name { IsErrOf result PushError.Name ↔ (IsNewFollow self.old f → ⊥) }
+        ensures limit { IsErrOf result PushError.Limit → ⊥ }
+    {
+        self.items.allows_follow(&f)?;
+        self.items.add_follow(f)?;
+        Ok(())
+    }
+
     /// Adds an event. Answers `Name` where its name is that of another event or its clock's place is out of range,
-    /// else `Limit` where there are 2^20 events, else `Memory` where memory runs out. All stays as it was on each.
+    /// else `Limit` where there are 2^21 events, else `Memory` where memory runs out. All stays as it was on each.
     pub fn push_event(&mut self, e: Event) -> Result<(), PushError>
         ensures ok { OnOk result (self.new ≡ with_event self.old e) }
         ensures err { OnErr result (self.new ≡ self.old) }
@@ -148,7 +204,7 @@ impl Problem {
     }
 
     /// Adds a message. Answers `Name` where a place is out of range, where both are one, or where a message of this
-    /// send and this receive is there, else `Limit` where there are 2^20 messages, else `Memory` where memory runs
+    /// send and this receive is there, else `Limit` where there are 2^21 messages, else `Memory` where memory runs
     /// out. All stays as it was on each of them.
     pub fn push_message(&mut self, m: Message) -> Result<(), PushError>
         ensures ok { OnOk result (self.new ≡ with_message self.old m) }

@@ -2,6 +2,7 @@
 ghost use Rattle.std.specs.Prelude.{◌≡◌, ◌<◌, ◌++◌, ◌∷◌, [], ℕ, map, AllPairs, Contains, slice_get, Some, IfSome, IfNone, IfOk};
 ghost use Rattle.std.specs.Vec.{vec_len, vec_capacity};
 ghost use Rattle.problem_model.specs.Nodes.{Reading, AreReadings, ComesBefore};
+ghost use Rattle.problem_model.specs.ShortList.{first_reading, last_reading};
 ghost use Rattle.problem.specs.Growing.{AddsReading, reading_of};
 
 use crate::items::Items;
@@ -53,4 +54,34 @@ pub fn place_of(readings: &[(u32, Nano)], clock: u32, stamp: Nano) -> Option<usi
         Ok(place) => Some(place),
         Err(_) => None,
     }
+}
+
+// The reading at a place, where there is one and the clock is its clock.
+fn reading_at(readings: &[(u32, Nano)], place: usize, clock: u32) -> Option<(u32, Nano)>
+    ensures some { IfSome result (λ r. (slice_get {X = Reading} readings.now place ≡ Some r) × (r.0 ≡ clock)) }
+    ensures none { IfNone result ((r : Reading) → slice_get {X = Reading} readings.now place ≡ Some r → r.0 ≡ clock → ⊥) }
+{
+    match readings.get(place) {
+        Some(reading) if reading.0 == clock => Some(*reading),
+        _ => None,
+    }
+}
+
+/// The first reading of a clock among readings in their order, where it has one.
+pub fn first_of(readings: &[(u32, Nano)], clock: u32) -> Option<(u32, Nano)>
+    requires { AllPairs ComesBefore readings.now }
+    ensures { result ≡ first_reading readings.now clock }
+{
+    let start = readings.partition_point(|reading| reading.0 < clock);
+    reading_at(readings, start, clock)
+}
+
+/// The last reading of a clock among readings in their order, where it has one.
+pub fn last_of(readings: &[(u32, Nano)], clock: u32) -> Option<(u32, Nano)>
+    requires { AllPairs ComesBefore readings.now }
+    ensures { result ≡ last_reading readings.now clock }
+{
+    let end = readings.partition_point(|reading| reading.0 <= clock);
+    let place = end.checked_sub(1)?;
+    reading_at(readings, place, clock)
 }

@@ -1,6 +1,6 @@
 // Lines by their words.
 ghost use Rattle.std.specs.Prelude.{◌≡◌, ℕ, IfSome, IfNone, SomeIff, Option};
-ghost use Rattle.problem.specs.Written.{Spells, SpellsNone, ClockParts, ClockSays, NoClock, EventParts, EventSays, NoEvent, SpellsMost, MessageParts, MessageSays, NoMessage};
+ghost use Rattle.problem.specs.Written.{Spells, SpellsNone, ClockParts, ClockSays, NoClock, FollowParts, FollowSays, NoFollow, EventParts, EventSays, NoEvent, SpellsMost, MessageParts, MessageSays, NoMessage};
 ghost use Rattle.problem_model.specs.Name.{IsClockName, IsEventName};
 ghost use Rattle.atto.specs.Decimal.{decimal_of};
 ghost use Rattle.problem_model.specs.ProblemText.{most_word};
@@ -17,6 +17,14 @@ pub struct ClockWords {
     pub long: Option<u64>,
     pub early: Option<u64>,
     pub late: Option<u64>,
+}
+
+/// What a follow's line says; a gap of 2^64 or more is None.
+#[derive(Clone, Copy)]
+pub struct FollowWords {
+    pub earlier: Name,
+    pub later: Name,
+    pub gap: Option<u64>,
 }
 
 /// What an event's line says.
@@ -77,6 +85,29 @@ pub fn clock_words(rest: &[u8]) -> Option<ClockWords>
 {
     match five_words(rest) {
         Some((name, short, long, early, late)) => clock_of(name, short, long, early, late),
+        None => None,
+    }
+}
+
+// What the words of a follow's line say, behind its first.
+fn follow_of(earlier: &[u8], later: &[u8], gap: &[u8]) -> Option<FollowWords>
+    ensures some { IfSome result (λ w. FollowParts earlier.now later.now gap.now w) }
+    ensures none { IfNone result ((g : ℕ) → IsClockName earlier.now → IsClockName later.now → gap.now ≡ decimal_of g → ⊥) }
+{
+    Some(FollowWords {
+        earlier: clock_name(earlier)?,
+        later: clock_name(later)?,
+        gap: number_of(gap)?,
+    })
+}
+
+/// What a follow's line says behind its first word.
+pub fn follow_words(rest: &[u8]) -> Option<FollowWords>
+    ensures some { IfSome result (λ w. FollowSays rest.now w) }
+    ensures none { IfNone result (NoFollow rest.now) }
+{
+    match three_words(rest) {
+        Some((earlier, later, gap)) => follow_of(earlier, later, gap),
         None => None,
     }
 }

@@ -16,8 +16,8 @@ use Rattle.problem_model.proofs.Chains.{Among, among, each_among, Rises}
 -- ---- what a problem's rules give
 pub chained_by : (p : ProblemLists) → IsWellFormed p → IsChained p
 chained_by p formed = record {
-  follow_ends = λ k d inside. let none = ap length formed.no_follows in absurd (omega (arith, inside, none));
-  laters_differ = λ i j d below inside. let none = ap length formed.no_follows in absurd (omega (arith, inside, none));
+  follow_ends = formed.follow_ends;
+  laters_differ = formed.laters_differ;
 }
 
 -- ---- lines of a chain

@@ -38,7 +38,7 @@ along p chained c (f ∷ lines) d leads =
     let rise = (ends_rise p chained [] tt f leads.0).0 in
     let from = leads.1 in omega (arith, rest, rise, from)
 
-rises_after : (p : ProblemLists) → IsChained p → (c d : ℕ) → ComesAfter p c d → c < d
+pub rises_after : (p : ProblemLists) → IsChained p → (c d : ℕ) → ComesAfter p c d → c < d
 rises_after p chained c d after =
     let rest = along p chained after.0.later after.1 d after.2.2 in
     let rise = (ends_rise p chained [] tt after.0 after.2.0).0 in

@@ -5,6 +5,7 @@ pub mod Bounds
 pub mod Nodes
 pub mod ShortList
 pub mod Nearest
+pub mod ChainNumbers
 pub mod ProblemText
 pub mod ExecutionText
 pub mod BoundText

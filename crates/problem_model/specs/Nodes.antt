@@ -6,7 +6,7 @@ use Rattle.problem_model.specs.declared.items.Event.{Event}
 use Rattle.problem_model.specs.Problem.{ProblemLists}
 use Rattle.problem_model.specs.Bounds.{IsReading, Times}
 
--- the most nodes of a graph or of a list of real times; a problem has at most half as many
+-- the most nodes of a graph or of a list of real times; as a problem of 2^21 events may have
 abbrev pub most_nodes : ℕ
 most_nodes = 2 ^ 22
 

@@ -39,17 +39,19 @@ abbrev pub most_clocks : ℕ
 most_clocks = 65536
 
 abbrev pub most_events : ℕ
-most_events = 2 ^ 20
+most_events = 2 ^ 21
 
 abbrev pub most_messages : ℕ
-most_messages = 2 ^ 20
+most_messages = 2 ^ 21
 
--- names are spelled as names and tell clocks and events apart, no clock follows another yet, each place is one of its list,
--- and a message joins two events, no other one the same two in this order
+-- names are spelled as names and tell clocks and events apart, each place is one of its list, follows make chains in which
+-- no clock is the earlier or the later of two, and a message joins two events, no other one the same two in this order
 pub record IsWellFormed (p : ProblemLists) : Type 0 where
   pub clock_names : All (λ c. IsClockName c.name) p.clocks
   pub clocks_differ : AllPairs (λ a b. a.name ≢ b.name) p.clocks
-  pub no_follows : p.follows ≡ []
+  pub follow_ends : All (LeadsOn p.clocks) p.follows
+  pub earliers_differ : AllPairs (λ a b. a.earlier ≢ b.earlier) p.follows
+  pub laters_differ : AllPairs (λ a b. a.later ≢ b.later) p.follows
   pub event_names : All (λ e. IsEventName e.name) p.events
   pub events_differ : AllPairs (λ a b. a.name ≢ b.name) p.events
   pub event_clocks : All (λ e. e.clock < length p.clocks) p.events
@@ -62,6 +64,7 @@ pub record IsWellFormed (p : ProblemLists) : Type 0 where
 pub record FitsLimits (p : ProblemLists) : Type 0 where
   pub clocks_fit : All ClockFits p.clocks
   pub clock_limit : length p.clocks ≤ most_clocks
+  pub gaps_fit : All (λ f. f.gap < 2 ^ 62) p.follows
   pub stamps_fit : All (λ e. e.stamp < 2 ^ 62) p.events
   pub event_limit : length p.events ≤ most_events
   pub messages_fit : All MessageFits p.messages

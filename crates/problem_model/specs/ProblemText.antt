@@ -4,13 +4,21 @@ use Rattle.std.specs.List.{flat_map}
 use Rattle.atto.specs.Decimal.{decimal_of}
 use Rattle.line_format.specs.Words.{line_of}
 use Rattle.problem_model.specs.declared.items.Clock.{Clock}
+use Rattle.problem_model.specs.declared.items.Follow.{Follow}
 use Rattle.problem_model.specs.declared.items.Event.{Event}
 use Rattle.problem_model.specs.declared.items.Message.{Message}
 use Rattle.problem_model.specs.Problem.{ProblemLists}
 
--- the words of the first line
+-- the words of the first line: of a problem in which no clock follows another, and of one with follows
 abbrev pub problem_head : List (List ℕ)
 problem_head = codes "problem" ∷ codes "1" ∷ []
+
+abbrev pub followed_head : List (List ℕ)
+followed_head = codes "problem" ∷ codes "2" ∷ []
+
+abbrev pub head_of : List Follow → List (List ℕ)
+head_of [] = problem_head
+head_of (f ∷ follows) = followed_head
 
 -- the line of a clock
 abbrev pub clock_line : Clock → List ℕ
@@ -23,6 +31,10 @@ clock_name clocks k = option_name (slice_get clocks k)
     option_name : Option Clock → List ℕ
     option_name None = []
     option_name (Some c) = c.name
+
+-- the line of a follow, with the names of its clocks
+abbrev pub follow_line : List Clock → Follow → List ℕ
+follow_line clocks f = line_of (codes "follow" ∷ clock_name clocks f.earlier ∷ clock_name clocks f.later ∷ decimal_of f.gap ∷ [])
 
 -- the name of the event at a place
 abbrev pub event_name : List Event → ℕ → List ℕ
@@ -47,5 +59,5 @@ message_line events m = line_of (codes "message" ∷ event_name events m.send �
 
 -- the only text of a problem
 abbrev pub problem_text : ProblemLists → List ℕ
-problem_text p = line_of problem_head ++ flat_map clock_line p.clocks ++ flat_map (event_line p.clocks) p.events
+problem_text p = line_of (head_of p.follows) ++ flat_map clock_line p.clocks ++ (flat_map (follow_line p.clocks) p.follows ++ flat_map (event_line p.clocks) p.events)
     ++ flat_map (message_line p.events) p.messages ++ line_of (codes "end" ∷ [])

@@ -1,5 +1,5 @@
 -- How long the text of a lawful problem is.
-use Rattle.std.proofs.Common.{◌≡◌, ◌<◌, ◌≤◌, ◌+◌, ◌^◌, ℕ, zero, suc, List, [], ◌∷◌, ◌++◌, length, get_or, Option, Some, None, codes, All, arith, length-append}
+use Rattle.std.proofs.Common.{◌≡◌, ◌<◌, ◌≤◌, ◌+◌, ◌^◌, ℕ, zero, suc, List, [], ◌∷◌, ◌++◌, length, get_or, Option, Some, None, codes, All, refl, arith, length-append}
 use Rattle.std.specs.Prelude.{IfSome}
 use Rattle.std.specs.List.{flat_map}
 use Rattle.std.proofs.lemmas.List.Elements.{All-head, All-tail}
@@ -7,13 +7,15 @@ use Rattle.atto.specs.Decimal.{decimal_of}
 use Rattle.atto.proofs.DecimalLemmas.{length-decimal_of-le}
 use Rattle.line_format.specs.Words.{line_of}
 use Rattle.problem_model.specs.declared.items.Clock.{Clock}
+use Rattle.problem_model.specs.declared.items.Follow.{Follow}
 use Rattle.problem_model.specs.declared.items.Event.{Event}
 use Rattle.problem_model.specs.declared.items.Message.{Message}
 use Rattle.problem_model.specs.Name.{IsEventName, IsClockName}
 use Rattle.problem_model.specs.Problem.{ProblemLists, IsProblem, ClockFits, MessageFits}
-use Rattle.problem_model.specs.ProblemText.{problem_head, problem_text, clock_line, event_line, message_line, clock_name, event_name, most_word}
+use Rattle.problem_model.specs.ProblemText.{head_of, problem_text, clock_line, follow_line, event_line, message_line, clock_name, event_name, most_word}
 use Rattle.line_format.proofs.Lengths.{line_size, lines_short}
 use Rattle.line_format.specs.Format.{most_bytes}
+use Rattle.problem_text.proofs.FewFollows.{few_follows}
 
 -- ---- words
 nano_short : (n : ℕ) → n < 2 ^ 62 → length (decimal_of n) ≤ 19
@@ -42,6 +44,12 @@ clock_short c named fits =
     let long : length (decimal_of c.rate.long) ≤ 10 = length-decimal_of-le 10 c.rate.long (omega arith) (let below = fits.1 in omega (arith, below)) in
     omega (arith, size, named.short, short, long, nano_short c.early fits.2, nano_short c.late fits.3)
 
+follow_short : (cs : List Clock) (f : Follow) → All (λ c. IsClockName c.name) cs → f.gap < 2 ^ 62 → length (follow_line cs f) ≤ 93
+follow_short cs f clocks fits =
+    let size : length (follow_line cs f) ≡ 6 + 1 + (length (clock_name cs f.earlier) + 1 + (length (clock_name cs f.later) + 1 + (length (decimal_of f.gap) + 1 + 0))) =
+    line_size (codes "follow") (clock_name cs f.earlier ∷ clock_name cs f.later ∷ decimal_of f.gap ∷ []) in
+    omega (arith, size, clock_name_short cs clocks f.earlier, clock_name_short cs clocks f.later, nano_short f.gap fits)
+
 event_short : (cs : List Clock) (e : Event) → All (λ c. IsClockName c.name) cs → IsEventName e.name → e.stamp < 2 ^ 62 → length (event_line cs e) ≤ 108
 event_short cs e clocks named fits =
     let size : length (event_line cs e) ≡ 5 + 1 + (length e.name + 1 + (length (clock_name cs e.clock) + 1 + (length (decimal_of e.stamp) + 1 + 0))) =
@@ -55,14 +63,20 @@ message_short es m events fits =
     omega (arith, size, event_name_short es events m.send, event_name_short es events m.receive, nano_short m.least fits.0, most_short m.most fits.1)
 
 -- ---- the whole
-added : (a b c d e : List ℕ) → length (a ++ b ++ c ++ d ++ e) ≡ length a + length b + length c + length d + length e
-added a b c d e = omega (arith, length-append (a ++ b ++ c ++ d) e, length-append (a ++ b ++ c) d, length-append (a ++ b) c, length-append a b)
+head_short : (follows : List Follow) → length (line_of (head_of follows)) ≡ 10
+head_short [] = refl
+head_short (f ∷ follows) = refl
+
+added : (a b c d e f : List ℕ) → length (a ++ b ++ (c ++ d) ++ e ++ f) ≡ length a + length b + length c + length d + length e + length f
+added a b c d e f = omega (arith, length-append (a ++ b ++ (c ++ d) ++ e) f, length-append (a ++ b ++ (c ++ d)) e, length-append (a ++ b) (c ++ d), length-append c d, length-append a b)
 
 pub text_short : (p : ProblemLists) → IsProblem p → length (problem_text p) ≤ most_bytes
 text_short p lawful =
     let clocks = lines_short clock_line 100 p.clocks (λ i d inside. clock_short (get_or p.clocks i d) (lawful.formed.clock_names i d inside) (lawful.fits.clocks_fit i d inside)) in
+    let follows = lines_short (follow_line p.clocks) 93 p.follows (λ i d inside. follow_short p.clocks (get_or p.follows i d) lawful.formed.clock_names (lawful.fits.gaps_fit i d inside)) in
     let events = lines_short (event_line p.clocks) 108 p.events (λ i d inside. event_short p.clocks (get_or p.events i d) lawful.formed.clock_names (lawful.formed.event_names i d inside) (lawful.fits.stamps_fit i d inside)) in
     let messages = lines_short (message_line p.events) 146 p.messages (λ i d inside. message_short p.events (get_or p.messages i d) lawful.formed.event_names (lawful.fits.messages_fit i d inside)) in
-    let sum : length (problem_text p) ≡ 10 + length (flat_map clock_line p.clocks) + length (flat_map (event_line p.clocks) p.events) + length (flat_map (message_line p.events) p.messages) + 4 =
-    added (line_of problem_head) (flat_map clock_line p.clocks) (flat_map (event_line p.clocks) p.events) (flat_map (message_line p.events) p.messages) (line_of (codes "end" ∷ [])) in
-    omega (arith, sum, clocks, events, messages, lawful.fits.clock_limit, lawful.fits.event_limit, lawful.fits.message_limit)
+    let sum : length (problem_text p) ≡ length (line_of (head_of p.follows)) + length (flat_map clock_line p.clocks) + length (flat_map (follow_line p.clocks) p.follows) + length (flat_map (event_line p.clocks) p.events)
+    + length (flat_map (message_line p.events) p.messages) + 4 =
+    added (line_of (head_of p.follows)) (flat_map clock_line p.clocks) (flat_map (follow_line p.clocks) p.follows) (flat_map (event_line p.clocks) p.events) (flat_map (message_line p.events) p.messages) (line_of (codes "end" ∷ [])) in
+    omega (arith, sum, head_short p.follows, clocks, follows, events, messages, few_follows p lawful, lawful.fits.clock_limit, lawful.fits.event_limit, lawful.fits.message_limit)

@@ -1,3 +1,4 @@
+pub mod FewFollows
 pub mod Lengths
 pub mod ListedLines
 pub mod OneProblem

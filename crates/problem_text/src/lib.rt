@@ -1,4 +1,5 @@
-//! Problems, written as their text: a line for the head, one for each clock, each event and each message, and the end.
+//! Problems, written as their text: a line for the head, one for each clock, each follow, each event and each message, and
+//! the end.
 //!
 //! A caller that holds no problem writes the same text line by line. No call takes memory.
 #![tactic(auto)]
@@ -9,5 +10,5 @@ mod words;
 mod write;
 
 pub use laws::read_again;
-pub use lines::{write_clock, write_end, write_event, write_head, write_message};
+pub use lines::{write_clock, write_end, write_event, write_follow, write_head, write_message};
 pub use write::write_problem;

@@ -3,7 +3,7 @@ ghost use Rattle.std.specs.Prelude.{◌≡◌, ◌≤◌, ◌+◌, ◌++◌, ◌
 ghost use Rattle.line_format.specs.Words.{words, line_of};
 ghost use Rattle.problem_model.specs.ProblemText.{clock_line, most_word};
 ghost use Rattle.problem.specs.Line.{line_words};
-ghost use Rattle.problem.specs.Line.Line.{EventLine, MessageLine};
+ghost use Rattle.problem.specs.Line.Line.{FollowLine, EventLine, MessageLine};
 
 use atto::Nano;
 use line_words::line::{Line, first_word, push_decimal, push_word};
@@ -40,6 +40,18 @@ pub fn clock_line(c: &Clock) -> Line
     push_decimal(&mut line, u64::from(c.rate.long()));
     push_decimal(&mut line, c.early.get());
     push_decimal(&mut line, c.late.get());
+    line.push(b'\n');
+    line
+}
+
+// The line of a follow, by the names of its clocks and its gap.
+pub fn follow_line(earlier: &Name, later: &Name, gap: Nano) -> Line
+    ensures { result.items ≡ line_of (line_words (FollowLine earlier.now later.now gap)) }
+{
+    let mut line = first_word(b"follow");
+    push_name(&mut line, earlier);
+    push_name(&mut line, later);
+    push_decimal(&mut line, gap.get());
     line.push(b'\n');
     line
 }

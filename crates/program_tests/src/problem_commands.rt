@@ -160,7 +160,10 @@ const JUDGED: [(&str, &str, Status, &str); 17] = [
 ];
 
 // How many rows, from the first on, come out as they say.
-fn rows_obeyed(alloc: Global, rows: &[(&str, &str, Status, &str)]) -> Result<usize, AllocError> {
+pub(crate) fn rows_obeyed(
+    alloc: Global,
+    rows: &[(&str, &str, Status, &str)],
+) -> Result<usize, AllocError> {
     for (place, (problem, exec, status, printed)) in rows.iter().enumerate() {
         if !obeys_so(alloc, problem, exec, *status, printed)? {
             return Ok(place);
@@ -410,11 +413,11 @@ const INTERVALS: [(&str, &str, &str, Status, &str); 16] = [
         CONTRADICTING_CYCLE,
     ),
     (CROSSED, "z", "q", Status::UnknownEvent, "unknown event\n"),
-    ("problem 2\n", "p", "q", Status::BadProblem, "problem 1 1\n"),
+    ("problem 3\n", "p", "q", Status::BadProblem, "problem 1 1\n"),
 ];
 
 // How many rows, from the first on, come out as they say.
-fn rows_ended(
+pub(crate) fn rows_ended(
     alloc: Global,
     rows: &[(&str, &str, &str, Status, &str)],
 ) -> Result<usize, AllocError> {
@@ -507,7 +510,7 @@ const FAULTS_BEHIND_CLOCKS: [(&str, &str); 4] = [
 ];
 
 // How many rows, from the first on, come out as they say.
-fn rows_refused(alloc: Global, rows: &[(&str, &str)]) -> Result<usize, AllocError> {
+pub(crate) fn rows_refused(alloc: Global, rows: &[(&str, &str)]) -> Result<usize, AllocError> {
     for (place, (text, printed)) in rows.iter().enumerate() {
         if !refused_so(alloc, text.as_bytes(), printed)? {
             return Ok(place);

@@ -64,7 +64,11 @@ fn verifies_so(
 }
 
 // Prints what `solve` finds of a problem.
-fn solve_into(alloc: Global, problem: &str, out: &mut MemSink) -> Result<(), AllocError> {
+pub(crate) fn solve_into(
+    alloc: Global,
+    problem: &str,
+    out: &mut MemSink,
+) -> Result<(), AllocError> {
     let mut files = MemFiles::new(alloc, &[])?;
     files.put("p", problem.as_bytes())?;
     run_over(alloc, &["solve", "p"], &mut files, b"", &[], out)?;
@@ -80,7 +84,7 @@ fn solution_holds(alloc: Global, problem: &str) -> Result<bool, AllocError> {
 
 // How many rows, from the first on, come out as they say. A row has a problem, a certificate, what is changed in it, and
 // what is printed.
-fn rows_verified(
+pub(crate) fn rows_verified(
     alloc: Global,
     rows: &[(&str, &str, &str, &str, &str)],
     status: Status,

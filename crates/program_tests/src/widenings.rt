@@ -147,7 +147,7 @@ fn what_is_not_there_is_not_widened(rt: HostRuntime) -> Result<(), Fail> {
         ends_so(
             alloc,
             &["widen", "p"],
-            "problem 2\n",
+            "problem 3\n",
             Status::BadProblem,
             "problem 1 1\n"
         )?

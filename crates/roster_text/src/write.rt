@@ -55,7 +55,7 @@ fn write_text<O: Sink>(roster: &Roster, out: &mut O) -> Result<(), Failed>
     requires { HasPartners roster.now }
     ensures { Writes (roster_text roster.now) (O.told out.old) (O.told out.new) result }
 {
-    write_head(out)?;
+    write_head(1, out)?;
     write_clocks(roster.decl(), out)?;
     write_events(roster, out)?;
     write_messages(roster, out)?;

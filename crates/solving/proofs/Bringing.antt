@@ -223,7 +223,7 @@ module _ (p : ProblemLists) (readings : List Reading) (lawful : IsProblem p) (ar
   come_all others are' = subst (λ (rs : List Reading). NodesCome p rs [] s) (readings_one p readings others are are') come
 
 pub few_enough : (p : ProblemLists) (readings : List Reading) (ranked : List Ranked) → IsProblem p → AreReadings p readings
-    → AreItems p readings (length readings - 1) (length p.events) (length p.messages) (items_of ranked) → length ranked + length ranked ≤ most_arcs
+    → AreItems p readings (length readings - 1) (length p.clocks) (length p.events) (length p.messages) (items_of ranked) → length ranked + length ranked ≤ most_arcs
 few_enough p readings ranked lawful are items =
     let same : length (items_of ranked) ≡ length ranked = length-map ranked (λ (r : Ranked). r.item) in
-    omega (arith, same, items.few, few_readings p readings are, lawful.fits.event_limit, lawful.fits.message_limit)
+    omega (arith, same, items.few, few_readings p readings are, lawful.fits.clock_limit, lawful.fits.event_limit, lawful.fits.message_limit)

@@ -9,11 +9,12 @@ use Rattle.problem_model.specs.declared.items.Event.{Event}
 use Rattle.problem_model.specs.declared.items.Message.{Message}
 use Rattle.problem_model.specs.declared.items.Node.TheVariants as nodes
 use Rattle.problem_model.specs.declared.items.Bound.{Bound}
-use Rattle.problem_model.specs.declared.items.Bound.TheVariants.{SpanMost, SpanLeast, Late, Early, DelayMost, DelayLeast}
+use Rattle.problem_model.specs.declared.items.Bound.TheVariants.{SpanMost, SpanLeast, Late, Early, Follow, DelayMost, DelayLeast}
 use Rattle.problem_model.specs.Problem.{ProblemLists, IsProblem}
 use Rattle.problem_model.specs.Bounds.{Constraint, Declares, ClockAt, EventAt, IsReading}
 use Rattle.problem_model.specs.ShortList.{neighbour_bounds}
 use Rattle.problem_model.specs.Nodes.{Reading, ComesBefore, AreReadings, nodes_of}
+use Rattle.problem.specs.Nearest.{gap_between}
 use Rattle.problem_model.proofs.OneList.{readings_one}
 use Rattle.problem_model.proofs.Places.{event_stands, reading_stands}
 use Rattle.problem_model.proofs.Walking.{clock_there, neighbours_are}
@@ -97,6 +98,14 @@ module _ (p : ProblemLists) (readings : List Reading) (are : AreReadings p readi
     early_declared name from to weighs =
         declared_by a (Early e) (record { from = nodes.Event e; to = nodes.Reading v.clock v.stamp; weight = pos (c.early * 1000000000) })
         (v, c, there, at, refl) name (at_event a.from from) (at_reading a.to to) weighs
+
+  -- ---- follows
+  module _ (c s d t gap k l : ℕ) (declares : Declares p (Follow c s d t) (gap_between c s d t gap)) (first : slice_get readings k ≡ Some (c, s)) (second : slice_get readings l ≡ Some (d, t)) (a : Arc) where
+    pub follow_declared : a.name ≡ Follow c s d t → a.from ≡ length p.events + l → a.to ≡ length p.events + k → a.weight ≡ neg_ℤ (pos (gap * 1000000000)) → IsDeclaredArc p a
+    follow_declared name from to weighs =
+        declared_by a (Follow c s d t) (gap_between c s d t gap) declares name
+        (ap (slice_get (nodes_of p readings)) from ∙ reading_stands p readings l (d, t) second)
+        (ap (slice_get (nodes_of p readings)) to ∙ reading_stands p readings k (c, s) first) weighs
 
   -- ---- delays
   module _ (lawful : IsProblem p) (m : Message) (has : Contains p.messages m) (a : Arc) where

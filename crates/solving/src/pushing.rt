@@ -2,8 +2,10 @@
 ghost use Rattle.std.specs.Prelude.{◌≡◌, ◌+◌, ◌<◌, ◌≤◌, ◌^◌, [], ◌∷◌, List, Some, All, Contains, length, slice_get, OnOk};
 ghost use Rattle.std.specs.List.{flat_map};
 ghost use Rattle.problem_model.specs.Nodes.{Reading, AreReadings, nodes_of};
-ghost use Rattle.problem_model.specs.Bounds.{EventAt};
+ghost use Rattle.problem_model.specs.Bounds.{EventAt, Declares};
+ghost use Rattle.problem.specs.Nearest.{gap_between};
 ghost use Rattle.problem_model.specs.ShortList.{most_bound, message_bounds};
+ghost use Rattle.problem_model.specs.declared.items.Bound.TheVariants as bounds;
 ghost use Rattle.problem_model.specs.declared.items.Bound.TheVariants.{Late, Early, DelayLeast};
 ghost use Rattle.sync_graph.specs.Graph.{most_arcs};
 ghost use Rattle.engine.specs.Current.{IsCurrent};
@@ -11,10 +13,10 @@ ghost use Rattle.solving.specs.declared.items.Item.TheVariants as items;
 ghost use Rattle.solving.specs.Items.{IsItem, bounds_of, items_of, reading_at};
 ghost use Rattle.solving.specs.Pushing.{HasNodesOf, IsDeclaredArc, AddsBounds, NodesCome, arc_of};
 
-use crate::items::{Item, Ranked, reading_of};
+use crate::items::{Item, Ranked, place_of, reading_of};
 use atto::{Nano, Steps, delay_units, span_least, span_most};
 use engine::Solver;
-use problem::Problem;
+use problem::{NearestFollow, Problem};
 use problem_model::{Bound, Event, Message, Node};
 use std::alloc::{AllocError, Global};
 use std::sync::ledger::Ledger;
@@ -93,6 +95,53 @@ fn push_span<L: Ledger>(
     };
     let weight = -span_least(clock.rate, a.1, b.1);
     push_bound(s, p, least, first + 1, first, weight, steps)
+}
+
+// Brings in the bound between a reading of one clock and one of a clock that comes after it.
+fn push_between<L: Ledger>(
+    s: &mut Solver,
+    p: &Problem,
+    later: u32,
+    f: &NearestFollow,
+    steps: &mut Steps<L>,
+) -> Result<(), AllocError>
+    requires current { IsCurrent s.old }
+    requires nodes { HasNodesOf p.now s.old }
+    requires declared { Declares p.now (bounds.Follow f.now.earlier f.now.s later f.now.t) (gap_between f.now.earlier f.now.s later f.now.t f.now.gap) }
+    requires few { length s.old.graph.arcs < most_arcs }
+    ensures { OnOk result (AddsBounds p.now (bounds.Follow f.now.earlier f.now.s later f.now.t ∷ []) s.old s.new) }
+{
+    let first = place_of(p, f.earlier, f.s);
+    let second = place_of(p, later, f.t);
+    let name = Bound::Follow {
+        earlier: f.earlier,
+        s: f.s,
+        later,
+        t: f.t,
+    };
+    let from = node_of_reading(p, second);
+    let to = node_of_reading(p, first);
+    let weight = -delay_units(f.gap);
+    push_bound(s, p, name, from, to, weight, steps)
+}
+
+// Brings in the bound of the follow that leads to the clock at a place, where there is one.
+fn push_follow<L: Ledger>(
+    s: &mut Solver,
+    p: &Problem,
+    place: u32,
+    steps: &mut Steps<L>,
+) -> Result<(), AllocError>
+    requires current { IsCurrent s.old }
+    requires nodes { HasNodesOf p.now s.old }
+    requires inside { place < length p.now.clocks }
+    requires few { length s.old.graph.arcs < most_arcs }
+    ensures { OnOk result ((readings : List Reading) → AreReadings p.now readings → AddsBounds p.now (bounds_of p.now readings (items.Follow place)) s.old s.new) }
+{
+    match p.nearest_follow(place) {
+        Some(f) => push_between(s, p, place, &f, steps),
+        None => Ok(()),
+    }
 }
 
 // Brings in both bounds on the stamp of the event at a place, whose reading is at this place.
@@ -202,6 +251,7 @@ fn push_item<L: Ledger>(
             let (a, b) = (readings[k as usize], readings[k as usize + 1]);
             push_span(s, p, readings, k, a, b, steps)
         }
+        Item::Follow(clock) => push_follow(s, p, clock, steps),
         Item::Event(e) => {
             let event = &p.events()[e as usize];
             push_event(s, p, e, event, reading_of(p, event), steps)

@@ -11,6 +11,7 @@ pub mod Keyed
 pub mod OneMore
 pub mod Rooms
 pub mod Numbering
+pub mod Follows
 pub mod Ends
 pub mod Nearest
 pub mod BoundEnds

@@ -2,7 +2,7 @@
 ghost use Rattle.std.specs.Prelude.{◌≡◌, ℕ, ◌<◌, ◌+◌, ◌^◌, ◌++◌, ◌∷◌, [], length, true, false, slice_get, slice_set, slice_index_or, Some, IfSome, IfNone, OnOk, OnErr, IfOk};
 ghost use Rattle.difference_bounds.specs.Sums.{sum_to};
 ghost use Rattle.sync_graph.specs.Lists.{list_at};
-ghost use Rattle.sync_graph.specs.Neighbours.{IsNearestBelow, IsNearestAbove};
+ghost use Rattle.sync_graph.specs.Neighbours.{IsNearestBelow, IsNearestAbove, IsFirstReading, IsLastReading, HasNoReading};
 ghost use Rattle.sync_graph.specs.Names.{IsNamed};
 ghost use Rattle.sync_graph.specs.Graph.{GraphLists, IsGraph, IsSound, most_nodes, most_arcs, arc_at, no_graph, with_node, with_arc, departing, reaching, arcs_in_force};
 
@@ -283,6 +283,18 @@ impl Graph {
         ensures { IsNearestAbove self.now.nodes clock stamp result }
     {
         self.numbers.above(clock, stamp)
+    }
+
+    /// The nodes of a clock's first and last reading, and None exactly where no node is a reading of it. It takes no
+    /// memory.
+    pub fn ends_of(&self, clock: u32) -> Option<(u32, u32)>
+        ensures first { IfSome result (λ ends. IsFirstReading self.now.nodes clock ends.0) }
+        ensures last { IfSome result (λ ends. IsLastReading self.now.nodes clock ends.1) }
+        ensures none { IfNone result (HasNoReading self.now.nodes clock) }
+    {
+        let first = self.numbers.first(clock)?;
+        let last = self.numbers.last(clock)?;
+        Some((first, last))
     }
 
     /// The number of one of the arcs in force that leave a node, the `k`-th of its list from 0 on; None exactly behind

@@ -111,7 +111,7 @@ fn is_written_by_lines(alloc: Global, text: &str) -> Option<bool> {
     let sent = Name::new(b"a#1")?;
     let received = Name::new(b"a#2")?;
     let mut out = sink(alloc, 7, &[])?;
-    write_head(&mut out).ok()?;
+    write_head(1, &mut out).ok()?;
     write_items(&sent, &received, &mut out)?;
     write_end(&mut out).ok()?;
     Some(out.bytes() == text.as_bytes())

@@ -1,9 +1,13 @@
-use crate::fixtures::TWO_LOGS_PROBLEM;
 use atto::{Nano, Rate};
 use problem::{Clock, Event, Listing, Message, Name, Problem, ProblemError, read_problem};
 use std::alloc::Global;
 use std::process::Abort;
 use std::test::*;
+
+// Two clocks without error, and a message each way with 10 to 20 ns of delay.
+const TWO_LOGS_PROBLEM: &str =
+    "problem 1\nclock a 0 0 0 0\nclock b 0 0 0 0\nevent a#1 a 100\nevent a#2 a 180\nevent b#1 b 250\nevent b#2 b 300\n\
+    message a#1 b#1 10 20\nmessage b#2 a#2 10 20\nend\n";
 
 // The fault of a text, if it has one.
 fn fault_of(rt: &HostRuntime, text: &str) -> Option<ProblemError> {

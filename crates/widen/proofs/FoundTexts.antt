@@ -40,6 +40,7 @@ use Rattle.widen.specs.WideningText.{widening_head, least_words, cycle_lines, wi
 use Rattle.widen.specs.ReadsWidening.{FitsCycle, FitsWidening, IsWideningTextOf}
 use Rattle.widen.specs.JudgedText.{JudgesText}
 use Rattle.widen.specs.Found.{IsRunAt, IsCycleAt, IsFoundBelow, FindsWidening}
+use Rattle.widen.proofs.Solved.{wider}
 use Rattle.widen.proofs.Rising.{unwidened, shown_least, shown_never}
 use Rattle.widen.proofs.Readable.{read_again}
 
@@ -110,11 +111,11 @@ module _ (p : ProblemLists) (readings : List Reading) (lawful : IsProblem p) (ar
   cycle_fits extra (Some cycle) found = steps_fit (extra - 1) cycle found.1
 
   fits : (w : Widening) → FindsWidening p w → FitsWidening w
-  fits (Least extra execution cycle) found = (found.0, values_fit execution found.1.small, cycle_fits extra cycle found.2)
+  fits (Least extra execution cycle) found = (found.0, values_fit execution (wider execution found.1.small), cycle_fits extra cycle found.2)
   fits (Never cycle) found = steps_fit most_extra cycle found
 
-  -- of the 2 ^ 21 nodes at most each has a line of 100 bytes at most, and each step one of 149
-  steps_text : (e : ℕ) (cycle : List Step) → IsCycleAt p e cycle → length (cycle_lines p (Some cycle)) ≤ 2 ^ 21 * 149 + 6
+  -- of the 2 ^ 22 nodes at most each has a line of 100 bytes at most, and each step one of 149
+  steps_text : (e : ℕ) (cycle : List Step) → IsCycleAt p e cycle → length (cycle_lines p (Some cycle)) ≤ 2 ^ 22 * 149 + 6
   steps_text e cycle found =
       let head : length (line_of (codes "cycle" ∷ [])) ≡ 5 + 1 + 0 = line_size (codes "cycle") [] in
       let lines = steps_short p lawful cycle (steps_back p e cycle found) (weights_up_to cycle found.small) in
@@ -122,7 +123,7 @@ module _ (p : ProblemLists) (readings : List Reading) (lawful : IsProblem p) (ar
       let short = found.short readings are in
       omega (arith, length-append (line_of (codes "cycle" ∷ [])) (flat_map (step_line p) cycle), head, lines, few, short)
 
-  cycle_text : (extra : ℕ) (cycle : Option (List Step)) → IsFoundBelow p extra cycle → length (cycle_lines p cycle) ≤ 2 ^ 21 * 149 + 6
+  cycle_text : (extra : ℕ) (cycle : Option (List Step)) → IsFoundBelow p extra cycle → length (cycle_lines p cycle) ≤ 2 ^ 22 * 149 + 6
   cycle_text extra None found = omega arith
   cycle_text extra (Some cycle) found = steps_text (extra - 1) cycle found.1
 
@@ -132,9 +133,9 @@ module _ (p : ProblemLists) (readings : List Reading) (lawful : IsProblem p) (ar
       let digits = length-decimal_of-le 19 extra (omega arith) (let below : 2 ^ 62 ≤ 10 ^ 19 = omega arith in omega (arith, within)) in
       omega (arith, size, digits)
 
-  lines_short : (w : Widening) → FindsWidening p w → length (widening_lines p (nodes_of p readings) w) ≤ 2 ^ 21 * 249 + 32
+  lines_short : (w : Widening) → FindsWidening p w → length (widening_lines p (nodes_of p readings) w) ≤ 2 ^ 22 * 249 + 32
   lines_short (Least extra execution cycle) found =
-      let values = values_short p lawful readings execution are (values_up_to execution found.1.small) in
+      let values = values_short p lawful readings execution are (values_up_to execution (wider execution found.1.small)) in
       let few = few_nodes p readings lawful are in
       omega (arith, three (line_of (least_words (Some extra))) (value_lines p (nodes_of p readings) execution) (cycle_lines p cycle), least_line_short extra found.0, values, few, cycle_text extra cycle found.2)
   lines_short (Never cycle) found =

@@ -7,13 +7,12 @@ use Rattle.std.proofs.lemmas.List.Elements.{All-nil, All-cons, All-map}
 use Rattle.problem_model.specs.declared.items.Node.{Node}
 use Rattle.problem_model.specs.Problem.{ProblemLists, IsProblem}
 use Rattle.problem_model.specs.Bounds.{Constraint, Declares}
-use Rattle.problem_model.specs.Nodes.{Reading, AreReadings}
+use Rattle.problem_model.specs.Nodes.{Reading, AreReadings, most_nodes}
 use Rattle.problem.proofs.ListedNodes.{few_nodes}
 use Rattle.difference_bounds.specs.Numbers.{IsUpTo}
 use Rattle.difference_bounds.specs.Solutions.{WeighedBound, Leads, weight_of, IsContradictionOf}
 use Rattle.sync_graph.specs.declared.arc.Arc.{Arc}
 use Rattle.cert.specs.declared.chain.Step.{Step}
-use Rattle.cert.specs.Sizes.{most_steps}
 use Rattle.cert.specs.Shows.{weighed_bounds}
 use Rattle.cert_check.specs.Widened.{widened}
 use Rattle.attain.specs.Tight.{IsUnder}
@@ -44,7 +43,7 @@ module _ (p : ProblemLists) (e : ℕ) (arcs : List Arc) (lawful : IsProblem p) (
   pub lacks : (n : ℕ) × (weight_of (weighed_arcs arcs) ≡ neg_ℤ (pos n)) × (0 < n)
   lacks = negative_is (weight_of (weighed_arcs arcs)) found.contradiction.negative
 
-  pub few_arcs : (readings : List Reading) → AreReadings p readings → length arcs ≤ most_steps
+  pub few_arcs : (readings : List Reading) → AreReadings p readings → length arcs ≤ most_nodes
   few_arcs readings are = let few = few_nodes p readings lawful are in let short = found.short readings are in omega (arith, few, short)
 
   pub weights_up : All (λ a. IsUpTo 93 a.weight) arcs

@@ -7,7 +7,7 @@ use Rattle.line_format.specs.Words.{words}
 use Rattle.line_format.specs.Cut.{Lacks}
 use Rattle.line_format.proofs.Lacking.{lacks_test, words_lack}
 use Rattle.cert.specs.CertificateFormat.{CertLine, NamedBound}
-use Rattle.cert.specs.CertificateFormat.NamedBound.{Span, Stamp, Delay}
+use Rattle.cert.specs.CertificateFormat.NamedBound.{Span, Stamp, Follow, Delay}
 use Rattle.cert.specs.ExecutionFormat.{ExecutionLine}
 use Rattle.cert.specs.ExecutionFormat.ExecutionLine.{EventLine, ReadingLine, EndLine}
 use Rattle.cert.proofs.Forms.{line_lacks, one_line}
@@ -64,6 +64,7 @@ not_step : (extra : Option ℕ) (n : NamedBound) (z : ℤ) → words (least_word
 unfolding first_byte
 not_step extra (Span e clock s t) z is = let h = ap first_byte is in omega (arith, h)
 not_step extra (Stamp k event) z is = let h = ap first_byte is in omega (arith, h)
+not_step extra (Follow earlier s later t) z is = let h = ap first_byte is in omega (arith, h)
 not_step extra (Delay e send receive) z is = let h = ap first_byte is in omega (arith, h)
 
 not_node : (extra : Option ℕ) (l : ExecutionLine) → words (least_words extra) ≡ words (line_words (NodeLine l)) → ⊥

@@ -54,6 +54,12 @@ module _ (p : ProblemLists) (g : GraphLists) (formed : IsWellFormed p) (is : IsG
       (found.0, (readings, are, found.1), (same_earliest p readings (map unnamed g.arcs) are stands found.0 values found.1).0 own)
 
 -- values of an earliest execution are small
+pub wider : (values : List ℤ) → All (IsUnder 116) values → All (IsUnder 117) values
+wider values small k d inside =
+    let low = (small k d inside).0 in
+    let high = (small k d inside).1 in
+    (omega (arith, ints, low), omega (arith, ints, high))
+
 module _ (g : GraphLists) (is : IsGraph g) (values : List ℤ) (e : IsEarliestOf g values) where
   not_below : All (λ a. neg_ℤ (pos (2 ^ 93)) ≤ℤ a.weight) (arcs_of g)
   not_below k d inside =
@@ -74,7 +80,7 @@ module _ (g : GraphLists) (is : IsGraph g) (values : List ℤ) (e : IsEarliestOf
       (earliest_height (length g.nodes) (arcs_of g) values (2 ^ 93) (arcs_within g is) not_below e k (omega (arith, inside, e.execution.one_each))))
 
   pub values_small : All (IsUpTo 117) values
-  values_small = values_up_to values values_under
+  values_small = values_up_to values (wider values values_under)
 
 -- ---- a negative cycle
 abbrev named : Arc → NamedArc

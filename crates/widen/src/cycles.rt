@@ -1,8 +1,8 @@
 // A contradiction, and how far a problem may be widened until it is none any more.
 ghost use Rattle.std.specs.Prelude.{◌≡◌, ◌≤◌, ◌<◌, ◌^◌, ◌*◌, ◌+◌, ◌+ℤ◌, ℕ, length, map, pos, neg_ℤ, unsigned_abs, All, IfOk};
+ghost use Rattle.problem_model.specs.Nodes.{most_nodes};
 ghost use Rattle.difference_bounds.specs.Numbers.{IsUpTo};
 ghost use Rattle.difference_bounds.specs.Solutions.{weight_of};
-ghost use Rattle.cert.specs.Sizes.{most_steps};
 ghost use Rattle.widen.specs.Least.{most_extra};
 ghost use Rattle.widen.specs.Raised.{one_delay, delays_of, rise_of, raised_step, weighed_arcs};
 
@@ -34,9 +34,9 @@ fn one_delay(name: &Bound) -> u64
 
 // How many of the arcs are greatest delays.
 fn delays_of(arcs: &[Arc]) -> u64
-    requires { length arcs.now ≤ most_steps }
+    requires { length arcs.now ≤ most_nodes }
     ensures value { result ≡ delays_of (weighed_arcs arcs.now) }
-    ensures few { result ≤ most_steps }
+    ensures few { result ≤ most_nodes }
 {
     let mut delays = 0;
     for arc in arcs {
@@ -47,7 +47,7 @@ fn delays_of(arcs: &[Arc]) -> u64
 
 // The sum of the weights, in units of 1e-9 ns.
 fn sum_of(arcs: &[Arc]) -> i128
-    requires few { length arcs.now ≤ most_steps }
+    requires few { length arcs.now ≤ most_nodes }
     requires small { All (λ a. IsUpTo 93 a.weight) arcs.now }
     ensures value { result ≡ weight_of (weighed_arcs arcs.now) }
     ensures small { unsigned_abs result ≤ 2 ^ 115 }
@@ -62,7 +62,7 @@ fn sum_of(arcs: &[Arc]) -> i128
 // The greatest rise up to a limit, in ns, with which so many greatest delays don't make up for what a sum lacks, in units.
 fn rise_below(lacks: u128, delays: u64, limit: u64) -> u64
     requires some { 0 < lacks }
-    requires few { delays ≤ most_steps }
+    requires few { delays ≤ most_nodes }
     ensures limit { result ≤ limit }
     ensures below { delays * (result * 1000000000) < lacks }
 {
@@ -107,7 +107,7 @@ fn raised_step(a: &Arc, rise: u64) -> Step
 /// The steps of arcs, each with the weight that its bound has where the problem is widened by so much more.
 pub fn raised_chain(alloc: Global, arcs: &[Arc], rise: u64) -> Result<Chain, AllocError>
     requires rise { rise < 2 ^ 62 }
-    requires few { length arcs.now ≤ most_steps }
+    requires few { length arcs.now ≤ most_nodes }
     requires weights { All (λ a. IsUpTo 93 a.weight) arcs.now }
     requires small { All (λ a. IsUpTo 93 (a.weight +ℤ pos (rise_of rise a.name))) arcs.now }
     ensures { IfOk result (λ cycle. cycle ≡ map (raised_step rise) arcs.now) }
@@ -123,7 +123,7 @@ pub fn raised_chain(alloc: Global, arcs: &[Arc], rise: u64) -> Result<Chain, All
 /// widened by at most 2^62 - 1 ns.
 pub fn last_rise(arcs: &[Arc], extra: u64) -> u64
     requires extra { extra ≤ most_extra }
-    requires few { length arcs.now ≤ most_steps }
+    requires few { length arcs.now ≤ most_nodes }
     requires small { All (λ a. IsUpTo 93 a.weight) arcs.now }
     requires lacks { (n : ℕ) × (weight_of (weighed_arcs arcs.now) ≡ neg_ℤ (pos n)) × (0 < n) }
     ensures limit { extra + result ≤ most_extra }

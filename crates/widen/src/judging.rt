@@ -89,7 +89,7 @@ fn judge_least(p: &Problem, extra: Nano, execution: &Execution, cycle: &Option<C
 /// breaks, as part `Run`, where each greatest delay of a message is as much greater as it says; then, as part `Cycle`, what
 /// is wrong with its cycle, by the weights that bounds have where each greatest delay is 1 ns less than that, or by those
 /// of the greatest widening. What is written as weights is compared and not used. No solver is asked. Sums that it tells are
-/// below 2^115 in absolute value, weights below 2^93, differences at most 2^121. It takes no memory.
+/// below 2^116 in absolute value, weights below 2^93, differences at most 2^121. It takes no memory.
 pub fn judge(p: &Problem, w: &Widening) -> Answer
     requires { IsWideningOf p.now w.now }
     ensures judged { IsJudged p.now w.now result }

@@ -304,7 +304,7 @@ fn read_text(alloc: Global, p: &Problem, text: &[u8]) -> Result<Widening, CertEr
 /// of the forms that may stand there, which a cycle does behind `least none` and, behind the real times of all nodes, where
 /// the widening is above 0; else `Name` where a name is not the one that stands there or not the problem's; else `Range`
 /// where a real time or a weight is past 2^120 units in absolute value, or the widening 2^62 ns or more; else `Limit` behind
-/// 2^22 steps. `Long` comes beyond 2^30 bytes, and `Memory` only where memory runs out.
+/// 2^23 steps. `Long` comes beyond 2^31 bytes, and `Memory` only where memory runs out.
 pub fn read_widening(alloc: Global, p: &Problem, text: &[u8]) -> Result<Widening, CertError>
     ensures { ReadsWidening p.now text.now result }
 {

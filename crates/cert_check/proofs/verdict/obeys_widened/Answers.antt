@@ -1,7 +1,7 @@
 use Rattle.std.proofs.Common.{◌++◌}
-use Rattle.std.specs.List.{flat_map}
-use Rattle.problem_model.specs.ShortList.{span_bounds, event_bounds, message_bounds}
+use Rattle.problem_model.specs.ShortList.{span_bounds, event_bounds}
 use Rattle.cert_check.specs.declared.verdict.Verdict.TheVariants as verdicts
+use Rattle.cert_check.specs.Reasons.{joining_bounds}
 use Rattle.cert_check.specs.Verdict.{AreTimes}
 use Rattle.cert_check.proofs.Judging.{judges_on, judges_first}
 use Rattle.cert_check.specs.Widened.{widened}
@@ -17,10 +17,10 @@ returns-in-Obeys-judge_stamps-clause-verdict c = λ x lists.
     let times : AreTimes p x readings c.args.e.now = record { are_readings = lists.1; listed = lists.2 } in
     let spans = span_bounds readings in
     let stamps = event_bounds 0 p.events in
-    widened_verdict p e x readings c.judge_messages.result c.events.ensures.lawful.formed lists.1
-    (judges_on q x (spans ++ stamps) (flat_map message_bounds p.messages) c.judge_messages.result
+    widened_verdict p e x readings c.judge_joining.result c.events.ensures.lawful.formed lists.1
+    (judges_on q x (spans ++ stamps) (joining_bounds p readings) c.judge_joining.result
     (judges_on q x spans stamps verdicts.Obeys (rw c.in-Obeys.is at (c.judge_spans.ensures.verdict e x readings times)) (rw c.in-Obeys-judge_stamps.is at (c.judge_stamps.ensures.verdict e x readings times)))
-    (c.judge_messages.ensures.verdict x readings times))
+    (c.judge_joining.ensures.verdict x readings times))
 
 pub returns-in_default-judge_stamps-clause-verdict : goal.returns-in_default-judge_stamps-clause-verdict
 returns-in_default-judge_stamps-clause-verdict c = λ x lists.
@@ -32,7 +32,7 @@ returns-in_default-judge_stamps-clause-verdict c = λ x lists.
     let spans = span_bounds readings in
     let stamps = event_bounds 0 p.events in
     widened_verdict p e x readings c.judge_stamps.result c.events.ensures.lawful.formed lists.1
-    (judges_first q x (spans ++ stamps) (flat_map message_bounds p.messages) c.judge_stamps.result c.in_default-judge_stamps.not-Obeys
+    (judges_first q x (spans ++ stamps) (joining_bounds p readings) c.judge_stamps.result c.in_default-judge_stamps.not-Obeys
     (judges_on q x spans stamps c.judge_stamps.result (rw c.in-Obeys.is at (c.judge_spans.ensures.verdict e x readings times)) (c.judge_stamps.ensures.verdict e x readings times)))
 
 pub returns-in_default-clause-verdict : goal.returns-in_default-clause-verdict
@@ -45,5 +45,5 @@ returns-in_default-clause-verdict c = λ x lists.
     let spans = span_bounds readings in
     let stamps = event_bounds 0 p.events in
     widened_verdict p e x readings c.judge_spans.result c.events.ensures.lawful.formed lists.1
-    (judges_first q x (spans ++ stamps) (flat_map message_bounds p.messages) c.judge_spans.result c.in_default.not-Obeys
+    (judges_first q x (spans ++ stamps) (joining_bounds p readings) c.judge_spans.result c.in_default.not-Obeys
     (judges_first q x spans stamps c.judge_spans.result c.in_default.not-Obeys (c.judge_spans.ensures.verdict e x readings times)))

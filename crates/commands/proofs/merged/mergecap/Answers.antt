@@ -5,6 +5,7 @@ use Rattle.commands.specs.Printing.{IsOnly, Prints}
 use Rattle.commands.specs.declared.status.Status.TheVariants as statuses
 use Rattle.decl.specs.Declaration.{declaration_of}
 use Rattle.mergecap.specs.Packets.{all_timed}
+use Rattle.mergecap.specs.Reading.{IsReadBack}
 use Rattle.commands.proofs.MergedScripts.{merged_printed, unmerged_printed, undeclared_printed}
 use Rattle.commands.proofs.merged.mergecap.Goals as goal
 
@@ -18,7 +19,8 @@ returns-in-Ok-merge_script-clause-merged g c =
     merged_printed (declaration_of c.in-Ok.decl) (g.F.Files.told c.args.files.now) (g.F.Files.told c.decl_in.new.files) (g.F.Files.told c.merge_script.new.files)
     (g.I.Source.told c.args.input.now) (g.I.Source.told c.merge_script.new.input) c.in-Ok.ensures.keeps c.args.decl.now c.in-Ok.ensures.ok (g.O.Sink.told c.args.out.now) (g.O.Sink.told c.print.new.out)
     c.print.result (all_timed c.in-Ok-merge_script.ordered.items) c.in-Ok-merge_script.ensures.ok c.in-Ok-merge_script.ensures.writable c.in-Ok-merge_script.ensures.short
-    (subst (λ (xs : List Stored). Prints (IsOnly (merged_capture (all_timed xs)) statuses.Done) (g.O.Sink.told c.args.out.now) (g.O.Sink.told c.print.new.out) c.print.result) c.deref.ensures.value c.print.ensures)
+    (subst (λ (xs : List Stored). IsReadBack (all_timed xs)) c.deref.ensures.value c.print.ensures.read_back)
+    (subst (λ (xs : List Stored). Prints (IsOnly (merged_capture (all_timed xs)) statuses.Done) (g.O.Sink.told c.args.out.now) (g.O.Sink.told c.print.new.out) c.print.result) c.deref.ensures.value c.print.ensures.prints)
 
 pub returns-in-Err-merge_script-clause-merged : goal.returns-in-Err-merge_script-clause-merged
 returns-in-Err-merge_script-clause-merged g c =

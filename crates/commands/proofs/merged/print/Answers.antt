@@ -6,12 +6,12 @@ use Rattle.commands.specs.declared.status.Status.TheVariants.{Done}
 use Rattle.commands.proofs.Printing.{written_prints, failed_prints}
 use Rattle.commands.proofs.merged.print.Goals as goal
 
-pub returns-in-Ok : goal.returns-in-Ok
-returns-in-Ok g c =
+pub returns-in-Ok-clause-prints : goal.returns-in-Ok-clause-prints
+returns-in-Ok-clause-prints g c =
     let text = merged_capture (all_timed c.args.ordered.now) in
-    written_prints (IsOnly text Done) text Done _ _ (refl, refl) c.in-Ok.ensures
+    written_prints (IsOnly text Done) text Done _ _ (refl, refl) c.in-Ok.ensures.written
 
-pub returns-in-Err : goal.returns-in-Err
-returns-in-Err g c =
+pub returns-in-Err-clause-prints : goal.returns-in-Err-clause-prints
+returns-in-Err-clause-prints g c =
     let text = merged_capture (all_timed c.args.ordered.now) in
-    failed_prints (IsOnly text Done) text Done _ _ (refl, refl) c.in-Err.ensures
+    failed_prints (IsOnly text Done) text Done _ _ (refl, refl) c.in-Err.ensures.written

@@ -342,25 +342,25 @@ pub returns-in-Trial-clause-judge : goal.returns-in-Trial-clause-judge
 returns-in-Trial-clause-judge g c = λ problem widening is. absurd (other_length c.args.words.now 2 3 (trial_two c.args.words.now c.in-Trial.number c.in-Trial.ensures.1) (judge_three c.args.words.now problem widening is) (λ e. omega (arith, e)))
 
 pub returns-in-Obey-clause-complete : goal.returns-in-Obey-clause-complete
-returns-in-Obey-clause-complete g c = λ lawful none. let is = c.in-Obey.ensures.2 in obey_answered
+returns-in-Obey-clause-complete g c = λ lawful none. let is = c.in-Obey.ensures.2 in obey_answered (record { one = c.problem_answers_are_one.ensures.one; found = c.problem_answers_are_one.ensures.found })
     (devices (g.F.Files.told c.args.files.now) (g.I.Source.told c.args.input.now) (g.O.Sink.told c.args.out.now))
     (devices (g.F.Files.told c.obey.new.files) (g.I.Source.told c.args.input.now) (g.O.Sink.told c.obey.new.out))
     none _ _ _ (lawful.obey _ _ is) (returns-in-Obey-clause-obey g c _ _ is)
 
 pub returns-in-Solve-clause-complete : goal.returns-in-Solve-clause-complete
-returns-in-Solve-clause-complete g c = λ lawful none. let is = c.in-Solve.ensures.1 in solve_answered
+returns-in-Solve-clause-complete g c = λ lawful none. let is = c.in-Solve.ensures.1 in solve_answered (record { one = c.problem_answers_are_one.ensures.one; found = c.problem_answers_are_one.ensures.found })
     (devices (g.F.Files.told c.args.files.now) (g.I.Source.told c.args.input.now) (g.O.Sink.told c.args.out.now))
     (devices (g.F.Files.told c.solve.new.files) (g.I.Source.told c.args.input.now) (g.O.Sink.told c.solve.new.out))
     none _ _ (lawful.solve _ is) (returns-in-Solve-clause-solve g c _ is)
 
 pub returns-in-Ends-clause-complete : goal.returns-in-Ends-clause-complete
-returns-in-Ends-clause-complete g c = λ lawful none. let is = c.in-Ends.ensures.3 in ends_answered
+returns-in-Ends-clause-complete g c = λ lawful none. let is = c.in-Ends.ensures.3 in ends_answered (record { one = c.problem_answers_are_one.ensures.one; found = c.problem_answers_are_one.ensures.found })
     (devices (g.F.Files.told c.args.files.now) (g.I.Source.told c.args.input.now) (g.O.Sink.told c.args.out.now))
     (devices (g.F.Files.told c.ends.new.files) (g.I.Source.told c.args.input.now) (g.O.Sink.told c.ends.new.out))
     none _ _ _ _ (lawful.ends _ _ _ is) (returns-in-Ends-clause-ends g c _ _ _ is)
 
 pub returns-in-Verify-clause-complete : goal.returns-in-Verify-clause-complete
-returns-in-Verify-clause-complete g c = λ lawful none. let is = c.in-Verify.ensures.2 in verify_answered
+returns-in-Verify-clause-complete g c = λ lawful none. let is = c.in-Verify.ensures.2 in verify_answered (record { one = c.problem_answers_are_one.ensures.one; found = c.problem_answers_are_one.ensures.found })
     (devices (g.F.Files.told c.args.files.now) (g.I.Source.told c.args.input.now) (g.O.Sink.told c.args.out.now))
     (devices (g.F.Files.told c.verify.new.files) (g.I.Source.told c.args.input.now) (g.O.Sink.told c.verify.new.out))
     none _ _ _ (lawful.verify _ _ is) (returns-in-Verify-clause-verify g c _ _ is)
@@ -378,13 +378,13 @@ returns-in-Trial-clause-complete g c = λ lawful none. trial_answered
     none c.in-Trial.number _ c.trial.ensures
 
 pub returns-in-Widen-clause-complete : goal.returns-in-Widen-clause-complete
-returns-in-Widen-clause-complete g c = λ lawful none. let is = c.in-Widen.ensures.1 in widen_answered
+returns-in-Widen-clause-complete g c = λ lawful none. let is = c.in-Widen.ensures.1 in widen_answered (record { one = c.problem_answers_are_one.ensures.one; found = c.problem_answers_are_one.ensures.found })
     (devices (g.F.Files.told c.args.files.now) (g.I.Source.told c.args.input.now) (g.O.Sink.told c.args.out.now))
     (devices (g.F.Files.told c.widen.new.files) (g.I.Source.told c.args.input.now) (g.O.Sink.told c.widen.new.out))
     none _ _ (lawful.widen _ is) (returns-in-Widen-clause-widen g c _ is)
 
 pub returns-in-Judge-clause-complete : goal.returns-in-Judge-clause-complete
-returns-in-Judge-clause-complete g c = λ lawful none. let is = c.in-Judge.ensures.2 in judge_answered
+returns-in-Judge-clause-complete g c = λ lawful none. let is = c.in-Judge.ensures.2 in judge_answered (record { one = c.problem_answers_are_one.ensures.one; found = c.problem_answers_are_one.ensures.found })
     (devices (g.F.Files.told c.args.files.now) (g.I.Source.told c.args.input.now) (g.O.Sink.told c.args.out.now))
     (devices (g.F.Files.told c.judge.new.files) (g.I.Source.told c.args.input.now) (g.O.Sink.told c.judge.new.out))
     none _ _ _ (lawful.judge _ _ is) (returns-in-Judge-clause-judge g c _ _ is)

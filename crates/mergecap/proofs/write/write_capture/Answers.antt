@@ -7,14 +7,14 @@ use Rattle.mergecap.specs.Packets.{all_timed}
 use Rattle.mergecap.proofs.Records.{all_writable, records_same}
 use Rattle.mergecap.proofs.write.write_capture.Goals as goal
 
-pub returns-in_err-write_whole : goal.returns-in_err-write_whole
-returns-in_err-write_whole g c =
-    writes_failed c.from_residual.ensures.0 (writes_front (flat_map bytes_of (map record_of (all_timed c.args.kept.now))) (writes_as (c.as_slice.ensures.value ∙ c.header.ensures ∙ ap header c.link_of.ensures) c.in_err-write_whole.ensures))
+pub returns-in_err-write_whole-clause-written : goal.returns-in_err-write_whole-clause-written
+returns-in_err-write_whole-clause-written g c =
+    writes_failed c.from_residual.ensures.0 (writes_front (flat_map bytes_of (map record_of (all_timed c.args.kept.now))) (writes_as (c.as_slice.ensures.value ∙ c.header.ensures ∙ ap header c.link_of.ensures.value) c.in_err-write_whole.ensures))
 
 pub write_records-requires : goal.write_records-requires
 write_records-requires g c = all_writable c.args.kept.now c.requires.writable.in_range c.requires.short
 
-pub returns : goal.returns
-returns g c =
-    writes_then (writes_as (c.as_slice.ensures.value ∙ c.header.ensures ∙ ap header c.link_of.ensures) c.in_ok-write_whole.ensures)
+pub returns-clause-written : goal.returns-clause-written
+returns-clause-written g c =
+    writes_then (writes_as (c.as_slice.ensures.value ∙ c.header.ensures ∙ ap header c.link_of.ensures.value) c.in_ok-write_whole.ensures)
     (writes_as (records_same c.args.kept.now) c.write_records.ensures)

@@ -1,10 +1,16 @@
 use Rattle.std.proofs.Common.{◌≡◌, [], rules}
-use Rattle.problem.proofs.Taking.{event_line_err}
+use Rattle.problem.specs.Line.{HasFollow}
+use Rattle.problem.proofs.Taking.{event_line_ok, event_line_err}
 use Rattle.problem.proofs.lines.event_line.Goals as goal
 
-pub returns-in-Err : goal.returns-in-Err
-returns-in-Err c =
+pub returns-in-Ok-clause-taken : goal.returns-in-Ok-clause-taken
+returns-in-Ok-clause-taken c =
     let says = c.in-Some.ensures.some in
-    let made = c.nano_of.ensures says.stamp says.stamp_is in
+    event_line_ok c.args.version c.args.items.now _ _ _ says (c.in-Ok.ensures.taken c.args.version says.stamp (c.nano_of.ensures says.stamp says.stamp_is))
+
+pub returns-in-Err-clause-taken : goal.returns-in-Err-clause-taken
+returns-in-Err-clause-taken c =
+    let says = c.in-Some.ensures.some in
+    let has : HasFollow c.args.version c.args.items.now = search rules in
     let no_messages : c.args.items.now.messages ≡ [] = search rules in
-    event_line_err c.args.items.now _ _ _ says c.in-Err.fault no_messages (c.in-Err.ensures says.stamp made)
+    event_line_err c.args.version c.args.items.now _ _ _ says c.in-Err.fault (has, no_messages) (c.in-Err.ensures.taken c.args.version says.stamp (c.nano_of.ensures says.stamp says.stamp_is))

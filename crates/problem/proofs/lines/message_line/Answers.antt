@@ -1,7 +1,15 @@
-use Rattle.problem.proofs.Taking.{message_line_err}
+use Rattle.std.proofs.Common.{rules}
+use Rattle.problem.specs.Line.{HasFollow}
+use Rattle.problem.proofs.Taking.{message_line_ok, message_line_err}
 use Rattle.problem.proofs.lines.message_line.Goals as goal
 
-pub returns-in-Err : goal.returns-in-Err
-returns-in-Err c =
+pub returns-in-Ok-clause-taken : goal.returns-in-Ok-clause-taken
+returns-in-Ok-clause-taken c =
     let says = c.in-Some.ensures.some in
-    message_line_err c.args.items.now _ _ _ says c.in-Err.fault (c.in-Err.ensures says.least says.most (c.nano_of.ensures says.least says.least_is) (c.most_of.ensures says.most says.most_is))
+    message_line_ok c.args.version c.args.items.now _ _ _ says (c.in-Ok.ensures.taken c.args.version says.least says.most (c.nano_of.ensures says.least says.least_is) (c.most_of.ensures says.most says.most_is))
+
+pub returns-in-Err-clause-taken : goal.returns-in-Err-clause-taken
+returns-in-Err-clause-taken c =
+    let says = c.in-Some.ensures.some in
+    let has : HasFollow c.args.version c.args.items.now = search rules in
+    message_line_err c.args.version c.args.items.now _ _ _ says c.in-Err.fault has (c.in-Err.ensures.taken c.args.version says.least says.most (c.nano_of.ensures says.least says.least_is) (c.most_of.ensures says.most says.most_is))

@@ -6,4 +6,4 @@ pub returns : goal.returns
 returns g c =
     let p = c.args.p.now in
     let rs = c.args.readings.now in
-    sorted_items p rs (length rs - 1) (length p.events) (length p.messages) c.in_ok-items.items.items c.sort_unstable_by_key.new.self.items c.sort_unstable_by_key.ensures.permutation c.in_ok-items.ensures
+    sorted_items p rs (length rs - 1) (length p.clocks) (length p.events) (length p.messages) c.in_ok-items.items.items c.sort_unstable_by_key.new.self.items c.sort_unstable_by_key.ensures.permutation c.in_ok-items.ensures

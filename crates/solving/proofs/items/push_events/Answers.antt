@@ -7,4 +7,4 @@ loop-place-preserved c =
     let p = c.args.p.now in
     let rs = c.args.readings.now in
     let len = ap length c.events-events.ensures.value in
-    event_pushed p rs (length rs - 1) c.loop-place.place 0 c.loop-place.items.items c.push.new.self.items _ c.loop-place.invariant c.in_ok-push.ensures.items (omega (arith, len, c.loop-place-test.true))
+    event_pushed p rs (length rs - 1) (length p.clocks) c.loop-place.place 0 c.loop-place.items.items c.push.new.self.items _ c.loop-place.invariant c.in_ok-push.ensures.items (omega (arith, len, c.loop-place-test.true))

@@ -3,4 +3,4 @@ use Rattle.solving.specs.Items.{AreItems, items_of}
 use Rattle.solving.proofs.items.push_messages.Given as goal
 
 abbrev pub invariant-loop-place : goal.invariant-loop-place
-invariant-loop-place l = AreItems l.p l.readings (length l.readings - 1) (length l.p.events) l.place (items_of l.items.items)
+invariant-loop-place l = AreItems l.p l.readings (length l.readings - 1) (length l.p.clocks) (length l.p.events) l.place (items_of l.items.items)

@@ -2,4 +2,4 @@ use Rattle.solving.specs.Items.{AreItems, items_of}
 use Rattle.solving.proofs.items.push_spans.Given as goal
 
 abbrev pub invariant-loop-place : goal.invariant-loop-place
-invariant-loop-place l = AreItems l.p l.readings l.place 0 0 (items_of l.items.items)
+invariant-loop-place l = AreItems l.p l.readings l.place 0 0 0 (items_of l.items.items)

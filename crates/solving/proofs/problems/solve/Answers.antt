@@ -35,7 +35,7 @@ returns-clause-solution g c =
     is_solution p rs (flat_map (bounds_of p rs) (items_of c.in_ok-items.items.items)) c.in_ok-s.s c.push_items.new.s c.readings-readings.ensures
     (c.in_ok-s.ensures.come rs c.readings-readings.ensures)
     (subst (λ (xs : List Ranked). AddsBounds p (flat_map (bounds_of p rs) (items_of xs)) c.in_ok-s.s c.push_items.new.s) c.deref.ensures.value c.in_ok-push_items.ensures)
-    (covered p rs (items_of c.in_ok-items.items.items) c.events.ensures.lawful c.in_ok-items.ensures) c.events.ensures.lawful
+    (covered p rs (items_of c.in_ok-items.items.items) c.in_ok-items.ensures) c.events.ensures.lawful
 
 pub returns-clause-bounds : goal.returns-clause-bounds
 returns-clause-bounds g c =
@@ -44,7 +44,7 @@ returns-clause-bounds g c =
     holds_bounds p rs (flat_map (bounds_of p rs) (items_of c.in_ok-items.items.items)) c.in_ok-s.s c.push_items.new.s c.readings-readings.ensures
     (c.in_ok-s.ensures.come rs c.readings-readings.ensures)
     (subst (λ (xs : List Ranked). AddsBounds p (flat_map (bounds_of p rs) (items_of xs)) c.in_ok-s.s c.push_items.new.s) c.deref.ensures.value c.in_ok-push_items.ensures)
-    (covered p rs (items_of c.in_ok-items.items.items) c.events.ensures.lawful c.in_ok-items.ensures)
+    (covered p rs (items_of c.in_ok-items.items.items) c.in_ok-items.ensures)
 
 pub returns-clause-nodes : goal.returns-clause-nodes
 returns-clause-nodes g c = λ others are.

@@ -1,0 +1,12 @@
+use Rattle.std.proofs.Common.{sym}
+use Rattle.problem.proofs.Forms.{follow_not_three, follow_not_parts, follow_says, some_through, none_through}
+use Rattle.problem.proofs.words.follow_words.Goals as goal
+
+pub returns-in-Some-clause-some : goal.returns-in-Some-clause-some
+returns-in-Some-clause-some c = some_through _ (λ w parts. follow_says _ _ _ _ w (sym c.in-Some.ensures) parts) c.follow_of.ensures.some
+
+pub returns-in-Some-clause-none : goal.returns-in-Some-clause-none
+returns-in-Some-clause-none c = none_through _ (follow_not_parts _ _ _ _ (sym c.in-Some.ensures)) c.follow_of.ensures.none
+
+pub returns-in-None-clause-none : goal.returns-in-None-clause-none
+returns-in-None-clause-none c = follow_not_three _ (sym c.in-None.ensures)

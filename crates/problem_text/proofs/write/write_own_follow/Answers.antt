@@ -1,0 +1,13 @@
+use Rattle.std.proofs.Common.{◌≡◌, ◌∙◌, map}
+use Rattle.problem_model.specs.ProblemText.{clock_name}
+use Rattle.problem.proofs.Naming.{name_found, clock_name_is}
+use Rattle.problem_text.proofs.write.write_own_follow.Goals as goal
+
+pub returns : goal.returns
+returns g c =
+    let clocks = c.args.p.now.clocks in
+    let j = c.args.follow.now.earlier in
+    let k = c.args.follow.now.later in
+    let earlier : c.clock_name-earlier.result ≡ clock_name clocks j = name_found (map (λ c. c.name) clocks) j _ c.clock_name-earlier.ensures ∙ clock_name_is clocks j in
+    let later : c.clock_name-later.result ≡ clock_name clocks k = name_found (map (λ c. c.name) clocks) k _ c.clock_name-later.ensures ∙ clock_name_is clocks k in
+    rw later at (rw earlier at c.write_follow.ensures)

@@ -1,4 +1,0 @@
-use Rattle.text_tests.proofs.parts.has_message.Given as goal
-
-abbrev pub invariant-loop-message : goal.invariant-loop-message
-invariant-loop-message l = Unit {0}
