@@ -1,9 +1,10 @@
 #!/usr/bin/env python3
 """Checks that a `cycle` certificate shows a contradiction of a problem.
 
-Each step must be a declared bound with its weight, between any two readings of a clock, each head
-must be the tail of the next step, the last one that of the first, and the sum must be negative. All
-of it is worked out anew from the text of the problem. Prints the number of steps and the sum.
+Each step must be a declared bound with its weight, between any two readings of a clock or of clocks
+that come after each other, each head must be the tail of the next step, the last one that of the
+first, and the sum must be negative. All of it is worked out anew from the text of the problem. Prints
+the number of steps and the sum.
 """
 
 import argparse
@@ -14,10 +15,11 @@ UNITS = 10**9
 
 
 class Problem:
-    """Clocks, events and messages by their names, and the stamps that each clock shows."""
+    """Clocks, events and messages by their names, the follow that leads to a clock, and the stamps that each clock shows."""
 
     def __init__(self, lines):
         self.clocks = {}
+        self.follows = {}
         self.events = {}
         self.messages = {}
         self.readings = set()
@@ -25,12 +27,22 @@ class Problem:
             kind, *words = line.split(" ")
             if kind == "clock":
                 self.clocks[words[0]] = [int(word) for word in words[1:]]
+            elif kind == "follow":
+                self.follows[words[1]] = (words[0], int(words[2]))
             elif kind == "event":
                 self.events[words[0]] = (words[1], int(words[2]))
                 self.readings.add((words[1], int(words[2])))
             elif kind == "message":
                 most = None if words[3] == "none" else int(words[3])
                 self.messages[words[0], words[1]] = (int(words[2]), most)
+
+    def comes_after(self, clock, other):
+        """Whether follows lead from the other clock to this one."""
+        while clock in self.follows:
+            clock = self.follows[clock][0]
+            if clock == other:
+                return True
+        return False
 
     def bound(self, kind, *words):
         """The tail, the head and the weight of a bound. Fails where it is not declared."""
@@ -50,6 +62,12 @@ class Problem:
             if kind == "late":
                 return reading, name, late * UNITS
             return name, reading, early * UNITS
+        if kind == "follow":
+            earlier, s, later, t = words
+            tail, head = (later, int(t)), (earlier, int(s))
+            if not self.comes_after(later, earlier) or tail not in self.readings or head not in self.readings:
+                raise KeyError(words)
+            return tail, head, -self.follows[later][1] * UNITS
         send, receive = words
         least, most = self.messages[send, receive]
         if kind == "delay-most" and most is not None:

@@ -24,7 +24,7 @@ import os
 
 CLOCKS = 8
 ALONE = 10
-MOST_EVENTS = 2**20
+MOST_EVENTS = 2**21
 DRIFT = 20_000
 FAST = 200_000
 NEAR = 1_100
@@ -146,7 +146,7 @@ def write_execution(out, trace):
 
 def main():
     parser = argparse.ArgumentParser(description=__doc__.splitlines()[0])
-    parser.add_argument("count", type=int, help="the number of events, even, from 2 to 2^20; of messages if --one-way or --drift")
+    parser.add_argument("count", type=int, help="the number of events, even, from 2 to 2^21; of messages if --one-way or --drift")
     parser.add_argument("folder", help="where N.problem and N.execution are written")
     forms = parser.add_mutually_exclusive_group()
     for form, what in (
@@ -165,7 +165,7 @@ def main():
         trace, delays = generate_one_way(args.count, *((FAST, NEAR) if args.form == "drift" else (0, MOST)))
     else:
         if args.count % 2 != 0 or not 2 <= args.count <= MOST_EVENTS:
-            parser.error("an even number of events from 2 to 2^20")
+            parser.error("an even number of events from 2 to 2^21")
         trace, delays = generate(args.count)
     suffix = "" if args.form in (None, "problem") else f"-{args.form}"
     stem = os.path.join(args.folder, f"{args.count}{suffix}")

@@ -20,8 +20,8 @@ fail() {
 check_sizes() {
     local events
     for events in "$@"; do
-        if ! [[ $events =~ ^[1-9][0-9]{0,6}$ ]] || ((events % 2 != 0 || events > 1048576)); then
-            fail "$events is no even number from 2 to 2^20"
+        if ! [[ $events =~ ^[1-9][0-9]{0,6}$ ]] || ((events % 2 != 0 || events > 2097152)); then
+            fail "$events is no even number from 2 to 2^21"
         fi
     done
     [[ $reference_up_to =~ ^(0|[1-9][0-9]{0,6})$ ]] || fail "REFERENCE_UP_TO is $reference_up_to"

@@ -4,7 +4,7 @@
 #
 #     bench/run.sh [EVENTS..]
 #
-# EVENTS are even numbers from 2 to 2^20; with none, 1,000, 2^13, 2^16 and 2^20. TRACESYNC names another program to
+# EVENTS are even numbers from 2 to 2^21; with none, 1,000, 2^13, 2^16 and 2^20. TRACESYNC names another program to
 # measure than crates/tracesync/out/tracesync, and RUNS another number of runs than 3, of which the least time counts.
 set -euo pipefail
 export LC_ALL=C

@@ -5,7 +5,7 @@
 #
 #     bench/run_solve.sh [EVENTS..]
 #
-# EVENTS are even numbers from 2 to 2^20; with none, 1,000, 10,000, 100,000 and 2^20. TRACESYNC names another program to
+# EVENTS are even numbers from 2 to 2^21; with none, 1,000, 10,000, 100,000 and 2^20. TRACESYNC names another program to
 # measure than crates/tracesync/out/tracesync, and RUNS another number of runs than 3, of which the least time counts.
 # Above REFERENCE_UP_TO events, 100,000 if it is not set, solve.cpp and the steps of the short list are left out; the
 # certificate is then compared with that of steps.cpp alone.

@@ -5,7 +5,7 @@
 #
 #     bench/run_widen.sh [EVENTS..]
 #
-# EVENTS are even numbers from 100 to 2^20; with none, 1,000, 10,000, 100,000 and 2^20. Of each size there are three traces: one without a
+# EVENTS are even numbers from 100 to 2^21; with none, 1,000, 10,000, 100,000 and 2^20. Of each size there are three traces: one without a
 # contradiction, one in which a link declares too small a greatest delay, and one-way messages to a clock that declares too small a drift, of
 # twelve events each. TRACESYNC names another program to measure than crates/tracesync/out/tracesync, and RUNS another number of runs than 3, of
 # which the least time counts. Above REFERENCE_UP_TO events, 100,000 if it is not set, traces with a contradiction are left out, and those of a drift above a
