@@ -3,7 +3,7 @@ use Rattle.std.proofs.Common.{◌≡◌, ℕ, ◌<◌, ◌≤◌, Bool, true, fa
 use Rattle.std.specs.List.{list_all}
 use Rattle.std.proofs.lemmas.List.Sums.{AllPass-from_list_all, list_all-from_AllPass}
 use Rattle.problem_model.specs.Name.{IsClockName, IsEventName, is_clock_byte}
-use Rattle.decl.specs.Hosts.{is_clock_name}
+use Rattle.decl.specs.Names.{is_clock_name}
 
 parts : (a b : Bool) → (a && b) ≡ true → (a ≡ true) × (b ≡ true)
 parts true true e = (refl, refl)

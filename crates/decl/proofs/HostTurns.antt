@@ -1,5 +1,5 @@
 -- Hosts one by one, as the code reads them.
-use Rattle.std.proofs.Common.{◌≡◌, ℕ, ◌+◌, ◌-◌, ◌≤◌, Bool, true, false, not, ◌||◌, if◌then◌else◌, nat_lt, List, [], ◌∷◌, ◌++◌, length, Option, Some, None, String, Global, string_bytes, codes, refl, sym, ap, ◌∙◌, subst, arith, append_assoc}
+use Rattle.std.proofs.Common.{◌≡◌, ℕ, ◌+◌, ◌≤◌, false, not, ◌||◌, if◌then◌else◌, nat_lt, List, [], ◌∷◌, ◌++◌, Option, Some, None, String, Global, string_bytes, refl, sym, ap, ◌∙◌, subst, arith, append_assoc}
 use Rattle.std.specs.Prelude.{All}
 use Rattle.std.specs.List.{AllByRecursion}
 use Rattle.std.specs.List.Sorted.{IsStrictlySortedBy}
@@ -9,22 +9,24 @@ use Rattle.std.specs.declared.cmp.Ordering.TheVariants.{Less}
 use Rattle.std.proofs.lemmas.List.Elements.{All-cons, All-nil}
 use Rattle.std.proofs.lemmas.List.Kept.{AllPairs-cons}
 use Rattle.toml.proofs.Views.{Entry}
-use Rattle.toml.specs.Data.{as_table, Members}
+use Rattle.toml.specs.Data.{as_table, Items, Members, no_members}
 use Rattle.toml.specs.View.{view, members_view}
 use Rattle.toml.specs.declared.value.Value.{Value}
-use Rattle.atto.specs.Span.{RateParts}
 use Rattle.problem_model.specs.declared.items.Clock.{Clock}
 use Rattle.decl.specs.Addresses.{Known, at_host, at_host6, known_with, numbers_of, numbers6_of}
 use Rattle.decl.specs.Causes.{at, when, first, error_at, IsFirstOf}
-use Rattle.decl.specs.Declaration.{Precedes, one_clock_each}
-use Rattle.decl.specs.Hosts.{is_clock_name, has_wild_rate, has_wild_number, rate_of, clock_of, clock_causes, host_causes, hosts_faults, entry_of, addresses_in, addresses6_in, known_behind, hosts_of, clocks_of, addresses_from, addresses6_from, is_one_too_many}
-use Rattle.decl.specs.Keys.{table_causes}
-use Rattle.decl.specs.Limits.{most_entries, nano_limit}
-use Rattle.decl.specs.Values.{whole_or_zero, number_at, is_up_to}
+use Rattle.decl.specs.Clocks.{has_wild_number, clock_of, clock_tables, gaps_by, clocks_causes}
+use Rattle.decl.specs.Declaration.{Precedes}
+use Rattle.decl.specs.Hosts.{own_causes, host_causes, hosts_faults, addresses_in, addresses6_in, clocks_in, known_behind, hosts_of, clocks_of, owned_by, owners_from, addresses_from, addresses6_from, has_wrong_address, is_one_too_many}
+use Rattle.decl.specs.Keys.{table_causes, entry_causes, entry_of}
+use Rattle.decl.specs.Limits.{most_entries}
+use Rattle.decl.specs.Names.{is_clock_name}
 use Rattle.decl.specs.declared.cause.Cause.{Cause}
-use Rattle.decl.specs.declared.cause.Cause.TheVariants.{Name, Number}
+use Rattle.decl.specs.declared.cause.Cause.TheVariants.{Name, Number, Address as WrongAddress}
 use Rattle.decl.specs.declared.errors.DeclError.{DeclError}
 use Rattle.decl.specs.declared.errors.Section.TheVariants.{Hosts}
+use Rattle.decl.specs.declared.keys.Form.TheVariants as form
+use Rattle.decl.proofs.ClockTurns.{none_wrong, number_wrong}
 use Rattle.decl.proofs.Faults.{few_index, neither_of, second_of, no_parts, not_so, neither, some_if, some_unless, none_unless, first_front, fault_front, fault_at, none_at}
 use Rattle.decl.specs.declared.items.Address.{Address}
 use Rattle.decl.specs.declared.items.Address6.{Address6}
@@ -33,68 +35,59 @@ use Rattle.decl.specs.Inside.{known_in}
 use Rattle.decl.specs.declared.items.Owner.{Owner}
 use Rattle.decl.proofs.Searching.{Rise}
 
-three : {V : Type 0} (w a b : Bool) (made right : V) → w ≡ false → a ≡ true → b ≡ true → made ≡ right → Some made ≡ (if (w || not a) || not b then None else Some right)
-three w a b made right p q r e = rw (p, q, r) (ap Some e)
+-- ---- a host itself
 
-same_clock : (name : List ℕ) (rate rate' : RateParts) (early early' late late' : ℕ) → rate ≡ rate' → early ≡ early' → late ≡ late'
-    → (let a : Clock = record { name = name; rate = rate; early = early; late = late } in a) ≡ (let b : Clock = record { name = name; rate = rate'; early = early'; late = late' } in b)
-same_clock name rate rate' early early' late late' p q r = rw (p, q, r) refl
+-- what is wrong with keys, name and numbers
+abbrev pub front_causes : ℕ → List ℕ → Members → List Cause
+front_causes index name ms = table_causes form.Host ms ++ when (not (is_clock_name name)) Name ++ when (is_one_too_many index || has_wild_number no_members ms) Number
 
--- the clock of numbers in their ranges
-pub clock_made : (name : List ℕ) (ms : Members) (rate : RateParts) (early late : ℕ) → Some rate ≡ (if has_wild_rate ms then None else Some (rate_of ms))
-    → Some early ≡ (if is_up_to (nano_limit - 1) (whole_or_zero (codes "early") ms) then Some (number_at (codes "early") ms) else None)
-    → Some late ≡ (if is_up_to (nano_limit - 1) (whole_or_zero (codes "late") ms) then Some (number_at (codes "late") ms) else None)
-    → Some (let c : Clock = record { name = name; rate = rate; early = early; late = late } in c) ≡ (if has_wild_number ms then None else Some (clock_of name ms))
-clock_made name ms rate early late p q r =
-    let (tame, rate_is) = some_unless (has_wild_rate ms) rate (rate_of ms) p in
-    let (first, early_is) = some_if _ early (number_at (codes "early") ms) q in
-    let (second, late_is) = some_if _ late (number_at (codes "late") ms) r in
-    three _ _ _ _ _ tame first second (same_clock name _ _ _ _ _ _ rate_is early_is late_is)
+module _ (index : ℕ) (name given : List ℕ) (ms : Members) (table : table_causes form.Host ms ≡ []) (named : Some given ≡ (if is_clock_name name then Some name else None)) where
+  right_name : not (is_clock_name name) ≡ false
+  right_name = ap not (some_if (is_clock_name name) given name named).0
 
--- causes of a name, an index and numbers
-none_wrong : (c : List Cause) (n w : Bool) → c ≡ [] → n ≡ true → w ≡ false → c ++ when (not n) Name ++ when w Number ≡ []
-none_wrong c n w p q r = rw (p, q, r) refl
+  -- nothing is wrong
+  pub own_sound : (clock : Clock) → index ≤ most_entries → Some clock ≡ (if has_wild_number no_members ms then None else Some (clock_of given no_members ms))
+      → (front_causes index name ms ≡ []) × (clock ≡ clock_of name no_members ms)
+  own_sound clock few numbers =
+      let (tame, clock_is) = some_unless (has_wild_number no_members ms) clock (clock_of given no_members ms) numbers in (
+        none_wrong _ _ _ table right_name (neither_of _ _ (few_index index few) tame),
+        clock_is ∙ ap (λ (n : List ℕ). clock_of n no_members ms) (some_if (is_clock_name name) given name named).1,
+      )
 
-number_wrong : (c : List Cause) (n w : Bool) → c ≡ [] → n ≡ true → w ≡ true → first (c ++ when (not n) Name ++ when w Number) ≡ Some Number
-number_wrong c n w p q r = rw (p, q, r) refl
+  -- a number is out of its range
+  pub own_wild : None ≡ (if has_wild_number no_members ms then None else Some (clock_of given no_members ms)) → first (front_causes index name ms) ≡ Some Number
+  own_wild numbers = number_wrong _ _ _ table right_name (second_of (is_one_too_many index) _ (none_unless (has_wild_number no_members ms) (clock_of given no_members ms) numbers))
 
-pub clock_sound : (index : ℕ) (name given : List ℕ) (ms : Members) (clock : Clock) → table_causes Hosts ms ≡ [] → Some given ≡ (if is_clock_name name then Some name else None) → index ≤ most_entries
-    → Some clock ≡ (if has_wild_number ms then None else Some (clock_of given ms)) → (clock_causes index name ms ≡ []) × (clock ≡ clock_of name ms)
-clock_sound index name given ms clock table named few numbers =
-    let (is_name, name_is) = some_if (is_clock_name name) given name named in
-    let (tame, clock_is) = some_unless (has_wild_number ms) clock (clock_of given ms) numbers in (
-      none_wrong _ _ _ table is_name (neither_of _ _ (few_index index few) tame),
-      clock_is ∙ ap (λ (n : List ℕ). clock_of n ms) name_is,
-    )
+-- a cause of the host itself comes before those of its clocks
+pub own_fault : (index : ℕ) (before : Known) (clocks : List Clock) (name : List ℕ) (ms : Members) (cause : Cause) (e : DeclError) → first (front_causes index name ms) ≡ Some cause → e ≡ error_at Hosts index cause
+    → IsFirstOf (at Hosts index (host_causes index before clocks name ms)) e
+own_fault index before clocks name ms cause e h placed =
+    fault_at Hosts index (host_causes index before clocks name ms) cause e (first_front (own_causes index before name ms) _ cause (first_front (front_causes index name ms) _ cause h)) placed
 
-pub clock_wild : (index : ℕ) (name given : List ℕ) (ms : Members) → table_causes Hosts ms ≡ [] → Some given ≡ (if is_clock_name name then Some name else None)
-    → None ≡ (if has_wild_number ms then None else Some (clock_of given ms)) → first (clock_causes index name ms) ≡ Some Number
-clock_wild index name given ms table named numbers =
-    let (is_name, name_is) = some_if (is_clock_name name) given name named in
-    number_wrong _ _ _ table is_name (second_of (is_one_too_many index) _ (none_unless (has_wild_number ms) (clock_of given ms) numbers))
-
--- a cause of the clock is the host's
-pub clock_fault : (index : ℕ) (before : Known) (name : List ℕ) (o : Option Members) (ms : Members) (cause : Cause) (e : DeclError) → Some ms ≡ o → first (clock_causes index name ms) ≡ Some cause
-    → e ≡ error_at Hosts index cause → IsFirstOf (at Hosts index (host_causes index before name o)) e
-clock_fault index before name o ms cause e is h placed =
-    subst (λ (t : Option Members). IsFirstOf (at Hosts index (host_causes index before name t)) e) is
-    (fault_at Hosts index (host_causes index before name (Some ms)) cause e (first_front (clock_causes index name ms) _ cause h) placed)
+-- where nothing is wrong with the host itself, what is wrong is what is with its clocks
+pub clocks_alone : (index : ℕ) (before : Known) (clocks now : List Clock) (name own : List ℕ) (ms : Members) (items : Items) → front_causes index name ms ≡ [] → has_wrong_address before ms ≡ false → now ≡ clocks → own ≡ name
+    → items ≡ clock_tables ms → clocks_causes now own ms items ≡ host_causes index before clocks name ms
+clocks_alone index before clocks now name own ms items front fresh p q r =
+    rw (p, q, r) (sym (ap (λ (causes : List Cause). causes ++ when (has_wrong_address before ms) WrongAddress ++ clocks_causes clocks name ms (clock_tables ms)) front ∙ rw fresh refl))
 
 -- a host without a fault has an index that may be
-pub host_few : (index : ℕ) (before : Known) (name : List ℕ) (o : Option Members) → host_causes index before name o ≡ [] → index ≤ most_entries
-host_few index before name None e = cc
-host_few index before name (Some ms) e =
-    let clock = (no_parts (clock_causes index name ms) _ e).0 in
-    let last = (no_parts (table_causes Hosts ms ++ when (not (is_clock_name name)) Name) _ clock).1 in
+pub host_few : (index : ℕ) (before : Known) (clocks : List Clock) (name : List ℕ) (o : Option Members) → entry_causes (host_causes index before clocks name) o ≡ [] → index ≤ most_entries
+host_few index before clocks name None e = cc
+host_few index before clocks name (Some ms) e =
+    let own = (no_parts (own_causes index before name ms) _ e).0 in
+    let front = (no_parts (front_causes index name ms) _ own).0 in
+    let last = (no_parts (table_causes form.Host ms ++ when (not (is_clock_name name)) Name) _ front).1 in
     let many : nat_lt most_entries index ≡ false = (neither _ _ (not_so _ Number last)).0 in
     grind (arith, many)
 
+-- ---- host by host
+
 -- the first fault of the next host
-pub host_first : (all : List DeclError) (index : ℕ) (before : Known) (entries rest : List Entry) (name : String Global) (value : Value) (e : DeclError) → all ≡ hosts_faults index before (members_view entries)
-    → entries ≡ (name, value) ∷ rest → IsFirstOf (at Hosts index (host_causes index before (string_bytes name) (as_table (view value)))) e → IsFirstOf all e
-host_first all index before entries rest name value e is next h =
-    subst (λ (fs : List DeclError). IsFirstOf fs e) (sym (is ∙ ap (λ (es : List Entry). hosts_faults index before (members_view es)) next))
-    (fault_front (at Hosts index (host_causes index before (string_bytes name) (as_table (view value)))) _ e h)
+pub host_first : (all : List DeclError) (index : ℕ) (before : Known) (clocks : List Clock) (entries rest : List Entry) (name : String Global) (value : Value) (e : DeclError) → all ≡ hosts_faults index before clocks (members_view entries)
+    → entries ≡ (name, value) ∷ rest → IsFirstOf (at Hosts index (entry_causes (host_causes index before clocks (string_bytes name)) (as_table (view value)))) e → IsFirstOf all e
+host_first all index before clocks entries rest name value e is next h =
+    subst (λ (fs : List DeclError). IsFirstOf fs e) (sym (is ∙ ap (λ (es : List Entry). hosts_faults index before clocks (members_view es)) next))
+    (fault_front (at Hosts index (entry_causes (host_causes index before clocks (string_bytes name)) (as_table (view value)))) _ e h)
 
 pub numbers_at_host : (place : ℕ) (addresses : List ℕ) → numbers_of (at_host place addresses) ≡ addresses
 numbers_at_host place [] = refl
@@ -123,21 +116,29 @@ known_on place books new narrow wide added added6 = rw (numbers, numbers6) refl
     numbers6 = ap numbers6_of added6 ∙ numbers6_more books.wide _ ∙ ap (λ (more : List ℕ). numbers6_of books.wide ++ more) (numbers6_at_host place wide)
 
 -- behind a host without a fault
-pub hosts_on : (all : List DeclError) (index place : ℕ) (books new : Books) (entries rest : List Entry) (name : String Global) (value : Value) → all ≡ hosts_faults index (known_in books) (members_view entries)
-    → entries ≡ (name, value) ∷ rest → host_causes index (known_in books) (string_bytes name) (as_table (view value)) ≡ []
+pub hosts_on : (all : List DeclError) (index place : ℕ) (books new : Books) (entries rest : List Entry) (name : String Global) (value : Value) → all ≡ hosts_faults index (known_in books) books.clocks.clocks (members_view entries)
+    → entries ≡ (name, value) ∷ rest → entry_causes (host_causes index (known_in books) books.clocks.clocks (string_bytes name)) (as_table (view value)) ≡ []
     → new.narrow ≡ books.narrow ++ at_host place (addresses_in (view value)) → new.wide ≡ books.wide ++ at_host6 place (addresses6_in (view value))
-    → all ≡ hosts_faults (index + 1) (known_in new) (members_view rest)
-hosts_on all index place books new entries rest name value is next none added added6 =
-    is ∙ ap (λ (es : List Entry). hosts_faults index (known_in books) (members_view es)) next
-    ∙ none_at Hosts index _ (hosts_faults (index + 1) (known_behind (known_in books) (view value)) (members_view rest)) none
-    ∙ ap (λ (before : Known). hosts_faults (index + 1) before (members_view rest)) (sym (known_on place books new (addresses_in (view value)) (addresses6_in (view value)) added added6))
+    → new.clocks.clocks ≡ books.clocks.clocks ++ clocks_in (string_bytes name) (view value) → all ≡ hosts_faults (index + 1) (known_in new) new.clocks.clocks (members_view rest)
+hosts_on all index place books new entries rest name value is next none added added6 clocked =
+    is ∙ ap (λ (es : List Entry). hosts_faults index (known_in books) books.clocks.clocks (members_view es)) next
+    ∙ none_at Hosts index _ (hosts_faults (index + 1) (known_behind (known_in books) (view value)) (books.clocks.clocks ++ clocks_in (string_bytes name) (view value)) (members_view rest)) none
+    ∙ ap (λ (clocks : List Clock). hosts_faults (index + 1) (known_behind (known_in books) (view value)) clocks (members_view rest)) (sym clocked)
+    ∙ ap (λ (before : Known). hosts_faults (index + 1) before new.clocks.clocks (members_view rest)) (sym (known_on place books new (addresses_in (view value)) (addresses6_in (view value)) added added6))
 
-pub clocks_on : (all : List Clock) (clocks : List Clock) (clock : Clock) (entries rest : List Entry) (name : String Global) (value : Value) → all ≡ clocks ++ clocks_of (members_view entries)
-    → entries ≡ (name, value) ∷ rest → clock ≡ clock_of (string_bytes name) (entry_of (view value)) → all ≡ (clocks ++ clock ∷ []) ++ clocks_of (members_view rest)
-clocks_on all clocks clock entries rest name value is next made =
+pub host_clocks_on : (all : List Clock) (clocks new : List Clock) (entries rest : List Entry) (name : String Global) (value : Value) → all ≡ clocks ++ clocks_of (members_view entries)
+    → entries ≡ (name, value) ∷ rest → new ≡ clocks ++ clocks_in (string_bytes name) (view value) → all ≡ new ++ clocks_of (members_view rest)
+host_clocks_on all clocks new entries rest name value is next added =
     is ∙ ap (λ (es : List Entry). clocks ++ clocks_of (members_view es)) next
-    ∙ ap (λ (c : Clock). clocks ++ c ∷ clocks_of (members_view rest)) (sym made)
-    ∙ sym (append_assoc clocks (clock ∷ []) (clocks_of (members_view rest)))
+    ∙ sym (append_assoc clocks (clocks_in (string_bytes name) (view value)) (clocks_of (members_view rest)))
+    ∙ ap (λ (front : List Clock). front ++ clocks_of (members_view rest)) (sym added)
+
+pub host_owners_on : (all : List Owner) (place same : ℕ) (owners new : List Owner) (entries rest : List Entry) (name : String Global) (value : Value) → all ≡ owners ++ owners_from place (members_view entries)
+    → entries ≡ (name, value) ∷ rest → same ≡ place → new ≡ owners ++ owned_by same (gaps_by (clock_tables (entry_of (view value)))) → all ≡ new ++ owners_from (place + 1) (members_view rest)
+host_owners_on all place same owners new entries rest name value is next e added =
+    is ∙ ap (λ (es : List Entry). owners ++ owners_from place (members_view es)) next
+    ∙ sym (append_assoc owners (owned_by place (gaps_by (clock_tables (entry_of (view value))))) (owners_from (place + 1) (members_view rest)))
+    ∙ ap (λ (front : List Owner). front ++ owners_from (place + 1) (members_view rest)) (sym (added ∙ ap (λ (p : ℕ). owners ++ owned_by p (gaps_by (clock_tables (entry_of (view value))))) e))
 
 pub addresses_on : (all : List Address) (place same : ℕ) (book new : List Address) (entries rest : List Entry) (name : String Global) (value : Value) → all ≡ book ++ addresses_from place (members_view entries)
     → entries ≡ (name, value) ∷ rest → same ≡ place → new ≡ book ++ at_host same (addresses_in (view value)) → all ≡ new ++ addresses_from (place + 1) (members_view rest)
@@ -153,27 +154,12 @@ addresses6_on all place same book new entries rest name value is next e added =
     ∙ sym (append_assoc book (at_host6 place (addresses6_in (view value))) (addresses6_from (place + 1) (members_view rest)))
     ∙ ap (λ (front : List Address6). front ++ addresses6_from (place + 1) (members_view rest)) (sym (added ∙ ap (λ (p : ℕ). book ++ at_host6 p (addresses6_in (view value))) e))
 
-pub names_on : (all : List (List ℕ)) (names : List (List ℕ)) (clock : Clock) (entries rest : List Entry) (name : String Global) (value : Value) → all ≡ names ++ hosts_of (members_view entries)
-    → entries ≡ (name, value) ∷ rest → clock ≡ clock_of (string_bytes name) (entry_of (view value)) → all ≡ (names ++ clock.name ∷ []) ++ hosts_of (members_view rest)
-names_on all names clock entries rest name value is next made =
+pub names_on : (all : List (List ℕ)) (names new : List (List ℕ)) (entries rest : List Entry) (name : String Global) (value : Value) → all ≡ names ++ hosts_of (members_view entries)
+    → entries ≡ (name, value) ∷ rest → new ≡ names ++ string_bytes name ∷ [] → all ≡ new ++ hosts_of (members_view rest)
+names_on all names new entries rest name value is next added =
     is ∙ ap (λ (es : List Entry). names ++ hosts_of (members_view es)) next
-    ∙ ap (λ (c : Clock). names ++ c.name ∷ hosts_of (members_view rest)) (sym made)
-    ∙ sym (append_assoc names (clock.name ∷ []) (hosts_of (members_view rest)))
-
-one_clock_more : (k : ℕ) (hosts : List (List ℕ)) (host : List ℕ) → one_clock_each k (hosts ++ host ∷ []) ≡ one_clock_each k hosts ++ (record { host = k + length hosts; gap = 0 }) ∷ []
-one_clock_more k [] host = ap (λ (n : ℕ). let o : Owner = record { host = n; gap = 0 } in o ∷ []) (omega arith)
-one_clock_more k (first ∷ hosts) host =
-    ap (λ (owners : List Owner). (record { host = k; gap = 0 }) ∷ owners)
-    (one_clock_more (k + 1) hosts host ∙ ap (λ (n : ℕ). let o : Owner = record { host = n; gap = 0 } in one_clock_each (k + 1) hosts ++ o ∷ []) (omega arith))
-
--- one owner more
-pub owned_more : (k : ℕ) (names more : List (List ℕ)) (name : List ℕ) (owners all : List Owner) (owner : Owner) → k ≡ length names → more ≡ names ++ name ∷ [] → all ≡ owners ++ owner ∷ []
-    → owner ≡ (let o : Owner = record { host = k; gap = 0 } in o) → one_clock_each 0 names ≡ owners → one_clock_each 0 more ≡ all
-owned_more k names more name owners all owner counted named owned own before =
-    ap (one_clock_each 0) named ∙ one_clock_more 0 names name
-    ∙ ap (λ (n : ℕ). let o : Owner = record { host = n; gap = 0 } in one_clock_each 0 names ++ o ∷ []) (omega (arith, counted))
-    ∙ ap (λ (o : Owner). one_clock_each 0 names ++ o ∷ []) (sym own)
-    ∙ ap (λ (os : List Owner). os ++ owner ∷ []) before ∙ sym owned
+    ∙ sym (append_assoc names (string_bytes name ∷ []) (hosts_of (members_view rest)))
+    ∙ ap (λ (front : List (List ℕ)). front ++ hosts_of (members_view rest)) (sym added)
 
 -- the hosts of a table stand in the byte order of their names
 hosts_behind : (key : String Global) (entries : List Entry) → AllByRecursion (λ k. string_cmp key k ≡ Less) (keys_of entries) → All (λ (host : List ℕ). Precedes (string_bytes key) host) (hosts_of (members_view entries))

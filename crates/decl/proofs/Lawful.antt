@@ -1,142 +1,315 @@
--- What a document without a fault declares is lawful.
-use Rattle.std.proofs.Common.{◌≡◌, ◌≢◌, ℕ, zero, suc, ◌+◌, ◌-◌, ◌<◌, ◌≤◌, ◌==◌, ◌&&◌, Bool, true, false, not, ◌||◌, is_none, nat_abs, unwrap_or, option_to_list, option_map, List, [], ◌∷◌, ◌++◌, length, map, get_or, slice_get, Option, Some, None, ℤ, pos, codes, eq-eqb, eqb-true, refl, sym, ap, ◌∙◌, subst, arith}
-use Rattle.std.specs.Prelude.{All, AllPairs, IfSome, option_and_then}
-use Rattle.std.specs.List.{position_from}
+-- What hosts without a fault declare is lawful.
+use Rattle.std.proofs.Common.{◌≡◌, ◌≢◌, ℕ, zero, suc, ◌+◌, ◌-◌, ◌<◌, ◌≤◌, ◌==◌, Bool, true, false, not, ◌||◌, nat_abs, unwrap_or, is_some, option_to_list, List, [], ◌∷◌, ◌++◌, length, length-append, map, get_or, slice_get, Option, Some, None, ℤ, codes, eq-eqb, refl, sym, ap, ◌∙◌, subst, arith, append_assoc, append-nil}
+use Rattle.std.specs.Prelude.{All, AllPairs, ⊤}
+use Rattle.std.specs.List.{position_from, list_any}
+use Rattle.std.specs.Str.{bytes_eq}
 use Rattle.std.specs.Int.{from_be_bytes, w32}
+use Rattle.std.proofs.lemmas.Bool.{false≢true}
 use Rattle.std.proofs.lemmas.List.Elements.{All-cons, All-nil, All-append}
+use Rattle.std.proofs.lemmas.List.Kept.{AllPairs-cons}
 use Rattle.std.proofs.lemmas.List.{get_or-map, length-map}
-use Rattle.std.proofs.lemmas.Option.{none-some, same_Some}
+use Rattle.std.proofs.lemmas.Slice.Eq.{bytes_eq-Decides}
 use Rattle.problem_model.specs.Name.{IsClockName}
-use Rattle.problem_model.specs.Problem.{ClockFits}
+use Rattle.problem_model.specs.Problem.{ClockFits, most_clocks}
 use Rattle.problem_model.specs.declared.items.Clock.{Clock}
 use Rattle.toml.specs.Data.{Data, as_table, Items, no_items, item, Members, no_members, member}
 use Rattle.decl.specs.Addresses.{Known, address_of, address6_of, at_host, at_host6, has_bad_address, is_bad_address, none_known, numbers_of, numbers6_of, written}
 use Rattle.decl.specs.Causes.{at, when}
-use Rattle.decl.specs.Declaration.{IsDeclaration, IsSource, IsClockOf, LinkFits, one_clock_each}
-use Rattle.decl.specs.Hosts.{address_texts, addresses_from, addresses6_from, addresses_in, addresses6_in, address6_texts, clock_causes, clock_of, clocks_of, entry_of, hosts_of, has_wild_number, has_wild_rate, known_behind, host_causes, hosts_faults, is_clock_name, is_one_too_many}
-use Rattle.decl.specs.Keys.{table_causes}
-use Rattle.decl.specs.Labels.{entry_causes, host_at_key, is_misnamed, label_causes, label_of, labels_faults, labels_of}
-use Rattle.decl.specs.Limits.{most_entries, most_payload, most_short, most_long, nano_limit, address_limit}
-use Rattle.decl.specs.Links.{has_link, is_astray, link_causes, link_of, links_faults, links_of}
-use Rattle.decl.specs.Places.{place_of, clock_place}
-use Rattle.decl.specs.Values.{is_up_to, text_at, whole_at, whole_or_zero}
-use Rattle.decl.specs.Walk.{declared, faults, hosts_in, is_true_at, labels_in, links_in, shows_true, source_causes, top_causes}
+use Rattle.decl.specs.Clocks.{own_or_host, has_wild_rate, has_wild_number, has_wild_gap, clock_of, name_in, is_taken, have_no_room, clock_causes, clock_tables, table_clocks, tables_causes, table_gaps, clocks_by, gaps_by, clocks_causes}
+use Rattle.decl.specs.Declaration.{IsClockOf}
+use Rattle.decl.specs.Hosts.{address_texts, address6_texts, is_one_too_many, own_causes, host_causes, addresses_in, addresses6_in, known_behind, clocks_in, hosts_faults, hosts_of, clocks_of, owned_by, owners_from, addresses_from, addresses6_from}
+use Rattle.decl.specs.Keys.{table_causes, entry_causes, entry_of}
+use Rattle.decl.specs.Limits.{most_entries, most_short, most_long, nano_limit, address_limit}
+use Rattle.decl.specs.Names.{is_clock_name}
+use Rattle.decl.specs.Values.{is_up_to, whole_or_zero, number_at}
 use Rattle.decl.specs.declared.cause.Cause.TheVariants as cause
-use Rattle.decl.specs.declared.errors.Section.TheVariants.{Top, Hosts, Labels, Links}
+use Rattle.decl.specs.declared.errors.Section.TheVariants.{Hosts}
 use Rattle.decl.specs.declared.items.Address.{Address}
 use Rattle.decl.specs.declared.items.Address6.{Address6}
-use Rattle.decl.specs.declared.items.Label.{Label}
 use Rattle.decl.specs.declared.items.Owner.{Owner}
-use Rattle.decl.specs.declared.items.Link.{Link}
+use Rattle.decl.specs.declared.keys.Form.TheVariants as form
 use Rattle.decl.proofs.ClockNames.{clock_name_is}
 use Rattle.decl.proofs.Dotted.{address_found}
 use Rattle.decl.proofs.Faults.{neither, no_causes, no_parts, not_false, not_so}
 use Rattle.decl.proofs.Fresh.{IsFresh, all_apart, fresh_append}
-use Rattle.decl.proofs.HostTurns.{host_few, numbers_at_host, numbers6_at_host, numbers_more, numbers6_more}
-use Rattle.decl.proofs.LabelTurns.{RiseLabels, label_few}
-use Rattle.decl.proofs.LinkTurns.{link_few}
-use Rattle.decl.proofs.Searching.{Rise, precedes_differ}
+use Rattle.decl.proofs.HostTurns.{numbers_at_host, numbers6_at_host, numbers_more, numbers6_more}
 
 -- ---- numbers
 
-up_to_le : (limit : ℕ) (z : ℤ) → is_up_to limit z ≡ true → nat_abs z ≤ limit
+pub up_to_le : (limit : ℕ) (z : ℤ) → is_up_to limit z ≡ true → nat_abs z ≤ limit
 up_to_le limit z e = grind (arith, e)
 
-below_62 : (z : ℤ) → is_up_to (nano_limit - 1) z ≡ true → nat_abs z < nano_limit
+pub below_62 : (z : ℤ) → is_up_to (nano_limit - 1) z ≡ true → nat_abs z < nano_limit
 below_62 z e = omega (arith, up_to_le (nano_limit - 1) z e)
 
-wild : (a b : Bool) → (not a || not b) ≡ false → (a ≡ true) × (b ≡ true)
+pub wild : (a b : Bool) → (not a || not b) ≡ false → (a ≡ true) × (b ≡ true)
 wild true true e = (refl, refl)
 wild true false e = cc
 wild false b e = cc
 
-clock_fits : (name : List ℕ) (ms : Members) → has_wild_number ms ≡ false → ClockFits (clock_of name ms)
-clock_fits name ms tame =
-    let (front, late) = neither (has_wild_rate ms || not (is_up_to (nano_limit - 1) (whole_or_zero (codes "early") ms))) _ tame in
-    let (rate, early) = neither (has_wild_rate ms) _ front in
-    let (short, long) = wild (is_up_to most_short (whole_or_zero (codes "short") ms)) (is_up_to most_long (whole_or_zero (codes "long") ms)) rate in (
-      up_to_le most_short (whole_or_zero (codes "short") ms) short,
-      up_to_le most_long (whole_or_zero (codes "long") ms) long,
-      below_62 (whole_or_zero (codes "early") ms) (not_false _ early),
-      below_62 (whole_or_zero (codes "late") ms) (not_false _ late),
+clock_fits : (name : List ℕ) (own host : Members) → has_wild_number own host ≡ false → ClockFits (clock_of name own host)
+clock_fits name own host tame =
+    let (front, late) = neither (has_wild_rate own host || not (is_up_to (nano_limit - 1) (own_or_host (codes "early") own host))) _ tame in
+    let (rate, early) = neither (has_wild_rate own host) _ front in
+    let (short, long) = wild (is_up_to most_short (own_or_host (codes "short") own host)) (is_up_to most_long (own_or_host (codes "long") own host)) rate in (
+      up_to_le most_short (own_or_host (codes "short") own host) short,
+      up_to_le most_long (own_or_host (codes "long") own host) long,
+      below_62 (own_or_host (codes "early") own host) (not_false _ early),
+      below_62 (own_or_host (codes "late") own host) (not_false _ late),
     )
+
+-- ---- clocks, one behind the other
+
+-- what is known of a clock without a fault behind these clocks
+record GoodClock (before : List Clock) (c : Clock) : Type 0 where
+  named : IsClockName c.name
+  fits : ClockFits c
+  fresh : is_taken before c.name ≡ false
+  room : length before < most_clocks
+
+-- each of these clocks is one, behind those before it
+abbrev AreGood : List Clock → List Clock → Type 0
+AreGood before [] = ⊤
+AreGood before (c ∷ clocks) = GoodClock before c × AreGood (before ++ c ∷ []) clocks
+
+good_append : (before xs ys : List Clock) → AreGood before xs → AreGood (before ++ xs) ys → AreGood before (xs ++ ys)
+good_append before [] ys good more = subst (λ (b : List Clock). AreGood b ys) (append-nil before) more
+good_append before (x ∷ xs) ys good more = (good.0, good_append (before ++ x ∷ []) xs ys good.1 (subst (λ (b : List Clock). AreGood b ys) (sym (append_assoc before (x ∷ []) xs)) more))
+
+good_all : (P : Clock → Type 0) → ((before : List Clock) (c : Clock) → GoodClock before c → P c) → (before clocks : List Clock) → AreGood before clocks → All P clocks
+good_all P each before [] good = All-nil P
+good_all P each before (c ∷ clocks) good = All-cons P _ _ (each before c good.0) (good_all P each (before ++ c ∷ []) clocks good.1)
+
+good_few : (before clocks : List Clock) → length before ≤ most_clocks → AreGood before clocks → length before + length clocks ≤ most_clocks
+good_few before [] le good = omega (arith, le)
+good_few before (c ∷ clocks) le good =
+    let long = length-append before (c ∷ []) in
+    let room : length before < most_clocks = good.0.room in
+    let more = good_few (before ++ c ∷ []) clocks (omega (arith, long, room)) good.1 in
+    omega (arith, long, more)
+
+abbrev same_name : Clock → Clock → Bool
+same_name b c = bytes_eq b.name c.name
+
+none_passes : (t : Clock → Bool) (i : ℕ) (clocks : List Clock) → is_some (position_from t i clocks) ≡ false → list_any t clocks ≡ false
+none_passes t i [] e = refl
+none_passes t i (c ∷ clocks) e = go (t c) refl (none_passes t (i + 1) clocks)
+  where
+    go : (b : Bool) → t c ≡ b → (is_some (position_from t (i + 1) clocks) ≡ false → list_any t clocks ≡ false) → list_any t (c ∷ clocks) ≡ false
+    go true is more = absurd (false≢true (sym (rw is at e)))
+    go false is more = rw is (more (rw is at e))
+
+good_fresh : (before clocks : List Clock) → AreGood before clocks → IsFresh same_name before clocks
+good_fresh before [] good = tt
+good_fresh before (c ∷ clocks) good = (none_passes (λ (b : Clock). bytes_eq b.name c.name) 0 before good.0.fresh, good_fresh (before ++ c ∷ []) clocks good.1)
+
+names_differ : (clocks : List Clock) → AllPairs (λ (a b : Clock). same_name a b ≡ false) clocks → AllPairs (λ (a b : Clock). a.name ≢ b.name) clocks
+names_differ clocks apart i j d below inside same =
+    false≢true (sym (apart i j d below inside) ∙ (bytes_eq-Decides (get_or clocks i d).name (get_or clocks j d).name).1 same)
+
+room_is : (before : List Clock) → have_no_room before ≡ false → length before < most_clocks
+room_is before e = grind (arith, e)
+
+-- ---- the clocks of a host
+
+-- what is known of a clock's table without a fault
+record GoodTable (host : Members) (before : List Clock) (own : Members) : Type 0 where
+  clock : GoodClock before (clock_of (name_in own) own host)
+  gap : number_at (codes "gap") own < nano_limit
+
+good_table : (host : Members) (before : List Clock) (o : Option Members) → entry_causes (clock_causes host before) o ≡ [] → GoodTable host before (unwrap_or o no_members)
+good_table host before None e = cc
+good_table host before (Some own) e =
+    let (front, numbers) = no_parts (table_causes form.Clock own ++ when (not (is_clock_name (name_in own)) || is_taken before (name_in own)) cause.Name) _ e in
+    let (_, names) = no_parts (table_causes form.Clock own) _ front in
+    let (named, fresh) = neither (not (is_clock_name (name_in own))) _ (not_so _ cause.Name names) in
+    let (tame, full) = neither (has_wild_number own host || has_wild_gap own) _ (not_so _ cause.Number numbers) in
+    let (fits, gap) = neither (has_wild_number own host) _ tame in
+    record {
+      clock = record {
+        named = clock_name_is (name_in own) (not_false _ named);
+        fits = clock_fits (name_in own) own host fits;
+        fresh = fresh;
+        room = room_is before full;
+      };
+      gap = below_62 (whole_or_zero (codes "gap") own) (not_false _ gap);
+    }
+
+-- the first table and the others
+table_here : (host : Members) (before : List Clock) (d : Data) (ds : Items) → tables_causes host before (item d ds) ≡ [] → GoodTable host before (entry_of d)
+table_here host before d ds e = good_table host before (as_table d) (no_parts (entry_causes (clock_causes host before) (as_table d)) _ e).0
+
+tables_behind : (host : Members) (before : List Clock) (d : Data) (ds : Items) → tables_causes host before (item d ds) ≡ []
+    → tables_causes host (before ++ clock_of (name_in (entry_of d)) (entry_of d) host ∷ []) ds ≡ []
+tables_behind host before d ds e = (no_parts (entry_causes (clock_causes host before) (as_table d)) _ e).1
+
+tables_good : (host : Members) (before : List Clock) (ds : Items) → tables_causes host before ds ≡ [] → AreGood before (table_clocks host ds)
+tables_good host before no_items e = tt
+tables_good host before (item d ds) e =
+    ((table_here host before d ds e).clock, tables_good host (before ++ clock_of (name_in (entry_of d)) (entry_of d) host ∷ []) ds (tables_behind host before d ds e))
+
+table_gaps_fit : (host : Members) (before : List Clock) (ds : Items) → tables_causes host before ds ≡ [] → All (λ (gap : ℕ). gap < nano_limit) (table_gaps ds)
+table_gaps_fit host before no_items e = All-nil (λ (gap : ℕ). gap < nano_limit)
+table_gaps_fit host before (item d ds) e =
+    All-cons (λ (gap : ℕ). gap < nano_limit) _ _ (table_here host before d ds e).gap
+    (table_gaps_fit host (before ++ clock_of (name_in (entry_of d)) (entry_of d) host ∷ []) ds (tables_behind host before d ds e))
+
+clocks_good : (before : List Clock) (name : List ℕ) (host : Members) (ds : Items) → IsClockName name → has_wild_number no_members host ≡ false → clocks_causes before name host ds ≡ [] → AreGood before (clocks_by name host ds)
+clocks_good before name host no_items named tame e =
+    let (taken, full) = no_parts (when (is_taken before name) cause.Name) _ e in
+    (record { named = named; fits = clock_fits name no_members host tame; fresh = not_so _ cause.Name taken; room = room_is before (not_so _ cause.Number full) }, tt)
+clocks_good before name host (item d ds) named tame e = tables_good host before (item d ds) e
+
+clock_gaps_fit : (before : List Clock) (name : List ℕ) (host : Members) (ds : Items) → clocks_causes before name host ds ≡ [] → All (λ (gap : ℕ). gap < nano_limit) (gaps_by ds)
+clock_gaps_fit before name host no_items e = All-cons (λ (gap : ℕ). gap < nano_limit) 0 [] (omega arith) (All-nil (λ (gap : ℕ). gap < nano_limit))
+clock_gaps_fit before name host (item d ds) e = table_gaps_fit host before (item d ds) e
 
 -- ---- hosts
 
 -- what is known of a host without a fault
-record GoodHost (before : Known) (name : List ℕ) (ms : Members) : Type 0 where
+record GoodHost (index : ℕ) (before : Known) (clocks : List Clock) (name : List ℕ) (ms : Members) : Type 0 where
   named : IsClockName name
-  fits : ClockFits (clock_of name ms)
+  few : index ≤ most_entries
   fresh : has_bad_address address_of before.narrow (address_texts ms) ≡ false
   fresh6 : has_bad_address address6_of before.wide (address6_texts ms) ≡ false
+  good : AreGood clocks (clocks_by name ms (clock_tables ms))
+  gaps : All (λ (gap : ℕ). gap < nano_limit) (gaps_by (clock_tables ms))
 
-good_host : (index : ℕ) (before : Known) (name : List ℕ) (o : Option Members) → host_causes index before name o ≡ [] → GoodHost before name (unwrap_or o no_members)
-good_host index before name None e = cc
-good_host index before name (Some ms) e =
-    let (clock, bad) = no_parts (clock_causes index name ms) _ e in
-    let (front, numbers) = no_parts (table_causes Hosts ms ++ when (not (is_clock_name name)) cause.Name) _ clock in
-    let (table, named) = no_parts (table_causes Hosts ms) _ front in
+few_is : (index : ℕ) → is_one_too_many index ≡ false → index ≤ most_entries
+few_is index e = grind (arith, e)
+
+good_host : (index : ℕ) (before : Known) (clocks : List Clock) (name : List ℕ) (o : Option Members) → entry_causes (host_causes index before clocks name) o ≡ [] → GoodHost index before clocks name (unwrap_or o no_members)
+good_host index before clocks name None e = cc
+good_host index before clocks name (Some ms) e =
+    let (own, behind) = no_parts (own_causes index before name ms) _ e in
+    let (clock, bad) = no_parts (table_causes form.Host ms ++ when (not (is_clock_name name)) cause.Name ++ when (is_one_too_many index || has_wild_number no_members ms) cause.Number) _ own in
+    let (front, numbers) = no_parts (table_causes form.Host ms ++ when (not (is_clock_name name)) cause.Name) _ clock in
+    let (table, names) = no_parts (table_causes form.Host ms) _ front in
+    let (few, tame) = neither (is_one_too_many index) _ (not_so _ cause.Number numbers) in
     let (fresh, fresh6) = neither (has_bad_address address_of before.narrow (address_texts ms)) _ (not_so _ cause.Address bad) in
+    let named : IsClockName name = clock_name_is name (not_false _ (not_so _ cause.Name names)) in
     record {
-      named = clock_name_is name (not_false _ (not_so _ cause.Name named));
-      fits = clock_fits name ms (neither _ _ (not_so _ cause.Number numbers)).1;
+      named = named;
+      few = few_is index few;
       fresh = fresh;
       fresh6 = fresh6;
+      good = clocks_good clocks name ms (clock_tables ms) named tame behind;
+      gaps = clock_gaps_fit clocks name ms (clock_tables ms) behind;
     }
 
 -- the first host and the others
-host_here : (index : ℕ) (before : Known) (name : List ℕ) (d : Data) (ms : Members) → hosts_faults index before (member name d ms) ≡ [] → host_causes index before name (as_table d) ≡ []
-host_here index before name d ms e = no_causes Hosts index _ (no_parts (at Hosts index (host_causes index before name (as_table d))) _ e).0
+host_here : (index : ℕ) (before : Known) (clocks : List Clock) (name : List ℕ) (d : Data) (ms : Members) → hosts_faults index before clocks (member name d ms) ≡ [] → GoodHost index before clocks name (entry_of d)
+host_here index before clocks name d ms e =
+    good_host index before clocks name (as_table d) (no_causes Hosts index _ (no_parts (at Hosts index (entry_causes (host_causes index before clocks name) (as_table d))) _ e).0)
 
-hosts_behind : (index : ℕ) (before : Known) (name : List ℕ) (d : Data) (ms : Members) → hosts_faults index before (member name d ms) ≡ [] → hosts_faults (index + 1) (known_behind before d) ms ≡ []
-hosts_behind index before name d ms e = (no_parts (at Hosts index (host_causes index before name (as_table d))) _ e).1
+hosts_behind : (index : ℕ) (before : Known) (clocks : List Clock) (name : List ℕ) (d : Data) (ms : Members) → hosts_faults index before clocks (member name d ms) ≡ []
+    → hosts_faults (index + 1) (known_behind before d) (clocks ++ clocks_in name d) ms ≡ []
+hosts_behind index before clocks name d ms e = (no_parts (at Hosts index (entry_causes (host_causes index before clocks name) (as_table d))) _ e).1
 
-hosts_named : (index : ℕ) (before : Known) (ms : Members) → hosts_faults index before ms ≡ [] → All (λ (c : Clock). IsClockName c.name) (clocks_of ms)
-hosts_named index before no_members e = All-nil (λ (c : Clock). IsClockName c.name)
-hosts_named index before (member name d ms) e =
-    All-cons (λ (c : Clock). IsClockName c.name) _ _ (good_host index before name (as_table d) (host_here index before name d ms e)).named
-    (hosts_named (index + 1) (known_behind before d) ms (hosts_behind index before name d ms e))
+hosts_named : (index : ℕ) (before : Known) (clocks : List Clock) (ms : Members) → hosts_faults index before clocks ms ≡ [] → All IsClockName (hosts_of ms)
+hosts_named index before clocks no_members e = All-nil IsClockName
+hosts_named index before clocks (member name d ms) e =
+    All-cons IsClockName _ _ (host_here index before clocks name d ms e).named
+    (hosts_named (index + 1) (known_behind before d) (clocks ++ clocks_in name d) ms (hosts_behind index before clocks name d ms e))
 
-hosts_fit : (index : ℕ) (before : Known) (ms : Members) → hosts_faults index before ms ≡ [] → All ClockFits (clocks_of ms)
-hosts_fit index before no_members e = All-nil ClockFits
-hosts_fit index before (member name d ms) e =
-    All-cons ClockFits _ _ (good_host index before name (as_table d) (host_here index before name d ms e)).fits
-    (hosts_fit (index + 1) (known_behind before d) ms (hosts_behind index before name d ms e))
-
-hosts_few : (index : ℕ) (before : Known) (ms : Members) → index ≤ most_entries + 1 → hosts_faults index before ms ≡ [] → index + length (clocks_of ms) ≤ most_entries + 1
-hosts_few index before no_members le e = omega (arith, le)
-hosts_few index before (member name d ms) le e =
-    let here = host_few index before name (as_table d) (host_here index before name d ms e) in
-    let more = hosts_few (index + 1) (known_behind before d) ms (omega (arith, here)) (hosts_behind index before name d ms e) in
+hosts_few : (index : ℕ) (before : Known) (clocks : List Clock) (ms : Members) → index ≤ most_entries + 1 → hosts_faults index before clocks ms ≡ [] → index + length (hosts_of ms) ≤ most_entries + 1
+hosts_few index before clocks no_members le e = omega (arith, le)
+hosts_few index before clocks (member name d ms) le e =
+    let here : index ≤ most_entries = (host_here index before clocks name d ms e).few in
+    let more = hosts_few (index + 1) (known_behind before d) (clocks ++ clocks_in name d) ms (omega (arith, here)) (hosts_behind index before clocks name d ms e) in
     omega (arith, more)
 
-hosts_are_named : (index : ℕ) (before : Known) (ms : Members) → hosts_faults index before ms ≡ [] → All IsClockName (hosts_of ms)
-hosts_are_named index before no_members e = All-nil IsClockName
-hosts_are_named index before (member name d ms) e =
-    All-cons IsClockName _ _ (good_host index before name (as_table d) (host_here index before name d ms e)).named
-    (hosts_are_named (index + 1) (known_behind before d) ms (hosts_behind index before name d ms e))
+hosts_good : (index : ℕ) (before : Known) (clocks : List Clock) (ms : Members) → hosts_faults index before clocks ms ≡ [] → AreGood clocks (clocks_of ms)
+hosts_good index before clocks no_members e = tt
+hosts_good index before clocks (member name d ms) e =
+    good_append clocks (clocks_in name d) (clocks_of ms) (host_here index before clocks name d ms e).good
+    (hosts_good (index + 1) (known_behind before d) (clocks ++ clocks_in name d) ms (hosts_behind index before clocks name d ms e))
 
--- each clock has its host's name
-pub own_names : (ms : Members) → map (λ (c : Clock). c.name) (clocks_of ms) ≡ hosts_of ms
-own_names no_members = refl
-own_names (member name d ms) = ap (λ (names : List (List ℕ)). name ∷ names) (own_names ms)
+-- ---- owners
 
--- so names of clocks differ where those of hosts rise
-clocks_differ : (clocks : List Clock) (hosts : List (List ℕ)) → map (λ (c : Clock). c.name) clocks ≡ hosts → Rise hosts → AllPairs (λ (a b : Clock). a.name ≢ b.name) clocks
-clocks_differ clocks hosts own rise i j d below inside =
-    let first : get_or hosts i [] ≡ (get_or clocks i d).name = ap (λ (names : List (List ℕ)). get_or names i []) (sym own) ∙ get_or-map (λ (c : Clock). c.name) clocks i d [] (omega (arith, below, inside)) in
-    let second : get_or hosts j [] ≡ (get_or clocks j d).name = ap (λ (names : List (List ℕ)). get_or names j []) (sym own) ∙ get_or-map (λ (c : Clock). c.name) clocks j d [] inside in
-    let long : length hosts ≡ length clocks = sym (ap length own) ∙ length-map clocks (λ (c : Clock). c.name) in
-    let apart : get_or hosts i [] ≢ get_or hosts j [] = precedes_differ _ _ (rise i j [] below (omega (arith, inside, long))) in
-    λ same. apart (first ∙ same ∙ sym second)
+tables_counted : (host : Members) (ds : Items) → length (table_gaps ds) ≡ length (table_clocks host ds)
+tables_counted host no_items = refl
+tables_counted host (item d ds) = ap suc (tables_counted host ds)
 
-owners_counted : (k : ℕ) (ms : Members) → length (one_clock_each k (hosts_of ms)) ≡ length (clocks_of ms)
-owners_counted k no_members = refl
-owners_counted k (member name d ms) = ap suc (owners_counted (k + 1) ms)
+gaps_counted : (name : List ℕ) (host : Members) (ds : Items) → length (gaps_by ds) ≡ length (clocks_by name host ds)
+gaps_counted name host no_items = refl
+gaps_counted name host (item d ds) = tables_counted host (item d ds)
 
-hosts_counted : (ms : Members) → length (hosts_of ms) ≡ length (clocks_of ms)
-hosts_counted no_members = refl
-hosts_counted (member name d ms) = ap suc (hosts_counted ms)
+owners_counted : (place : ℕ) (ms : Members) → length (owners_from place ms) ≡ length (clocks_of ms)
+owners_counted place no_members = refl
+owners_counted place (member name d ms) =
+    let gaps = gaps_by (clock_tables (entry_of d)) in
+    let owned : length (owned_by place gaps) ≡ length gaps = length-map gaps (λ gap. record { host = place; gap = gap }) in
+    let here = gaps_counted name (entry_of d) (clock_tables (entry_of d)) in
+    let more = owners_counted (place + 1) ms in
+    let left = length-append (owned_by place gaps) (owners_from (place + 1) ms) in
+    let right = length-append (clocks_in name d) (clocks_of ms) in
+    left ∙ ap (λ (n : ℕ). n + length (owners_from (place + 1) ms)) (owned ∙ here) ∙ ap (λ (n : ℕ). length (clocks_in name d) + n) more ∙ sym right
+
+-- what holds of an owner with each of these gaps holds of all owners with them
+owners_of_host : (P : Owner → Type 0) (place : ℕ) (gaps : List ℕ) → All (λ (gap : ℕ). P (let o : Owner = record { host = place; gap = gap } in o)) gaps → All P (owned_by place gaps)
+owners_of_host P place [] all = All-nil P
+owners_of_host P place (gap ∷ gaps) all = All-cons P _ _ (all 0 gap (omega arith)) (owners_of_host P place gaps (λ k d below. all (suc k) d (omega (arith, below))))
+
+owners_placed : (place : ℕ) (ms : Members) (n : ℕ) → place + length (hosts_of ms) ≡ n → All (λ (o : Owner). o.host < n) (owners_from place ms)
+owners_placed place no_members n e = All-nil (λ (o : Owner). o.host < n)
+owners_placed place (member name d ms) n e =
+    All-append (λ (o : Owner). o.host < n) (owned_by place (gaps_by (clock_tables (entry_of d)))) (owners_from (place + 1) ms)
+    (owners_of_host (λ (o : Owner). o.host < n) place (gaps_by (clock_tables (entry_of d))) (λ k gap below. omega (arith, e)))
+    (owners_placed (place + 1) ms n (omega (arith, e)))
+
+owners_above : (least place : ℕ) (ms : Members) → least ≤ place → All (λ (o : Owner). least ≤ o.host) (owners_from place ms)
+owners_above least place no_members le = All-nil (λ (o : Owner). least ≤ o.host)
+owners_above least place (member name d ms) le =
+    All-append (λ (o : Owner). least ≤ o.host) (owned_by place (gaps_by (clock_tables (entry_of d)))) (owners_from (place + 1) ms)
+    (owners_of_host (λ (o : Owner). least ≤ o.host) place (gaps_by (clock_tables (entry_of d))) (λ k gap below. le))
+    (owners_above least (place + 1) ms (omega (arith, le)))
+
+-- owners of a host before those of hosts behind it
+host_rises : (place : ℕ) (gaps : List ℕ) (more : List Owner) → All (λ (o : Owner). place ≤ o.host) more → AllPairs (λ (a b : Owner). a.host ≤ b.host) more
+    → AllPairs (λ (a b : Owner). a.host ≤ b.host) (owned_by place gaps ++ more)
+host_rises place [] more above rise = rise
+host_rises place (gap ∷ gaps) more above rise =
+    AllPairs-cons (λ (a b : Owner). a.host ≤ b.host) _ _
+    (All-append (λ (o : Owner). place ≤ o.host) (owned_by place gaps) more (owners_of_host (λ (o : Owner). place ≤ o.host) place gaps (λ k g below. omega arith)) above)
+    (host_rises place gaps more above rise)
+
+owners_rise_from : (place : ℕ) (ms : Members) → AllPairs (λ (a b : Owner). a.host ≤ b.host) (owners_from place ms)
+owners_rise_from place no_members = λ i j d below inside. absurd (omega (arith, inside))
+owners_rise_from place (member name d ms) =
+    host_rises place (gaps_by (clock_tables (entry_of d))) (owners_from (place + 1) ms) (owners_above place (place + 1) ms (omega arith)) (owners_rise_from (place + 1) ms)
+
+owners_fit : (index place : ℕ) (before : Known) (clocks : List Clock) (ms : Members) → hosts_faults index before clocks ms ≡ [] → All (λ (o : Owner). o.gap < nano_limit) (owners_from place ms)
+owners_fit index place before clocks no_members e = All-nil (λ (o : Owner). o.gap < nano_limit)
+owners_fit index place before clocks (member name d ms) e =
+    All-append (λ (o : Owner). o.gap < nano_limit) (owned_by place (gaps_by (clock_tables (entry_of d)))) (owners_from (place + 1) ms)
+    (owners_of_host (λ (o : Owner). o.gap < nano_limit) place (gaps_by (clock_tables (entry_of d))) (host_here index before clocks name d ms e).gaps)
+    (owners_fit (index + 1) (place + 1) (known_behind before d) (clocks ++ clocks_in name d) ms (hosts_behind index before clocks name d ms e))
+
+-- each host has a first clock
+first_owned : (place : ℕ) (ds : Items) (more : List Owner) → IsClockOf (owned_by place (gaps_by ds) ++ more) place 0
+first_owned place no_items more = (record { host = place; gap = 0 }, refl, refl)
+first_owned place (item d ds) more = (record { host = place; gap = number_at (codes "gap") (entry_of d) }, refl, refl)
+
+get_behind : (front more : List Owner) (k : ℕ) → slice_get (front ++ more) (length front + k) ≡ slice_get more k
+get_behind [] more k = ap (λ (n : ℕ). slice_get more n) (let none : 0 + k ≡ k = omega arith in none)
+get_behind (o ∷ front) more k =
+    ap (λ (n : ℕ). slice_get (o ∷ front ++ more) n) (let on : suc (length front) + k ≡ suc (length front + k) = omega arith in on) ∙ get_behind front more k
+
+owned_behind : (front more : List Owner) (host clock : ℕ) → IsClockOf more host clock → IsClockOf (front ++ more) host (length front + clock)
+owned_behind front more host clock owned = (owned.0, get_behind front more clock ∙ owned.1, owned.2)
+
+host_owned : (place : ℕ) (ms : Members) (host : ℕ) → host < length (hosts_of ms) → (clock : ℕ) × IsClockOf (owners_from place ms) (place + host) clock
+host_owned place no_members host inside = absurd (omega (arith, inside))
+host_owned place (member name d ms) zero inside =
+    (0, subst (λ (h : ℕ). IsClockOf (owners_from place (member name d ms)) h 0) (let same : place ≡ place + 0 = omega arith in same) (first_owned place (clock_tables (entry_of d)) (owners_from (place + 1) ms)))
+host_owned place (member name d ms) (suc host) inside =
+    let front = owned_by place (gaps_by (clock_tables (entry_of d))) in
+    let more = host_owned (place + 1) ms host (omega (arith, inside)) in (
+      length front + more.0,
+      owned_behind front (owners_from (place + 1) ms) (place + suc host) more.0
+          (subst (λ (h : ℕ). IsClockOf (owners_from (place + 1) ms) h more.0) (let same : place + 1 + host ≡ place + suc host = omega arith in same) more.1),
+    )
 
 -- ---- addresses
 
@@ -148,14 +321,14 @@ addresses6_of_host : (P : Address6 → Type 0) (place : ℕ) (numbers : List ℕ
 addresses6_of_host P place [] all = All-nil P
 addresses6_of_host P place (n ∷ numbers) all = All-cons P _ _ (all 0 n (omega arith)) (addresses6_of_host P place numbers (λ k d below. all (suc k) d (omega (arith, below))))
 
-addresses_placed : (place : ℕ) (ms : Members) (n : ℕ) → place + length (clocks_of ms) ≡ n → All (λ (a : Address). a.host < n) (addresses_from place ms)
+addresses_placed : (place : ℕ) (ms : Members) (n : ℕ) → place + length (hosts_of ms) ≡ n → All (λ (a : Address). a.host < n) (addresses_from place ms)
 addresses_placed place no_members n e = All-nil (λ (a : Address). a.host < n)
 addresses_placed place (member name d ms) n e =
     All-append (λ (a : Address). a.host < n) (at_host place (addresses_in d)) (addresses_from (place + 1) ms)
     (addresses_of_host (λ (a : Address). a.host < n) place (addresses_in d) (λ k m below. omega (arith, e)))
     (addresses_placed (place + 1) ms n (omega (arith, e)))
 
-addresses6_placed : (place : ℕ) (ms : Members) (n : ℕ) → place + length (clocks_of ms) ≡ n → All (λ (a : Address6). a.host < n) (addresses6_from place ms)
+addresses6_placed : (place : ℕ) (ms : Members) (n : ℕ) → place + length (hosts_of ms) ≡ n → All (λ (a : Address6). a.host < n) (addresses6_from place ms)
 addresses6_placed place no_members n e = All-nil (λ (a : Address6). a.host < n)
 addresses6_placed place (member name d ms) n e =
     All-append (λ (a : Address6). a.host < n) (at_host6 place (addresses6_in d)) (addresses6_from (place + 1) ms)
@@ -181,11 +354,11 @@ written_below read limit low (text ∷ texts) = All-append (λ (n : ℕ). n < li
     one None e = All-nil (λ (n : ℕ). n < limit)
     one (Some n) e = All-cons (λ (m : ℕ). m < limit) n [] (low text n e) (All-nil (λ (m : ℕ). m < limit))
 
-addresses_fit : (place : ℕ) (ms : Members) → All (λ (a : Address). a.address < address_limit) (addresses_from place ms)
-addresses_fit place no_members = All-nil (λ (a : Address). a.address < address_limit)
-addresses_fit place (member name d ms) =
+addresses_fit_from : (place : ℕ) (ms : Members) → All (λ (a : Address). a.address < address_limit) (addresses_from place ms)
+addresses_fit_from place no_members = All-nil (λ (a : Address). a.address < address_limit)
+addresses_fit_from place (member name d ms) =
     All-append (λ (a : Address). a.address < address_limit) (at_host place (addresses_in d)) (addresses_from (place + 1) ms)
-    (addresses_of_host (λ (a : Address). a.address < address_limit) place (addresses_in d) (written_below address_of address_limit address_below (address_texts (entry_of d)))) (addresses_fit (place + 1) ms)
+    (addresses_of_host (λ (a : Address). a.address < address_limit) place (addresses_in d) (written_below address_of address_limit address_below (address_texts (entry_of d)))) (addresses_fit_from (place + 1) ms)
 
 abbrev same_number : ℕ → ℕ → Bool
 same_number b x = x == b
@@ -199,22 +372,22 @@ texts_fresh read before (text ∷ texts) e = go (read text) (neither (is_bad_add
     go None h more = let e' : true ≡ false = h.0 in cc
     go (Some n) h more = (h.0, more h.1)
 
-addresses_fresh : (index place : ℕ) (before : Known) (ms : Members) → hosts_faults index before ms ≡ [] → IsFresh same_number before.narrow (numbers_of (addresses_from place ms))
-addresses_fresh index place before no_members e = tt
-addresses_fresh index place before (member name d ms) e =
-    let here = good_host index before name (as_table d) (host_here index before name d ms e) in
+addresses_fresh : (index place : ℕ) (before : Known) (clocks : List Clock) (ms : Members) → hosts_faults index before clocks ms ≡ [] → IsFresh same_number before.narrow (numbers_of (addresses_from place ms))
+addresses_fresh index place before clocks no_members e = tt
+addresses_fresh index place before clocks (member name d ms) e =
+    let here = host_here index before clocks name d ms e in
     let front = texts_fresh address_of before.narrow (address_texts (entry_of d)) here.fresh in
-    let back = addresses_fresh (index + 1) (place + 1) (known_behind before d) ms (hosts_behind index before name d ms e) in
+    let back = addresses_fresh (index + 1) (place + 1) (known_behind before d) (clocks ++ clocks_in name d) ms (hosts_behind index before clocks name d ms e) in
     subst (λ (ns : List ℕ). IsFresh same_number before.narrow ns)
     (sym (numbers_more (at_host place (addresses_in d)) (addresses_from (place + 1) ms) ∙ ap (λ (ns : List ℕ). ns ++ numbers_of (addresses_from (place + 1) ms)) (numbers_at_host place (addresses_in d))))
     (fresh_append same_number before.narrow (addresses_in d) (numbers_of (addresses_from (place + 1) ms)) front back)
 
-addresses6_fresh : (index place : ℕ) (before : Known) (ms : Members) → hosts_faults index before ms ≡ [] → IsFresh same_number before.wide (numbers6_of (addresses6_from place ms))
-addresses6_fresh index place before no_members e = tt
-addresses6_fresh index place before (member name d ms) e =
-    let here = good_host index before name (as_table d) (host_here index before name d ms e) in
+addresses6_fresh : (index place : ℕ) (before : Known) (clocks : List Clock) (ms : Members) → hosts_faults index before clocks ms ≡ [] → IsFresh same_number before.wide (numbers6_of (addresses6_from place ms))
+addresses6_fresh index place before clocks no_members e = tt
+addresses6_fresh index place before clocks (member name d ms) e =
+    let here = host_here index before clocks name d ms e in
     let front = texts_fresh address6_of before.wide (address6_texts (entry_of d)) here.fresh6 in
-    let back = addresses6_fresh (index + 1) (place + 1) (known_behind before d) ms (hosts_behind index before name d ms e) in
+    let back = addresses6_fresh (index + 1) (place + 1) (known_behind before d) (clocks ++ clocks_in name d) ms (hosts_behind index before clocks name d ms e) in
     subst (λ (ns : List ℕ). IsFresh same_number before.wide ns)
     (sym (numbers6_more (at_host6 place (addresses6_in d)) (addresses6_from (place + 1) ms) ∙ ap (λ (ns : List ℕ). ns ++ numbers6_of (addresses6_from (place + 1) ms)) (numbers6_at_host place (addresses6_in d))))
     (fresh_append same_number before.wide (addresses6_in d) (numbers6_of (addresses6_from (place + 1) ms)) front back)
@@ -229,227 +402,54 @@ numbers_differ number things apart i j d below inside same =
     let equal : same_number (get_or (map number things) i 0) (get_or (map number things) j 0) ≡ true = eq-eqb _ _ (second ∙ sym same ∙ sym first) in
     cc
 
--- ---- labels
+-- ---- all that is asked of hosts and their clocks
 
-is_given : {A : Type 0} (o : Option A) → is_none o ≡ false → (a : A) × (o ≡ Some a)
-is_given None e = cc
-is_given (Some a) e = (a, refl)
+pub host_names : (ms : Members) → hosts_faults 1 none_known [] ms ≡ [] → All IsClockName (hosts_of ms)
+host_names ms e = hosts_named 1 none_known [] ms e
 
-position_below : (t : List ℕ → Bool) (i : ℕ) (hosts : List (List ℕ)) (k : ℕ) → position_from t i hosts ≡ Some k → k < i + length hosts
-position_below t i [] k e = absurd (none-some k e)
-position_below t i (c ∷ hosts) k e = go (t c) refl (position_below t (i + 1) hosts k)
-  where
-    go : (b : Bool) → t c ≡ b → (position_from t (i + 1) hosts ≡ Some k → k < i + 1 + length hosts) → k < i + length (c ∷ hosts)
-    go true is more = let same : i ≡ k = same_Some i k (rw is at e) in omega (arith, same)
-    go false is more = omega (arith, more (rw is at e))
+pub clock_names : (ms : Members) → hosts_faults 1 none_known [] ms ≡ [] → All (λ (c : Clock). IsClockName c.name) (clocks_of ms)
+clock_names ms e = good_all (λ (c : Clock). IsClockName c.name) (λ before c good. good.named) [] (clocks_of ms) (hosts_good 1 none_known [] ms e)
 
-place_below : (hosts : List (List ℕ)) (name : List ℕ) (k : ℕ) → place_of hosts name ≡ Some k → k < length hosts
-place_below hosts name k e = omega (arith, position_below _ 0 hosts k e)
+pub clocks_differ : (ms : Members) → hosts_faults 1 none_known [] ms ≡ [] → AllPairs (λ (a b : Clock). a.name ≢ b.name) (clocks_of ms)
+clocks_differ ms e = names_differ (clocks_of ms) (all_apart same_name [] (clocks_of ms) (good_fresh [] (clocks_of ms) (hosts_good 1 none_known [] ms e)))
 
--- a host owns the clock at its place
-owned_from : (k : ℕ) (hosts : List (List ℕ)) (host : ℕ) → host < length hosts → (o : Owner) × (slice_get (one_clock_each k hosts) host ≡ Some o) × (o.host ≡ k + host)
-owned_from k [] host inside = absurd (omega (arith, inside))
-owned_from k (first ∷ hosts) zero inside = (record { host = k; gap = 0 }, refl, omega arith)
-owned_from k (first ∷ hosts) (suc host) inside =
-    let (o, at, is) = owned_from (k + 1) hosts host (omega (arith, inside)) in (o, at, is ∙ omega arith)
+pub clocks_fit : (ms : Members) → hosts_faults 1 none_known [] ms ≡ [] → All ClockFits (clocks_of ms)
+clocks_fit ms e = good_all ClockFits (λ before c good. good.fits) [] (clocks_of ms) (hosts_good 1 none_known [] ms e)
 
-own_clock : (hosts : List (List ℕ)) (host : ℕ) → host < length hosts → IsClockOf (one_clock_each 0 hosts) host host
-own_clock hosts host inside = let (o, at, is) = owned_from 0 hosts host inside in (o, at, is ∙ omega arith)
+pub clocks_owned : (ms : Members) → length (owners_from 0 ms) ≡ length (clocks_of ms)
+clocks_owned ms = owners_counted 0 ms
 
-module _ (hosts : List (List ℕ)) where
-  -- a host that is known has a place
-  known_below : (key : List ℕ) (ms : Members) → is_none (host_at_key hosts key ms) ≡ false → unwrap_or (host_at_key hosts key ms) 0 < length hosts
-  known_below key ms e =
-      let (k, is) = is_given (host_at_key hosts key ms) e in
-      rw is (place_below hosts _ k is)
+pub owner_hosts : (ms : Members) → All (λ (o : Owner). o.host < length (hosts_of ms)) (owners_from 0 ms)
+owner_hosts ms = owners_placed 0 ms (length (hosts_of ms)) (omega arith)
 
-  record GoodLabel (name : List ℕ) (ms : Members) : Type 0 where
-    named : IsClockName name
-    placed : (label_of hosts name ms).host < length hosts
+pub owners_rise : (ms : Members) → AllPairs (λ (a b : Owner). a.host ≤ b.host) (owners_from 0 ms)
+owners_rise ms = owners_rise_from 0 ms
 
-  good_label : (index : ℕ) (name : List ℕ) (o : Option Members) → entry_causes (label_causes hosts index name) o ≡ [] → GoodLabel name (unwrap_or o no_members)
-  good_label index name None e = cc
-  good_label index name (Some ms) e =
-      let (front, _) = no_parts (table_causes Labels ms ++ when (is_misnamed hosts name ms) cause.Name) _ e in
-      let (_, names) = no_parts (table_causes Labels ms) _ front in
-      let (name_host, kind) = neither (not (is_clock_name name) || is_none (host_at_key hosts (codes "host") ms)) _ (not_so _ cause.Name names) in
-      let (named, host) = neither (not (is_clock_name name)) _ name_host in
-      record { named = clock_name_is name (not_false _ named); placed = known_below (codes "host") ms host }
+pub every_host : (ms : Members) (host : ℕ) → host < length (hosts_of ms) → (clock : ℕ) × IsClockOf (owners_from 0 ms) host clock
+every_host ms host inside =
+    let owned = host_owned 0 ms host inside in
+    (owned.0, subst (λ (h : ℕ). IsClockOf (owners_from 0 ms) h owned.0) (let same : 0 + host ≡ host = omega arith in same) owned.1)
 
-  label_here : (index : ℕ) (name : List ℕ) (d : Data) (ms : Members) → labels_faults hosts index (member name d ms) ≡ [] → entry_causes (label_causes hosts index name) (as_table d) ≡ []
-  label_here index name d ms e = no_causes Labels index _ (no_parts (at Labels index (entry_causes (label_causes hosts index name) (as_table d))) _ e).0
+pub gaps_fit : (ms : Members) → hosts_faults 1 none_known [] ms ≡ [] → All (λ (o : Owner). o.gap < nano_limit) (owners_from 0 ms)
+gaps_fit ms e = owners_fit 1 0 none_known [] ms e
 
-  labels_behind : (index : ℕ) (name : List ℕ) (d : Data) (ms : Members) → labels_faults hosts index (member name d ms) ≡ [] → labels_faults hosts (index + 1) ms ≡ []
-  labels_behind index name d ms e = (no_parts (at Labels index (entry_causes (label_causes hosts index name) (as_table d))) _ e).1
+pub address_hosts : (ms : Members) → All (λ (a : Address). a.host < length (hosts_of ms)) (addresses_from 0 ms)
+address_hosts ms = addresses_placed 0 ms (length (hosts_of ms)) (omega arith)
 
-  labels_named : (index : ℕ) (ms : Members) → labels_faults hosts index ms ≡ [] → All (λ (l : Label). IsClockName l.name) (labels_of hosts ms)
-  labels_named index no_members e = All-nil (λ (l : Label). IsClockName l.name)
-  labels_named index (member name d ms) e =
-      All-cons (λ (l : Label). IsClockName l.name) _ _ (good_label index name (as_table d) (label_here index name d ms e)).named (labels_named (index + 1) ms (labels_behind index name d ms e))
+pub addresses_fit : (ms : Members) → All (λ (a : Address). a.address < address_limit) (addresses_from 0 ms)
+addresses_fit ms = addresses_fit_from 0 ms
 
-  labels_placed : (index : ℕ) (ms : Members) → labels_faults hosts index ms ≡ [] → All (λ (l : Label). l.host < length hosts) (labels_of hosts ms)
-  labels_placed index no_members e = All-nil (λ (l : Label). l.host < length hosts)
-  labels_placed index (member name d ms) e =
-      All-cons (λ (l : Label). l.host < length hosts) _ _ (good_label index name (as_table d) (label_here index name d ms e)).placed (labels_placed (index + 1) ms (labels_behind index name d ms e))
+pub addresses_differ : (ms : Members) → hosts_faults 1 none_known [] ms ≡ [] → AllPairs (λ (a b : Address). a.address ≢ b.address) (addresses_from 0 ms)
+addresses_differ ms e = numbers_differ (λ (a : Address). a.address) (addresses_from 0 ms) (all_apart same_number [] _ (addresses_fresh 1 0 none_known [] ms e))
 
-  labels_owned : (index : ℕ) (ms : Members) → labels_faults hosts index ms ≡ [] → All (λ (l : Label). IsClockOf (one_clock_each 0 hosts) l.host l.clock) (labels_of hosts ms)
-  labels_owned index no_members e = All-nil (λ (l : Label). IsClockOf (one_clock_each 0 hosts) l.host l.clock)
-  labels_owned index (member name d ms) e =
-      let good = good_label index name (as_table d) (label_here index name d ms e) in
-      All-cons (λ (l : Label). IsClockOf (one_clock_each 0 hosts) l.host l.clock) (label_of hosts name (entry_of d)) (labels_of hosts ms) (own_clock hosts (label_of hosts name (entry_of d)).host good.placed) (labels_owned (index + 1) ms (labels_behind index name d ms e))
+pub address6_hosts : (ms : Members) → All (λ (a : Address6). a.host < length (hosts_of ms)) (addresses6_from 0 ms)
+address6_hosts ms = addresses6_placed 0 ms (length (hosts_of ms)) (omega arith)
 
-  labels_few : (index : ℕ) (ms : Members) → index ≤ most_entries + 1 → labels_faults hosts index ms ≡ [] → index + length (labels_of hosts ms) ≤ most_entries + 1
-  labels_few index no_members le e = omega (arith, le)
-  labels_few index (member name d ms) le e =
-      let here = label_few hosts index name (as_table d) (label_here index name d ms e) in
-      let more = labels_few (index + 1) ms (omega (arith, here)) (labels_behind index name d ms e) in
-      omega (arith, more)
+pub addresses6_differ : (ms : Members) → hosts_faults 1 none_known [] ms ≡ [] → AllPairs (λ (a b : Address6). a.address ≢ b.address) (addresses6_from 0 ms)
+addresses6_differ ms e = numbers_differ (λ (a : Address6). a.address) (addresses6_from 0 ms) (all_apart same_number [] _ (addresses6_fresh 1 0 none_known [] ms e))
 
-  -- ---- links
+pub host_limit : (ms : Members) → hosts_faults 1 none_known [] ms ≡ [] → length (hosts_of ms) ≤ most_entries
+host_limit ms e = omega (arith, hosts_few 1 none_known [] ms (omega arith) e)
 
-  record GoodLink (before : List Link) (ms : Members) : Type 0 where
-    start : (link_of hosts ms).from < length hosts
-    end : (link_of hosts ms).to < length hosts
-    fresh : has_link before (link_of hosts ms).from (link_of hosts ms).to ≡ false
-    fits : LinkFits (link_of hosts ms)
-
-  astray : (before : List Link) (from to : Option ℕ) → is_astray before from to ≡ false → (is_none from ≡ false) × (is_none to ≡ false) × (has_link before (unwrap_or from 0) (unwrap_or to 0) ≡ false)
-  astray before None to e = cc
-  astray before (Some from) None e = cc
-  astray before (Some from) (Some to) e = (refl, refl, e)
-
-  most_fits : (o : Option ℤ) → is_up_to (nano_limit - 1) (unwrap_or o (pos 0)) ≡ true → IfSome (option_map nat_abs o) (λ most. most < nano_limit)
-  most_fits None e = tt
-  most_fits (Some z) e = below_62 z e
-
-  good_link : (index : ℕ) (before : List Link) (o : Option Members) → entry_causes (link_causes hosts index before) o ≡ [] → GoodLink before (unwrap_or o no_members)
-  good_link index before None e = cc
-  good_link index before (Some ms) e =
-      let (front, numbers) = no_parts (table_causes Links ms ++ when (is_astray before (host_at_key hosts (codes "from") ms) (host_at_key hosts (codes "to") ms)) cause.Name) _ e in
-      let (_, names) = no_parts (table_causes Links ms) _ front in
-      let (from, to, fresh) = astray before (host_at_key hosts (codes "from") ms) (host_at_key hosts (codes "to") ms) (not_so _ cause.Name names) in
-      let (_, tame) = neither (is_one_too_many index) _ (not_so _ cause.Number numbers) in
-      let (least, most) = wild (is_up_to (nano_limit - 1) (whole_or_zero (codes "least") ms)) (is_up_to (nano_limit - 1) (whole_or_zero (codes "most") ms)) tame in
-      record {
-        start = known_below (codes "from") ms from;
-        end = known_below (codes "to") ms to;
-        fresh = fresh;
-        fits = (below_62 (whole_or_zero (codes "least") ms) least, most_fits (whole_at (codes "most") ms) most);
-      }
-
-  link_here : (index : ℕ) (before : List Link) (d : Data) (ds : Items) → links_faults hosts index before (item d ds) ≡ [] → entry_causes (link_causes hosts index before) (as_table d) ≡ []
-  link_here index before d ds e = no_causes Links index _ (no_parts (at Links index (entry_causes (link_causes hosts index before) (as_table d))) _ e).0
-
-  links_behind : (index : ℕ) (before : List Link) (d : Data) (ds : Items) → links_faults hosts index before (item d ds) ≡ []
-      → links_faults hosts (index + 1) (before ++ link_of hosts (entry_of d) ∷ []) ds ≡ []
-  links_behind index before d ds e = (no_parts (at Links index (entry_causes (link_causes hosts index before) (as_table d))) _ e).1
-
-  links_all : (P : Link → Type 0) → ((before : List Link) (ms : Members) → GoodLink before ms → P (link_of hosts ms)) → (index : ℕ) (before : List Link) (ds : Items) → links_faults hosts index before ds ≡ []
-      → All P (links_of hosts ds)
-  links_all P good index before no_items e = All-nil P
-  links_all P good index before (item d ds) e =
-      All-cons P _ _ (good before (entry_of d) (good_link index before (as_table d) (link_here index before d ds e)))
-      (links_all P good (index + 1) (before ++ link_of hosts (entry_of d) ∷ []) ds (links_behind index before d ds e))
-
-  links_few : (index : ℕ) (before : List Link) (ds : Items) → index ≤ most_entries + 1 → links_faults hosts index before ds ≡ [] → index + length (links_of hosts ds) ≤ most_entries + 1
-  links_few index before no_items le e = omega (arith, le)
-  links_few index before (item d ds) le e =
-      let here = link_few hosts index before (as_table d) (link_here index before d ds e) in
-      let more = links_few (index + 1) (before ++ link_of hosts (entry_of d) ∷ []) ds (omega (arith, here)) (links_behind index before d ds e) in
-      omega (arith, more)
-
-abbrev same_ends : Link → Link → Bool
-same_ends b l = b.from == l.from && b.to == l.to
-
-links_fresh : (hosts : List (List ℕ)) (index : ℕ) (before : List Link) (ds : Items) → links_faults hosts index before ds ≡ [] → IsFresh same_ends before (links_of hosts ds)
-links_fresh hosts index before no_items e = tt
-links_fresh hosts index before (item d ds) e =
-    ((good_link hosts index before (as_table d) (link_here hosts index before d ds e)).fresh, links_fresh hosts (index + 1) (before ++ link_of hosts (entry_of d) ∷ []) ds (links_behind hosts index before d ds e))
-
-ends_apart : (a b : Link) → same_ends a b ≡ false → a.from ≡ b.from → a.to ≡ b.to → ⊥
-ends_apart a b other from to = both_false (a.from == b.from) (a.to == b.to) (eq-eqb a.from b.from from) (eq-eqb a.to b.to to) other
-  where
-    both_false : (x y : Bool) → x ≡ true → y ≡ true → (x && y) ≡ false → ⊥
-    both_false true true p q e = cc
-    both_false true false p q e = cc
-    both_false false y p q e = cc
-
-links_differ : (links : List Link) → AllPairs (λ (a b : Link). same_ends a b ≡ false) links → AllPairs (λ (a b : Link). (a.from ≡ b.from) → (a.to ≡ b.to) → ⊥) links
-links_differ links apart i j d below inside = ends_apart (get_or links i d) (get_or links j d) (apart i j d below inside)
-
--- ---- the source
-
-true_clock : (o : Option Clock) → shows_true o ≡ true → (c : Clock) × (o ≡ Some c) × (c.rate.short ≡ 0) × (c.rate.long ≡ 0)
-true_clock None e = cc
-true_clock (Some c) e =
-    let (short, long) = parts (c.rate.short == 0) (c.rate.long == 0) e in (c, refl, eqb-true c.rate.short 0 short, eqb-true c.rate.long 0 long)
-  where
-    parts : (a b : Bool) → (a && b) ≡ true → (a ≡ true) × (b ≡ true)
-    parts true true e' = (refl, refl)
-    parts true false e' = cc
-    parts false b e' = cc
-
-true_source : (clocks : List Clock) (o : Option ℕ) → is_true_at clocks o ≡ true → IfSome o (IsSource clocks)
-true_source clocks None e = tt
-true_source clocks (Some place) e = true_clock (slice_get clocks place) e
-
-source_true : (clocks : List Clock) (name : Option (List ℕ)) → source_causes clocks name ≡ [] → IfSome (option_and_then (clock_place clocks) name) (IsSource clocks)
-source_true clocks None e = tt
-source_true clocks (Some name) e = true_source clocks (clock_place clocks name) (not_false _ (not_so _ cause.Source e))
-
--- ---- all together
-
-pub lawful : (ms : Members) → Rise (hosts_of (hosts_in ms)) → RiseLabels (labels_of (hosts_of (hosts_in ms)) (labels_in ms)) → faults ms ≡ [] → IsDeclaration (declared ms)
-lawful ms rise labels_rise e =
-    let names = hosts_of (hosts_in ms) in
-    let clocks = clocks_of (hosts_in ms) in
-    let (top, behind_top) = no_parts (at Top 0 (top_causes ms)) _ e in
-    let (hosts, behind_hosts) = no_parts (hosts_faults 1 none_known (hosts_in ms)) _ behind_top in
-    let (labels, behind_labels) = no_parts (labels_faults names 1 (labels_in ms)) _ behind_hosts in
-    let (links, source) = no_parts (links_faults names 1 [] (links_in ms)) _ behind_labels in
-    let payload = (no_parts (table_causes Top ms) _ (no_causes Top 0 (top_causes ms) top)).1 in
-    let few : 1 + length clocks ≤ most_entries + 1 = hosts_few 1 none_known (hosts_in ms) (omega arith) hosts in
-    let counted : length names ≡ length clocks = hosts_counted (hosts_in ms) in
-    record {
-      hosts = record {
-        host_names = hosts_are_named 1 none_known (hosts_in ms) hosts;
-        hosts_rise = rise;
-        own_names = own_names (hosts_in ms);
-        own_clocks = refl;
-      };
-      clocks = record {
-        clock_names = hosts_named 1 none_known (hosts_in ms) hosts;
-        clocks_differ = clocks_differ clocks names (own_names (hosts_in ms)) rise;
-        clocks_fit = hosts_fit 1 none_known (hosts_in ms) hosts;
-        clocks_owned = owners_counted 0 (hosts_in ms);
-        source_true = source_true clocks (text_at (codes "source") ms) (no_causes Top 0 _ source);
-      };
-      addresses = record {
-        address_hosts = addresses_placed 0 (hosts_in ms) (length names) (omega (arith, counted));
-        addresses_fit = addresses_fit 0 (hosts_in ms);
-        addresses_differ = numbers_differ (λ (a : Address). a.address) (addresses_from 0 (hosts_in ms)) (all_apart same_number [] _ (addresses_fresh 1 0 none_known (hosts_in ms) hosts));
-      };
-      addresses6 = record {
-        address6_hosts = addresses6_placed 0 (hosts_in ms) (length names) (omega (arith, counted));
-        addresses6_differ = numbers_differ (λ (a : Address6). a.address) (addresses6_from 0 (hosts_in ms)) (all_apart same_number [] _ (addresses6_fresh 1 0 none_known (hosts_in ms) hosts));
-      };
-      labels = record {
-        label_names = labels_named names 1 (labels_in ms) labels;
-        labels_rise = labels_rise;
-        label_hosts = labels_placed names 1 (labels_in ms) labels;
-        label_clocks = labels_owned names 1 (labels_in ms) labels;
-      };
-      links = record {
-        link_starts = links_all names (λ (l : Link). l.from < length names) (λ before m good. good.start) 1 [] (links_in ms) links;
-        link_ends = links_all names (λ (l : Link). l.to < length names) (λ before m good. good.end) 1 [] (links_in ms) links;
-        links_differ = links_differ (links_of names (links_in ms)) (all_apart same_ends [] _ (links_fresh names 1 [] (links_in ms) links));
-        links_fit = links_all names LinkFits (λ before m good. good.fits) 1 [] (links_in ms) links;
-      };
-      limits = record {
-        host_limit = omega (arith, few, counted);
-        clock_limit = omega (arith, few);
-        label_limit = omega (arith, labels_few names 1 (labels_in ms) (omega arith) labels);
-        link_limit = omega (arith, links_few names 1 [] (links_in ms) (omega arith) links);
-        payload_limit = up_to_le most_payload (whole_or_zero (codes "payload_bytes") ms) (not_false _ (not_so _ cause.Number payload));
-      };
-    }
+pub clock_limit : (ms : Members) → hosts_faults 1 none_known [] ms ≡ [] → length (clocks_of ms) ≤ most_clocks
+clock_limit ms e = omega (arith, good_few [] (clocks_of ms) (omega arith) (hosts_good 1 none_known [] ms e))

@@ -1,12 +1,17 @@
 mod ClockNames
 mod Dotted
 mod Grouped
+pub mod Following
 pub mod Searching
 mod Faults
+mod ClockPlaces
+mod ClockTurns
+mod NoClock
 mod HostTurns
 mod LabelTurns
 mod LinkTurns
 mod Walking
 mod Fresh
 mod Lawful
+mod LawfulWhole
 mod Wholes

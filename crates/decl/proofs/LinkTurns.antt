@@ -8,9 +8,9 @@ use Rattle.toml.specs.Data.{as_table, Items, item, Members}
 use Rattle.toml.specs.View.{view, items_view}
 use Rattle.toml.specs.declared.value.Value.{Value}
 use Rattle.decl.specs.Causes.{at, when, first, error_at, IsFirstOf}
-use Rattle.decl.specs.Hosts.{entry_of, is_one_too_many}
-use Rattle.decl.specs.Keys.{table_causes}
-use Rattle.decl.specs.Labels.{host_at_key, entry_causes}
+use Rattle.decl.specs.Hosts.{is_one_too_many}
+use Rattle.decl.specs.Keys.{table_causes, entry_causes, entry_of}
+use Rattle.decl.specs.Labels.{host_at_key}
 use Rattle.decl.specs.Limits.{most_entries, nano_limit}
 use Rattle.decl.specs.Links.{has_link, is_astray, most_at, link_causes, link_of, links_faults, links_of}
 use Rattle.decl.specs.Values.{whole_at, whole_or_zero, number_at, is_up_to}
@@ -19,6 +19,7 @@ use Rattle.decl.specs.declared.cause.Cause.TheVariants.{Name, Number}
 use Rattle.decl.specs.declared.errors.DeclError.{DeclError}
 use Rattle.decl.specs.declared.errors.Section.TheVariants.{Links}
 use Rattle.decl.specs.declared.items.Link.{Link}
+use Rattle.decl.specs.declared.keys.Form.TheVariants as form
 use Rattle.decl.proofs.Faults.{few_index, neither_of, second_of, no_parts, not_so, neither, some_if, some_unless, none_if, fault_front, fault_at, none_at}
 
 -- the number of a greatest delay that is there
@@ -53,7 +54,7 @@ same_link : (from from' to to' least least' : ℕ) (most most' : Option ℕ) →
     → (let a : Link = record { from = from; to = to; least = least; most = most } in a) ≡ (let b : Link = record { from = from'; to = to'; least = least'; most = most' } in b)
 same_link from from' to to' least least' most most' p q r s = rw (p, q, r, s) refl
 
-module _ (hosts : List (List ℕ)) (index : ℕ) (before : List Link) (ms : Members) (from to : ℕ) (table : table_causes Links ms ≡ [])
+module _ (hosts : List (List ℕ)) (index : ℕ) (before : List Link) (ms : Members) (from to : ℕ) (table : table_causes form.Link ms ≡ [])
     (ends : ◌≡◌ {A = Option (ℕ × ℕ)} (Some (from, to)) (if is_astray before (host_at_key hosts (codes "from") ms) (host_at_key hosts (codes "to") ms) then None
     else Some (unwrap_or (host_at_key hosts (codes "from") ms) 0, unwrap_or (host_at_key hosts (codes "to") ms) 0))) where
   known : is_astray before (host_at_key hosts (codes "from") ms) (host_at_key hosts (codes "to") ms) ≡ false
@@ -95,7 +96,7 @@ module _ (hosts : List (List ℕ)) (index : ℕ) (before : List Link) (ms : Memb
 pub link_few : (hosts : List (List ℕ)) (index : ℕ) (before : List Link) (o : Option Members) → entry_causes (link_causes hosts index before) o ≡ [] → index ≤ most_entries
 link_few hosts index before None e = cc
 link_few hosts index before (Some ms) e =
-    let last = (no_parts (table_causes Links ms ++ when (is_astray before (host_at_key hosts (codes "from") ms) (host_at_key hosts (codes "to") ms)) Name) _ e).1 in
+    let last = (no_parts (table_causes form.Link ms ++ when (is_astray before (host_at_key hosts (codes "from") ms) (host_at_key hosts (codes "to") ms)) Name) _ e).1 in
     let many : nat_lt most_entries index ≡ false = (neither _ _ (not_so _ Number last)).0 in
     grind (arith, many)
 

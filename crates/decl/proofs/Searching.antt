@@ -91,7 +91,7 @@ place_none hosts name place rising parted =
     ]))
 
 -- the place of a host is that of its clock, which has its name
-position_same : (name : List ℕ) (i : ℕ) (clocks : List Clock) → position_from (λ host. bytes_eq host name) i (map (λ (c : Clock). c.name) clocks) ≡ position_from (λ (c : Clock). bytes_eq c.name name) i clocks
+pub position_same : (name : List ℕ) (i : ℕ) (clocks : List Clock) → position_from (λ host. bytes_eq host name) i (map (λ (c : Clock). c.name) clocks) ≡ position_from (λ (c : Clock). bytes_eq c.name name) i clocks
 position_same name i [] = refl
 position_same name i (c ∷ clocks) = go (bytes_eq c.name name) refl (position_same name (i + 1) clocks)
   where

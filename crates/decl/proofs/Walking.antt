@@ -5,8 +5,8 @@ use Rattle.problem_model.specs.declared.items.Clock.{Clock}
 use Rattle.toml.specs.Data.{Items, Members}
 use Rattle.decl.specs.Addresses.{none_known}
 use Rattle.decl.specs.Causes.{at, first, error_at, IsFirstOf}
-use Rattle.decl.specs.Declaration.{Declaration, one_clock_each}
-use Rattle.decl.specs.Hosts.{hosts_of, clocks_of, addresses_from, addresses6_from, hosts_faults}
+use Rattle.decl.specs.Declaration.{Declaration}
+use Rattle.decl.specs.Hosts.{HostLists, host_lists, addresses_from, addresses6_from, hosts_faults}
 use Rattle.decl.specs.Labels.{labels_of, labels_faults}
 use Rattle.decl.specs.Links.{links_of, links_faults}
 use Rattle.decl.specs.Places.{clock_place}
@@ -23,36 +23,36 @@ use Rattle.decl.specs.declared.items.Link.{Link}
 use Rattle.decl.proofs.Faults.{fault_at, fault_behind}
 
 -- the faults of a document by its parts
-abbrev walk : Members → Members → List (List ℕ) → List Clock → Members → Items → List DeclError
-walk ms hosts names clocks labels links = at Top 0 (top_causes ms)
-    ++ (hosts_faults 1 none_known hosts ++ (labels_faults names 1 labels ++ (links_faults names 1 [] links ++ at Top 0 (source_causes clocks (text_at (codes "source") ms)))))
+abbrev walk : Members → Members → HostLists → Members → Items → List DeclError
+walk ms hosts lists labels links = at Top 0 (top_causes ms)
+    ++ (hosts_faults 1 none_known [] hosts ++ (labels_faults lists 1 labels ++ (links_faults lists.names 1 [] links ++ at Top 0 (source_causes lists.clocks (text_at (codes "source") ms)))))
 
-walk_is : (ms hosts : Members) (names : List (List ℕ)) (clocks : List Clock) (labels : Members) (links : Items) → hosts ≡ hosts_in ms → names ≡ hosts_of hosts → clocks ≡ clocks_of hosts → labels ≡ labels_in ms → links ≡ links_in ms
-    → walk ms hosts names clocks labels links ≡ faults ms
-walk_is ms hosts names clocks labels links p n q r s = rw (n, q, p, r, s) refl
+walk_is : (ms hosts : Members) (lists : HostLists) (labels : Members) (links : Items) → hosts ≡ hosts_in ms → lists ≡ host_lists hosts → labels ≡ labels_in ms → links ≡ links_in ms
+    → walk ms hosts lists labels links ≡ faults ms
+walk_is ms hosts lists labels links p n r s = rw (n, p, r, s) refl
 
-module _ (ms : Members) (top : top_causes ms ≡ []) (hosts : Members) (hosts_are : hosts ≡ hosts_in ms) (sound : hosts_faults 1 none_known hosts ≡ []) (names : List (List ℕ)) (names_are : names ≡ hosts_of hosts) (clocks : List Clock) (clocks_are : clocks ≡ clocks_of hosts)
-    (labels : Members) (labels_are : labels ≡ labels_in ms) (labelled : labels_faults names 1 labels ≡ []) (links : Items) (links_are : links ≡ links_in ms) (linked : links_faults names 1 [] links ≡ []) where
+module _ (ms : Members) (top : top_causes ms ≡ []) (hosts : Members) (hosts_are : hosts ≡ hosts_in ms) (sound : hosts_faults 1 none_known [] hosts ≡ []) (lists : HostLists) (lists_are : lists ≡ host_lists hosts)
+    (labels : Members) (labels_are : labels ≡ labels_in ms) (labelled : labels_faults lists 1 labels ≡ []) (links : Items) (links_are : links ≡ links_in ms) (linked : links_faults lists.names 1 [] links ≡ []) where
   -- a fault of the source is the first where nothing else is wrong
-  pub source_first : (cause : Cause) (e : DeclError) → first (source_causes clocks (text_at (codes "source") ms)) ≡ Some cause → e ≡ error_at Top 0 cause → IsFirstOf (faults ms) e
+  pub source_first : (cause : Cause) (e : DeclError) → first (source_causes lists.clocks (text_at (codes "source") ms)) ≡ Some cause → e ≡ error_at Top 0 cause → IsFirstOf (faults ms) e
   source_first cause e h placed =
-      subst (λ (fs : List DeclError). IsFirstOf fs e) (walk_is ms hosts names clocks labels links hosts_are names_are clocks_are labels_are links_are)
+      subst (λ (fs : List DeclError). IsFirstOf fs e) (walk_is ms hosts lists labels links hosts_are lists_are labels_are links_are)
       (fault_behind (at Top 0 (top_causes ms)) _ e (ap (at Top 0) top)
-      (fault_behind (hosts_faults 1 none_known hosts) _ e sound
-      (fault_behind (labels_faults names 1 labels) _ e labelled (fault_behind (links_faults names 1 [] links) _ e linked (fault_at Top 0 _ cause e h placed)))))
+      (fault_behind (hosts_faults 1 none_known [] hosts) _ e sound
+      (fault_behind (labels_faults lists 1 labels) _ e labelled (fault_behind (links_faults lists.names 1 [] links) _ e linked (fault_at Top 0 _ cause e h placed)))))
 
   -- nothing is wrong at all
-  pub no_faults : source_causes clocks (text_at (codes "source") ms) ≡ [] → faults ms ≡ []
+  pub no_faults : source_causes lists.clocks (text_at (codes "source") ms) ≡ [] → faults ms ≡ []
   no_faults none =
-      sym (walk_is ms hosts names clocks labels links hosts_are names_are clocks_are labels_are links_are)
-      ∙ empty (at Top 0 (top_causes ms)) (hosts_faults 1 none_known hosts) (labels_faults names 1 labels) (links_faults names 1 [] links) _ (ap (at Top 0) top) sound labelled linked (ap (at Top 0) none)
+      sym (walk_is ms hosts lists labels links hosts_are lists_are labels_are links_are)
+      ∙ empty (at Top 0 (top_causes ms)) (hosts_faults 1 none_known [] hosts) (labels_faults lists 1 labels) (links_faults lists.names 1 [] links) _ (ap (at Top 0) top) sound labelled linked (ap (at Top 0) none)
     where
       empty : (a b c d e : List DeclError) → a ≡ [] → b ≡ [] → c ≡ [] → d ≡ [] → e ≡ [] → a ++ (b ++ (c ++ (d ++ e))) ≡ []
       empty a b c d e p q r s t = rw (p, q, r, s, t) refl
 
 -- what is read is what the document declares
-pub declared_is : (ms hosts labels : Members) (links : Items) (names : List (List ℕ)) (clocks : List Clock) (owners : List Owner) (addresses : List Address) (addresses6 : List Address6) (label_list : List Label) (link_list : List Link) (bytes : ℕ) (source : Option ℕ)
-    → hosts ≡ hosts_in ms → labels ≡ labels_in ms → links ≡ links_in ms → names ≡ hosts_of hosts → clocks ≡ clocks_of hosts → owners ≡ one_clock_each 0 (hosts_of hosts) → addresses ≡ addresses_from 0 hosts → addresses6 ≡ addresses6_from 0 hosts → label_list ≡ labels_of names labels
-    → link_list ≡ links_of names links → bytes ≡ number_at (codes "payload_bytes") ms → source ≡ option_and_then (clock_place clocks) (text_at (codes "source") ms)
-    → (let d : Declaration = record { hosts = names; clocks = clocks; owners = owners; addresses = addresses; addresses6 = addresses6; labels = label_list; links = link_list; payload_bytes = bytes; source = source } in d) ≡ declared ms
-declared_is ms hosts labels links names clocks owners addresses addresses6 label_list link_list bytes source p q r n s o t y u v w x = rw (t, y, o, u, v, w, x, n, s, p, q, r) refl
+pub declared_is : (ms hosts labels : Members) (links : Items) (lists : HostLists) (clocks : List Clock) (owners : List Owner) (addresses : List Address) (addresses6 : List Address6) (label_list : List Label) (link_list : List Link) (bytes : ℕ) (source : Option ℕ)
+    → hosts ≡ hosts_in ms → labels ≡ labels_in ms → links ≡ links_in ms → lists ≡ host_lists hosts → clocks ≡ lists.clocks → owners ≡ lists.owners → addresses ≡ addresses_from 0 hosts → addresses6 ≡ addresses6_from 0 hosts → label_list ≡ labels_of lists labels
+    → link_list ≡ links_of lists.names links → bytes ≡ number_at (codes "payload_bytes") ms → source ≡ option_and_then (clock_place lists.clocks) (text_at (codes "source") ms)
+    → (let d : Declaration = record { hosts = lists.names; clocks = clocks; owners = owners; addresses = addresses; addresses6 = addresses6; labels = label_list; links = link_list; payload_bytes = bytes; source = source } in d) ≡ declared ms
+declared_is ms hosts labels links lists clocks owners addresses addresses6 label_list link_list bytes source p q r n c o t y u v w x = rw (c, o, t, y, u, v, w, x, n, p, q, r) refl

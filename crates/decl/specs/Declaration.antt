@@ -1,9 +1,11 @@
 -- What a declaration says, and the rules that it meets.
-use Rattle.std.specs.Prelude.{◌≡◌, ◌≢◌, ℕ, ◌+◌, ◌<◌, ◌≤◌, ◌==◌, ◌&&◌, if◌then◌else◌, List, [], ◌∷◌, length, map, slice_get, Option, Some, None, IfSome, All, AllPairs}
+use Rattle.std.specs.Prelude.{◌≡◌, ◌≢◌, ℕ, ◌+◌, ◌<◌, ◌≤◌, ◌==◌, ◌&&◌, if◌then◌else◌, List, [], ◌∷◌, length, slice_get, Option, Some, None, option_to_list, IfSome, All, AllPairs}
+use Rattle.std.specs.List.{flat_map, range_with_len}
 use Rattle.std.specs.Ordering.{nat_cmp}
 use Rattle.std.specs.declared.cmp.Ordering.TheVariants.{Less}
 use Rattle.std.specs.Cmp.Lexicographic.{slice_cmp}
 use Rattle.problem_model.specs.declared.items.Clock.{Clock}
+use Rattle.problem_model.specs.declared.items.Follow.{Follow}
 use Rattle.problem_model.specs.Name.{IsClockName}
 use Rattle.problem_model.specs.Problem.{ClockFits, most_clocks}
 use Rattle.decl.specs.Limits.{most_entries, most_payload, nano_limit, address_limit}
@@ -14,8 +16,8 @@ use Rattle.decl.specs.declared.items.Address6.{Address6}
 use Rattle.decl.specs.declared.items.Label.{Label}
 use Rattle.decl.specs.declared.items.Link.{Link}
 
--- what a declaration says: the names of the hosts, their clocks, and whose each of these is; the rest goes by the places
--- of hosts, and the source by that of a clock
+-- what a declaration says: the names of the hosts, their clocks, and whose each of these is; addresses, labels and links
+-- name hosts by place, labels and the source name clocks by place
 pub record Declaration : Type 0 where
   pub hosts : List (List ℕ)
   pub clocks : List Clock
@@ -47,26 +49,25 @@ IsSource clocks place = (c : Clock) × (slice_get clocks place ≡ Some c) × (c
 abbrev pub IsClockOf : List Owner → ℕ → ℕ → Type 0
 IsClockOf owners host clock = (o : Owner) × (slice_get owners clock ≡ Some o) × (o.host ≡ host)
 
--- each of these hosts, whose places count from k on, owns one clock, without a gap before it
-abbrev pub one_clock_each : ℕ → List (List ℕ) → List Owner
-one_clock_each k [] = []
-one_clock_each k (host ∷ hosts) = (record { host = k; gap = 0 }) ∷ one_clock_each (k + 1) hosts
-
--- hosts rise by their names, and each has one clock, of its own name
+-- hosts rise by their names
 pub record HasLawfulHosts (d : Declaration) : Type 0 where
   pub host_names : All IsClockName d.hosts
   pub hosts_rise : AllPairs Precedes d.hosts
-  pub own_names : map (λ c. c.name) d.clocks ≡ d.hosts
-  pub own_clocks : d.owners ≡ one_clock_each 0 d.hosts
 
--- clocks differ in their names, have numbers in their ranges and an owner each; one that is the source shows true time.
--- Names and owners follow from what is said of hosts, and are what users of a declaration ask of clocks
+-- clocks differ in their names, have numbers in their ranges and an owner each; one that is the source shows true time
 pub record HasLawfulClocks (d : Declaration) : Type 0 where
   pub clock_names : All (λ c. IsClockName c.name) d.clocks
   pub clocks_differ : AllPairs (λ a b. a.name ≢ b.name) d.clocks
   pub clocks_fit : All ClockFits d.clocks
   pub clocks_owned : length d.owners ≡ length d.clocks
   pub source_true : IfSome d.source (IsSource d.clocks)
+
+-- clocks stand in the order of their hosts, each host has one or more, and gaps are in their range
+pub record HasLawfulOwners (d : Declaration) : Type 0 where
+  pub owner_hosts : All (λ o. o.host < length d.hosts) d.owners
+  pub owners_rise : AllPairs (λ a b. a.host ≤ b.host) d.owners
+  pub every_host : (host : ℕ) → host < length d.hosts → (clock : ℕ) × IsClockOf d.owners host clock
+  pub gaps_fit : All (λ o. o.gap < nano_limit) d.owners
 
 -- no two addresses are the same, and each is one of a host
 pub record HasLawfulAddresses (d : Declaration) : Type 0 where
@@ -105,11 +106,29 @@ pub record KeepsLimits (d : Declaration) : Type 0 where
 pub record IsDeclaration (d : Declaration) : Type 0 where
   pub hosts : HasLawfulHosts d
   pub clocks : HasLawfulClocks d
+  pub owners : HasLawfulOwners d
   pub addresses : HasLawfulAddresses d
   pub addresses6 : HasLawfulAddresses6 d
   pub labels : HasLawfulLabels d
   pub links : HasLawfulLinks d
   pub limits : KeepsLimits d
+
+-- the follow from the clock at place k to the next one, where both are of one host, with the gap of the later one
+abbrev pub follow_between : ℕ → Option Owner → Option Owner → Option Follow
+follow_between k None b = None
+follow_between k (Some a) None = None
+follow_between k (Some a) (Some b) = if a.host == b.host then Some (record { earlier = k; later = k + 1; gap = b.gap }) else None
+
+abbrev pub follow_from : Declaration → ℕ → Option Follow
+follow_from d k = follow_between k (slice_get d.owners k) (slice_get d.owners (k + 1))
+
+-- for each clock that has one, the follow to the next clock of its host
+abbrev pub follows_of : Declaration → List Follow
+follows_of d = flat_map (λ k. option_to_list (follow_from d k)) (range_with_len 0 (length d.owners))
+
+-- both clocks are of one host
+abbrev pub AreOfOneHost : Declaration → ℕ → ℕ → Type 0
+AreOfOneHost d b c = (host : ℕ) × IsClockOf d.owners host b × IsClockOf d.owners host c
 
 -- the host of the first of these addresses with this value
 abbrev pub host_among : List Address → ℕ → Option ℕ

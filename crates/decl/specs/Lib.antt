@@ -3,8 +3,11 @@ pub mod Declaration
 pub mod Causes
 pub mod Keys
 pub mod Values
+pub mod Names
 pub mod Addresses
 pub mod Places
+pub mod Clocks
+pub mod Booked
 pub mod Hosts
 pub mod Labels
 pub mod Links

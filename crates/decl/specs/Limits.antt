@@ -6,7 +6,7 @@ use Rattle.problem_model.specs.Problem.{most_clocks}
 abbrev pub most_bytes : ℕ
 most_bytes = 2 ^ 24
 
--- the most hosts, the most labels and the most links: as many as a problem has clocks, since each host has one
+-- the most hosts, the most labels and the most links: as many as a problem has clocks, since each host has one or more
 abbrev pub most_entries : ℕ
 most_entries = most_clocks
 

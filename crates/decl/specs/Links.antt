@@ -3,9 +3,9 @@ use Rattle.std.specs.Prelude.{ℕ, ◌+◌, ◌-◌, Bool, true, not, ◌&&◌, 
 use Rattle.std.specs.List.{list_any}
 use Rattle.toml.specs.Data.{as_table, Items, no_items, item, Members}
 use Rattle.decl.specs.Causes.{when, at}
-use Rattle.decl.specs.Hosts.{entry_of, is_one_too_many}
-use Rattle.decl.specs.Keys.{table_causes}
-use Rattle.decl.specs.Labels.{entry_causes, host_at_key}
+use Rattle.decl.specs.Hosts.{is_one_too_many}
+use Rattle.decl.specs.Keys.{table_causes, entry_causes, entry_of}
+use Rattle.decl.specs.Labels.{host_at_key}
 use Rattle.decl.specs.Limits.{nano_limit}
 use Rattle.decl.specs.Values.{whole_at, whole_or_zero, number_at, is_up_to}
 use Rattle.decl.specs.declared.cause.Cause.{Cause}
@@ -13,6 +13,7 @@ use Rattle.decl.specs.declared.cause.Cause.TheVariants.{Name, Number}
 use Rattle.decl.specs.declared.errors.DeclError.{DeclError}
 use Rattle.decl.specs.declared.errors.Section.TheVariants.{Links}
 use Rattle.decl.specs.declared.items.Link.{Link}
+use Rattle.decl.specs.declared.keys.Form.TheVariants as form
 
 -- one of these links goes from the one host to the other
 abbrev pub has_link : List Link → ℕ → ℕ → Bool
@@ -30,7 +31,7 @@ has_wild_delay ms = not (is_up_to (nano_limit - 1) (whole_or_zero (codes "least"
 
 -- what is wrong with the table of a link, behind these links
 abbrev pub link_causes : List (List ℕ) → ℕ → List Link → Members → List Cause
-link_causes hosts index before ms = table_causes Links ms
+link_causes hosts index before ms = table_causes form.Link ms
     ++ when (is_astray before (host_at_key hosts (codes "from") ms) (host_at_key hosts (codes "to") ms)) Name
     ++ when (is_one_too_many index || has_wild_delay ms) Number
 

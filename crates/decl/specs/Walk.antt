@@ -6,8 +6,8 @@ use Rattle.toml.specs.Data.{Items, Members}
 use Rattle.toml.specs.Parse.{parse_document}
 use Rattle.decl.specs.Addresses.{none_known}
 use Rattle.decl.specs.Causes.{when, at, error_at, IsFirstOf}
-use Rattle.decl.specs.Declaration.{Declaration, one_clock_each}
-use Rattle.decl.specs.Hosts.{hosts_of, clocks_of, addresses_from, addresses6_from, hosts_faults}
+use Rattle.decl.specs.Declaration.{Declaration}
+use Rattle.decl.specs.Hosts.{hosts_of, clocks_of, owners_from, host_lists, addresses_from, addresses6_from, hosts_faults}
 use Rattle.decl.specs.Keys.{table_causes}
 use Rattle.decl.specs.Labels.{labels_of, labels_faults}
 use Rattle.decl.specs.Limits.{most_bytes, most_payload}
@@ -18,6 +18,7 @@ use Rattle.decl.specs.declared.cause.Cause.{Cause}
 use Rattle.decl.specs.declared.cause.Cause.TheVariants.{Document, Number, Source, Size}
 use Rattle.decl.specs.declared.errors.DeclError.{DeclError}
 use Rattle.decl.specs.declared.errors.Section.TheVariants.{Top}
+use Rattle.decl.specs.declared.keys.Form.TheVariants as form
 
 -- the table of a document's hosts
 abbrev pub hosts_in : Members → Members
@@ -48,13 +49,13 @@ source_causes clocks (Some name) = when (not (is_true_at clocks (clock_place clo
 
 -- what is wrong with the document's own keys
 abbrev pub top_causes : Members → List Cause
-top_causes ms = table_causes Top ms ++ when (not (is_up_to most_payload (whole_or_zero (codes "payload_bytes") ms))) Number
+top_causes ms = table_causes form.Document ms ++ when (not (is_up_to most_payload (whole_or_zero (codes "payload_bytes") ms))) Number
 
 -- all that is wrong with a document, in the order in which it is looked through
 abbrev pub faults : Members → List DeclError
 faults ms = at Top 0 (top_causes ms)
-    ++ (hosts_faults 1 none_known (hosts_in ms)
-    ++ (labels_faults (hosts_of (hosts_in ms)) 1 (labels_in ms)
+    ++ (hosts_faults 1 none_known [] (hosts_in ms)
+    ++ (labels_faults (host_lists (hosts_in ms)) 1 (labels_in ms)
     ++ (links_faults (hosts_of (hosts_in ms)) 1 [] (links_in ms)
     ++ at Top 0 (source_causes (clocks_of (hosts_in ms)) (text_at (codes "source") ms)))))
 
@@ -63,10 +64,10 @@ abbrev pub declared : Members → Declaration
 declared ms = record {
   hosts = hosts_of (hosts_in ms);
   clocks = clocks_of (hosts_in ms);
-  owners = one_clock_each 0 (hosts_of (hosts_in ms));
+  owners = owners_from 0 (hosts_in ms);
   addresses = addresses_from 0 (hosts_in ms);
   addresses6 = addresses6_from 0 (hosts_in ms);
-  labels = labels_of (hosts_of (hosts_in ms)) (labels_in ms);
+  labels = labels_of (host_lists (hosts_in ms)) (labels_in ms);
   links = links_of (hosts_of (hosts_in ms)) (links_in ms);
   payload_bytes = number_at (codes "payload_bytes") ms;
   source = option_and_then (clock_place (clocks_of (hosts_in ms))) (text_at (codes "source") ms);

@@ -19,7 +19,7 @@ pub(crate) enum Cause {
     Number,
     // An address is misspelled, or stands there once more.
     Address,
-    // The source is no host whose clock shows true time.
+    // The source is no clock that shows true time.
     Source,
     // There are too many bytes.
     Size,

@@ -5,15 +5,15 @@ use problem_model::{Clock, Name};
 /// A declaration: the hosts with their clocks and addresses, the traces that were taken at them, and what is known of
 /// the delay from one host to another.
 ///
-/// Hosts and labels stand in the byte order of their names. Each host has one clock, of its own name, which stands at the
-/// host's place.
+/// Hosts and labels stand in the byte order of their names, and clocks in the order of their hosts, those of one host in the
+/// order in which they followed each other. Each host has one clock or more.
 #[derive(Debug, Drop)]
 pub struct Decl {
     /// The names of the hosts.
     pub hosts: Vec<Name>,
-    /// Their clocks.
+    /// Their clocks, at most 65,536.
     pub clocks: Vec<Clock>,
-    /// Whose each clock is, by its place.
+    /// The owner of each clock, in the order of `clocks`.
     pub owners: Vec<Owner>,
     /// The addresses of the hosts, by host, and those of one host as they were written.
     pub addresses: Vec<Address>,
@@ -34,8 +34,8 @@ pub struct Decl {
 pub struct Owner {
     /// The place of its host, from 0 on.
     pub host: u32,
-    /// The least real time in ns from a reading of the clock before it of the same host to one of this clock; it has no
-    /// effect at a host's first clock.
+    /// The least real time in ns from a reading of the clock before it of the same host, or of one before that, to one of
+    /// this clock; it has no effect at a host's first clock.
     pub gap: Nano,
 }
 
@@ -64,7 +64,7 @@ pub struct Label {
     pub name: Name,
     /// The place of its host, from 0 on.
     pub host: u32,
-    /// The place of the clock that its stamps were taken from, which is one of its host.
+    /// The place of the clock that its stamps were taken from, which is one of its host's.
     pub clock: u32,
     /// What the trace is.
     pub kind: TraceKind,

@@ -4,10 +4,24 @@ ghost use Rattle.toml.specs.View.{view, table_view, array_view};
 ghost use Rattle.decl.specs.Keys.{shape_of, has_shape, are_texts, has_other_key, has_other_shape, lacks_key, lacks_one, table_causes};
 ghost use Rattle.decl.specs.Causes.{Tells};
 
-use crate::Section;
 use crate::cause::Cause;
 use crate::values::value_at;
 use toml::{Table, Value};
+
+// What a table of a declaration is.
+#[derive(Clone, Copy, Debug, PartialEq, Eq)]
+pub(crate) enum Form {
+    // The document itself.
+    Document,
+    // A host.
+    Host,
+    // A clock of a host.
+    Clock,
+    // A label.
+    Label,
+    // A link.
+    Link,
+}
 
 // What the value of a key has to be.
 #[derive(Clone, Copy, Debug, PartialEq, Eq)]
@@ -24,20 +38,21 @@ pub(crate) enum Shape {
     Table,
 }
 
-// The shape that a table of this section asks of a key's value; None for a key that it may not have.
-fn shape_of(section: Section, key: &str) -> Option<Shape>
-    ensures { result ≡ shape_of section key.now }
+// The shape that a table of this form asks of a key's value; None for a key that it may not have.
+fn shape_of(form: Form, key: &str) -> Option<Shape>
+    ensures { result ≡ shape_of form key.now }
 {
-    match section {
-        Section::Top => top_shape(key),
-        Section::Hosts => host_shape(key),
-        Section::Labels => label_shape(key),
-        Section::Links => link_shape(key),
+    match form {
+        Form::Document => document_shape(key),
+        Form::Host => host_shape(key),
+        Form::Clock => clock_shape(key),
+        Form::Label => label_shape(key),
+        Form::Link => link_shape(key),
     }
 }
 
-fn top_shape(key: &str) -> Option<Shape>
-    ensures { result ≡ shape_of Section.Top key.now }
+fn document_shape(key: &str) -> Option<Shape>
+    ensures { result ≡ shape_of Form.Document key.now }
 {
     match key {
         "hosts" | "labels" => Some(Shape::Table),
@@ -49,26 +64,37 @@ fn top_shape(key: &str) -> Option<Shape>
 }
 
 fn host_shape(key: &str) -> Option<Shape>
-    ensures { result ≡ shape_of Section.Hosts key.now }
+    ensures { result ≡ shape_of Form.Host key.now }
 {
     match key {
         "short" | "long" | "early" | "late" => Some(Shape::Whole),
         "addresses" | "addresses6" => Some(Shape::Texts),
+        "clocks" => Some(Shape::Array),
+        _ => None,
+    }
+}
+
+fn clock_shape(key: &str) -> Option<Shape>
+    ensures { result ≡ shape_of Form.Clock key.now }
+{
+    match key {
+        "name" => Some(Shape::Text),
+        "short" | "long" | "early" | "late" | "gap" => Some(Shape::Whole),
         _ => None,
     }
 }
 
 fn label_shape(key: &str) -> Option<Shape>
-    ensures { result ≡ shape_of Section.Labels key.now }
+    ensures { result ≡ shape_of Form.Label key.now }
 {
     match key {
-        "host" | "kind" => Some(Shape::Text),
+        "host" | "kind" | "clock" => Some(Shape::Text),
         _ => None,
     }
 }
 
 fn link_shape(key: &str) -> Option<Shape>
-    ensures { result ≡ shape_of Section.Links key.now }
+    ensures { result ≡ shape_of Form.Link key.now }
 {
     match key {
         "from" | "to" => Some(Shape::Text),
@@ -104,23 +130,23 @@ fn are_texts(items: &Vec<Value>) -> bool
 }
 
 // Whether the table has a key that it may not have.
-fn has_other_key(section: Section, table: &Table) -> bool
-    ensures { result ≡ has_other_key section (table_view table.now) }
+fn has_other_key(form: Form, table: &Table) -> bool
+    ensures { result ≡ has_other_key form (table_view table.now) }
 {
     for (key, _) in table {
-        if shape_of(section, key).is_none() {
+        if shape_of(form, key).is_none() {
             return true;
         }
     }
     false
 }
 
-// Whether the value of a key has another shape than the section asks for.
-fn has_other_shape(section: Section, table: &Table) -> bool
-    ensures { result ≡ has_other_shape section (table_view table.now) }
+// Whether the value of a key has another shape than the form asks for.
+fn has_other_shape(form: Form, table: &Table) -> bool
+    ensures { result ≡ has_other_shape form (table_view table.now) }
 {
     for (key, value) in table {
-        if let Some(shape) = shape_of(section, key) {
+        if let Some(shape) = shape_of(form, key) {
             if !shape.fits(value) {
                 return true;
             }
@@ -135,25 +161,26 @@ fn lacks_one(table: &Table, key: &str) -> bool
     value_at(table, key).is_none()
 }
 
-// Whether the table lacks a key that the section wants.
-fn lacks_key(section: Section, table: &Table) -> bool
-    ensures { result ≡ lacks_key section (table_view table.now) }
+// Whether the table lacks a key that the form wants.
+fn lacks_key(form: Form, table: &Table) -> bool
+    ensures { result ≡ lacks_key form (table_view table.now) }
 {
-    match section {
-        Section::Top | Section::Hosts => false,
-        Section::Labels => lacks_one(table, "host") || lacks_one(table, "kind"),
-        Section::Links => lacks_one(table, "from") || lacks_one(table, "to"),
+    match form {
+        Form::Document | Form::Host => false,
+        Form::Clock => lacks_one(table, "name"),
+        Form::Label => lacks_one(table, "host") || lacks_one(table, "kind"),
+        Form::Link => lacks_one(table, "from") || lacks_one(table, "to"),
     }
 }
 
-// Looks through the keys of a table of this section, and then through their values' shapes.
-pub(crate) fn check_table(section: Section, table: &Table) -> Result<(), Cause>
-    ensures { Tells (table_causes section (table_view table.now)) tt result }
+// Looks through the keys of a table of this form, and then through their values' shapes.
+pub(crate) fn check_table(form: Form, table: &Table) -> Result<(), Cause>
+    ensures { Tells (table_causes form (table_view table.now)) tt result }
 {
-    if has_other_key(section, table) || lacks_key(section, table) {
+    if has_other_key(form, table) || lacks_key(form, table) {
         return Err(Cause::Key);
     }
-    if has_other_shape(section, table) {
+    if has_other_shape(form, table) {
         return Err(Cause::Shape);
     }
     Ok(())

@@ -1,19 +1,23 @@
 // The labels of a declaration.
-ghost use Rattle.std.specs.Prelude.{◌≡◌, ◌≤◌, [], Some, None, if◌then◌else◌, length, AllPairs, IfOk, IfErr, OnOk};
+ghost use Rattle.std.specs.Prelude.{◌≡◌, ◌≤◌, [], Some, None, if◌then◌else◌, length, All, AllPairs, IfOk, IfErr, OnOk};
 ghost use Rattle.toml.specs.View.{view, table_view};
 ghost use Rattle.toml.specs.Data.{as_table};
+ghost use Rattle.problem_model.specs.Name.{IsClockName};
 ghost use Rattle.decl.specs.Causes.{Tells, IsFirstOf};
+ghost use Rattle.decl.specs.Clocks.{own_clock_place};
 ghost use Rattle.decl.specs.Declaration.{Precedes};
-ghost use Rattle.decl.specs.Hosts.{entry_of};
-ghost use Rattle.decl.specs.Labels.{kind_of, host_at_key, is_misnamed, label_causes, label_of, entry_causes, labels_faults, labels_of};
+ghost use Rattle.decl.specs.Inside.{lists_of};
+ghost use Rattle.decl.specs.Keys.{entry_causes, entry_of};
+ghost use Rattle.decl.specs.Labels.{kind_of, host_at_key, clock_at_key, places_at, is_misnamed, label_causes, label_of, labels_faults, labels_of};
 ghost use Rattle.decl.specs.Limits.{most_entries};
 
 use crate::cause::Cause;
-use crate::hosts::read_clock_name;
-use crate::keys::check_table;
+use crate::clocks::ClockBook;
+use crate::hosts::{Hosts, read_clock_name};
+use crate::keys::{Form, check_table};
 use crate::limits::MOST_ENTRIES;
 use crate::places::place_of;
-use crate::values::text_or_empty;
+use crate::values::{text_at, text_or_empty};
 use crate::{DeclError, Label, Section, TraceKind};
 use problem_model::Name;
 use std::alloc::Global;
@@ -38,23 +42,60 @@ pub(crate) fn host_at_key(hosts: &[Name], key: &str, table: &Table) -> Option<u3
     place_of(hosts, text_or_empty(table, key).as_bytes())
 }
 
+// The place of the host's clock of this name.
+fn named_clock(clocks: &ClockBook, host: u32, name: &str) -> Option<u32>
+    requires { All (λ c. IsClockName c.name) clocks.now.clocks }
+    ensures { result ≡ own_clock_place clocks.now.clocks clocks.now.owners host name.now }
+{
+    match read_clock_name(name.as_bytes()) {
+        Some(name) => clocks.place_among(host, &name),
+        None => None,
+    }
+}
+
+// The place of the clock that a label of this host names, or of the host's first one.
+fn clock_at_key(hosts: &Hosts, host: u32, table: &Table) -> Option<u32>
+    requires { All (λ c. IsClockName c.name) hosts.now.clocks.clocks }
+    ensures { result ≡ clock_at_key (lists_of hosts.now) host (table_view table.now) }
+{
+    match text_at(table, "clock") {
+        Some(name) => named_clock(&hosts.clocks, host, name),
+        None => hosts.clocks.first_of(host),
+    }
+}
+
+// The places of the host and of the clock of a label, if it names both.
+fn places_at(hosts: &Hosts, table: &Table) -> Option<(u32, u32)>
+    requires rising { AllPairs Precedes hosts.now.names.items }
+    requires few { length hosts.now.names.items ≤ most_entries }
+    requires named { All (λ c. IsClockName c.name) hosts.now.clocks.clocks }
+    ensures { result ≡ places_at (lists_of hosts.now) (table_view table.now) }
+{
+    let Some(host) = host_at_key(&hosts.names, "host", table) else {
+        return None;
+    };
+    match clock_at_key(hosts, host, table) {
+        Some(clock) => Some((host, clock)),
+        None => None,
+    }
+}
+
 // The label of this name, if all its names are lawful.
-fn read_names(hosts: &[Name], name: &str, table: &Table) -> Option<Label>
-    requires rising { AllPairs Precedes hosts.now }
-    requires few { length hosts.now ≤ most_entries }
-    ensures { result ≡ (if is_misnamed hosts.now name.now (table_view table.now) then None else Some (label_of hosts.now name.now (table_view table.now))) }
+fn read_names(hosts: &Hosts, name: &str, table: &Table) -> Option<Label>
+    requires rising { AllPairs Precedes hosts.now.names.items }
+    requires few { length hosts.now.names.items ≤ most_entries }
+    requires named { All (λ c. IsClockName c.name) hosts.now.clocks.clocks }
+    ensures { result ≡ (if is_misnamed (lists_of hosts.now) name.now (table_view table.now) then None else Some (label_of (lists_of hosts.now) name.now (table_view table.now))) }
 {
     let Some(name) = read_clock_name(name.as_bytes()) else {
         return None;
     };
-    let Some(host) = host_at_key(hosts, "host", table) else {
+    let Some((host, clock)) = places_at(hosts, table) else {
         return None;
     };
     let Some(kind) = read_kind(text_or_empty(table, "kind")) else {
         return None;
     };
-    // Each host has one clock, which stands at its place.
-    let clock = host;
     Some(Label {
         name,
         host,
@@ -64,12 +105,13 @@ fn read_names(hosts: &[Name], name: &str, table: &Table) -> Option<Label>
 }
 
 // The label with this index and name.
-fn read_label(hosts: &[Name], index: u32, name: &str, table: &Table) -> Result<Label, Cause>
-    requires rising { AllPairs Precedes hosts.now }
-    requires few { length hosts.now ≤ most_entries }
-    ensures { Tells (label_causes hosts.now index name.now (table_view table.now)) (label_of hosts.now name.now (table_view table.now)) result }
+fn read_label(hosts: &Hosts, index: u32, name: &str, table: &Table) -> Result<Label, Cause>
+    requires rising { AllPairs Precedes hosts.now.names.items }
+    requires few { length hosts.now.names.items ≤ most_entries }
+    requires named { All (λ c. IsClockName c.name) hosts.now.clocks.clocks }
+    ensures { Tells (label_causes (lists_of hosts.now) index name.now (table_view table.now)) (label_of (lists_of hosts.now) name.now (table_view table.now)) result }
 {
-    check_table(Section::Labels, table)?;
+    check_table(Form::Label, table)?;
     let Some(label) = read_names(hosts, name, table) else {
         return Err(Cause::Name);
     };
@@ -80,10 +122,11 @@ fn read_label(hosts: &[Name], index: u32, name: &str, table: &Table) -> Result<L
 }
 
 // The label with this index and name, if its value is a table.
-fn read_entry(hosts: &[Name], index: u32, name: &str, value: &Value) -> Result<Label, Cause>
-    requires rising { AllPairs Precedes hosts.now }
-    requires few { length hosts.now ≤ most_entries }
-    ensures { Tells (entry_causes (label_causes hosts.now index name.now) (as_table (view value.now))) (label_of hosts.now name.now (entry_of (view value.now))) result }
+fn read_entry(hosts: &Hosts, index: u32, name: &str, value: &Value) -> Result<Label, Cause>
+    requires rising { AllPairs Precedes hosts.now.names.items }
+    requires few { length hosts.now.names.items ≤ most_entries }
+    requires named { All (λ c. IsClockName c.name) hosts.now.clocks.clocks }
+    ensures { Tells (entry_causes (label_causes (lists_of hosts.now) index name.now) (as_table (view value.now))) (label_of (lists_of hosts.now) name.now (entry_of (view value.now))) result }
 {
     match value.as_table() {
         Some(table) => read_label(hosts, index, name, table),
@@ -94,14 +137,15 @@ fn read_entry(hosts: &[Name], index: u32, name: &str, value: &Value) -> Result<L
 // The labels of this table.
 pub(crate) fn read_labels(
     alloc: Global,
-    hosts: &[Name],
+    hosts: &Hosts,
     table: &Table,
 ) -> Result<Vec<Label>, DeclError>
-    requires rising { AllPairs Precedes hosts.now }
-    requires few { length hosts.now ≤ most_entries }
-    ensures fault { IfErr result (λ e. IsFirstOf (labels_faults hosts.now 1 (table_view table.now)) e) }
-    ensures sound { OnOk result (labels_faults hosts.now 1 (table_view table.now) ≡ []) }
-    ensures labels { IfOk result (λ labels. labels.items ≡ labels_of hosts.now (table_view table.now)) }
+    requires rising { AllPairs Precedes hosts.now.names.items }
+    requires few { length hosts.now.names.items ≤ most_entries }
+    requires named { All (λ c. IsClockName c.name) hosts.now.clocks.clocks }
+    ensures fault { IfErr result (λ e. IsFirstOf (labels_faults (lists_of hosts.now) 1 (table_view table.now)) e) }
+    ensures sound { OnOk result (labels_faults (lists_of hosts.now) 1 (table_view table.now) ≡ []) }
+    ensures labels { IfOk result (λ labels. labels.items ≡ labels_of (lists_of hosts.now) (table_view table.now)) }
     ensures rising { IfOk result (λ labels. AllPairs (λ a b. Precedes a.name b.name) labels.items) }
 {
     let mut labels = Vec::new(alloc);

@@ -7,32 +7,40 @@
 //! | `labels` | a table with a table for each trace, by its name |
 //! | `links` | an array with a table for each link |
 //! | `payload_bytes` | a whole number from 0 to 64; 0 where it is not there |
-//! | `source` | the name of a host whose clock shows true time |
+//! | `source` | the name of a clock that shows true time |
 //!
 //! All may be left out, and there is no other key.
 //!
 //! | Entry | Its keys |
 //! |---|---|
-//! | host | `short` (at most 999,999,999) and `long` (at most 1,000,000,000), in parts per billion, and `early` and `late`, in ns below 2^62: 0 where they are not there. `addresses`: an array of IPv4 addresses, each four decimals with points between and no zeros in front. `addresses6`: an array of IPv6 addresses, each eight groups of one to four hexadecimal digits, of either case, with colons between |
-//! | trace | `host`: a host's name; `kind`: `capture` or `log`. It has both |
+//! | host | `short` (at most 999,999,999) and `long` (at most 1,000,000,000), in parts per billion, and `early` and `late`, in ns below 2^62: 0 where they are not there. `addresses`: an array of IPv4 addresses, each four decimals with points between and no zeros in front. `addresses6`: an array of IPv6 addresses, each eight groups of one to four hexadecimal digits, of either case, with colons between. `clocks`: an array with a table for each clock of the host, in the order in which they followed each other |
+//! | clock | `name`: a text, which it has. `short`, `long`, `early` and `late`, as of a host: the host's where they are not there. `gap`, in ns below 2^62: the least real time from each reading of the clocks before it to one of this clock, 0 where it is not there; it has no effect at a host's first clock |
+//! | trace | `host`: a host's name; `kind`: `capture` or `log`. It has both. `clock`: the name of the host's clock that it was stamped by, its first one where it is not there |
 //! | link | `from` and `to`: hosts' names, which may be the same. It has both. `least` and `most`, in ns below 2^62: 0 and no limit where they are not there |
 //!
-//! Names of hosts and traces are clock names, no address stands there twice under the same key, no pair of hosts stands there twice, and of hosts, traces
-//! and links there are at most 65,536 each. Hosts and traces go by the byte order of their names.
+//! A host without tables of clocks has one clock, of its own name and numbers. Names of hosts, clocks and traces are clock names, no two
+//! clocks have the same one, no address stands there twice under the same key, no pair of hosts stands there twice, and of hosts,
+//! clocks, traces and links there are at most 65,536 each. Hosts and traces go by the byte order of their names, clocks by their
+//! hosts and then as they were written.
 //!
 //! A declaration that is refused is looked through in this order: its size; whether it is a document; its own keys, their
-//! values' shapes, the payload; then host by host, trace by trace and link by link; at last the source. An entry that
-//! is a table is looked through by keys, shapes of values, names, numbers (with its own among the entries), addresses.
+//! values' shapes, the payload; then host by host, trace by trace and link by link; at last the source. A host is looked through
+//! by table, keys, shapes of values, name, numbers and its index, addresses, and then clock by clock, each by table, keys,
+//! shapes, name, numbers and how many clocks there are; a trace and a link by table, keys, shapes, names, numbers and its index.
 #![tactic(auto)]
 
 mod addresses;
 mod addresses6;
 mod cause;
+mod clock_numbers;
+mod clock_tables;
+mod clocks;
 mod errors;
 mod hosts;
 mod items;
 mod keys;
 mod labels;
+mod laws;
 mod limits;
 mod links;
 mod lookups;
@@ -44,4 +52,5 @@ pub use addresses::addresses_are_dotted;
 pub use addresses6::addresses6_are_groups;
 pub use errors::{DeclError, Section};
 pub use items::{Address, Address6, Decl, Label, Link, Owner, TraceKind};
+pub use laws::clocks_of_a_host_follow;
 pub use read::read_decl;

@@ -3,7 +3,7 @@
 // How many bytes a document has at most. It is held in memory whole, beside its values.
 pub(crate) const MOST_BYTES: usize = 1 << 24;
 
-// How many hosts, labels and links there may be each: as many as a problem has clocks, since each host has one.
+// How many hosts, labels and links there may be each: as many as a problem has clocks, since each host has one or more.
 pub(crate) const MOST_ENTRIES: u32 = 65_536;
 
 // How many bytes of a payload belong to the key of a packet at most: as many as a key has room for.

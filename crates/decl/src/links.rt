@@ -4,14 +4,14 @@ ghost use Rattle.toml.specs.Data.{as_table};
 ghost use Rattle.toml.specs.View.{view, table_view, items_view};
 ghost use Rattle.decl.specs.Causes.{Tells, IsFirstOf};
 ghost use Rattle.decl.specs.Declaration.{Precedes};
-ghost use Rattle.decl.specs.Hosts.{entry_of};
-ghost use Rattle.decl.specs.Labels.{host_at_key, entry_causes};
+ghost use Rattle.decl.specs.Keys.{entry_causes, entry_of};
+ghost use Rattle.decl.specs.Labels.{host_at_key};
 ghost use Rattle.decl.specs.Limits.{most_entries, nano_limit};
 ghost use Rattle.decl.specs.Links.{has_link, is_astray, most_at, link_causes, link_of, links_faults, links_of};
 ghost use Rattle.decl.specs.Values.{is_up_to, whole_or_zero};
 
 use crate::cause::Cause;
-use crate::keys::check_table;
+use crate::keys::{Form, check_table};
 use crate::labels::host_at_key;
 use crate::limits::MOST_ENTRIES;
 use crate::values::{nano_at, whole_at};
@@ -123,7 +123,7 @@ fn read_link(hosts: &[Name], book: &LinkBook, index: u32, table: &Table) -> Resu
     requires few { length hosts.now ≤ most_entries }
     ensures { Tells (link_causes hosts.now index book.now (table_view table.now)) (link_of hosts.now (table_view table.now)) result }
 {
-    check_table(Section::Links, table)?;
+    check_table(Form::Link, table)?;
     let Some((from, to)) = read_ends(hosts, book, table) else {
         return Err(Cause::Name);
     };

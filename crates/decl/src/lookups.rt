@@ -1,9 +1,11 @@
-// What a declaration says of an address and of two hosts.
-ghost use Rattle.std.specs.Prelude.{◌≡◌};
-ghost use Rattle.decl.specs.Declaration.{declaration_of, host_at, host6_at, link_bounds};
+// What a declaration says of an address, of two hosts, and of neighbouring clocks.
+ghost use Rattle.std.specs.Prelude.{◌≡◌, ◌≤◌, length};
+ghost use Rattle.problem_model.specs.Problem.{most_clocks};
+ghost use Rattle.decl.specs.Declaration.{declaration_of, host_at, host6_at, link_bounds, follow_from};
 
 use crate::Decl;
 use atto::Nano;
+use problem_model::Follow;
 
 impl Decl {
     /// The place of the host that has this address; None exactly where no host has it.
@@ -41,5 +43,24 @@ impl Decl {
             }
         }
         (Nano::new(0).unwrap(), None)
+    }
+
+    /// The follow from the clock at a place to the next one; None exactly where these are not two clocks of one host. Its
+    /// gap is that of the later clock. Condition: there are at most 65,536 clocks.
+    pub fn follow_from(&self, earlier: u32) -> Option<Follow>
+        requires { length self.now.owners.items ≤ most_clocks }
+        ensures { result ≡ follow_from (declaration_of self.now) earlier }
+    {
+        let place = earlier as usize;
+        let one = self.owners.get(place)?;
+        let next = self.owners.get(place + 1)?;
+        if one.host != next.host {
+            return None;
+        }
+        Some(Follow {
+            earlier,
+            later: earlier + 1,
+            gap: next.gap,
+        })
     }
 }

@@ -1,12 +1,12 @@
 // The places of hosts.
-ghost use Rattle.std.specs.Prelude.{◌≡◌, ◌≤◌, length, map, AllPairs};
+ghost use Rattle.std.specs.Prelude.{◌≡◌, ◌≤◌, length, AllPairs};
 ghost use Rattle.std.specs.Ordering.{nat_cmp};
 ghost use Rattle.std.specs.Cmp.Lexicographic.{slice_cmp};
 ghost use Rattle.decl.specs.Declaration.{Precedes};
 ghost use Rattle.decl.specs.Limits.{most_entries};
-ghost use Rattle.decl.specs.Places.{place_of, clock_place};
+ghost use Rattle.decl.specs.Places.{place_of};
 
-use problem_model::{Clock, Name};
+use problem_model::Name;
 use std::cmp::Ordering;
 
 // How a host's name stands to a name, in byte order.
@@ -26,15 +26,4 @@ pub(crate) fn place_of(hosts: &[Name], name: &[u8]) -> Option<u32>
         Ok(place) => Some(place as u32),
         Err(_) => None,
     }
-}
-
-/// The place of the clock of this name, if there is one. Each clock has the name of the host at its place.
-pub(crate) fn clock_place(hosts: &[Name], clocks: &[Clock], name: &[u8]) -> Option<u32>
-    requires rising { AllPairs Precedes hosts.now }
-    requires few { length hosts.now ≤ most_entries }
-    requires own_names { map (λ c. c.name) clocks.now ≡ hosts.now }
-    ensures { result ≡ clock_place clocks.now name.now }
-{
-    let _clocks = clocks;
-    place_of(hosts, name)
 }

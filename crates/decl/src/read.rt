@@ -1,23 +1,23 @@
 // A declaration as a whole.
-ghost use Rattle.std.specs.Prelude.{◌≡◌, ◌≤◌, [], Some, None, option_and_then, length, map, codes, AllPairs, IfOk, IfErr, OnOk};
+ghost use Rattle.std.specs.Prelude.{◌≡◌, [], Some, None, option_and_then, codes, All, IfOk, IfErr, OnOk};
 ghost use Rattle.toml.specs.View.{table_view};
+ghost use Rattle.problem_model.specs.Name.{IsClockName};
 ghost use Rattle.decl.specs.Causes.{Tells, IsFirstOf};
-ghost use Rattle.decl.specs.Declaration.{Precedes, declaration_of, IsDeclaration};
-ghost use Rattle.decl.specs.Limits.{most_entries};
+ghost use Rattle.decl.specs.Declaration.{declaration_of, IsDeclaration};
 ghost use Rattle.decl.specs.Places.{clock_place};
 ghost use Rattle.decl.specs.Values.{number_at, text_at};
 ghost use Rattle.decl.specs.Walk.{Declares, IsFirstFault, declared, faults, is_true_at, shows_true, source_causes, top_causes};
 
 use crate::cause::Cause;
-use crate::hosts::read_hosts;
-use crate::keys::check_table;
+use crate::clocks::ClockBook;
+use crate::hosts::{read_clock_name, read_hosts};
+use crate::keys::{Form, check_table};
 use crate::labels::read_labels;
 use crate::limits::{MOST_BYTES, MOST_PAYLOAD};
 use crate::links::read_links;
-use crate::places::clock_place;
 use crate::values::{items_or_none, number_up_to, table_or_empty, text_at};
 use crate::{Decl, DeclError, Section};
-use problem_model::{Clock, Name};
+use problem_model::Clock;
 use std::alloc::Global;
 use toml::Table;
 
@@ -25,7 +25,7 @@ use toml::Table;
 fn read_top(table: &Table) -> Result<u8, Cause>
     ensures { Tells (top_causes (table_view table.now)) (number_at (codes "payload_bytes") (table_view table.now)) result }
 {
-    check_table(Section::Top, table)?;
+    check_table(Form::Document, table)?;
     match number_up_to(table, "payload_bytes", MOST_PAYLOAD) {
         Some(bytes) => Ok(bytes as u8),
         None => Err(Cause::Number),
@@ -51,19 +51,28 @@ fn is_true_at(clocks: &[Clock], place: Option<u32>) -> bool
     }
 }
 
+// The place of the clock of this name.
+fn named_clock(clocks: &ClockBook, name: &str) -> Option<u32>
+    requires { All (λ c. IsClockName c.name) clocks.now.clocks }
+    ensures { result ≡ clock_place clocks.now.clocks name.now }
+{
+    match read_clock_name(name.as_bytes()) {
+        Some(name) => clocks.place(&name),
+        None => None,
+    }
+}
+
 // The place of the source, if one is named.
-fn read_source(hosts: &[Name], clocks: &[Clock], table: &Table) -> Result<Option<u32>, Cause>
-    requires rising { AllPairs Precedes hosts.now }
-    requires few { length hosts.now ≤ most_entries }
-    requires own_names { map (λ c. c.name) clocks.now ≡ hosts.now }
+fn read_source(clocks: &ClockBook, table: &Table) -> Result<Option<u32>, Cause>
+    requires { All (λ c. IsClockName c.name) clocks.now.clocks }
     ensures { let name = text_at (codes "source") (table_view table.now) in
-        Tells (source_causes clocks.now name) (option_and_then (clock_place clocks.now) name) result }
+        Tells (source_causes clocks.now.clocks name) (option_and_then (clock_place clocks.now.clocks) name) result }
 {
     let Some(name) = text_at(table, "source") else {
         return Ok(None);
     };
-    let place = clock_place(hosts, clocks, name.as_bytes());
-    if !is_true_at(clocks, place) {
+    let place = named_clock(clocks, name);
+    if !is_true_at(clocks.list(), place) {
         return Err(Cause::Source);
     }
     Ok(place)
@@ -81,11 +90,11 @@ fn read_document(alloc: Global, table: &Table) -> Result<Decl, DeclError>
         Err(cause) => return Err(cause.at(Section::Top, 0)),
     };
     let empty = Table::new(alloc);
-    let hosts = match read_hosts(alloc, table_or_empty(table, "hosts", &empty)) {
+    let hosts = match read_hosts(alloc, table_or_empty(table, "hosts", &empty), &empty) {
         Ok(hosts) => hosts,
         Err(e) => return Err(e),
     };
-    let labels = match read_labels(alloc, &hosts.names, table_or_empty(table, "labels", &empty)) {
+    let labels = match read_labels(alloc, &hosts, table_or_empty(table, "labels", &empty)) {
         Ok(labels) => labels,
         Err(e) => return Err(e),
     };
@@ -93,14 +102,15 @@ fn read_document(alloc: Global, table: &Table) -> Result<Decl, DeclError>
         Ok(links) => links,
         Err(e) => return Err(e),
     };
-    let source = match read_source(&hosts.names, &hosts.clocks, table) {
+    let source = match read_source(&hosts.clocks, table) {
         Ok(source) => source,
         Err(cause) => return Err(cause.at(Section::Top, 0)),
     };
+    let (clocks, owners) = hosts.clocks.into_lists();
     Ok(Decl {
         hosts: hosts.names,
-        clocks: hosts.clocks,
-        owners: hosts.owners,
+        clocks,
+        owners,
         addresses: hosts.addresses,
         addresses6: hosts.addresses6,
         labels,

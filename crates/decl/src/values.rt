@@ -27,7 +27,8 @@ pub(crate) fn whole_at(table: &Table, key: &str) -> Option<i64>
     }
 }
 
-fn whole_or_zero(table: &Table, key: &str) -> i64
+// The whole number at a key, or 0.
+pub(crate) fn whole_or_zero(table: &Table, key: &str) -> i64
     ensures { result ≡ whole_or_zero key.now (table_view table.now) }
 {
     match whole_at(table, key) {
@@ -89,7 +90,8 @@ pub(crate) fn items_or_none<'a>(table: &'a Table, key: &str) -> &'a [Value]
     }
 }
 
-fn up_to(limit: u64, z: i64) -> Option<u64>
+// The number without its sign, if it is 0 to a limit.
+pub(crate) fn up_to(limit: u64, z: i64) -> Option<u64>
     ensures { result ≡ (if is_up_to limit z then Some (nat_abs z) else None) }
 {
     if z < 0 {

@@ -4,4 +4,4 @@ use Rattle.decl.specs.Keys.{has_other_key}
 use Rattle.decl.proofs.keys.has_other_key.Given as goal
 
 abbrev pub invariant-loop-key : goal.invariant-loop-key
-invariant-loop-key l = has_other_key l.section (members_view l.table.entries) ≡ has_other_key l.section (members_view l.key-iterator)
+invariant-loop-key l = has_other_key l.form (members_view l.table.entries) ≡ has_other_key l.form (members_view l.key-iterator)

@@ -1,0 +1,30 @@
+use Rattle.std.proofs.Common.{◌≡◌, ℕ, ◌++◌, List, ◌∷◌, [], length, slice_get, sym, ◌∙◌, ap, rules}
+use Rattle.decl.specs.Clocks.{first_clock_place}
+use Rattle.decl.proofs.ClockPlaces.{name_more, book_more, firsts_new, firsts_same}
+use Rattle.decl.proofs.clocks.ClockBook.push.Goals.{then-owner-len, else-owner-len}
+use Rattle.decl.proofs.clocks.ClockBook.push.Goals as goal
+
+pub invariant_of-self-2 : goal.invariant_of-self-2
+invariant_of-self-2 c =
+    let now = c.self.inside in
+    let held = c.self.invariant in
+    let free = rw (← c.self.view_is) at c.requires.new in
+    let room = rw (← c.self.view_is) at c.requires.room in
+    let turn = rw (← c.self.view_is) at c.requires.turn in
+    let named = name_more c.args.clock.name now.names.keys c.insert.new.self.keys now.clocks.items held.0 free c.in_ok-insert.ensures.keys in
+    let clocked : c.push_reserved-2.new.self.items ≡ now.clocks.items ++ c.args.clock ∷ [] = search rules in
+    let owned : c.push_reserved-3.new.self.items ≡ now.owners.items ++ c.args.owner ∷ [] = search rules in
+    let counted : c.len.result ≡ length now.firsts.items = search rules in
+    let more = λ (firsts : List ℕ) (held' : (host : ℕ) → slice_get firsts host ≡ first_clock_place (now.owners.items ++ c.args.owner ∷ []) host).
+    book_more now.names.keys c.insert.new.self.keys now.clocks.items c.push_reserved-2.new.self.items now.owners.items c.push_reserved-3.new.self.items firsts c.args.clock c.args.owner
+    held.0 held.1 room named clocked owned held' in
+    elim c.if-owner-len.branch [
+      | then-owner-len w ↦
+          let put : w.push_reserved.new.self.items ≡ now.firsts.items ++ length now.owners.items ∷ [] = search rules in
+          rw w.self-inside-is (more w.push_reserved.new.self.items (λ host.
+          ap (λ (firsts : List ℕ). slice_get firsts host) put ∙ firsts_new now.firsts.items now.owners.items c.args.owner held.3 turn (w.if-owner-len.true ∙ counted) host))
+      | else-owner-len w ↦
+          let same : c.reserve-3.new.self.items ≡ now.firsts.items = search rules in
+          rw w.self-inside-is (more c.reserve-3.new.self.items (λ host.
+          ap (λ (firsts : List ℕ). slice_get firsts host) same ∙ firsts_same now.firsts.items now.owners.items c.args.owner held.3 turn (λ e. w.if-owner-len.false (e ∙ sym counted)) host))
+    ]
