@@ -18,7 +18,7 @@ pub enum Kind {
 /// The key stands in the row itself; a text that is not empty has memory of its own.
 #[derive(Debug, Drop)]
 pub struct Row {
-    /// When it happened, in ns of the host's clock, below 2^62.
+    /// When it happened, in ns of the clock that stamped it, below 2^62.
     pub stamp: Nano,
     /// What happened.
     pub kind: Kind,

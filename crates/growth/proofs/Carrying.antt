@@ -1,11 +1,10 @@
 -- A problem with its events by number, and the same with its events by place.
-use Rattle.std.proofs.Common.{◌≡◌, ℕ, List, [], length, map, slice_get, Some, Contains, refl, sym, ◌∙◌, ap, subst, arith}
+use Rattle.std.proofs.Common.{◌≡◌, ℕ, List, length, map, slice_get, Some, Contains, refl, sym, ◌∙◌, ap, subst, arith, inl, inr}
 use Rattle.std.specs.Prelude.{neg_ℤ, pos, ◌*◌}
 use Rattle.std.proofs.lemmas.List.{length-map}
 use Rattle.std.proofs.lemmas.Option.{slice_get_within, same_Some}
 use Rattle.problem_model.specs.declared.items.Clock.{Clock}
 use Rattle.problem_model.specs.declared.items.Event.{Event}
-use Rattle.problem_model.specs.declared.items.Follow.{Follow}
 use Rattle.problem_model.specs.declared.items.Message.{Message}
 use Rattle.problem_model.specs.declared.items.Node.{Node}
 use Rattle.problem_model.specs.declared.items.Node.TheVariants as nodes
@@ -19,9 +18,9 @@ use Rattle.problem.specs.Listing.{Listed, name_at}
 use Rattle.problem.proofs.ListedNodes.{map_at}
 use Rattle.sync_graph.specs.ListedProblem.{IsListedBy, StandsAt, IsCarried}
 use Rattle.trace_problem.proofs.Lists.{got}
-use Rattle.traces.proofs.Members.{none_in}
-use Rattle.growth.specs.Entered.{IsReadingOf, AreNeighbours, IsDue, all_events}
+use Rattle.growth.specs.Entered.{IsReadingOf, AreNeighbours, AreLinked, IsDue, all_events}
 use Rattle.growth.specs.ByNumber.{IsByNumber, IsCarriedMessage}
+use Rattle.growth.proofs.Leading.{follow_over, after_over}
 use Rattle.growth.proofs.DueShort.{read_all, all_read}
 use Rattle.growth.proofs.Counting.{one_place}
 
@@ -70,13 +69,23 @@ module _ (l : Listed) (p q : ProblemLists) (readings : List Reading) (listed : I
     none = λ u read. are.none u (read_by_place clock u read);
   }
 
+  linked_by_number : (c s d t : ℕ) → AreLinked q all_events c s d t → AreLinked p all_events c s d t
+  linked_by_number c s d t are = record {
+    comes = after_over q p by.follows c d are.comes;
+    nearest = λ b u after read. elim (are.nearest b u (after_over p q (sym by.follows) b d after) (read_by_place b u read)) [ inl same ↦ inl same | inr before ↦ inr (after_over q p by.follows b c before) ];
+    last = read_by_number c s are.last;
+    none_after = λ u read. are.none_after u (read_by_place c u read);
+    first = read_by_number d t are.first;
+    none_before = λ u read. are.none_before u (read_by_place d u read);
+  }
+
   -- ---- what is due
   pub due_by_number : (b : Bound) → IsDue q all_events b → (a : Bound) × IsCarried l a b × IsDue p all_events a
   due_by_number (SpanMost clock s t) due = (SpanMost clock s t, refl, neighbours_by_number clock s t due)
   due_by_number (SpanLeast clock s t) due = (SpanLeast clock s t, refl, neighbours_by_number clock s t due)
   due_by_number (Late place) (e, has) = let v = number_at place e has.0 in (Late v.0, (place, v.1, refl), (e, (v.2, refl)))
   due_by_number (Early place) (e, has) = let v = number_at place e has.0 in (Early v.0, (place, v.1, refl), (e, (v.2, refl)))
-  due_by_number (bounds.Follow c s d t) due = absurd due
+  due_by_number (bounds.Follow c s d t) due = (bounds.Follow c s d t, refl, linked_by_number c s d t due)
   due_by_number (DelayMost send receive) (n, most, is, most_is) =
       let m = by.messages.back n is.among in
       let c = m.2 in (
@@ -101,37 +110,38 @@ module _ (l : Listed) (p q : ProblemLists) (readings : List Reading) (listed : I
       let n = by.messages.forth m among in
       (n.0, n.1, n.2, one_place_of m.send n.0.send j n.2.send from, one_place_of m.receive n.0.receive k n.2.receive to)
 
-  module _ (no_follows : p.follows ≡ []) where
-    pub carried : (b : Bound) (c : Constraint) → Declares p b c → (a : Bound) × IsCarried l b a
-    carried (SpanMost clock s t) c d = (SpanMost clock s t, refl)
-    carried (SpanLeast clock s t) c d = (SpanLeast clock s t, refl)
-    carried (Late v) c (e, k, at, on, is) = let place = by.every_event v e at in (Late place.0, (place.0, place.1, refl))
-    carried (Early v) c (e, k, at, on, is) = let place = by.every_event v e at in (Early place.0, (place.0, place.1, refl))
-    carried (bounds.Follow b s d t) c (f, among, later, comes, first, second, is) = absurd (none_in f (subst (λ (fs : List Follow). Contains fs f) no_follows among))
-    carried (DelayMost send receive) c (m, most, among, from, to, most_is, is) =
-        let n = by.messages.forth m among in
-        (DelayMost n.0.send n.0.receive, (n.0.send, n.0.receive, subst (λ (v : ℕ). StandsAt l v n.0.send) from n.2.send, subst (λ (v : ℕ). StandsAt l v n.0.receive) to n.2.receive, refl))
-    carried (DelayLeast send receive) c (m, among, from, to, is) =
-        let n = by.messages.forth m among in
-        (DelayLeast n.0.send n.0.receive, (n.0.send, n.0.receive, subst (λ (v : ℕ). StandsAt l v n.0.send) from n.2.send, subst (λ (v : ℕ). StandsAt l v n.0.receive) to n.2.receive, refl))
+  pub carried : (b : Bound) (c : Constraint) → Declares p b c → (a : Bound) × IsCarried l b a
+  carried (SpanMost clock s t) c d = (SpanMost clock s t, refl)
+  carried (SpanLeast clock s t) c d = (SpanLeast clock s t, refl)
+  carried (Late v) c (e, k, at, on, is) = let place = by.every_event v e at in (Late place.0, (place.0, place.1, refl))
+  carried (Early v) c (e, k, at, on, is) = let place = by.every_event v e at in (Early place.0, (place.0, place.1, refl))
+  carried (bounds.Follow b s d t) c d' = (bounds.Follow b s d t, refl)
+  carried (DelayMost send receive) c (m, most, among, from, to, most_is, is) =
+      let n = by.messages.forth m among in
+      (DelayMost n.0.send n.0.receive, (n.0.send, n.0.receive, subst (λ (v : ℕ). StandsAt l v n.0.send) from n.2.send, subst (λ (v : ℕ). StandsAt l v n.0.receive) to n.2.receive, refl))
+  carried (DelayLeast send receive) c (m, among, from, to, is) =
+      let n = by.messages.forth m among in
+      (DelayLeast n.0.send n.0.receive, (n.0.send, n.0.receive, subst (λ (v : ℕ). StandsAt l v n.0.send) from n.2.send, subst (λ (v : ℕ). StandsAt l v n.0.receive) to n.2.receive, refl))
 
-    as_declared : (b : Bound) (c k : Constraint) → c ≡ k → DeclaresSame l q k b → DeclaresSame l q c b
-    as_declared b c k is same = subst (λ (x : Constraint). DeclaresSame l q x b) (sym is) same
+  as_declared : (b : Bound) (c k : Constraint) → c ≡ k → DeclaresSame l q k b → DeclaresSame l q c b
+  as_declared b c k is same = subst (λ (x : Constraint). DeclaresSame l q x b) (sym is) same
 
-    pub declares_there : (b a : Bound) (c : Constraint) → IsCarried l b a → Declares p b c → DeclaresSame l q c a
-    declares_there (SpanMost clock s t) a c same (k, at, first, second, less, is) =
-        subst (DeclaresSame l q c) (sym same) (as_declared (SpanMost clock s t) c _ is (_, (k, clock_there clock k at, read_there clock s first, read_there clock t second, less, refl), refl, refl, refl))
-    declares_there (SpanLeast clock s t) a c same (k, at, first, second, less, is) =
-        subst (DeclaresSame l q c) (sym same) (as_declared (SpanLeast clock s t) c _ is (_, (k, clock_there clock k at, read_there clock s first, read_there clock t second, less, refl), refl, refl, refl))
-    declares_there (Late v) a c (place, stands, same) (e, k, at, on, is) =
-        subst (DeclaresSame l q c) (sym same) (as_declared (Late place) c _ is (_, (e, k, by.placed v place e stands at, clock_there e.clock k on, refl), refl, (place, stands, refl), refl))
-    declares_there (Early v) a c (place, stands, same) (e, k, at, on, is) =
-        subst (DeclaresSame l q c) (sym same) (as_declared (Early place) c _ is (_, (e, k, by.placed v place e stands at, clock_there e.clock k on, refl), (place, stands, refl), refl, refl))
-    declares_there (bounds.Follow b s d t) a c same (f, among, later, comes, first, second, is) = absurd (none_in f (subst (λ (fs : List Follow). Contains fs f) no_follows among))
-    declares_there (DelayMost send receive) a c (j, k, from, to, same) (m, most, among, send_is, receive_is, most_is, is) =
-        let n = message_there m j k among (subst (λ (v : ℕ). StandsAt l v j) (sym send_is) from) (subst (λ (v : ℕ). StandsAt l v k) (sym receive_is) to) in
-        subst (DeclaresSame l q c) (sym same) (as_declared (DelayMost j k) c _ is (_, (n.0, most, n.1, n.3, n.4, n.2.most ∙ most_is, refl), (j, from, refl), (k, to, refl), refl))
-    declares_there (DelayLeast send receive) a c (j, k, from, to, same) (m, among, send_is, receive_is, is) =
-        let n = message_there m j k among (subst (λ (v : ℕ). StandsAt l v j) (sym send_is) from) (subst (λ (v : ℕ). StandsAt l v k) (sym receive_is) to) in
-        subst (DeclaresSame l q c) (sym same)
-        (as_declared (DelayLeast j k) c _ is (_, (n.0, n.1, n.3, n.4, refl), (k, to, refl), (j, from, refl), ap (λ (w : ℕ). neg_ℤ (pos (w * 1000000000))) n.2.least))
+  pub declares_there : (b a : Bound) (c : Constraint) → IsCarried l b a → Declares p b c → DeclaresSame l q c a
+  declares_there (SpanMost clock s t) a c same (k, at, first, second, less, is) =
+      subst (DeclaresSame l q c) (sym same) (as_declared (SpanMost clock s t) c _ is (_, (k, clock_there clock k at, read_there clock s first, read_there clock t second, less, refl), refl, refl, refl))
+  declares_there (SpanLeast clock s t) a c same (k, at, first, second, less, is) =
+      subst (DeclaresSame l q c) (sym same) (as_declared (SpanLeast clock s t) c _ is (_, (k, clock_there clock k at, read_there clock s first, read_there clock t second, less, refl), refl, refl, refl))
+  declares_there (Late v) a c (place, stands, same) (e, k, at, on, is) =
+      subst (DeclaresSame l q c) (sym same) (as_declared (Late place) c _ is (_, (e, k, by.placed v place e stands at, clock_there e.clock k on, refl), refl, (place, stands, refl), refl))
+  declares_there (Early v) a c (place, stands, same) (e, k, at, on, is) =
+      subst (DeclaresSame l q c) (sym same) (as_declared (Early place) c _ is (_, (e, k, by.placed v place e stands at, clock_there e.clock k on, refl), (place, stands, refl), refl, refl))
+  declares_there (bounds.Follow b s d t) a c same (f, among, later, comes, first, second, is) =
+      let there' = sym by.follows in
+      subst (DeclaresSame l q c) (sym same) (as_declared (bounds.Follow b s d t) c _ is (_, (f, follow_over p q there' f among, later, after_over p q there' b d comes, read_there b s first, read_there d t second, refl), refl, refl, refl))
+  declares_there (DelayMost send receive) a c (j, k, from, to, same) (m, most, among, send_is, receive_is, most_is, is) =
+      let n = message_there m j k among (subst (λ (v : ℕ). StandsAt l v j) (sym send_is) from) (subst (λ (v : ℕ). StandsAt l v k) (sym receive_is) to) in
+      subst (DeclaresSame l q c) (sym same) (as_declared (DelayMost j k) c _ is (_, (n.0, most, n.1, n.3, n.4, n.2.most ∙ most_is, refl), (j, from, refl), (k, to, refl), refl))
+  declares_there (DelayLeast send receive) a c (j, k, from, to, same) (m, among, send_is, receive_is, is) =
+      let n = message_there m j k among (subst (λ (v : ℕ). StandsAt l v j) (sym send_is) from) (subst (λ (v : ℕ). StandsAt l v k) (sym receive_is) to) in
+      subst (DeclaresSame l q c) (sym same)
+      (as_declared (DelayLeast j k) c _ is (_, (n.0, n.1, n.3, n.4, refl), (k, to, refl), (j, from, refl), ap (λ (w : ℕ). neg_ℤ (pos (w * 1000000000))) n.2.least))

@@ -2,19 +2,21 @@
 use Rattle.std.proofs.Common.{◌≡◌, ◌⊎◌, ◌<◌, ◌+◌, ◌==◌, ℕ, suc, List, [], ◌∷◌, ◌++◌, length, Option, Some, None, slice_get, Contains, All, AllPairs, refl, sym, ap, subst, arith, inl, inr}
 use Rattle.std.specs.List.{flat_map}
 use Rattle.std.proofs.lemmas.Bool.{cases_eq, eq-eqb, ne_eqb, cond-true, cond-false}
-use Rattle.std.proofs.lemmas.List.Elements.{All-append, All-cons, All-nil, All-head, All-tail, All-contains, All-contains_itself}
+use Rattle.std.proofs.lemmas.List.Elements.{All-append, All-cons, All-nil, All-head, All-tail, All-contains, All-contains_itself, Contains-append_left, Contains-append_right}
 use Rattle.std.proofs.lemmas.Option.{slice_get_read, slice_get_within, get_or_from_slice_get}
+use Rattle.problem_model.specs.declared.items.Clock.{Clock}
 use Rattle.problem_model.specs.declared.items.Event.{Event}
 use Rattle.problem_model.specs.declared.items.Message.{Message}
 use Rattle.problem_model.specs.declared.items.Bound.{Bound}
+use Rattle.problem_model.specs.declared.items.Bound.TheVariants as bounds
 use Rattle.problem_model.specs.declared.items.Bound.TheVariants.{SpanMost, SpanLeast, Late, Early, DelayMost, DelayLeast}
-use Rattle.problem_model.specs.Problem.{ProblemLists}
+use Rattle.problem_model.specs.Problem.{ProblemLists, IsChained}
 use Rattle.problem_model.specs.Bounds.{IsReading}
 use Rattle.problem_model.specs.Nodes.{Reading, AreReadings, ComesBefore}
-use Rattle.problem_model.specs.ShortList.{short_list, neighbour_bounds, span_bounds, event_bounds, most_bound, message_bounds}
-use Rattle.problem_model.proofs.Walking.{short_without}
+use Rattle.problem_model.specs.ShortList.{short_list, neighbour_bounds, span_bounds, event_bounds, clocks_before, first_reading, nearest_reading, follow_bound, follow_bounds, most_bound, message_bounds}
+use Rattle.problem_model.proofs.NearestFollows.{Joins, follows_are}
 use Rattle.traces.proofs.Members.{here, there, head_or_tail, first_of_pairs, rest_of_pairs}
-use Rattle.growth.specs.Entered.{IsReadingOf, AreNeighbours, IsDue, all_events}
+use Rattle.growth.specs.Entered.{IsReadingOf, AreNeighbours, AreLinked, IsDue, all_events}
 
 pub read_all : (q : ProblemLists) (clock stamp : ℕ) → IsReading q clock stamp → IsReadingOf q all_events clock stamp
 read_all q clock stamp (e, (k, inside, is), on, same) = (k, e, (slice_get_read q.events (length q.events) k e refl inside (sym is), refl), on, same)
@@ -104,10 +106,46 @@ module _ (q : ProblemLists) (readings : List Reading) (are : AreReadings q readi
       (All-cons Due (DelayLeast m.send m.receive) [] (m, record { among = among; send_is = refl; receive_is = refl; send_in = refl; receive_in = refl }) (All-nil Due)))
       (delays ms (All-tail (Contains q.messages) m ms has))
 
-  pub short_due : q.follows ≡ [] → All (λ (b : Bound). IsDue q all_events b) (short_list q readings)
-  short_due none = subst (All Due) (sym (short_without q readings none)) (
-      All-append Due (span_bounds readings ++ event_bounds 0 q.events) (flat_map message_bounds q.messages)
-      (All-append Due (span_bounds readings) (event_bounds 0 q.events)
-      (spans readings are.rising (λ x among. inl among) (All-contains_itself readings))
-      (stamps 0 q.events (λ i e at. subst (λ (n : ℕ). slice_get q.events n ≡ Some e) (let same : i ≡ 0 + i = omega arith in same) at)))
-      (delays q.messages (All-contains_itself q.messages)))
+  module _ (chained : IsChained q) where
+    abbrev all_follows : List Bound
+    all_follows = follow_bounds q.follows readings 0 q.clocks
+
+    joins : (c s d t : ℕ) → Contains all_follows (bounds.Follow c s d t) → Joins q chained readings are c s d t
+    joins c s d t among = (follows_are q chained readings are c s d t).0 among
+
+    linked : (c s d t : ℕ) → Joins q chained readings are c s d t → AreLinked q all_events c s d t
+    linked c s d t join = record {
+      comes = join.0.0;
+      nearest = λ b u after read. join.0.1 b u after (all_read q b u read);
+      last = read_all q c s join.1.0;
+      none_after = λ u read. join.1.1 u (all_read q c u read);
+      first = read_all q d t join.2.0;
+      none_before = λ u read. join.2.1 u (all_read q d u read);
+    }
+
+    follow_due : (one other : Option Reading) → ((b : Bound) → Contains (follow_bound one other) b → Contains all_follows b) → All Due (follow_bound one other)
+    follow_due None other held = All-nil Due
+    follow_due (Some a) None held = All-nil Due
+    follow_due (Some a) (Some b) held =
+        let f : Bound = bounds.Follow a.0 a.1 b.0 b.1 in
+        All-cons Due f [] (linked a.0 a.1 b.0 b.1 (joins a.0 a.1 b.0 b.1 (held f (here f [])))) (All-nil Due)
+
+    follows : (k : ℕ) (clocks : List Clock) → ((b : Bound) → Contains (follow_bounds q.follows readings k clocks) b → Contains all_follows b) → All Due (follow_bounds q.follows readings k clocks)
+    follows k [] held = All-nil Due
+    follows k (c ∷ clocks) held =
+        let before : Option Reading = nearest_reading readings (clocks_before q.follows k k) in
+        let first : Option Reading = first_reading readings k in
+        let rest : List Bound = follow_bounds q.follows readings (k + 1) clocks in
+        All-append Due (follow_bound before first) rest
+        (follow_due before first (λ b among. held b (Contains-append_left (follow_bound before first) rest b among)))
+        (follows (k + 1) clocks (λ b among. held b (Contains-append_right (follow_bound before first) rest b among)))
+
+    pub short_due : All (λ (b : Bound). IsDue q all_events b) (short_list q readings)
+    short_due =
+        All-append Due (span_bounds readings ++ event_bounds 0 q.events ++ all_follows) (flat_map message_bounds q.messages)
+        (All-append Due (span_bounds readings ++ event_bounds 0 q.events) all_follows
+        (All-append Due (span_bounds readings) (event_bounds 0 q.events)
+        (spans readings are.rising (λ x among. inl among) (All-contains_itself readings))
+        (stamps 0 q.events (λ i e at. subst (λ (n : ℕ). slice_get q.events n ≡ Some e) (let same : i ≡ 0 + i = omega arith in same) at)))
+        (follows 0 q.clocks (λ b among. among)))
+        (delays q.messages (All-contains_itself q.messages))

@@ -11,17 +11,19 @@ use Rattle.problem_model.specs.declared.items.Node.TheVariants as nodes
 use Rattle.problem_model.specs.declared.items.Bound.{Bound}
 use Rattle.problem_model.specs.declared.items.Bound.TheVariants as bounds
 use Rattle.problem_model.specs.declared.items.Bound.TheVariants.{SpanMost, SpanLeast, Late, Early, DelayMost, DelayLeast}
-use Rattle.problem_model.specs.Problem.{ProblemLists}
+use Rattle.problem_model.specs.Problem.{ProblemLists, IsChained}
 use Rattle.problem_model.specs.Bounds.{EventAt}
 use Rattle.problem_model.specs.ShortList.{message_bounds, most_bound}
+use Rattle.problem_model.proofs.NearestFollows.{rises_after}
 use Rattle.sync_graph.specs.declared.arc.Arc.{Arc}
 use Rattle.sync_graph.specs.Graph.{GraphLists, arc_at}
 use Rattle.sync_graph.specs.InForce.{IsInForce}
 use Rattle.sync_graph.specs.Standing.{HasNode}
 use Rattle.traces.proofs.Members.{here, there, none_in, given_by}
-use Rattle.growth.specs.Entered.{IsReadingOf, IsNodeOf, AreNeighbours, IsMessageOf, IsDue, and_event}
+use Rattle.growth.specs.Entered.{IsReadingOf, IsNodeOf, AreNeighbours, AreLinked, IsMessageOf, IsDue, and_event}
 use Rattle.growth.specs.Growing.{IsGrowing, IsGrownTo}
-use Rattle.growth.specs.Entering.{Enters, AreMessagesOf, AreNearest, IsStampBelow, IsStampAbove, span_below, span_above, entry_bounds}
+use Rattle.growth.specs.Entering.{Enters, AreMessagesOf, AreNearest, IsStampBelow, IsStampAbove, span_below, span_above, follow_before, follow_after, reading_bounds, entry_bounds}
+use Rattle.growth.proofs.Linked.{linked_were, earlier_is, later_is}
 
 -- ---- what has entered
 or_right : (a b : Bool) → b ≡ true → (a || b) ≡ true
@@ -51,25 +53,55 @@ above_has clock stamp t (Some r) is =
     subst (λ (n : ℕ). Contains (span_above clock stamp (Some r)) (SpanMost clock stamp n) × Contains (span_above clock stamp (Some r)) (SpanLeast clock stamp n)) same
     (here (SpanMost clock stamp r) (SpanLeast clock stamp r ∷ []), there (SpanMost clock stamp r) (SpanLeast clock stamp r) (SpanLeast clock stamp r ∷ []) (here (SpanLeast clock stamp r) []))
 
+before_has : (clock stamp c s : ℕ) (o : Option (ℕ × ℕ)) → o ≡ Some (c, s) → Contains (follow_before clock stamp o) (bounds.Follow c s clock stamp)
+before_has clock stamp c s o is = subst (λ (x : Option (ℕ × ℕ)). Contains (follow_before clock stamp x) (bounds.Follow c s clock stamp)) (sym is) (here (bounds.Follow c s clock stamp) [])
+
+after_has : (clock stamp d t : ℕ) (o : Option (ℕ × ℕ)) → o ≡ Some (d, t) → Contains (follow_after clock stamp o) (bounds.Follow clock stamp d t)
+after_has clock stamp d t o is = subst (λ (x : Option (ℕ × ℕ)). Contains (follow_after clock stamp x) (bounds.Follow clock stamp d t)) (sym is) (here (bounds.Follow clock stamp d t) [])
+
 most_has : (m : Message) (o : Option ℕ) (most : ℕ) → o ≡ Some most → Contains (most_bound m o) (DelayMost m.send m.receive)
 most_has m None most is = absurd (cc)
 most_has m (Some n) most is = here (DelayMost m.send m.receive) []
 
-module _ (v : ℕ) (e : Event) (below above : Option ℕ) (messages : List Message) where
+module _ (v : ℕ) (e : Event) (below above : Option ℕ) (earlier later : Option (ℕ × ℕ)) (messages : List Message) where
   abbrev left : List Bound
-  left = entry_bounds v e below above messages
+  left = entry_bounds v e below above earlier later messages
 
   abbrev own : List Bound
   own = Late v ∷ Early v ∷ flat_map message_bounds messages
 
+  abbrev follows : List Bound
+  follows = follow_before e.clock e.stamp earlier ++ follow_after e.clock e.stamp later
+
+  abbrev of_reading : List Bound
+  of_reading = reading_bounds e.clock e.stamp below above earlier later
+
   in_own : (b : Bound) → Contains own b → Contains left b
-  in_own b among = Contains-append_right (span_below e.clock e.stamp below) (span_above e.clock e.stamp above ++ own) b (Contains-append_right (span_above e.clock e.stamp above) own b among)
+  in_own b among = Contains-append_right of_reading own b among
+
+  in_reading : (b : Bound) → Contains of_reading b → Contains left b
+  in_reading b among = Contains-append_left of_reading own b among
 
   in_below : (b : Bound) → Contains (span_below e.clock e.stamp below) b → Contains left b
-  in_below b among = Contains-append_left (span_below e.clock e.stamp below) (span_above e.clock e.stamp above ++ own) b among
+  in_below b among = in_reading b (Contains-append_left (span_below e.clock e.stamp below) (span_above e.clock e.stamp above ++ follows) b among)
 
   in_above : (b : Bound) → Contains (span_above e.clock e.stamp above) b → Contains left b
-  in_above b among = Contains-append_right (span_below e.clock e.stamp below) (span_above e.clock e.stamp above ++ own) b (Contains-append_left (span_above e.clock e.stamp above) own b among)
+  in_above b among =
+      in_reading b (Contains-append_right (span_below e.clock e.stamp below) (span_above e.clock e.stamp above ++ follows) b (Contains-append_left (span_above e.clock e.stamp above) follows b among))
+
+  in_follows : (b : Bound) → Contains follows b → Contains left b
+  in_follows b among =
+      in_reading b (Contains-append_right (span_below e.clock e.stamp below) (span_above e.clock e.stamp above ++ follows) b (Contains-append_right (span_above e.clock e.stamp above) follows b among))
+
+  before_left : (c s : ℕ) → earlier ≡ Some (c, s) → Contains left (bounds.Follow c s e.clock e.stamp)
+  before_left c s is =
+      let f = bounds.Follow c s e.clock e.stamp in
+      in_follows f (Contains-append_left (follow_before e.clock e.stamp earlier) (follow_after e.clock e.stamp later) f (before_has e.clock e.stamp c s earlier is))
+
+  after_left : (d t : ℕ) → later ≡ Some (d, t) → Contains left (bounds.Follow e.clock e.stamp d t)
+  after_left d t is =
+      let f = bounds.Follow e.clock e.stamp d t in
+      in_follows f (Contains-append_right (follow_before e.clock e.stamp earlier) (follow_after e.clock e.stamp later) f (after_has e.clock e.stamp d t later is))
 
   late_left : Contains left (Late v)
   late_left = in_own (Late v) (here (Late v) (Early v ∷ flat_map message_bounds messages))
@@ -121,9 +153,9 @@ module _ (p : ProblemLists) (entered : ℕ → Bool) (v : ℕ) (e : Event) (at :
   were : (clock s t : ℕ) → AreNeighbours p (and_event entered v) clock s t → IsReadingOf p entered clock s → IsReadingOf p entered clock t → AreNeighbours p entered clock s t
   were clock s t are first second = record { first = first; second = second; rising = are.rising; none = λ u read. are.none u (read_still clock u read) }
 
-  module _ (below above : Option ℕ) (messages : List Message) (g : GraphLists) (nearest : AreNearest g e below above) (own_messages : AreMessagesOf p entered v messages) (grown : IsGrownTo p entered g) where
+  module _ (below above : Option ℕ) (earlier later : Option (ℕ × ℕ)) (messages : List Message) (g : GraphLists) (chains : IsChained p) (nearest : AreNearest p g e below above earlier later) (own_messages : AreMessagesOf p entered v messages) (grown : IsGrownTo p entered g) where
     abbrev Left : Bound → Type 0
-    Left b = Contains (entry_bounds v e below above messages) b
+    Left b = Contains (entry_bounds v e below above earlier later messages) b
 
     nearest_below : (s : ℕ) (o : Option ℕ) → IsStampBelow g e.clock e.stamp o → AreNeighbours p (and_event entered v) e.clock s e.stamp → IsReadingOf p entered e.clock s → o ≡ Some s
     nearest_below s None none are old = absurd (none s (grown.every_node (nodes.Reading e.clock s) old) are.rising)
@@ -144,7 +176,7 @@ module _ (p : ProblemLists) (entered : ℕ → Bool) (v : ℕ) (e : Event) (at :
       | inl known ↦ inl (were e.clock s e.stamp are old (grown.nodes (nodes.Reading e.clock e.stamp) known.0))
       | inr sides ↦ (
           let has = below_has e.clock e.stamp s below (nearest_below s below sides.1 are old) in
-          inr (in_below v e below above messages (SpanMost e.clock s e.stamp) has.0, in_below v e below above messages (SpanLeast e.clock s e.stamp) has.1))
+          inr (in_below v e below above earlier later messages (SpanMost e.clock s e.stamp) has.0, in_below v e below above earlier later messages (SpanLeast e.clock s e.stamp) has.1))
     ]
 
     both_above : (t : ℕ) → AreNeighbours p (and_event entered v) e.clock e.stamp t → IsReadingOf p entered e.clock t → AreNeighbours p entered e.clock e.stamp t ⊎ (Left (SpanMost e.clock e.stamp t) × Left (SpanLeast e.clock e.stamp t))
@@ -152,7 +184,7 @@ module _ (p : ProblemLists) (entered : ℕ → Bool) (v : ℕ) (e : Event) (at :
       | inl known ↦ inl (were e.clock e.stamp t are (grown.nodes (nodes.Reading e.clock e.stamp) known.0) old)
       | inr sides ↦ (
           let has = above_has e.clock e.stamp t above (nearest_above t above sides.2 are old) in
-          inr (in_above v e below above messages (SpanMost e.clock e.stamp t) has.0, in_above v e below above messages (SpanLeast e.clock e.stamp t) has.1))
+          inr (in_above v e below above earlier later messages (SpanMost e.clock e.stamp t) has.0, in_above v e below above earlier later messages (SpanLeast e.clock e.stamp t) has.1))
     ]
 
     neighbours_were : (clock s t : ℕ) → AreNeighbours p (and_event entered v) clock s t → AreNeighbours p entered clock s t ⊎ (Left (SpanMost clock s t) × Left (SpanLeast clock s t))
@@ -181,6 +213,41 @@ module _ (p : ProblemLists) (entered : ℕ → Bool) (v : ℕ) (e : Event) (at :
             subst (λ (c : ℕ). AreNeighbours p entered c s t ⊎ (Left (SpanMost c s t) × Left (SpanLeast c s t))) on
             (subst (λ (u : ℕ). AreNeighbours p entered e.clock u t ⊎ (Left (SpanMost e.clock u t) × Left (SpanLeast e.clock u t))) is found)
 
+    node_there : (clock stamp : ℕ) → IsReadingOf p entered clock stamp → HasNode g (nodes.Reading clock stamp)
+    node_there clock stamp read = grown.every_node (nodes.Reading clock stamp) read
+
+    read_there : (clock stamp : ℕ) → HasNode g (nodes.Reading clock stamp) → IsReadingOf p entered clock stamp
+    read_there clock stamp has = grown.nodes (nodes.Reading clock stamp) has
+
+    -- a follow was due, or it is one of the new reading's
+    linked_before : (c s : ℕ) → AreLinked p (and_event entered v) c s e.clock e.stamp → IsReadingOf p entered c s → AreLinked p entered c s e.clock e.stamp ⊎ Left (bounds.Follow c s e.clock e.stamp)
+    linked_before c s are old = elim nearest [
+      | inl known ↦ inl (linked_were p entered (and_event entered v) read_still c s e.clock e.stamp are old (read_there e.clock e.stamp known.0))
+      | inr sides ↦ inr (before_left v e below above earlier later messages c s (earlier_is p chains entered (and_event entered v) read_still g node_there read_there c s e.clock e.stamp below earlier sides.3 sides.1 are old))
+    ]
+
+    linked_after : (d t : ℕ) → AreLinked p (and_event entered v) e.clock e.stamp d t → IsReadingOf p entered d t → AreLinked p entered e.clock e.stamp d t ⊎ Left (bounds.Follow e.clock e.stamp d t)
+    linked_after d t are old = elim nearest [
+      | inl known ↦ inl (linked_were p entered (and_event entered v) read_still e.clock e.stamp d t are (read_there e.clock e.stamp known.0) old)
+      | inr sides ↦ inr (after_left v e below above earlier later messages d t (later_is p chains entered (and_event entered v) read_still g node_there read_there e.clock e.stamp d t above later sides.4 sides.2 are old))
+    ]
+
+    linked_was : (c s d t : ℕ) → AreLinked p (and_event entered v) c s d t → AreLinked p entered c s d t ⊎ Left (bounds.Follow c s d t)
+    linked_was c s d t are = elim (read_was c s are.last) [
+      | inl last ↦ elim (read_was d t are.first) [
+        | inl first ↦ inl (linked_were p entered (and_event entered v) read_still c s d t are last first)
+        | inr (on, is) ↦ (
+            let there' = subst (λ (k : ℕ). AreLinked p (and_event entered v) c s k e.stamp) (sym on) (subst (λ (u : ℕ). AreLinked p (and_event entered v) c s d u) (sym is) are) in
+            subst (λ (k : ℕ). AreLinked p entered c s k t ⊎ Left (bounds.Follow c s k t)) on (subst (λ (u : ℕ). AreLinked p entered c s e.clock u ⊎ Left (bounds.Follow c s e.clock u)) is (linked_before c s there' last)))
+      ]
+      | inr (on, is) ↦ elim (read_was d t are.first) [
+        | inl first ↦ (
+            let there' = subst (λ (k : ℕ). AreLinked p (and_event entered v) k e.stamp d t) (sym on) (subst (λ (u : ℕ). AreLinked p (and_event entered v) c u d t) (sym is) are) in
+            subst (λ (k : ℕ). AreLinked p entered k s d t ⊎ Left (bounds.Follow k s d t)) on (subst (λ (u : ℕ). AreLinked p entered e.clock u d t ⊎ Left (bounds.Follow e.clock u d t)) is (linked_after d t there' first)))
+        | inr (on', is') ↦ absurd (let rise = rises_after p chains c d are.comes in omega (arith, rise, on, on'))
+      ]
+    ]
+
     -- a message was there, or it is one of the event's own
     message_was : (send receive : ℕ) (m : Message) → IsMessageOf p (and_event entered v) send receive m → IsMessageOf p entered send receive m ⊎ Contains messages m
     message_was send receive m is = elim (was_in send is.send_in) [
@@ -194,16 +261,16 @@ module _ (p : ProblemLists) (entered : ℕ → Bool) (v : ℕ) (e : Event) (at :
     due_was : (b : Bound) → IsDue p (and_event entered v) b → IsDue p entered b ⊎ Left b
     due_was (SpanMost clock s t) due = elim (neighbours_were clock s t due) [ inl old ↦ inl old | inr more ↦ inr more.0 ]
     due_was (SpanLeast clock s t) due = elim (neighbours_were clock s t due) [ inl old ↦ inl old | inr more ↦ inr more.1 ]
-    due_was (Late w) (x, has) = elim (was_in w has.1) [ inl same ↦ inr (subst (λ (n : ℕ). Left (Late n)) (sym same) (late_left v e below above messages)) | inr old ↦ inl (x, (has.0, old)) ]
-    due_was (Early w) (x, has) = elim (was_in w has.1) [ inl same ↦ inr (subst (λ (n : ℕ). Left (Early n)) (sym same) (early_left v e below above messages)) | inr old ↦ inl (x, (has.0, old)) ]
-    due_was (bounds.Follow c s d t) due = absurd due
+    due_was (Late w) (x, has) = elim (was_in w has.1) [ inl same ↦ inr (subst (λ (n : ℕ). Left (Late n)) (sym same) (late_left v e below above earlier later messages)) | inr old ↦ inl (x, (has.0, old)) ]
+    due_was (Early w) (x, has) = elim (was_in w has.1) [ inl same ↦ inr (subst (λ (n : ℕ). Left (Early n)) (sym same) (early_left v e below above earlier later messages)) | inr old ↦ inl (x, (has.0, old)) ]
+    due_was (bounds.Follow c s d t) due = linked_was c s d t due
     due_was (DelayMost send receive) (m, most, is, most_is) = elim (message_was send receive m is) [
       | inl old ↦ inl (m, most, old, most_is)
-      | inr own' ↦ inr (subst (λ (w : ℕ). Left (DelayMost w receive)) is.send_is (subst (λ (w : ℕ). Left (DelayMost m.send w)) is.receive_is (most_left v e below above messages m most own' most_is)))
+      | inr own' ↦ inr (subst (λ (w : ℕ). Left (DelayMost w receive)) is.send_is (subst (λ (w : ℕ). Left (DelayMost m.send w)) is.receive_is (most_left v e below above earlier later messages m most own' most_is)))
     ]
     due_was (DelayLeast send receive) (m, is) = elim (message_was send receive m is) [
       | inl old ↦ inl (m, old)
-      | inr own' ↦ inr (subst (λ (w : ℕ). Left (DelayLeast w receive)) is.send_is (subst (λ (w : ℕ). Left (DelayLeast m.send w)) is.receive_is (least_left v e below above messages m own')))
+      | inr own' ↦ inr (subst (λ (w : ℕ). Left (DelayLeast w receive)) is.send_is (subst (λ (w : ℕ). Left (DelayLeast m.send w)) is.receive_is (least_left v e below above earlier later messages m own')))
     ]
 
     module _ (h : GraphLists) (enters : Enters v e g h) where
@@ -233,7 +300,7 @@ module _ (p : ProblemLists) (entered : ℕ → Bool) (v : ℕ) (e : Event) (at :
         | inr (on, same) ↦ subst (λ (c : ℕ). HasNode h (nodes.Reading c stamp)) on (subst (λ (s : ℕ). HasNode h (nodes.Reading e.clock s)) same enters.reading)
       ]
 
-      pub entered_now : IsGrowing p (and_event entered v) (entry_bounds v e below above messages) h
+      pub entered_now : IsGrowing p (and_event entered v) (entry_bounds v e below above earlier later messages) h
       entered_now = record {
         nodes = node_of;
         every_node = has_node;

@@ -1,5 +1,7 @@
 pub mod Pushed
+pub mod Leading
 pub mod Withdrawn
+pub mod Linked
 pub mod Entry
 pub mod DueShort
 pub mod Counting

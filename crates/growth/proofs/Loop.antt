@@ -16,7 +16,7 @@ use Rattle.sync_graph.specs.Graph.{GraphLists, no_graph, with_node}
 use Rattle.sync_graph.specs.Standing.{HasNode}
 use Rattle.traces.proofs.Members.{none_in, no_pairs}
 use Rattle.roster.proofs.Pushing.{get_left, get_right, get_cases}
-use Rattle.growth.specs.Entered.{HasEntered, IsReadingOf, IsNodeOf, AreNeighbours, IsMessageOf, IsDue, all_events}
+use Rattle.growth.specs.Entered.{HasEntered, IsReadingOf, IsNodeOf, AreNeighbours, AreLinked, IsMessageOf, IsDue, all_events}
 use Rattle.growth.specs.Growing.{IsGrowing, IsGrownTo}
 use Rattle.growth.specs.Entering.{Enters}
 use Rattle.growth.specs.Once.{IsOn, HasEachOnce}
@@ -41,7 +41,7 @@ module _ (p : ProblemLists) (no_events : p.events ≡ []) (no_messages : p.messa
   none_due (SpanLeast clock s t) due = no_node (nodes.Reading clock s) due.first
   none_due (Late v) (e, has) = no_event v e has.0
   none_due (Early v) (e, has) = no_event v e has.0
-  none_due (bounds.Follow c s d t) due = due
+  none_due (bounds.Follow c s d t) due = no_node (nodes.Reading c s) due.last
   none_due (DelayMost send receive) (m, most, is, most_is) = no_message m is.among
   none_due (DelayLeast send receive) (m, is) = no_message m is.among
 
@@ -85,6 +85,16 @@ module _ (p : ProblemLists) (one other : ℕ → Bool) (alike : (v : ℕ) → v 
   neighbours_back : (clock s t : ℕ) → AreNeighbours p other clock s t → AreNeighbours p one clock s t
   neighbours_back clock s t are = record { first = read_back clock s are.first; second = read_back clock t are.second; rising = are.rising; none = λ u read. are.none u (read_there clock u read) }
 
+  linked_back : (c s d t : ℕ) → AreLinked p other c s d t → AreLinked p one c s d t
+  linked_back c s d t are = record {
+    comes = are.comes;
+    nearest = λ b u after read. are.nearest b u after (read_there b u read);
+    last = read_back c s are.last;
+    none_after = λ u read. are.none_after u (read_there c u read);
+    first = read_back d t are.first;
+    none_before = λ u read. are.none_before u (read_there d u read);
+  }
+
   message_back : (send receive : ℕ) (m : Message) → IsMessageOf p other send receive m → IsMessageOf p one send receive m
   message_back send receive m is =
       let from : send < length p.events = subst (λ (v : ℕ). v < length p.events) is.send_is (All-contains (λ (n : Message). n.send < length p.events) p.messages m sends is.among) in
@@ -96,7 +106,7 @@ module _ (p : ProblemLists) (one other : ℕ → Bool) (alike : (v : ℕ) → v 
   due_back (SpanLeast clock s t) due = neighbours_back clock s t due
   due_back (Late v) (e, has) = (e, entered_back v e has)
   due_back (Early v) (e, has) = (e, entered_back v e has)
-  due_back (bounds.Follow c s d t) due = due
+  due_back (bounds.Follow c s d t) due = linked_back c s d t due
   due_back (DelayMost send receive) (m, most, is, most_is) = (m, most, message_back send receive m is, most_is)
   due_back (DelayLeast send receive) (m, is) = (m, message_back send receive m is)
 

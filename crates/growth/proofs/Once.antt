@@ -13,9 +13,10 @@ use Rattle.problem_model.specs.declared.items.Node.TheVariants as nodes
 use Rattle.problem_model.specs.declared.items.Bound.{Bound}
 use Rattle.problem_model.specs.declared.items.Bound.TheVariants as bounds
 use Rattle.problem_model.specs.declared.items.Bound.TheVariants.{SpanMost, SpanLeast, Late, Early, DelayMost, DelayLeast}
-use Rattle.problem_model.specs.Problem.{ProblemLists}
+use Rattle.problem_model.specs.Problem.{ProblemLists, IsChained}
 use Rattle.problem_model.specs.Bounds.{Constraint, Declares}
 use Rattle.problem_model.specs.ShortList.{message_bounds, most_bound}
+use Rattle.problem_model.proofs.NearestFollows.{rises_after}
 use Rattle.sync_graph.specs.declared.arc.Arc.{Arc}
 use Rattle.sync_graph.specs.Graph.{GraphLists, arc_at, with_arc}
 use Rattle.sync_graph.specs.InForce.{IsInForce}
@@ -24,9 +25,10 @@ use Rattle.sync_graph.proofs.InForce.{no_arc}
 use Rattle.traces.proofs.Members.{here, there, none_in, first_of_pairs, rest_of_pairs, no_pairs, pairs_joined}
 use Rattle.growth.specs.Growing.{HasBound, IsGrownTo}
 use Rattle.growth.specs.Withdrawing.{Withdraws, IsDelayOf}
-use Rattle.growth.specs.Entering.{Enters, AreNearest, IsStampAbove, span_below, span_above, entry_bounds}
+use Rattle.growth.specs.Entering.{Enters, AreNearest, IsStampAbove, IsLaterEnd, span_below, span_above, follow_before, follow_after, reading_bounds, entry_bounds}
 use Rattle.growth.specs.Once.{IsOn, HasEachOnce, AreApart, TakesOut}
 use Rattle.growth.proofs.Pushed.{was}
+use Rattle.growth.proofs.Linked.{later_comes}
 
 -- ---- numbers that are taken out
 module _ (messages : List Message) (numbers : List ℕ) (g h : GraphLists) (takes : TakesOut messages numbers g h) (each : HasEachOnce [] g) where
@@ -102,7 +104,8 @@ of_message : (P : Bound → Type 0) (m : Message) (o : Option ℕ) → P (DelayM
 of_message P m None most least = All-cons P (DelayLeast m.send m.receive) [] least (All-nil P)
 of_message P m (Some n) most least = All-cons P (DelayMost m.send m.receive) (DelayLeast m.send m.receive ∷ []) most (All-cons P (DelayLeast m.send m.receive) [] least (All-nil P))
 
-module _ (p : ProblemLists) (entered : ℕ → Bool) (v : ℕ) (e : Event) (below above : Option ℕ) (messages : List Message) (g : GraphLists) (fresh : entered v ≡ false) (nearest : AreNearest g e below above) (apart : AreApart v messages)
+module _ (p : ProblemLists) (entered : ℕ → Bool) (v : ℕ) (e : Event) (below above : Option ℕ) (earlier later : Option (ℕ × ℕ)) (messages : List Message) (g : GraphLists) (chains : IsChained p) (fresh : entered v ≡ false)
+    (nearest : AreNearest p g e below above earlier later) (apart : AreApart v messages)
     (grown : IsGrownTo p entered g) where
   abbrev Out : Bound → Type 0
   Out b = HasBound g b → ⊥
@@ -147,19 +150,58 @@ module _ (p : ProblemLists) (entered : ℕ → Bool) (v : ℕ) (e : Event) (belo
       All-cons Out (SpanMost e.clock e.stamp t) (SpanLeast e.clock e.stamp t ∷ []) (out (SpanMost e.clock e.stamp t) (nodes.Reading e.clock e.stamp) new (λ c (k, at, first, second, less, is). inl (ap (λ (y : Constraint). y.from) is)))
       (All-cons Out (SpanLeast e.clock e.stamp t) [] (out (SpanLeast e.clock e.stamp t) (nodes.Reading e.clock e.stamp) new (λ c (k, at, first, second, less, is). inr (ap (λ (y : Constraint). y.to) is))) (All-nil Out))
 
+  before_out : (o : Option (ℕ × ℕ)) → (HasNode g (nodes.Reading e.clock e.stamp) × (o ≡ None)) ⊎ (HasNode g (nodes.Reading e.clock e.stamp) → ⊥) → All Out (follow_before e.clock e.stamp o)
+  before_out None told = All-nil Out
+  before_out (Some (c, s)) (inl known) = absurd (let z : ⊥ = cc in z)
+  before_out (Some (c, s)) (inr new) =
+      All-cons Out (bounds.Follow c s e.clock e.stamp) [] (out (bounds.Follow c s e.clock e.stamp) (nodes.Reading e.clock e.stamp) new (λ x (f, among, on, comes, first, second, is). inl (ap (λ (y : Constraint). y.from) is))) (All-nil Out)
+
+  after_out : (o : Option (ℕ × ℕ)) → (HasNode g (nodes.Reading e.clock e.stamp) × (o ≡ None)) ⊎ (HasNode g (nodes.Reading e.clock e.stamp) → ⊥) → All Out (follow_after e.clock e.stamp o)
+  after_out None told = All-nil Out
+  after_out (Some (d, t)) (inl known) = absurd (let z : ⊥ = cc in z)
+  after_out (Some (d, t)) (inr new) =
+      All-cons Out (bounds.Follow e.clock e.stamp d t) [] (out (bounds.Follow e.clock e.stamp d t) (nodes.Reading e.clock e.stamp) new (λ x (f, among, on, comes, first, second, is). inr (ap (λ (y : Constraint). y.to) is))) (All-nil Out)
+
   below_told : (HasNode g (nodes.Reading e.clock e.stamp) × (below ≡ None)) ⊎ (HasNode g (nodes.Reading e.clock e.stamp) → ⊥)
-  below_told = elim nearest [ inl (known, is, is') ↦ inl (known, is) | inr (new, down, up) ↦ inr new ]
+  below_told = elim nearest [ inl known ↦ inl (known.0, known.1) | inr sides ↦ inr sides.0 ]
 
   above_told : (HasNode g (nodes.Reading e.clock e.stamp) × (above ≡ None)) ⊎ (HasNode g (nodes.Reading e.clock e.stamp) → ⊥)
-  above_told = elim nearest [ inl (known, is, is') ↦ inl (known, is') | inr (new, down, up) ↦ inr new ]
+  above_told = elim nearest [ inl known ↦ inl (known.0, known.2) | inr sides ↦ inr sides.0 ]
 
-  all_out : All Out (entry_bounds v e below above messages)
-  all_out =
-      All-append Out (span_below e.clock e.stamp below) (span_above e.clock e.stamp above ++ (Late v ∷ Early v ∷ flat_map message_bounds messages)) (below_out below below_told)
-      (All-append Out (span_above e.clock e.stamp above) (Late v ∷ Early v ∷ flat_map message_bounds messages) (above_out above above_told)
-      (All-cons Out (Late v) (Early v ∷ flat_map message_bounds messages) late_out
+  earlier_told : (HasNode g (nodes.Reading e.clock e.stamp) × (earlier ≡ None)) ⊎ (HasNode g (nodes.Reading e.clock e.stamp) → ⊥)
+  earlier_told = elim nearest [ inl known ↦ inl (known.0, known.3) | inr sides ↦ inr sides.0 ]
+
+  later_told : (HasNode g (nodes.Reading e.clock e.stamp) × (later ≡ None)) ⊎ (HasNode g (nodes.Reading e.clock e.stamp) → ⊥)
+  later_told = elim nearest [ inl known ↦ inl (known.0, known.4) | inr sides ↦ inr sides.0 ]
+
+  abbrev lower : List Bound
+  lower = span_below e.clock e.stamp below
+
+  abbrev upper : List Bound
+  upper = span_above e.clock e.stamp above
+
+  abbrev before : List Bound
+  before = follow_before e.clock e.stamp earlier
+
+  abbrev behind : List Bound
+  behind = follow_after e.clock e.stamp later
+
+  abbrev own : List Bound
+  own = Late v ∷ Early v ∷ flat_map message_bounds messages
+
+  own_out : All Out own
+  own_out =
+      All-cons Out (Late v) (Early v ∷ flat_map message_bounds messages) late_out
       (All-cons Out (Early v) (flat_map message_bounds messages) early_out
-      (none_given Out v messages apart.own (λ m end. of_message Out m m.most (most_out m end) (least_out m end))))))
+      (none_given Out v messages apart.own (λ m end. of_message Out m m.most (most_out m end) (least_out m end))))
+
+  all_out : All Out (entry_bounds v e below above earlier later messages)
+  all_out =
+      All-append Out (reading_bounds e.clock e.stamp below above earlier later) own
+      (All-append Out lower (upper ++ (before ++ behind)) (below_out below below_told)
+      (All-append Out upper (before ++ behind) (above_out above above_told)
+      (All-append Out before behind (before_out earlier earlier_told) (after_out later later_told))))
+      own_out
 
   -- ---- no two are one
   abbrev Differ : Bound → Bound → Type 0
@@ -176,34 +218,62 @@ module _ (p : ProblemLists) (entered : ℕ → Bool) (v : ℕ) (e : Event) (belo
   above_differ None = no_pairs Differ
   above_differ (Some t) = two (SpanMost e.clock e.stamp t) (SpanLeast e.clock e.stamp t) (λ same. absurd (cc))
 
-  -- whether a bound is on a span to this stamp, on another span, or on none
+  follow_differ : (o : Option (ℕ × ℕ)) → AllPairs Differ (follow_before e.clock e.stamp o)
+  follow_differ None = no_pairs Differ
+  follow_differ (Some (c, s)) = AllPairs-cons Differ (bounds.Follow c s e.clock e.stamp) [] (All-nil (Differ (bounds.Follow c s e.clock e.stamp))) (no_pairs Differ)
+
+  behind_differ : (o : Option (ℕ × ℕ)) → AllPairs Differ (follow_after e.clock e.stamp o)
+  behind_differ None = no_pairs Differ
+  behind_differ (Some (d, t)) = AllPairs-cons Differ (bounds.Follow e.clock e.stamp d t) [] (All-nil (Differ (bounds.Follow e.clock e.stamp d t))) (no_pairs Differ)
+
+  -- what a bound leads to: the later stamp of a span, the later clock of a follow
   abbrev rank : Bound → ℕ
   rank (SpanMost clock s t) = t
   rank (SpanLeast clock s t) = t
   rank (Late w) = 0
   rank (Early w) = 0
-  rank (bounds.Follow c s d t) = 0
+  rank (bounds.Follow c s d t) = d
   rank (DelayMost s r) = 0
   rank (DelayLeast s r) = 0
 
-  abbrev is_span : Bound → Bool
-  is_span (SpanMost clock s t) = true
-  is_span (SpanLeast clock s t) = true
-  is_span (Late w) = false
-  is_span (Early w) = false
-  is_span (bounds.Follow c s d t) = false
-  is_span (DelayMost s r) = false
-  is_span (DelayLeast s r) = false
+  -- whether a bound is on a span, on a follow, or on neither
+  abbrev kind : Bound → ℕ
+  kind (SpanMost clock s t) = 0
+  kind (SpanLeast clock s t) = 0
+  kind (bounds.Follow c s d t) = 1
+  kind (Late w) = 2
+  kind (Early w) = 2
+  kind (DelayMost s r) = 2
+  kind (DelayLeast s r) = 2
 
-  below_ranks : (o : Option ℕ) → All (λ (b : Bound). (is_span b ≡ true) × (rank b ≡ e.stamp)) (span_below e.clock e.stamp o)
-  below_ranks None = All-nil (λ (b : Bound). (is_span b ≡ true) × (rank b ≡ e.stamp))
-  below_ranks (Some s) = All-cons (λ (b : Bound). (is_span b ≡ true) × (rank b ≡ e.stamp)) (SpanMost e.clock s e.stamp) (SpanLeast e.clock s e.stamp ∷ []) (refl, refl)
-      (All-cons (λ (b : Bound). (is_span b ≡ true) × (rank b ≡ e.stamp)) (SpanLeast e.clock s e.stamp) [] (refl, refl) (All-nil (λ (b : Bound). (is_span b ≡ true) × (rank b ≡ e.stamp))))
+  abbrev IsLower : Bound → Type 0
+  IsLower b = (kind b ≡ 0) × (rank b ≡ e.stamp)
 
-  above_ranks : (o : Option ℕ) → ((t : ℕ) → o ≡ Some t → e.stamp < t) → All (λ (b : Bound). (is_span b ≡ true) × (e.stamp < rank b)) (span_above e.clock e.stamp o)
-  above_ranks None past = All-nil (λ (b : Bound). (is_span b ≡ true) × (e.stamp < rank b))
-  above_ranks (Some t) past = All-cons (λ (b : Bound). (is_span b ≡ true) × (e.stamp < rank b)) (SpanMost e.clock e.stamp t) (SpanLeast e.clock e.stamp t ∷ []) (refl, past t refl)
-      (All-cons (λ (b : Bound). (is_span b ≡ true) × (e.stamp < rank b)) (SpanLeast e.clock e.stamp t) [] (refl, past t refl) (All-nil (λ (b : Bound). (is_span b ≡ true) × (e.stamp < rank b))))
+  abbrev IsUpper : Bound → Type 0
+  IsUpper b = (kind b ≡ 0) × (e.stamp < rank b)
+
+  abbrev IsBefore : Bound → Type 0
+  IsBefore b = (kind b ≡ 1) × (rank b ≡ e.clock)
+
+  abbrev IsBehind : Bound → Type 0
+  IsBehind b = (kind b ≡ 1) × (e.clock < rank b)
+
+  below_ranks : (o : Option ℕ) → All IsLower (span_below e.clock e.stamp o)
+  below_ranks None = All-nil IsLower
+  below_ranks (Some s) = All-cons IsLower (SpanMost e.clock s e.stamp) (SpanLeast e.clock s e.stamp ∷ []) (refl, refl) (All-cons IsLower (SpanLeast e.clock s e.stamp) [] (refl, refl) (All-nil IsLower))
+
+  above_ranks : (o : Option ℕ) → ((t : ℕ) → o ≡ Some t → e.stamp < t) → All IsUpper (span_above e.clock e.stamp o)
+  above_ranks None past = All-nil IsUpper
+  above_ranks (Some t) past = All-cons IsUpper (SpanMost e.clock e.stamp t) (SpanLeast e.clock e.stamp t ∷ []) (refl, past t refl) (All-cons IsUpper (SpanLeast e.clock e.stamp t) [] (refl, past t refl) (All-nil IsUpper))
+
+  before_ranks : (o : Option (ℕ × ℕ)) → All IsBefore (follow_before e.clock e.stamp o)
+  before_ranks None = All-nil IsBefore
+  before_ranks (Some (c, s)) = All-cons IsBefore (bounds.Follow c s e.clock e.stamp) [] (refl, refl) (All-nil IsBefore)
+
+  behind_ranks : (o : Option (ℕ × ℕ)) → (o ≡ None) ⊎ IsLaterEnd p g e.clock above o → All IsBehind (follow_after e.clock e.stamp o)
+  behind_ranks None told = All-nil IsBehind
+  behind_ranks (Some (d, t)) (inl none) = absurd (cc)
+  behind_ranks (Some (d, t)) (inr is) = All-cons IsBehind (bounds.Follow e.clock e.stamp d t) [] (refl, rises_after p chains e.clock d (later_comes p g e.clock above d t is)) (All-nil IsBehind)
 
   past_above : (o : Option ℕ) → ((o ≡ None) ⊎ IsStampAbove g e.clock e.stamp o) → (t : ℕ) → o ≡ Some t → e.stamp < t
   past_above None told t is = absurd (cc)
@@ -214,10 +284,10 @@ module _ (p : ProblemLists) (entered : ℕ → Bool) (v : ℕ) (e : Event) (belo
   across : (P Q : Bound → Type 0) → ((a b : Bound) → P a → Q b → a ≢ b) → (xs ys : List Bound) → All P xs → All Q ys → All (λ (a : Bound). All (Differ a) ys) xs
   across P Q apart' xs ys all_p all_q i d inside = λ j f within. apart' (get_or xs i d) (get_or ys j f) (all_p i d inside) (all_q j f within)
 
-  own_plain : All (λ (b : Bound). is_span b ≡ false) (Late v ∷ Early v ∷ flat_map message_bounds messages)
+  own_plain : All (λ (b : Bound). kind b ≡ 2) own
   own_plain =
-      All-cons (λ (b : Bound). is_span b ≡ false) (Late v) (Early v ∷ flat_map message_bounds messages) refl
-      (All-cons (λ (b : Bound). is_span b ≡ false) (Early v) (flat_map message_bounds messages) refl (none_given (λ (b : Bound). is_span b ≡ false) v messages apart.own (λ m end. of_message (λ (b : Bound). is_span b ≡ false) m m.most refl refl)))
+      All-cons (λ (b : Bound). kind b ≡ 2) (Late v) (Early v ∷ flat_map message_bounds messages) refl
+      (All-cons (λ (b : Bound). kind b ≡ 2) (Early v) (flat_map message_bounds messages) refl (none_given (λ (b : Bound). kind b ≡ 2) v messages apart.own (λ m end. of_message (λ (b : Bound). kind b ≡ 2) m m.most refl refl)))
 
   -- ---- delays
   abbrev OfMessage : Message → Bound → Type 0
@@ -268,35 +338,68 @@ module _ (p : ProblemLists) (entered : ℕ → Bool) (v : ℕ) (e : Event) (belo
   other_than : (a : Bound) → is_delay a ≡ false → (b : Bound) → is_delay b ≡ true → a ≢ b
   other_than a is_not b is same = (let e : is_delay a ≡ is_delay b = ap is_delay same in absurd (cc))
 
-  own_differ : AllPairs Differ (Late v ∷ Early v ∷ flat_map message_bounds messages)
+  own_differ : AllPairs Differ own
   own_differ =
       AllPairs-cons Differ (Late v) (Early v ∷ flat_map message_bounds messages)
       (All-cons (Differ (Late v)) (Early v) (flat_map message_bounds messages) (λ same. absurd (cc)) (λ i d inside. other_than (Late v) refl (get_or (flat_map message_bounds messages) i d) (only_delays i d inside)))
       (AllPairs-cons Differ (Early v) (flat_map message_bounds messages) (λ i d inside. other_than (Early v) refl (get_or (flat_map message_bounds messages) i d) (only_delays i d inside)) (delays_differ messages apart.differ))
 
   above_side : (above ≡ None) ⊎ IsStampAbove g e.clock e.stamp above
-  above_side = elim nearest [ inl (known, is, is') ↦ inl is' | inr (new, down, up) ↦ inr up ]
+  above_side = elim nearest [ inl known ↦ inl known.2 | inr sides ↦ inr sides.2 ]
 
-  all_differ : AllPairs Differ (entry_bounds v e below above messages)
-  all_differ =
-      pairs_joined Differ (span_below e.clock e.stamp below) (span_above e.clock e.stamp above ++ (Late v ∷ Early v ∷ flat_map message_bounds messages)) (below_differ below)
-      (pairs_joined Differ (span_above e.clock e.stamp above) (Late v ∷ Early v ∷ flat_map message_bounds messages) (above_differ above) own_differ
-      (across (λ (b : Bound). (is_span b ≡ true) × (e.stamp < rank b)) (λ (b : Bound). is_span b ≡ false) (λ a b x y same. (let f : is_span a ≡ is_span b = ap is_span same in let t = x.0 in absurd (cc)))
-      (span_above e.clock e.stamp above) (Late v ∷ Early v ∷ flat_map message_bounds messages) (above_ranks above (past_above above above_side)) own_plain))
-      (across (λ (b : Bound). (is_span b ≡ true) × (rank b ≡ e.stamp)) (λ (b : Bound). ((is_span b ≡ true) × (e.stamp < rank b)) ⊎ (is_span b ≡ false)) apart_below
-      (span_below e.clock e.stamp below) (span_above e.clock e.stamp above ++ (Late v ∷ Early v ∷ flat_map message_bounds messages)) (below_ranks below)
-      (All-append (λ (b : Bound). ((is_span b ≡ true) × (e.stamp < rank b)) ⊎ (is_span b ≡ false)) (span_above e.clock e.stamp above) (Late v ∷ Early v ∷ flat_map message_bounds messages)
-      (λ i d inside. inl (above_ranks above (past_above above above_side) i d inside)) (λ i d inside. inr (own_plain i d inside))))
+  later_side : (later ≡ None) ⊎ IsLaterEnd p g e.clock above later
+  later_side = elim nearest [ inl known ↦ inl known.4 | inr sides ↦ inr sides.4 ]
+
+  upper_is : All IsUpper upper
+  upper_is = above_ranks above (past_above above above_side)
+
+  behind_is : All IsBehind behind
+  behind_is = behind_ranks later later_side
+
+  -- bounds of two kinds differ
+  kinds_apart : (i j : ℕ) → i < j → (a b : Bound) → kind a ≡ i → kind b ≡ j → a ≢ b
+  kinds_apart i j less a b x y same = (let f : kind a ≡ kind b = ap kind same in omega (arith, f, x, y, less))
+
+  follows_kind : All (λ (b : Bound). kind b ≡ 1) (before ++ behind)
+  follows_kind = All-append (λ (b : Bound). kind b ≡ 1) before behind (λ i d inside. (before_ranks earlier i d inside).0) (λ i d inside. (behind_is i d inside).0)
+
+  follows_differ : AllPairs Differ (before ++ behind)
+  follows_differ = pairs_joined Differ before behind (follow_differ earlier) (behind_differ later) (across IsBefore IsBehind ends_apart before behind (before_ranks earlier) behind_is)
     where
-      apart_below : (a b : Bound) → (is_span a ≡ true) × (rank a ≡ e.stamp) → ((is_span b ≡ true) × (e.stamp < rank b)) ⊎ (is_span b ≡ false) → a ≢ b
-      apart_below a b x (inl y) same = (let f : rank a ≡ rank b = ap rank same in let r = x.1 in let l = y.1 in omega (arith, f, r, l))
-      apart_below a b x (inr y) same = (let f : is_span a ≡ is_span b = ap is_span same in let t = x.0 in absurd (cc))
+      ends_apart : (a b : Bound) → IsBefore a → IsBehind b → a ≢ b
+      ends_apart a b x y same = (let f : rank a ≡ rank b = ap rank same in let r = x.1 in let l = y.1 in omega (arith, f, r, l))
+
+  spans_differ : All (λ (a : Bound). All (Differ a) upper) lower
+  spans_differ = across IsLower IsUpper ends_apart lower upper (below_ranks below) upper_is
+    where
+      ends_apart : (a b : Bound) → IsLower a → IsUpper b → a ≢ b
+      ends_apart a b x y same = (let f : rank a ≡ rank b = ap rank same in let r = x.1 in let l = y.1 in omega (arith, f, r, l))
+
+  lower_follows : All (λ (a : Bound). All (Differ a) (before ++ behind)) lower
+  lower_follows = across IsLower (λ (b : Bound). kind b ≡ 1) (λ a b x y. kinds_apart 0 1 (omega arith) a b x.0 y) lower (before ++ behind) (below_ranks below) follows_kind
+
+  reading_differ : AllPairs Differ (reading_bounds e.clock e.stamp below above earlier later)
+  reading_differ =
+      pairs_joined Differ lower (upper ++ (before ++ behind)) (below_differ below)
+      (pairs_joined Differ upper (before ++ behind) (above_differ above) follows_differ
+      (across IsUpper (λ (b : Bound). kind b ≡ 1) (λ a b x y. kinds_apart 0 1 (omega arith) a b x.0 y) upper (before ++ behind) upper_is follows_kind))
+      (λ i d inside. All-append (Differ (get_or lower i d)) upper (before ++ behind) (spans_differ i d inside) (lower_follows i d inside))
+
+  reading_kind : All (λ (b : Bound). kind b < 2) (reading_bounds e.clock e.stamp below above earlier later)
+  reading_kind =
+      All-append (λ (b : Bound). kind b < 2) lower (upper ++ (before ++ behind)) (λ i d inside. (let k = (below_ranks below i d inside).0 in omega (arith, k)))
+      (All-append (λ (b : Bound). kind b < 2) upper (before ++ behind) (λ i d inside. (let k = (upper_is i d inside).0 in omega (arith, k))) (λ i d inside. (let k = follows_kind i d inside in omega (arith, k))))
+
+  all_differ : AllPairs Differ (entry_bounds v e below above earlier later messages)
+  all_differ =
+      pairs_joined Differ (reading_bounds e.clock e.stamp below above earlier later) own reading_differ own_differ
+      (across (λ (b : Bound). kind b < 2) (λ (b : Bound). kind b ≡ 2) (λ a b x y. kinds_apart (kind a) 2 x a b refl y) (reading_bounds e.clock e.stamp below above earlier later) own reading_kind own_plain)
 
   module _ (h : GraphLists) (enters : Enters v e g h) (each : HasEachOnce [] g) where
-    pub entered_once : HasEachOnce (entry_bounds v e below above messages) h
+    pub entered_once : HasEachOnce (entry_bounds v e below above earlier later messages) h
     entered_once = record {
       once = λ j k on_j on_k same. each.once j k (on_there j on_j) (on_there k on_k) (subst (λ (xs : List Arc). (arc_at xs j).name ≡ (arc_at xs k).name) enters.arcs same);
-      left_out = λ b among (a, (k, on, is), name). All-contains Out (entry_bounds v e below above messages) b all_out among (a, (k, on_there k on, subst (λ (xs : List Arc). arc_at xs k ≡ a) enters.arcs is), name);
+      left_out = λ b among (a, (k, on, is), name). All-contains Out (entry_bounds v e below above earlier later messages) b all_out among (a, (k, on_there k on, subst (λ (xs : List Arc). arc_at xs k ≡ a) enters.arcs is), name);
       left_differ = all_differ;
     }
       where

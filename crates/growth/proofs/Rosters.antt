@@ -7,7 +7,7 @@ use Rattle.problem_model.specs.declared.items.Message.{Message}
 use Rattle.problem_model.specs.declared.items.Node.TheVariants as nodes
 use Rattle.problem_model.specs.Bounds.{EventAt}
 use Rattle.problem.proofs.ListedNodes.{map_at}
-use Rattle.decl.specs.Declaration.{Declaration}
+use Rattle.decl.specs.Declaration.{Declaration, follows_of}
 use Rattle.sync_graph.specs.Graph.{GraphLists}
 use Rattle.trace_event.specs.Seen.{Seen}
 use Rattle.traces.specs.declared.event.EventId.{EventId}
@@ -227,7 +227,7 @@ more_events old new label stamps before after withdrawn grown messages =
     let came : List Came = came_from label (length (group_at old.under label) + 1) stamps in
     record {
       clocks = ap (λ (d : Declaration). d.clocks) grown.declaration;
-      follows = refl;
+      follows = ap follows_of grown.declaration;
       more = map (named_event old.declaration) came;
       events = ap (λ (d : Declaration). map (named_event d) new.came) grown.declaration ∙ ap (map (named_event old.declaration)) grown.came ∙ map_came old.declaration old.came came;
       messages = subst (λ (n : ℕ). AreMore before after n withdrawn) (sym (length-map old.came (named_event old.declaration))) messages;

@@ -6,7 +6,7 @@ use Rattle.std.proofs.lemmas.Option.{same_Some, slice_get_within, slice_get_read
 use Rattle.problem_model.specs.declared.items.Node.{Node}
 use Rattle.problem_model.specs.declared.items.Node.TheVariants as nodes
 use Rattle.problem_model.specs.declared.items.Bound.{Bound}
-use Rattle.problem_model.specs.Problem.{ProblemLists, IsProblem}
+use Rattle.problem_model.specs.Problem.{ProblemLists, IsProblem, IsChained}
 use Rattle.problem_model.specs.Nodes.{Reading, AreReadings, ComesBefore}
 use Rattle.problem_model.specs.ShortList.{short_list}
 use Rattle.problem_model.proofs.Places.{event_stands, reading_stands}
@@ -40,10 +40,10 @@ pairs_of f xs differ i j d less inside same =
     let long = length-map xs f in
     differ i j (f d) less (omega (arith, inside, long)) (get_or-map f xs i d (f d) (omega (arith, less, inside)) ∙ same ∙ sym (get_or-map f xs j d (f d) inside))
 
-module _ (l : Listed) (p q : ProblemLists) (readings : List Reading) (g : GraphLists) (is : IsGraph g) (lawful : IsProblem q) (alone : q.follows ≡ []) (are : AreReadings q readings) (listed : IsListedBy l q readings) (by : IsByNumber l p q) (tells : TellsNodes l g)
+module _ (l : Listed) (p q : ProblemLists) (readings : List Reading) (g : GraphLists) (is : IsGraph g) (lawful : IsProblem q) (are : AreReadings q readings) (listed : IsListedBy l q readings) (by : IsByNumber l p q) (tells : TellsNodes l g)
     (grown : IsGrownTo p all_events g) where
-  no_follows : p.follows ≡ []
-  no_follows = sym by.follows ∙ alone
+  chained : IsChained q
+  chained = record { follow_ends = lawful.formed.follow_ends; laters_differ = lawful.formed.laters_differ }
 
   -- a number stands for one node, and a node has one number
   one_number : (j k : ℕ) (n : Node) → slice_get g.nodes j ≡ Some n → slice_get g.nodes k ≡ Some n → j ≡ k
@@ -85,7 +85,7 @@ module _ (l : Listed) (p q : ProblemLists) (readings : List Reading) (g : GraphL
   -- ---- arcs
   bound_by : (a : Arc) (b : Bound) → IsBoundOf p g a → IsCarried l a.name b → IsBoundBy l q readings b a
   bound_by a b (c, declares, tail, head, weighs) named =
-      let d = declares_there l p q readings listed by no_follows a.name b c named declares in
+      let d = declares_there l p q readings listed by a.name b c named declares in
       record {
         constraint = d.0;
         declares = d.1;
@@ -98,7 +98,7 @@ module _ (l : Listed) (p q : ProblemLists) (readings : List Reading) (g : GraphL
   each_arc : (a : Arc) → IsInForce g a → (b : Bound) × IsBoundBy l q readings b a
   each_arc a force =
       let own = grown.each a force in
-      let b = carried l p q readings listed by no_follows a.name own.0 own.1 in
+      let b = carried l p q readings listed by a.name own.0 own.1 in
       (b.0, bound_by a b.0 own b.1)
 
   bound_there : (b : Bound) → IsDue q all_events b → (a : Arc) × IsInForce g a × IsBoundBy l q readings b a
@@ -173,5 +173,5 @@ module _ (l : Listed) (p q : ProblemLists) (readings : List Reading) (g : GraphL
     nodes = told_below g.nodes (listed_nodes l) (numbered_nodes l) told numbered_differ;
     nodes_differ = told_differ g.nodes (listed_nodes l) (numbered_nodes l) told numbered_differ;
     each = each_arc;
-    every = All-weaker (λ (b : Bound). IsDue q all_events b) (λ (b : Bound). (a : Arc) × IsInForce g a × IsBoundBy l q readings b a) bound_there (short_list q readings) (short_due q readings are alone);
+    every = All-weaker (λ (b : Bound). IsDue q all_events b) (λ (b : Bound). (a : Arc) × IsInForce g a × IsBoundBy l q readings b a) bound_there (short_list q readings) (short_due q readings are chained);
   }

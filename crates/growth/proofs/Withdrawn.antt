@@ -6,7 +6,6 @@ use Rattle.std.proofs.lemmas.List.Elements.{Contains-append_left}
 use Rattle.std.proofs.lemmas.Option.{none-some, slice_get_within}
 use Rattle.problem_model.specs.declared.items.Clock.{Clock}
 use Rattle.problem_model.specs.declared.items.Event.{Event}
-use Rattle.problem_model.specs.declared.items.Follow.{Follow}
 use Rattle.problem_model.specs.declared.items.Message.{Message}
 use Rattle.problem_model.specs.declared.items.Node.{Node}
 use Rattle.problem_model.specs.declared.items.Node.TheVariants as nodes
@@ -14,12 +13,13 @@ use Rattle.problem_model.specs.declared.items.Bound.{Bound}
 use Rattle.problem_model.specs.declared.items.Bound.TheVariants as bounds
 use Rattle.problem_model.specs.declared.items.Bound.TheVariants.{SpanMost, SpanLeast, Late, Early, DelayMost, DelayLeast}
 use Rattle.problem_model.specs.Problem.{ProblemLists}
-use Rattle.problem_model.specs.Bounds.{Constraint, Declares, EventAt, ClockAt, IsReading, LinesLead}
+use Rattle.problem_model.specs.Bounds.{Constraint, Declares, EventAt, ClockAt, IsReading}
 use Rattle.sync_graph.specs.Graph.{GraphLists}
 use Rattle.traces.proofs.Members.{none_in}
-use Rattle.growth.specs.Entered.{HasEntered, IsReadingOf, IsNodeOf, AreNeighbours, IsMessageOf, IsDue, all_events, events_below}
+use Rattle.growth.specs.Entered.{HasEntered, IsReadingOf, IsNodeOf, AreNeighbours, AreLinked, IsMessageOf, IsDue, all_events, events_below}
 use Rattle.growth.specs.Growing.{IsGrownTo}
 use Rattle.growth.specs.Withdrawing.{IsMore, IsDelayOf, Withdraws}
+use Rattle.growth.proofs.Leading.{follow_over, after_over}
 
 front : {X : Type 0} (xs ys : List X) (k : ℕ) (x : X) → slice_get xs k ≡ Some x → slice_get (xs ++ ys) k ≡ Some x
 front [] ys k x at = absurd (none-some x at)
@@ -53,20 +53,13 @@ module _ (before after : ProblemLists) (withdrawn : List Message) (more : IsMore
   clock_after : (k : ℕ) (c : Clock) → ClockAt before k c → ClockAt after k c
   clock_after k c at = subst (λ (cs : List Clock). slice_get cs k ≡ Some c) (sym more.clocks) at
 
-  follow_after : (f : Follow) → Contains before.follows f → Contains after.follows f
-  follow_after f among = subst (λ (fs : List Follow). Contains fs f) (sym more.follows) among
-
-  lines_after : (lines : List Follow) (c d : ℕ) → LinesLead before c lines d → LinesLead after c lines d
-  lines_after [] c d lead = lead
-  lines_after (f ∷ lines) c d (among, from, rest) = (follow_after f among, from, lines_after lines f.later d rest)
-
   declared_after : (b : Bound) (c : Constraint) → Declares before b c → (IsDelayOf withdrawn b → ⊥) → Declares after b c
   declared_after (SpanMost clock s t) c (k, at, first, second, less, is) stays = (k, clock_after clock k at, read_after clock s first, read_after clock t second, less, is)
   declared_after (SpanLeast clock s t) c (k, at, first, second, less, is) stays = (k, clock_after clock k at, read_after clock s first, read_after clock t second, less, is)
   declared_after (Late e) c (v, k, at, on, is) stays = (v, k, event_after e v at, clock_after v.clock k on, is)
   declared_after (Early e) c (v, k, at, on, is) stays = (v, k, event_after e v at, clock_after v.clock k on, is)
   declared_after (bounds.Follow b s d t) c (f, among, later, comes, first, second, is) stays =
-      (f, follow_after f among, later, (comes.0, comes.1, lines_after (comes.0 ∷ comes.1) b d comes.2), read_after b s first, read_after d t second, is)
+      (f, follow_over before after (sym more.follows) f among, later, after_over before after (sym more.follows) b d comes, read_after b s first, read_after d t second, is)
   declared_after (DelayMost send receive) c (m, most, among, from, to, most_is, is) stays = elim (more.messages.kept m among) [
     | inl has ↦ (m, most, has, from, to, most_is, is)
     | inr went ↦ absurd (stays (m, went, from, to))
@@ -104,6 +97,19 @@ module _ (before after : ProblemLists) (withdrawn : List Message) (more : IsMore
     none = λ u read. are.none u (reading_after clock u read);
   }
 
+  linked_before : (c s d t : ℕ) → AreLinked after old c s d t → AreLinked before all_events c s d t
+  linked_before c s d t are = record {
+    comes = after_over after before more.follows c d are.comes;
+    nearest = λ b u comes read. elim (are.nearest b u (after_over before after (sym more.follows) b d comes) (reading_after b u read)) [
+      | inl same ↦ inl same
+      | inr further ↦ inr (after_over after before more.follows b c further)
+    ];
+    last = reading_before c s are.last;
+    none_after = λ u read. are.none_after u (reading_after c u read);
+    first = reading_before d t are.first;
+    none_before = λ u read. are.none_before u (reading_after d u read);
+  }
+
   message_before : (send receive : ℕ) (m : Message) → IsMessageOf after old send receive m → IsMessageOf before all_events send receive m
   message_before send receive m is =
       let from : m.send < length before.events = below_is m.send (length before.events) (ap old is.send_is ∙ is.send_in) in
@@ -115,7 +121,7 @@ module _ (before after : ProblemLists) (withdrawn : List Message) (more : IsMore
   due_before (SpanLeast clock s t) due = neighbours_before clock s t due
   due_before (Late v) (e, has) = (e, entered_before v e has)
   due_before (Early v) (e, has) = (e, entered_before v e has)
-  due_before (bounds.Follow c s d t) due = due
+  due_before (bounds.Follow c s d t) due = linked_before c s d t due
   due_before (DelayMost send receive) (m, most, is, most_is) = (m, most, message_before send receive m is, most_is)
   due_before (DelayLeast send receive) (m, is) = (m, message_before send receive m is)
 

@@ -6,8 +6,10 @@ use Rattle.problem_model.specs.declared.items.Message.{Message}
 use Rattle.problem_model.specs.declared.items.Node.{Node}
 use Rattle.problem_model.specs.declared.items.Node.TheVariants as nodes
 use Rattle.problem_model.specs.declared.items.Bound.{Bound}
+use Rattle.problem_model.specs.declared.items.Bound.TheVariants as bounds
 use Rattle.problem_model.specs.declared.items.Bound.TheVariants.{SpanMost, SpanLeast, Late, Early}
 use Rattle.problem_model.specs.Problem.{ProblemLists}
+use Rattle.problem_model.specs.Bounds.{ComesAfter}
 use Rattle.problem_model.specs.ShortList.{message_bounds}
 use Rattle.sync_graph.specs.Graph.{GraphLists}
 use Rattle.sync_graph.specs.Standing.{HasNode}
@@ -31,14 +33,30 @@ abbrev pub span_above : ℕ → ℕ → Option ℕ → List Bound
 span_above clock stamp None = []
 span_above clock stamp (Some t) = SpanMost clock stamp t ∷ SpanLeast clock stamp t ∷ []
 
+-- the follow of a new reading, which comes after the given reading of an earlier clock, or before that of a later clock; none where none is
+-- given
+abbrev pub follow_before : ℕ → ℕ → Option (ℕ × ℕ) → List Bound
+follow_before clock stamp None = []
+follow_before clock stamp (Some (c, s)) = bounds.Follow c s clock stamp ∷ []
+
+abbrev pub follow_after : ℕ → ℕ → Option (ℕ × ℕ) → List Bound
+follow_after clock stamp None = []
+follow_after clock stamp (Some (d, t)) = bounds.Follow clock stamp d t ∷ []
+
 -- these are the messages of an event whose other end has entered
 pub record AreMessagesOf (p : ProblemLists) (entered : ℕ → Bool) (v : ℕ) (messages : List Message) : Type 0 where
   pub sent : (receive : ℕ) (m : Message) → IsMessageOf p (and_event entered v) v receive m → Contains messages m
   pub received : (send : ℕ) (m : Message) → IsMessageOf p (and_event entered v) send v m → Contains messages m
 
--- what is due when an event has entered: the spans of its reading, the bounds of its stamp, the delays of its messages
-abbrev pub entry_bounds : ℕ → Event → Option ℕ → Option ℕ → List Message → List Bound
-entry_bounds v e below above messages = span_below e.clock e.stamp below ++ (span_above e.clock e.stamp above ++ (Late v ∷ Early v ∷ flat_map message_bounds messages))
+-- what comes with a reading, by the readings next to it that are given: spans and follows
+abbrev pub reading_bounds : ℕ → ℕ → Option ℕ → Option ℕ → Option (ℕ × ℕ) → Option (ℕ × ℕ) → List Bound
+reading_bounds clock stamp below above earlier later =
+    span_below clock stamp below ++ (span_above clock stamp above ++ (follow_before clock stamp earlier ++ follow_after clock stamp later))
+
+-- what is due when an event has entered: the bounds of its reading, of its stamp, and the delays of its messages
+abbrev pub entry_bounds : ℕ → Event → Option ℕ → Option ℕ → Option (ℕ × ℕ) → Option (ℕ × ℕ) → List Message → List Bound
+entry_bounds v e below above earlier later messages =
+    reading_bounds e.clock e.stamp below above earlier later ++ (Late v ∷ Early v ∷ flat_map message_bounds messages)
 
 -- the greatest stamp of the clock's nodes below this one, or none; and the least one above
 abbrev pub IsStampBelow : GraphLists → ℕ → ℕ → Option ℕ → Type 0
@@ -49,7 +67,37 @@ abbrev pub IsStampAbove : GraphLists → ℕ → ℕ → Option ℕ → Type 0
 IsStampAbove g clock stamp (Some s) = HasNode g (nodes.Reading clock s) × (stamp < s) × ((t : ℕ) → HasNode g (nodes.Reading clock t) → stamp < t → s ≤ t)
 IsStampAbove g clock stamp None = (t : ℕ) → HasNode g (nodes.Reading clock t) → stamp < t → ⊥
 
--- the nearest stamps of a reading that comes, and none where it is there already
-abbrev pub AreNearest : GraphLists → Event → Option ℕ → Option ℕ → Type 0
-AreNearest g e below above = (HasNode g (nodes.Reading e.clock e.stamp) × (below ≡ None) × (above ≡ None))
-    ⊎ ((HasNode g (nodes.Reading e.clock e.stamp) → ⊥) × IsStampBelow g e.clock e.stamp below × IsStampAbove g e.clock e.stamp above)
+-- the last stamp of the clock's nodes; and the first one
+abbrev pub IsLastNode : GraphLists → ℕ → ℕ → Type 0
+IsLastNode g clock s = HasNode g (nodes.Reading clock s) × ((t : ℕ) → HasNode g (nodes.Reading clock t) → t ≤ s)
+
+abbrev pub IsFirstNode : GraphLists → ℕ → ℕ → Type 0
+IsFirstNode g clock s = HasNode g (nodes.Reading clock s) × ((t : ℕ) → HasNode g (nodes.Reading clock t) → s ≤ t)
+
+-- the last reading in the graph of the nearest clock before this one with a reading there; None where no clock before has one
+abbrev pub IsReadingBefore : ProblemLists → GraphLists → ℕ → Option (ℕ × ℕ) → Type 0
+IsReadingBefore p g d (Some (c, s)) = ComesAfter p c d × ((b u : ℕ) → ComesAfter p b d → HasNode g (nodes.Reading b u) → (b ≡ c) ⊎ ComesAfter p b c) × IsLastNode g c s
+IsReadingBefore p g d None = (b u : ℕ) → ComesAfter p b d → HasNode g (nodes.Reading b u) → ⊥
+
+-- the first reading in the graph of the nearest clock after this one, likewise
+abbrev pub IsReadingAfter : ProblemLists → GraphLists → ℕ → Option (ℕ × ℕ) → Type 0
+IsReadingAfter p g c (Some (d, t)) = ComesAfter p c d × ((b u : ℕ) → ComesAfter p c b → HasNode g (nodes.Reading b u) → (b ≡ d) ⊎ ComesAfter p d b) × IsFirstNode g d t
+IsReadingAfter p g c None = (b u : ℕ) → ComesAfter p c b → HasNode g (nodes.Reading b u) → ⊥
+
+-- the earlier end of the follow that a new reading brings: none where its clock has a reading below it, and else the last reading of the
+-- nearest clock before
+abbrev pub IsEarlierEnd : ProblemLists → GraphLists → ℕ → Option ℕ → Option (ℕ × ℕ) → Type 0
+IsEarlierEnd p g clock (Some below) earlier = earlier ≡ None
+IsEarlierEnd p g clock None earlier = IsReadingBefore p g clock earlier
+
+-- the later end: none where its clock has a reading above it, and else the first reading of the nearest clock after
+abbrev pub IsLaterEnd : ProblemLists → GraphLists → ℕ → Option ℕ → Option (ℕ × ℕ) → Type 0
+IsLaterEnd p g clock (Some above) later = later ≡ None
+IsLaterEnd p g clock None later = IsReadingAfter p g clock later
+
+-- the nearest readings of a reading that comes, on its clock and on those before and after it, and none where it is there already
+abbrev pub AreNearest : ProblemLists → GraphLists → Event → Option ℕ → Option ℕ → Option (ℕ × ℕ) → Option (ℕ × ℕ) → Type 0
+AreNearest p g e below above earlier later =
+    (HasNode g (nodes.Reading e.clock e.stamp) × (below ≡ None) × (above ≡ None) × (earlier ≡ None) × (later ≡ None))
+    ⊎ ((HasNode g (nodes.Reading e.clock e.stamp) → ⊥) × IsStampBelow g e.clock e.stamp below × IsStampAbove g e.clock e.stamp above
+    × IsEarlierEnd p g e.clock below earlier × IsLaterEnd p g e.clock above later)

@@ -4,7 +4,7 @@ ghost use Rattle.problem_model.specs.declared.items.Node.TheVariants as nodes;
 ghost use Rattle.problem_model.specs.declared.items.Event.{Event};
 ghost use Rattle.problem_model.specs.declared.items.Message.{Message};
 ghost use Rattle.problem_model.specs.declared.items.Bound.{Bound};
-ghost use Rattle.problem_model.specs.Problem.{ProblemLists, IsProblem};
+ghost use Rattle.problem_model.specs.Problem.{ProblemLists, IsProblem, IsChained};
 ghost use Rattle.problem_model.specs.Bounds.{EventAt};
 ghost use Rattle.problem_model.specs.Nodes.{Reading, AreReadings};
 ghost use Rattle.problem.specs.Listing.{Listed};
@@ -42,8 +42,9 @@ pub fn messages_are_withdrawn()
 /// A law, which does nothing when it runs: once the nodes of an event are there, whichever it is, the graph is growing to those that
 /// had entered and this one, and what is left are its own bounds.
 pub fn an_event_enters()
-    ensures { (p : ProblemLists) (entered : ℕ → Bool) (v : ℕ) (e : Event) (below above : Option ℕ) (messages : List Message) (g h : GraphLists) → EventAt p v e → AreNearest g e below above → AreMessagesOf p entered v messages
-        → Enters v e g h → IsGrownTo p entered g → IsGrowing p (and_event entered v) (entry_bounds v e below above messages) h }
+    ensures { (p : ProblemLists) (entered : ℕ → Bool) (v : ℕ) (e : Event) (below above : Option ℕ) (earlier later : Option (ℕ × ℕ)) (messages : List Message) (g h : GraphLists) → IsChained p → EventAt p v e
+        → AreNearest p g e below above earlier later → AreMessagesOf p entered v messages
+        → Enters v e g h → IsGrownTo p entered g → IsGrowing p (and_event entered v) (entry_bounds v e below above earlier later messages) h }
 {}
 
 /// A law, which does nothing when it runs: an event's nodes come by one push, or by two where its reading is new.
@@ -61,15 +62,16 @@ pub fn a_bound_is_pushed()
 /// pushed. So the arcs of withdrawn messages are known by their numbers.
 pub fn bounds_are_in_force_once()
     ensures withdrawn { (messages : List Message) (numbers : List ℕ) (g h : GraphLists) → TakesOut messages numbers g h → HasEachOnce [] g → Withdraws messages g h × HasEachOnce [] h }
-    ensures entered { (p : ProblemLists) (entered : ℕ → Bool) (v : ℕ) (e : Event) (below above : Option ℕ) (messages : List Message) (g h : GraphLists) → entered v ≡ false → AreNearest g e below above → AreApart v messages
-        → Enters v e g h → IsGrownTo p entered g → HasEachOnce [] g → HasEachOnce (entry_bounds v e below above messages) h }
+    ensures entered { (p : ProblemLists) (entered : ℕ → Bool) (v : ℕ) (e : Event) (below above : Option ℕ) (earlier later : Option (ℕ × ℕ)) (messages : List Message) (g h : GraphLists) → IsChained p → entered v ≡ false
+        → AreNearest p g e below above earlier later → AreApart v messages
+        → Enters v e g h → IsGrownTo p entered g → HasEachOnce [] g → HasEachOnce (entry_bounds v e below above earlier later messages) h }
     ensures pushed { (b : Bound) (rest : List Bound) (g : GraphLists) (a : Arc) → IsGraph g → a.name ≡ b → HasEachOnce (b ∷ rest) g → HasEachOnce rest (with_arc g a) }
 {}
 
-/// A law, which does nothing when it runs: a graph that has grown to all events of a problem in which no clock follows another stands
-/// for the problem as it is listed.
+/// A law, which does nothing when it runs: a graph that has grown to all events of a problem stands for the problem as it is
+/// listed.
 pub fn the_whole_stands_for_its_problem()
-    ensures { (l : Listed) (p q : ProblemLists) (readings : List Reading) (g : GraphLists) → IsGraph g → IsProblem q → q.follows ≡ [] → AreReadings q readings → IsListedBy l q readings → IsByNumber l p q → TellsNodes l g → IsGrownTo p all_events g
+    ensures { (l : Listed) (p q : ProblemLists) (readings : List Reading) (g : GraphLists) → IsGraph g → IsProblem q → AreReadings q readings → IsListedBy l q readings → IsByNumber l p q → TellsNodes l g → IsGrownTo p all_events g
         → StandsForListed l q readings g }
 {}
 

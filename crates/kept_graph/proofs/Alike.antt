@@ -1,4 +1,5 @@
 -- Messages in another order, or more than once.
+use Rattle.decl.specs.Declaration.{follows_of}
 use Rattle.std.proofs.Common.{List, [], map, Contains, inl}
 use Rattle.problem_model.specs.declared.items.Message.{Message}
 use Rattle.sync_graph.specs.Graph.{GraphLists}
@@ -17,7 +18,7 @@ pub record AreAlike (some others : List Message) : Type 0 where
 
 pub grown_alike : (r : RosterLists) (some others : List Message) (g : GraphLists) → AreAlike some others → IsGrownBy r some g → IsGrownBy r others g
 grown_alike r some others g alike is = record {
-  grown = with_messages r.declaration.clocks (map (named_event r.declaration) r.came) some others [] alike.forth (λ m has. inl (alike.back m has)) all_events g is.grown;
+  grown = with_messages r.declaration.clocks (follows_of r.declaration) (map (named_event r.declaration) r.came) some others [] alike.forth (λ m has. inl (alike.back m has)) all_events g is.grown;
   once = is.once;
   knows = is.knows;
   tells = record {

@@ -7,7 +7,6 @@ use Rattle.std.proofs.lemmas.List.{get_or_append_left, get_or_past}
 use Rattle.std.proofs.lemmas.Option.{slice_get_within, get_or_from_slice_get}
 use Rattle.problem_model.specs.declared.items.Bound.{Bound}
 use Rattle.problem_model.specs.declared.items.Node.{Node}
-use Rattle.problem_model.specs.declared.items.Node.TheVariants as nodes
 use Rattle.problem_model.specs.Problem.{ProblemLists}
 use Rattle.problem_model.specs.Bounds.{Constraint, Declares, IsReading}
 use Rattle.sync_graph.specs.declared.arc.Arc.{Arc}
@@ -18,13 +17,15 @@ use Rattle.engine.specs.Solver.{SolverLists, HasRoom}
 use Rattle.engine.specs.Current.{IsCurrent}
 use Rattle.engine.specs.Changes.{KeepsSlots}
 use Rattle.growth.specs.Entered.{IsReadingOf}
-use Rattle.growth.specs.Entering.{span_below, span_above}
+use Rattle.growth.specs.Entering.{span_below, span_above, follow_before, follow_after}
 use Rattle.growth.specs.Growing.{IsGrowing}
 use Rattle.growth.specs.Once.{IsOn, HasEachOnce}
 use Rattle.growth.proofs.Once.{pushed_once}
 use Rattle.growth.proofs.Pushed.{bound_pushed}
 use Rattle.kept_graph.specs.Kept.{KeepsRows}
 use Rattle.kept_graph.specs.Pushing.{Brings}
+use Rattle.kept_graph.specs.Linking.{links_of}
+use Rattle.kept_graph.specs.declared.following.Nearest.{Nearest}
 use Rattle.kept_graph.proofs.Extending.{extends_itself, extends_then, extends_by_arc}
 
 -- ---- rows
@@ -103,6 +104,13 @@ brings_then xs ys a b c one two = record {
   room = λ n room. two.room n (one.room n room);
 }
 
+-- four lists in a row, and a rest
+pub four_behind : (a b c d rest : List Bound) → (a ++ (b ++ (c ++ d))) ++ rest ≡ a ++ (b ++ (c ++ (d ++ rest)))
+four_behind a b c d rest =
+    append_assoc a (b ++ (c ++ d)) rest
+    ∙ ap (λ (xs : List Bound). a ++ xs) (append_assoc b (c ++ d) rest)
+    ∙ ap (λ (xs : List Bound). a ++ (b ++ xs)) (append_assoc c d rest)
+
 -- ---- what one arc leaves
 module _ (old new : SolverLists) (a : Arc) where
   pub nodes_of_one : new.graph ≡ with_arc old.graph a → new.graph.nodes ≡ old.graph.nodes
@@ -131,18 +139,27 @@ reading_by p entered clock stamp (v, e, has, on, is) = (e, (v, slice_get_within 
 pub has_still : (old new : SolverLists) (n : Node) → new.graph.nodes ≡ old.graph.nodes → HasNode old.graph n → HasNode new.graph n
 has_still old new n same (k, at) = (k, ap (λ (ns : List Node). slice_get ns k) same ∙ at)
 
-pub below_still : (old new : SolverLists) (place stamp : ℕ) (o : Option ℕ) → new.graph.nodes ≡ old.graph.nodes → IfSome o (λ s. (s < stamp) × HasNode old.graph (nodes.Reading place s)) → IfSome o (λ s. (s < stamp) × HasNode new.graph (nodes.Reading place s))
-below_still old new place stamp None same told = told
-below_still old new place stamp (Some s) same (less, has) = (less, has_still old new (nodes.Reading place s) same has)
+-- ---- how many bounds a new reading has
+-- at most two on each side
+before_few : (clock stamp : ℕ) (o : Option ℕ) (e : Option (ℕ × ℕ)) → IfSome o (λ s. e ≡ None) → length (span_below clock stamp o) + length (follow_before clock stamp e) ≤ 2
+before_few clock stamp None None alone = omega arith
+before_few clock stamp None (Some e) alone = omega arith
+before_few clock stamp (Some s) None alone = omega arith
+before_few clock stamp (Some s) (Some e) alone = absurd (cc)
 
-pub above_still : (old new : SolverLists) (place stamp : ℕ) (o : Option ℕ) → new.graph.nodes ≡ old.graph.nodes → IfSome o (λ t. (stamp < t) × HasNode old.graph (nodes.Reading place t)) → IfSome o (λ t. (stamp < t) × HasNode new.graph (nodes.Reading place t))
-above_still old new place stamp None same told = told
-above_still old new place stamp (Some t) same (less, has) = (less, has_still old new (nodes.Reading place t) same has)
+after_few : (clock stamp : ℕ) (o : Option ℕ) (e : Option (ℕ × ℕ)) → IfSome o (λ t. e ≡ None) → length (span_above clock stamp o) + length (follow_after clock stamp e) ≤ 2
+after_few clock stamp None None alone = omega arith
+after_few clock stamp None (Some e) alone = omega arith
+after_few clock stamp (Some t) None alone = omega arith
+after_few clock stamp (Some t) (Some e) alone = absurd (cc)
 
-pub below_few : (clock stamp : ℕ) (o : Option ℕ) → length (span_below clock stamp o) ≤ 2
-below_few clock stamp None = omega arith
-below_few clock stamp (Some s) = omega arith
-
-pub above_few : (clock stamp : ℕ) (o : Option ℕ) → length (span_above clock stamp o) ≤ 2
-above_few clock stamp None = omega arith
-above_few clock stamp (Some s) = omega arith
+-- at most four
+pub links_few : (place stamp : ℕ) (n : Nearest) → IfSome n.below (λ s. n.earlier ≡ None) → IfSome n.above (λ t. n.later ≡ None) → length (links_of place stamp n) ≤ 4
+links_few place stamp n first last =
+    let under : List Bound = span_below place stamp n.below in
+    let over : List Bound = span_above place stamp n.above in
+    let before : List Bound = follow_before place stamp n.earlier in
+    let after : List Bound = follow_after place stamp n.later in
+    let few = before_few place stamp n.below n.earlier first in
+    let few' = after_few place stamp n.above n.later last in
+    omega (arith, few, few', length-append under (over ++ (before ++ after)), length-append over (before ++ after), length-append before after)

@@ -43,7 +43,7 @@ module _ (r : RosterLists) (is : IsRoster r) (seen : List (List Seen)) (holds : 
       get_or_from_slice_get names v (name_of r.declaration (id_of e.0)) [] (map_at (λ (x : Came). name_of r.declaration (id_of x)) r.came v e.0 e.1) ∙ ap (name_of r.declaration) same in
       let has : HasEvent (problem_of_seen r.declaration seen) place.0 (name_of r.declaration id) =
       ap (λ (l : List (List ℕ)). slice_get l place.0) (sym (events_are r is seen holds)) ∙ map_at {X = ℕ × ℕ} (λ x. name_at names x.0) (listed r).events place.0 (v, node) place.1 ∙ ap Some named in
-      let few : event_count seen ≤ 2 ^ 20 = subst (λ (n : ℕ). n ≤ 2 ^ 20) (sym (events_many r is seen holds)) is.few in
+      let few : event_count seen ≤ 2 ^ 21 = subst (λ (n : ℕ). n ≤ 2 ^ 21) (sym (events_many r is seen holds)) is.few in
       let here' : place.0 ≡ place_of (events_of seen) id =
       the_place r.declaration (events_of seen) (messages_of (events_of seen)) id place.0 is.declared.labels (are_events r.declaration seen (labels_many r is seen holds) few) one has in
       (node, subst (λ (p : ℕ). slice_get {X = ℕ × ℕ} (listed r).events p ≡ Some (number_of r.under id, node)) here' (place.1 ∙ ap (λ (w : ℕ). let x : ℕ × ℕ = (w, node) in Some x) (sym (number_is r.under id v under))))

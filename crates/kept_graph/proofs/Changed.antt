@@ -209,10 +209,10 @@ module _ (before : List (List Seen)) (label : ℕ) (events : List Event) (added 
         pub few_nodes : length s1.graph.nodes + 2 * length turns ≤ 2 * (length r.came + length events)
         few_nodes = (let few = way_left.nodes in let same = retells.count in omega (arith, few, same, many_turns))
 
-        pub arcs_last : length r.came + length events ≤ 2 ^ 20 → length s1.graph.arcs + 6 * length turns + 2 * length dues ≤ 2 ^ 25
+        pub arcs_last : length r.came + length events ≤ 2 ^ 21 → length s1.graph.arcs + 6 * length turns + 2 * length dues ≤ 2 ^ 25
         arcs_last all = let few = few_arcs in omega (arith, few, all)
 
-        pub nodes_last : length r.came + length events ≤ 2 ^ 20 → length s1.graph.nodes + 2 * length turns ≤ 2 ^ 22
+        pub nodes_last : length r.came + length events ≤ 2 ^ 21 → length s1.graph.nodes + 2 * length turns ≤ 2 ^ 22
         nodes_last all = let few = few_nodes in omega (arith, few, all)
 
         -- all have come

@@ -14,7 +14,7 @@ use Rattle.problem_model.specs.declared.items.Bound.{Bound}
 use Rattle.problem_model.specs.declared.items.Bound.TheVariants.{DelayLeast}
 use Rattle.problem_model.specs.Problem.{ProblemLists}
 use Rattle.problem_model.specs.Bounds.{Constraint, Declares}
-use Rattle.decl.specs.Declaration.{Declaration}
+use Rattle.decl.specs.Declaration.{Declaration, follows_of}
 use Rattle.sync_graph.specs.declared.arc.Arc.{Arc}
 use Rattle.sync_graph.specs.Graph.{arc_at}
 use Rattle.engine.specs.Solver.{SolverLists}
@@ -172,8 +172,8 @@ module _ (r : RosterLists) (s : SolverLists) (messages left : List Message) (cou
 
       problem_same : problem_by_number new left ≡ problem_by_number r left
       problem_same =
-          ap (λ (es : List Event). let x : ProblemLists = record { clocks = new.declaration.clocks; follows = []; events = es; messages = left } in x) forgetting.events
-          ∙ ap (λ (d : Declaration). let x : ProblemLists = record { clocks = d.clocks; follows = []; events = map (named_event r.declaration) r.came; messages = left } in x) forgetting.retells.declaration
+          ap (λ (es : List Event). let x : ProblemLists = record { clocks = new.declaration.clocks; follows = follows_of new.declaration; events = es; messages = left } in x) forgetting.events
+          ∙ ap (λ (d : Declaration). let x : ProblemLists = record { clocks = d.clocks; follows = follows_of d; events = map (named_event r.declaration) r.came; messages = left } in x) forgetting.retells.declaration
 
       pub left_way : IsCurrent s' → IsUnderWay left new s'
       left_way current = record {

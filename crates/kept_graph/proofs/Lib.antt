@@ -1,5 +1,6 @@
 pub mod Bringing
 pub mod Seeking
+mod HostClocks
 pub mod Orders
 pub mod Entered
 pub mod OneEvent
@@ -13,6 +14,7 @@ pub mod Forgetting
 pub mod Leaving
 mod FewSteps
 mod Roomier
+mod Rooms
 mod StepInstances
 pub mod Held
 pub mod Carried

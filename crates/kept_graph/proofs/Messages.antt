@@ -4,6 +4,7 @@ use Rattle.std.proofs.lemmas.List.Elements.{All-append, All-cons, All-nil, All-c
 use Rattle.std.proofs.lemmas.List.Kept.{AllPairs-cons}
 use Rattle.problem_model.specs.declared.items.Clock.{Clock}
 use Rattle.problem_model.specs.declared.items.Event.{Event}
+use Rattle.problem_model.specs.declared.items.Follow.{Follow}
 use Rattle.problem_model.specs.declared.items.Message.{Message}
 use Rattle.problem_model.specs.declared.items.Node.{Node}
 use Rattle.problem_model.specs.declared.items.Node.TheVariants as nodes
@@ -18,6 +19,7 @@ use Rattle.traces.proofs.Members.{here, none_in, no_pairs}
 use Rattle.growth.specs.Entered.{IsNodeOf, IsDue}
 use Rattle.growth.specs.Growing.{IsGrowing, IsGrownTo, HasBound}
 use Rattle.growth.specs.Once.{HasEachOnce}
+use Rattle.growth.proofs.Leading.{after_over}
 
 -- ---- the bounds of a message
 most_has : (m : Message) (o : Option ℕ) (w : ℕ) → o ≡ Some w → Contains (most_bound m o) (DelayMost m.send m.receive)
@@ -52,21 +54,21 @@ differ_by m (Some n) =
     (AllPairs-cons Differ (DelayLeast m.send m.receive) [] (All-nil (Differ (DelayLeast m.send m.receive))) (no_pairs Differ))
 
 -- ---- other messages
-module _ (clocks : List Clock) (events : List Event) (old new : List Message) (left : List Bound) (forth : (m : Message) → Contains old m → Contains new m)
+module _ (clocks : List Clock) (follows : List Follow) (events : List Event) (old new : List Message) (left : List Bound) (forth : (m : Message) → Contains old m → Contains new m)
     (back : (m : Message) → Contains new m → Contains old m ⊎ ((b : Bound) → Contains (message_bounds m) b → Contains left b)) (entered : ℕ → Bool) (g : GraphLists)
-    (grown : IsGrownTo (record { clocks = clocks; follows = []; events = events; messages = old }) entered g) where
+    (grown : IsGrownTo (record { clocks = clocks; follows = follows; events = events; messages = old }) entered g) where
   abbrev p : ProblemLists
-  p = record { clocks = clocks; follows = []; events = events; messages = old }
+  p = record { clocks = clocks; follows = follows; events = events; messages = old }
 
   abbrev q : ProblemLists
-  q = record { clocks = clocks; follows = []; events = events; messages = new }
+  q = record { clocks = clocks; follows = follows; events = events; messages = new }
 
   declared : (b : Bound) (c : Constraint) → Declares p b c → Declares q b c
   declared (SpanMost clock s t) c d = d
   declared (SpanLeast clock s t) c d = d
   declared (Late e) c d = d
   declared (Early e) c d = d
-  declared (bounds.Follow b s e t) c d = absurd (none_in d.0 d.1)
+  declared (bounds.Follow b s e t) c d = (d.0, d.1, d.2, after_over p q refl b e d.3, d.4, d.5, d.6)
   declared (DelayMost send receive) c d = (d.0, d.1, forth d.0 d.2, d.3, d.4, d.5, d.6)
   declared (DelayLeast send receive) c d = (d.0, forth d.0 d.1, d.2, d.3, d.4)
 
@@ -83,7 +85,17 @@ module _ (clocks : List Clock) (events : List Event) (old new : List Message) (l
   due_under (SpanLeast clock s t) due = inl (record { first = due.first; second = due.second; rising = due.rising; none = due.none })
   due_under (Late v) due = inl due
   due_under (Early v) due = inl due
-  due_under (bounds.Follow c s d t) due = absurd due
+  due_under (bounds.Follow c s d t) due = inl (record {
+    comes = after_over q p refl c d due.comes;
+    nearest = λ b u after read. elim (due.nearest b u (after_over p q refl b d after) read) [
+      | inl same ↦ inl same
+      | inr further ↦ inr (after_over q p refl b c further)
+    ];
+    last = due.last;
+    none_after = due.none_after;
+    first = due.first;
+    none_before = due.none_before;
+  })
   due_under (DelayMost send receive) (m, most, is, most_is) = elim (back m is.among) [
     | inl was ↦ inl (m, most, record { among = was; send_is = is.send_is; receive_is = is.receive_is; send_in = is.send_in; receive_in = is.receive_in }, most_is)
     | inr own ↦ inr (subst (λ (k : ℕ). Contains left (DelayMost send k)) is.receive_is (subst (λ (k : ℕ). Contains left (DelayMost k m.receive)) is.send_is (own (DelayMost m.send m.receive) (most_in m most most_is))))
@@ -93,7 +105,7 @@ module _ (clocks : List Clock) (events : List Event) (old new : List Message) (l
     | inr own ↦ inr (subst (λ (k : ℕ). Contains left (DelayLeast send k)) is.receive_is (subst (λ (k : ℕ). Contains left (DelayLeast k m.receive)) is.send_is (own (DelayLeast m.send m.receive) (least_in m))))
   ]
 
-  pub with_messages : IsGrowing (record { clocks = clocks; follows = []; events = events; messages = new }) entered left g
+  pub with_messages : IsGrowing (record { clocks = clocks; follows = follows; events = events; messages = new }) entered left g
   with_messages = record {
     nodes = λ n has. node_over n (grown.nodes n has);
     every_node = λ n is. grown.every_node n (node_under n is);

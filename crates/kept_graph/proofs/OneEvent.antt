@@ -1,5 +1,5 @@
 -- One event of a roster enters: all that holds of the roster and the graph behind it.
-use Rattle.std.proofs.Common.{◌≡◌, ◌≢◌, ◌⊎◌, ◌<◌, ◌≤◌, ◌+◌, ◌==◌, ◌||◌, ℕ, zero, suc, Bool, true, false, List, [], ◌∷◌, ◌++◌, Option, Some, None, length, map, get_or, set, slice_get, Contains, refl, sym, ◌∙◌, ap, subst, arith, inl, inr, length-append}
+use Rattle.std.proofs.Common.{◌≡◌, ◌≢◌, ◌⊎◌, ◌<◌, ◌≤◌, ◌+◌, ◌==◌, ◌||◌, ℕ, zero, suc, Bool, true, false, List, [], ◌∷◌, ◌++◌, Some, length, map, get_or, set, slice_get, Contains, refl, sym, ◌∙◌, ap, subst, arith, inl, inr, length-append}
 use Rattle.std.specs.Prelude.{IfSome}
 use Rattle.std.proofs.lemmas.Bool.{cases_Bool, cases_eq}
 use Rattle.std.proofs.lemmas.List.{length-set, get_or-set_same, get_or-set_other}
@@ -12,10 +12,11 @@ use Rattle.problem_model.specs.declared.items.Node.{Node}
 use Rattle.problem_model.specs.declared.items.Node.TheVariants as nodes
 use Rattle.problem_model.specs.declared.items.Bound.{Bound}
 use Rattle.problem_model.specs.declared.items.Bound.TheVariants.{Late, Early}
-use Rattle.problem_model.specs.Problem.{ProblemLists}
+use Rattle.problem_model.specs.Problem.{ProblemLists, IsChained}
 use Rattle.problem_model.specs.Bounds.{ClockAt, EventAt}
 use Rattle.problem.proofs.ListedNodes.{map_at}
-use Rattle.decl.specs.Declaration.{Declaration}
+use Rattle.decl.specs.Declaration.{Declaration, follows_of}
+use Rattle.decl.proofs.Following.{follows_lead, laters_differ}
 use Rattle.sync_graph.specs.declared.arc.Arc.{Arc}
 use Rattle.sync_graph.specs.Graph.{GraphLists, arc_at, with_node}
 use Rattle.sync_graph.specs.Standing.{HasNode}
@@ -32,7 +33,7 @@ use Rattle.roster.proofs.Pushing.{get_left, get_right, get_cases}
 use Rattle.roster.proofs.Telling.{among, set_here, set_elsewhere, holds_still, holds_restamped}
 use Rattle.growth.specs.Entered.{and_event}
 use Rattle.growth.specs.Growing.{IsGrowing, IsGrownTo}
-use Rattle.growth.specs.Entering.{Enters, AreMessagesOf, AreNearest, IsStampBelow, IsStampAbove, span_below, span_above}
+use Rattle.growth.specs.Entering.{Enters, AreMessagesOf, AreNearest}
 use Rattle.growth.specs.Once.{IsOn, HasEachOnce, AreApart}
 use Rattle.growth.specs.Rosters.{named_event, problem_by_number}
 use Rattle.growth.proofs.Entry.{entered_now}
@@ -40,18 +41,18 @@ use Rattle.growth.proofs.Loop.{event_enters, both_enter}
 use Rattle.growth.proofs.Once.{entered_once}
 use Rattle.kept_graph.specs.Kept.{KnowsMessages, KeepsRows}
 use Rattle.kept_graph.specs.Pushing.{Brings}
+use Rattle.kept_graph.specs.Linking.{AreThere, AreBeside, links_of}
+use Rattle.kept_graph.specs.declared.following.Nearest.{Nearest}
 use Rattle.kept_graph.specs.Growing.{KeepsNodesThere}
 use Rattle.kept_graph.specs.UnderWay.{KnowsNodesThere, IsEntering}
 use Rattle.kept_graph.specs.Coming.{HaveCome}
+use Rattle.kept_graph.proofs.Bringing.{links_few}
+use Rattle.kept_graph.proofs.Seeking.{there_by, beside_by}
 use Rattle.kept_graph.proofs.Entered.{map_back, told_named, tells_still, one_place}
 
 pub none_behind : {X : Type 0} (xs : List X) → xs ++ [] ≡ xs
 none_behind [] = refl
 none_behind (x ∷ xs) = ap (λ v. x ∷ v) (none_behind xs)
-
-some_weaker : (o : Option ℕ) (P Q : ℕ → Type 0) → ((t : ℕ) → P t → Q t) → IfSome o P → IfSome o Q
-some_weaker None P Q weaker told = tt
-some_weaker (Some t) P Q weaker told = weaker t told
 
 -- a reading stays where another one is written
 set_keeps : (readings : List (List Stamped)) (clock place : ℕ) (was now : Stamped) (c : ℕ) (t : Stamped) → slice_get (group_at readings clock) place ≡ Some was → Contains (group_at readings c) t → (c ≡ clock → t ≡ was → ⊥)
@@ -120,40 +121,21 @@ module _ (r : RosterLists) (is : IsRoster r) (v : ℕ) (e : Came) (at : slice_ge
   event_is messages = map_at (named_event r.declaration) r.came v e at
 
   -- the bounds of the entry, on a clock
-  abbrev own_bounds : ℕ → Option ℕ → Option ℕ → List Bound
-  own_bounds c o u = span_below c stamp o ++ (span_above c stamp u ++ (Late v ∷ Early v ∷ []))
+  abbrev own_bounds : ℕ → Nearest → List Bound
+  own_bounds c n = links_of c stamp n ++ (Late v ∷ Early v ∷ [])
 
   abbrev there_on : ℕ → Type 0
   there_on c = HasNode s.graph (nodes.Reading c e.stamp)
 
-  module _ (known : Bool) (o u : Option ℕ) (has : known ≡ true → HasNode s.graph (nodes.Reading place e.stamp)) (fresh : known ≡ false → HasNode s.graph (nodes.Reading place e.stamp) → ⊥)
-      (none : known ≡ true → o ≡ None) (under : known ≡ false → IsStampBelow s.graph place e.stamp o)
-      (none' : known ≡ true → u ≡ None) (over : known ≡ false → IsStampAbove s.graph place e.stamp u) where
-    abbrev AreNearestOn : ℕ → Type 0
-    AreNearestOn c = (there_on c × (o ≡ None) × (u ≡ None)) ⊎ ((there_on c → ⊥) × IsStampBelow s.graph c stamp o × IsStampAbove s.graph c stamp u)
+  module _ (known : Bool) (n : Nearest) (has : known ≡ true → HasNode s.graph (nodes.Reading place e.stamp)) (fresh : known ≡ false → HasNode s.graph (nodes.Reading place e.stamp) → ⊥)
+      (near : (p : ProblemLists) (y : Event) → p.follows ≡ follows_of r.declaration → y.clock ≡ place → y.stamp ≡ e.stamp → AreNearest p s.graph y n.below n.above n.earlier n.later)
+      (lies : IfSome n.later (λ x. x.0 < length r.declaration.clocks)) where
+    -- the reading of the event, whatever its name
+    abbrev reads : Event
+    reads = record { name = []; clock = place; stamp = e.stamp }
 
-    near_on : AreNearestOn place
-    near_on = elim (cases_Bool known) [
-      | inl k ↦ inl (has k, none k, none' k)
-      | inr k ↦ inr (fresh k, under k, over k)
-    ]
-
-    near : AreNearest s.graph x o u
-    near = subst AreNearestOn (sym place_is) near_on
-
-    below_there : (o' : Option ℕ) → o ≡ o' → IfSome o' (λ t. (t < stamp) × HasNode s.graph (nodes.Reading place t))
-    below_there None same = tt
-    below_there (Some t) same = elim (cases_Bool known) [
-      | inl k ↦ absurd (let z : None ≡ Some t = sym (none k) ∙ same in let y : ⊥ = cc in y)
-      | inr k ↦ (let told : IsStampBelow s.graph place stamp (Some t) = subst (IsStampBelow s.graph place stamp) same (under k) in (told.1, told.0))
-    ]
-
-    above_there : (u' : Option ℕ) → u ≡ u' → IfSome u' (λ t. (stamp < t) × HasNode s.graph (nodes.Reading place t))
-    above_there None same = tt
-    above_there (Some t) same = elim (cases_Bool known) [
-      | inl k ↦ absurd (let z : None ≡ Some t = sym (none' k) ∙ same in let y : ⊥ = cc in y)
-      | inr k ↦ (let told : IsStampAbove s.graph place stamp (Some t) = subst (IsStampAbove s.graph place stamp) same (over k) in (told.1, told.0))
-    ]
+    beside : (messages : List Message) → AreBeside (problem_by_number r messages) place n
+    beside messages = beside_by (problem_by_number r messages) s.graph reads n (near (problem_by_number r messages) reads refl refl refl)
 
     -- ---- nodes that come
     module _ (s1 s2 : SolverLists) (event_pushed : s1 ≡ with_new_node s (nodes.Event v)) (same_is : known ≡ true → s2 ≡ s1) (reading_is : known ≡ false → s2 ≡ with_new_node s1 (nodes.Reading place e.stamp)) where
@@ -181,11 +163,8 @@ module _ (r : RosterLists) (is : IsRoster r) (v : ℕ) (e : Came) (at : slice_ge
       pub over_kept : (n : Node) → HasNode s.graph n → HasNode s2.graph n
       over_kept n (k, at') = (k, enters.kept k n at')
 
-      pub entered_below : IfSome o (λ t. (t < e.stamp) × HasNode s2.graph (nodes.Reading place t))
-      entered_below = some_weaker o (λ t. (t < stamp) × HasNode s.graph (nodes.Reading place t)) (λ t. (t < stamp) × HasNode s2.graph (nodes.Reading place t)) (λ t (less, at'). (less, over_kept (nodes.Reading place t) at')) (below_there o refl)
-
-      pub entered_above : IfSome u (λ t. (e.stamp < t) × HasNode s2.graph (nodes.Reading place t))
-      entered_above = some_weaker u (λ t. (stamp < t) × HasNode s.graph (nodes.Reading place t)) (λ t. (stamp < t) × HasNode s2.graph (nodes.Reading place t)) (λ t (more', at'). (more', over_kept (nodes.Reading place t) at')) (above_there u refl)
+      pub entered_there : AreThere (length r.declaration.clocks) s2.graph place e.stamp n
+      entered_there = there_by (problem_by_number r []) s.graph reads n (near (problem_by_number r []) reads refl refl refl) (length r.declaration.clocks) s2.graph over_kept lies
 
       event_long : length s1.graph.nodes ≡ length s.graph.nodes + 1
       event_long = ap (λ (h : GraphLists). length h.nodes) graph_of_event ∙ length-append s.graph.nodes (nodes.Event v ∷ [])
@@ -232,9 +211,9 @@ module _ (r : RosterLists) (is : IsRoster r) (v : ℕ) (e : Came) (at : slice_ge
 
         problem_same : (messages : List Message) → problem_by_number r3 messages ≡ problem_by_number r messages
         problem_same messages =
-            ap (λ (d : Declaration). let p : ProblemLists = record { clocks = d.clocks; follows = []; events = map (named_event d) r3.came; messages = messages } in p) declaration_is
-            ∙ ap (λ (cs : List Came). let p : ProblemLists = record { clocks = r.declaration.clocks; follows = []; events = map (named_event r.declaration) cs; messages = messages } in p) came_is
-            ∙ ap (λ (es : List Event). let p : ProblemLists = record { clocks = r.declaration.clocks; follows = []; events = es; messages = messages } in p) (told_named r.declaration r.came v e f at refl)
+            ap (λ (d : Declaration). let p : ProblemLists = record { clocks = d.clocks; follows = follows_of d; events = map (named_event d) r3.came; messages = messages } in p) declaration_is
+            ∙ ap (λ (cs : List Came). let p : ProblemLists = record { clocks = r.declaration.clocks; follows = follows_of r.declaration; events = map (named_event r.declaration) cs; messages = messages } in p) came_is
+            ∙ ap (λ (es : List Event). let p : ProblemLists = record { clocks = r.declaration.clocks; follows = follows_of r.declaration; events = es; messages = messages } in p) (told_named r.declaration r.came v e f at refl)
 
         told_here : slice_get r3.came v ≡ Some f
         told_here = ap (λ (cs : List Came). slice_get cs v) came_is ∙ set_here r.came v f inside
@@ -276,9 +255,9 @@ module _ (r : RosterLists) (is : IsRoster r) (v : ℕ) (e : Came) (at : slice_ge
         }
 
         -- ---- behind the bounds
-        module _ (s3 : SolverLists) (brings : Brings (span_below place e.stamp o ++ (span_above place e.stamp u ++ (Late v ∷ Early v ∷ []))) s2 s3) (clock : Clock) (clock_is : slice_get r.declaration.clocks place ≡ Some clock)
+        module _ (s3 : SolverLists) (brings : Brings (links_of place e.stamp n ++ (Late v ∷ Early v ∷ [])) s2 s3) (clock : Clock) (clock_is : slice_get r.declaration.clocks place ≡ Some clock)
             (left : (p : ProblemLists) (flags : ℕ → Bool) (y : Event) → EventAt p v y → y.clock ≡ place → y.stamp ≡ e.stamp → ClockAt p place clock
-            → IsGrowing p flags (span_below place e.stamp o ++ (span_above place e.stamp u ++ (Late v ∷ Early v ∷ []))) s2.graph → IsGrowing p flags [] s3.graph) where
+            → p.follows ≡ follows_of r3.declaration → AreBeside p place n → IsGrowing p flags (links_of place e.stamp n ++ (Late v ∷ Early v ∷ [])) s2.graph → IsGrowing p flags [] s3.graph) where
           kept_at : (k : ℕ) (n : Node) → slice_get s.graph.nodes k ≡ Some n → slice_get s3.graph.nodes k ≡ Some n
           kept_at k n at' = ap (λ (ns : List Node). slice_get ns k) brings.nodes ∙ enters.kept k n at'
 
@@ -405,17 +384,24 @@ module _ (r : RosterLists) (is : IsRoster r) (v : ℕ) (e : Came) (at : slice_ge
               differ = no_pairs (λ (a b : Message). (a.send ≡ b.send) → (a.receive ≡ b.receive) → ⊥);
             }
 
+            -- follows of a declaration make chains
+            chains : IsChained (problem_by_number r messages)
+            chains = record { follow_ends = follows_lead r.declaration is.declared; laters_differ = laters_differ r.declaration }
+
+            near_own : AreNearest (problem_by_number r messages) s.graph x n.below n.above n.earlier n.later
+            near_own = near (problem_by_number r messages) x refl place_is refl
+
             growing : IsGrowing (problem_by_number r messages) (and_event entered v) [] s3.graph
             growing =
-                left (problem_by_number r messages) (and_event entered v) x (event_is messages) place_is refl clock_is
-                (subst (λ (c : ℕ). IsGrowing (problem_by_number r messages) (and_event entered v) (own_bounds c o u) s2.graph) place_is
-                (entered_now (problem_by_number r messages) entered v x (event_is messages) o u [] s.graph near none_own way.grown s2.graph enters))
+                left (problem_by_number r messages) (and_event entered v) x (event_is messages) place_is refl clock_is (ap follows_of (sym declaration_is)) (beside messages)
+                (subst (λ (c : ℕ). IsGrowing (problem_by_number r messages) (and_event entered v) (own_bounds c n) s2.graph) place_is
+                (entered_now (problem_by_number r messages) entered v x (event_is messages) n.below n.above n.earlier n.later [] s.graph chains near_own none_own way.grown s2.graph enters))
 
             once_grown : HasEachOnce [] s3.graph
             once_grown =
-                brings.once [] (subst (λ (bs : List Bound). HasEachOnce bs s2.graph) (sym (none_behind (own_bounds place o u)))
-                (subst (λ (c : ℕ). HasEachOnce (own_bounds c o u) s2.graph) place_is
-                (entered_once (problem_by_number r messages) entered v x o u [] s.graph not_in near none_apart way.grown s2.graph enters way.once)))
+                brings.once [] (subst (λ (bs : List Bound). HasEachOnce bs s2.graph) (sym (none_behind (own_bounds place n)))
+                (subst (λ (c : ℕ). HasEachOnce (own_bounds c n) s2.graph) place_is
+                (entered_once (problem_by_number r messages) entered v x n.below n.above n.earlier n.later [] s.graph chains not_in near_own none_apart way.grown s2.graph enters way.once)))
 
             tells_all : KnowsMessages r3 messages s3.graph
             tells_all =
@@ -464,3 +450,10 @@ module _ (r : RosterLists) (is : IsRoster r) (v : ℕ) (e : Came) (at : slice_ge
 
           pub nodes_few : length s3.graph.nodes ≤ length s.graph.nodes + 2
           nodes_few = (let same = ap (λ (ns : List Node). length ns) brings.nodes in omega (arith, same, both_long))
+
+          pub arcs_few : length s3.graph.arcs ≤ length s.graph.arcs + 6
+          arcs_few =
+              let few = links_few place e.stamp n entered_there.first entered_there.last in
+              let long = length-append (links_of place e.stamp n) (Late v ∷ Early v ∷ []) in
+              let count = brings.count in
+              omega (arith, few, long, count, entered_arcs)

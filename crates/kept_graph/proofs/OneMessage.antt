@@ -12,6 +12,7 @@ use Rattle.problem_model.specs.declared.items.Bound.{Bound}
 use Rattle.problem_model.specs.declared.items.Bound.TheVariants.{DelayMost, DelayLeast}
 use Rattle.problem_model.specs.Problem.{ProblemLists}
 use Rattle.problem_model.specs.ShortList.{most_bound, message_bounds}
+use Rattle.decl.specs.Declaration.{follows_of}
 use Rattle.sync_graph.specs.declared.arc.Arc.{Arc}
 use Rattle.sync_graph.specs.Graph.{GraphLists, arc_at}
 use Rattle.sync_graph.specs.Standing.{HasNode}
@@ -132,7 +133,7 @@ module _ (r new : RosterLists) (s s' : SolverLists) (m : Message) (arc : ℕ) (i
 
     growing : IsGrowing (problem_by_number r (m ∷ messages)) entered (message_bounds m) s.graph
     growing =
-        with_messages r.declaration.clocks (map (named_event r.declaration) r.came) messages (m ∷ messages) (message_bounds m) (λ n has. there m n messages has)
+        with_messages r.declaration.clocks (follows_of r.declaration) (map (named_event r.declaration) r.came) messages (m ∷ messages) (message_bounds m) (λ n has. there m n messages has)
         (λ n has. elim (head_or_tail m n messages has) [ inl same ↦ inr (λ b among. subst (λ (x : Message). Contains (message_bounds x) b) (sym same) among) | inr more ↦ inl more ]) entered s.graph way.grown
 
     grown : IsGrownTo (problem_by_number r (m ∷ messages)) entered s'.graph
@@ -140,8 +141,8 @@ module _ (r new : RosterLists) (s s' : SolverLists) (m : Message) (arc : ℕ) (i
 
     problem_same : problem_by_number new (m ∷ messages) ≡ problem_by_number r (m ∷ messages)
     problem_same =
-        ap (λ (es : List Event). let x : ProblemLists = record { clocks = new.declaration.clocks; follows = []; events = es; messages = m ∷ messages } in x) (events_same r new m.send inside partner is)
-        ∙ ap (λ (x : RosterLists). let y : ProblemLists = record { clocks = x.declaration.clocks; follows = []; events = map (named_event r.declaration) r.came; messages = m ∷ messages } in y) is
+        ap (λ (es : List Event). let x : ProblemLists = record { clocks = new.declaration.clocks; follows = follows_of new.declaration; events = es; messages = m ∷ messages } in x) (events_same r new m.send inside partner is)
+        ∙ ap (λ (x : RosterLists). let y : ProblemLists = record { clocks = x.declaration.clocks; follows = follows_of x.declaration; events = map (named_event r.declaration) r.came; messages = m ∷ messages } in y) is
 
     each_once : HasEachOnce [] s'.graph
     each_once =

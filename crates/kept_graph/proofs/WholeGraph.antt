@@ -58,7 +58,7 @@ module _ (r : RosterLists) (is : IsRoster r) (seen : List (List Seen)) (s : Solv
   -- ---- to what is kept
   lawful : Holds r seen → StampsFit seen → IsProblem (problem_of_seen r.declaration seen)
   lawful holds fit =
-      let few : event_count seen ≤ 2 ^ 20 = subst (λ (n : ℕ). n ≤ 2 ^ 20) (sym (events_many r is seen holds)) is.few in
+      let few : event_count seen ≤ 2 ^ 21 = subst (λ (n : ℕ). n ≤ 2 ^ 21) (sym (events_many r is seen holds)) is.few in
       problem_lawful r.declaration seen is.declared (labels_many r is seen holds) few fit
 
   pub way_kept : (messages : List Message) → Holds r seen → StampsFit seen → AreAlike messages (messages_by_number r seen) → IsUnderWay messages r s → length s.graph.arcs ≤ 8 * length r.came → IsKeptFor seen r s
@@ -69,7 +69,7 @@ module _ (r : RosterLists) (is : IsRoster r) (seen : List (List Seen)) (s : Solv
         stamps = fit;
         solution = record {
           current = way.current;
-          stands = λ readings are. stands (listed r) (problem_by_number r (messages_by_number r seen)) (problem_of_seen r.declaration seen) readings s.graph way.current.set_up.graph (lawful holds fit) refl are
+          stands = λ readings are. stands (listed r) (problem_by_number r (messages_by_number r seen)) (problem_of_seen r.declaration seen) readings s.graph way.current.set_up.graph (lawful holds fit) are
               (listed_by r is seen holds readings are) (by_number r is seen holds (messages_by_number r seen) (carried r is seen holds)) (tells r is s.graph grown.knows) grown.grown;
         };
         grown = grown;

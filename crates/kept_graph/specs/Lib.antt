@@ -4,6 +4,7 @@ pub mod Growing
 pub mod Steps
 pub mod Extending
 pub mod Pushing
+pub mod Linking
 pub mod Withdrawing
 pub mod Cutting
 pub mod Planning

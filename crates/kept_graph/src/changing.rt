@@ -31,7 +31,7 @@ pub(crate) fn change<L: Ledger>(
 ) -> Result<(), AllocError>
     requires kept { (before : List (List Seen)) × IsKeptFor before roster.old solver.old × AreChanges before (with_more before label (seen_events events.now)) changes.now }
     requires label { label < length roster.old.declaration.labels }
-    requires few { length roster.old.came + length events.now ≤ 2 ^ 20 }
+    requires few { length roster.old.came + length events.now ≤ 2 ^ 21 }
     requires room { HasRoom (2 * (length roster.old.came + length events.now)) solver.old }
     ensures kept { OnOk result ((before : List (List Seen)) → IsKeptFor before roster.old solver.old → AreChanges before (with_more before label (seen_events events.now)) changes.now
         → IsKeptFor (with_more before label (seen_events events.now)) roster.new solver.new) }

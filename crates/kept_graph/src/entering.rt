@@ -7,7 +7,7 @@ ghost use Rattle.problem_model.specs.declared.items.Bound.{Bound};
 ghost use Rattle.problem_model.specs.declared.items.Bound.TheVariants.{Late, Early};
 ghost use Rattle.problem_model.specs.Problem.{ProblemLists};
 ghost use Rattle.problem_model.specs.Bounds.{ClockAt, EventAt};
-ghost use Rattle.decl.specs.Declaration.{IsDeclaration};
+ghost use Rattle.decl.specs.Declaration.{IsDeclaration, follows_of};
 ghost use Rattle.sync_graph.specs.Graph.{most_nodes, most_arcs};
 ghost use Rattle.sync_graph.specs.Standing.{HasNode};
 ghost use Rattle.engine.specs.Solver.{HasRoom, with_new_node};
@@ -16,15 +16,17 @@ ghost use Rattle.traces.specs.Traces.{clock_of};
 ghost use Rattle.roster.specs.Groups.{group_at};
 ghost use Rattle.roster.specs.Readings.{HasStamp};
 ghost use Rattle.roster.specs.Roster.{RosterLists, IsRoster, SetsReading, event_at, id_of};
-ghost use Rattle.growth.specs.Entering.{span_below, span_above, IsStampBelow, IsStampAbove};
 ghost use Rattle.growth.specs.Growing.{IsGrowing};
 ghost use Rattle.kept_graph.specs.Pushing.{Brings};
+ghost use Rattle.kept_graph.specs.Linking.{AreThere, AreBeside, links_of};
 ghost use Rattle.kept_graph.specs.Extending.{Extends, TakesFewToPush};
 ghost use Rattle.kept_graph.specs.UnderWay.{IsEntering};
 ghost use Rattle.kept_graph.specs.Coming.{HaveCome};
 
-use crate::nearest::{above, below, is_known};
-use crate::pushing::{push_span, push_stamp};
+use crate::following::{Nearest, nearest_of};
+use crate::linking::push_links;
+use crate::nearest::is_known;
+use crate::pushing::push_stamp;
 use atto::{Nano, Steps};
 use engine::Solver;
 use problem_model::{Clock, Node};
@@ -77,78 +79,30 @@ fn push_reading(
     Ok(())
 }
 
-// Brings in both bounds over the span to the stamp below, if there is one.
-fn push_below<L: Ledger>(
-    solver: &mut Solver,
-    place: u32,
-    clock: &Clock,
-    stamp: Nano,
-    below: Option<Nano>,
-    steps: &mut Steps<L>,
-) -> Result<(), AllocError>
-    requires current { IsCurrent solver.old }
-    requires reading { HasNode solver.old.graph (nodes.Reading place stamp) }
-    requires below { IfSome below (λ s. (s < stamp) × HasNode solver.old.graph (nodes.Reading place s)) }
-    requires room { length solver.old.graph.arcs + 2 ≤ most_arcs }
-    ensures brings { OnOk result (Brings (span_below place stamp below) solver.old solver.new) }
-    ensures steps { OnOk result (TakesFewToPush solver.old solver.new steps.old steps.new) }
-    ensures left { OnOk result ((p : ProblemLists) (entered : ℕ → Bool) (rest : List Bound) → ClockAt p place clock.now
-        → IsGrowing p entered (span_below place stamp below ++ rest) solver.old.graph → IsGrowing p entered rest solver.new.graph) }
-{
-    match below {
-        Some(s) => push_span(solver, place, clock, s, stamp, steps),
-        None => Ok(()),
-    }
-}
-
-// Brings in both bounds over the span to the stamp above, if there is one.
-fn push_above<L: Ledger>(
-    solver: &mut Solver,
-    place: u32,
-    clock: &Clock,
-    stamp: Nano,
-    above: Option<Nano>,
-    steps: &mut Steps<L>,
-) -> Result<(), AllocError>
-    requires current { IsCurrent solver.old }
-    requires reading { HasNode solver.old.graph (nodes.Reading place stamp) }
-    requires above { IfSome above (λ t. (stamp < t) × HasNode solver.old.graph (nodes.Reading place t)) }
-    requires room { length solver.old.graph.arcs + 2 ≤ most_arcs }
-    ensures brings { OnOk result (Brings (span_above place stamp above) solver.old solver.new) }
-    ensures steps { OnOk result (TakesFewToPush solver.old solver.new steps.old steps.new) }
-    ensures left { OnOk result ((p : ProblemLists) (entered : ℕ → Bool) (rest : List Bound) → ClockAt p place clock.now
-        → IsGrowing p entered (span_above place stamp above ++ rest) solver.old.graph → IsGrowing p entered rest solver.new.graph) }
-{
-    match above {
-        Some(t) => push_span(solver, place, clock, stamp, t, steps),
-        None => Ok(()),
-    }
-}
-
-// Brings in the bounds of an event that enters: the spans of its reading, if that is new, and those of its stamp.
+// Brings in the bounds of an event that enters: those of its reading, if that is new, and those of its stamp.
 fn push_entry<L: Ledger>(
+    roster: &Roster,
     solver: &mut Solver,
     v: u32,
     place: u32,
     clock: &Clock,
     stamp: Nano,
-    below: Option<Nano>,
-    above: Option<Nano>,
+    nearest: &Nearest,
     steps: &mut Steps<L>,
 ) -> Result<(), AllocError>
+    requires inside { place < length roster.now.declaration.clocks }
     requires current { IsCurrent solver.old }
     requires event { HasNode solver.old.graph (nodes.Event v) }
     requires reading { HasNode solver.old.graph (nodes.Reading place stamp) }
-    requires below { IfSome below (λ s. (s < stamp) × HasNode solver.old.graph (nodes.Reading place s)) }
-    requires above { IfSome above (λ t. (stamp < t) × HasNode solver.old.graph (nodes.Reading place t)) }
+    requires there { AreThere (length roster.now.declaration.clocks) solver.old.graph place stamp nearest.now }
     requires room { length solver.old.graph.arcs + 6 ≤ most_arcs }
-    ensures brings { OnOk result (Brings (span_below place stamp below ++ (span_above place stamp above ++ (Late v ∷ Early v ∷ []))) solver.old solver.new) }
+    ensures brings { OnOk result (Brings (links_of place stamp nearest.now ++ (Late v ∷ Early v ∷ [])) solver.old solver.new) }
     ensures steps { OnOk result (TakesFewToPush solver.old solver.new steps.old steps.new) }
     ensures left { OnOk result ((p : ProblemLists) (entered : ℕ → Bool) (e : items.Event) → EventAt p v e → e.clock ≡ place → e.stamp ≡ stamp → ClockAt p place clock.now
-        → IsGrowing p entered (span_below place stamp below ++ (span_above place stamp above ++ (Late v ∷ Early v ∷ []))) solver.old.graph → IsGrowing p entered [] solver.new.graph) }
+        → p.follows ≡ follows_of roster.now.declaration → AreBeside p place nearest.now
+        → IsGrowing p entered (links_of place stamp nearest.now ++ (Late v ∷ Early v ∷ [])) solver.old.graph → IsGrowing p entered [] solver.new.graph) }
 {
-    push_below(solver, place, clock, stamp, below, steps)?;
-    push_above(solver, place, clock, stamp, above, steps)?;
+    push_links(roster, solver, place, clock, stamp, nearest, steps)?;
     push_stamp(solver, v, place, clock, stamp, steps)?;
     Ok(())
 }
@@ -214,12 +168,11 @@ fn enter_new<L: Ledger>(
     let place = clock_of(roster, came.label);
     let clock = clock_at(roster, place);
     let known = is_known(solver, place, stamp);
-    let below = below(roster, solver, place, stamp, known);
-    let above = above(roster, solver, place, stamp, known, hint);
-    let next = hint_of(&above, hint);
+    let nearest = nearest_of(roster, solver, place, stamp, known, hint);
+    let next = hint_of(&nearest.above, hint);
     push_event(roster, solver, v)?;
     push_reading(roster, solver, place, stamp, known)?;
-    push_entry(solver, v, place, &clock, stamp, below, above, steps)?;
+    push_entry(roster, solver, v, place, &clock, stamp, &nearest, steps)?;
     Ok(next)
 }
 

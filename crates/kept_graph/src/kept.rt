@@ -64,7 +64,7 @@ impl KeptGraph {
     ) -> Result<(), AllocError>
         requires kept { (before : List (List Seen)) × IsKeptFor before self.old.roster self.old.solver × AreChanges before (with_more before label (seen_events events.now)) changes.now }
         requires label { label < length self.old.roster.declaration.labels }
-        requires few { length self.old.roster.came + length events.now ≤ 2 ^ 20 }
+        requires few { length self.old.roster.came + length events.now ≤ 2 ^ 21 }
         ensures kept { OnOk result ((before : List (List Seen)) → IsKeptFor before self.old.roster self.old.solver → AreChanges before (with_more before label (seen_events events.now)) changes.now
             → IsKeptFor (with_more before label (seen_events events.now)) self.new.roster self.new.solver) }
         ensures declaration { self.new.roster.declaration ≡ self.old.roster.declaration }

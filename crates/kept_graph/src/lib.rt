@@ -10,8 +10,10 @@
 mod changing;
 mod coming;
 mod entering;
+mod following;
 mod joining;
 mod kept;
+mod linking;
 mod nearest;
 mod planning;
 mod pushing;

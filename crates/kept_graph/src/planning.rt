@@ -37,7 +37,7 @@ fn stamp_of(events: &[Event], k: usize) -> u64
 
 // The turns of events that are numbered from one on, as they stand.
 fn turns_from(alloc: Global, events: &[Event], first: u32) -> Result<Vec<Turn>, AllocError>
-    requires { first + length events.now ≤ 2 ^ 20 }
+    requires { first + length events.now ≤ 2 ^ 21 }
     ensures numbers { IfOk result (λ turns. numbers_of turns.items ≡ range_with_len first (length events.now)) }
     ensures fits { OnOk result (All (λ stamp. stamp < 2 ^ 62) (stamps_of events.now)) }
 {
@@ -54,7 +54,7 @@ fn turns_from(alloc: Global, events: &[Event], first: u32) -> Result<Vec<Turn>, 
 
 /// The turns of events that are numbered from one on, in the order of their stamps.
 pub(crate) fn turns_of(alloc: Global, events: &[Event], first: u32) -> Result<Vec<Turn>, AllocError>
-    requires { first + length events.now ≤ 2 ^ 20 }
+    requires { first + length events.now ≤ 2 ^ 21 }
     ensures numbers { IfOk result (λ turns. IsPermutation (range_with_len first (length events.now)) (numbers_of turns.items)) }
     ensures fits { OnOk result (All (λ stamp. stamp < 2 ^ 62) (stamps_of events.now)) }
 {

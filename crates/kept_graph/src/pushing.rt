@@ -1,11 +1,13 @@
 // Bounds that are pushed.
 ghost use Rattle.std.specs.Prelude.{◌≡◌, ◌<◌, ◌≤◌, ◌+◌, ◌^◌, ℕ, Bool, List, [], ◌∷◌, ◌++◌, Some, length, slice_get, pos, neg_ℤ, ◌<ℤ◌, Contains, OnOk};
 ghost use Rattle.problem_model.specs.declared.items.Event.{Event};
+ghost use Rattle.problem_model.specs.declared.items.Follow.{Follow};
 ghost use Rattle.problem_model.specs.declared.items.Node.TheVariants as nodes;
 ghost use Rattle.problem_model.specs.declared.items.Bound.{Bound};
+ghost use Rattle.problem_model.specs.declared.items.Bound.TheVariants as bounds;
 ghost use Rattle.problem_model.specs.declared.items.Bound.TheVariants.{SpanMost, SpanLeast, Late, Early};
 ghost use Rattle.problem_model.specs.Problem.{ProblemLists};
-ghost use Rattle.problem_model.specs.Bounds.{Constraint, Declares, ClockAt, EventAt};
+ghost use Rattle.problem_model.specs.Bounds.{Constraint, Declares, ClockAt, EventAt, ComesAfter};
 ghost use Rattle.problem_model.specs.ShortList.{most_bound, message_bounds};
 ghost use Rattle.sync_graph.specs.Graph.{most_arcs, arc_at};
 ghost use Rattle.sync_graph.specs.Names.{Joins};
@@ -150,4 +152,40 @@ pub(crate) fn push_stamp<L: Ledger>(
         steps,
     )?;
     Ok(())
+}
+
+/// Brings in the bound from a reading of a clock to one of another that comes before it, by the later one's gap.
+pub(crate) fn push_follow<L: Ledger>(
+    solver: &mut Solver,
+    earlier: u32,
+    s: Nano,
+    later: u32,
+    t: Nano,
+    gap: Nano,
+    steps: &mut Steps<L>,
+) -> Result<(), AllocError>
+    requires current { IsCurrent solver.old }
+    requires from { HasNode solver.old.graph (nodes.Reading later t) }
+    requires to { HasNode solver.old.graph (nodes.Reading earlier s) }
+    requires room { length solver.old.graph.arcs + 1 ≤ most_arcs }
+    ensures brings { OnOk result (Brings (bounds.Follow earlier s later t ∷ []) solver.old solver.new) }
+    ensures steps { OnOk result (TakesFewToPush solver.old solver.new steps.old steps.new) }
+    ensures left { OnOk result ((p : ProblemLists) (entered : ℕ → Bool) (rest : List Bound) (f : Follow)
+        → Contains p.follows f → f.later ≡ later → f.gap ≡ gap → ComesAfter p earlier later
+        → IsGrowing p entered (bounds.Follow earlier s later t ∷ rest) solver.old.graph → IsGrowing p entered rest solver.new.graph) }
+{
+    let name = Bound::Follow {
+        earlier,
+        s,
+        later,
+        t,
+    };
+    push_bound(
+        solver,
+        name,
+        Node::Reading(later, t),
+        Node::Reading(earlier, s),
+        -delay_units(gap),
+        steps,
+    )
 }

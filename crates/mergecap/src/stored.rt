@@ -10,6 +10,6 @@ pub struct Stored {
     pub n: u32,
     /// Its time in the earliest execution, in units of 1e-9 ns.
     pub value: i128,
-    /// What was captured. The stamp of its host's clock is not written.
+    /// What was captured. The stamp of the clock there is not written.
     pub packet: Packet,
 }

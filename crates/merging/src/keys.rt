@@ -46,7 +46,7 @@ pub(crate) fn keys_of<N: Listing>(
 ) -> Result<Vec<MergeKey>, AllocError>
     requires solved { e.now.is_solved ≡ true }
     requires valued { AreValued (N.listed names.now) (length events.now) e.now.values }
-    requires few { length events.now ≤ 2 ^ 20 }
+    requires few { length events.now ≤ 2 ^ 21 }
     ensures { IfOk result (λ keys. keys.items ≡ keys_from (times_by (N.listed names.now) e.now.values) 0 (placed_in events.now)) }
 {
     let mut keys = Vec::with_capacity(alloc, events.len())?;

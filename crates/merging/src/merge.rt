@@ -58,7 +58,7 @@ fn write_events<N: Listing, O: Sink>(
 ) -> Result<(), Stop>
     requires declared { IsDeclaration (declaration_of decl.now) }
     requires labels { length accepted.now ≡ length decl.now.labels.items }
-    requires few { event_count (seen_in accepted.now) ≤ 2 ^ 20 }
+    requires few { event_count (seen_in accepted.now) ≤ 2 ^ 21 }
     requires solution { IsSolutionBy (N.listed names.now) (problem_of_seen (declaration_of decl.now) (seen_in accepted.now)) solver.now }
     requires solved { solver.now.contradiction ≡ [] }
     ensures writes { WritesSuch (Replies (problem_of_seen (declaration_of decl.now) (seen_in accepted.now)) (IsMergeText (declaration_of decl.now) (seen_in accepted.now))) stops.WriteFault (O.told out.old) (O.told out.new) result }
@@ -103,7 +103,7 @@ pub fn write_merge<N: Listing, O: Sink>(
 ) -> Result<(), Stop>
     requires declared { IsDeclaration (declaration_of decl.now) }
     requires labels { length accepted.now ≡ length decl.now.labels.items }
-    requires few { event_count (seen_in accepted.now) ≤ 2 ^ 20 }
+    requires few { event_count (seen_in accepted.now) ≤ 2 ^ 21 }
     requires solution { IsSolutionBy (N.listed names.now) (problem_of_seen (declaration_of decl.now) (seen_in accepted.now)) solver.now }
     ensures writes { WritesSuch (Replies (problem_of_seen (declaration_of decl.now) (seen_in accepted.now)) (IsMergeText (declaration_of decl.now) (seen_in accepted.now))) stops.WriteFault (O.told out.old) (O.told out.new) result }
     ensures untouched { IsErrOf result stops.Memory → O.told out.new ≡ O.told out.old }

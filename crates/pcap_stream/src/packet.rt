@@ -4,7 +4,7 @@ use atto::Nano;
 /// A packet as it was captured.
 #[derive(Debug, Drop)]
 pub struct Packet {
-    /// When it was captured, in ns of the host's clock.
+    /// When it was captured, in ns of the clock that stamped it.
     pub stamp: Nano,
     /// The link type of its capture, the lower 16 bits of the field.
     pub link: u16,

@@ -1,11 +1,11 @@
 -- The stamps beside one that is there.
-use Rattle.std.proofs.Common.{◌≡◌, ◌<◌, ◌≤◌, ℕ, zero, suc, List, [], length, get_or, slice_get, Option, Some, None, arith, ap, sym, subst, inl, inr}
+use Rattle.std.proofs.Common.{◌≡◌, ◌<◌, ◌≤◌, ℕ, suc, List, [], length, get_or, slice_get, Option, Some, None, arith, ap, sym, subst, inl, inr}
 use Rattle.std.specs.Prelude.{IfSome, IfNone}
 use Rattle.std.proofs.lemmas.Bool.{cases_lt}
 use Rattle.std.proofs.lemmas.List.{get_or_past}
 use Rattle.std.proofs.lemmas.Option.{none-some, slice_get_within, get_or_from_slice_get}
 use Rattle.trace_problem.proofs.Lists.{place_in}
-use Rattle.roster.specs.Readings.{Stamped, Rise, HasStamp, IsLastUnder, IsFirstOver}
+use Rattle.roster.specs.Readings.{Stamped, Rise, IsLastUnder, IsFirstOver, IsFirstStamp, IsLastStamp}
 use Rattle.traces.specs.declared.event.EventId.{EventId}
 use Rattle.roster.specs.Groups.{group_at}
 use Rattle.roster.specs.Roster.{IsUnder}
@@ -30,6 +30,32 @@ module _ (readings : List Stamped) (rise : Rise readings) where
         let one : (get_or readings i a).0 ≡ (get_or readings j a).0 = ap (λ (k : ℕ). (get_or readings k a).0) same in
         omega (arith, first, second, one))
   ]
+
+  pub first_of : (o : Option ℕ) → IfSome o (λ s. (n : ℕ) × (slice_get {X = Stamped} readings 0 ≡ Some (s, n))) → IfNone o (length readings ≤ 0) → IsFirstStamp readings o
+  first_of None some none = λ t (m, is_in).
+      let i = place_in {X = Stamped} readings (t, m) is_in in
+      let inside = slice_get_within readings i.0 (t, m) i.1 in
+      omega (arith, inside, none)
+  first_of (Some s) some none = (
+    (some.0, among {X = Stamped} readings 0 (s, some.0) some.1),
+    λ t (m, is_in). (let i = place_in {X = Stamped} readings (t, m) is_in in keeps 0 i.0 (s, some.0) (t, m) some.1 i.1 (omega arith)),
+  )
+
+  pub last_of : (k : ℕ) → length readings ≡ suc k → (o : Option ℕ) → IfSome o (λ s. (n : ℕ) × (slice_get {X = Stamped} readings k ≡ Some (s, n))) → IfNone o (length readings ≤ k) → IsLastStamp readings o
+  last_of k long None some none = absurd (omega (arith, long, none))
+  last_of k long (Some s) some none = (
+    (some.0, among {X = Stamped} readings k (s, some.0) some.1),
+    λ t (m, is_in). (
+        let i = place_in {X = Stamped} readings (t, m) is_in in
+        let inside = slice_get_within readings i.0 (t, m) i.1 in
+        keeps i.0 k (t, m) (s, some.0) i.1 some.1 (omega (arith, inside, long))),
+  )
+
+  pub no_stamp : length readings ≡ 0 → IsLastStamp readings None
+  no_stamp none = λ t (m, is_in).
+      let i = place_in {X = Stamped} readings (t, m) is_in in
+      let inside = slice_get_within readings i.0 (t, m) i.1 in
+      omega (arith, inside, none)
 
   module _ (stamp node : ℕ) where
     pub none_under : slice_get {X = Stamped} readings 0 ≡ Some (stamp, node) → IsLastUnder readings stamp None

@@ -28,7 +28,7 @@ module _ (r : RosterLists) (is : IsRoster r) where
 
   module _ (label from : ℕ) (l : Label) (stamps before numbers : List ℕ) (group tail : List Stamped) (came kept : List Came) (under : List (List ℕ)) (readings : List (List Stamped))
       (declared : slice_get r.declaration.labels label ≡ Some l) (under_at : slice_get r.under label ≡ Some before) (group_there : slice_get r.readings l.clock ≡ Some group)
-      (numbers_are : numbers ≡ range_with_len (length r.came) (length stamps)) (joins : Joins group stamps (take from group ++ tail)) (few : length r.came + length stamps ≤ 2 ^ 20)
+      (numbers_are : numbers ≡ range_with_len (length r.came) (length stamps)) (joins : Joins group stamps (take from group ++ tail)) (few : length r.came + length stamps ≤ 2 ^ 21)
       (kept_is : kept ≡ r.came) (came_is : came ≡ kept ++ came_from label (length before + 1) stamps) (under_is : under ≡ set r.under label (group_at r.under label ++ numbers)) (readings_are : readings ≡ with_tail r.readings l.clock from tail) where
     abbrev now : List Stamped
     now = take from (group_at r.readings l.clock) ++ tail

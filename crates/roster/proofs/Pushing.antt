@@ -95,7 +95,7 @@ id_is : (e : Came) (label number : ℕ) → e.label ≡ label → e.number ≡ n
 id_is e label number l n = rw (l, n) refl
 
 module _ (r : RosterLists) (is : IsRoster r) (label clock : ℕ) (stamps : List ℕ) (now : List Stamped) (inside : label < length r.under) (on : clock < length r.readings)
-    (own : (e : Came) → e.label ≡ label → clock_of r.declaration (id_of e) ≡ clock) (joins : Joins (group_at r.readings clock) stamps now) (few : length r.came + length stamps ≤ 2 ^ 20) where
+    (own : (e : Came) → e.label ≡ label → clock_of r.declaration (id_of e) ≡ clock) (joins : Joins (group_at r.readings clock) stamps now) (few : length r.came + length stamps ≤ 2 ^ 21) where
   abbrev pub more : List Came
   more = came_from label (length (group_at r.under label) + 1) stamps
 

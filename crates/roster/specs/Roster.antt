@@ -59,7 +59,7 @@ pub record IsRoster (r : RosterLists) : Type 0 where
   pub numbered : (label k v : ℕ) → slice_get (group_at r.under label) k ≡ Some v → IsNumbered r.came v label (suc k)
   pub every : (v : ℕ) (e : Came) → slice_get r.came v ≡ Some e → IsUnder r.under (id_of e) v
   pub count : total (sizes_of r.under) ≡ length r.came
-  pub few : length r.came ≤ 2 ^ 20
+  pub few : length r.came ≤ 2 ^ 21
   pub on_clocks : AreOnClocks r.declaration r.came r.readings
 
 -- ---- what was accepted

@@ -1,6 +1,6 @@
 // The readings of one clock, in the order of their stamps, and how more come among them.
 ghost use Rattle.std.specs.Prelude.{◌≡◌, ◌<◌, ◌≤◌, ◌+◌, ◌++◌, ◌∷◌, ◌^◌, [], ℕ, List, length, take, drop, slice_get, Some, All, IfSome, IfNone, IfOk, OnOk};
-ghost use Rattle.roster.specs.Readings.{Stamped, Rise, HasStamp, IsLastUnder, IsFirstOver, stamps_of, Joins, AreFresh, AreBefore, AreSorted};
+ghost use Rattle.roster.specs.Readings.{Stamped, Rise, HasStamp, IsLastUnder, IsFirstOver, IsFirstStamp, IsLastStamp, stamps_of, Joins, AreFresh, AreBefore, AreSorted};
 
 use atto::Nano;
 use std::alloc::{AllocError, Global};
@@ -58,6 +58,26 @@ pub(crate) fn stamp_above(readings: &[(Nano, u32)], stamp: Nano) -> Option<Nano>
 {
     let place = place_of(readings, stamp).unwrap();
     stamp_at(readings, place + 1)
+}
+
+/// The least stamp; None where there is none.
+pub(crate) fn first_stamp(readings: &[(Nano, u32)]) -> Option<Nano>
+    requires { Rise readings.now }
+    ensures { IsFirstStamp readings.now result }
+{
+    stamp_at(readings, 0)
+}
+
+/// The greatest stamp; None where there is none.
+pub(crate) fn last_stamp(readings: &[(Nano, u32)]) -> Option<Nano>
+    requires { Rise readings.now }
+    ensures { IsLastStamp readings.now result }
+{
+    let count = readings.len();
+    if count == 0 {
+        return None;
+    }
+    stamp_at(readings, count - 1)
 }
 
 // Appends a reading of this stamp, unless one of the readings has it.

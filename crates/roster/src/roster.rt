@@ -1,7 +1,7 @@
 // The events and readings of a session.
 ghost use Rattle.std.specs.Prelude.{◌≡◌, ℕ, ◌<◌, ◌≤◌, ◌+◌, ◌^◌, [], length, replicate, slice_get, slice_set, Some, Contains, OnOk, OnErr, IfOk, IfSome, IfNone};
 ghost use Rattle.decl.specs.Declaration.{IsDeclaration, declaration_of};
-ghost use Rattle.roster.specs.Readings.{Stamped, HasStamp, IsLastUnder, IsFirstOver, stamps_of};
+ghost use Rattle.roster.specs.Readings.{Stamped, HasStamp, IsLastUnder, IsFirstOver, IsFirstStamp, IsLastStamp, stamps_of};
 ghost use Rattle.roster.specs.Groups.{group_at};
 ghost use Rattle.roster.specs.Roster.{IsRoster, IsUnder, Finds, IsGrown, SetsReading, event_at};
 
@@ -9,7 +9,7 @@ use crate::came::{Came, Partner};
 use crate::groups::Groups;
 use crate::growing::{append_came, numbers_from, put_both};
 use crate::naming::{event_numbered, find_event};
-use crate::readings::{change_of, place_of, stamp_above, stamp_below};
+use crate::readings::{change_of, first_stamp, last_stamp, place_of, stamp_above, stamp_below};
 use atto::Nano;
 use decl::Decl;
 use std::alloc::{AllocError, Global};
@@ -71,7 +71,7 @@ impl Roster {
     /// runs out there is an error, and all is as before.
     pub fn push(&mut self, label: u32, events: &[Event]) -> Result<u32, AllocError>
         requires label { label < length self.old.declaration.labels }
-        requires few { length self.old.came + length events.now ≤ 2 ^ 20 }
+        requires few { length self.old.came + length events.now ≤ 2 ^ 21 }
         ensures first { IfOk result (λ first. first ≡ length self.old.came) }
         ensures grown { OnOk result (IsGrown self.old self.new label (stamps_of events.now)) }
         ensures err { OnErr result (self.new ≡ self.old) }
@@ -95,10 +95,10 @@ impl Roster {
         Ok(first)
     }
 
-    /// How many events came: at most 2^20.
+    /// How many events came: at most 2^21.
     pub fn len(&self) -> u32
         ensures count { result ≡ length self.now.came }
-        ensures few { result ≤ 2 ^ 20 }
+        ensures few { result ≤ 2 ^ 21 }
     {
         self.came.len() as u32
     }
@@ -169,6 +169,22 @@ impl Roster {
         ensures { IsFirstOver (group_at self.now.readings clock) stamp result }
     {
         stamp_above(self.readings.group(clock), stamp)
+    }
+
+    /// The least stamp of a clock; None where it has shown none.
+    pub fn first_stamp(&self, clock: u32) -> Option<Nano>
+        requires { clock < length self.now.declaration.clocks }
+        ensures { IsFirstStamp (group_at self.now.readings clock) result }
+    {
+        first_stamp(self.readings.group(clock))
+    }
+
+    /// The greatest stamp of a clock; None where it has shown none.
+    pub fn last_stamp(&self, clock: u32) -> Option<Nano>
+        requires { clock < length self.now.declaration.clocks }
+        ensures { IsLastStamp (group_at self.now.readings clock) result }
+    {
+        last_stamp(self.readings.group(clock))
     }
 
     /// Tells the node of a reading, which the clock has shown.

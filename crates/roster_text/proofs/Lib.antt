@@ -1,4 +1,5 @@
 mod Lists
 mod Ids
 mod LineTexts
+mod Follows
 mod Told

@@ -1,15 +1,15 @@
 -- The text that a roster gives is that of the problem of what it holds.
 use Rattle.std.proofs.Common.{◌≡◌, ◌≢◌, ◌<◌, ℕ, List, [], ◌∷◌, ◌++◌, length, map, slice_get, Option, Some, None, Contains, AllPairs, codes, inl, inr, refl, sym, ◌∙◌, ap, subst}
 use Rattle.std.specs.List.{flat_map}
-use Rattle.std.proofs.lemmas.List.{append-nil}
+use Rattle.std.proofs.lemmas.List.{append-nil, append_assoc}
 use Rattle.std.proofs.lemmas.Option.{slice_get_within}
 use Rattle.atto.specs.Decimal.{decimal_of}
 use Rattle.line_format.specs.Words.{line_of}
 use Rattle.problem_model.specs.declared.items.Event.{Event}
 use Rattle.problem_model.specs.declared.items.Message.{Message}
-use Rattle.problem_model.specs.ProblemText.{clock_line, event_line, event_name, message_line, most_word, problem_head, problem_text}
+use Rattle.problem_model.specs.ProblemText.{clock_line, event_line, event_name, follow_line, head_of, message_line, most_word, problem_text}
 use Rattle.problem.proofs.ListedNodes.{map_at}
-use Rattle.decl.specs.Declaration.{Declaration, link_bounds}
+use Rattle.decl.specs.Declaration.{Declaration, follows_of, link_bounds}
 use Rattle.trace_event.specs.declared.event.Side.{Side}
 use Rattle.trace_event.specs.declared.event.Side.TheVariants.{Send, Receive}
 use Rattle.trace_event.specs.Seen.{EventKey, SeenMark, Keyed, Unkeyed, Seen}
@@ -172,5 +172,10 @@ module _ (r : RosterLists) (is : IsRoster r) (seen : List (List Seen)) (holds : 
 
   pub text_is : roster_text r ≡ problem_text (problem_of_seen r.declaration seen)
   text_is =
-      ap (λ (l : List ℕ). line_of problem_head ++ flat_map clock_line r.declaration.clocks ++ l ++ sent_lines r ++ line_of (codes "end" ∷ [])) events_text
-      ∙ ap (λ (l : List ℕ). line_of problem_head ++ flat_map clock_line r.declaration.clocks ++ flat_map (event_line r.declaration.clocks) (problem_of_seen r.declaration seen).events ++ l ++ line_of (codes "end" ∷ [])) messages_text
+      let d : Declaration = r.declaration in
+      let front : List ℕ = line_of (head_of (follows_of d)) ++ flat_map clock_line d.clocks in
+      let follows : List ℕ = flat_map (follow_line d.clocks) (follows_of d) in
+      let events : List ℕ = flat_map (event_line d.clocks) (problem_of_seen d seen).events in
+      ap (λ (l : List ℕ). front ++ follows ++ l ++ sent_lines r ++ line_of (codes "end" ∷ [])) events_text
+      ∙ ap (λ (l : List ℕ). front ++ follows ++ events ++ l ++ line_of (codes "end" ∷ [])) messages_text
+      ∙ ap (λ (l : List ℕ). l ++ flat_map (message_line (problem_of_seen d seen).events) (problem_of_seen d seen).messages ++ line_of (codes "end" ∷ [])) (append_assoc front follows events)

@@ -1,10 +1,10 @@
 -- The text of what a roster holds, by the roster alone.
-use Rattle.std.specs.Prelude.{◌≡◌, ◌<◌, ℕ, List, [], ◌∷◌, ◌++◌, length, slice_get, Option, Some, None, codes}
+use Rattle.std.specs.Prelude.{◌≡◌, ◌<◌, ℕ, List, [], ◌∷◌, ◌++◌, length, slice_get, Option, Some, None, option_to_list, codes}
 use Rattle.std.specs.List.{flat_map}
 use Rattle.atto.specs.Decimal.{decimal_of}
 use Rattle.line_format.specs.Words.{line_of}
-use Rattle.problem_model.specs.ProblemText.{clock_line, event_line, most_word, problem_head}
-use Rattle.decl.specs.Declaration.{Declaration, link_bounds}
+use Rattle.problem_model.specs.ProblemText.{clock_line, follow_line, event_line, most_word, head_of}
+use Rattle.decl.specs.Declaration.{Declaration, link_bounds, follow_from, follows_of}
 use Rattle.traces.specs.declared.event.EventId.{EventId}
 use Rattle.traces.specs.Traces.{name_of, host_of}
 use Rattle.roster.specs.declared.came.Came.{Came}
@@ -15,6 +15,10 @@ use Rattle.growth.specs.Rosters.{named_event}
 -- the other end of each message is an event
 abbrev pub HasPartners : RosterLists → Type 0
 HasPartners r = (v : ℕ) (e : Came) (p : Partner) → slice_get r.came v ≡ Some e → e.partner ≡ Some p → p.event < length r.came
+
+-- the line of the follow from the clock at place k to the next one, if there is one
+abbrev pub next_line : Declaration → ℕ → List ℕ
+next_line d k = flat_map (follow_line d.clocks) (option_to_list (follow_from d k))
 
 -- the line of event v
 abbrev pub came_line : RosterLists → ℕ → List ℕ
@@ -44,4 +48,4 @@ sent_lines r = flat_map (λ (e : ℕ × ℕ). sent_line r e.0) (listed r).events
 
 -- the whole text
 abbrev pub roster_text : RosterLists → List ℕ
-roster_text r = line_of problem_head ++ flat_map clock_line r.declaration.clocks ++ came_lines r ++ sent_lines r ++ line_of (codes "end" ∷ [])
+roster_text r = line_of (head_of (follows_of r.declaration)) ++ flat_map clock_line r.declaration.clocks ++ flat_map (follow_line r.declaration.clocks) (follows_of r.declaration) ++ came_lines r ++ sent_lines r ++ line_of (codes "end" ∷ [])

@@ -1,16 +1,39 @@
 // The lines of what a roster holds.
 ghost use Rattle.std.specs.Prelude.{◌≡◌, ◌<◌, length};
 ghost use Rattle.ports.specs.Content.{Writes};
+ghost use Rattle.problem_model.specs.ProblemText.{follow_line};
 ghost use Rattle.decl.specs.Declaration.{declaration_of};
 ghost use Rattle.traces.specs.Traces.{host_of};
 ghost use Rattle.roster.specs.Roster.{id_of, event_at};
-ghost use Rattle.roster_text.specs.RosterText.{HasPartners, came_line, couple_line, sent_line};
+ghost use Rattle.roster_text.specs.RosterText.{HasPartners, came_line, couple_line, next_line, sent_line};
 
 use decl::Decl;
 use ports::{Failed, Sink};
 use problem::Listing;
-use problem_text::{write_event, write_message};
+use problem_model::Follow;
+use problem_text::{write_event, write_follow, write_message};
 use roster::{Came, Roster};
+
+// Writes the line of a follow.
+fn write_own_follow<O: Sink>(roster: &Roster, follow: &Follow, out: &mut O) -> Result<(), Failed>
+    requires earlier { follow.now.earlier < length roster.now.declaration.clocks }
+    requires later { follow.now.later < length roster.now.declaration.clocks }
+    ensures { Writes (follow_line roster.now.declaration.clocks follow.now) (O.told out.old) (O.told out.new) result }
+{
+    let earlier = roster.clock_name(follow.earlier);
+    let later = roster.clock_name(follow.later);
+    write_follow(&earlier, &later, follow.gap, out)
+}
+
+/// Writes the line of the follow from the clock at this place to the next one, if there is one.
+pub(crate) fn write_next<O: Sink>(roster: &Roster, place: u32, out: &mut O) -> Result<(), Failed>
+    ensures { Writes (next_line roster.now.declaration place) (O.told out.old) (O.told out.new) result }
+{
+    match roster.decl().follow_from(place) {
+        Some(follow) => write_own_follow(roster, &follow, out),
+        None => Ok(()),
+    }
+}
 
 /// Writes the line of the event with this number.
 pub(crate) fn write_came<O: Sink>(roster: &Roster, v: u32, out: &mut O) -> Result<(), Failed>

@@ -1,21 +1,37 @@
 // The text of what a roster holds, written line by line.
-ghost use Rattle.std.specs.Prelude.{ℕ, List};
+ghost use Rattle.std.specs.Prelude.{◌≡◌, ◌≤◌, ◌⊎◌, ◌∷◌, [], ℕ, List, codes, length};
 ghost use Rattle.std.specs.List.{flat_map};
+ghost use Rattle.atto.specs.Decimal.{decimal_of};
 ghost use Rattle.ports.specs.Content.{Writes};
-ghost use Rattle.problem_model.specs.ProblemText.{clock_line, problem_text};
-ghost use Rattle.decl.specs.Declaration.{declaration_of};
+ghost use Rattle.problem_model.specs.Problem.{most_clocks};
+ghost use Rattle.problem_model.specs.ProblemText.{clock_line, follow_line, head_of, problem_text};
+ghost use Rattle.decl.specs.Declaration.{declaration_of, follows_of};
 ghost use Rattle.trace_event.specs.Seen.{Seen};
 ghost use Rattle.traces.specs.Messages.{problem_of_seen};
 ghost use Rattle.roster.specs.Roster.{Holds};
 ghost use Rattle.growth.specs.Told.{TellsMessages, messages_by_number};
 ghost use Rattle.roster_text.specs.RosterText.{HasPartners, came_lines, roster_text, sent_lines};
 
-use crate::lines::{write_came, write_sent};
+use crate::lines::{write_came, write_next, write_sent};
 use decl::Decl;
 use ports::{Failed, Sink};
 use problem::Listing;
 use problem_text::{write_clock, write_end, write_head};
 use roster::Roster;
+
+// The version of the text: 2 where one clock follows another, and 1 elsewhere.
+fn version_of(decl: &Decl) -> u32
+    requires { length decl.now.owners.items ≤ most_clocks }
+    ensures known { (result ≡ 1) ⊎ (result ≡ 2) }
+    ensures head { head_of (follows_of (declaration_of decl.now)) ≡ codes "problem" ∷ decimal_of result ∷ [] }
+{
+    for place in 0..decl.owners.len() as u32 {
+        if decl.follow_from(place).is_some() {
+            return 2;
+        }
+    }
+    1
+}
 
 // Writes the lines of the clocks.
 fn write_clocks<O: Sink>(decl: &Decl, out: &mut O) -> Result<(), Failed>
@@ -23,6 +39,16 @@ fn write_clocks<O: Sink>(decl: &Decl, out: &mut O) -> Result<(), Failed>
 {
     for clock in &decl.clocks {
         write_clock(clock, out)?;
+    }
+    Ok(())
+}
+
+// Writes the lines of the follows.
+fn write_follows<O: Sink>(roster: &Roster, out: &mut O) -> Result<(), Failed>
+    ensures { Writes (flat_map (follow_line roster.now.declaration.clocks) (follows_of roster.now.declaration)) (O.told out.old) (O.told out.new) result }
+{
+    for place in 0..roster.decl().owners.len() as u32 {
+        write_next(roster, place, out)?;
     }
     Ok(())
 }
@@ -55,15 +81,18 @@ fn write_text<O: Sink>(roster: &Roster, out: &mut O) -> Result<(), Failed>
     requires { HasPartners roster.now }
     ensures { Writes (roster_text roster.now) (O.told out.old) (O.told out.new) result }
 {
-    write_head(1, out)?;
-    write_clocks(roster.decl(), out)?;
+    let decl = roster.decl();
+    write_head(version_of(decl), out)?;
+    write_clocks(decl, out)?;
+    write_follows(roster, out)?;
     write_events(roster, out)?;
     write_messages(roster, out)?;
     write_end(out)
 }
 
-/// Writes the text of the problem of what a roster holds: the clocks of its declaration, the events of all labels by label
-/// and then by number, and their messages in the order of their sends, of which the roster tells. It takes no memory.
+/// Writes the text of the problem of what a roster holds: the clocks of its declaration, those of one host following each
+/// other, the events of all labels by label and then by number, and their messages in the order of their sends, of which the
+/// roster tells. It takes no memory.
 /// After `Failed`, which comes only where the sink's count of faults rose, some front of the text is written.
 pub fn write_roster<O: Sink>(roster: &Roster, out: &mut O) -> Result<(), Failed>
     requires told { (seen : List (List Seen)) × Holds roster.now seen × TellsMessages roster.now (messages_by_number roster.now seen) }

@@ -98,8 +98,8 @@ module _ (held : Held) (d : Declaration) (s : State) (k : ℕ) (label : Label) (
       let u = there_some held.under k inside in
       ap event_count (seen_then u.0 u.1) ∙ count_grown held.under k u.0 events size stream u.1
 
-  room_is : (b : Bool) → k < length held.under → nat_le (event_count (seen_held held.under) + length events) (2 ^ 20) ≡ b → nat_le (count_by d (slice_set s.traces k new)) (2 ^ 20) ≡ b
-  room_is b inside room = ap (λ (n : ℕ). nat_le n (2 ^ 20)) (count_then inside) ∙ room
+  room_is : (b : Bool) → k < length held.under → nat_le (event_count (seen_held held.under) + length events) (2 ^ 21) ≡ b → nat_le (count_by d (slice_set s.traces k new)) (2 ^ 21) ≡ b
+  room_is b inside room = ap (λ (n : ℕ). nat_le n (2 ^ 21)) (count_then inside) ∙ room
 
   more_is : k < length held.under → length events ≡ count_by d (slice_set s.traces k new) - count_by d s.traces
   more_is inside =
@@ -160,12 +160,12 @@ module _ (held : Held) (d : Declaration) (s : State) (k : ℕ) (label : Label) (
 
 -- ---- the replies
 pub accept_refused : (held : Held) (k : ℕ) (events : List Seen) (size : ℕ) (stream : Stream) (IsWritten : List ℕ → Type 0) → k < length held.under →
-    nat_le (event_count (seen_held held.under) + length events) (2 ^ 20) ≡ false → IsWritten (refusal_line TooManyEvents) → AcceptAnswered held held k events size stream IsWritten
+    nat_le (event_count (seen_held held.under) + length events) (2 ^ 21) ≡ false → IsWritten (refusal_line TooManyEvents) → AcceptAnswered held held k events size stream IsWritten
 accept_refused held k events size stream IsWritten inside room written d s label old new stands at_label at_old g =
     (_, s, choose _ false _ _ (room_is held d s k label old new events size stream stands at_label at_old g false inside room) (refl, refl), written, stands)
 
 pub accept_added : (held held' : Held) (k : ℕ) (events : List Seen) (size : ℕ) (stream : Stream) (p : ProblemLists) (changed : Changed) (IsWritten : List ℕ → Type 0) → k < length held.under →
-    nat_le (event_count (seen_held held.under) + length events) (2 ^ 20) ≡ true → held'.declaration ≡ held.declaration → held'.kept ≡ held.kept → p ≡ problem_held held' →
+    nat_le (event_count (seen_held held.under) + length events) (2 ^ 21) ≡ true → held'.declaration ≡ held.declaration → held'.kept ≡ held.kept → p ≡ problem_held held' →
     IsChange (seen_held held.under) (seen_held held'.under) changed → IsGrownAt held.under held'.under k events size stream →
     Told (IsAddedTo p changed (length events) (waiting stream)) IsWritten → AcceptAnswered held held' k events size stream IsWritten
 accept_added held held' k events size stream p changed IsWritten inside room same same_kept p_is change grew says d s label old new stands at_label at_old g = (
@@ -185,11 +185,11 @@ added_says p changed b events new gone pending line consistent new_is gone_is li
 
 -- ---- the same by what the code holds
 pub refused_in : (d : Declaration) (accepted : List Accepted) (kept : List EventId) (answers : Option SolverLists) (held : Held) (k n : ℕ) (events : List Seen) (size : ℕ) (stream : Stream) (r : Bool) (IsWritten : List ℕ → Type 0) →
-    held_of d accepted kept answers ≡ held → k < length held.under → n ≡ length events → r ≡ nat_le (event_count (seen_in accepted) + n) (2 ^ 20) → r ≡ false → IsWritten (refusal_line TooManyEvents) →
+    held_of d accepted kept answers ≡ held → k < length held.under → n ≡ length events → r ≡ nat_le (event_count (seen_in accepted) + n) (2 ^ 21) → r ≡ false → IsWritten (refusal_line TooManyEvents) →
     AcceptAnswered held held k events size stream IsWritten
 refused_in d accepted kept answers held k n events size stream r IsWritten same inside n_is r_is full written =
     let P : Held → Type 0 = λ h. k < length h.under → AcceptAnswered h h k events size stream IsWritten in
-    let room = room_by accepted (length events) r false (r_is ∙ ap (λ (m : ℕ). nat_le (event_count (seen_in accepted) + m) (2 ^ 20)) n_is) full in
+    let room = room_by accepted (length events) r false (r_is ∙ ap (λ (m : ℕ). nat_le (event_count (seen_in accepted) + m) (2 ^ 21)) n_is) full in
     subst P same (λ within. accept_refused (held_of d accepted kept answers) k events size stream IsWritten within room written) inside
 
 -- what was found out of an addition of events to what the code holds
@@ -198,19 +198,19 @@ pub record Extended (d : Declaration) (accepted new : List Accepted) (kept : Lis
   pub inside : k < length held.under
   pub place : HasPlace held.under k size
   pub within : IsStreamWithin held.under k size stream
-  pub room : nat_le (event_count (seen_in accepted) + length events) (2 ^ 20) ≡ true
+  pub room : nat_le (event_count (seen_in accepted) + length events) (2 ^ 21) ≡ true
   pub grew : IsGrownAt (map under_of accepted) (map under_of new) k events size stream
 
 pub extended : (d : Declaration) (accepted seen taken new : List Accepted) (kept : List EventId) (answers : Option SolverLists) (held : Held) (k n : ℕ) (events : List Seen) (size : ℕ) (stream : Stream) (r : Bool) →
     held_of d accepted kept answers ≡ held → k < length held.under →
-    HasPlace held.under k size → IsStreamWithin held.under k size stream → seen ≡ accepted → n ≡ length events → r ≡ nat_le (event_count (seen_in seen) + n) (2 ^ 20) → r ≡ true → taken ≡ accepted →
+    HasPlace held.under k size → IsStreamWithin held.under k size stream → seen ≡ accepted → n ≡ length events → r ≡ nat_le (event_count (seen_in seen) + n) (2 ^ 21) → r ≡ true → taken ≡ accepted →
     IsGrownAt (map under_of taken) (map under_of new) k events size stream → Extended d accepted new kept answers held k events size stream
 extended d accepted seen taken new kept answers held k n events size stream r same inside place within seen_is n_is r_is fit taken_is grew = record {
   same = same;
   inside = inside;
   place = place;
   within = within;
-  room = ap (λ (m : ℕ). nat_le (event_count (seen_in accepted) + m) (2 ^ 20)) (sym n_is) ∙ ap (λ (l : List Accepted). nat_le (event_count (seen_in l) + n) (2 ^ 20)) (sym seen_is) ∙ sym r_is ∙ fit;
+  room = ap (λ (m : ℕ). nat_le (event_count (seen_in accepted) + m) (2 ^ 21)) (sym n_is) ∙ ap (λ (l : List Accepted). nat_le (event_count (seen_in l) + n) (2 ^ 21)) (sym seen_is) ∙ sym r_is ∙ fit;
   grew = subst (λ (l : List Accepted). IsGrownAt (map under_of l) (map under_of new) k events size stream) taken_is grew;
 }
 
@@ -219,7 +219,7 @@ module _ (d : Declaration) (accepted new : List Accepted) (kept : List EventId) 
   inside_is : k < length (map under_of accepted)
   inside_is = let P : Held → Type 0 = λ h. k < length h.under in subst P (sym e.same) e.inside
 
-  has_room : nat_le (event_count (seen_held (map under_of accepted)) + length events) (2 ^ 20) ≡ true
+  has_room : nat_le (event_count (seen_held (map under_of accepted)) + length events) (2 ^ 21) ≡ true
   has_room = room_by accepted (length events) true true (sym e.room) refl
 
   pub held_extended : (after : Option SolverLists) → IsWithinLimits (held_of d accepted kept answers) → IsWithinLimits (held_of d new kept after)
@@ -326,7 +326,7 @@ whole_kept d accepted kept kept' before ready a ends declared held are lawful an
 
 -- so there are no more events than a session has
 pub whole_few : (d : Declaration) (accepted new : List Accepted) (kept : List EventId) (before : Option SolverLists) (held : Held) (k : ℕ) (events : List Seen) (size : ℕ) (stream : Stream) →
-    Extended d accepted new kept before held k events size stream → IsWithinLimits (held_of d accepted kept before) → event_count (seen_in new) ≤ 2 ^ 20
+    Extended d accepted new kept before held k events size stream → IsWithinLimits (held_of d accepted kept before) → event_count (seen_in new) ≤ 2 ^ 21
 whole_few d accepted new kept before held k events size stream e was = accepted_few d new kept None (held_extended d accepted new kept before held k events size stream e None was)
 
 -- ---- what the graph is brought

@@ -72,7 +72,7 @@ stored_then place before n kept new old ys stored packet count are is more =
 module _ (d : Declaration) (s s' : State) (k : ℕ) (text : List ℕ) (says : IsAddedLine text) where
   pub accept_brings : (old new : Trace) (packets : List Timed) → AcceptReply d s k new text s' → slice_get s.traces k ≡ Some old → packets_under k new ≡ packets_under k old ++ packets →
       BringsPackets s.traces s'.traces packets
-  accept_brings old new packets reply at more = by_room (nat_le (count_by d (slice_set s.traces k new)) (2 ^ 20)) reply
+  accept_brings old new packets reply at more = by_room (nat_le (count_by d (slice_set s.traces k new)) (2 ^ 21)) reply
     where
       by_room : (b : Bool) → MatchBool b ((s' ≡ record s { traces = slice_set s.traces k new }) × IsAdded d s.traces (slice_set s.traces k new) (pending_of new) text) (Refuses s TooManyEvents text s') →
           BringsPackets s.traces s'.traces packets

@@ -87,12 +87,12 @@ module _ (accepted : List Accepted) (before : List (List Seen)) (k more : ℕ) (
       let many = b.count in
       omega (arith, count, many)
 
-  pub few_came : (kept : List EventId) (a : Answers) (n : ℕ) → AreAnswersOf before kept a → n ≡ more → event_count (seen_in accepted) ≤ 2 ^ 20 → length a.graph.roster.came + n ≤ 2 ^ 20
+  pub few_came : (kept : List EventId) (a : Answers) (n : ℕ) → AreAnswersOf before kept a → n ≡ more → event_count (seen_in accepted) ≤ 2 ^ 21 → length a.graph.roster.came + n ≤ 2 ^ 21
   few_came kept a n are same few =
       let count = count_then in
       let came : length a.graph.roster.came ≡ event_count before = came_count a.graph.roster are.lawful before are.graph.holds in
-      let all : event_count before + more ≤ 2 ^ 20 = subst (λ (m : ℕ). m ≤ 2 ^ 20) count few in
-      subst (λ (m : ℕ). m + n ≤ 2 ^ 20) (sym came) (subst (λ (m : ℕ). event_count before + m ≤ 2 ^ 20) (sym same) all)
+      let all : event_count before + more ≤ 2 ^ 21 = subst (λ (m : ℕ). m ≤ 2 ^ 21) count few in
+      subst (λ (m : ℕ). m + n ≤ 2 ^ 21) (sym came) (subst (λ (m : ℕ). event_count before + m ≤ 2 ^ 21) (sym same) all)
 
   pub label_inside : (kept : List EventId) (a : Answers) → AreAnswersOf before kept a → k < length a.graph.roster.declaration.labels
   label_inside kept a are =

@@ -33,7 +33,7 @@ pub record IsWithinLimits (h : Held) : Type 0 where
   pub declared : IsDeclaration h.declaration
   pub each : length h.under ≡ length h.declaration.labels
   pub fit : All IsUnder h.under
-  pub few : event_count (seen_held h.under) ≤ 2 ^ 20
+  pub few : event_count (seen_held h.under) ≤ 2 ^ 21
 
 pub limits : {h : Held} → IsHeld h → IsWithinLimits h
 limits is = record { declared = is.declared; each = is.each; fit = is.fit; few = is.few }
@@ -47,8 +47,8 @@ pub seen_accepted : (accepted : List Accepted) → seen_held (map under_of accep
 seen_accepted [] = refl
 seen_accepted (a ∷ accepted) = ap (λ (more : List (List Seen)). seen_events a.events.items ∷ more) (seen_accepted accepted)
 
-pub accepted_few : (d : Declaration) (accepted : List Accepted) (kept : List EventId) (answers : Option SolverLists) → IsWithinLimits (held_of d accepted kept answers) → event_count (seen_in accepted) ≤ 2 ^ 20
-accepted_few d accepted kept answers held = subst (λ (seen : List (List Seen)). event_count seen ≤ 2 ^ 20) (seen_accepted accepted) held.few
+pub accepted_few : (d : Declaration) (accepted : List Accepted) (kept : List EventId) (answers : Option SolverLists) → IsWithinLimits (held_of d accepted kept answers) → event_count (seen_in accepted) ≤ 2 ^ 21
+accepted_few d accepted kept answers held = subst (λ (seen : List (List Seen)). event_count seen ≤ 2 ^ 21) (seen_accepted accepted) held.few
 
 pub accepted_each : (d : Declaration) (accepted : List Accepted) (kept : List EventId) (answers : Option SolverLists) → IsWithinLimits (held_of d accepted kept answers) → length accepted ≡ length d.labels
 accepted_each d accepted kept answers held = sym (length-map accepted under_of) ∙ held.each
@@ -57,15 +57,15 @@ pub labels_few : (d : Declaration) (accepted : List Accepted) (kept : List Event
 labels_few d accepted kept answers held = let each = accepted_each d accepted kept answers held in let few = held.declared.limits.label_limit in omega (arith, each, few)
 
 -- whether there is room for more events, by what the code holds
-pub room_by : (accepted : List Accepted) (n : ℕ) (r b : Bool) → r ≡ nat_le (event_count (seen_in accepted) + n) (2 ^ 20) → r ≡ b →
-    nat_le (event_count (seen_held (map under_of accepted)) + n) (2 ^ 20) ≡ b
-room_by accepted n r b is e = ap (λ (seen : List (List Seen)). nat_le (event_count seen + n) (2 ^ 20)) (seen_accepted accepted) ∙ sym is ∙ e
+pub room_by : (accepted : List Accepted) (n : ℕ) (r b : Bool) → r ≡ nat_le (event_count (seen_in accepted) + n) (2 ^ 21) → r ≡ b →
+    nat_le (event_count (seen_held (map under_of accepted)) + n) (2 ^ 21) ≡ b
+room_by accepted n r b is e = ap (λ (seen : List (List Seen)). nat_le (event_count seen + n) (2 ^ 21)) (seen_accepted accepted) ∙ sym is ∙ e
 
 pub le_true : (n most : ℕ) → nat_le n most ≡ true → n ≤ most
 le_true n most e = grind (arith, e)
 
-pub room_few : (under : List Under) (n : ℕ) → nat_le (event_count (seen_held under) + n) (2 ^ 20) ≡ true → event_count (seen_held under) + n ≤ 2 ^ 20
-room_few under n e = le_true (event_count (seen_held under) + n) (2 ^ 20) e
+pub room_few : (under : List Under) (n : ℕ) → nat_le (event_count (seen_held under) + n) (2 ^ 21) ≡ true → event_count (seen_held under) + n ≤ 2 ^ 21
+room_few under n e = le_true (event_count (seen_held under) + n) (2 ^ 21) e
 
 -- ---- nothing is held
 none_times : (n : ℕ) → n * 0 ≡ 0
@@ -87,7 +87,7 @@ count_grown under k at events size stream was =
 
 -- what is held is then within its limits
 pub held_grown : (held held' : Held) (k : ℕ) (events : List Seen) (size : ℕ) (stream : Stream) → IsWithinLimits held → HasPlace held.under k size → IsStreamWithin held.under k size stream →
-    event_count (seen_held held.under) + length events ≤ 2 ^ 20 → held'.declaration ≡ held.declaration → IsGrownAt held.under held'.under k events size stream → IsWithinLimits held'
+    event_count (seen_held held.under) + length events ≤ 2 ^ 21 → held'.declaration ≡ held.declaration → IsGrownAt held.under held'.under k events size stream → IsWithinLimits held'
 held_grown held held' k events size stream is place within few same g =
     let new = grown g.at events size stream in
     let labels : length held'.declaration.labels ≡ length held.declaration.labels = ap (λ (d : Declaration). length d.labels) same in

@@ -102,7 +102,7 @@ module _ (d : Declaration) (s : State) (k : ℕ) (label : Label) (old new : Trac
       ap (slice_set (seen_by d s.traces) k) (sym is.events.1) ∙ sym then_seen in
       subst (λ (seen : List (List Seen)). AreKept seen s.kept) whole grown
 
-  then_state : count_by d (slice_set s.traces k new) ≤ 2 ^ 20 → IsState d (record s { traces = slice_set s.traces k new })
+  then_state : count_by d (slice_set s.traces k new) ≤ 2 ^ 21 → IsState d (record s { traces = slice_set s.traces k new })
   then_state few = record {
     labels = length-set s.traces k new ∙ lawful.state.labels;
     kinds = then_kinds;
@@ -112,15 +112,15 @@ module _ (d : Declaration) (s : State) (k : ℕ) (label : Label) (old new : Trac
   }
 
   -- whether it is accepted or refused
-  accept_lawful : (b : Bool) (text : List ℕ) (after : State) → nat_le (count_by d (slice_set s.traces k new)) (2 ^ 20) ≡ b →
+  accept_lawful : (b : Bool) (text : List ℕ) (after : State) → nat_le (count_by d (slice_set s.traces k new)) (2 ^ 21) ≡ b →
       MatchBool b ((after ≡ record s { traces = slice_set s.traces k new }) × IsAdded d s.traces (slice_set s.traces k new) (pending_of new) text) (Refuses s TooManyEvents text after) → IsLawful d after
   accept_lawful true text after is_few reply =
-      let few : count_by d (slice_set s.traces k new) ≤ 2 ^ 20 = le_true (count_by d (slice_set s.traces k new)) (2 ^ 20) is_few in
+      let few : count_by d (slice_set s.traces k new) ≤ 2 ^ 21 = le_true (count_by d (slice_set s.traces k new)) (2 ^ 21) is_few in
       subst (IsLawful d) (sym reply.0) (record { state = then_state few; bytes = All-set IsOfBytes s.traces k new is.bytes lawful.bytes })
   accept_lawful false text after is_many reply = subst (IsLawful d) (sym reply.1) lawful
 
   then_lawful : (text : List ℕ) (after : State) → AcceptReply d s k new text after → IsLawful d after
-  then_lawful text after reply = accept_lawful (nat_le (count_by d (slice_set s.traces k new)) (2 ^ 20)) text after refl reply
+  then_lawful text after reply = accept_lawful (nat_le (count_by d (slice_set s.traces k new)) (2 ^ 21)) text after refl reply
 
 -- ---- pieces
 all_at : {A : Type 0} (P : A → Type 0) (xs : List A) (k : ℕ) (x : A) → All P xs → slice_get xs k ≡ Some x → P x

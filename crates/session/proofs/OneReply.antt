@@ -88,7 +88,7 @@ one_added d old new pending a b x y =
 one_acceptance : (Differ : Differences) (d : Declaration) (s : State) (k : ℕ) (trace : Trace) → AreOne Differ (AcceptReply d s k trace)
 one_acceptance Differ d s k trace =
     let traces = slice_set s.traces k trace in
-    by_test Differ (nat_le (count_by d traces) (2 ^ 20)) (λ text s'. (s' ≡ record s { traces = traces }) × IsAdded d s.traces traces (pending_of trace) text) (Refuses s TooManyEvents)
+    by_test Differ (nat_le (count_by d traces) (2 ^ 21)) (λ text s'. (s' ≡ record s { traces = traces }) × IsAdded d s.traces traces (pending_of trace) text) (Refuses s TooManyEvents)
     (λ a b after other x y. (inl (one_added d s.traces traces (pending_of trace) a b x.1 y.1), x.0 ∙ sym y.0)) (one_refusal Differ s TooManyEvents)
 
 -- ---- pieces of logs

@@ -30,15 +30,15 @@ module _ (d : Declaration) (accepted : List Accepted) (kept : List EventId) (ans
   at_held = under_at d accepted kept answers held k a same (inside_under held k (subst IsWithinLimits same limits) inside) is
 
   -- so many more leave the label few events
-  pub few_with : (more : ℕ) → event_count (seen_held held.under) + more ≤ 2 ^ 20 → length a.events.items + more ≤ 2 ^ 20
+  pub few_with : (more : ℕ) → event_count (seen_held held.under) + more ≤ 2 ^ 21 → length a.events.items + more ≤ 2 ^ 21
   few_with more few =
       let seen : seen_held held.under ≡ seen_in accepted = ap (λ (h : Held). seen_held h.under) (sym same) ∙ seen_accepted accepted in
-      label_few accepted k more (2 ^ 20) a there (subst (λ (x : List (List Seen)). event_count x + more ≤ 2 ^ 20) seen few)
+      label_few accepted k more (2 ^ 21) a there (subst (λ (x : List (List Seen)). event_count x + more ≤ 2 ^ 21) seen few)
 
-  pub few_held : length a.events.items ≤ 2 ^ 20
+  pub few_held : length a.events.items ≤ 2 ^ 21
   few_held =
-      let all : event_count (seen_held held.under) ≤ 2 ^ 20 = (subst IsWithinLimits same limits).few in
-      let none : event_count (seen_held held.under) + 0 ≤ 2 ^ 20 = omega (arith, all) in
+      let all : event_count (seen_held held.under) ≤ 2 ^ 21 = (subst IsWithinLimits same limits).few in
+      let none : event_count (seen_held held.under) + 0 ≤ 2 ^ 21 = omega (arith, all) in
       let few = few_with 0 none in
       omega (arith, few)
 

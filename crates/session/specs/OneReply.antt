@@ -13,12 +13,12 @@ use Rattle.session.specs.Reply.{State, count_by}
 use Rattle.session.specs.Stands.{AreKept}
 use Rattle.session.specs.OneProof.{AreOneProof}
 
--- what a session has is lawful: something of each label's kind, with at most 2^20 events and stamps below 2^62, of which
+-- what a session has is lawful: something of each label's kind, with at most 2^21 events and stamps below 2^62, of which
 -- at most eight are kept
 pub record IsState (d : Declaration) (s : State) : Type 0 where
   pub labels : length s.traces ≡ length d.labels
   pub kinds : (k : ℕ) (label : Label) (trace : Trace) → slice_get d.labels k ≡ Some label → slice_get s.traces k ≡ Some trace → IsOfKind label.kind trace
-  pub few : count_by d s.traces ≤ 2 ^ 20
+  pub few : count_by d s.traces ≤ 2 ^ 21
   pub stamps : StampsFit (seen_by d s.traces)
   pub kept : AreKept (seen_by d s.traces) s.kept
 

@@ -107,7 +107,7 @@ pending_of (Logged rows size) = 0
 abbrev pub AcceptReply : Declaration → State → ℕ → Trace → List ℕ → State → Type 0
 AcceptReply d s k trace text s' =
     let traces = slice_set s.traces k trace in
-    MatchBool (nat_le (count_by d traces) (2 ^ 20))
+    MatchBool (nat_le (count_by d traces) (2 ^ 21))
     ((s' ≡ record s { traces = traces }) × IsAdded d s.traces traces (pending_of trace) text)
     (Refuses s TooManyEvents text s')
 

@@ -141,7 +141,7 @@ pub record IsHeld (h : Held) : Type 0 where
   pub declared : IsDeclaration h.declaration
   pub each : length h.under ≡ length h.declaration.labels
   pub fit : All IsUnder h.under
-  pub few : event_count (seen_held h.under) ≤ 2 ^ 20
+  pub few : event_count (seen_held h.under) ≤ 2 ^ 21
   pub kept_up : IfSome h.answers (IsKeptUp h)
 
 -- there are at least two rows for each kept event, two for the source and two for a question, and none is taken but those of the slots

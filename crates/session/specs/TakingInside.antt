@@ -41,7 +41,7 @@ WhereAdded So (Refused r) = ⊤
 
 -- where something was added, there was room for so many events
 abbrev pub HadRoom : Held → ℕ → Outcome → Type 0
-HadRoom held more = WhereAdded (event_count (seen_held held.under) + more ≤ 2 ^ 20)
+HadRoom held more = WhereAdded (event_count (seen_held held.under) + more ≤ 2 ^ 21)
 
 -- where something was added, all of the piece was read, and the packets are those that it completes under the label at a place
 abbrev pub CompletesFront : Bool → List ℕ → Held → ℕ → List captures.Seen → Outcome → Type 0

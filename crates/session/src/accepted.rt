@@ -60,8 +60,8 @@ pub(crate) fn has_place(old: u64, size: u64) -> bool
 
 /// Whether there may be so many events more.
 pub(crate) fn has_room(accepted: &[Accepted], more: usize) -> bool
-    requires { event_count (seen_in accepted.now) ≤ 2 ^ 20 }
-    ensures { result ≡ nat_le (event_count (seen_in accepted.now) + more) (2 ^ 20) }
+    requires { event_count (seen_in accepted.now) ≤ 2 ^ 21 }
+    ensures { result ≡ nat_le (event_count (seen_in accepted.now) + more) (2 ^ 21) }
 {
     let more = more as u64;
     if more > MOST_EVENTS {
@@ -79,7 +79,7 @@ fn append(
     mut events: Vec<Event>,
 ) -> Result<Changes, AllocError>
     requires few { length matcher.old + length events.items ≤ 2 ^ 22 }
-    requires numbers { length held.old.items + length events.items ≤ 2 ^ 20 }
+    requires numbers { length held.old.items + length events.items ≤ 2 ^ 21 }
     ensures held_ok { OnOk result (seen_events held.new.items ≡ seen_events held.old.items ++ seen_events events.items) }
     ensures held_err { OnErr result (seen_events held.new.items ≡ seen_events held.old.items) }
     ensures ends_ok { OnOk result (matcher.new ≡ matcher.old ++ ends_of (numbered label (length held.old.items + 1) (seen_events events.items))) }
@@ -110,7 +110,7 @@ pub(crate) fn extend(
     requires inside { k < length accepted.old }
     requires labels { length accepted.old ≤ 65536 }
     requires place { HasPlace (map under_of accepted.old) k size }
-    requires few { event_count (seen_in accepted.old) + length events.items ≤ 2 ^ 20 }
+    requires few { event_count (seen_in accepted.old) + length events.items ≤ 2 ^ 21 }
     requires ends { AreEndsOf matcher.old (seen_in accepted.old) }
     ensures grown { OnOk result (IsGrownAt (map under_of accepted.old) (map under_of accepted.new) k (seen_events events.items) size stream) }
     ensures stays { OnErr result (map under_of accepted.new ≡ map under_of accepted.old) }

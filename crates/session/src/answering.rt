@@ -35,7 +35,7 @@ pub(crate) fn answer<O: Sink, L: Ledger>(
     steps: &mut Steps<L>,
 ) -> Result<(), Stop>
     requires labels { length accepted.now ≡ length answers.old.graph.roster.declaration.labels }
-    requires few { event_count (seen_in accepted.now) ≤ 2 ^ 20 }
+    requires few { event_count (seen_in accepted.now) ≤ 2 ^ 21 }
     requires ready { (kept : List EventId) × AreAnswersOf (seen_in accepted.now) kept answers.old }
     ensures writes { WritesReply (λ IsWritten. (kept : List EventId) (before after : Option SolverLists)
         → Asked (held_of answers.old.graph.roster.declaration accepted.now kept before) (held_of answers.old.graph.roster.declaration accepted.now kept after) (question_seen question.entry) IsWritten)

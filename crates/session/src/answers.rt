@@ -120,7 +120,7 @@ pub(crate) fn renew<L: Ledger>(
     steps: &mut Steps<L>,
 ) -> Result<bool, AllocError>
     requires inside { k < length accepted.now }
-    requires few { event_count (seen_in accepted.now) ≤ 2 ^ 20 }
+    requires few { event_count (seen_in accepted.now) ≤ 2 ^ 21 }
     requires brings { (before : List (List Seen)) × (kept : List EventId) × AreAnswersOf before kept answers.old × Brings before (seen_in accepted.now) k more changes.now }
     ensures declaration { answers.new.graph.roster.declaration ≡ answers.old.graph.roster.declaration }
     ensures consistent { IfOk result (λ b. IsConsistent (problem_by answers.new (seen_in accepted.now)) b) }

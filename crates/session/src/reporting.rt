@@ -30,7 +30,7 @@ pub(crate) fn write_report<O: Sink>(
 ) -> Result<(), Stop>
     requires declared { IsDeclaration (declaration_of decl.now) }
     requires labels { length accepted.now ≡ length decl.now.labels.items }
-    requires few { event_count (seen_in accepted.now) ≤ 2 ^ 20 }
+    requires few { event_count (seen_in accepted.now) ≤ 2 ^ 21 }
     requires solution { (l : Listed) × IsSolutionBy l (problem_of_seen (declaration_of decl.now) (seen_in accepted.now)) solver.now }
     ensures writes { WritesSuch (IsReport (declaration_of decl.now) (seen_in accepted.now)) stops.WriteFault (O.told out.old) (O.told out.new) result }
     ensures untouched { IsErrOf result stops.Memory → O.told out.new ≡ O.told out.old }

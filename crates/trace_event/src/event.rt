@@ -62,7 +62,7 @@ pub enum Mark {
 /// An event of a trace.
 #[derive(Debug, Drop)]
 pub struct Event {
-    /// When it happened, in ns of the host's clock, below 2^62.
+    /// When it happened, in ns of the clock that stamped it, below 2^62.
     pub stamp: Nano,
     /// Which end of which message it is.
     pub mark: Mark,

@@ -1,20 +1,20 @@
 -- A problem that grows towards that of events and messages under a declaration.
 use Rattle.std.proofs.Common.{◌≡◌, ◌≢◌, ◌<◌, ◌≤◌, ◌^◌, ◌+◌, ℕ, List, [], ◌∷◌, map, take, length, get_or, slice_get, Option, Some, All, AllPairs, IfSome, Bool, true, false, ◌==◌, ◌&&◌, if◌then◌else◌, refl, sym, ◌∙◌, ap, subst, arith}
 use Rattle.std.proofs.lemmas.List.{length-map, length-take}
-use Rattle.std.proofs.lemmas.List.Elements.{All-map, All-nil, All-head, All-tail}
+use Rattle.std.proofs.lemmas.List.Elements.{All-map, All-head, All-tail}
 use Rattle.std.specs.Option.{option_map}
 use Rattle.std.proofs.lemmas.Option.{slice_get-map, slice_get_read, slice_get_within}
 use Rattle.problem_model.specs.declared.items.Clock.{Clock}
 use Rattle.problem_model.specs.declared.items.Event.{Event}
-use Rattle.problem_model.specs.declared.items.Follow.{Follow}
 use Rattle.problem_model.specs.declared.items.Message.{Message}
 use Rattle.problem_model.specs.Name.{IsClockName, IsEventName}
-use Rattle.problem_model.specs.Problem.{ProblemLists, IsProblem, LeadsOn, MessageFits, most_clocks}
+use Rattle.problem_model.specs.Problem.{ProblemLists, IsProblem, MessageFits, most_clocks}
 use Rattle.problem.specs.Line.{HasEvent}
 use Rattle.problem.specs.Growing.{IsNewClock, IsNewEvent, IsNewMessage, HasRoomForClock, HasRoomForEvent, HasRoomForMessage, with_clock, with_event, with_message}
 use Rattle.decl.specs.declared.items.Label.{Label}
 use Rattle.decl.specs.declared.items.Link.{Link}
-use Rattle.decl.specs.Declaration.{Declaration, IsDeclaration, HasLawfulClocks, HasLawfulLabels, KeepsLimits, IsClockOf, LinkFits, bounds_among, link_bounds}
+use Rattle.decl.specs.Declaration.{Declaration, IsDeclaration, HasLawfulClocks, HasLawfulLabels, KeepsLimits, IsClockOf, LinkFits, follows_of, bounds_among, link_bounds}
+use Rattle.decl.proofs.Following.{follows_lead, earliers_differ, laters_differ, gaps_fit}
 use Rattle.traces.specs.declared.event.EventId.{EventId}
 use Rattle.traces.specs.declared.event.Couple.{Couple}
 use Rattle.traces.specs.declared.event.PlacedEvent.{PlacedEvent}
@@ -22,16 +22,12 @@ use Rattle.traces.specs.Traces.{Placed, name_of, host_of, clock_of}
 use Rattle.traces.specs.Held.{placed_in, placed_of}
 use Rattle.traces.specs.Messages.{event_with, linked, place_of}
 use Rattle.trace_problem.specs.Making.{problem_by, IsOneOf, AreEvents, AreMessages}
-use Rattle.trace_problem.proofs.Lists.{got, all_at, pairs_none, pairs_map, pairs_before, take_next, map_next}
+use Rattle.trace_problem.proofs.Lists.{got, all_at, pairs_map, pairs_before, take_next, map_next}
 use Rattle.trace_problem.proofs.Names.{named, name_at, names_differ}
 use Rattle.trace_problem.proofs.Places.{place_one, place_within, the_place}
 
 taken_less : {X : Type 0} (xs : List X) (k : ℕ) (x : X) (n : ℕ) → slice_get xs k ≡ Some x → length xs ≤ n → length (take k xs) < n
 taken_less xs k x n at most = omega (arith, length-take k xs, slice_get_within xs k x at, most)
-
--- no more events or messages than a session has are no more than a problem may have
-few_enough : (n : ℕ) → n ≤ 2 ^ 20 → n ≤ 2 ^ 21
-few_enough n few = omega (arith, few)
 
 -- ---- clocks
 -- the problem that has these clocks alone
@@ -57,7 +53,7 @@ clock_there d id clocks labels within =
     let own : IsClockOf d.owners l.0.host l.0.clock = all_at (λ (l : Label). IsClockOf d.owners l.host l.clock) d.labels id.label l.0 labels.label_clocks l.1 in
     rw l.1 (omega (arith, slice_get_within d.owners l.0.clock own.0 own.1, clocks.clocks_owned))
 
-event_named : (d : Declaration) (id : EventId) → HasLawfulLabels d → id.label < length d.labels → id.number ≤ 2 ^ 20 → IsEventName (name_of d id)
+event_named : (d : Declaration) (id : EventId) → HasLawfulLabels d → id.label < length d.labels → id.number ≤ 2 ^ 21 → IsEventName (name_of d id)
 event_named d id labels within small =
     let l : (l : Label) × (slice_get d.labels id.label ≡ Some l) = got d.labels id.label within in
     rw (name_at d id l.0 l.1) (named l.0.name id.number (all_at (λ (l : Label). IsClockName l.name) d.labels id.label l.0 labels.label_names l.1) (omega (arith, small)))
@@ -75,11 +71,11 @@ module _ (d : Declaration) (lawful : IsDeclaration d) (events : List Placed) (ar
   }
 
   pub event_room : (k : ℕ) (e : Placed) → slice_get events k ≡ Some e → HasRoomForEvent (problem_by d (take k events) [])
-  event_room k e at = rw length-map (taken_less events k e (2 ^ 21) at (few_enough (length events) are.limit))
+  event_room k e at = rw length-map (taken_less events k e (2 ^ 21) at are.limit)
 
 pub event_more : (d : Declaration) (events : List Placed) (k : ℕ) (e : Placed) → slice_get events k ≡ Some e →
     with_event (problem_by d (take k events) []) (event_with d e) ≡ problem_by d (take (k + 1) events) []
-event_more d events k e at = ap (λ (es : List Event). let p : ProblemLists = record { clocks = d.clocks; follows = []; events = es; messages = [] } in p) (sym (map_next (event_with d) events k e at))
+event_more d events k e at = ap (λ (es : List Event). let p : ProblemLists = record { clocks = d.clocks; follows = follows_of d; events = es; messages = [] } in p) (sym (map_next (event_with d) events k e at))
 
 -- ---- messages
 module _ (d : Declaration) (events : List Placed) (couples : List Couple) (are : AreEvents d events) (messages : AreMessages events couples) where
@@ -110,12 +106,12 @@ module _ (d : Declaration) (events : List Placed) (couples : List Couple) (are :
   }
 
   pub message_room : (k : ℕ) (m : Couple) → slice_get couples k ≡ Some m → HasRoomForMessage (problem_by d events (take k couples))
-  message_room k m at = rw length-map (taken_less couples k m (2 ^ 21) at (few_enough (length couples) messages.limit))
+  message_room k m at = rw length-map (taken_less couples k m (2 ^ 21) at messages.limit)
 
 pub message_more : (d : Declaration) (events : List Placed) (couples : List Couple) (k : ℕ) (m : Couple) → slice_get couples k ≡ Some m →
     with_message (problem_by d events (take k couples)) (linked d events m) ≡ problem_by d events (take (k + 1) couples)
 message_more d events couples k m at =
-    ap (λ (ms : List Message). let p : ProblemLists = record { clocks = d.clocks; follows = []; events = map (event_with d) events; messages = ms } in p) (sym (map_next (linked d events) couples k m at))
+    ap (λ (ms : List Message). let p : ProblemLists = record { clocks = d.clocks; follows = follows_of d; events = map (event_with d) events; messages = ms } in p) (sym (map_next (linked d events) couples k m at))
 
 -- ---- the whole problem is lawful
 -- the bounds of a link are in their ranges
@@ -137,9 +133,9 @@ module _ (d : Declaration) (lawful : IsDeclaration d) (events : List Placed) (co
     formed = record {
       clock_names = lawful.clocks.clock_names;
       clocks_differ = lawful.clocks.clocks_differ;
-      follow_ends = All-nil (LeadsOn d.clocks);
-      earliers_differ = pairs_none (λ (a b : Follow). a.earlier ≢ b.earlier);
-      laters_differ = pairs_none (λ (a b : Follow). a.later ≢ b.later);
+      follow_ends = follows_lead d lawful;
+      earliers_differ = earliers_differ d;
+      laters_differ = laters_differ d;
       event_names = All-map (λ (e : Event). IsEventName e.name) (event_with d) events (λ k x within. event_named d (get_or events k x).id lawful.labels (are.labels k x within) (are.numbers k x within));
       events_differ = pairs_map (λ (a b : Event). a.name ≢ b.name) (event_with d) events (all_names_differ d lawful events are);
       event_clocks = All-map (λ (e : Event). e.clock < length d.clocks) (event_with d) events (λ k x within. clock_there d (get_or events k x).id lawful.clocks lawful.labels (are.labels k x within));
@@ -154,11 +150,11 @@ module _ (d : Declaration) (lawful : IsDeclaration d) (events : List Placed) (co
     fits = record {
       clocks_fit = lawful.clocks.clocks_fit;
       clock_limit = lawful.limits.clock_limit;
-      gaps_fit = All-nil (λ (f : Follow). f.gap < 2 ^ 62);
+      gaps_fit = gaps_fit d lawful;
       stamps_fit = All-map (λ (e : Event). e.stamp < 2 ^ 62) (event_with d) events stamps;
-      event_limit = rw length-map (few_enough (length events) are.limit);
+      event_limit = rw length-map are.limit;
       messages_fit = All-map MessageFits (linked d events) couples (λ k x within. bounds_fit d.links _ _ lawful.links.links_fit);
-      message_limit = rw length-map (few_enough (length couples) messages.limit);
+      message_limit = rw length-map messages.limit;
     };
   }
 

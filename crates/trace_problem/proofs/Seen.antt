@@ -14,7 +14,7 @@ use Rattle.traces.proofs.MessageEnds.{ends_differ, ends_known, messages_few, sen
 use Rattle.trace_problem.specs.Making.{AreEvents, AreMessages, IsOneOf, StampsFit}
 use Rattle.trace_problem.proofs.Growth.{is_problem}
 
-pub are_events : (d : Declaration) (seen : List (List Seen)) → length seen ≡ length d.labels → event_count seen ≤ 2 ^ 20 → AreEvents d (events_of seen)
+pub are_events : (d : Declaration) (seen : List (List Seen)) → length seen ≡ length d.labels → event_count seen ≤ 2 ^ 21 → AreEvents d (events_of seen)
 are_events d seen same few = record {
   labels = λ k x within. let id : EventId = (get_or (events_of seen) k x).id in
       let under : id.label < length seen = (ids_within seen k x within).0 in omega (arith, under, same);
@@ -33,7 +33,7 @@ send_known events m held = let ends = ends_known events m held in (ends.0, ends.
 receive_known : (events : List Placed) (m : Couple) → Contains (messages_of events) m → IsOneOf events m.receive
 receive_known events m held = let ends = ends_known events m held in (ends.1, ends.3, sym ends.5)
 
-pub are_messages : (seen : List (List Seen)) → event_count seen ≤ 2 ^ 20 → AreMessages (events_of seen) (messages_of (events_of seen))
+pub are_messages : (seen : List (List Seen)) → event_count seen ≤ 2 ^ 21 → AreMessages (events_of seen) (messages_of (events_of seen))
 are_messages seen few =
     let events : List Placed = events_of seen in
     record {
@@ -61,5 +61,5 @@ stamps_from label (rows ∷ more) all =
     All-append Stamped (numbered label 1 rows) (events_from (label + 1) more) (stamps_of label 1 rows (All-head P rows more all)) (stamps_from (label + 1) more (All-tail P rows more all))
 
 -- a lawful declaration and not too many events make a lawful problem
-pub problem_lawful : (d : Declaration) (seen : List (List Seen)) → IsDeclaration d → length seen ≡ length d.labels → event_count seen ≤ 2 ^ 20 → StampsFit seen → IsProblem (problem_of_seen d seen)
+pub problem_lawful : (d : Declaration) (seen : List (List Seen)) → IsDeclaration d → length seen ≡ length d.labels → event_count seen ≤ 2 ^ 21 → StampsFit seen → IsProblem (problem_of_seen d seen)
 problem_lawful d seen lawful same few stamps = is_problem d lawful (events_of seen) (messages_of (events_of seen)) (are_events d seen same few) (are_messages seen few) (stamps_from 0 seen stamps)

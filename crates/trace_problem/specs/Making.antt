@@ -1,17 +1,17 @@
 -- The problem that events and messages under a declaration make.
-use Rattle.std.specs.Prelude.{◌≡◌, ◌≢◌, ℕ, ◌^◌, ◌<◌, ◌≤◌, List, [], map, length, All, AllPairs, Contains}
+use Rattle.std.specs.Prelude.{◌≡◌, ◌≢◌, ℕ, ◌^◌, ◌<◌, ◌≤◌, List, map, length, All, AllPairs, Contains}
 use Rattle.problem_model.specs.Problem.{ProblemLists}
 use Rattle.problem.specs.Line.{HasEvent}
-use Rattle.decl.specs.Declaration.{Declaration}
+use Rattle.decl.specs.Declaration.{Declaration, follows_of}
 use Rattle.traces.specs.declared.event.EventId.{EventId}
 use Rattle.traces.specs.declared.event.Couple.{Couple}
 use Rattle.trace_event.specs.Seen.{Seen}
 use Rattle.traces.specs.Traces.{Placed, name_of}
 use Rattle.traces.specs.Messages.{event_with, linked}
 
--- the clocks of all hosts, of which none follows another, these events and these messages
+-- the clocks of all hosts, a follow for each two neighbouring clocks of a host, these events and these messages
 abbrev pub problem_by : Declaration → List Placed → List Couple → ProblemLists
-problem_by d events couples = record { clocks = d.clocks; follows = []; events = map (event_with d) events; messages = map (linked d events) couples }
+problem_by d events couples = record { clocks = d.clocks; follows = follows_of d; events = map (event_with d) events; messages = map (linked d events) couples }
 
 -- one of these events goes by this id
 abbrev pub IsOneOf : List Placed → EventId → Type 0
@@ -20,9 +20,9 @@ IsOneOf events id = (e : Placed) × Contains events e × (e.id ≡ id)
 -- each event has a label of the declaration and a number that is not too large; no two are one, and there are not too many
 pub record AreEvents (d : Declaration) (events : List Placed) : Type 0 where
   pub labels : All (λ e. e.id.label < length d.labels) events
-  pub numbers : All (λ e. e.id.number ≤ 2 ^ 20) events
+  pub numbers : All (λ e. e.id.number ≤ 2 ^ 21) events
   pub differ : AllPairs (λ a b. a.id ≢ b.id) events
-  pub limit : length events ≤ 2 ^ 20
+  pub limit : length events ≤ 2 ^ 21
 
 -- each message goes from one of these events to another; no two have one send, so there are not too many
 pub record AreMessages (events : List Placed) (couples : List Couple) : Type 0 where
@@ -30,7 +30,7 @@ pub record AreMessages (events : List Placed) (couples : List Couple) : Type 0 w
   pub receives : All (λ m. IsOneOf events m.receive) couples
   pub two_ends : All (λ m. m.send ≢ m.receive) couples
   pub differ : AllPairs (λ a b. a.send ≢ b.send) couples
-  pub limit : length couples ≤ 2 ^ 20
+  pub limit : length couples ≤ 2 ^ 21
 
 -- the problem has an event of this id's name
 abbrev pub IsKnown : Declaration → ProblemLists → EventId → Type 0

@@ -1,9 +1,10 @@
 // Adding to a problem what may be added: only memory can be wanting.
 ghost use Rattle.std.specs.Prelude.{◌≡◌, OnOk, IsOk, IsErrOf};
-ghost use Rattle.problem.specs.Growing.{IsNewClock, IsNewEvent, IsNewMessage, HasRoomForClock, HasRoomForEvent, HasRoomForMessage, with_clock, with_event, with_message};
+ghost use Rattle.problem_model.specs.ChainNumbers.{with_follow};
+ghost use Rattle.problem.specs.Growing.{IsNewClock, IsNewFollow, IsNewEvent, IsNewMessage, HasRoomForClock, HasRoomForEvent, HasRoomForMessage, with_clock, with_event, with_message};
 
 use problem::{Problem, PushError};
-use problem_model::{Clock, Event, Message};
+use problem_model::{Clock, Event, Follow, Message};
 use std::alloc::AllocError;
 
 // The answer where no name and no limit forbids what is added.
@@ -27,6 +28,14 @@ pub fn add_clock(p: &mut Problem, c: Clock) -> Result<(), AllocError>
     ensures { OnOk result (p.new ≡ with_clock p.old c) }
 {
     of_memory(p.push_clock(c))
+}
+
+/// Adds a follow that may be added.
+pub fn add_follow(p: &mut Problem, f: Follow) -> Result<(), AllocError>
+    requires { IsNewFollow p.old f }
+    ensures { OnOk result (p.new ≡ with_follow p.old f) }
+{
+    of_memory(p.push_follow(f))
 }
 
 /// Adds an event that may be added.

@@ -6,7 +6,7 @@ ghost use Rattle.traces.specs.Messages.{messages_of, problem_of_seen};
 ghost use Rattle.traces.specs.Held.{placed_in, seen_in};
 ghost use Rattle.trace_problem.specs.Making.{AreEvents, AreMessages, problem_by};
 
-use crate::adding::{add_clock, add_event, add_message};
+use crate::adding::{add_clock, add_event, add_follow, add_message};
 use crate::parts::{event_of, message_of};
 use decl::Decl;
 use problem::Problem;
@@ -29,6 +29,11 @@ fn problem_by(
     for clock in &decl.clocks {
         add_clock(&mut p, *clock)?;
     }
+    for place in 0..decl.clocks.len() as u32 {
+        if let Some(follow) = decl.follow_from(place) {
+            add_follow(&mut p, follow)?;
+        }
+    }
     for event in events {
         let event = event_of(decl, event);
         add_event(&mut p, event)?;
@@ -40,9 +45,9 @@ fn problem_by(
     Ok(p)
 }
 
-/// The problem of a declaration and of what was accepted under each of its labels: the clocks of all hosts, the events of
-/// all labels on the clocks of their labels, and their messages, which are given in the order of their sends, with the bounds
-/// of the links between the hosts. An error where memory runs out.
+/// The problem of a declaration and of what was accepted under each of its labels: the clocks of all hosts, a follow for each
+/// two neighbouring clocks of a host, the events of all labels on the clocks of their labels, and their messages, which are
+/// given in the order of their sends, with the bounds of the links between the hosts. An error where memory runs out.
 pub fn problem_of(
     alloc: Global,
     decl: &Decl,
@@ -51,7 +56,7 @@ pub fn problem_of(
 ) -> Result<Problem, AllocError>
     requires declared { IsDeclaration (declaration_of decl.now) }
     requires labels { length accepted.now ≡ length decl.now.labels.items }
-    requires count { event_count (seen_in accepted.now) ≤ 2 ^ 20 }
+    requires count { event_count (seen_in accepted.now) ≤ 2 ^ 21 }
     requires messages { messages.now ≡ messages_of (events_of (seen_in accepted.now)) }
     ensures problem { IfOk result (λ p. p ≡ problem_of_seen (declaration_of decl.now) (seen_in accepted.now)) }
 {

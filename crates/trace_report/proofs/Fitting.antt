@@ -11,7 +11,7 @@ use Rattle.trace_report.specs.Reports.{keyed_from}
 use Rattle.trace_report.proofs.Keyed.{keyed_apart, keyed_few}
 
 -- to none before there are not too many
-pub few_items : (held : List SeenItem) (items : List Item) (events : List PlacedEvent) → held ≡ [] → seen_items items ≡ keyed_from 0 (placed_in events) → length events ≤ 2 ^ 20 → length held + length items ≤ 2 ^ 22
+pub few_items : (held : List SeenItem) (items : List Item) (events : List PlacedEvent) → held ≡ [] → seen_items items ≡ keyed_from 0 (placed_in events) → length events ≤ 2 ^ 21 → length held + length items ≤ 2 ^ 22
 few_items held items events none is few =
     omega (arith, ap length none, length-map items seen_item, ap length is, keyed_few 0 (placed_in events), length-map events placed_of, few)
 

@@ -31,5 +31,5 @@ pub labelled : (d : Declaration) (seen : List (List Seen)) → length seen ≡ l
 labelled d seen same = λ k x within. rw (← same) (ids_within seen k x within).0
 
 -- there are not too many
-pub few_events : (events : List PlacedEvent) (seen : List (List Seen)) → placed_in events ≡ events_of seen → event_count seen ≤ 2 ^ 20 → length events ≤ 2 ^ 20
+pub few_events : (events : List PlacedEvent) (seen : List (List Seen)) → placed_in events ≡ events_of seen → event_count seen ≤ 2 ^ 21 → length events ≤ 2 ^ 21
 few_events events seen is few = omega (arith, length-map events placed_of, ap length is, length_events seen, few)

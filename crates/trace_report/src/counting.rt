@@ -36,7 +36,7 @@ fn lacks_key(mark: &Mark, reason: NoKey) -> bool
 
 // How many events have no key for this reason.
 fn count_without(events: &[PlacedEvent], reason: NoKey) -> u32
-    requires { length events.now ≤ 2 ^ 20 }
+    requires { length events.now ≤ 2 ^ 21 }
     ensures { result ≡ count_without (placed_in events.now) reason }
 {
     let mut count: u32 = 0;
@@ -50,7 +50,7 @@ fn count_without(events: &[PlacedEvent], reason: NoKey) -> u32
 
 /// How many events have no key, by reason. Each reason is looked for among all events.
 pub(crate) fn nokeys_of(events: &[PlacedEvent]) -> NoKeys
-    requires { length events.now ≤ 2 ^ 20 }
+    requires { length events.now ≤ 2 ^ 21 }
     ensures { result ≡ nokeys_of (placed_in events.now) }
 {
     NoKeys {

@@ -23,7 +23,7 @@ fn push_keyed(items: &mut Vec<Item>, event: u32, mark: &Mark) -> Result<(), Allo
 
 // The events that have keys, each by its place among all.
 fn items_of(alloc: Global, events: &[PlacedEvent]) -> Result<Vec<Item>, AllocError>
-    requires { length events.now ≤ 2 ^ 20 }
+    requires { length events.now ≤ 2 ^ 21 }
     ensures { IfOk result (λ items. seen_items items.items ≡ keyed_from 0 (placed_in events.now)) }
 {
     let mut items = Vec::new(alloc);
@@ -35,7 +35,7 @@ fn items_of(alloc: Global, events: &[PlacedEvent]) -> Result<Vec<Item>, AllocErr
 
 /// The messages among the events that have keys, each event by its place among all; an error where memory runs out.
 pub(crate) fn matcher_of(alloc: Global, events: &[PlacedEvent]) -> Result<Matcher, AllocError>
-    requires { length events.now ≤ 2 ^ 20 }
+    requires { length events.now ≤ 2 ^ 21 }
     ensures { IfOk result (λ matcher. matcher ≡ keyed_from 0 (placed_in events.now)) }
 {
     let items = items_of(alloc, events)?;

@@ -24,7 +24,7 @@ pub fn view_of(
 ) -> Result<View, AllocError>
     requires declared { IsDeclaration (declaration_of decl.now) }
     requires labels { length accepted.now ≡ length decl.now.labels.items }
-    requires few { event_count (seen_in accepted.now) ≤ 2 ^ 20 }
+    requires few { event_count (seen_in accepted.now) ≤ 2 ^ 21 }
     ensures view { IfOk result (λ view. reported view ≡ report_of (declaration_of decl.now) (seen_in accepted.now) consistent) }
     ensures ascii { IfOk result (λ view. All HasAsciiKey view.groups.items) }
 {

@@ -4,7 +4,7 @@ use Rattle.std.specs.List.{flat_map, list_any}
 use Rattle.problem_model.specs.declared.items.Event.{Event}
 use Rattle.problem_model.specs.declared.items.Message.{Message}
 use Rattle.problem_model.specs.Problem.{ProblemLists}
-use Rattle.decl.specs.Declaration.{Declaration, link_bounds}
+use Rattle.decl.specs.Declaration.{Declaration, link_bounds, follows_of}
 use Rattle.trace_event.specs.declared.event.Side.{Side}
 use Rattle.trace_event.specs.declared.event.Side.TheVariants.{Send, Receive}
 use Rattle.trace_event.specs.Seen.{EventKey, SeenMark, Keyed, Unkeyed, Seen, is_mark}
@@ -58,11 +58,11 @@ message_with events m bounds = record { send = place_of events m.send; receive =
 abbrev pub linked : Declaration → List Placed → Couple → Message
 linked d events m = message_with events m (link_bounds d (host_of d m.send) (host_of d m.receive))
 
--- the clocks of all hosts, of which none follows another, the events of all labels and their messages
+-- the clocks of all hosts, a follow for each two neighbouring clocks of a host, the events of all labels and their messages
 abbrev pub problem_of_seen : Declaration → List (List Seen) → ProblemLists
 problem_of_seen d seen =
     let events = events_of seen in
-    record { clocks = d.clocks; follows = []; events = map (event_with d) events; messages = map (linked d events) (messages_of events) }
+    record { clocks = d.clocks; follows = follows_of d; events = map (event_with d) events; messages = map (linked d events) (messages_of events) }
 
 -- the problem of a declaration and traces
 abbrev pub problem_of : Declaration → Traces → ProblemLists

@@ -25,7 +25,7 @@ fn place_events<'a>(
     label: u32,
     events: &'a [Event],
 ) -> Result<(), AllocError>
-    requires { length events.now ≤ 2 ^ 20 }
+    requires { length events.now ≤ 2 ^ 21 }
     ensures { OnOk result (placed_in placed.new.items ≡ placed_in placed.old.items ++ numbered label 1 (seen_events events.now)) }
 {
     for (place, event) in events.iter().enumerate() {
@@ -40,10 +40,10 @@ fn place_events<'a>(
 /// out.
 ///
 /// A label goes by its place, from 0 on. Events of a label are numbered from 1 on, in their order. There are at most
-/// 65,536 labels, with at most 2^20 events together.
+/// 65,536 labels, with at most 2^21 events together.
 pub fn events(alloc: Global, accepted: &[Accepted]) -> Result<Vec<PlacedEvent<'_>>, AllocError>
     requires labels { length accepted.now ≤ 65536 }
-    requires few { event_count (seen_in accepted.now) ≤ 2 ^ 20 }
+    requires few { event_count (seen_in accepted.now) ≤ 2 ^ 21 }
     ensures { IfOk result (λ es. placed_in es.items ≡ events_of (seen_in accepted.now)) }
 {
     let mut events = Vec::with_capacity(alloc, event_count(accepted) as usize)?;

@@ -1,4 +1,3 @@
-use Rattle.std.proofs.Common.{refl}
 use Rattle.traces.specs.Messages.{problem_of_seen}
 use Rattle.roster.specs.Roster.{listed}
 use Rattle.roster.proofs.Problem.{listed_by}
@@ -9,4 +8,4 @@ use Rattle.growth.proofs.laws.a_graph_stands_for_its_roster.Goals as goal
 
 pub returns : goal.returns
 returns c = λ r seen messages readings g is holds carried knows graph lawful are grown.
-    stands (listed r) (problem_by_number r messages) (problem_of_seen r.declaration seen) readings g graph lawful refl are (listed_by r is seen holds readings are) (by_number r is seen holds messages carried) (tells r is g knows) grown
+    stands (listed r) (problem_by_number r messages) (problem_of_seen r.declaration seen) readings g graph lawful are (listed_by r is seen holds readings are) (by_number r is seen holds messages carried) (tells r is g knows) grown

@@ -2,4 +2,5 @@ use Rattle.growth.proofs.Entry.{entered_now}
 use Rattle.growth.proofs.laws.an_event_enters.Goals as goal
 
 pub returns : goal.returns
-returns c = λ p entered v e below above messages g h at nearest own enters grown. entered_now p entered v e at below above messages g nearest own grown h enters
+returns c = λ p entered v e below above earlier later messages g h chains at nearest own enters grown.
+    entered_now p entered v e at below above earlier later messages g chains nearest own grown h enters

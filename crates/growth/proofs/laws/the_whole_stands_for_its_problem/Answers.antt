@@ -2,4 +2,4 @@ use Rattle.growth.proofs.Whole.{stands}
 use Rattle.growth.proofs.laws.the_whole_stands_for_its_problem.Goals as goal
 
 pub returns : goal.returns
-returns c = λ l p q readings g is lawful alone are listed by tells grown. stands l p q readings g is lawful alone are listed by tells grown
+returns c = λ l p q readings g is lawful are listed by tells grown. stands l p q readings g is lawful are listed by tells grown

@@ -11,12 +11,12 @@ use Rattle.session.proofs.accepted.extend.Goals as goal
 pub append-requires-clause-few : goal.append-requires-clause-few
 append-requires-clause-few c =
     let ends : length c.args.matcher.now ≤ event_count (seen_in c.args.accepted.now) = c.ends_grow.ensures.few (seen_in c.args.accepted.now) c.args.matcher.now c.requires.ends in
-    let all : event_count (seen_in c.args.accepted.now) + length c.args.events.items ≤ 2 ^ 20 = c.requires.few in
+    let all : event_count (seen_in c.args.accepted.now) + length c.args.events.items ≤ 2 ^ 21 = c.requires.few in
     omega (arith, ends, all)
 
 pub append-requires-clause-numbers : goal.append-requires-clause-numbers
 append-requires-clause-numbers c =
-    label_few c.args.accepted.now c.args.k (length c.args.events.items) (2 ^ 20) _ (slice_get-get_or _ _ c.index-accepted-k.result c.requires.inside) c.requires.few
+    label_few c.args.accepted.now c.args.k (length c.args.events.items) (2 ^ 21) _ (slice_get-get_or _ _ c.index-accepted-k.result c.requires.inside) c.requires.few
 
 pub overflow_add-under : goal.overflow_add-under
 overflow_add-under c =

@@ -10,7 +10,7 @@ pub overflow_add-count : goal.overflow_add-count
 overflow_add-count c =
     let below : c.loop-v.count ≤ c.loop-v.v = c.loop-v.invariant.0 in
     let inside : c.loop-v.v < c.len-v-end.result = c.loop-v-test.true in
-    let few : c.len-v-end.result ≤ 2 ^ 20 = c.len-v-end.ensures.few in
+    let few : c.len-v-end.result ≤ 2 ^ 21 = c.len-v-end.ensures.few in
     let small : c.loop-v.count + 1 < 2 ^ 64 = omega (arith, below, inside, few) in
     search rules
 

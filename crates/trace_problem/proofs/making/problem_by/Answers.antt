@@ -3,8 +3,9 @@ use Rattle.std.proofs.lemmas.Option.{slice_get-get_or, slice_get_read}
 use Rattle.problem_model.specs.declared.items.Clock.{Clock}
 use Rattle.problem_model.specs.declared.items.Event.{Event}
 use Rattle.problem_model.specs.Problem.{ProblemLists}
-use Rattle.problem.specs.Growing.{IsNewClock, IsNewEvent, with_event}
-use Rattle.decl.specs.Declaration.{Declaration, declaration_of}
+use Rattle.problem_model.specs.ChainNumbers.{with_follow}
+use Rattle.problem.specs.Growing.{IsNewClock, IsNewEvent, IsNewFollow, with_event}
+use Rattle.decl.specs.Declaration.{Declaration, declaration_of, follow_from}
 use Rattle.traces.specs.declared.event.Couple.{Couple}
 use Rattle.traces.specs.Traces.{Placed}
 use Rattle.traces.specs.Messages.{event_with, linked}
@@ -13,7 +14,9 @@ use Rattle.trace_problem.specs.Making.{IsKnown}
 use Rattle.trace_problem.proofs.Lists.{all_at}
 use Rattle.trace_problem.proofs.Places.{known, label_of}
 use Rattle.trace_problem.proofs.Growth.{clock_new, event_more, event_new, linked_is, made_more, made_new, placed_at}
+use Rattle.trace_problem.proofs.Follows.{follow_more, follow_new, follow_none}
 use Rattle.trace_problem.proofs.making.problem_by.Goals as goal
+use Rattle.trace_problem.proofs.making.problem_by.Goals.{in-Some+in_ok-add_follow, in_default}
 
 -- what a list of couples shows past its end
 abbrev no_couple : Couple
@@ -27,6 +30,21 @@ add_clock-requires-clause-new c =
     let read : slice_get c.deref-clock-items.result.now k ≡ Some clock = slice_get_read _ _ k clock refl c.loop-clock-test.true c.clock-item.is in
     let at : slice_get d.clocks k ≡ Some clock = subst (λ (xs : List Clock). slice_get xs k ≡ Some clock) c.deref-clock-items.ensures.value read in
     subst (λ (p : ProblemLists). IsNewClock p clock) (sym c.loop-clock.invariant) (clock_new d c.requires.lawful.clocks k clock at)
+
+pub add_follow-requires : goal.add_follow-requires
+add_follow-requires c =
+    let d : Declaration = declaration_of c.args.decl.now in
+    let at : follow_from d c.loop-place.place ≡ Some c.in-Some.follow = sym c.follow_from.ensures ∙ c.in-Some.is in
+    subst (λ (p : ProblemLists). IsNewFollow p c.in-Some.follow) (sym c.loop-place.invariant) (follow_new d c.requires.lawful c.loop-place.place c.in-Some.follow at)
+
+pub loop-place-preserved : goal.loop-place-preserved
+loop-place-preserved c =
+    let d : Declaration = declaration_of c.args.decl.now in
+    let k : ℕ = c.loop-place.place in
+    elim c.match-follow_from.branch [
+      | in-Some+in_ok-add_follow w ↦ w.p-is ∙ w.in_ok-add_follow.ensures ∙ ap (λ (p : ProblemLists). with_follow p w.in-Some.follow) c.loop-place.invariant ∙ follow_more d k w.in-Some.follow (sym c.follow_from.ensures ∙ w.in-Some.is)
+      | in_default w ↦ w.p-is ∙ c.loop-place.invariant ∙ follow_none d k c.follow_from.result c.follow_from.ensures w.in_default.not-Some
+    ]
 
 pub event_of-event-requires-clause-label : goal.event_of-event-requires-clause-label
 event_of-event-requires-clause-label c =

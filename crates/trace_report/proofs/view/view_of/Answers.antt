@@ -35,7 +35,7 @@ ambiguous_keys-requires-clause-places c =
 
 pub overflow_cast-result : goal.overflow_cast-result
 overflow_cast-result c =
-    let few : length c.in_ok-events.events.items ≤ 2 ^ 20 = few_events c.in_ok-events.events.items (seen_in c.args.accepted.now) c.in_ok-events.ensures c.requires.few in
+    let few : length c.in_ok-events.events.items ≤ 2 ^ 21 = few_events c.in_ok-events.events.items (seen_in c.args.accepted.now) c.in_ok-events.ensures c.requires.few in
     let count : vec_len c.in_ok-events.events ≡ length c.in_ok-events.events.items = search rules in
     omega (arith, few, count, c.len.ensures)
 

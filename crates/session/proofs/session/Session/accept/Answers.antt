@@ -26,7 +26,7 @@ pub returns-then-not-has_room-clause-answers : goal.returns-then-not-has_room-cl
 returns-then-not-has_room-clause-answers g c =
     let len : c.len-more.result ≡ length c.args.events.items = search rules in
     let count : c.len-more.result ≡ length (seen_events c.args.events.items) = len ∙ sym (length-map c.args.events.items seen_event) in
-    let room : c.has_room.result ≡ nat_le (event_count (seen_in c.self.inside.accepted.items) + c.len-more.result) (2 ^ 20) = rw (← c.deref.ensures.value) c.has_room.ensures in
+    let room : c.has_room.result ≡ nat_le (event_count (seen_in c.self.inside.accepted.items) + c.len-more.result) (2 ^ 21) = rw (← c.deref.ensures.value) c.has_room.ensures in
     let full : c.has_room.result ≡ false = search rules in
     refused_in c.self.inside.answers.graph.roster.declaration c.self.inside.accepted.items _ _ c.args.self.now c.args.k c.len-more.result (seen_events c.args.events.items) c.args.size c.args.stream
     c.has_room.result (IsLineOf (Refused TooManyEvents)) c.self.view_is c.requires.inside count room full refl
@@ -43,9 +43,9 @@ extend-requires-clause-place g c =
 pub extend-requires-clause-few : goal.extend-requires-clause-few
 extend-requires-clause-few g c =
     let len : c.len-more.result ≡ length c.args.events.items = search rules in
-    let few : event_count (seen_in c.deref.result.now) + c.len-more.result ≤ 2 ^ 20 = le_true _ _ (sym c.if-not-has_room.ensures) in
-    subst (λ (n : ℕ). event_count (seen_in c.deref_mut.result.now) + n ≤ 2 ^ 20) len
-    (subst (λ (l : List Accepted). event_count (seen_in l) + c.len-more.result ≤ 2 ^ 20) (c.deref.ensures.value ∙ sym c.deref_mut.ensures.value) few)
+    let few : event_count (seen_in c.deref.result.now) + c.len-more.result ≤ 2 ^ 21 = le_true _ _ (sym c.if-not-has_room.ensures) in
+    subst (λ (n : ℕ). event_count (seen_in c.deref_mut.result.now) + n ≤ 2 ^ 21) len
+    (subst (λ (l : List Accepted). event_count (seen_in l) + c.len-more.result ≤ 2 ^ 21) (c.deref.ensures.value ∙ sym c.deref_mut.ensures.value) few)
 
 pub extend-requires-clause-ends : goal.extend-requires-clause-ends
 extend-requires-clause-ends g c = subst (λ (l : List Accepted). AreEndsOf c.self.inside.matcher (seen_in l)) (sym c.deref_mut.ensures.value) c.self.invariant.1
@@ -79,7 +79,7 @@ renew-requires-clause-few g c =
     c.deref_mut.ensures.value c.in_ok-changes.ensures.grown in
     let long : length c.extend.new.accepted ≡ c.self.inside.accepted.len = c.in_ok-changes.ensures.len ∙ ap length c.deref_mut.ensures.value ∙ sym c.self.inside.accepted.ok.0 in
     let back : (with_items c.self.inside.accepted c.extend.new.accepted).items ≡ c.extend.new.accepted = with_items_is c.self.inside.accepted c.extend.new.accepted long in
-    subst (λ (l : List Accepted). event_count (seen_in l) ≤ 2 ^ 20) (sym (c.deref-2.ensures.value ∙ back))
+    subst (λ (l : List Accepted). event_count (seen_in l) ≤ 2 ^ 21) (sym (c.deref-2.ensures.value ∙ back))
     (whole_few d c.self.inside.accepted.items c.extend.new.accepted c.self.inside.kept.items before c.args.self.now c.args.k (seen_events c.args.events.items) c.args.size c.args.stream e (limits c.self.invariant.0))
 
 pub renew-requires-clause-brings : goal.renew-requires-clause-brings
@@ -197,12 +197,12 @@ returns-clause-answers g c =
 pub returns-clause-room : goal.returns-clause-room
 returns-clause-room g c =
     let len : c.len-more.result ≡ length c.args.events.items = search rules in
-    let few : event_count (seen_in c.deref.result.now) + c.len-more.result ≤ 2 ^ 20 = le_true _ _ (sym c.if-not-has_room.ensures) in
+    let few : event_count (seen_in c.deref.result.now) + c.len-more.result ≤ 2 ^ 21 = le_true _ _ (sym c.if-not-has_room.ensures) in
     let seen : seen_in c.deref.result.now ≡ seen_held c.args.self.now.under =
     ap seen_in c.deref.ensures.value ∙ sym (seen_accepted c.self.inside.accepted.items) ∙ ap (λ (h : Held). seen_held h.under) c.self.view_is in
-    let room : event_count (seen_held c.args.self.now.under) + length c.args.events.items ≤ 2 ^ 20 =
-    subst (λ (n : ℕ). event_count (seen_held c.args.self.now.under) + n ≤ 2 ^ 20) len
-    (subst (λ (x : List (List Seen)). event_count x + c.len-more.result ≤ 2 ^ 20) seen few) in
+    let room : event_count (seen_held c.args.self.now.under) + length c.args.events.items ≤ 2 ^ 21 =
+    subst (λ (n : ℕ). event_count (seen_held c.args.self.now.under) + n ≤ 2 ^ 21) len
+    (subst (λ (x : List (List Seen)). event_count x + c.len-more.result ≤ 2 ^ 21) seen few) in
     where_weaker c.outcome_of.result (λ there. room) c.outcome_of.ensures.added
 
 pub returns-then-not-has_room-clause-addition : goal.returns-then-not-has_room-clause-addition

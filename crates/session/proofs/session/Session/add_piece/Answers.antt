@@ -121,7 +121,7 @@ returns-in-Read-clause-room g c = λ keeps.
     let same : length c.keep_only.new.packets.items ≡ length c.read_piece.new.packets.items = ap length (c.keep_only.ensures keeps) in
     let events : ℕ = event_count (seen_held c.args.self.now.under) in
     IfOk-weaker c.accept.result _ (HadRoom c.args.self.now (length c.keep_only.new.packets.items))
-    (λ outcome. where_weaker outcome (λ room. let all : events + length c.in-Read.events.items ≤ 2 ^ 20 = room in let less : events + length c.keep_only.new.packets.items ≤ 2 ^ 20 = omega (arith, all, few, count, same) in less))
+    (λ outcome. where_weaker outcome (λ room. let all : events + length c.in-Read.events.items ≤ 2 ^ 21 = room in let less : events + length c.keep_only.new.packets.items ≤ 2 ^ 21 = omega (arith, all, few, count, same) in less))
     c.accept.ensures.room
 
 pub returns-then-more-clause-addition : goal.returns-then-more-clause-addition

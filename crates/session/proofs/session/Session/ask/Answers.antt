@@ -19,7 +19,7 @@ answer-requires-clause-labels g c = ap length c.deref.ensures.value ∙ accepted
 
 pub answer-requires-clause-few : goal.answer-requires-clause-few
 answer-requires-clause-few g c =
-    subst (λ (l : List Accepted). event_count (seen_in l) ≤ 2 ^ 20) (sym c.deref.ensures.value) (accepted_few c.self.inside.answers.graph.roster.declaration c.self.inside.accepted.items _ _ (limits c.self.invariant.0))
+    subst (λ (l : List Accepted). event_count (seen_in l) ≤ 2 ^ 21) (sym c.deref.ensures.value) (accepted_few c.self.inside.answers.graph.roster.declaration c.self.inside.accepted.items _ _ (limits c.self.invariant.0))
 
 pub answer-requires-clause-ready : goal.answer-requires-clause-ready
 answer-requires-clause-ready g c =

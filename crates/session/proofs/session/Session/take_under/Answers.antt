@@ -25,7 +25,7 @@ overflow_cast-before g c =
 pub store-requires : goal.store-requires
 store-requires g c =
     let d = c.self.inside.answers.graph.roster.declaration in
-    let room : event_count (seen_held c.args.self.now.under) + length c.add_under.new.packets.items ≤ 2 ^ 20 =
+    let room : event_count (seen_held c.args.self.now.under) + length c.add_under.new.packets.items ≤ 2 ^ 21 =
     where_not_refused c.in_ok-outcome.outcome c.in_default.not-Refused (c.in_ok-outcome.ensures.room refl) in
     let few = few_with d c.self.inside.accepted.items _ _ c.args.self.now c.args.k c.index.result.now c.self.view_is (limits c.self.invariant.0) c.requires.inside c.index.ensures (length c.add_under.new.packets.items) room in
     let count : c.len-before.result ≡ length c.index.result.now.events.items = search rules in

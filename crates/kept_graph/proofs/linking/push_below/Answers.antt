@@ -1,18 +1,18 @@
 use Rattle.std.proofs.Common.{◌++◌, ℕ, Option, subst, sym}
 use Rattle.sync_graph.proofs.OneMore.{on_ok}
-use Rattle.growth.specs.Entering.{span_above}
+use Rattle.growth.specs.Entering.{span_below}
 use Rattle.growth.specs.Growing.{IsGrowing}
 use Rattle.kept_graph.specs.Pushing.{Brings}
 use Rattle.kept_graph.proofs.Bringing.{brings_none}
-use Rattle.kept_graph.proofs.entering.push_above.Goals as goal
+use Rattle.kept_graph.proofs.linking.push_below.Goals as goal
 
 pub returns-in-Some-clause-brings : goal.returns-in-Some-clause-brings
 returns-in-Some-clause-brings g c = on_ok c.push_span.result c.push_span.ensures.brings (λ brings.
-    subst (λ (o : Option ℕ). Brings (span_above c.args.place c.args.stamp o) c.args.solver.now c.push_span.new.solver) (sym c.in-Some.is) brings)
+    subst (λ (o : Option ℕ). Brings (span_below c.args.place c.args.stamp o) c.args.solver.now c.push_span.new.solver) (sym c.in-Some.is) brings)
 
 pub returns-in-Some-clause-left : goal.returns-in-Some-clause-left
 returns-in-Some-clause-left g c = on_ok c.push_span.result c.push_span.ensures.left (λ left p entered rest at is.
-    left p entered rest at (subst (λ (o : Option ℕ). IsGrowing p entered (span_above c.args.place c.args.stamp o ++ rest) c.args.solver.now.graph) c.in-Some.is is))
+    left p entered rest at (subst (λ (o : Option ℕ). IsGrowing p entered (span_below c.args.place c.args.stamp o ++ rest) c.args.solver.now.graph) c.in-Some.is is))
 
 pub returns-in-None-clause-brings : goal.returns-in-None-clause-brings
-returns-in-None-clause-brings g c = subst (λ (o : Option ℕ). Brings (span_above c.args.place c.args.stamp o) c.args.solver.now c.args.solver.now) (sym c.in-None.is) (brings_none c.args.solver.now c.requires.current)
+returns-in-None-clause-brings g c = subst (λ (o : Option ℕ). Brings (span_below c.args.place c.args.stamp o) c.args.solver.now c.args.solver.now) (sym c.in-None.is) (brings_none c.args.solver.now c.requires.current)

@@ -1,0 +1,8 @@
+use Rattle.kept_graph.proofs.HostClocks.{GoesBack}
+use Rattle.kept_graph.proofs.following.before.Given as goal
+
+abbrev pub invariant-loop-clock : goal.invariant-loop-clock
+invariant-loop-clock l = GoesBack l.roster.declaration l.solver.graph l.fn.place l.clock
+
+abbrev pub decreases-loop-clock : goal.decreases-loop-clock
+decreases-loop-clock l = l.clock

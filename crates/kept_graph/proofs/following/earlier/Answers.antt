@@ -1,0 +1,7 @@
+use Rattle.std.proofs.Common.{ℕ, Option, sym, subst}
+use Rattle.growth.specs.Entering.{IsEarlierEnd}
+use Rattle.kept_graph.proofs.following.earlier.Goals as goal
+
+pub returns-in-None-clause-new : goal.returns-in-None-clause-new
+returns-in-None-clause-new c = λ known p follows.
+    subst (λ (o : Option ℕ). IsEarlierEnd p c.args.solver.now.graph c.args.place o c.before-in-None.result) (sym c.in-None.is) (c.before-in-None.ensures p follows)

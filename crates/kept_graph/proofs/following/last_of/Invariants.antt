@@ -1,0 +1,10 @@
+use Rattle.roster.specs.Groups.{group_at}
+use Rattle.kept_graph.proofs.Seeking.{left_below}
+use Rattle.kept_graph.proofs.HostClocks.{ComesDown}
+use Rattle.kept_graph.proofs.following.last_of.Given as goal
+
+abbrev pub invariant-loop-last : goal.invariant-loop-last
+invariant-loop-last l = ComesDown (group_at l.roster.readings l.clock) l.solver.graph l.clock l.last
+
+abbrev pub decreases-loop-last : goal.decreases-loop-last
+decreases-loop-last l = left_below l.last

@@ -1,0 +1,7 @@
+use Rattle.std.proofs.Common.{ℕ, Option, sym, subst}
+use Rattle.growth.specs.Entering.{IsLaterEnd}
+use Rattle.kept_graph.proofs.following.later.Goals as goal
+
+pub returns-in-None-clause-new : goal.returns-in-None-clause-new
+returns-in-None-clause-new c = λ known p follows.
+    subst (λ (o : Option ℕ). IsLaterEnd p c.args.solver.now.graph c.args.place o c.after.result) (sym c.in-None.is) (c.after.ensures.nearest p follows)

@@ -1,0 +1,165 @@
+// What a new reading is linked to: the nearest ones on its clock, and where there is none, those on the clocks of its host before and
+// after it.
+ghost use Rattle.std.specs.Prelude.{◌≡◌, ◌<◌, ◌≤◌, ◌+◌, ℕ, Bool, List, ◌++◌, Some, length, slice_get, IfSome, OnOk};
+ghost use Rattle.problem_model.specs.declared.items.Node.TheVariants as nodes;
+ghost use Rattle.problem_model.specs.declared.items.Bound.{Bound};
+ghost use Rattle.problem_model.specs.Problem.{ProblemLists};
+ghost use Rattle.problem_model.specs.Bounds.{ClockAt, ComesAfter};
+ghost use Rattle.decl.specs.Declaration.{follows_of};
+ghost use Rattle.decl.specs.declared.items.Owner.{Owner};
+ghost use Rattle.sync_graph.specs.Graph.{most_arcs};
+ghost use Rattle.sync_graph.specs.Standing.{HasNode};
+ghost use Rattle.engine.specs.Current.{IsCurrent};
+ghost use Rattle.growth.specs.Entering.{span_below, span_above, follow_before, follow_after};
+ghost use Rattle.growth.specs.Growing.{IsGrowing};
+ghost use Rattle.kept_graph.specs.Pushing.{Brings};
+ghost use Rattle.kept_graph.specs.Linking.{AreThere, AreBeside, links_of};
+ghost use Rattle.kept_graph.specs.Extending.{TakesFewToPush};
+
+use crate::following::Nearest;
+use crate::pushing::{push_follow, push_span};
+use atto::{Nano, Steps};
+use engine::Solver;
+use problem_model::Clock;
+use roster::Roster;
+use std::alloc::AllocError;
+use std::sync::ledger::Ledger;
+
+// Brings in both bounds over the span to the stamp below, if there is one.
+fn push_below<L: Ledger>(
+    solver: &mut Solver,
+    place: u32,
+    clock: &Clock,
+    stamp: Nano,
+    below: Option<Nano>,
+    steps: &mut Steps<L>,
+) -> Result<(), AllocError>
+    requires current { IsCurrent solver.old }
+    requires reading { HasNode solver.old.graph (nodes.Reading place stamp) }
+    requires below { IfSome below (λ s. (s < stamp) × HasNode solver.old.graph (nodes.Reading place s)) }
+    requires room { length solver.old.graph.arcs + 2 ≤ most_arcs }
+    ensures brings { OnOk result (Brings (span_below place stamp below) solver.old solver.new) }
+    ensures steps { OnOk result (TakesFewToPush solver.old solver.new steps.old steps.new) }
+    ensures left { OnOk result ((p : ProblemLists) (entered : ℕ → Bool) (rest : List Bound) → ClockAt p place clock.now
+        → IsGrowing p entered (span_below place stamp below ++ rest) solver.old.graph → IsGrowing p entered rest solver.new.graph) }
+{
+    match below {
+        Some(s) => push_span(solver, place, clock, s, stamp, steps),
+        None => Ok(()),
+    }
+}
+
+// Brings in both bounds over the span to the stamp above, if there is one.
+fn push_above<L: Ledger>(
+    solver: &mut Solver,
+    place: u32,
+    clock: &Clock,
+    stamp: Nano,
+    above: Option<Nano>,
+    steps: &mut Steps<L>,
+) -> Result<(), AllocError>
+    requires current { IsCurrent solver.old }
+    requires reading { HasNode solver.old.graph (nodes.Reading place stamp) }
+    requires above { IfSome above (λ t. (stamp < t) × HasNode solver.old.graph (nodes.Reading place t)) }
+    requires room { length solver.old.graph.arcs + 2 ≤ most_arcs }
+    ensures brings { OnOk result (Brings (span_above place stamp above) solver.old solver.new) }
+    ensures steps { OnOk result (TakesFewToPush solver.old solver.new steps.old steps.new) }
+    ensures left { OnOk result ((p : ProblemLists) (entered : ℕ → Bool) (rest : List Bound) → ClockAt p place clock.now
+        → IsGrowing p entered (span_above place stamp above ++ rest) solver.old.graph → IsGrowing p entered rest solver.new.graph) }
+{
+    match above {
+        Some(t) => push_span(solver, place, clock, stamp, t, steps),
+        None => Ok(()),
+    }
+}
+
+// The gap of the clock at a place.
+fn gap_of(roster: &Roster, place: u32) -> Nano
+    requires { place < length roster.now.declaration.clocks }
+    ensures { (o : Owner) × (slice_get roster.now.declaration.owners place ≡ Some o) × (o.gap ≡ result) }
+{
+    roster.decl().owners[place as usize].gap
+}
+
+// Brings in the follow from a reading to one of a clock before, if there is one.
+fn push_before<L: Ledger>(
+    roster: &Roster,
+    solver: &mut Solver,
+    place: u32,
+    stamp: Nano,
+    earlier: Option<(u32, Nano)>,
+    steps: &mut Steps<L>,
+) -> Result<(), AllocError>
+    requires inside { place < length roster.now.declaration.clocks }
+    requires current { IsCurrent solver.old }
+    requires reading { HasNode solver.old.graph (nodes.Reading place stamp) }
+    requires earlier { IfSome earlier (λ e. HasNode solver.old.graph (nodes.Reading e.0 e.1)) }
+    requires room { length solver.old.graph.arcs + length (follow_before place stamp earlier) ≤ most_arcs }
+    ensures brings { OnOk result (Brings (follow_before place stamp earlier) solver.old solver.new) }
+    ensures steps { OnOk result (TakesFewToPush solver.old solver.new steps.old steps.new) }
+    ensures left { OnOk result ((p : ProblemLists) (entered : ℕ → Bool) (rest : List Bound) → p.follows ≡ follows_of roster.now.declaration → IfSome earlier (λ e. ComesAfter p e.0 place)
+        → IsGrowing p entered (follow_before place stamp earlier ++ rest) solver.old.graph → IsGrowing p entered rest solver.new.graph) }
+{
+    match earlier {
+        Some(last) => {
+            let gap = gap_of(roster, place);
+            push_follow(solver, last.0, last.1, place, stamp, gap, steps)
+        }
+        None => Ok(()),
+    }
+}
+
+// Brings in the follow from a reading of a clock after to this one, if there is one.
+fn push_after<L: Ledger>(
+    roster: &Roster,
+    solver: &mut Solver,
+    place: u32,
+    stamp: Nano,
+    later: Option<(u32, Nano)>,
+    steps: &mut Steps<L>,
+) -> Result<(), AllocError>
+    requires inside { IfSome later (λ e. e.0 < length roster.now.declaration.clocks) }
+    requires current { IsCurrent solver.old }
+    requires reading { HasNode solver.old.graph (nodes.Reading place stamp) }
+    requires later { IfSome later (λ e. HasNode solver.old.graph (nodes.Reading e.0 e.1)) }
+    requires room { length solver.old.graph.arcs + length (follow_after place stamp later) ≤ most_arcs }
+    ensures brings { OnOk result (Brings (follow_after place stamp later) solver.old solver.new) }
+    ensures steps { OnOk result (TakesFewToPush solver.old solver.new steps.old steps.new) }
+    ensures left { OnOk result ((p : ProblemLists) (entered : ℕ → Bool) (rest : List Bound) → p.follows ≡ follows_of roster.now.declaration → IfSome later (λ e. ComesAfter p place e.0)
+        → IsGrowing p entered (follow_after place stamp later ++ rest) solver.old.graph → IsGrowing p entered rest solver.new.graph) }
+{
+    match later {
+        Some(first) => {
+            let gap = gap_of(roster, first.0);
+            push_follow(solver, place, stamp, first.0, first.1, gap, steps)
+        }
+        None => Ok(()),
+    }
+}
+
+/// Brings in the bounds between a reading and those nearest to it.
+pub(crate) fn push_links<L: Ledger>(
+    roster: &Roster,
+    solver: &mut Solver,
+    place: u32,
+    clock: &Clock,
+    stamp: Nano,
+    nearest: &Nearest,
+    steps: &mut Steps<L>,
+) -> Result<(), AllocError>
+    requires inside { place < length roster.now.declaration.clocks }
+    requires current { IsCurrent solver.old }
+    requires reading { HasNode solver.old.graph (nodes.Reading place stamp) }
+    requires there { AreThere (length roster.now.declaration.clocks) solver.old.graph place stamp nearest.now }
+    requires room { length solver.old.graph.arcs + 4 ≤ most_arcs }
+    ensures brings { OnOk result (Brings (links_of place stamp nearest.now) solver.old solver.new) }
+    ensures steps { OnOk result (TakesFewToPush solver.old solver.new steps.old steps.new) }
+    ensures left { OnOk result ((p : ProblemLists) (entered : ℕ → Bool) (rest : List Bound) → ClockAt p place clock.now → p.follows ≡ follows_of roster.now.declaration → AreBeside p place nearest.now
+        → IsGrowing p entered (links_of place stamp nearest.now ++ rest) solver.old.graph → IsGrowing p entered rest solver.new.graph) }
+{
+    push_below(solver, place, clock, stamp, nearest.below, steps)?;
+    push_above(solver, place, clock, stamp, nearest.above, steps)?;
+    push_before(roster, solver, place, stamp, nearest.earlier, steps)?;
+    push_after(roster, solver, place, stamp, nearest.later, steps)?;
+    Ok(())
+}

@@ -1,0 +1,8 @@
+use Rattle.std.proofs.Common.{◌≡◌, []}
+use Rattle.decl.specs.Declaration.{declaration_of}
+use Rattle.trace_problem.proofs.Follows.{follows_before}
+use Rattle.roster_text.proofs.write.version_of.Given as goal
+
+-- there is no follow from a place before
+abbrev pub invariant-loop-place : goal.invariant-loop-place
+invariant-loop-place l = follows_before (declaration_of l.decl) l.place ≡ []
