@@ -4,8 +4,9 @@
     bench/random_sessions.py [SESSIONS [SEED]]
 
 SESSIONS, 200 if it is not said, have the numbers from SEED, 1 if it is not said, upward; `random_sessions.py 1 N` runs number N alone. Each has
-up to four hosts with logs of up to three labels, which sort otherwise than their hosts. Rows come late, with lower stamps, with stamps that
-contradict the declared bounds, and with keys that were sent or received before, which withdraws messages; events are kept in between. Behind each
+up to four hosts with logs of one label and more, which sort otherwise than their hosts; some hosts have up to four clocks, one after the other, and
+their labels name them or not. Rows come late, with lower stamps, with stamps that contradict the declared bounds, and with keys that were sent or
+received before, which withdraws messages; events are kept in between. Behind each
 addition the problem must be the one that a plain model of the session has, and what is asked must follow from its text: intervals, orders, times and
 merges as small_problems.py works them out, and, one of each, as `ends` and `solve` print them; certificates must be accepted by `verify`, and cycles
 also by check_cycle.py.
@@ -29,23 +30,67 @@ from small_problems import Answers, interval, ns, order  # noqa: E402
 
 JUDGE = os.environ.get("JUDGE", PROGRAM)
 NAMES = "abcdefghijklmnopqrstuvw"
+# (clocks of hosts that have several; there is room for the greatest gap between two of them)
+CLOCK_NAMES, GAPS = "ABCDEFGHIJKLMNOPQRSTUVW", (0, 0, 1, 7, 100)
 NO_KEYS = ["fragment", "header", "length", "link", "local", "other", "short", "side"]
+
+
+def drawn_numbers(draw):
+    """The numbers of a clock, by their keys."""
+    drifts = [draw.choice((0, 0, 20_000, 100_000_000)) for _ in range(2)]
+    return {"short": drifts[0], "long": drifts[1], "early": draw.choice((0, 0, 3, 40)), "late": draw.choice((0, 5, 50))}
 
 
 class Declared:
     """What is declared, drawn at random."""
 
     def __init__(self, draw):
-        self.hosts = {}
-        for host in sorted(draw.sample(NAMES, draw.randint(1, 4))):
-            drifts = [draw.choice((0, 0, 20_000, 100_000_000)) for _ in range(2)]
-            self.hosts[host] = (*drifts, draw.choice((0, 0, 3, 40)), draw.choice((0, 5, 50)))
-        self.source = draw.choice([None, *self.hosts])
-        if self.source:
-            self.hosts[self.source] = (0, 0, *self.hosts[self.source][2:])
-        labels = draw.sample(NAMES, 8)
-        self.labels = {labels.pop(): host for host in self.hosts for _ in range(draw.choice((1, 1, 1, 2)))}
+        self.hosts = {host: drawn_numbers(draw) for host in sorted(draw.sample(NAMES, draw.randint(1, 4)))}
+        names = draw.sample(CLOCK_NAMES, len(CLOCK_NAMES))
+        # (the tables of each host's clocks, with what they say themselves; none where the host is its own clock)
+        self.tables = {host: self.drawn_tables(draw, host, names) if draw.random() < 0.5 else [] for host in self.hosts}
+        self.source = draw.choice([None, *(name for host in self.hosts for name in self.clocks_of(host))])
+        for host in self.hosts:
+            for table in self.tables[host] or [self.hosts[host]]:
+                if table.get("name", host) == self.source:
+                    table.update({"short": 0, "long": 0})
+        labels = draw.sample(NAMES, 20)
+        self.labels, self.clock_of, self.named = {}, {}, set()
+        for host in self.hosts:
+            clocks = self.clocks_of(host)
+            for _ in range(draw.choice((1, 1, 1, 2)) if len(clocks) == 1 else draw.randint(1, 4)):
+                label, clock = labels.pop(), draw.choice(clocks)
+                self.labels[label], self.clock_of[label] = host, clock
+                if clock != clocks[0] or draw.random() < 0.5:
+                    self.named.add(label)
         self.labels = {label: self.labels[label] for label in sorted(self.labels)}
+        self.draw_links(draw)
+
+    def drawn_tables(self, draw, host, names):
+        """The tables of the clocks of a host, of which one may have the host's name; what a table does not say is the host's."""
+        found = []
+        for _ in range(draw.randint(1, 4)):
+            name = names.pop() if draw.random() < 0.8 or any(it["name"] == host for it in found) else host
+            numbers = {key: value for key, value in drawn_numbers(draw).items() if draw.random() < 0.4}
+            found.append({"name": name, **numbers, **({"gap": draw.choice(GAPS)} if draw.random() < 0.7 else {})})
+        return found
+
+    def clocks_of(self, host):
+        return [it["name"] for it in self.tables[host]] or [host]
+
+    def clocks(self):
+        """The clocks of all hosts in their order: short, long, early and late of each."""
+        found = {}
+        for host, numbers in self.hosts.items():
+            for table in self.tables[host] or [{"name": host}]:
+                found[table["name"]] = tuple(table.get(key, numbers[key]) for key in numbers)
+        return found
+
+    def follows(self):
+        """The neighbouring clocks of each host: the earlier, the later, and the gap of the later one."""
+        return [(one["name"], other["name"], other.get("gap", 0)) for tables in self.tables.values() for one, other in zip(tables, tables[1:])]
+
+    def draw_links(self, draw):
         self.links = {}
         for one in self.hosts:
             for other in self.hosts:
@@ -55,9 +100,12 @@ class Declared:
 
     def text(self):
         lines = [f'source = "{self.source}"'] if self.source else []
-        for host, (short, long, early, late) in self.hosts.items():
-            lines.append(f"[hosts.{host}]\nshort = {short}\nlong = {long}\nearly = {early}\nlate = {late}")
-        lines += [f'[labels.{label}]\nhost = "{host}"\nkind = "log"' for label, host in self.labels.items()]
+        for host, numbers in self.hosts.items():
+            lines += [f"[hosts.{host}]", *(f"{key} = {value}" for key, value in numbers.items())]
+            for table in self.tables[host]:
+                lines += [f"[[hosts.{host}.clocks]]", *(f'{key} = "{value}"' if key == "name" else f"{key} = {value}" for key, value in table.items())]
+        for label, host in self.labels.items():
+            lines += [f'[labels.{label}]\nhost = "{host}"\nkind = "log"', *([f'clock = "{self.clock_of[label]}"'] if label in self.named else [])]
         for (one, other), (least, most) in self.links.items():
             lines.append(f'[[links]]\nfrom = "{one}"\nto = "{other}"\nleast = {least}' + ("" if most is None else f"\nmost = {most}"))
         return "\n".join(lines) + "\n"
@@ -67,34 +115,59 @@ class Traces:
     """The pieces of all logs in the order in which they come, drawn at random: pairs of a label and its rows."""
 
     def __init__(self, draw, declared):
-        self.draw, self.declared = draw, declared
-        self.offsets = {host: draw.randrange(3000) + 100 for host in declared.hosts}
+        self.draw, self.declared, self.clocks = draw, declared, declared.clocks()
+        # (from when to when each clock is its host's; a stamp is some 50 ns wrong at most)
+        self.spans = {}
+        gaps = {later: gap for _, later, gap in declared.follows()}
+        for names in map(declared.clocks_of, declared.hosts):
+            for at, name in enumerate(names):
+                until = 2000 * (at + 1) // len(names) - gaps[names[at + 1]] - 100 if at + 1 < len(names) else 10**9
+                self.spans[name] = (2000 * at // len(names), until)
+        # (a clock may begin at any number, or start with almost nothing again)
+        self.offsets = {name: 100 + draw.choice((draw.randrange(3000), -first)) for name, (first, _) in self.spans.items()}
         self.wrong = draw.choice((0, 0, 0.05, 0.3))
         self.rows = {label: [] for label in declared.labels}
         for number in range(draw.randint(1, 14)):
             self.put_message(f"m{number}")
         for _ in range(draw.randint(0, 4)):
-            self.put(draw.choice([*self.rows]), draw.randrange(2000), "local", "")
+            label = draw.choice([*self.rows])
+            self.put(label, self.time(label), "local", "")
+
+    def time(self, label):
+        """A moment at which the clock of a label is that of its host."""
+        first, until = self.spans[self.declared.clock_of[label]]
+        return self.draw.randrange(first, min(until, 2000))
+
+    def holds(self, label, time):
+        first, until = self.spans[self.declared.clock_of[label]]
+        return first <= time < until
 
     def put(self, label, time, kind, key):
         """Puts an event into a log, with a stamp that is lawful for its time, or with any."""
-        _, _, early, late = self.declared.hosts[self.declared.labels[label]]
-        stamp = time + self.offsets[self.declared.labels[label]] + self.draw.randint(-late, early)
+        clock = self.declared.clock_of[label]
+        _, _, early, late = self.clocks[clock]
+        stamp = time + self.offsets[clock] + self.draw.randint(-late, early)
         if self.draw.random() < self.wrong:
             stamp += self.draw.randint(-400, 400)
         self.rows[label].append((max(stamp, 0), kind, key, self.draw.choice(("", "", "a note"))))
 
     def put_message(self, key):
         """Puts a message, whose key may be sent or received again, or but once."""
-        draw, (send, receive) = self.draw, (self.draw.choice([*self.rows]) for _ in range(2))
-        least, most = self.declared.links.get((self.declared.labels[send], self.declared.labels[receive]), (0, None))
-        time = draw.randrange(2000)
+        draw, send = self.draw, self.draw.choice([*self.rows])
+        time = self.time(send)
         if draw.random() < 0.9:
             self.put(send, time, "send", key)
-        if draw.random() < 0.9:
-            self.put(receive, time + draw.randint(least, least + 300 if most is None else most), "receive", key)
+        for _ in range(5 if draw.random() < 0.9 else 0):
+            receive = draw.choice([*self.rows])
+            least, most = self.declared.links.get((self.declared.labels[send], self.declared.labels[receive]), (0, None))
+            arrival = time + draw.randint(least, least + 300 if most is None else most)
+            # (what arrives while another clock is the host's is wrong)
+            if self.holds(receive, arrival) or draw.random() < self.wrong:
+                self.put(receive, arrival, "receive", key)
+                break
         if draw.random() < 0.3:
-            self.put(draw.choice([*self.rows]), draw.randrange(2500), draw.choice(("send", "receive")), key)
+            label = draw.choice([*self.rows])
+            self.put(label, self.time(label), draw.choice(("send", "receive")), key)
 
     def pieces(self):
         """Returns the pieces: most rows of a log come upward by stamp, some late, and pieces of all logs in turn."""
@@ -140,9 +213,11 @@ class Held:
         return self.declared.labels[name.split("#")[0]]
 
     def problem(self):
-        lines = ["problem 1"]
-        lines += [f"clock {host} " + " ".join(map(str, numbers)) for host, numbers in self.declared.hosts.items()]
-        lines += [f"event {name} {self.host(name)} {row[0]}" for name, _, row in self.events()]
+        follows = self.declared.follows()
+        lines = ["problem 2" if follows else "problem 1"]
+        lines += [f"clock {name} " + " ".join(map(str, numbers)) for name, numbers in self.declared.clocks().items()]
+        lines += [f"follow {earlier} {later} {gap}" for earlier, later, gap in follows]
+        lines += [f"event {name} {self.declared.clock_of[label]} {row[0]}" for name, label, row in self.events()]
         for send, receive in self.messages():
             least, most = self.declared.links.get((self.host(send), self.host(receive)), (0, None))
             lines.append(f"message {send} {receive} {least} {'none' if most is None else most}")

@@ -18,17 +18,17 @@ ROOT = os.path.dirname(os.path.dirname(os.path.abspath(__file__)))
 PROGRAM = os.environ.get("PROGRAM", f"{ROOT}/crates/tracesync/out/tracesync")
 
 
-def session(folder, lines):
+def session(folder, lines, declaration):
     script = "".join(f"{line}\n" for line in lines).encode()
-    done = subprocess.run([PROGRAM, "session", f"examples/{folder}/hosts.toml"], input=script, capture_output=True, cwd=ROOT)
+    done = subprocess.run([PROGRAM, "session", f"examples/{folder}/{declaration}"], input=script, capture_output=True, cwd=ROOT)
     if done.returncode:
         sys.exit(f"{folder}: status {done.returncode}")
     return done.stdout.decode()
 
 
-def check(folder, additions, pairs, timed=()):
-    base = session(folder, additions)
-    reply = lambda line: session(folder, additions + [line])[len(base) :]
+def check(folder, additions, pairs, timed=(), declaration="hosts.toml"):
+    base = session(folder, additions, declaration)
+    reply = lambda line: session(folder, additions + [line], declaration)[len(base) :]
     problem, merged, report = reply("problem"), reply("merge").splitlines(), json.loads(reply("report"))
     events = [line.split(" ")[1] for line in problem.splitlines() if line.startswith("event ")]
     times = [Fraction(line.split(" ")[0]) for line in merged[1:]]
@@ -51,11 +51,13 @@ def check(folder, additions, pairs, timed=()):
     print(f"{folder}: {len(events)} events, {len(pairs)} certificates accepted")
 
 
-def additions(folder):
-    with open(f"{ROOT}/examples/{folder}/script.txt") as it:
+def additions(folder, script="script.txt"):
+    with open(f"{ROOT}/examples/{folder}/{script}") as it:
         return [line.strip() for line in it if line.startswith("add ")]
 
 
 check("captures", additions("captures"), [("left#6", "right#6"), ("right#58", "left#1"), ("left#3", "left#3")])
 check("session", additions("session"), [("db#2", "web#2"), ("web#1", "db#1")])
+check("stepped", additions("stepped", "split.txt"), [("b-before#4", "b-after#1"), ("b-after#1", "a#5")], declaration="split.toml")
+check("restarted", additions("restarted"), [("first#2", "second#1"), ("first#2", "gate#1"), ("gate#3", "first#1")], ["second#1", "second#5", "gate#1"])
 check("timeline", additions("timeline"), [("db#1", "app#4"), ("gate#1", "db#4")], ["gate#2", "db#1", "app#7"])

@@ -14,7 +14,7 @@ With no PARTs all of these, over the logs of eight hosts that send messages to o
     labels        labels that sort in another order than their hosts
     downward      rows that come downward by stamp, within a piece or piece by piece
 
-The first five are measured at each of SIZES, "1000 10000 100000 1000000" if it is not set; the limit of a session is 2^20. `labels` and `downward` are
+The first five are measured at each of SIZES, "1000 10000 100000 1000000" if it is not set; the limit of a session is 2^21. `labels` and `downward` are
 measured at LABELS and DOWNWARD events, 10000 and 2500 if they are not set, at twice and at four times as many. PROGRAM names the program, else it is the one
 that the gate built; OTHER a second one, whose figures stand beside. Each figure is the least of RUNS runs, 3 if it is not set, and a run has many additions
 or questions where they are short; a figure that has taken LIMIT seconds, 10 if it is not set, takes no further run. A script that is stopped prints what it has.
@@ -35,7 +35,7 @@ RUNS = int(os.environ.get("RUNS", "3"))
 LIMIT = float(os.environ.get("LIMIT", "10"))
 SIZES = [int(it) for it in os.environ.get("SIZES", "1000 10000 100000 1000000").split()]
 LABELS, DOWNWARD = (int(os.environ.get(name, default)) for name, default in (("LABELS", "10000"), ("DOWNWARD", "2500")))
-MOST_EVENTS = 2**20
+MOST_EVENTS = 2**21
 # How many additions of so many events a run has at most.
 ADDITIONS = {1: 64, 10: 32, 100: 16, 1000: 8}
 # Sessions of at most so many events begin anew where they should.

@@ -15,6 +15,10 @@ class Answers:
                 self.bounds += [self.problem.bound(kind, name, low, high) for kind in ("span-most", "span-least")]
         for event in self.problem.events:
             self.bounds += [self.problem.bound(kind, event) for kind in ("late", "early")]
+        for earlier, s in self.problem.readings:
+            for later, t in self.problem.readings:
+                if self.problem.comes_after(later, earlier):
+                    self.bounds.append(self.problem.bound("follow", earlier, s, later, t))
         for (send, receive), (_, most) in self.problem.messages.items():
             kinds = ["delay-least"] if most is None else ["delay-least", "delay-most"]
             self.bounds += [self.problem.bound(kind, send, receive) for kind in kinds]

@@ -1,7 +1,9 @@
-"""A contradiction as a picture in SVG: the stretches of clocks and the messages of its chain, each with what is declared of it."""
+"""A contradiction as a picture in SVG: the stretches of clocks, those that follow each other, and the messages of its chain, each with what
+is declared of it."""
 
 from html import escape
 
+from contradiction import event_names
 from picture import BOLD, INKS
 from replies import UNITS
 from words import time_text
@@ -16,12 +18,14 @@ class ChainPicture:
     def __init__(self, steps, problem):
         self.steps, self.problem = steps, problem
         self.spans = stretches(steps)
-        names = dict.fromkeys(name for it in steps if not it.kind.startswith("span") for name in it.names)
-        self.events = {name: problem.events[name] for name in names}
-        self.hosts = list(dict.fromkeys([host for host, _ in self.events.values()] + [host for host, *_ in self.spans]))
+        self.events = {name: problem.events[name] for name in event_names(steps)}
+        # (the two readings of each follow, the earlier clock's first)
+        follows = [it.names for it in steps if it.kind == "follow"]
+        readings = [(host, int(stamp)) for names in follows for host, stamp in (names[:2], names[2:])]
+        self.hosts = list(dict.fromkeys(host for host, *_ in (*self.events.values(), *self.spans, *readings)))
         self.ink = {host: INKS[at % len(INKS)] for at, host in enumerate(self.hosts)}
         stamps = {host: set() for host in self.hosts}
-        for host, stamp in self.events.values():
+        for host, stamp in (*self.events.values(), *readings):
             stamps[host].add(stamp)
         for host, first, last, *_ in self.spans:
             stamps[host] |= {first, last}
@@ -51,6 +55,7 @@ class ChainPicture:
         out += [line for host in self.hosts for line in self.host(host)]
         out += [line for span in self.spans for line in self.span(*span)]
         out += [line for it in self.steps if it.kind.startswith("delay") for line in self.message(it)]
+        out += [line for it in self.steps if it.kind == "follow" for line in self.follow(it)]
         out += [line for name in self.events for line in self.event(name)]
         return "\n".join([*out, "</svg>"]) + "\n"
 
@@ -67,11 +72,20 @@ class ChainPicture:
 
     def message(self, step):
         """Returns an arrow, with how long the message took at least or at most."""
-        (x1, y1), (x2, y2) = self.at(step.names[0]), self.at(step.names[1])
+        told = f"takes {'at least' if step.kind == 'delay-least' else 'at most'} {time_text(abs(step.weight), -1 if step.kind == 'delay-least' else 1)}"
+        return self.arrow(self.at(step.names[0]), self.at(step.names[1]), told)
+
+    def follow(self, step):
+        """Returns a broken arrow from a reading of a clock to one of a clock behind it, with the time that is between at least."""
+        earlier, last, later, first = step.names
+        one, other = ((self.x[host, int(stamp)], self.y[host]) for host, stamp in ((earlier, last), (later, first)))
+        return self.arrow(one, other, f"comes {time_text(-step.weight, -1)} behind at least", ' stroke-dasharray="4 3"')
+
+    def arrow(self, one, other, told, dash=""):
+        (x1, y1), (x2, y2) = one, other
         length = ((x2 - x1) ** 2 + (y2 - y1) ** 2) ** 0.5 or 1
         x3, y3 = x2 - (x2 - x1) / length * 6, y2 - (y2 - y1) / length * 6
-        told = f"takes {'at least' if step.kind == 'delay-least' else 'at most'} {time_text(abs(step.weight), -1 if step.kind == 'delay-least' else 1)}"
-        return [f'<line x1="{x1:.1f}" y1="{y1}" x2="{x3:.1f}" y2="{y3:.1f}" stroke="{RED}" stroke-width="1.6" marker-end="url(#head)"/>',
+        return [f'<line x1="{x1:.1f}" y1="{y1}" x2="{x3:.1f}" y2="{y3:.1f}" stroke="{RED}" stroke-width="1.6"{dash} marker-end="url(#head)"/>',
                 self.beside((x1 + x2) / 2, (y1 + y2) / 2 + 10, told, RED)]  # fmt: skip
 
     def event(self, name):

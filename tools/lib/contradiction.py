@@ -29,6 +29,17 @@ def exact_ns(units):
     return decimal_text(units, UNITS, digits=9)
 
 
+def event_names(steps):
+    """Returns the events that steps name, each once: spans and follows name clocks and stamps."""
+    return dict.fromkeys(name for it in steps if it.kind in ("late", "early", "delay-least", "delay-most") for name in it.names)
+
+
+def told_follow(step):
+    """Returns which reading of a later clock comes after which of an earlier one."""
+    earlier, last, later, first = step.names
+    return f"{later}'s clock showed {first} after {earlier}'s clock showed {last}"
+
+
 class Contradiction:
     """Tells the steps of a cycle; the problem gives stamps of events, and the inputs what they are."""
 
@@ -58,6 +69,8 @@ class Contradiction:
             if own:
                 names = ", ".join(dict.fromkeys(it.names[0] for it in own))
                 found.append((f"events may be so much {told} than their stamps say, {count_text(len(own), 'time')}: {names}", sum(it.weight for it in own)))
+        for it in (it for it in self.steps if it.kind == "follow"):
+            found.append((f"{told_follow(it)}: at least {time_text(-it.weight)} between", it.weight))
         for kind, told in (("delay-least", "at least"), ("delay-most", "at most")):
             for it in (it for it in self.steps if it.kind == kind):
                 found.append((f"the message from {it.names[0]} to {it.names[1]} took {told} {time_text(abs(it.weight))}", it.weight))
@@ -75,7 +88,7 @@ class Contradiction:
 
     def events(self):
         """Returns what the events of the chain are: the packets' addresses, ports and stamps, or the rows' texts."""
-        names = dict.fromkeys(name for it in self.steps if not it.kind.startswith("span") for name in it.names)
+        names = event_names(self.steps)
         lines = []
         for name in names:
             stamp = stamp_text(self.problem.events[name][1]) if self.problem and name in self.problem.events else ""
@@ -103,6 +116,10 @@ class Contradiction:
             if lack < shown * 10**9:
                 off = -(-lack // shown)
                 lines.append(f"  {clock}'s clock, if its rate is off by {decimal_text(off, 1000, 1)} ppm more than declared{', as no quartz is' if off > QUARTZ_MOST else ''}")
+        for it in (it for it in self.steps if it.kind == "follow"):
+            # (the later clock never comes before the earlier one)
+            if lack <= -it.weight:
+                lines.append(f"  {it.names[2]}'s clock, if it came {time_text(lack, 1)} less behind {it.names[0]}'s clock than its gap is")
         errors = [it for it in self.steps if it.kind in ("late", "early")]
         if errors:
             lines.append(f"  the stamps, if each of {len(errors)} is off by {time_text(-(-lack // len(errors)), 1)} more")

@@ -5,7 +5,9 @@ import tomllib
 
 from inputs import NAME
 
-HOST, LABEL, LINK = {"short", "long", "early", "late", "addresses", "addresses6"}, {"host", "kind"}, {"from", "to", "least", "most"}
+NUMBERS = ("short", "long", "early", "late")
+HOST, CLOCK = {*NUMBERS, "addresses", "addresses6", "clocks"}, {*NUMBERS, "name", "gap"}
+LABEL, LINK = {"host", "kind", "clock"}, {"from", "to", "least", "most"}
 TOP = {"hosts", "labels", "links", "payload_bytes", "source"}
 ADDRESS = re.compile(r"(0|[1-9]\d{0,2})(\.(0|[1-9]\d{0,2})){3}")
 ADDRESS6 = re.compile(r"[0-9a-fA-F]{1,4}(:[0-9a-fA-F]{1,4}){7}")
@@ -30,9 +32,16 @@ def read_declaration(path):
         return tomllib.load(it)
 
 
-def told_host(name, host, is_source, kinds):
-    """Returns a host in words."""
-    short, long, early, late = (host.get(it) for it in ("short", "long", "early", "late"))
+def clocks_of(name, host):
+    """Returns the clocks of a host in their order: the name, the numbers and the gap of each. A host without tables of clocks is one itself."""
+    own = {it: host[it] for it in NUMBERS if it in host}
+    tables = [it for it in host.get("clocks", []) if isinstance(it, dict)]
+    return [(it.get("name"), {**own, **it}, it.get("gap", 0)) for it in tables] or [(name, own, 0)]
+
+
+def told_clock(numbers, is_source):
+    """Returns what is declared of a clock and of its stamps, in words."""
+    short, long, early, late = (numbers.get(it) for it in NUMBERS)
     parts = []
     if not short and not long:
         parts.append("the source: a clock that is true" if is_source else "a PERFECT clock, which never drifts: is this meant?")
@@ -51,6 +60,27 @@ def told_host(name, host, is_source, kinds):
         parts.append("stamps WITHOUT ANY ERROR: is this meant?")
     else:
         parts.append(f"events are up to {ns(early or 0)} before and {ns(late or 0)} after their stamps")
+    return parts
+
+
+def told_clocks(name, host, source, labels):
+    """Returns the clocks of a host with several, a line for each."""
+    lines, before = [], None
+    for clock, numbers, gap in clocks_of(name, host):
+        if before is None:
+            told = f"the first clock of {name}{', whose gap does nothing' if gap else ''}"
+        else:
+            told = f"the clock of {name} behind {before}, {f'{ns(gap)} after it at least' if gap else 'from its last moment on'}"
+        used = any(it.get("host") == name and it.get("clock", before is None and clock) == clock for it in labels.values())
+        lines.append(f"{clock}: {'; '.join([told, *told_clock(numbers, source == clock), *([] if used else ['no label is stamped by it'])])}.")
+        before = clock
+    return lines
+
+
+def told_host(name, host, source, kinds):
+    """Returns a host in words; its clocks, if it has several, are told behind it."""
+    clocks = host.get("clocks", [])
+    parts = [f"{len(clocks)} clocks, one after the other"] if clocks else told_clock(host, source == name)
     addresses = [*host.get("addresses", []), *host.get("addresses6", [])]
     if addresses:
         parts.append(f"addresses {', '.join(addresses)}")
@@ -61,14 +91,24 @@ def told_host(name, host, is_source, kinds):
     return f"{name}: {'; '.join(parts)}."
 
 
+def told_label(name, label, hosts):
+    """Returns a label in words."""
+    told = f"{name}: a {'capture' if label.get('kind') == 'capture' else 'log'} taken at {label.get('host')}"
+    if "clock" in label:
+        return f"{told} and stamped by {label['clock']}."
+    clocks = hosts.get(label.get("host"), {}).get("clocks", [])
+    return f"{told} and stamped by its first clock, {clocks[0].get('name')}." if clocks else f"{told}."
+
+
 def told_declaration(value):
     """Returns a declaration in words."""
     hosts, labels = value.get("hosts", {}), value.get("labels", {})
     lines = []
     for name in sorted(hosts):
         kinds = {it.get("kind") for it in labels.values() if it.get("host") == name}
-        lines.append(told_host(name, hosts[name], value.get("source") == name, kinds))
-    lines += [f"{name}: a {'capture' if it.get('kind') == 'capture' else 'log'} taken at {it.get('host')}." for name, it in sorted(labels.items())]
+        lines.append(told_host(name, hosts[name], value.get("source"), kinds))
+        lines += told_clocks(name, hosts[name], value.get("source"), labels) if hosts[name].get("clocks") else []
+    lines += [told_label(name, it, hosts) for name, it in sorted(labels.items())]
     links = {(it.get("from"), it.get("to")): it for it in value.get("links", [])}
     for (one, other), it in links.items():
         least, most = it.get("least", 0), it.get("most")
@@ -83,7 +123,7 @@ def told_declaration(value):
         more = ", .." if len(absent) > 6 else ""
         lines.append(f"No link is declared from {', from '.join(absent[:6])}{more}: the ends of a message there may be at one time; `least = 1` mends it.")
     if "source" in value:
-        lines.append(f"`time` tells when an event was by the clock of {value['source']}.")
+        lines.append(f"`time` tells when an event was by the clock {value['source']}.")
     if any(it.get("kind") == "capture" for it in labels.values()):
         lines.append(f"{value.get('payload_bytes', 0)} bytes of the payload are part of what a packet is known by.")
     return lines
@@ -126,7 +166,7 @@ def top_cause(value, number):
         return f"another key on top: {', '.join(sorted(set(value) - TOP))}"
     if number == 7:
         source = value.get("source")
-        return f"source = {source!r}: there is no such host, or its `short` or `long` is not 0"
+        return f"source = {source!r}: there is no such clock, or its `short` or `long` is not 0; a host with `clocks` has none of its own name"
     return {1: "it is no TOML as the program reads it: a number over 2^63, or a byte that is no UTF-8", 3: "a value of another kind than it should be",
             5: "payload_bytes is not from 0 to 64", 8: "it has more than 2^24 bytes"}.get(number, f"cause {number}")  # fmt: skip
 
@@ -135,10 +175,15 @@ def host_cause(value, name, table, number):
     if number == 2:
         others = sorted(set(table) - HOST)
         nested = [it for it in others if isinstance(table[it], dict)]
-        return f"no such key: {', '.join(others)}" + (f". A name with a point needs quotes: [hosts.\"{name}.{nested[0]}\"]" if nested else "")
+        if others:
+            return f"no such key: {', '.join(others)}" + (f". A name with a point needs quotes: [hosts.\"{name}.{nested[0]}\"]" if nested else "")
+        return clock_keys_cause(table)
+    if number == 4 and NAME.fullmatch(name):
+        return clock_name_cause(value, name, table)
     if number == 5:
-        found = [it for it in ("short", "long", "early", "late") if isinstance(table.get(it), int) and not 0 <= table[it] < 2**62]
-        return f"out of range: {', '.join(found)}" if found else "`short` is above 999_999_999, or `long` above 1_000_000_000"
+        clocks = [it for it in table.get("clocks", []) if isinstance(it, dict)]
+        found = [told for it in (table, *clocks) for told in out_of_range(it, it.get("name") if it is not table else None)]
+        return f"out of range: {', '.join(found)}" if found else "there are more than 65,536 hosts or clocks"
     if number == 6:
         wrong = [it for it in table.get("addresses", []) if not ADDRESS.fullmatch(it) or any(int(part) > 255 for part in it.split("."))]
         if wrong:
@@ -147,19 +192,54 @@ def host_cause(value, name, table, number):
         if wrong:
             return f"not eight groups of hexadecimal digits with colons, as fd00:0:0:0:0:0:0:1: {', '.join(wrong)}"
         return "an address is there twice, at one host or at two"
-    return {3: "a value of another kind: numbers have no quotes and no point, addresses stand in brackets",
+    return {3: "a value of another kind: numbers have no quotes and no point, addresses stand in brackets, and so do tables of clocks",
             4: "a name is 1 to 32 letters, digits, points, lines below and hyphens"}.get(number, f"cause {number}")  # fmt: skip
+
+
+def out_of_range(table, clock):
+    """Returns the numbers of a host or of a clock that may not be so, with the clock's name."""
+    most = {"short": 999_999_999, "long": 1_000_000_000}
+    wrong = [it for it in (*NUMBERS, "gap") if isinstance(table.get(it), int) and not 0 <= table[it] <= most.get(it, 2**62 - 1)]
+    limits = {it: f" above {most[it]:_}" if it in most and table[it] > most[it] else "" for it in wrong}
+    return [f"{it}{limits[it]}{f' of {clock}' if clock else ''}" for it in wrong]
+
+
+def clock_keys_cause(table):
+    """Returns which key a clock of a host may not have, or lacks."""
+    for at, it in enumerate(table.get("clocks", []), 1):
+        others = sorted(set(it) - CLOCK) if isinstance(it, dict) else []
+        if others:
+            return f"no such key of its clock {it.get('name', at)}: {', '.join(others)}"
+        if isinstance(it, dict) and "name" not in it:
+            return f"its clock {at} lacks its name"
+    return "cause 2"
+
+
+def clock_name_cause(value, name, table):
+    """Returns which name of a host's clocks is misspelled, or is that of a clock before."""
+    hosts = value["hosts"]
+    taken = {it for host in sorted(hosts, key=str.encode) if host.encode() < name.encode() for it, *_ in clocks_of(host, hosts[host])}
+    for clock, *_ in clocks_of(name, table):
+        if not NAME.fullmatch(clock):
+            return f"{clock!r} is no name of a clock, which is 1 to 32 letters, digits, points, lines below and hyphens"
+        if clock in taken:
+            return f"another clock has the name {clock} already; a host without `clocks` has one of its own name"
+        taken.add(clock)
+    return "cause 4"
 
 
 def label_cause(value, name, table, number):
     if number == 2:
-        lacks, others = sorted(LABEL - set(table)), sorted(set(table) - LABEL)
+        lacks, others = sorted(LABEL - {"clock"} - set(table)), sorted(set(table) - LABEL)
         return "; ".join([*([f"no such key: {', '.join(others)}"] if others else []), *([f"it lacks {', '.join(lacks)}"] if lacks else [])])
     if number == 4:
         if not NAME.fullmatch(name):
             return "a name is 1 to 32 letters, digits, points, lines below and hyphens"
         if table.get("host") not in value.get("hosts", {}):
             return f"there is no host {table.get('host')}"
+        clocks = [it for it, *_ in clocks_of(table["host"], value["hosts"][table["host"]])]
+        if table.get("clock", clocks[0]) not in clocks:
+            return f"{table['host']} has no clock {table['clock']}, but {', '.join(clocks)}"
         return f"kind = {table.get('kind')!r} is neither \"capture\" nor \"log\""
     return "its values are texts in quotes" if number == 3 else f"cause {number}"
 

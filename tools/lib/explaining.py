@@ -77,10 +77,12 @@ class Explainer:
             return f"{count_text(int(words[1]), 'event')} in the order of one execution, the earliest: for two of them ask `order`"
         if reply[0].startswith("{"):
             return self.report(json.loads(reply[0]))
-        if reply[0] == "problem 1":
+        if words[0] == "problem":
             self.problem = reply
             problem = read_problem(reply)
-            counts = ((problem.clocks, "clock"), (problem.events, "event"), (problem.messages, "message"))
+            counts = [(problem.clocks, "clock"), (problem.events, "event"), (problem.messages, "message")]
+            if problem.follows:
+                counts.insert(1, (problem.follows, "follow"))
             return f"all that is declared and known: {', '.join(count_text(len(it), name) for it, name in counts)}"
         if read_cycle(reply) is not None:
             return "\n".join(self.told_cycle(reply, self.known_problem(), self.inputs))

@@ -3,7 +3,7 @@
 import os
 import subprocess
 
-from replies import split_replies
+from replies import is_texted, split_replies
 
 TOP = os.path.dirname(os.path.dirname(os.path.dirname(os.path.realpath(__file__))))
 PROGRAM = f"{TOP}/tracesync"
@@ -44,7 +44,7 @@ class Session:
         count = int(words[1]) if words[0] == "merge" and len(words) == 2 and words[1].isdigit() else 0
         for _ in range(count):
             reply.append(self.line(reply))
-        while first in ("certificate 1", "problem 1") and reply[-1] != "end":
+        while is_texted(first) and reply[-1] != "end":
             reply.append(self.line(reply))
         self.replies.append(reply)
         return reply

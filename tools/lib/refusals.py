@@ -31,7 +31,7 @@ class Refusals:
         tellers = {"20": lambda: self.no_command(line), "21": lambda: self.no_label(asked[1]), "22": lambda: self.no_file(path),
                    "23": lambda: "the file has more than 2^28 bytes, or the label would have more than 2^30: `split -b 200M`, and add the parts in order",
                    "24": lambda: self.no_capture(path, rest), "25": lambda: self.no_packet(path, rest, asked[1]), "26": lambda: self.no_row(path, rest),
-                   "27": lambda: "there would be more than 1,048,576 events: filter the captures of all hosts alike",
+                   "27": lambda: "there would be more than 2,097,152 events: filter the captures of all hosts alike",
                    "28": lambda: self.no_event(asked[1:]), "29": self.no_source,
                    "30": lambda: "eight events are kept, and this is none of them: ask about it without keeping it",
                    "31": lambda: self.no_block(path, rest)}  # fmt: skip
@@ -77,7 +77,7 @@ class Refusals:
             return f"{path} is a folder"
         if not os.path.exists(path):
             return f"there is no file {path} in {os.getcwd()}, from where it counts" if not os.path.isabs(path) else f"there is no file {path}"
-        return f"{path} is a pipe or a device, and only plain files are read" if not os.path.isfile(path) else f"{path} cannot be read"
+        return f"{path} is a pipe or a device, which is read once" if not os.path.isfile(path) else f"{path} cannot be read"
 
     def no_capture(self, path, rest):
         """Returns why a file is no capture, by its first bytes."""
@@ -138,4 +138,4 @@ class Refusals:
 
     def no_source(self):
         source = self.declared.get("source")
-        return f"{source}, the source, has no event so far" if source else 'no source is declared: source = "HOST" on top, with short = 0 and long = 0 at that host'
+        return f"{source}, the source, has no event so far" if source else 'no source is declared: source = "CLOCK" on top, a host\'s name or that of a clock of its own, with short = 0 and long = 0'

@@ -22,10 +22,15 @@ def short_ns(units):
     return ns_text(units).rstrip("0").rstrip(".")
 
 
+def is_texted(line):
+    """Returns whether a reply that begins with this line is a certificate or a problem, which have a last line of their own."""
+    return line in ("certificate 1", "problem 1", "problem 2")
+
+
 def is_last(reply):
     """Returns whether these lines are a whole reply."""
     words = reply[0].split(" ")
-    if reply[0] in ("certificate 1", "problem 1"):
+    if is_texted(reply[0]):
         return reply[-1] == "end"
     if words[0] == "merge" and len(words) == 2 and words[1].isdigit():
         return len(reply) == int(words[1]) + 1
@@ -45,9 +50,11 @@ def split_replies(lines):
 
 @dataclass
 class Problem:
-    """The problem of a session: rates and stamp errors of clocks, clock and stamp of events, ends and bounds of messages."""
+    """The problem of a session: rates and stamp errors of clocks, those that follow each other with the gap between them, clock and stamp of
+    events, ends and bounds of messages."""
 
     clocks: dict = field(default_factory=dict)
+    follows: dict = field(default_factory=dict)
     events: dict = field(default_factory=dict)
     messages: dict = field(default_factory=dict)
 
@@ -59,6 +66,8 @@ def read_problem(lines):
         words = line.split(" ")
         if words[0] == "clock":
             found.clocks[words[1]] = tuple(int(it) for it in words[2:6])
+        elif words[0] == "follow":
+            found.follows[words[1], words[2]] = int(words[3])
         elif words[0] == "event":
             found.events[words[1]] = (words[2], int(words[3]))
         elif words[0] == "message":

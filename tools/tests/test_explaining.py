@@ -27,6 +27,24 @@ step delay-most b#2 a#2 20.000000000
 end"""
 
 
+# A message from a host's later clock to its earlier one, which began at least 5 ns before.
+FOLLOWED = """problem 2
+clock a1 0 0 0 0
+clock a2 0 0 0 0
+follow a1 a2 5
+event p#1 a1 7
+event q#1 a2 3
+message q#1 p#1 2 none
+end"""
+FOLLOWED_CYCLE = """certificate 1
+cycle
+step delay-least q#1 p#1 -2.000000000
+step early q#1 0.000000000
+step follow a1 7 a2 3 -5.000000000
+step late p#1 0.000000000
+end"""
+
+
 class Replies(unittest.TestCase):
     def told(self, line, reply, **known):
         return Explainer(**known).reply(line, reply.split("\n")).words
@@ -53,7 +71,7 @@ class Replies(unittest.TestCase):
             ("", "20", "the line is empty"), ("# a", "20", "comments"), ("merge ", "20", "blank too many"), ("merge\r", "20", "carriage return"), ("Merge", "20", "merge is"),
             ("add a my file", "20", "a path has no blanks"), ("order a#1", "20", "2 words"), ("add web x", "21", "no label web is declared; there are left, right"),
             ("add a nosuch", "22", "there is no file nosuch"), ("add a ~/x", "22", "no quotes"), (f"add a {EXAMPLES}", "22", "is a folder"), ("order a#01 b#1", "28", "not of the form"),
-            ("order x#1 left#1", "28", "no label x is declared"), ("time left#1", "29", "no source is declared"), ("keep left#1", "30", "eight events"), ("add a x", "27", "1,048,576"),
+            ("order x#1 left#1", "28", "no label x is declared"), ("time left#1", "29", "no source is declared"), ("keep left#1", "30", "eight events"), ("add a x", "27", "2,097,152"),
         )  # fmt: skip
         for line, number, wanted in cases:
             self.assertIn(wanted, self.told(line, f"refused {number}", declaration=DECLARED), line)
@@ -84,8 +102,11 @@ class Replies(unittest.TestCase):
         self.assertEqual(explainer.reply("keep left#59", ["refused 28"]).words, "left has 58 events so far")
 
     def test_replies_are_split_where_they_end(self):
-        lines = ["kept 1", "merge 2", "0.000000000 a#1 end", "1.000000000 a#2", *CYCLE.split("\n"), "problem 1", "end", "order open"]
-        self.assertEqual([len(it) for it in split_replies(lines)], [1, 3, 11, 2, 1])
+        lines = ["kept 1", "merge 2", "0.000000000 a#1 end", "1.000000000 a#2", *CYCLE.split("\n"), "problem 1", "end", *FOLLOWED.split("\n"), "order open"]
+        self.assertEqual([len(it) for it in split_replies(lines)], [1, 3, 11, 2, 8, 1])
+
+    def test_a_problem_with_clocks_that_follow(self):
+        self.assertEqual(self.told("problem", FOLLOWED), "all that is declared and known: 2 clocks, 1 follow, 2 events, 1 message")
 
 
 class Contradictions(unittest.TestCase):
@@ -105,6 +126,20 @@ class Contradictions(unittest.TestCase):
         texts = [it.text for it in ElementTree.fromstring(chain_svg(steps, problem)).iter() if it.tag.endswith("}text")]
         for wanted in ("shown as 200 ns, lasts at least 199.996 ns", "shown as 100 ns, lasts at most 100.002 ns", "takes at least 1 ns", "takes at most 20 ns", "b#1", "may be earlier by 3 ns at most"):
             self.assertIn(wanted, texts)
+
+    def test_clocks_that_follow_are_told_and_drawn(self):
+        steps, problem = read_cycle(FOLLOWED_CYCLE.split("\n")), read_problem(FOLLOWED.split("\n"))
+        self.assertEqual(sum(weight for _, weight in Contradiction(steps).groups()), sum(it.weight for it in steps))
+        told = "\n".join(told_cycle(FOLLOWED_CYCLE.split("\n")))
+        self.assertIn("-5 ns  a2's clock showed 3 after a1's clock showed 7: at least 5 ns between", told)
+        self.assertNotIn("less behind", told)
+        texts = [it.text for it in ElementTree.fromstring(chain_svg(steps, problem)).iter() if it.tag.endswith("}text")]
+        for wanted in ("comes 5 ns behind at least", "takes at least 2 ns", "p#1", "a1", "a2"):
+            self.assertIn(wanted, texts)
+
+    def test_a_gap_that_is_less_may_mend_a_chain(self):
+        cycle = FOLLOWED_CYCLE.replace("step late p#1 0.", "step delay-most x#1 p#1 3.")
+        self.assertIn("  a2's clock, if it came 4 ns less behind a1's clock than its gap is", told_cycle(cycle.split("\n")))
 
     def test_a_long_contradiction_has_no_picture(self):
         self.assertIsNone(chain_svg(read_cycle(CYCLE.split("\n")) * 8, read_problem([])))
@@ -127,6 +162,18 @@ class Declarations(unittest.TestCase):
         for value, wanted in cases:
             self.assertIn(wanted, self.told(**value))
 
+    def test_hosts_with_several_clocks(self):
+        clocks = [{"name": "a1", "gap": 3}, {"name": "a2", "gap": 5, "short": 0, "long": 0}, {"name": "a3"}]
+        host = {"short": 50_000, "long": 50_003, "late": 2, "clocks": clocks}
+        told = self.told(hosts={"a": host}, labels={"p": {"host": "a", "kind": "log"}, "q": {"host": "a", "kind": "log", "clock": "a2"}}, source="a2")
+        for wanted in (
+            "a: 3 clocks, one after the other.", "a1: the first clock of a, whose gap does nothing; its clock is within 50 ppm;",
+            "a2: the clock of a behind a1, 5 ns after it at least; the source: a clock that is true; events are up to 0 ns before and 2 ns after their stamps.",
+            "a3: the clock of a behind a2, from its last moment on; its clock is within 50 ppm; events are up to 0 ns before and 2 ns after their stamps; no label is stamped by it.",
+            "p: a log taken at a and stamped by its first clock, a1.", "q: a log taken at a and stamped by a2.", "by the clock a2.",
+        ):  # fmt: skip
+            self.assertIn(wanted, told.split("\n") if wanted[-1] == "." and ":" in wanted[:3] else told)
+
     def test_refusals_name_the_table_and_its_line(self):
         cases = (
             ('[hosts.web]\nshort = 1\n[hosts.app]\ndrift = 3\n', 2, "hosts", 1, "line 3: host app: no such key: drift"),
@@ -134,6 +181,14 @@ class Declarations(unittest.TestCase):
             ('[hosts.a]\naddresses = ["10.0.0.1/24"]\n', 6, "hosts", 1, "no address such as 10.0.0.1: 10.0.0.1/24"),
             ('[hosts.a]\n[labels.x]\nhost = "b"\nkind = "log"\n', 4, "labels", 1, "line 2: label x: there is no host b"),
             ('[hosts.a]\n[[links]]\nfrom = "a"\nto = "a"\n[[links]]\nfrom = "a"\nto = "a"\n', 4, "links", 2, "line 5: link 2: an earlier link"),
+            ('[hosts.a]\nclocks = [{ name = "b", addresses = [] }]\n', 2, "hosts", 1, "line 1: host a: no such key of its clock b: addresses"),
+            ('[hosts.a]\nclocks = [{ name = "b" }, { gap = 5 }]\n', 2, "hosts", 1, "its clock 2 lacks its name"),
+            ('[hosts.a]\nclocks = ["b"]\n', 3, "hosts", 1, "so do tables of clocks"),
+            ('[hosts.a]\nclocks = [{ name = "b c" }]\n', 4, "hosts", 1, "'b c' is no name of a clock"),
+            ('[hosts.a]\nclocks = [{ name = "b" }]\n[hosts.b]\n', 4, "hosts", 2, "line 3: host b: another clock has the name b already"),
+            ('[hosts.a]\nclocks = [{ name = "b", gap = -1 }]\n', 5, "hosts", 1, "out of range: gap of b"),
+            ('[hosts.a]\nshort = 1_000_000_000\n', 5, "hosts", 1, "out of range: short above 999_999_999"),
+            ('[hosts.a]\nclocks = [{ name = "b" }]\n[labels.x]\nhost = "a"\nkind = "log"\nclock = "a"\n', 4, "labels", 1, "label x: a has no clock a, but b"),
             ('source = "b"\n[hosts.a]\n', 7, "top", 0, "source = 'b'"), ("[hosts.a\n", 1, "top", 0, "line 1"), ("payload = 3\n", 2, "top", 0, "another key on top: payload"),
         )  # fmt: skip
         for text, number, section, index, wanted in cases:

@@ -18,6 +18,26 @@ const ONE_ADDRESS: &str =
 const DRIFTING_SOURCE: &str =
     "source = \"a\"\n[hosts.a]\nshort = 1\n[hosts.b]\n[labels.a]\nhost = \"a\"\nkind = \"log\"\n[labels.b]\nhost = \"b\"\nkind = \"log\"\n";
 
+// A host with two clocks, the first of which the label names that comes first; the same where a label names another host's
+// clock, and where a clock has another host's name.
+const TWO_CLOCKS_DECLARATION: &str =
+    "[hosts.a]\nclocks = [{ name = \"a1\" }, { name = \"a2\", gap = 5 }]\n[hosts.b]\n\
+    [labels.a]\nhost = \"a\"\nkind = \"log\"\nclock = \"a1\"\n[labels.b]\nhost = \"b\"\nkind = \"log\"\n\
+    [labels.r]\nhost = \"a\"\nkind = \"log\"\nclock = \"a2\"\n\
+    [[links]]\nfrom = \"a\"\nto = \"b\"\nleast = 10\nmost = 20\n";
+
+const OTHER_HOSTS_CLOCK: &str =
+    "[hosts.a]\nclocks = [{ name = \"a1\" }, { name = \"a2\", gap = 5 }]\n[hosts.b]\n\
+    [labels.a]\nhost = \"a\"\nkind = \"log\"\nclock = \"a1\"\n[labels.b]\nhost = \"b\"\nkind = \"log\"\n\
+    [labels.r]\nhost = \"a\"\nkind = \"log\"\nclock = \"b\"\n\
+    [[links]]\nfrom = \"a\"\nto = \"b\"\nleast = 10\nmost = 20\n";
+
+const OTHER_HOSTS_NAME: &str =
+    "[hosts.a]\nclocks = [{ name = \"a1\" }, { name = \"b\", gap = 5 }]\n[hosts.b]\n\
+    [labels.a]\nhost = \"a\"\nkind = \"log\"\nclock = \"a1\"\n[labels.b]\nhost = \"b\"\nkind = \"log\"\n\
+    [labels.r]\nhost = \"a\"\nkind = \"log\"\nclock = \"a2\"\n\
+    [[links]]\nfrom = \"a\"\nto = \"b\"\nleast = 10\nmost = 20\n";
+
 const SAME_LINK: &str =
     "[hosts.a]\n[[links]]\nfrom = \"a\"\nto = \"a\"\n[[links]]\nfrom = \"a\"\nto = \"a\"\n";
 
@@ -39,13 +59,17 @@ const LATE: &str = "100,send,m1,\n190,receive,m2,\n";
 
 const TOO_LATE: &str = "100,send,m1,\n195,receive,m2,\n";
 
+const ONE_SEND: &str = "100,send,m1,\n";
+
 // The files of a run over a declaration, and which log `a.csv` is. Reads with these numbers fail.
 fn files_of(alloc: Global, decl: &str, log: &str, fails: &[u32]) -> Result<MemFiles, AllocError> {
     let mut files = MemFiles::new(alloc, fails)?;
     files.put("d", decl.as_bytes())?;
     files.put("a.csv", log.as_bytes())?;
     files.put("b.csv", b"250,receive,m1,\n300,send,m2,\n")?;
+    files.put("c.csv", b"250,receive,m1,\n255,receive,m2,\n")?;
     files.put("d.csv", b"310,send,m2,\n")?;
+    files.put("r.csv", b"0,send,m2,\n")?;
     Ok(files)
 }
 
@@ -67,7 +91,7 @@ fn ends_so(alloc: Global, case: &Case) -> Result<bool, AllocError> {
     answers_so(alloc, case, &mut files)
 }
 
-const SESSIONS: [Case; 9] = [
+const SESSIONS: [Case; 10] = [
     Case {
         decl: TWO_LOGS_DECLARATION,
         log: ON_TIME,
@@ -92,6 +116,21 @@ const SESSIONS: [Case; 9] = [
         status: Status::Done,
         printed: "added events 2 messages 0 withdrawn 0 pending 0 consistent\n\
         added events 2 messages 2 withdrawn 0 pending 0 consistent\ninterval 20.000000000 20.000000000\n",
+    },
+    // A host whose second clock begins at least 5 ns behind what its first one showed last.
+    Case {
+        decl: TWO_CLOCKS_DECLARATION,
+        log: ONE_SEND,
+        file_fails: &[],
+        script: "add a a.csv\nadd r r.csv\nadd b c.csv\ninterval a#1 r#1\norder a#1 r#1\nproblem\n",
+        read_fails: &[],
+        write_fails: &[],
+        status: Status::Done,
+        printed: "added events 1 messages 0 withdrawn 0 pending 0 consistent\n\
+        added events 1 messages 0 withdrawn 0 pending 0 consistent\n\
+        added events 2 messages 2 withdrawn 0 pending 0 consistent\ninterval 5.000000000 15.000000000\norder before\n\
+        problem 2\nclock a1 0 0 0 0\nclock a2 0 0 0 0\nclock b 0 0 0 0\nfollow a1 a2 5\nevent a#1 a1 100\n\
+        event b#1 b 250\nevent b#2 b 255\nevent r#1 a2 0\nmessage a#1 b#1 10 20\nmessage r#1 b#2 10 20\nend\n",
     },
     // A contradiction, and the message that made it withdrawn by a second send of its key.
     Case {
@@ -190,7 +229,7 @@ fn scripts_are_answered(rt: HostRuntime) -> Result<(), Fail> {
 }
 
 // Declarations that are refused, or not read. Of the script nothing is answered.
-const REFUSED: [Case; 7] = [
+const REFUSED: [Case; 9] = [
     Case {
         decl: NO_HOST,
         log: ON_TIME,
@@ -230,6 +269,26 @@ const REFUSED: [Case; 7] = [
         write_fails: &[],
         status: Status::BadDecl,
         printed: "declaration 4 links 2\n",
+    },
+    Case {
+        decl: OTHER_HOSTS_CLOCK,
+        log: ON_TIME,
+        file_fails: &[],
+        script: "problem\n",
+        read_fails: &[],
+        write_fails: &[],
+        status: Status::BadDecl,
+        printed: "declaration 4 labels 3\n",
+    },
+    Case {
+        decl: OTHER_HOSTS_NAME,
+        log: ON_TIME,
+        file_fails: &[],
+        script: "problem\n",
+        read_fails: &[],
+        write_fails: &[],
+        status: Status::BadDecl,
+        printed: "declaration 4 hosts 2\n",
     },
     Case {
         decl: "hosts = ",
@@ -320,45 +379,117 @@ fn words_of_sessions(rt: HostRuntime) -> Result<(), Fail> {
     Ok(())
 }
 
-// Two additions, and a last line behind them.
+// What is to be proved: a declaration, which log `a.csv` is, the additions, and two scripts that have a last line behind them.
+struct Proof {
+    decl: &'static str,
+    log: &'static str,
+    added: &'static [u8],
+    shown: &'static [u8],
+    proved: &'static [u8],
+}
+
+// Two additions.
 const ADDED: &[u8] = b"add a a.csv\nadd b b.csv\n";
 
 const SHOWN: &[u8] = b"add a a.csv\nadd b b.csv\nproblem";
 
-// Scripts over logs, each of which says how `a.csv` is, and what is to be proved.
-const PROOFS: [(&str, &[u8]); 6] = [
-    (ON_TIME, b"add a a.csv\nadd b b.csv\nprove a#1 b#1"),
-    (ON_TIME, b"add a a.csv\nadd b b.csv\nprove b#2 a#1"),
-    (ON_TIME, b"add a a.csv\nadd b b.csv\nprove a#2 a#2"),
-    (LATE, b"add a a.csv\nadd b b.csv\nprove b#1 a#2"),
-    (TOO_LATE, b"add a a.csv\nadd b b.csv\nprove a#1 b#1"),
-    ("0,local,,\n", b"add a a.csv\nadd b b.csv\nprove a#1 b#1"),
+// Three additions, to a host that has two clocks and another one.
+const CLOCKS_ADDED: &[u8] = b"add a a.csv\nadd r r.csv\nadd b c.csv\n";
+
+const CLOCKS_SHOWN: &[u8] = b"add a a.csv\nadd r r.csv\nadd b c.csv\nproblem";
+
+const PROOFS: [Proof; 9] = [
+    Proof {
+        decl: TWO_LOGS_DECLARATION,
+        log: ON_TIME,
+        added: ADDED,
+        shown: SHOWN,
+        proved: b"add a a.csv\nadd b b.csv\nprove a#1 b#1",
+    },
+    Proof {
+        decl: TWO_LOGS_DECLARATION,
+        log: ON_TIME,
+        added: ADDED,
+        shown: SHOWN,
+        proved: b"add a a.csv\nadd b b.csv\nprove b#2 a#1",
+    },
+    Proof {
+        decl: TWO_LOGS_DECLARATION,
+        log: ON_TIME,
+        added: ADDED,
+        shown: SHOWN,
+        proved: b"add a a.csv\nadd b b.csv\nprove a#2 a#2",
+    },
+    Proof {
+        decl: TWO_LOGS_DECLARATION,
+        log: LATE,
+        added: ADDED,
+        shown: SHOWN,
+        proved: b"add a a.csv\nadd b b.csv\nprove b#1 a#2",
+    },
+    Proof {
+        decl: TWO_LOGS_DECLARATION,
+        log: TOO_LATE,
+        added: ADDED,
+        shown: SHOWN,
+        proved: b"add a a.csv\nadd b b.csv\nprove a#1 b#1",
+    },
+    Proof {
+        decl: TWO_LOGS_DECLARATION,
+        log: "0,local,,\n",
+        added: ADDED,
+        shown: SHOWN,
+        proved: b"add a a.csv\nadd b b.csv\nprove a#1 b#1",
+    },
+    Proof {
+        decl: TWO_CLOCKS_DECLARATION,
+        log: ONE_SEND,
+        added: CLOCKS_ADDED,
+        shown: CLOCKS_SHOWN,
+        proved: b"add a a.csv\nadd r r.csv\nadd b c.csv\nprove a#1 r#1",
+    },
+    // Nothing leaves the earlier clock.
+    Proof {
+        decl: TWO_CLOCKS_DECLARATION,
+        log: "100,local,,\n",
+        added: CLOCKS_ADDED,
+        shown: CLOCKS_SHOWN,
+        proved: b"add a a.csv\nadd r r.csv\nadd b c.csv\nprove a#1 b#2",
+    },
+    // A message from the later clock to the earlier one, which can't be.
+    Proof {
+        decl: TWO_CLOCKS_DECLARATION,
+        log: "100,receive,m2,\n",
+        added: b"add a a.csv\nadd r r.csv\n",
+        shown: b"add a a.csv\nadd r r.csv\nproblem",
+        proved: b"add a a.csv\nadd r r.csv\nprove a#1 r#1",
+    },
 ];
 
-// Runs a session over a log and `b.csv`, with this script.
+// Runs a session over the logs of a proof, with this script.
 fn run_session(
     alloc: Global,
-    log: &str,
+    proof: &Proof,
     script: &[u8],
     out: &mut MemSink,
 ) -> Result<(), AllocError> {
-    let mut files = files_of(alloc, TWO_LOGS_DECLARATION, log, &[])?;
+    let mut files = files_of(alloc, proof.decl, proof.log, &[])?;
     run_over(alloc, &["session", "d"], &mut files, script, &[], out)?;
     Ok(())
 }
 
-// How many bytes such a session prints for its two additions.
-fn length_of_additions(alloc: Global, log: &str) -> Result<usize, AllocError> {
+// How many bytes such a session prints for its additions.
+fn length_of_additions(alloc: Global, proof: &Proof) -> Result<usize, AllocError> {
     let mut out = MemSink::new(alloc, 900, 300, &[])?;
-    run_session(alloc, log, ADDED, &mut out)?;
+    run_session(alloc, proof, proof.added, &mut out)?;
     Ok(out.bytes().len())
 }
 
 // Whether `verify` accepts this certificate of this problem.
-fn is_accepted(alloc: Global, problem: &[u8], proof: &[u8]) -> Result<bool, AllocError> {
+fn is_accepted(alloc: Global, problem: &[u8], certificate: &[u8]) -> Result<bool, AllocError> {
     let mut files = MemFiles::new(alloc, &[])?;
     files.put("p", problem)?;
-    files.put("c", proof)?;
+    files.put("c", certificate)?;
     let wanted = Wanted {
         words: &["verify", "p", "c"],
         status: Status::Done,
@@ -375,50 +506,43 @@ fn is_accepted_behind(
     begins: usize,
 ) -> Result<bool, AllocError> {
     match all.get(begins..) {
-        Some(proof) => is_accepted(alloc, problem, proof),
+        Some(certificate) => is_accepted(alloc, problem, certificate),
         None => Ok(false),
     }
 }
 
-// Whether what the last line of the script replies, behind so many bytes, is accepted as a certificate of this problem.
-fn proves(
-    alloc: Global,
-    log: &str,
-    script: &[u8],
-    begins: usize,
-    problem: &[u8],
-) -> Result<bool, AllocError> {
+// Whether what `prove` replies, behind so many bytes, is accepted as a certificate of this problem.
+fn proves(alloc: Global, proof: &Proof, begins: usize, problem: &[u8]) -> Result<bool, AllocError> {
     let mut out = MemSink::new(alloc, 2_000, 300, &[])?;
-    run_session(alloc, log, script, &mut out)?;
+    run_session(alloc, proof, proof.proved, &mut out)?;
     is_accepted_behind(alloc, problem, out.bytes(), begins)
 }
 
 // The same, where the problem stands behind so many bytes.
 fn proves_behind(
     alloc: Global,
-    log: &str,
-    script: &[u8],
+    proof: &Proof,
     begins: usize,
     all: &[u8],
 ) -> Result<bool, AllocError> {
     match all.get(begins..) {
-        Some(problem) => proves(alloc, log, script, begins, problem),
+        Some(problem) => proves(alloc, proof, begins, problem),
         None => Ok(false),
     }
 }
 
 // Whether what `prove` replies is accepted as a certificate of what `problem` replies.
-fn proof_holds(alloc: Global, log: &str, script: &[u8]) -> Result<bool, AllocError> {
-    let begins = length_of_additions(alloc, log)?;
+fn proof_holds(alloc: Global, proof: &Proof) -> Result<bool, AllocError> {
+    let begins = length_of_additions(alloc, proof)?;
     let mut out = MemSink::new(alloc, 2_000, 300, &[])?;
-    run_session(alloc, log, SHOWN, &mut out)?;
-    proves_behind(alloc, log, script, begins, out.bytes())
+    run_session(alloc, proof, proof.shown, &mut out)?;
+    proves_behind(alloc, proof, begins, out.bytes())
 }
 
 #[test]
 fn proofs_hold(rt: HostRuntime) -> Result<(), Fail> {
-    for (log, script) in &PROOFS {
-        assert!(rt; proof_holds(rt.alloc(), log, script)?);
+    for proof in &PROOFS {
+        assert!(rt; proof_holds(rt.alloc(), proof)?);
     }
     Ok(())
 }

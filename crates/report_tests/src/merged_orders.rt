@@ -85,7 +85,7 @@ fn merge<L: Ledger>(
     requires blank { (blank.name ≡ L.name) × (blank.parts ≡ L.parts) × (0 < L.parts) }
     requires declared { IsDeclaration (declaration_of decl.now) }
 {
-    if logs.len() > 65536 || logs.len() != decl.labels.len() || event_count(logs) > 1 << 20 {
+    if logs.len() > 65536 || logs.len() != decl.labels.len() || event_count(logs) > 1 << 21 {
         return Err(AllocError);
     }
     let messages = messages_in(alloc, logs)?;

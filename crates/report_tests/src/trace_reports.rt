@@ -183,7 +183,7 @@ fn traces_of(alloc: Global, decl: &Decl, case: &Case) -> Option<Vec<Accepted>>
 fn line_of(alloc: Global, case: &Case) -> Option<Vec<u8>> {
     let decl = declared(alloc, DECLARATION)?;
     let traces = traces_of(alloc, &decl, case)?;
-    if traces.len() != decl.labels.len() || event_count(&traces) > 1 << 20 {
+    if traces.len() != decl.labels.len() || event_count(&traces) > 1 << 21 {
         return None;
     }
     let view = view_of(alloc, &decl, &traces, case.consistent).ok()?;

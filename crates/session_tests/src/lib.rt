@@ -1,8 +1,9 @@
 //! Tests of sessions and scripts, each by public calls.
 //!
 //! `additions` has what is replied to each addition and each command, `cut_additions` a capture that comes in pieces,
-//! `limits` files that have more than a session takes, `questions` what is asked of two events, `keeps` events that are kept,
-//! `wide_captures` packets of IPv6 (`session`); `scripts` has whole scripts (`script`); `fixtures` what several of them use.
+//! `limits` files that have more than a session takes, `questions` what is asked of two events, `several_clocks` what is
+//! replied of hosts with several clocks, `keeps` events that are kept, `wide_captures` packets of IPv6 (`session`); `scripts`
+//! has whole scripts (`script`); `fixtures` what several of them use.
 #![tactic(auto)]
 
 #[cfg(test)]
@@ -19,5 +20,7 @@ mod limits;
 mod questions;
 #[cfg(test)]
 mod scripts;
+#[cfg(test)]
+mod several_clocks;
 #[cfg(test)]
 mod wide_captures;

@@ -1,4 +1,4 @@
-// Files that have more than a session takes: more than 2^28 bytes, or a log with more than 2^20 rows.
+// Files that have more than a session takes: more than 2^28 bytes, or a log with more than 2^21 rows.
 use crate::fixtures::{TWO_LOGS_DECLARATION, replies_over, session_over, step};
 use ports::{FileFail, Files, MemFiles, MemSink};
 use session::{Session, Stop};
@@ -72,5 +72,5 @@ fn are_rows_refused(alloc: Global, count: u32) -> Result<bool, Stop> {
 
 #[test]
 fn one_event_too_many(rt: HostRuntime) {
-    assert!(rt; are_rows_refused(rt.alloc(), (1 << 20) + 1) == Ok(true));
+    assert!(rt; are_rows_refused(rt.alloc(), (1 << 21) + 1) == Ok(true));
 }

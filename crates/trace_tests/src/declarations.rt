@@ -2,20 +2,24 @@ use decl::{Decl, DeclError, Section, TraceKind, read_decl};
 use std::alloc::Global;
 use std::test::*;
 
-// What a declaration is to say: each clock's name, short, long, early and late; addresses with their hosts; each label's
-// name, host and kind; links; the bytes of a payload; the source.
+// What a declaration is to say: the names of hosts; each clock's name, short, long, early and late; each clock's host and
+// gap; addresses with their hosts; each label's name, host, clock and kind; links; the bytes of a payload; the source.
 #[derive(Clone, Copy)]
-struct Wanted {
-    clocks: &'static [(&'static str, u32, u32, u64, u64)],
-    addresses: &'static [(u32, u32)],
-    labels: &'static [(&'static str, u32, TraceKind)],
-    links: &'static [(u32, u32, u64, Option<u64>)],
-    payload_bytes: u8,
-    source: Option<u32>,
+pub(crate) struct Wanted {
+    pub(crate) hosts: &'static [&'static str],
+    pub(crate) clocks: &'static [(&'static str, u32, u32, u64, u64)],
+    pub(crate) owners: &'static [(u32, u64)],
+    pub(crate) addresses: &'static [(u32, u32)],
+    pub(crate) labels: &'static [(&'static str, u32, u32, TraceKind)],
+    pub(crate) links: &'static [(u32, u32, u64, Option<u64>)],
+    pub(crate) payload_bytes: u8,
+    pub(crate) source: Option<u32>,
 }
 
-const NOTHING: Wanted = Wanted {
+pub(crate) const NOTHING: Wanted = Wanted {
+    hosts: &[],
     clocks: &[],
+    owners: &[],
     addresses: &[],
     labels: &[],
     links: &[],
@@ -34,17 +38,19 @@ fn are_clocks(decl: &Decl, wanted: &Wanted) -> bool {
         })
 }
 
-// Each host has one clock, of its own name.
-fn are_hosts(decl: &Decl) -> bool {
-    decl.hosts.len() == decl.clocks.len()
-        && decl.owners.len() == decl.clocks.len()
+fn are_hosts(decl: &Decl, wanted: &Wanted) -> bool {
+    decl.hosts.len() == wanted.hosts.len()
         && decl
             .hosts
             .iter()
-            .zip(&decl.clocks)
-            .all(|(host, clock)| host == &clock.name)
-        && decl.owners.iter().enumerate().all(|(k, owner)| owner.host as usize == k
-            && owner.gap.get() == 0)
+            .zip(wanted.hosts)
+            .all(|(host, one)| host.bytes() == one.as_bytes())
+}
+
+fn are_owners(decl: &Decl, wanted: &Wanted) -> bool {
+    decl.owners.len() == wanted.owners.len()
+        && decl.owners.iter().zip(wanted.owners).all(|(owner, one)| owner.host == one.0
+            && owner.gap.get() == one.1)
 }
 
 fn are_addresses(decl: &Decl, wanted: &Wanted) -> bool {
@@ -59,8 +65,8 @@ fn are_labels(decl: &Decl, wanted: &Wanted) -> bool {
         && decl.labels.iter().zip(wanted.labels).all(|(label, one)| {
             label.name.bytes() == one.0.as_bytes()
                 && label.host == one.1
-                && label.clock == one.1
-                && label.kind == one.2
+                && label.clock == one.2
+                && label.kind == one.3
         })
 }
 
@@ -81,11 +87,12 @@ fn are_links(decl: &Decl, wanted: &Wanted) -> bool {
         })
 }
 
-fn says(alloc: Global, text: &str, wanted: &Wanted) -> bool {
+pub(crate) fn says(alloc: Global, text: &str, wanted: &Wanted) -> bool {
     match read_decl(alloc, text.as_bytes()) {
         Ok(decl) => {
-            are_hosts(&decl)
+            are_hosts(&decl, wanted)
                 && are_clocks(&decl, wanted)
+                && are_owners(&decl, wanted)
                 && are_addresses(&decl, wanted)
                 && are_labels(&decl, wanted)
                 && are_links(&decl, wanted)
@@ -96,7 +103,13 @@ fn says(alloc: Global, text: &str, wanted: &Wanted) -> bool {
     }
 }
 
-fn is_refused(alloc: Global, bytes: &[u8], number: u32, section: Section, index: u32) -> bool {
+pub(crate) fn is_refused(
+    alloc: Global,
+    bytes: &[u8],
+    number: u32,
+    section: Section,
+    index: u32,
+) -> bool {
     match read_decl(alloc, bytes) {
         Ok(_) => false,
         Err(e) => {
@@ -117,6 +130,7 @@ const WHOLE: &str = "payload_bytes = 16\nsource = \"b\"\n\n[hosts.c]\naddresses 
     most = 0\n";
 
 const WHOLE_SAYS: Wanted = Wanted {
+    hosts: &["a-1", "b", "c"],
     clocks: &[
         (
             "a-1",
@@ -128,8 +142,9 @@ const WHOLE_SAYS: Wanted = Wanted {
         ("b", 0, 0, 0, 7),
         ("c", 0, 0, 0, 0),
     ],
+    owners: &[(0, 0), (1, 0), (2, 0)],
     addresses: &[(0xffff_ffff, 0), (0x0a00_0002, 1), (0, 1)],
-    labels: &[("B", 1, TraceKind::Capture), ("x", 2, TraceKind::Log)],
+    labels: &[("B", 1, 1, TraceKind::Capture), ("x", 2, 2, TraceKind::Log)],
     links: &[
         (1, 0, 5, Some(9)),
         (0, 1, 0, None),
@@ -144,9 +159,11 @@ const SHORT: &str =
     labels.l = { kind = 'log', host = 'Z' }\r\n";
 
 const SHORT_SAYS: Wanted = Wanted {
+    hosts: &["Z", "a"],
     clocks: &[("Z", 0, 0, 0, 0), ("a", 0, 0, 0, 0)],
+    owners: &[(0, 0), (1, 0)],
     addresses: &[(0x0102_0304, 1)],
-    labels: &[("l", 0, TraceKind::Log)],
+    labels: &[("l", 0, 0, TraceKind::Log)],
     links: &[],
     payload_bytes: 64,
     source: None,

@@ -49,7 +49,7 @@ pub(crate) fn log_of(alloc: Global, text: &str) -> Result<Accepted, LogError> {
 
 // The messages of all labels, by the filters.
 pub(crate) fn by_filters(alloc: Global, labels: &[Accepted]) -> Result<Vec<Couple>, AllocError> {
-    if labels.len() > 65536 || event_count(labels) > 1 << 20 {
+    if labels.len() > 65536 || event_count(labels) > 1 << 21 {
         return Err(AllocError);
     }
     messages_in(alloc, labels)

@@ -217,7 +217,7 @@ fn add_more(kept: &mut Kept, label: u32, mut events: Vec<Event>) -> Result<Chang
 fn by_index(alloc: Global, kept: &Kept) -> Result<Vec<Couple>, AllocError>
     requires { AreEndsOf kept.now.matcher (seen_in kept.now.labels.items) }
 {
-    if kept.labels.len() > 65536 || event_count(&kept.labels) > 1 << 20 {
+    if kept.labels.len() > 65536 || event_count(&kept.labels) > 1 << 21 {
         return Err(AllocError);
     }
     let events = events(alloc, &kept.labels)?;

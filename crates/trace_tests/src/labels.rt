@@ -128,7 +128,7 @@ fn read_logs(alloc: Global, texts: &[&str; 3]) -> Result<Vec<Accepted>, LogError
 
 // The messages of all labels, by way of their events.
 fn pairs(alloc: Global, labels: &[Accepted]) -> Result<Vec<Couple>, AllocError> {
-    if labels.len() > 65536 || event_count(labels) > 1 << 20 {
+    if labels.len() > 65536 || event_count(labels) > 1 << 21 {
         return Err(AllocError);
     }
     let events = events(alloc, labels)?;

@@ -1,16 +1,19 @@
 //! Tests of traces, from their bytes to the problem that they make, each by public calls.
 //!
-//! `logs` has rows of logs (`event_log`); `declarations` what is declared, and its faults (`decl`); `headers` the headers of
-//! packets (`ip_headers`); `capture_pieces` the packets of a capture that comes in pieces (`pcap_stream`); `events` what is seen of
-//! rows and packets (`trace_event`); `labels` the events and messages under labels (`traces`); `matches` sends and receives of
-//! a key (`msg_match`); `labelled_matches` those under labels (`trace_match`); `problems` the problem that is made
-//! (`trace_problem`); `rosters` what is listed of events that come (`roster`); `fixtures` has what several of them use.
+//! `logs` has rows of logs (`event_log`); `declarations` what is declared, and its faults, and `declared_clocks` the same of
+//! hosts with several clocks (`decl`); `headers` the headers of packets (`ip_headers`); `capture_pieces` the packets of a capture
+//! that comes in pieces (`pcap_stream`); `events` what is seen of rows and packets (`trace_event`); `labels` the events and
+//! messages under labels (`traces`); `matches` sends and receives of a key (`msg_match`); `labelled_matches` those under labels
+//! (`trace_match`); `problems` the problem that is made (`trace_problem`); `rosters` what is listed of events that come
+//! (`roster`); `fixtures` has what several of them use.
 #![tactic(auto)]
 
 #[cfg(test)]
 mod capture_pieces;
 #[cfg(test)]
 mod declarations;
+#[cfg(test)]
+mod declared_clocks;
 #[cfg(test)]
 mod events;
 #[cfg(test)]

@@ -64,10 +64,39 @@ const CASES: [([&str; 3], &str); 6] = [
     ),
 ];
 
-fn declared(alloc: Global) -> Option<Decl>
+// The same labels: p at the host b, which has two clocks, on its first one; q on the last clock of the host a, which comes back to
+// the first one's numbers, and r on its second one. Nothing is on the first clock of a.
+const STEPPED_DECLARATION: &str = "[hosts.a]\nshort = 10\nlong = 20\nearly = 1\nlate = 2\n\
+    clocks = [{ name = \"z\", gap = 9 }, { name = \"a\", short = 0 }, { name = \"y\", gap = 7 }]\n\
+    [hosts.b]\nclocks = [{ name = \"b\" }, { name = \"c\", gap = 4611686018427387903 }]\n\
+    [labels.p]\nhost = \"b\"\nkind = \"log\"\n[labels.q]\nhost = \"a\"\nkind = \"log\"\nclock = \"y\"\n\
+    [labels.r]\nhost = \"a\"\nkind = \"log\"\nclock = \"a\"\n\
+    [[links]]\nfrom = \"a\"\nto = \"b\"\nleast = 10\nmost = 20\n[[links]]\nfrom = \"a\"\nto = \"a\"\nleast = 1\nmost = 2\n";
+
+// Each two neighbouring clocks of a host follow each other, events stand on the clocks of their labels, and the bounds of messages
+// are those of hosts, whichever their clocks are.
+const STEPPED: [([&str; 3], &str); 2] = [
+    (
+        ["", "", ""],
+        "problem 2\nclock z 10 20 1 2\nclock a 0 20 1 2\nclock y 10 20 1 2\nclock b 0 0 0 0\nclock c 0 0 0 0\n\
+        follow z a 0\nfollow a y 7\nfollow b c 4611686018427387903\nend\n",
+    ),
+    (
+        [
+            "250,receive,m,\n",
+            "5,send,m,\n6,receive,k,\n",
+            "7,send,k,\n",
+        ],
+        "problem 2\nclock z 10 20 1 2\nclock a 0 20 1 2\nclock y 10 20 1 2\nclock b 0 0 0 0\nclock c 0 0 0 0\n\
+        follow z a 0\nfollow a y 7\nfollow b c 4611686018427387903\nevent p#1 b 250\nevent q#1 y 5\nevent q#2 y 6\n\
+        event r#1 a 7\nmessage q#1 p#1 10 20\nmessage r#1 q#2 1 2\nend\n",
+    ),
+];
+
+fn declared(alloc: Global, text: &str) -> Option<Decl>
     ensures { IfSome result (λ d. IsDeclaration (declaration_of d)) }
 {
-    read_decl(alloc, DECLARATION.as_bytes()).ok()
+    read_decl(alloc, text.as_bytes()).ok()
 }
 
 fn logs_of(alloc: Global, texts: &[&str; 3]) -> Option<Vec<Accepted>> {
@@ -81,21 +110,24 @@ fn logs_of(alloc: Global, texts: &[&str; 3]) -> Option<Vec<Accepted>> {
 fn made(alloc: Global, decl: &Decl, logs: &[Accepted]) -> Option<Problem>
     requires { IsDeclaration (declaration_of decl.now) }
 {
-    if logs.len() > 65536 || logs.len() != decl.labels.len() || event_count(logs) > 1 << 20 {
+    if logs.len() > 65536 || logs.len() != decl.labels.len() || event_count(logs) > 1 << 21 {
         return None;
     }
     let messages = messages_in(alloc, logs).ok()?;
     problem_of(alloc, decl, logs, &messages).ok()
 }
 
-fn made_of(alloc: Global, texts: &[&str; 3]) -> Option<Problem> {
-    let decl = declared(alloc)?;
+fn made_of(alloc: Global, declaration: &str, texts: &[&str; 3]) -> Option<Problem> {
+    let decl = declared(alloc, declaration)?;
     let logs = logs_of(alloc, texts)?;
     made(alloc, &decl, &logs)
 }
 
 fn are_same(a: &Problem, b: &Problem) -> bool {
-    a.clocks() == b.clocks() && a.events() == b.events() && a.messages() == b.messages()
+    a.clocks() == b.clocks()
+        && a.follows() == b.follows()
+        && a.events() == b.events()
+        && a.messages() == b.messages()
 }
 
 // Whether a text is read as this problem.
@@ -106,8 +138,8 @@ fn reads_as(alloc: Global, text: &str, problem: &Problem) -> bool {
     }
 }
 
-fn makes(alloc: Global, texts: &[&str; 3], wanted: &str) -> bool {
-    match made_of(alloc, texts) {
+fn makes(alloc: Global, declaration: &str, texts: &[&str; 3], wanted: &str) -> bool {
+    match made_of(alloc, declaration, texts) {
         Some(problem) => reads_as(alloc, wanted, &problem),
         None => false,
     }
@@ -116,7 +148,17 @@ fn makes(alloc: Global, texts: &[&str; 3], wanted: &str) -> bool {
 #[test]
 fn problems(rt: HostRuntime) {
     for (texts, wanted) in &CASES {
-        assert!(rt; makes(rt.alloc(), texts, wanted), "{wanted}");
+        assert!(rt; makes(rt.alloc(), DECLARATION, texts, wanted), "{wanted}");
+    }
+}
+
+#[test]
+fn problems_of_several_clocks(rt: HostRuntime) {
+    for (texts, wanted) in &STEPPED {
+        assert!(rt;
+            makes(rt.alloc(), STEPPED_DECLARATION, texts, wanted),
+            "{wanted}"
+        );
     }
 }
 

@@ -80,7 +80,7 @@ fn declared(alloc: Global) -> Option<Decl>
 
 fn push_log(alloc: Global, roster: &mut Roster, label: u32, text: &str) -> Option<u32> {
     let log = log_of(alloc, text).ok()?;
-    let most = 1 << 20;
+    let most = 1 << 21;
     if label as usize >= roster.decl().labels.len()
         || log.events.len() > most - roster.len() as usize
     {
