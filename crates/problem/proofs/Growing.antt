@@ -14,7 +14,8 @@ use Rattle.problem_model.specs.ChainNumbers.{with_follow}
 use Rattle.problem.specs.Growing.{IsNewClock, IsNewFollow, IsNewEvent, IsNewPair, IsNewMessage, HasRoomForClock, HasRoomForEvent, HasRoomForMessage, with_clock, with_event, with_message}
 use Rattle.problem.specs.Inside.{AreItems, AreLinks}
 use Rattle.problem.specs.declared.chains.Link.{Link}
-use Rattle.problem.proofs.Linked.{lone, links_clock, links_event, links_message}
+use Rattle.problem.proofs.OneLink.{lone}
+use Rattle.problem.proofs.Linked.{links_clock, links_event, links_message}
 
 -- ---- a key that stands at no place differs from each
 module _ {A K : Type 0} (key : A → K) where

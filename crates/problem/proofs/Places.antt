@@ -1,10 +1,12 @@
 -- A key is found at its place.
-use Rattle.std.proofs.Common.{◌≡◌, ◌<◌, ℕ, zero, suc, List, [], ◌∷◌, ◌++◌, length, get_or, slice_get, Bool, true, false, cond, ◌&&◌, nat_eq, Option, Some, None, refl, sym, ◌∙◌, ap, arith}
-use Rattle.std.specs.Prelude.{IfSome, IfNone, is_some}
-use Rattle.std.specs.List.{position, list_any}
+use Rattle.std.proofs.Common.{◌≡◌, ◌<◌, ℕ, zero, suc, List, [], ◌∷◌, length, get_or, slice_get, Bool, true, ◌&&◌, nat_eq, Option, Some, None, refl, sym, ◌∙◌, ap, arith, inl, inr}
+use Rattle.std.specs.Prelude.{IfSome, IfNone}
+use Rattle.std.specs.List.{position}
 use Rattle.std.specs.Str.{bytes_eq}
+use Rattle.std.proofs.lemmas.Bool.{cases_Bool}
 use Rattle.std.proofs.lemmas.Slice.Eq.{bytes_eq-Decides}
 use Rattle.std.proofs.lemmas.List.Quantifiers.{position-Some}
+use Rattle.places.proofs.Positions.{position_none, none_passes}
 
 -- the test tells keys apart
 pub record IsExact {K : Type 0} (eq : K → K → Bool) : Type 0 where
@@ -40,28 +42,16 @@ module _ {K : Type 0} (eq : K → K → Bool) (exact : IsExact eq) where
       let p = position-Some (eq name) ns k name e in
       got name ns k p.0 ∙ ap Some (sym (exact.same name (get_or ns k name) p.1))
 
-  pub any_at : (name : K) (ns : List K) (k : ℕ) → slice_get ns k ≡ Some name → list_any (eq name) ns ≡ true
-  any_at name [] k e = absurd cc
-  any_at name (n ∷ ns) zero e = let is : n ≡ name = cc in rw (is, exact.self name) refl
-  any_at name (n ∷ ns) (suc k) e = let rest = any_at name ns k e in grind (arith, rest)
-
-  placed : (b : Bool) (name n : K) (ns : List K) → eq name n ≡ b → list_any (eq name) (n ∷ ns) ≡ true → (list_any (eq name) ns ≡ true → (k : ℕ) × (slice_get ns k ≡ Some name)) →
-      (k : ℕ) × (slice_get (n ∷ ns) k ≡ Some name)
-  placed true name n ns is e rest = (0, ap Some (sym (exact.same name n is)))
-  placed false name n ns is e rest = let r = rest (grind (arith, e, is)) in (suc r.0, r.1)
-
-  pub any_place : (name : K) (ns : List K) → list_any (eq name) ns ≡ true → (k : ℕ) × (slice_get ns k ≡ Some name)
-  any_place name [] e = absurd cc
-  any_place name (n ∷ ns) e = placed (eq name n) name n ns refl e (any_place name ns)
-
   pub found : (name : K) (ns : List K) (o : Option ℕ) → o ≡ position (eq name) ns → IfSome o (λ k. slice_get ns k ≡ Some name)
   found name ns None e = tt
   found name ns (Some k) e = place_some name ns k (sym e)
 
-  pub missed : (name : K) (ns : List K) (o : Option ℕ) → is_some o ≡ list_any (eq name) ns → IfNone o ((k : ℕ) → slice_get ns k ≡ Some name → ⊥)
+  pub missed : (name : K) (ns : List K) (o : Option ℕ) → o ≡ position (eq name) ns → IfNone o ((k : ℕ) → slice_get ns k ≡ Some name → ⊥)
   missed name ns (Some k) e = tt
-  missed name ns None e = λ k at. let any = any_at name ns k at in cc
+  missed name ns None e = λ k at. absurd (let other = none_passes (eq name) ns (sym e) k name at in let self = exact.self name in cc)
 
-  pub added : (name : K) (ns : List K) (b : Bool) → list_any (eq name) ns ≡ b → ((k : ℕ) → slice_get ns k ≡ Some name → ⊥) → cond b ns (ns ++ name ∷ []) ≡ ns ++ name ∷ []
-  added name ns true e new = let p = any_place name ns e in absurd (new p.0 p.1)
-  added name ns false e new = refl
+  pub absent : (name : K) (ns : List K) → ((k : ℕ) → slice_get ns k ≡ Some name → ⊥) → position (eq name) ns ≡ None
+  absent name ns none = position_none (eq name) ns (λ k y at. elim (cases_Bool (eq name y)) [
+    | inl same ↦ absurd (none k (at ∙ ap Some (sym (exact.same name y same))))
+    | inr other ↦ other
+  ])

@@ -1,5 +1,6 @@
 -- What the fields of a problem keep.
-use Rattle.std.specs.Prelude.{◌≡◌, ◌<◌, ◌≤◌, ℕ, List, [], ◌∷◌, length, map, Option, Some, None, find, ◌==◌, slice_index_or}
+use Rattle.std.specs.Prelude.{◌≡◌, ◌≢◌, ◌<◌, ◌≤◌, ◌+◌, ◌⊎◌, ℕ, List, length, map, Option, Some, None, find, ◌==◌, if◌then◌else◌, slice_index_or, slice_set}
+use Rattle.std.specs.List.{count_by}
 use Rattle.problem_model.specs.declared.items.Follow.{Follow}
 use Rattle.problem_model.specs.Problem.{ProblemLists, IsProblem}
 use Rattle.problem_model.specs.ChainNumbers.{AreChainNumbers}
@@ -12,36 +13,56 @@ follow_from follows c = find (λ f. f.earlier == c) follows
 
 -- what is held of clock k; past the last clock nothing
 abbrev pub link_at : List Link → ℕ → Link
-link_at links k = slice_index_or links k (record { before = None; after = None; number = 0 })
+link_at links k = slice_index_or links k (record { before = None; after = None; number = 0; size = 0 })
 
--- of each clock its follows are held and the number of its chain, which is not above its place
+-- how many clocks have this number
+abbrev pub chain_size : List Link → ℕ → ℕ
+chain_size links number = count_by (λ l. l.number == number) links
+
+-- each number is the place of a clock, where the clocks that have it are counted
+pub record AreCounted (links : List Link) : Type 0 where
+  pub places : (k : ℕ) → k < length links → (link_at links k).number < length links
+  pub sizes : (k : ℕ) → k < length links → (link_at links (link_at links k).number).size ≡ chain_size links (link_at links k).number
+
+-- of each clock its follows are held and the number of its chain
 pub record AreLinks (p : ProblemLists) (links : List Link) : Type 0 where
   pub each : length links ≡ length p.clocks
   pub befores : (k : ℕ) → (link_at links k).before ≡ follow_to p.follows k
   pub afters : (k : ℕ) → (link_at links k).after ≡ follow_from p.follows k
   pub numbers : AreChainNumbers p (λ k. (link_at links k).number)
-  pub low : (k : ℕ) → (link_at links k).number ≤ k
+  pub counted : AreCounted links
 
--- follows lead on among the clocks
-abbrev pub LeadOn : List Link → Type 0
-LeadOn links = (k : ℕ) (f : Follow) → (link_at links k).after ≡ Some f → (k < f.later) × (f.later < length links)
+-- clock l is the next one behind clock k that has its number
+pub record IsNext (links : List Link) (k l : ℕ) : Type 0 where
+  pub behind : k < l
+  pub inside : l < length links
+  pub one_number : (link_at links l).number ≡ (link_at links k).number
+  pub nearest : (m : ℕ) → k < m → m < l → (link_at links m).number ≢ (link_at links k).number
 
--- follows lead from clock a over these clocks to clock b
-abbrev pub LeadOver : List Link → ℕ → List ℕ → ℕ → Type 0
-LeadOver links a [] b = a ≡ b
-LeadOver links a (c ∷ cs) b = ((f : Follow) × ((link_at links a).after ≡ Some f) × (f.later ≡ c)) × LeadOver links c cs b
+-- follows lead over the clocks of each number in the order of their places
+pub record LeadInOrder (links : List Link) : Type 0 where
+  pub onward : (k : ℕ) (f : Follow) → (link_at links k).after ≡ Some f → IsNext links k f.later
+  pub back : (k : ℕ) (f : Follow) → (link_at links k).before ≡ Some f → IsNext links f.earlier k
+  pub last : (k l : ℕ) → (link_at links k).after ≡ None → k < l → l < length links → (link_at links l).number ≢ (link_at links k).number
+  pub first : (k l : ℕ) → (link_at links l).before ≡ None → k < l → l < length links → (link_at links k).number ≢ (link_at links l).number
 
--- clock b is clock a, or follows lead there
-abbrev pub IsOnward : List Link → ℕ → ℕ → Type 0
-IsOnward links a b = (cs : List ℕ) × LeadOver links a cs b
+-- what is held of a clock, but the one number in the place of the other
+abbrev pub renumber : ℕ → ℕ → Link → Link
+renumber old new l = if l.number == old then record l { number = new } else l
 
--- the clocks to which follows lead from the first one have this number, and all else stays
-pub record IsRenumbered (old new : List Link) (first number : ℕ) : Type 0 where
-  pub count : length new ≡ length old
-  pub befores : (k : ℕ) → (link_at new k).before ≡ (link_at old k).before
-  pub afters : (k : ℕ) → (link_at new k).after ≡ (link_at old k).after
-  pub onward : (k : ℕ) → IsOnward old first k → (link_at new k).number ≡ number
-  pub others : (k : ℕ) → (IsOnward old first k → ⊥) → (link_at new k).number ≡ (link_at old k).number
+-- the clocks of the one number have the other
+abbrev pub renumbered : List Link → ℕ → ℕ → List Link
+renumbered links old new = map (renumber old new) links
+
+-- so they have, and both chains are counted as one
+abbrev pub merged : List Link → ℕ → ℕ → List Link
+merged links old new =
+    let all = renumbered links old new in
+    slice_set all new (record (link_at all new) { size = chain_size links old + chain_size links new })
+
+-- of two chains that become one, the one with no more clocks gets the number of the other
+abbrev pub AreMerged : List Link → List Link → ℕ → ℕ → Type 0
+AreMerged old new a b = ((chain_size old a ≤ chain_size old b) × (new ≡ merged old a b)) ⊎ ((chain_size old b ≤ chain_size old a) × (new ≡ merged old b a))
 
 -- the look-ups are those of the lists
 pub record AreItems (p : ProblemLists) (clock_names event_names : List (List ℕ)) (pairs : List (ℕ × ℕ)) (links : List Link) : Type 0 where

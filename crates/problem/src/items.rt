@@ -166,6 +166,7 @@ impl Items {
             before: None,
             after: None,
             number,
+            size: 1,
         });
         self.clocks.push_reserved(c);
         Ok(())

@@ -1,7 +1,7 @@
 // Names and pairs by their places.
 ghost use Rattle.std.specs.Prelude.{◌≡◌, ◌≤◌, ◌<◌, ◌+◌, ◌^◌, ◌++◌, ◌∷◌, [], ℕ, length, slice_get, Some, IfSome, IfNone, OnOk, OnErr};
 
-use indexmap::IndexSet;
+use places::Places;
 use problem_model::Name;
 use std::alloc::{AllocFailed, Global};
 use std::marker::Model;
@@ -9,7 +9,7 @@ use std::marker::Model;
 /// The names of a list, by their places in it.
 #[derive(Drop)]
 pub struct Names {
-    set: IndexSet<Name>,
+    places: Places<Name>,
 }
 
 impl Model for Names {
@@ -17,7 +17,7 @@ impl Model for Names {
 
     ghost Value = { List (List ℕ) };
 
-    ghost view = { λ n. n.set.keys };
+    ghost view = { λ n. n.places };
 }
 
 impl Names {
@@ -26,7 +26,7 @@ impl Names {
         ensures { result ≡ [] }
     {
         Names {
-            set: IndexSet::new(alloc),
+            places: Places::new(alloc),
         }
     }
 
@@ -36,7 +36,7 @@ impl Names {
         ensures none { IfNone result ((k : ℕ) → slice_get self.now k ≡ Some name.now → ⊥) }
         ensures within { IfSome result (λ k. k < length self.now) }
     {
-        self.set.get_index_of(name)
+        self.places.place(name)
     }
 
     /// Appends a name that is not there. All stays as before where memory runs out.
@@ -45,15 +45,14 @@ impl Names {
         ensures ok { OnOk result (self.new ≡ self.old ++ name.now ∷ []) }
         ensures err { OnErr result (self.new ≡ self.old) }
     {
-        self.set.insert(*name)?;
-        Ok(())
+        self.places.push(*name)
     }
 }
 
 /// The sends and receives of a list of messages, by their places in it.
 #[derive(Drop)]
 pub struct Pairs {
-    set: IndexSet<(u32, u32)>,
+    places: Places<(u32, u32)>,
 }
 
 impl Model for Pairs {
@@ -61,7 +60,7 @@ impl Model for Pairs {
 
     ghost Value = { List (ℕ × ℕ) };
 
-    ghost view = { λ n. n.set.keys };
+    ghost view = { λ n. n.places };
 }
 
 impl Pairs {
@@ -70,7 +69,7 @@ impl Pairs {
         ensures { result ≡ [] }
     {
         Pairs {
-            set: IndexSet::new(alloc),
+            places: Places::new(alloc),
         }
     }
 
@@ -80,7 +79,7 @@ impl Pairs {
         ensures none { IfNone result ((k : ℕ) → slice_get self.now k ≡ Some (send, receive) → ⊥) }
         ensures within { IfSome result (λ k. k < length self.now) }
     {
-        self.set.get_index_of(&(send, receive))
+        self.places.place(&(send, receive))
     }
 
     /// Appends a pair that is not there. All stays as before where memory runs out.
@@ -89,7 +88,6 @@ impl Pairs {
         ensures ok { OnOk result (self.new ≡ self.old ++ (send, receive) ∷ []) }
         ensures err { OnErr result (self.new ≡ self.old) }
     {
-        self.set.insert((send, receive))?;
-        Ok(())
+        self.places.push((send, receive))
     }
 }

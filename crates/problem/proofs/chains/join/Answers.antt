@@ -1,21 +1,32 @@
-use Rattle.std.proofs.Common.{◌<◌, ℕ, length, ap, subst, arith}
-use Rattle.std.proofs.lemmas.List.{get_or_default}
-use Rattle.problem.specs.declared.chains.Link.{Link}
-use Rattle.problem.specs.Inside.{IsRenumbered}
-use Rattle.problem.proofs.Linked.{lone, links_lead, links_read}
+use Rattle.std.proofs.Common.{arith}
+use Rattle.problem.proofs.Joined.{in_order, inside_later, inside_earlier, ends_earlier, begins_later, numbers_apart, one_chain, links_read}
 use Rattle.problem.proofs.chains.join.Goals as goal
 
-pub renumber-requires-clause-lead : goal.renumber-requires-clause-lead
-renumber-requires-clause-lead c = links_lead c.requires.0 _ c.requires.1.formed c.requires.2
+pub merge-requires-clause-few : goal.merge-requires-clause-few
+merge-requires-clause-few c =
+    let count = c.requires.2.each in
+    let few = c.requires.1.fits.clock_limit in omega (arith, count, few)
+
+pub merge-requires-clause-inside : goal.merge-requires-clause-inside
+merge-requires-clause-inside c =
+    (inside_earlier c.requires.0 _ c.requires.1.formed c.requires.2 _ c.requires.3, inside_later c.requires.0 _ c.requires.1.formed c.requires.2 _ c.requires.3)
+
+pub merge-requires-clause-last : goal.merge-requires-clause-last
+merge-requires-clause-last c = ends_earlier c.requires.0 _ c.requires.1.formed c.requires.2 _ c.requires.3
+
+pub merge-requires-clause-first : goal.merge-requires-clause-first
+merge-requires-clause-first c = begins_later c.requires.0 _ c.requires.1.formed c.requires.2 _ c.requires.3
+
+pub merge-requires-clause-apart : goal.merge-requires-clause-apart
+merge-requires-clause-apart c = numbers_apart c.requires.0 _ c.requires.1.formed c.requires.2 _ c.requires.3
+
+pub merge-requires-clause-order : goal.merge-requires-clause-order
+merge-requires-clause-order c = in_order c.requires.0 _ c.requires.1.formed c.requires.2
+
+pub merge-requires-clause-counted : goal.merge-requires-clause-counted
+merge-requires-clause-counted c = c.requires.2.counted
 
 pub returns : goal.returns
 returns c p lawful links new =
-    let ls = c.args.links.now in
-    let ms = c.renumber.new.links in
-    let f = c.args.f.now in
-    let later_in : f.later < length ls = let each = links.each in let ends = new.leads.1 in omega (arith, each, ends) in
-    let earlier_in : f.earlier < length ls = let rise = new.leads.0 in omega (arith, rise, later_in) in
-    let number = ap (λ (l : Link). l.number) (get_or_default ls f.earlier c.index-links-f.result (lone 0) earlier_in) in
-    let renumbered = subst (λ (n : ℕ). IsRenumbered ls ms f.later n) number c.renumber.ensures in
-    let count = renumbered.count in
-    links_read p ls lawful.formed links f new ms renumbered (omega (arith, count, earlier_in)) (omega (arith, count, later_in)) c.index-links-f-2.result c.index-links-f-3.result
+    let one = one_chain p _ lawful.formed links _ new _ c.merge.ensures in
+    links_read p _ lawful.formed links _ new _ one c.index-links-f.result c.index-links-f-2.result

@@ -1,6 +1,6 @@
 use Rattle.std.proofs.Common.{◌≡◌, ◌++◌, ◌∷◌, [], ℕ, ◌∙◌, ap, length, rules}
 use Rattle.problem_model.specs.Problem.{ClockFits}
-use Rattle.problem.proofs.Linked.{lone}
+use Rattle.problem.proofs.OneLink.{lone}
 use Rattle.problem.proofs.Growing.{still_new_clock, items_clock}
 use Rattle.problem.proofs.items.Items.add_clock.Goals as goal
 

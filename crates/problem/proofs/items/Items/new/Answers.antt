@@ -1,4 +1,4 @@
-use Rattle.std.proofs.Common.{refl, rules}
+use Rattle.std.proofs.Common.{rules}
 use Rattle.problem.proofs.Linked.{links_none}
 use Rattle.problem.proofs.items.Items.new.Goals as goal
 
