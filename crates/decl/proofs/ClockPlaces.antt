@@ -1,7 +1,7 @@
 -- The places of clocks, by their names and by their hosts.
-use Rattle.std.proofs.Common.{◌≡◌, ◌≢◌, ℕ, zero, suc, ◌+◌, ◌<◌, ◌≤◌, ◌==◌, Bool, true, false, if◌then◌else◌, cond, is_some, List, [], ◌∷◌, ◌++◌, length, length-append, map, slice_get, Option, Some, None, codes, eq-eqb, eqb-true, refl, sym, ap, ◌∙◌, subst, arith, append_assoc, inl, inr}
+use Rattle.std.proofs.Common.{◌≡◌, ◌≢◌, ℕ, zero, suc, ◌+◌, ◌<◌, ◌≤◌, ◌==◌, Bool, true, false, if◌then◌else◌, is_some, List, [], ◌∷◌, ◌++◌, length, length-append, map, slice_get, Option, Some, None, codes, eq-eqb, eqb-true, refl, sym, ap, ◌∙◌, subst, arith, append_assoc, inl, inr}
 use Rattle.std.proofs.lemmas.List.{map-append}
-use Rattle.std.specs.List.{position, position_from, list_any}
+use Rattle.std.specs.List.{position, position_from}
 use Rattle.std.specs.Option.{option_or}
 use Rattle.std.specs.Str.{bytes_eq}
 use Rattle.std.proofs.lemmas.Bool.{cases_lt}
@@ -10,7 +10,6 @@ use Rattle.std.proofs.lemmas.Iterator.Adapters.{position_from-zero}
 use Rattle.std.proofs.lemmas.Slice.Eq.{bytes_eq-Decides}
 use Rattle.problem_model.specs.declared.items.Clock.{Clock}
 use Rattle.problem_model.specs.Problem.{most_clocks}
-use Rattle.indexmap.specs.IndexSet.{insert_key}
 use Rattle.toml.specs.Data.{Items, no_items, item}
 use Rattle.decl.specs.Clocks.{first_clock_place, is_taken, have_no_room, gaps_by, table_gaps}
 use Rattle.decl.specs.Hosts.{owned_by}
@@ -172,25 +171,13 @@ turn_next owners new host same ds e added turn =
 
 -- ---- a book with a clock more
 
-some_any : {A : Type 0} (t : A → Bool) (i : ℕ) (xs : List A) → list_any t xs ≡ is_some (position_from t i xs)
-some_any t i [] = refl
-some_any t i (x ∷ xs) = go (t x) refl (some_any t (i + 1) xs)
-  where
-    go : (b : Bool) → t x ≡ b → list_any t xs ≡ is_some (position_from t (i + 1) xs) → list_any t (x ∷ xs) ≡ is_some (position_from t i (x ∷ xs))
-    go true is more = rw is refl
-    go false is more = rw is more
+is_none_of : (o : Option ℕ) → is_some o ≡ false → o ≡ None
+is_none_of None e = refl
+is_none_of (Some k) e = cc
 
--- a name that is not taken comes last
-pub name_more : (name : List ℕ) (names new : List (List ℕ)) (clocks : List Clock) → names ≡ map (λ (c : Clock). c.name) clocks → is_taken clocks name ≡ false
-    → new ≡ insert_key bytes_eq names name → new ≡ names ++ name ∷ []
-name_more name names new clocks own free put =
-    let none : list_any (bytes_eq name) names ≡ false =
-    some_any (bytes_eq name) 0 names ∙ ap is_some (sym (position_from-zero (bytes_eq name) names) ∙ place_is name names clocks own) ∙ free in
-    put ∙ fresh _ none
-  where
-    fresh : (b : Bool) → b ≡ false → cond b names (names ++ name ∷ []) ≡ names ++ name ∷ []
-    fresh true e = absurd (cc)
-    fresh false e = refl
+-- a name that is not taken stands nowhere
+pub name_new : (name : List ℕ) (names : List (List ℕ)) (clocks : List Clock) → names ≡ map (λ (c : Clock). c.name) clocks → is_taken clocks name ≡ false → position (bytes_eq name) names ≡ None
+name_new name names clocks own free = is_none_of _ (ap is_some (place_is name names clocks own) ∙ free)
 
 -- what holds of the lists of a book holds when a clock comes
 pub book_more : (names more : List (List ℕ)) (clocks all : List Clock) (owners whose : List Owner) (firsts : List ℕ) (clock : Clock) (owner : Owner) → names ≡ map (λ (c : Clock). c.name) clocks

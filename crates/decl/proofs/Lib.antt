@@ -9,6 +9,7 @@ mod ClockTurns
 mod NoClock
 mod HostTurns
 mod LabelTurns
+mod LookingUp
 mod LinkTurns
 mod Walking
 mod Fresh

@@ -1,5 +1,5 @@
 -- What a declaration says, and the rules that it meets.
-use Rattle.std.specs.Prelude.{◌≡◌, ◌≢◌, ℕ, ◌+◌, ◌<◌, ◌≤◌, ◌==◌, ◌&&◌, if◌then◌else◌, List, [], ◌∷◌, length, slice_get, Option, Some, None, option_to_list, IfSome, All, AllPairs}
+use Rattle.std.specs.Prelude.{◌≡◌, ◌≢◌, ℕ, ◌+◌, ◌<◌, ◌≤◌, ◌==◌, if◌then◌else◌, List, length, slice_get, Option, Some, None, option_to_list, IfSome, All, AllPairs}
 use Rattle.std.specs.List.{flat_map, range_with_len}
 use Rattle.std.specs.Ordering.{nat_cmp}
 use Rattle.std.specs.declared.cmp.Ordering.TheVariants.{Less}
@@ -9,6 +9,7 @@ use Rattle.problem_model.specs.declared.items.Follow.{Follow}
 use Rattle.problem_model.specs.Name.{IsClockName}
 use Rattle.problem_model.specs.Problem.{ClockFits, most_clocks}
 use Rattle.decl.specs.Limits.{most_entries, most_payload, nano_limit, address_limit}
+pub use Rattle.decl.specs.Firsts.{host_among, host6_among, bounds_among}
 use Rattle.decl.specs.declared.items.Decl.{Decl}
 use Rattle.decl.specs.declared.items.Owner.{Owner}
 use Rattle.decl.specs.declared.items.Address.{Address}
@@ -31,7 +32,7 @@ pub record Declaration : Type 0 where
 
 -- what the code's own declaration says
 abbrev pub declaration_of : Decl → Declaration
-declaration_of d = record { hosts = d.hosts.items; clocks = d.clocks.items; owners = d.owners.items; addresses = d.addresses.items; addresses6 = d.addresses6.items; labels = d.labels.items; links = d.links.items; payload_bytes = d.payload_bytes; source = d.source }
+declaration_of d = record { hosts = d.hosts.items; clocks = d.clocks.items; owners = d.owners.items; addresses = d.addresses; addresses6 = d.addresses6; labels = d.labels.items; links = d.links; payload_bytes = d.payload_bytes; source = d.source }
 
 -- a name comes before another in byte order
 abbrev pub Precedes : List ℕ → List ℕ → Type 0
@@ -130,27 +131,13 @@ follows_of d = flat_map (λ k. option_to_list (follow_from d k)) (range_with_len
 abbrev pub AreOfOneHost : Declaration → ℕ → ℕ → Type 0
 AreOfOneHost d b c = (host : ℕ) × IsClockOf d.owners host b × IsClockOf d.owners host c
 
--- the host of the first of these addresses with this value
-abbrev pub host_among : List Address → ℕ → Option ℕ
-host_among [] address = None
-host_among (a ∷ more) address = if a.address == address then Some a.host else host_among more address
-
 -- the host that has an address
 abbrev pub host_at : Declaration → ℕ → Option ℕ
 host_at d address = host_among d.addresses address
 
--- the same for addresses of IPv6
-abbrev pub host6_among : List Address6 → ℕ → Option ℕ
-host6_among [] address = None
-host6_among (a ∷ more) address = if a.address == address then Some a.host else host6_among more address
-
+-- the host that has an address of IPv6
 abbrev pub host6_at : Declaration → ℕ → Option ℕ
 host6_at d address = host6_among d.addresses6 address
-
--- the least and the greatest delay of the first of these links with these ends, or 0 and none
-abbrev pub bounds_among : List Link → ℕ → ℕ → ℕ × Option ℕ
-bounds_among [] from to = (0, None)
-bounds_among (l ∷ more) from to = if l.from == from && l.to == to then (l.least, l.most) else bounds_among more from to
 
 -- what a declaration says of the delay from one host to another
 abbrev pub link_bounds : Declaration → ℕ → ℕ → ℕ × Option ℕ

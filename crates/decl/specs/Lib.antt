@@ -1,4 +1,5 @@
 pub mod Limits
+pub mod Firsts
 pub mod Declaration
 pub mod Causes
 pub mod Keys

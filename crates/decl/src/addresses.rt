@@ -2,10 +2,11 @@
 ghost use Rattle.std.specs.Prelude.{◌≡◌, ◌<◌, ◌++◌, ℕ, List, [], not, IfOk, IsTrue, Some, option_to_list};
 ghost use Rattle.toml.specs.View.{items_view};
 ghost use Rattle.decl.specs.Addresses.{IsAddress, address_of, is_bad_address, has_bad_address, written, texts_of, at_host, numbers_of};
+ghost use Rattle.decl.specs.Firsts.{host_among};
 
 use crate::Address;
 use std::alloc::{AllocError, Global};
-use std::collections::BTreeSet;
+use std::collections::BTreeMap;
 use std::marker::Model;
 use std::net::Ipv4Addr;
 use toml::Value;
@@ -27,36 +28,51 @@ fn read_address(text: &[u8]) -> Option<u32>
     }
 }
 
-// The addresses so far, in the order in which they came. No two are the same.
+/// The addresses of IPv4 of the hosts, by host, and those of one host as they were written. No two are the same. The host of one
+/// is found in a time that grows as the logarithm of how many there are.
 #[derive(Debug, Drop)]
-pub(crate) struct AddressBook {
+pub struct Addresses {
     list: Vec<Address>,
-    numbers: BTreeSet<u32>,
+    // The host of each address.
+    hosts: BTreeMap<u32, u32>,
 }
 
-impl Model for AddressBook {
-    ghost use Rattle.std.specs.Prelude.{◌≡◌, ◌==◌, ℕ, List};
-    ghost use Rattle.std.specs.BTreeSet.{contains};
-    ghost use Rattle.std.specs.List.{list_any};
+impl Model for Addresses {
+    ghost use Rattle.std.specs.Prelude.{◌≡◌, ℕ, List};
+    ghost use Rattle.std.specs.BTreeMap.{get};
     ghost use Rattle.std.specs.Ordering.{nat_cmp};
     ghost use Rattle.decl.specs.declared.items.Address.{Address};
-    ghost use Rattle.decl.specs.Addresses.{numbers_of};
+    ghost use Rattle.decl.specs.Firsts.{host_among};
 
     ghost Value = { List Address };
 
-    ghost view = { λ b. b.list.items };
+    ghost view = { λ a. a.list.items };
 
-    ghost invariant = { λ b. (q : ℕ) → contains nat_cmp b.numbers q ≡ list_any (λ n. q == n) (numbers_of b.list.items) };
+    ghost invariant = { λ a. (address : ℕ) → get nat_cmp a.hosts address ≡ host_among a.list.items address };
 }
 
-impl AddressBook {
-    pub(crate) fn new(alloc: Global) -> AddressBook
+impl Addresses {
+    pub(crate) fn new(alloc: Global) -> Addresses
         ensures { result ≡ [] }
     {
-        AddressBook {
+        Addresses {
             list: Vec::new(alloc),
-            numbers: BTreeSet::new(alloc),
+            hosts: BTreeMap::new(alloc),
         }
+    }
+
+    /// The addresses, by host, and those of one host as they were written.
+    pub fn list(&self) -> &[Address]
+        ensures { result.now ≡ self.now }
+    {
+        self.list.as_slice()
+    }
+
+    /// The place of the host that has this address; None exactly where no host has it.
+    pub fn host_of(&self, address: u32) -> Option<u32>
+        ensures { result ≡ host_among self.now address }
+    {
+        self.hosts.get(&address).copied()
     }
 
     // Adds the address that a text writes to those of a host; false, and nothing is added, exactly where it writes none
@@ -68,10 +84,11 @@ impl AddressBook {
         let Some(address) = read_address(text) else {
             return Ok(false);
         };
-        self.list.reserve(1)?;
-        if !self.numbers.insert(address)? {
+        if self.hosts.contains_key(&address) {
             return Ok(false);
         }
+        self.list.reserve(1)?;
+        self.hosts.insert(address, host)?;
         self.list.push_reserved(Address { address, host });
         Ok(true)
     }
@@ -92,12 +109,5 @@ impl AddressBook {
             }
         }
         Ok(true)
-    }
-
-    // The addresses.
-    pub(crate) fn into_list(self) -> Vec<Address>
-        ensures { result.items ≡ self }
-    {
-        self.list
     }
 }

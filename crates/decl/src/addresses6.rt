@@ -2,10 +2,11 @@
 ghost use Rattle.std.specs.Prelude.{◌≡◌, ◌++◌, ℕ, List, [], not, IfOk, IsTrue, Some, option_to_list};
 ghost use Rattle.toml.specs.View.{items_view};
 ghost use Rattle.decl.specs.Addresses.{IsAddress6, address6_of, at_host6, has_bad_address, is_bad_address, is_short_form, numbers6_of, texts_of, written};
+ghost use Rattle.decl.specs.Firsts.{host6_among};
 
 use crate::Address6;
 use std::alloc::{AllocError, Global};
-use std::collections::BTreeSet;
+use std::collections::BTreeMap;
 use std::marker::Model;
 use std::net::Ipv6Addr;
 use toml::Value;
@@ -44,36 +45,51 @@ fn read_address6(text: &[u8]) -> Option<u128>
     }
 }
 
-// The addresses so far, in the order in which they came. No two are the same.
+/// The addresses of IPv6 of the hosts, by host, and those of one host as they were written. No two are the same. The host of one
+/// is found in a time that grows as the logarithm of how many there are.
 #[derive(Debug, Drop)]
-pub(crate) struct AddressBook6 {
+pub struct Addresses6 {
     list: Vec<Address6>,
-    numbers: BTreeSet<u128>,
+    // The host of each address.
+    hosts: BTreeMap<u128, u32>,
 }
 
-impl Model for AddressBook6 {
-    ghost use Rattle.std.specs.Prelude.{◌≡◌, ◌==◌, ℕ, List};
-    ghost use Rattle.std.specs.BTreeSet.{contains};
-    ghost use Rattle.std.specs.List.{list_any};
+impl Model for Addresses6 {
+    ghost use Rattle.std.specs.Prelude.{◌≡◌, ℕ, List};
+    ghost use Rattle.std.specs.BTreeMap.{get};
     ghost use Rattle.std.specs.Ordering.{nat_cmp};
     ghost use Rattle.decl.specs.declared.items.Address6.{Address6};
-    ghost use Rattle.decl.specs.Addresses.{numbers6_of};
+    ghost use Rattle.decl.specs.Firsts.{host6_among};
 
     ghost Value = { List Address6 };
 
-    ghost view = { λ b. b.list.items };
+    ghost view = { λ a. a.list.items };
 
-    ghost invariant = { λ b. (q : ℕ) → contains nat_cmp b.numbers q ≡ list_any (λ n. q == n) (numbers6_of b.list.items) };
+    ghost invariant = { λ a. (address : ℕ) → get nat_cmp a.hosts address ≡ host6_among a.list.items address };
 }
 
-impl AddressBook6 {
-    pub(crate) fn new(alloc: Global) -> AddressBook6
+impl Addresses6 {
+    pub(crate) fn new(alloc: Global) -> Addresses6
         ensures { result ≡ [] }
     {
-        AddressBook6 {
+        Addresses6 {
             list: Vec::new(alloc),
-            numbers: BTreeSet::new(alloc),
+            hosts: BTreeMap::new(alloc),
         }
+    }
+
+    /// The addresses, by host, and those of one host as they were written.
+    pub fn list(&self) -> &[Address6]
+        ensures { result.now ≡ self.now }
+    {
+        self.list.as_slice()
+    }
+
+    /// The place of the host that has this address; None exactly where no host has it.
+    pub fn host_of(&self, address: u128) -> Option<u32>
+        ensures { result ≡ host6_among self.now address }
+    {
+        self.hosts.get(&address).copied()
     }
 
     // Adds the address that a text writes to those of a host; false, and nothing is added, exactly where it writes none
@@ -85,10 +101,11 @@ impl AddressBook6 {
         let Some(address) = read_address6(text) else {
             return Ok(false);
         };
-        self.list.reserve(1)?;
-        if !self.numbers.insert(address)? {
+        if self.hosts.contains_key(&address) {
             return Ok(false);
         }
+        self.list.reserve(1)?;
+        self.hosts.insert(address, host)?;
         self.list.push_reserved(Address6 { address, host });
         Ok(true)
     }
@@ -109,12 +126,5 @@ impl AddressBook6 {
             }
         }
         Ok(true)
-    }
-
-    // The addresses.
-    pub(crate) fn into_list(self) -> Vec<Address6>
-        ensures { result.items ≡ self }
-    {
-        self.list
     }
 }

@@ -7,7 +7,7 @@ ghost use Rattle.decl.specs.Places.{clock_place};
 
 use crate::Owner;
 use crate::limits::MOST_ENTRIES;
-use indexmap::IndexSet;
+use places::Places;
 use problem_model::{Clock, Name};
 use std::alloc::{AllocError, Global};
 use std::marker::Model;
@@ -17,7 +17,7 @@ use std::marker::Model;
 pub(crate) struct ClockBook {
     clocks: Vec<Clock>,
     owners: Vec<Owner>,
-    names: IndexSet<Name>,
+    names: Places<Name>,
     // The place of each host's first clock.
     firsts: Vec<u32>,
 }
@@ -32,7 +32,7 @@ impl Model for ClockBook {
 
     ghost view = { λ b. record { clocks = b.clocks.items; owners = b.owners.items } };
 
-    ghost invariant = { λ b. (b.names.keys ≡ map (λ c. c.name) b.clocks.items) × (length b.owners.items ≡ length b.clocks.items) × (length b.clocks.items ≤ most_clocks)
+    ghost invariant = { λ b. (b.names ≡ map (λ c. c.name) b.clocks.items) × (length b.owners.items ≡ length b.clocks.items) × (length b.clocks.items ≤ most_clocks)
         × ((host : ℕ) → slice_get b.firsts.items host ≡ first_clock_place b.owners.items host) };
 }
 
@@ -43,7 +43,7 @@ impl ClockBook {
         ClockBook {
             clocks: Vec::new(alloc),
             owners: Vec::new(alloc),
-            names: IndexSet::new(alloc),
+            names: Places::new(alloc),
             firsts: Vec::new(alloc),
         }
     }
@@ -66,7 +66,7 @@ impl ClockBook {
     pub(crate) fn place(&self, name: &Name) -> Option<u32>
         ensures { result ≡ clock_place self.now.clocks name.now }
     {
-        match self.names.get_index_of(name) {
+        match self.names.place(name) {
             Some(place) => Some(place as u32),
             None => None,
         }
@@ -103,7 +103,7 @@ impl ClockBook {
         self.clocks.reserve(1)?;
         self.owners.reserve(1)?;
         self.firsts.reserve(1)?;
-        self.names.insert(clock.name)?;
+        self.names.push(clock.name)?;
         if owner.host as usize == self.firsts.len() {
             self.firsts.push_reserved(self.clocks.len() as u32);
         }

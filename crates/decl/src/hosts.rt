@@ -13,8 +13,6 @@ ghost use Rattle.decl.specs.Limits.{most_entries};
 ghost use Rattle.decl.specs.Names.{is_clock_name};
 ghost use Rattle.decl.specs.declared.cause.Cause.TheVariants as cause;
 
-use crate::addresses::AddressBook;
-use crate::addresses6::AddressBook6;
 use crate::cause::Cause;
 use crate::clock_numbers::read_numbers;
 use crate::clock_tables::read_clocks;
@@ -22,7 +20,7 @@ use crate::clocks::ClockBook;
 use crate::keys::{Form, check_table};
 use crate::limits::MOST_ENTRIES;
 use crate::values::items_or_none;
-use crate::{Address, Address6, DeclError, Section};
+use crate::{Addresses, Addresses6, DeclError, Section};
 use problem_model::{Clock, Name};
 use std::alloc::{AllocError, Global};
 use toml::{Table, Value};
@@ -32,15 +30,15 @@ use toml::{Table, Value};
 pub(crate) struct Hosts {
     pub(crate) names: Vec<Name>,
     pub(crate) clocks: ClockBook,
-    pub(crate) addresses: Vec<Address>,
-    pub(crate) addresses6: Vec<Address6>,
+    pub(crate) addresses: Addresses,
+    pub(crate) addresses6: Addresses6,
 }
 
 // The addresses of hosts so far, of IPv4 and of IPv6, and their clocks.
 #[derive(Drop)]
 pub(crate) struct Books {
-    pub(crate) narrow: AddressBook,
-    pub(crate) wide: AddressBook6,
+    pub(crate) narrow: Addresses,
+    pub(crate) wide: Addresses6,
     pub(crate) clocks: ClockBook,
 }
 
@@ -154,15 +152,15 @@ pub(crate) fn read_hosts(alloc: Global, table: &Table, empty: &Table) -> Result<
     ensures fault { IfErr result (λ e. IsFirstOf (hosts_faults 1 none_known [] (table_view table.now)) e) }
     ensures sound { OnOk result (hosts_faults 1 none_known [] (table_view table.now) ≡ []) }
     ensures lists { IfOk result (λ hosts. lists_of hosts ≡ host_lists (table_view table.now)) }
-    ensures addresses { IfOk result (λ hosts. hosts.addresses.items ≡ addresses_from 0 (table_view table.now)) }
-    ensures addresses6 { IfOk result (λ hosts. hosts.addresses6.items ≡ addresses6_from 0 (table_view table.now)) }
+    ensures addresses { IfOk result (λ hosts. hosts.addresses ≡ addresses_from 0 (table_view table.now)) }
+    ensures addresses6 { IfOk result (λ hosts. hosts.addresses6 ≡ addresses6_from 0 (table_view table.now)) }
     ensures rising { IfOk result (λ hosts. AllPairs Precedes hosts.names.items) }
     ensures few { IfOk result (λ hosts. length hosts.names.items ≤ most_entries) }
 {
     let mut names = Vec::new(alloc);
     let mut books = Books {
-        narrow: AddressBook::new(alloc),
-        wide: AddressBook6::new(alloc),
+        narrow: Addresses::new(alloc),
+        wide: Addresses6::new(alloc),
         clocks: ClockBook::new(alloc),
     };
     let mut index: u32 = 0;
@@ -177,7 +175,7 @@ pub(crate) fn read_hosts(alloc: Global, table: &Table, empty: &Table) -> Result<
     Ok(Hosts {
         names,
         clocks: books.clocks,
-        addresses: books.narrow.into_list(),
-        addresses6: books.wide.into_list(),
+        addresses: books.narrow,
+        addresses6: books.wide,
     })
 }

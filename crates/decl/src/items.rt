@@ -1,4 +1,5 @@
 // What a declaration says.
+use crate::{Addresses, Addresses6, Links};
 use atto::Nano;
 use problem_model::{Clock, Name};
 
@@ -16,13 +17,13 @@ pub struct Decl {
     /// The owner of each clock, in the order of `clocks`.
     pub owners: Vec<Owner>,
     /// The addresses of the hosts, by host, and those of one host as they were written.
-    pub addresses: Vec<Address>,
+    pub addresses: Addresses,
     /// Those of IPv6, likewise.
-    pub addresses6: Vec<Address6>,
+    pub addresses6: Addresses6,
     /// The traces.
     pub labels: Vec<Label>,
     /// What is known of delays, as it was written.
-    pub links: Vec<Link>,
+    pub links: Links,
     /// How much of a payload belongs to the key of a packet, in bytes: at most 64.
     pub payload_bytes: u8,
     /// The place of the clock that shows true time, if one is said to: it is never short or long.

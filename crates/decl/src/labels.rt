@@ -13,10 +13,10 @@ ghost use Rattle.decl.specs.Limits.{most_entries};
 
 use crate::cause::Cause;
 use crate::clocks::ClockBook;
+use crate::host_places::place_of;
 use crate::hosts::{Hosts, read_clock_name};
 use crate::keys::{Form, check_table};
 use crate::limits::MOST_ENTRIES;
-use crate::places::place_of;
 use crate::values::{text_at, text_or_empty};
 use crate::{DeclError, Label, Section, TraceKind};
 use problem_model::Name;

@@ -1,9 +1,10 @@
 // The links of a declaration.
-ghost use Rattle.std.specs.Prelude.{◌≡◌, ◌-◌, ◌≤◌, ◌++◌, ◌∷◌, [], Some, None, if◌then◌else◌, unwrap_or, codes, length, AllPairs, IfOk, IfErr, OnOk};
+ghost use Rattle.std.specs.Prelude.{◌≡◌, ◌-◌, ◌≤◌, ◌++◌, ◌∷◌, [], false, Some, None, if◌then◌else◌, unwrap_or, codes, length, AllPairs, IfOk, IfErr, OnOk};
 ghost use Rattle.toml.specs.Data.{as_table};
 ghost use Rattle.toml.specs.View.{view, table_view, items_view};
 ghost use Rattle.decl.specs.Causes.{Tells, IsFirstOf};
 ghost use Rattle.decl.specs.Declaration.{Precedes};
+ghost use Rattle.decl.specs.Firsts.{bounds_among};
 ghost use Rattle.decl.specs.Keys.{entry_causes, entry_of};
 ghost use Rattle.decl.specs.Labels.{host_at_key};
 ghost use Rattle.decl.specs.Limits.{most_entries, nano_limit};
@@ -19,38 +20,66 @@ use crate::{DeclError, Link, Section};
 use atto::Nano;
 use problem_model::Name;
 use std::alloc::{AllocError, Global};
-use std::collections::BTreeSet;
+use std::collections::BTreeMap;
 use std::marker::Model;
 use toml::{Table, Value};
 
-// The links so far, in the order in which they came.
-#[derive(Debug, Drop)]
-struct LinkBook {
-    list: Vec<Link>,
-    ends: BTreeSet<(u32, u32)>,
+// The least and the greatest delay of a link.
+fn bounds(link: &Link) -> (Nano, Option<Nano>)
+    ensures { result ≡ (link.now.least, link.now.most) }
+{
+    (link.least, link.most)
 }
 
-impl Model for LinkBook {
-    ghost use Rattle.std.specs.Prelude.{◌≡◌, ℕ, List};
-    ghost use Rattle.std.specs.BTreeSet.{contains};
+/// What is known of delays, in the order in which it was written: no two of the links go from the same host to the same one.
+/// The bounds of one are found in a time that grows as the logarithm of how many there are.
+#[derive(Debug, Drop)]
+pub struct Links {
+    list: Vec<Link>,
+    // The least and the greatest delay by the two ends.
+    bounds: BTreeMap<(u32, u32), (Nano, Option<Nano>)>,
+}
+
+impl Model for Links {
+    ghost use Rattle.std.specs.Prelude.{◌≡◌, ℕ, List, None, is_some, unwrap_or};
+    ghost use Rattle.std.specs.BTreeMap.{get};
     ghost use Rattle.std.specs.Ordering.{nat_cmp, ordering_then};
     ghost use Rattle.decl.specs.declared.items.Link.{Link};
+    ghost use Rattle.decl.specs.Firsts.{bounds_among};
     ghost use Rattle.decl.specs.Links.{has_link};
 
     ghost Value = { List Link };
 
-    ghost view = { λ b. b.list.items };
+    ghost view = { λ l. l.list.items };
 
-    ghost invariant = { λ b. (q : ℕ × ℕ) → contains (λ x y. ordering_then (nat_cmp x.0 y.0) (nat_cmp x.1 y.1)) b.ends q ≡ has_link b.list.items q.0 q.1 };
+    ghost invariant = { λ l. (q : ℕ × ℕ) → let found = get (λ x y. ordering_then (nat_cmp x.0 y.0) (nat_cmp x.1 y.1)) l.bounds q in
+        (is_some found ≡ has_link l.list.items q.0 q.1) × (unwrap_or found (0, None) ≡ bounds_among l.list.items q.0 q.1) };
 }
 
-impl LinkBook {
-    fn new(alloc: Global) -> LinkBook
+impl Links {
+    fn new(alloc: Global) -> Links
         ensures { result ≡ [] }
     {
-        LinkBook {
+        Links {
             list: Vec::new(alloc),
-            ends: BTreeSet::new(alloc),
+            bounds: BTreeMap::new(alloc),
+        }
+    }
+
+    /// The links.
+    pub fn list(&self) -> &[Link]
+        ensures { result.now ≡ self.now }
+    {
+        self.list.as_slice()
+    }
+
+    /// The least and the greatest delay from one host to another, in ns of real time: 0 and None where there is no link.
+    pub fn bounds_of(&self, from: u32, to: u32) -> (Nano, Option<Nano>)
+        ensures { result ≡ bounds_among self.now from to }
+    {
+        match self.bounds.get(&(from, to)) {
+            Some(found) => (found.0, found.1),
+            None => (Nano::new(0).unwrap(), None),
         }
     }
 
@@ -58,15 +87,17 @@ impl LinkBook {
     fn has(&self, from: u32, to: u32) -> bool
         ensures { result ≡ has_link self.now from to }
     {
-        self.ends.contains(&(from, to))
+        self.bounds.contains_key(&(from, to))
     }
 
+    // Adds a link that goes otherwise than each of those before.
     fn push(&mut self, link: &Link) -> Result<(), AllocError>
+        requires new { has_link self.old link.now.from link.now.to ≡ false }
         ensures { OnOk result (self.new ≡ self.old ++ link.now ∷ []) }
     {
         let most: Option<Nano> = link.most;
         self.list.reserve(1)?;
-        self.ends.insert((link.from, link.to))?;
+        self.bounds.insert((link.from, link.to), bounds(link))?;
         self.list.push_reserved(Link {
             from: link.from,
             to: link.to,
@@ -75,17 +106,10 @@ impl LinkBook {
         });
         Ok(())
     }
-
-    // The links.
-    fn into_list(self) -> Vec<Link>
-        ensures { result.items ≡ self }
-    {
-        self.list
-    }
 }
 
 // The places of the hosts of a link, if it names two and goes otherwise than the links in the book.
-fn read_ends(hosts: &[Name], book: &LinkBook, table: &Table) -> Option<(u32, u32)>
+fn read_ends(hosts: &[Name], book: &Links, table: &Table) -> Option<(u32, u32)>
     requires rising { AllPairs Precedes hosts.now }
     requires few { length hosts.now ≤ most_entries }
     ensures { let from = host_at_key hosts.now (codes "from") (table_view table.now) in
@@ -118,7 +142,7 @@ fn read_most(table: &Table) -> Option<Option<Nano>>
 }
 
 // The link with this index.
-fn read_link(hosts: &[Name], book: &LinkBook, index: u32, table: &Table) -> Result<Link, Cause>
+fn read_link(hosts: &[Name], book: &Links, index: u32, table: &Table) -> Result<Link, Cause>
     requires rising { AllPairs Precedes hosts.now }
     requires few { length hosts.now ≤ most_entries }
     ensures { Tells (link_causes hosts.now index book.now (table_view table.now)) (link_of hosts.now (table_view table.now)) result }
@@ -145,7 +169,7 @@ fn read_link(hosts: &[Name], book: &LinkBook, index: u32, table: &Table) -> Resu
 }
 
 // The link with this index, if it is a table.
-fn read_entry(hosts: &[Name], book: &LinkBook, index: u32, value: &Value) -> Result<Link, Cause>
+fn read_entry(hosts: &[Name], book: &Links, index: u32, value: &Value) -> Result<Link, Cause>
     requires rising { AllPairs Precedes hosts.now }
     requires few { length hosts.now ≤ most_entries }
     ensures { Tells (entry_causes (link_causes hosts.now index book.now) (as_table (view value.now))) (link_of hosts.now (entry_of (view value.now))) result }
@@ -157,18 +181,14 @@ fn read_entry(hosts: &[Name], book: &LinkBook, index: u32, value: &Value) -> Res
 }
 
 // The links of these items.
-pub(crate) fn read_links(
-    alloc: Global,
-    hosts: &[Name],
-    items: &[Value],
-) -> Result<Vec<Link>, DeclError>
+pub(crate) fn read_links(alloc: Global, hosts: &[Name], items: &[Value]) -> Result<Links, DeclError>
     requires rising { AllPairs Precedes hosts.now }
     requires few { length hosts.now ≤ most_entries }
     ensures fault { IfErr result (λ e. IsFirstOf (links_faults hosts.now 1 [] (items_view items.now)) e) }
     ensures sound { OnOk result (links_faults hosts.now 1 [] (items_view items.now) ≡ []) }
-    ensures links { IfOk result (λ links. links.items ≡ links_of hosts.now (items_view items.now)) }
+    ensures links { IfOk result (λ links. links ≡ links_of hosts.now (items_view items.now)) }
 {
-    let mut book = LinkBook::new(alloc);
+    let mut book = Links::new(alloc);
     let mut index: u32 = 0;
     for item in items {
         index += 1;
@@ -178,5 +198,5 @@ pub(crate) fn read_links(
         };
         book.push(&link)?;
     }
-    Ok(book.into_list())
+    Ok(book)
 }

@@ -26,13 +26,13 @@ fn text_read(alloc: Global, text: &[u8]) -> bool {
 fn says_eight_hosts(decl: &Decl) -> bool {
     decl.source == Some(0)
         && decl.payload_bytes == 0
-        && decl.addresses.is_empty()
+        && decl.addresses.list().is_empty()
         && clocks_right(&decl.clocks)
         && logs_right(decl)
         && links_right(decl)
         && decl.hosts.len() == 8
         && decl.labels.len() == 8
-        && decl.links.len() == 56
+        && decl.links.list().len() == 56
 }
 
 // Whether each clock has the name, the drift and the errors of its host. The first one is true.
@@ -72,7 +72,7 @@ fn logs_right(decl: &Decl) -> bool {
 
 // Whether each link is between two hosts, with the delays of all.
 fn links_right(decl: &Decl) -> bool {
-    for link in decl.links.iter() {
+    for link in decl.links.list().iter() {
         if !link_right(link) {
             return false;
         }

@@ -1,7 +1,7 @@
 use Rattle.std.proofs.Common.{◌≡◌, ◌++◌, drop}
 use Rattle.toml.specs.View.{items_view}
 use Rattle.decl.specs.Addresses.{address_of, has_bad_address, written, texts_of, at_host, numbers_of}
-use Rattle.decl.proofs.addresses.AddressBook.add_all.Given as goal
+use Rattle.decl.proofs.addresses.Addresses.add_all.Given as goal
 
 abbrev pub invariant-loop-item : goal.invariant-loop-item
 invariant-loop-item l = record {

@@ -1,7 +1,7 @@
 use Rattle.std.proofs.Common.{◌≡◌, ◌++◌, drop}
 use Rattle.toml.specs.View.{items_view}
 use Rattle.decl.specs.Addresses.{address6_of, has_bad_address, written, texts_of, at_host6, numbers6_of}
-use Rattle.decl.proofs.addresses6.AddressBook6.add_all.Given as goal
+use Rattle.decl.proofs.addresses6.Addresses6.add_all.Given as goal
 
 abbrev pub invariant-loop-item : goal.invariant-loop-item
 invariant-loop-item l = record {

@@ -1,7 +1,7 @@
 use Rattle.std.proofs.Common.{rules}
 use Rattle.std.proofs.lemmas.Fn.{always_returns_same}
 use Rattle.decl.proofs.Searching.{name_cmp, place_found, place_none}
-use Rattle.decl.proofs.places.place_of.Goals as goal
+use Rattle.decl.proofs.host_places.place_of.Goals as goal
 
 pub returns-in-Ok : goal.returns-in-Ok
 returns-in-Ok c =

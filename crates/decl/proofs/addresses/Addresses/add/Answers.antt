@@ -1,0 +1,22 @@
+use Rattle.std.proofs.Common.{◌≡◌, ◌++◌, ◌∷◌, [], List, not, is_some, ap, sym, ◌∙◌, rules}
+use Rattle.decl.specs.Firsts.{host_among}
+use Rattle.decl.specs.declared.items.Address.{Address}
+use Rattle.decl.proofs.LookingUp.{fresh_told, host_more}
+use Rattle.decl.proofs.addresses.Addresses.add.Goals as goal
+
+pub returns-then-contains_key-clause-fresh : goal.returns-then-contains_key-clause-fresh
+returns-then-contains_key-clause-fresh c =
+    let there = c.contains_key.ensures ∙ ap is_some (c.self.invariant c.in-Some.address) ∙ ap (λ (addresses : List Address). is_some (host_among addresses c.in-Some.address)) c.self.view_is in
+    ap not (sym c.if-contains_key.true) ∙ fresh_told c.args.self.now _ c.in-Some.address c.contains_key.result c.in-Some.ensures there
+
+pub returns-clause-fresh : goal.returns-clause-fresh
+returns-clause-fresh c =
+    let there = c.contains_key.ensures ∙ ap is_some (c.self.invariant c.in-Some.address) ∙ ap (λ (addresses : List Address). is_some (host_among addresses c.in-Some.address)) c.self.view_is in
+    ap not (sym c.if-contains_key.false) ∙ fresh_told c.args.self.now _ c.in-Some.address c.contains_key.result c.in-Some.ensures there
+
+pub invariant_of-self-2 : goal.invariant_of-self-2
+invariant_of-self-2 c =
+    let added : Address = record { address = c.in-Some.address; host = c.args.host } in
+    let listed : c.push_reserved.new.self.items ≡ c.self.inside.list.items ++ added ∷ [] = search rules in
+    let there = c.contains_key.ensures ∙ ap is_some (c.self.invariant c.in-Some.address) in
+    λ q. c.in_ok-insert.ensures.updates.0 q ∙ host_more c.self.inside.list.items added q c.contains_key.result _ there c.if-contains_key.false (c.self.invariant q) ∙ ap (λ (addresses : List Address). host_among addresses q) (sym listed)
