@@ -3,7 +3,8 @@ use Rattle.std.specs.Prelude.{◌≡◌, ℕ, List, ◌++◌}
 use Rattle.pcapng_stream.specs.Capture as format
 use Rattle.pcapng_stream.specs.Feeding as format_feeding
 pub use Rattle.pcap_stream.specs.declared.packet.Packet.{Packet}
-pub use Rattle.pcap_stream.specs.Feeding.{seen_packet, seen_packets}
+pub use Rattle.pcap_stream.specs.declared.first_packets.FirstPackets.{FirstPackets}
+pub use Rattle.pcap_stream.specs.Feeding.{seen_packet, seen_packets, KeepsFirst, Adds, IsSame}
 use Rattle.captures.specs.Capture.{Capture, Seen, of_format}
 
 -- what is kept of a stream

@@ -10,5 +10,5 @@ mod stream;
 
 pub use errors::CaptureError;
 pub use laws::{captures_are_one, faults_are_one, new_stands, nothing_reads, refused_or_read};
-pub use pcap_stream::Packet;
+pub use pcap_stream::{FirstPackets, Packet};
 pub use stream::CaptureStream;

@@ -1,10 +1,10 @@
 // Captures that come in pieces.
-ghost use Rattle.std.specs.Prelude.{◌≡◌, ◌≢◌, ◌≤◌, ◌+◌, ◌^◌, ◌++◌, ℕ, List, length, IfOk, IfErr, OnErr};
+ghost use Rattle.std.specs.Prelude.{◌≡◌, ◌≢◌, ◌≤◌, ◌+◌, ◌^◌, ◌++◌, [], ℕ, List, length, IfOk, IfErr, OnErr};
 ghost use Rattle.captures.specs.declared.errors.CaptureError.TheVariants as errors;
 ghost use Rattle.captures.specs.Capture.{Capture, IsFault};
-ghost use Rattle.captures.specs.Feeding.{StandsFor, IsNew, Grows, taken, rest_of, seen_packets};
+ghost use Rattle.captures.specs.Feeding.{StandsFor, IsNew, Grows, Adds, IsSame, taken, rest_of, seen_packets};
 
-use crate::{CaptureError, Packet};
+use crate::{CaptureError, FirstPackets, Packet};
 use std::alloc::Global;
 use std::marker::Model;
 
@@ -57,6 +57,25 @@ impl CaptureStream {
         ensures unchanged { OnErr result (out.new.items ≡ out.old.items) }
     {
         let next = self.stream.feed(piece, out)?;
+        Ok(CaptureStream { stream: next })
+    }
+
+    /// Reads the next piece as `feed` does, and adds its packets, of which the first are kept as far as there is room.
+    ///
+    /// An error comes exactly where the capture with this piece is refused, with the first cause, or where memory runs
+    /// out. Then `out` is as before, and another piece may be fed in place of this one.
+    pub fn feed_first(
+        &self,
+        piece: &[u8],
+        out: &mut FirstPackets,
+    ) -> Result<CaptureStream, CaptureError>
+        requires { taken self.now + length piece.now ≤ 2 ^ 30 }
+        ensures ok { IfOk result (λ next. Adds (λ completed. (s : List ℕ) (c : Capture) → StandsFor self.now s c → Grows next (s ++ piece.now) c [] completed) out.old out.new) }
+        ensures fault { IfErr result (λ e. e ≢ errors.Memory → (s : List ℕ) (c : Capture) → StandsFor self.now s c → IsFault (s ++ piece.now) e) }
+        ensures size { IfOk result (λ next. taken next ≡ taken self.now + length piece.now) }
+        ensures unchanged { OnErr result (IsSame out.old out.new) }
+    {
+        let next = self.stream.feed_first(piece, out)?;
         Ok(CaptureStream { stream: next })
     }
 }

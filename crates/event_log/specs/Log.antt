@@ -1,8 +1,9 @@
 -- The rows of a piece of an event log, or its first record that is no row.
-use Rattle.std.specs.Prelude.{◌≡◌, ℕ, ◌+◌, List, [], ◌∷◌, ◌++◌, length, ⊤}
+use Rattle.std.specs.Prelude.{◌≡◌, ℕ, ◌+◌, List, [], ◌∷◌, ◌++◌, length, take, ⊤}
 use Rattle.csv.specs.Reading.{default_config, records, strip_bom}
 use Rattle.event_log.specs.declared.errors.LogError.{LogError}
 use Rattle.event_log.specs.declared.errors.LogError.TheVariants.{Fields, Stamp, Kind, Text, Memory}
+use Rattle.event_log.specs.declared.read.FirstRows.{FirstRows}
 use Rattle.event_log.specs.declared.row.Row.{Row}
 use Rattle.event_log.specs.Row.{IsRow, LacksFields, LacksStamp, LacksKind, LacksTexts}
 
@@ -16,6 +17,13 @@ AreRows [] [] = ⊤
 AreRows [] (row ∷ rows) = ⊥
 AreRows (fields ∷ more) [] = ⊥
 AreRows (fields ∷ more) (row ∷ rows) = IsRow fields row × AreRows more rows
+
+-- the first rows of the piece, at most so many, and how many rows it has in all
+pub record AreFirstRows (piece : List ℕ) (most : ℕ) (rows : FirstRows) : Type 0 where
+  pub all : List Row
+  pub are : AreRows (records_of piece) all
+  pub kept : rows.kept.items ≡ take most all
+  pub count : rows.count ≡ length all
 
 -- record n, counted from 1, lacks something, and all before it are rows
 pub record IsFirst (Lacks : List (List ℕ) → Type 0) (piece : List ℕ) (n : ℕ) : Type 0 where

@@ -12,6 +12,6 @@ mod word_key;
 pub use errors::LogError;
 pub use law::log_answers_are_one;
 pub use log_text::LogText;
-pub use read::read_rows;
+pub use read::{FirstRows, read_first_rows, read_rows};
 pub use row::{Kind, Row};
 pub use word_key::WordKey;

@@ -1,15 +1,13 @@
 // The key of a message.
-ghost use Rattle.std.specs.Prelude.{◌≡◌, ◌↔◌, SomeIff, IsTrue, All};
+ghost use Rattle.std.specs.Prelude.{◌≡◌, ◌↔◌, Some, SomeIff, IsTrue, All, refl};
 ghost use Rattle.std.specs.Int.{IsInRange};
 ghost use Rattle.std.specs.Cmp.{partial_equiv_from_equiv};
-ghost use Rattle.std.specs.Cmp.Lexicographic.{nat_list_eq_equiv};
+ghost use Rattle.std.specs.Cmp.Lexicographic.{slice_cmp, nat_list_eq_equiv, nat_list_cmp_total, texts_po, texts_ties};
+ghost use Rattle.std.specs.Ordering.{nat_cmp};
 ghost use Rattle.std.specs.Str.{bytes_eq};
-ghost use Rattle.std.specs.Hash as fed;
-ghost use Rattle.std.specs.Cmp.Rules.{hashing};
-ghost use Rattle.std.proofs.Common.{rules};
 ghost use Rattle.event_log.specs.Texts.{IsMessage, IsWordKey};
 
-use std::hash::{Hash, Hasher};
+use std::cmp::Ordering;
 use std::marker::Model;
 
 /// The key of a message: 1 to 64 bytes from 33 to 126. It is seen as these bytes.
@@ -52,13 +50,27 @@ impl Eq for WordKey {
     ghost laws = { nat_list_eq_equiv };
 }
 
-impl Hash for WordKey {
-    ghost hash_input = { fed.slice fed.u8 };
+impl PartialOrd for WordKey {
+    ghost partial_cmp = { λ a b. Some (slice_cmp nat_cmp a b) };
 
-    ghost respects_eq = { Prim.search (hashing, rules) };
+    ghost laws = { texts_po };
 
-    fn hash<H: Hasher>(&self, state: &mut H) {
-        self.bytes().hash(state);
+    fn partial_cmp(&self, other: &WordKey) -> Option<Ordering> {
+        Some(self.cmp(other))
+    }
+}
+
+impl Ord for WordKey {
+    ghost cmp = { slice_cmp nat_cmp };
+
+    ghost total = { nat_list_cmp_total };
+
+    ghost matches_partial_cmp = { λ a b. refl };
+
+    ghost matches_eq = { texts_ties };
+
+    fn cmp(&self, other: &WordKey) -> Ordering {
+        self.bytes().cmp(other.bytes())
     }
 }
 

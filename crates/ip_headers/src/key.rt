@@ -5,7 +5,7 @@ use arrayvec::ArrayVec;
 /// way, and the first bytes of its payload.
 ///
 /// IPv4 is that of RFC 791, TCP that of RFC 9293 and UDP that of RFC 768.
-#[derive(Clone, Debug, PartialEq, Eq, Hash, Drop)]
+#[derive(Clone, Debug, PartialEq, Eq, PartialOrd, Ord, Drop)]
 pub struct PacketKey {
     /// The source address, as the number of its octets in network byte order.
     pub source: u32,

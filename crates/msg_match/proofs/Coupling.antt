@@ -1,16 +1,17 @@
 -- The messages of the keys of some events, one event after another.
 use Rattle.std.proofs.Common.{◌≡◌, ◌≢◌, ◌⊎◌, ℕ, List, [], ◌∷◌, ◌++◌, Bool, true, false, ◌==◌, cond, Option, None, Some, inl, inr, refl, sym, ap, ◌∙◌, subst, arith}
 use Rattle.std.specs.Prelude.{AllPairs, Contains}
-use Rattle.std.specs.List.{list_any}
+use Rattle.std.specs.List.{list_any, position}
 use Rattle.std.proofs.lemmas.Bool.{and_from, and_parts, cases_Bool, eq-eqb, eqb-true, false≢true}
 use Rattle.std.proofs.lemmas.List.Elements.{Contains-append_left, Contains-push, Contains-push_cases}
 use Rattle.std.proofs.lemmas.List.Folds.{list_any_at}
 use Rattle.std.proofs.lemmas.List.Quantifiers.{all_pairs_push}
 use Rattle.std.proofs.lemmas.Option.{none-some, same_Some}
-use Rattle.indexmap.proofs.CallerLemmas.{Contains-list_any}
+use Rattle.std.proofs.lemmas.Map.Views.{Contains-from_any}
 use Rattle.msg_match.specs.declared.change.Couple.{Couple}
 use Rattle.msg_match.specs.Groups.{SeenItem, couple_of, group_of}
 use Rattle.msg_match.specs.Parts.{AreCouplesOf, is_same_couple, noted}
+use Rattle.msg_match.proofs.Placing.{none_any, some_any}
 
 -- ---- couples
 abbrev made_couple : ℕ → ℕ → Couple
@@ -31,6 +32,14 @@ pick b x y is = sym (ap (λ (c : Bool). cond c x y) is)
 pick_else : {X : Type 0} (b : Bool) (x y : X) → b ≡ false → y ≡ cond b x y
 pick_else b x y is = sym (ap (λ (c : Bool). cond c x y) is)
 
+-- a message that is there has a place
+pub stays : (found : List Couple) (o : Option Couple) (m : Couple) (k : ℕ) → o ≡ Some m → position (is_same_couple m) found ≡ Some k → found ≡ noted found o
+stays found o m k is at = pick (list_any (is_same_couple m) found) found (found ++ m ∷ []) (some_any (is_same_couple m) found k at) ∙ ap (noted found) (sym is)
+
+-- and one that has none comes last
+pub comes : (found : List Couple) (o : Option Couple) (m : Couple) → o ≡ Some m → position (is_same_couple m) found ≡ None → found ++ m ∷ [] ≡ noted found o
+comes found o m is at = pick_else (list_any (is_same_couple m) found) found (found ++ m ∷ []) (none_any (is_same_couple m) found at) ∙ ap (noted found) (sym is)
+
 noted_only : (found : List Couple) (c m : Couple) → Contains (noted found (Some c)) m → Contains found m ⊎ (c ≡ m)
 noted_only found c m held = elim (cases_Bool (list_any (is_same_couple c) found)) [
   | inl there ↦ inl (subst (λ (l : List Couple). Contains l m) (sym (pick (list_any (is_same_couple c) found) found (found ++ c ∷ []) there)) held)
@@ -45,7 +54,7 @@ noted_old found c m held = elim (cases_Bool (list_any (is_same_couple c) found))
 
 noted_new : (found : List Couple) (c : Couple) → Contains (noted found (Some c)) c
 noted_new found c = elim (cases_Bool (list_any (is_same_couple c) found)) [
-  | inl there ↦ subst (λ (l : List Couple). Contains l c) (pick (list_any (is_same_couple c) found) found (found ++ c ∷ []) there) (Contains-list_any is_same_couple same_couple found c there)
+  | inl there ↦ subst (λ (l : List Couple). Contains l c) (pick (list_any (is_same_couple c) found) found (found ++ c ∷ []) there) (Contains-from_any {eq = is_same_couple} same_couple c found there)
   | inr new ↦ subst (λ (l : List Couple). Contains l c) (pick_else (list_any (is_same_couple c) found) found (found ++ c ∷ []) new) (Contains-push found c)
 ]
 

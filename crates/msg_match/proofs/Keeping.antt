@@ -11,7 +11,7 @@ use Rattle.trace_event.specs.declared.event.Side.TheVariants.{Send, Receive}
 use Rattle.trace_event.specs.Seen.{EventKey, Word, is_same_key}
 use Rattle.msg_match.specs.declared.entry.Entry.{Entry}
 use Rattle.msg_match.specs.Groups.{SeenItem, SeenGroup, each_once, events_with, group_of, keys_of, size_of}
-use Rattle.msg_match.specs.Parts.{empty_group, entry_at, group_at, group_before, groups_before, keys_before, shorter, with_event, without_last}
+use Rattle.msg_match.specs.Parts.{empty_group, entry_at, group_at, group_before, groups_before, keys_before, keys_in, shorter, with_event, without_last}
 use Rattle.msg_match.specs.Inside.{AreKept, item_by, items_by}
 use Rattle.msg_match.proofs.Distinct.{AreApart, any_once, known_at, once_apart, once_known, once_new}
 use Rattle.msg_match.proofs.Grouping.{exact_keys, group_own, made, map_at, map_others, none_with, some_with}
@@ -103,6 +103,14 @@ kept_at keys log groups e kept inside room =
 
 pub same_length : (keys : List EventKey) (log : List Entry) (groups : List SeenGroup) → AreKept keys log groups → length groups ≡ length keys
 same_length keys log groups kept = ap length kept.grouped ∙ length-map keys (group_of (items_by keys log))
+
+own_keys : (items : List SeenItem) (keys : List EventKey) → keys_in (map (group_of items) keys) ≡ keys
+own_keys items [] = refl
+own_keys items (k ∷ ks) = ap (λ (l : List EventKey). k ∷ l) (own_keys items ks)
+
+-- the keys are those of the groups
+pub keys_kept : (keys : List EventKey) (log : List Entry) (groups : List SeenGroup) → AreKept keys log groups → keys_in groups ≡ keys
+keys_kept keys log groups kept = ap keys_in kept.grouped ∙ own_keys (items_by keys log) keys
 
 -- the first event of a key
 pub items_first : (keys : List EventKey) (log : List Entry) (groups : List SeenGroup) (key : EventKey) (event : ℕ) (side : Side) → AreKept keys log groups

@@ -1,16 +1,18 @@
 -- The code's own test on keys.
-use Rattle.std.proofs.Common.{◌≡◌, ℕ, List, [], ◌∷◌, ◌++◌, map, get_or, slice_get, Bool, true, false, ◌||◌, ◌&&◌, ◌==◌, cond, Option, Some, None, refl, sym, ap, ◌∙◌}
-use Rattle.std.specs.Prelude.{IfSome, IfNone, is_some, option_map}
+use Rattle.std.proofs.Common.{◌≡◌, ℕ, ◌+◌, ◌-◌, List, [], ◌∷◌, ◌++◌, length, map, take, get_or, slice_get, Bool, true, false, ◌||◌, ◌&&◌, ◌==◌, Option, Some, None, refl, sym, ap, ◌∙◌, arith}
+use Rattle.std.specs.Prelude.{IfSome, IfNone, option_map}
 use Rattle.std.specs.List.{position, list_any}
 use Rattle.std.specs.Str.{bytes_eq}
-use Rattle.std.proofs.lemmas.List.{map_push}
+use Rattle.std.proofs.lemmas.List.{get_or_at, get_or-map, length-map, length_push, take_all, take_more, take-map}
 use Rattle.std.proofs.lemmas.List.Quantifiers.{position-Some}
 use Rattle.std.proofs.lemmas.Option.{slice_get-get_or, slice_get-map}
 use Rattle.trace_event.specs.declared.event.Key.{Key}
 use Rattle.trace_event.specs.declared.event.Key.TheVariants as code
 use Rattle.trace_event.specs.contracts.event.KeyPartialEq.TheImpl as eq
-use Rattle.trace_event.specs.Seen.{is_same_key, key_of}
+use Rattle.places.specs.Numbers.{IsLast}
+use Rattle.trace_event.specs.Seen.{EventKey, is_same_key, key_of}
 use Rattle.msg_match.proofs.Grouping.{exact_keys}
+use Rattle.msg_match.proofs.Placing.{no_place, none_any}
 
 abbrev pub key_eq : Key → Key → Bool
 key_eq = eq.eq-value.it
@@ -59,10 +61,25 @@ found k ks (Some p) is =
     slice_get-map key_of ks p ∙ ap (option_map key_of) (slice_get-get_or ks p k at.0) ∙ ap Some (sym same)
 
 -- or it is not there
-pub missed : (k : Key) (ks : List Key) (o : Option ℕ) → is_some o ≡ list_any (key_eq k) ks → IfNone o (list_any (is_same_key (key_of k)) (map key_of ks) ≡ false)
+pub missed : (k : Key) (ks : List Key) (o : Option ℕ) → o ≡ position (key_eq k) ks → IfNone o (list_any (is_same_key (key_of k)) (map key_of ks) ≡ false)
 missed k ks (Some p) is = tt
-missed k ks None is = sym (any_is k ks) ∙ sym is
+missed k ks None is = sym (any_is k ks) ∙ none_any (key_eq k) ks (sym is)
 
--- a key that is not there comes last
-pub added : (k : Key) (ks : List Key) → list_any (is_same_key (key_of k)) (map key_of ks) ≡ false → map key_of (cond (list_any (key_eq k) ks) ks (ks ++ k ∷ [])) ≡ map key_of ks ++ key_of k ∷ []
-added k ks new = ap (λ (b : Bool). map key_of (cond b ks (ks ++ k ∷ []))) (any_is k ks ∙ new) ∙ map_push key_of ks k
+-- a key that is not there has no place
+pub absent : (k : Key) (ks : List Key) → list_any (is_same_key (key_of k)) (map key_of ks) ≡ false → position (key_eq k) ks ≡ None
+absent k ks new = no_place (key_eq k) ks (any_is k ks ∙ new)
+
+-- the last key is the last of those that are seen
+pub last_key : (k : Key) (ks : List Key) → IsLast (is_same_key (key_of k)) (map key_of ks) → IsLast (key_eq k) ks
+last_key k ks last =
+    let n = length last.0 in
+    let many : length ks ≡ n + 1 = sym (length-map ks key_of) ∙ ap length last.2 ∙ length_push last.0 last.1 in
+    let x = get_or ks n k in
+    let split : ks ≡ take n ks ++ x ∷ [] = sym (take_all (n + 1) ks (omega (arith, many))) ∙ take_more ks n k (omega (arith, many)) in
+    let there : key_of x ≡ last.1 =
+    sym (get_or-map key_of ks n k (key_of k) (omega (arith, many))) ∙ ap (λ (l : List EventKey). get_or l n (key_of k)) last.2 ∙ get_or_at last.0 last.1 [] (key_of k) n refl in
+    (take n ks, x, split, key_eq_is k x ∙ ap (is_same_key (key_of k)) there ∙ last.3)
+
+-- and without the last one the others stay
+pub short_keys : (ks short : List Key) → short ≡ take (length ks - 1) ks → map key_of short ≡ take (length (map key_of ks) - 1) (map key_of ks)
+short_keys ks short is = ap (map key_of) is ∙ sym (take-map key_of (length ks - 1) ks) ∙ ap (λ (n : ℕ). take (n - 1) (map key_of ks)) (sym (length-map ks key_of))

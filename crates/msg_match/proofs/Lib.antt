@@ -1,3 +1,4 @@
+pub mod Placing
 pub mod Distinct
 pub mod Grouping
 pub mod Keeping

@@ -1,12 +1,20 @@
 -- Groups in a table, with one of them changed.
-use Rattle.std.proofs.Common.{◌≡◌, ℕ, ◌<◌, ◌-◌, List, [], length, set, take, get_or, Bool, true, false, ◌==◌, cond, sym, ap, ◌∙◌}
+use Rattle.std.proofs.Common.{◌≡◌, ℕ, ◌<◌, ◌-◌, List, [], ◌∷◌, ◌++◌, length, set, take, get_or, Bool, true, false, ◌==◌, cond, refl, sym, ap, subst, ◌∙◌}
 use Rattle.std.specs.Prelude.{Result, Ok, Err, OnOk, OnErr}
-use Rattle.std.proofs.lemmas.List.{get_or-map, length-map, map-set, set-get_or, take-map}
+use Rattle.std.proofs.lemmas.List.{get_or-map, length-map, map_push, map-set, set-get_or, take-map}
+use Rattle.places.specs.Numbers.{IsLast}
+use Rattle.trace_event.specs.declared.event.Side.{Side}
+use Rattle.trace_event.specs.declared.event.Side.TheVariants.{Send, Receive}
+use Rattle.trace_event.specs.Seen.{EventKey, Word, is_same_key, key_of}
 use Rattle.msg_match.specs.declared.entry.Entry.{Entry}
 use Rattle.msg_match.specs.declared.group.Group.{Group}
 use Rattle.msg_match.specs.Groups.{SeenGroup, size_of}
 use Rattle.msg_match.specs.Held.{seen_group, seen_groups}
-use Rattle.msg_match.specs.Parts.{group_at, group_before, groups_before, shorter, without_last}
+use Rattle.msg_match.specs.Parts.{group_at, group_before, groups_before, keys_in, shorter, without_last}
+use Rattle.msg_match.proofs.Grouping.{exact_keys}
+
+abbrev key_at : SeenGroup → EventKey
+key_at g = g.key
 
 -- one group is changed
 pub changed : (groups : List Group) (i : ℕ) (old new : Group) (d : SeenGroup) (f : SeenGroup → SeenGroup) → i < length groups → old ≡ get_or groups i old → seen_group new ≡ f (seen_group old)
@@ -46,6 +54,27 @@ module _ (groups : List Group) (e : Entry) (old new : Group) (inside : e.place <
       ∙ ap (λ (n : ℕ). take (n - 1) (seen_groups (set groups e.place new))) (sym (length-map (set groups e.place new) seen_group))
       ∙ ap (λ (gs : List SeenGroup). shorter gs) less
       ∙ ap (λ (b : Bool). cond b (shorter (set (seen_groups groups) e.place (group_before (seen_groups groups) e))) (set (seen_groups groups) e.place (group_before (seen_groups groups) e))) (sym empty)
+
+  key_less : (g : SeenGroup) (side : Side) → (without_last g side).key ≡ g.key
+  key_less g Send = refl
+  key_less g Receive = refl
+
+  -- the keys stay
+  same_keys : keys_in (seen_groups (set groups e.place new)) ≡ keys_in (seen_groups groups)
+  same_keys =
+      let gs = seen_groups groups in
+      let within : e.place < length gs = subst (λ (n : ℕ). e.place < n) (sym (length-map groups seen_group)) inside in
+      let key : (group_before gs e).key ≡ get_or (keys_in gs) e.place (Word []) = key_less (group_at gs e.place) e.side ∙ sym (get_or-map key_at gs e.place (group_at [] 0) (Word []) within) in
+      ap keys_in less ∙ map-set key_at gs e.place (group_before gs e) ∙ ap (λ (k : EventKey). set (keys_in gs) e.place k) key ∙ set-get_or (keys_in gs) e.place (Word [])
+
+  -- so the last group has the last key
+  pub last_has : (keys : List EventKey) (rest : List Group) (last : Group) → keys_in (seen_groups groups) ≡ keys → set groups e.place new ≡ rest ++ last ∷ [] → IsLast (is_same_key (key_of last.key)) keys
+  last_has keys rest last kept is = (
+    keys_in (seen_groups rest),
+    key_of last.key,
+    sym kept ∙ sym same_keys ∙ ap (λ (gs : List Group). keys_in (seen_groups gs)) is ∙ ap keys_in (map_push seen_group rest last) ∙ map_push key_at (seen_groups rest) (seen_group last),
+    exact_keys.own (key_of last.key),
+  )
 
 -- ---- what a call answers
 -- whether it went well or not

@@ -1,5 +1,5 @@
 -- What the parts of a matcher promise each other.
-use Rattle.std.specs.Prelude.{◌≡◌, ℕ, ◌-◌, ◌==◌, List, [], ◌∷◌, ◌++◌, length, take, slice_set, slice_index_or, sum_by, Some, Option, None, Bool, ◌&&◌, if◌then◌else◌, Contains, AllPairs, ◌≢◌}
+use Rattle.std.specs.Prelude.{◌≡◌, ℕ, ◌-◌, ◌==◌, List, [], ◌∷◌, ◌++◌, length, map, take, slice_set, slice_index_or, sum_by, Some, Option, None, Bool, ◌&&◌, if◌then◌else◌, Contains, AllPairs, ◌≢◌}
 use Rattle.std.specs.List.{list_any}
 use Rattle.trace_event.specs.declared.event.Side.{Side}
 use Rattle.trace_event.specs.declared.event.Side.TheVariants.{Send, Receive}
@@ -36,6 +36,10 @@ group_at groups place = slice_index_or groups place (empty_group (Word []))
 -- an event whose key has this place
 abbrev pub entry_at : ℕ → Side → ℕ → Entry
 entry_at event side place = record { event = event; side = side; place = place }
+
+-- the keys of groups
+abbrev pub keys_in : List SeenGroup → List EventKey
+keys_in groups = map (λ (g : SeenGroup). g.key) groups
 
 -- the group of an event, without it
 abbrev pub group_before : List SeenGroup → Entry → SeenGroup

@@ -1,9 +1,10 @@
 // Keys by their places.
 ghost use Rattle.std.specs.Prelude.{◌≡◌, ◌<◌, ◌-◌, ◌++◌, ◌∷◌, [], length, take, slice_get, Some, false, IfSome, IfNone, OnOk, OnErr};
 ghost use Rattle.std.specs.List.{list_any};
+ghost use Rattle.places.specs.Numbers.{IsLast};
 ghost use Rattle.trace_event.specs.Seen.{key_of, is_same_key};
 
-use indexmap::IndexSet;
+use places::Places;
 use std::alloc::{AllocError, Global};
 use std::marker::Model;
 use trace_event::Key;
@@ -11,7 +12,7 @@ use trace_event::Key;
 /// Different keys, by their places from 0 on.
 #[derive(Drop)]
 pub(crate) struct Keys {
-    set: IndexSet<Key>,
+    places: Places<Key>,
 }
 
 impl Model for Keys {
@@ -20,7 +21,7 @@ impl Model for Keys {
 
     ghost Value = { List EventKey };
 
-    ghost view = { λ k. map key_of k.set.keys };
+    ghost view = { λ k. map key_of k.places };
 }
 
 impl Keys {
@@ -29,7 +30,7 @@ impl Keys {
         ensures { result ≡ [] }
     {
         Keys {
-            set: IndexSet::new(alloc),
+            places: Places::new(alloc),
         }
     }
 
@@ -39,7 +40,7 @@ impl Keys {
         ensures none { IfNone result (list_any (is_same_key (key_of key.now)) self.now ≡ false) }
         ensures within { IfSome result (λ k. k < length self.now) }
     {
-        self.set.get_index_of(key)
+        self.places.place(key)
     }
 
     // Appends a key that is not there. All stays as before where memory runs out.
@@ -48,14 +49,15 @@ impl Keys {
         ensures ok { OnOk result (self.new ≡ self.old ++ key_of key ∷ []) }
         ensures err { OnErr result (self.new ≡ self.old) }
     {
-        self.set.insert(key)?;
+        self.places.push(key)?;
         Ok(())
     }
 
-    // Takes the last key away, where there is one.
-    pub(crate) fn pop(&mut self)
+    // Takes the last key away, which is this one.
+    pub(crate) fn take_last(&mut self, key: &Key)
+        requires last { IsLast (is_same_key (key_of key.now)) self.old }
         ensures { self.new ≡ take (length self.old - 1) self.old }
     {
-        let _last = self.set.pop();
+        self.places.take_last(key);
     }
 }

@@ -2,6 +2,7 @@
 #![tactic(auto)]
 
 mod change;
+mod couples;
 mod entry;
 mod group;
 mod item;

@@ -5,27 +5,17 @@ ghost use Rattle.msg_match.specs.Groups.{SeenItem, couple_of, group_of, groups_o
 ghost use Rattle.msg_match.specs.Messages.{tallies};
 ghost use Rattle.msg_match.specs.Held.{seen_item, seen_items, seen_found, seen_groups};
 ghost use Rattle.msg_match.specs.Changes.{HaveOwnNumbers, AreMessagesAnew};
-ghost use Rattle.msg_match.specs.Parts.{AreCouplesOf, noted};
+ghost use Rattle.msg_match.specs.Parts.{AreCouplesOf};
 
+use crate::couples::Couples;
 use crate::entry::Entry;
 use crate::keys::Keys;
 use crate::tables::{push_at, push_first, take_back};
 use crate::tallying::{ambiguous_count, ambiguous_group, sum};
 use crate::{Change, Couple, Group, Item, Tallies};
-use indexmap::IndexSet;
 use std::alloc::{AllocError, Global};
 use std::marker::Model;
 use trace_event::Key;
-
-// Appends a message that is not there; an error where memory runs out.
-fn note(found: &mut IndexSet<Couple>, couple: Option<Couple>) -> Result<(), AllocError>
-    ensures { OnOk result (found.new.keys ≡ noted found.old.keys couple) }
-{
-    if let Some(couple) = couple {
-        found.insert(couple)?;
-    }
-    Ok(())
-}
 
 /// The events that are ends of messages, and which of them are a message. It is seen as the list of all events that were
 /// added, at most 2^22.
@@ -86,11 +76,11 @@ impl Matcher {
         ensures { IfOk result (λ found. AreCouplesOf self.now (seen_items items.now) found.items) }
     {
         let alloc = *self.log.allocator();
-        let mut found = IndexSet::new(alloc);
+        let mut found = Couples::new(alloc);
         for item in items {
-            note(&mut found, self.couple(&item.key))?;
+            found.note(self.couple(&item.key))?;
         }
-        Vec::from_slice(alloc, found.as_slice())
+        Ok(found.into_list())
     }
 
     // Appends an event. All stays as before where memory runs out.
@@ -141,7 +131,8 @@ impl Matcher {
     /// before.
     ///
     /// No two events have the same number, those before included, and there are at most 2^22 in all. A message that
-    /// comes and goes again within the events added is in neither list. The time goes by the events that are added.
+    /// comes and goes again within the events added is in neither list. The time goes by the events that are added; for
+    /// each, a key is looked up among all by some log n comparisons, whatever the keys are.
     pub fn add(&mut self, items: &[Item]) -> Result<Change, AllocError>
         requires few { length self.old + length items.now ≤ 2 ^ 22 }
         requires differ { HaveOwnNumbers (self.old ++ seen_items items.now) }

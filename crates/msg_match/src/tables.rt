@@ -3,7 +3,7 @@ ghost use Rattle.std.specs.Prelude.{◌≡◌, ◌<◌, ◌≤◌, ◌^◌, ◌+
 ghost use Rattle.std.specs.List.{list_any};
 ghost use Rattle.trace_event.specs.Seen.{key_of, is_same_key};
 ghost use Rattle.msg_match.specs.Held.{seen_groups};
-ghost use Rattle.msg_match.specs.Parts.{group_at, with_event, empty_group, entry_at, groups_before, keys_before};
+ghost use Rattle.msg_match.specs.Parts.{group_at, with_event, empty_group, entry_at, groups_before, keys_before, keys_in};
 
 use crate::entry::Entry;
 use crate::keys::Keys;
@@ -79,14 +79,16 @@ pub(crate) fn push_first(
 
 // Takes the last event away, which was this one, and its key where it has no other event.
 pub(crate) fn take_back(keys: &mut Keys, groups: &mut Vec<Group>, entry: Entry)
-    requires { entry.place < length groups.old.items }
+    requires within { entry.place < length groups.old.items }
+    requires kept { keys_in (seen_groups groups.old.items) ≡ keys.old }
     ensures groups { seen_groups groups.new.items ≡ groups_before (seen_groups groups.old.items) entry }
     ensures keys { keys.new ≡ keys_before (seen_groups groups.old.items) entry keys.old }
 {
     let group = &mut groups[entry.place as usize];
     group.pop(entry.side);
     if group.is_empty() {
-        let _last = groups.pop();
-        keys.pop();
+        if let Some(last) = groups.pop() {
+            keys.take_last(&last.key);
+        }
     }
 }

@@ -211,3 +211,13 @@ GoesOn t bytes old new next = (s piece : List ℕ) (c : Capture) → bytes ≡ t
 
 abbrev pub IsRefused : Tail → List ℕ → PcapError → Type 0
 IsRefused t bytes e = (s piece : List ℕ) (c : Capture) → bytes ≡ t.rest ++ piece → StandsFor t s c → IsFault (s ++ piece) e
+
+-- ---- the packets that came, behind others
+pub grows_behind : (t : Tail) (s : List ℕ) (c : Capture) (added old new : List Seen) → Grows t s c [] added → new ≡ old ++ added → Grows t s c old new
+grows_behind t s c added old new grows is = record {
+  then = grows.then;
+  stands = grows.stands;
+  added = grows.added;
+  grown = is ∙ ap (λ (l : List Seen). old ++ l) grows.grown;
+  more = grows.more;
+}

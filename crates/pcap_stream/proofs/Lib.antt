@@ -5,3 +5,4 @@ pub mod Streams
 mod Reading
 mod Growing
 mod Judging
+pub mod Collecting

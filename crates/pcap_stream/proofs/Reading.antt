@@ -8,7 +8,7 @@ use Rattle.pcap_stream.specs.declared.header.Order.{Order}
 use Rattle.pcap_stream.specs.declared.header.Header.{Header}
 use Rattle.pcap_stream.specs.Capture.{Record, Seen, IsRecord, HasRecord, HasTooLong, bytes_of, captured_length, number_in, nanos, packet_of}
 use Rattle.pcap_stream.specs.declared.packet.Packet.{Packet}
-use Rattle.pcap_stream.specs.Feeding.{seen_packet, seen_packets}
+use Rattle.pcap_stream.specs.Feeding.{seen_packet}
 use Rattle.pcap_stream.specs.Inside.{IsPart, IsNext, HasRead, IsLater}
 use Rattle.pcap_stream.proofs.Headers.{number-take}
 use Rattle.pcap_stream.proofs.Records.{record_long, captured-append}
@@ -111,11 +111,9 @@ later_of {h} {bytes} {left} {old} {new} start place read long is = record {
 }
 
 -- what a packet more says of the packets
-pub packets_pushed : (h : Header) (bytes left : List ℕ) (old : List Seen) (before now : List Packet) (packet : Packet) (n : ℕ) → HasRead h bytes left old (seen_packets before) → IsNext h left (seen_packet packet) →
-    n ≡ length packet.bytes.items → now ≡ before ++ packet ∷ [] → HasRead h bytes (take (length left - (16 + n)) (drop (16 + n) left)) old (seen_packets now)
-packets_pushed h bytes left old before now packet n read next count pushed =
-    let seen : seen_packets now ≡ seen_packets before ++ seen_packet packet ∷ [] = ap (λ (l : List Packet). seen_packets l) pushed ∙ map-append seen_packet before (packet ∷ []) in
+pub packets_pushed : (h : Header) (bytes left : List ℕ) (old before : List Seen) (packet : Packet) (n : ℕ) → HasRead h bytes left old before → IsNext h left (seen_packet packet) →
+    n ≡ length packet.bytes.items → HasRead h bytes (take (length left - (16 + n)) (drop (16 + n) left)) old (before ++ seen_packet packet ∷ [])
+packets_pushed h bytes left old before packet n read next count =
     let behind : take (length left - (16 + n)) (drop (16 + n) left) ≡ next.after =
     take_rest left (16 + n) ∙ ap (λ (k : ℕ). drop (16 + k) left) count ∙ next_left next in
-    subst (λ (l : List ℕ). HasRead h bytes l old (seen_packets now)) (sym behind)
-    (subst (λ (l : List Seen). HasRead h bytes next.after old l) (sym seen) (one_read read next))
+    subst (λ (l : List ℕ). HasRead h bytes l old (before ++ seen_packet packet ∷ [])) (sym behind) (one_read read next)

@@ -1,5 +1,6 @@
 -- A stream that comes in pieces: what is kept of it, and what a piece adds.
-use Rattle.std.specs.Prelude.{◌≡◌, ℕ, ◌+◌, ◌^◌, ◌<◌, ◌≤◌, List, [], ◌++◌, length, map, Option, None}
+use Rattle.std.specs.Prelude.{◌≡◌, ℕ, ◌+◌, ◌-◌, ◌^◌, ◌<◌, ◌≤◌, ◌↔◌, List, [], ◌++◌, length, map, take, Option, None, IsTrue}
+use Rattle.pcap_stream.specs.declared.first_packets.FirstPackets.{FirstPackets}
 use Rattle.pcap_stream.specs.declared.header.Header.{Header}
 use Rattle.pcap_stream.specs.declared.packet.Packet.{Packet}
 use Rattle.pcap_stream.specs.Capture.{Capture, Seen, Reads, packets_of}
@@ -46,3 +47,26 @@ pub record Grows (t : Tail) (s : List ℕ) (c : Capture) (old new : List Seen) :
   pub added : List Seen
   pub grown : new ≡ old ++ added
   pub more : packets_of then ≡ packets_of c ++ added
+
+-- ---- packets of which only so many are kept
+-- the first of these packets are kept, at most so many, and it is told whether there were more
+pub record KeepsFirst (f : FirstPackets) (packets : List Seen) : Type 0 where
+  pub kept : seen_packets f.kept.items ≡ take f.most packets
+  pub more : IsTrue f.more ↔ (f.most < length packets)
+
+-- as many packets may be kept behind these as there is room for
+abbrev pub IsBehind : FirstPackets → FirstPackets → Type 0
+IsBehind f behind = behind.most ≡ f.most - length f.kept.items
+
+-- the same packets are kept, and the same is told
+pub record IsSame (old new : FirstPackets) : Type 0 where
+  pub kept : new.kept.items ≡ old.kept.items
+  pub more : new.more ≡ old.more
+  pub most : new.most ≡ old.most
+
+-- these packets came behind those that there were
+pub record Adds (Are : List Seen → Type 0) (old new : FirstPackets) : Type 0 where
+  pub added : List Seen
+  pub are : Are added
+  pub most : new.most ≡ old.most
+  pub keeps : (packets : List Seen) → KeepsFirst old packets → KeepsFirst new (packets ++ added)

@@ -1,11 +1,11 @@
 // Records: 16 bytes that say what was captured, and the bytes that were.
-ghost use Rattle.std.specs.Prelude.{◌≡◌, ◌+◌, ◌*◌, ◌≤◌, ◌^◌, length, drop, IfOk, IfErr};
+ghost use Rattle.std.specs.Prelude.{◌≡◌, ◌+◌, ◌*◌, ◌≤◌, ◌^◌, [], length, drop, IfOk, IfErr};
 ghost use Rattle.pcap_stream.specs.Capture.{number_in, nanos};
-ghost use Rattle.pcap_stream.specs.Feeding.{seen_packets};
-ghost use Rattle.pcap_stream.specs.Inside.{FindsRecord, IsRecordFault, HasRead, EndsRecords, IsRecordsFault};
+ghost use Rattle.pcap_stream.specs.Feeding.{Adds};
+ghost use Rattle.pcap_stream.specs.Inside.{FindsRecord, IsRecordFault, EndsRecords, IsRecordsFault};
 
 use crate::header::{Fraction, Header};
-use crate::{Packet, PcapError};
+use crate::{FirstPackets, Packet, PcapError};
 use atto::Nano;
 use std::alloc::Global;
 
@@ -66,17 +66,17 @@ fn read_record(
     }))
 }
 
-/// Appends the packets of the whole records that begin these bytes, which stand at this place of a capture, and answers
-/// what is left. `Length` has the place of the first record of more than 262,144 bytes.
+/// Takes the packets of the whole records that begin these bytes, which stand at this place of a capture, and answers what
+/// is left. `Length` has the place of the first record of more than 262,144 bytes.
 pub(crate) fn read_records<'a>(
     alloc: Global,
     header: Header,
     place: u32,
     bytes: &'a [u8],
-    packets: &mut Vec<Packet>,
+    packets: &mut FirstPackets,
 ) -> Result<&'a [u8], PcapError>
     requires { place + length bytes.now ≤ 2 ^ 30 }
-    ensures ok { IfOk result (λ left. EndsRecords header bytes.now left.now (seen_packets packets.old.items) (seen_packets packets.new.items)) }
+    ensures ok { IfOk result (λ left. Adds (λ added. EndsRecords header bytes.now left.now [] added) packets.old packets.new) }
     ensures fault { IfErr result (λ e. IsRecordsFault header.order bytes.now place e) }
 {
     let mut left = bytes;

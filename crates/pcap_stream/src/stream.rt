@@ -1,13 +1,13 @@
 // Captures that come in pieces.
-ghost use Rattle.std.specs.Prelude.{◌≡◌, ◌≢◌, ◌≤◌, ◌+◌, ◌^◌, ◌++◌, ℕ, List, length, IfOk, IfErr, OnErr};
+ghost use Rattle.std.specs.Prelude.{◌≡◌, ◌≢◌, ◌≤◌, ◌+◌, ◌^◌, ◌++◌, [], ℕ, List, length, IfOk, IfErr, OnErr};
 ghost use Rattle.pcap_stream.specs.declared.errors.PcapError.TheVariants as errors;
 ghost use Rattle.pcap_stream.specs.Capture.{Capture, Record, IsFault};
-ghost use Rattle.pcap_stream.specs.Feeding.{StandsFor, IsNew, IsTail, Grows, tail_of, seen_packets};
+ghost use Rattle.pcap_stream.specs.Feeding.{StandsFor, IsNew, IsTail, Grows, Adds, IsSame, tail_of, seen_packets};
 ghost use Rattle.pcap_stream.specs.Inside.{IsAt, with_records};
 
 use crate::header::{HEADER_BYTES, Header, read_header};
 use crate::record::read_records;
-use crate::{Packet, PcapError};
+use crate::{FirstPackets, Packet, PcapError};
 use std::alloc::Global;
 use std::marker::Model;
 
@@ -53,8 +53,8 @@ impl PcapStream {
         self.rest.len() as u32
     }
 
-    /// Reads the next piece of a capture of at most 2^30 bytes: answers what then stands of it, and appends the packets
-    /// of the records that end within the piece.
+    /// Reads the next piece of a capture of at most 2^30 bytes: answers what then stands of it, and appends the packets of
+    /// the records that end within the piece.
     ///
     /// An error comes exactly where the capture with this piece is refused, with the first cause, or where memory runs
     /// out. Then `out` is as before, and another piece may be fed in place of this one.
@@ -65,16 +65,33 @@ impl PcapStream {
         ensures size { IfOk result (λ next. next.offset + length next.rest ≡ self.now.offset + length self.now.rest + length piece.now) }
         ensures unchanged { OnErr result (out.new.items ≡ out.old.items) }
     {
-        let mut packets = Vec::new(self.alloc);
+        let mut first = FirstPackets::new(self.alloc, u64::MAX);
+        let next = self.feed_first(piece, &mut first)?;
+        out.append(&mut first.kept)?;
+        Ok(next)
+    }
+
+    /// Reads the next piece as `feed` does, and adds its packets, of which the first are kept as far as there is room.
+    ///
+    /// An error comes exactly where the capture with this piece is refused, with the first cause, or where memory runs
+    /// out. Then `out` is as before, and another piece may be fed in place of this one.
+    pub fn feed_first(&self, piece: &[u8], out: &mut FirstPackets) -> Result<PcapStream, PcapError>
+        requires { self.now.offset + length self.now.rest + length piece.now ≤ 2 ^ 30 }
+        ensures ok { IfOk result (λ next. Adds (λ completed. (s : List ℕ) (c : Capture) → StandsFor self.now s c → Grows next (s ++ piece.now) c [] completed) out.old out.new) }
+        ensures fault { IfErr result (λ e. e ≢ errors.Memory → (s : List ℕ) (c : Capture) → StandsFor self.now s c → IsFault (s ++ piece.now) e) }
+        ensures size { IfOk result (λ next. next.offset + length next.rest ≡ self.now.offset + length self.now.rest + length piece.now) }
+        ensures unchanged { OnErr result (IsSame out.old out.new) }
+    {
+        let mut packets = out.behind(self.alloc);
         let next = self.read(piece, &mut packets)?;
-        out.append(&mut packets)?;
+        out.append(packets)?;
         Ok(next)
     }
 
     // The next capture and its packets, from the rest and the piece in one slice.
-    fn read(&self, piece: &[u8], packets: &mut Vec<Packet>) -> Result<PcapStream, PcapError>
+    fn read(&self, piece: &[u8], packets: &mut FirstPackets) -> Result<PcapStream, PcapError>
         requires { self.now.offset + length self.now.rest + length piece.now ≤ 2 ^ 30 }
-        ensures ok { IfOk result (λ next. (s : List ℕ) (c : Capture) → StandsFor self.now s c → Grows next (s ++ piece.now) c (seen_packets packets.old.items) (seen_packets packets.new.items)) }
+        ensures ok { IfOk result (λ next. Adds (λ completed. (s : List ℕ) (c : Capture) → StandsFor self.now s c → Grows next (s ++ piece.now) c [] completed) packets.old packets.new) }
         ensures fault { IfErr result (λ e. (s : List ℕ) (c : Capture) → StandsFor self.now s c → IsFault (s ++ piece.now) e) }
         ensures size { IfOk result (λ next. next.offset + length next.rest ≡ self.now.offset + length self.now.rest + length piece.now) }
     {
@@ -88,10 +105,10 @@ impl PcapStream {
     }
 
     // The next capture and its packets, where the rest and the piece are these bytes.
-    fn go_on(&self, bytes: &[u8], packets: &mut Vec<Packet>) -> Result<PcapStream, PcapError>
+    fn go_on(&self, bytes: &[u8], packets: &mut FirstPackets) -> Result<PcapStream, PcapError>
         requires { self.now.offset + length bytes.now ≤ 2 ^ 30 }
-        ensures ok { IfOk result (λ next. (s piece : List ℕ) (c : Capture) → bytes.now ≡ self.now.rest ++ piece → StandsFor self.now s c
-            → Grows next (s ++ piece) c (seen_packets packets.old.items) (seen_packets packets.new.items)) }
+        ensures ok { IfOk result (λ next. Adds (λ completed. (s piece : List ℕ) (c : Capture) → bytes.now ≡ self.now.rest ++ piece → StandsFor self.now s c
+            → Grows next (s ++ piece) c [] completed) packets.old packets.new) }
         ensures fault { IfErr result (λ e. (s piece : List ℕ) (c : Capture) → bytes.now ≡ self.now.rest ++ piece → StandsFor self.now s c → IsFault (s ++ piece) e) }
         ensures size { IfOk result (λ next. next.offset + length next.rest ≡ self.now.offset + length bytes.now) }
     {
@@ -136,11 +153,11 @@ fn read_on(
     header: Header,
     offset: u32,
     bytes: &[u8],
-    packets: &mut Vec<Packet>,
+    packets: &mut FirstPackets,
 ) -> Result<PcapStream, PcapError>
     requires { offset + length bytes.now ≤ 2 ^ 30 }
-    ensures ok { IfOk result (λ next. (s : List ℕ) (records : List Record) → IsAt header s records offset bytes.now
-        → Grows next s (with_records header records) (seen_packets packets.old.items) (seen_packets packets.new.items)) }
+    ensures ok { IfOk result (λ next. Adds (λ completed. (s : List ℕ) (records : List Record) → IsAt header s records offset bytes.now
+        → Grows next s (with_records header records) [] completed) packets.old packets.new) }
     ensures fault { IfErr result (λ e. (s : List ℕ) (records : List Record) → IsAt header s records offset bytes.now → IsFault s e) }
     ensures size { IfOk result (λ next. next.offset + length next.rest ≡ offset + length bytes.now) }
 {

@@ -14,7 +14,7 @@ use Rattle.pcapng_stream.specs.declared.stream.Kind.TheVariants as kinds
 use Rattle.pcapng_stream.specs.Blocks.{before}
 use Rattle.pcapng_stream.specs.Pcapng as pcapng
 use Rattle.pcapng_stream.specs.Capture.{Capture, Classic, Pcapng, IsPcapng, IsFault, packets_of}
-use Rattle.pcapng_stream.specs.Feeding.{ClassicTail, PcapngTail, BlockTail, StandsFor, StandsForBlocks, Grows, GrowsBlocks}
+use Rattle.pcapng_stream.specs.Feeding.{Tail, ClassicTail, PcapngTail, BlockTail, StandsFor, StandsForBlocks, Grows, GrowsBlocks}
 use Rattle.pcapng_stream.specs.Inside.{of_classic, tail_of}
 use Rattle.pcapng_stream.specs.Kept.{Begins, GoesOn, IsRefused, kept_in}
 use Rattle.pcapng_stream.proofs.Either.{ClassicNew, from_classic, longer, not_nothing, stays, stays_memory}
@@ -158,3 +158,13 @@ begun_on piece old new kind begins = record {
 
 pub begun_refused : (piece : List ℕ) (e : CaptureError) → (e ≢ Memory → IsFault piece e) → IsRefused (kept_in kinds.Unknown) piece e
 begun_refused piece e all ne s c stands = subst (λ (l : List ℕ). IsFault (l ++ piece) e) (sym (unknown_nothing s c stands).bytes) (all ne)
+
+-- ---- the packets that came, behind others
+pub grows_behind : (t : Tail) (s : List ℕ) (c : Capture) (added old new : List Seen) → Grows t s c [] added → new ≡ old ++ added → Grows t s c old new
+grows_behind t s c added old new grows is = record {
+  then = grows.then;
+  stands = grows.stands;
+  added = grows.added;
+  grown = is ∙ ap (λ (l : List Seen). old ++ l) grows.grown;
+  more = grows.more;
+}

@@ -2,10 +2,7 @@
 use Rattle.std.proofs.Common.{◌≡◌, ◌≤◌, ◌+◌, ◌-◌, ℕ, false, List, [], ◌∷◌, ◌++◌, length, Option, Some, None, is_none, refl, sym, ap, subst, ◌∙◌, arith, append_assoc, length-append}
 use Rattle.std.specs.List.{flat_map}
 use Rattle.std.proofs.lemmas.List.Concat.{flat_map-append}
-use Rattle.std.proofs.lemmas.List.{map-append}
-use Rattle.pcap_stream.specs.declared.packet.Packet.{Packet}
 use Rattle.pcap_stream.specs.Capture.{Seen}
-use Rattle.pcap_stream.specs.Feeding.{seen_packet, seen_packets}
 use Rattle.pcapng_stream.specs.declared.section.Interface.{Interface}
 use Rattle.pcapng_stream.specs.declared.order.Order.{Order}
 use Rattle.pcapng_stream.specs.declared.block.BlockKind.{BlockKind}
@@ -166,15 +163,3 @@ goes_so t next sec mid offset bytes left old new known at begins ends kept s pie
 pub not_none : (o : Option Order) → is_none o ≡ false → o ≡ None → ⊥
 not_none None e none = absurd (cc (e))
 not_none (Some o) e none = some_none o none
-
--- packets that were appended at last
-pub grows_behind : (t : BlockTail) (s : List ℕ) (c : Blocks) (first out packets now : List Packet) → first ≡ [] → GrowsBlocks t s c (seen_packets first) (seen_packets packets) → now ≡ out ++ packets → GrowsBlocks t s c (seen_packets out) (seen_packets now)
-grows_behind t s c first out packets now none grows e =
-    let own : seen_packets packets ≡ grows.added = grows.grown ∙ ap (λ (l : List Packet). seen_packets l ++ grows.added) none in
-    record {
-      then = grows.then;
-      stands = grows.stands;
-      added = grows.added;
-      grown = ap (λ (l : List Packet). seen_packets l) e ∙ map-append seen_packet out packets ∙ ap (λ (l : List Seen). seen_packets out ++ l) own;
-      more = grows.more;
-    }

@@ -12,7 +12,7 @@ use Rattle.pcapng_stream.specs.declared.flaw.Flaw.TheVariants.{Malformed, OtherV
 use Rattle.pcapng_stream.specs.Blocks.{Section, Block, bytes_of, section_behind, packets_in}
 use Rattle.pcapng_stream.specs.Flaws.{begins_wrong, flaw_in}
 use Rattle.pcapng_stream.specs.Pcapng.{IsBlock, HasFlaw, section_after, packets_after}
-use Rattle.pcapng_stream.specs.Inside.{IsWrong, IsFirst, IsFaultOf, IsTaken, IsNext, IsHereFault, HasRead, IsLater, IsBlocksFault, fault_at}
+use Rattle.pcapng_stream.specs.Inside.{IsWrong, IsFirst, IsFaultOf, IsTaken, IsNext, FindsNext, IsHereFault, HasRead, EndsBlocks, IsLater, IsBlocksFault, fault_at}
 use Rattle.pcapng_stream.proofs.Heads.{wrong-append}
 use Rattle.pcapng_stream.proofs.Rows.{after-append, blocks-append, packets-append}
 
@@ -97,6 +97,22 @@ later_of s bytes left mid old new start place flaw read f is = record {
   flawed = subst (λ (z : Section). HasFlaw z left flaw) read.section f;
   at = omega (arith, is, read_short s bytes left mid old new read);
 }
+
+-- the packets of a block came behind others
+pub next_behind : (s : Section) (bytes : List ℕ) (size : ℕ) (next : Section) (some more : List Seen) → IsNext s bytes size next [] more → IsNext s bytes size next some (some ++ more)
+next_behind s bytes size next some more n = record {
+  block = n.block;
+  after = n.after;
+  lawful = n.lawful;
+  said = n.said;
+  joined = n.joined;
+  taken = record { section = n.taken.section; packets = ap (λ (l : List Seen). some ++ l) n.taken.packets };
+}
+
+-- no whole block comes behind those that were read
+pub blocks_end : (s : Section) (bytes left : List ℕ) (mid next : Section) (some more : List Seen) → HasRead s bytes left mid [] some → FindsNext mid left None next [] more → EndsBlocks s bytes left next [] (some ++ more)
+blocks_end s bytes left mid next some more read (part, same) =
+    rw (same.section, same.packets, append-nil some) (record { read = read; part = part })
 
 -- the block behind those that were read has a flaw
 pub later_fault : (s : Section) (bytes left : List ℕ) (mid : Section) (old new : List Seen) (start place : ℕ) (e : CaptureError) → HasRead s bytes left mid old new → IsHereFault mid left place e → place ≡ start + (length bytes - length left) →

@@ -1,6 +1,6 @@
 // Captures in blocks that come in pieces.
 ghost use Rattle.std.specs.Prelude.{◌≡◌, ◌≢◌, ◌≤◌, ◌+◌, ◌^◌, ◌++◌, ℕ, List, [], length, IfOk, IfErr, OnErr};
-ghost use Rattle.pcap_stream.specs.Feeding.{seen_packets};
+ghost use Rattle.pcap_stream.specs.Feeding.{Adds, IsSame};
 ghost use Rattle.pcapng_stream.specs.declared.errors.CaptureError.TheVariants.{Memory};
 ghost use Rattle.pcapng_stream.specs.Blocks.{before};
 ghost use Rattle.pcapng_stream.specs.Pcapng.{Blocks, IsFault};
@@ -12,7 +12,7 @@ use crate::block::find_block;
 use crate::content::take_block;
 use crate::head::begins_section;
 use crate::section::OpenSection;
-use pcap_stream::Packet;
+use pcap_stream::FirstPackets;
 use std::alloc::Global;
 use std::marker::Model;
 
@@ -23,9 +23,9 @@ fn read_block(
     place: u32,
     bytes: &[u8],
     section: &mut OpenSection,
-    packets: &mut Vec<Packet>,
+    packets: &mut FirstPackets,
 ) -> Result<Option<usize>, CaptureError>
-    ensures ok { IfOk result (λ found. FindsNext (section_of section.old) bytes.now found (section_of section.new) (seen_packets packets.old.items) (seen_packets packets.new.items)) }
+    ensures ok { IfOk result (λ found. Adds (λ added. FindsNext (section_of section.old) bytes.now found (section_of section.new) [] added) packets.old packets.new) }
     ensures fault { IfErr result (λ e. IsHereFault (section_of section.old) bytes.now place e) }
 {
     let block = match find_block(section.order, bytes) {
@@ -43,10 +43,10 @@ fn read_blocks<'a>(
     place: u32,
     bytes: &'a [u8],
     section: &mut OpenSection,
-    packets: &mut Vec<Packet>,
+    packets: &mut FirstPackets,
 ) -> Result<&'a [u8], CaptureError>
     requires { place + length bytes.now ≤ 2 ^ 30 }
-    ensures ok { IfOk result (λ left. EndsBlocks (section_of section.old) bytes.now left.now (section_of section.new) (seen_packets packets.old.items) (seen_packets packets.new.items)) }
+    ensures ok { IfOk result (λ left. Adds (λ added. EndsBlocks (section_of section.old) bytes.now left.now (section_of section.new) [] added) packets.old packets.new) }
     ensures fault { IfErr result (λ e. IsBlocksFault (section_of section.old) bytes.now place e) }
 {
     let mut left = bytes;
@@ -109,29 +109,29 @@ impl BlockStream {
         self.rest.len() as u32
     }
 
-    /// Reads the next piece of a capture of at most 2^30 bytes: answers what then stands of it, and appends the packets of
-    /// the blocks that end within the piece. On an error `out` is as before.
-    pub(crate) fn feed(
+    /// Reads the next piece of a capture of at most 2^30 bytes: answers what then stands of it, and adds the packets of the
+    /// blocks that end within the piece. On an error `out` is as before.
+    pub(crate) fn feed_first(
         &self,
         piece: &[u8],
-        out: &mut Vec<Packet>,
+        out: &mut FirstPackets,
     ) -> Result<BlockStream, CaptureError>
         requires { self.now.offset + length self.now.rest + length piece.now ≤ 2 ^ 30 }
-        ensures ok { IfOk result (λ next. (s : List ℕ) (c : Blocks) → StandsForBlocks self.now s c → GrowsBlocks next (s ++ piece.now) c (seen_packets out.old.items) (seen_packets out.new.items)) }
+        ensures ok { IfOk result (λ next. Adds (λ completed. (s : List ℕ) (c : Blocks) → StandsForBlocks self.now s c → GrowsBlocks next (s ++ piece.now) c [] completed) out.old out.new) }
         ensures fault { IfErr result (λ e. e ≢ Memory → (s : List ℕ) (c : Blocks) → StandsForBlocks self.now s c → IsFault (s ++ piece.now) e) }
         ensures size { IfOk result (λ next. next.offset + length next.rest ≡ self.now.offset + length self.now.rest + length piece.now) }
-        ensures unchanged { OnErr result (out.new.items ≡ out.old.items) }
+        ensures unchanged { OnErr result (IsSame out.old out.new) }
     {
-        let mut packets = Vec::new(self.alloc);
+        let mut packets = out.behind(self.alloc);
         let next = self.read(piece, &mut packets)?;
-        out.append(&mut packets)?;
+        out.append(packets)?;
         Ok(next)
     }
 
     // The next capture and its packets, from the rest and the piece in one slice.
-    fn read(&self, piece: &[u8], packets: &mut Vec<Packet>) -> Result<BlockStream, CaptureError>
+    fn read(&self, piece: &[u8], packets: &mut FirstPackets) -> Result<BlockStream, CaptureError>
         requires { self.now.offset + length self.now.rest + length piece.now ≤ 2 ^ 30 }
-        ensures ok { IfOk result (λ next. (s : List ℕ) (c : Blocks) → StandsForBlocks self.now s c → GrowsBlocks next (s ++ piece.now) c (seen_packets packets.old.items) (seen_packets packets.new.items)) }
+        ensures ok { IfOk result (λ next. Adds (λ completed. (s : List ℕ) (c : Blocks) → StandsForBlocks self.now s c → GrowsBlocks next (s ++ piece.now) c [] completed) packets.old packets.new) }
         ensures fault { IfErr result (λ e. (s : List ℕ) (c : Blocks) → StandsForBlocks self.now s c → IsFault (s ++ piece.now) e) }
         ensures size { IfOk result (λ next. next.offset + length next.rest ≡ self.now.offset + length self.now.rest + length piece.now) }
     {
@@ -145,10 +145,10 @@ impl BlockStream {
     }
 
     // The next capture and its packets, where the rest and the piece are these bytes.
-    fn go_on(&self, bytes: &[u8], packets: &mut Vec<Packet>) -> Result<BlockStream, CaptureError>
+    fn go_on(&self, bytes: &[u8], packets: &mut FirstPackets) -> Result<BlockStream, CaptureError>
         requires { self.now.offset + length bytes.now ≤ 2 ^ 30 }
-        ensures ok { IfOk result (λ next. (s piece : List ℕ) (c : Blocks) → bytes.now ≡ self.now.rest ++ piece → StandsForBlocks self.now s c
-            → GrowsBlocks next (s ++ piece) c (seen_packets packets.old.items) (seen_packets packets.new.items)) }
+        ensures ok { IfOk result (λ next. Adds (λ completed. (s piece : List ℕ) (c : Blocks) → bytes.now ≡ self.now.rest ++ piece → StandsForBlocks self.now s c
+            → GrowsBlocks next (s ++ piece) c [] completed) packets.old packets.new) }
         ensures fault { IfErr result (λ e. (s piece : List ℕ) (c : Blocks) → bytes.now ≡ self.now.rest ++ piece → StandsForBlocks self.now s c → IsFault (s ++ piece) e) }
         ensures size { IfOk result (λ next. next.offset + length next.rest ≡ self.now.offset + length bytes.now) }
     {

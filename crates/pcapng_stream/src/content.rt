@@ -1,6 +1,6 @@
 // What a block gives: a section, an interface, a packet or nothing.
-ghost use Rattle.std.specs.Prelude.{◌≡◌, ◌≤◌, [], ◌∷◌, ◌++◌, length, None, IfErr, OnOk};
-ghost use Rattle.pcap_stream.specs.Feeding.{seen_packets};
+ghost use Rattle.std.specs.Prelude.{◌≡◌, ◌≤◌, [], ◌∷◌, length, None, IfErr, OnOk};
+ghost use Rattle.pcap_stream.specs.Feeding.{Adds};
 ghost use Rattle.pcapng_stream.specs.declared.block.BlockKind.TheVariants.{SectionHeader, InterfaceDescription};
 ghost use Rattle.pcapng_stream.specs.Blocks.{interface_of, kind_of, packet_of, section_by};
 ghost use Rattle.pcapng_stream.specs.Flaws.{first_flaw, packet_checks, kind_checks, least_length, length_checks, flaw_in};
@@ -13,7 +13,7 @@ use crate::flaw::Flaw;
 use crate::options::resolution_in;
 use crate::packet::read_packet;
 use crate::section::{Interface, OpenSection};
-use pcap_stream::Packet;
+use pcap_stream::FirstPackets;
 use std::alloc::Global;
 
 // The major version of a section header, and where it stands.
@@ -106,11 +106,11 @@ fn add_packet(
     place: u32,
     block: &WholeBlock<'_>,
     section: &OpenSection,
-    packets: &mut Vec<Packet>,
+    packets: &mut FirstPackets,
 ) -> Result<(), CaptureError>
     requires { 32 ≤ length block.now.bytes.now }
     ensures ok { OnOk result (first_flaw (packet_checks (section_of section.now) (block_of block.now)) ≡ None) }
-    ensures taken { OnOk result (seen_packets packets.new.items ≡ seen_packets packets.old.items ++ packet_of (section_of section.now) (block_of block.now) ∷ []) }
+    ensures taken { OnOk result (Adds (λ added. added ≡ packet_of (section_of section.now) (block_of block.now) ∷ []) packets.old packets.new) }
     ensures fault { IfErr result (λ e. IsFaultOf (first_flaw (packet_checks (section_of section.now) (block_of block.now))) place e) }
 {
     match read_packet(section, block) {
@@ -127,11 +127,11 @@ pub(crate) fn take_block(
     place: u32,
     block: &WholeBlock<'_>,
     section: &mut OpenSection,
-    packets: &mut Vec<Packet>,
+    packets: &mut FirstPackets,
 ) -> Result<(), CaptureError>
     requires { 12 ≤ length block.now.bytes.now }
     ensures ok { OnOk result (flaw_in (section_of section.old) (block_of block.now) ≡ None) }
-    ensures taken { OnOk result (IsTaken (section_of section.old) (block_of block.now) (section_of section.new) (seen_packets packets.old.items) (seen_packets packets.new.items)) }
+    ensures taken { OnOk result (Adds (λ added. IsTaken (section_of section.old) (block_of block.now) (section_of section.new) [] added) packets.old packets.new) }
     ensures fault { IfErr result (λ e. IsFaultOf (flaw_in (section_of section.old) (block_of block.now)) place e) }
 {
     check_lengths(place, block)?;

@@ -1,6 +1,6 @@
 // Captures of either kind that come in pieces.
-ghost use Rattle.std.specs.Prelude.{◌≡◌, ◌≢◌, ◌≤◌, ◌<◌, ◌+◌, ◌^◌, ◌++◌, ℕ, List, length, IfOk, IfErr, OnErr};
-ghost use Rattle.pcap_stream.specs.Feeding.{seen_packets};
+ghost use Rattle.std.specs.Prelude.{◌≡◌, ◌≢◌, ◌≤◌, ◌<◌, ◌+◌, ◌^◌, ◌++◌, [], ℕ, List, length, IfOk, IfErr, OnErr};
+ghost use Rattle.pcap_stream.specs.Feeding.{Adds, IsSame, seen_packets};
 ghost use Rattle.pcapng_stream.specs.declared.errors.CaptureError.TheVariants.{Memory};
 ghost use Rattle.pcapng_stream.specs.Capture.{Capture, IsPcapng, IsFault};
 ghost use Rattle.pcapng_stream.specs.Feeding.{ClassicTail, PcapngTail, StandsFor, IsNew, Grows, rest_in, size_of};
@@ -8,7 +8,7 @@ ghost use Rattle.pcapng_stream.specs.Kept.{Begins, GoesOn, IsKept, IsRefused, ke
 
 use crate::CaptureError;
 use crate::block_stream::BlockStream;
-use pcap_stream::{Packet, PcapStream, new_stands};
+use pcap_stream::{FirstPackets, Packet, PcapStream, new_stands};
 use std::alloc::Global;
 use std::marker::Model;
 
@@ -73,8 +73,8 @@ impl CaptureStream {
         }
     }
 
-    /// Reads the next piece of a capture of at most 2^30 bytes: answers what then stands of it, and appends the packets of
-    /// the records or blocks that end within the piece.
+    /// Reads the next piece of a capture of at most 2^30 bytes: answers what then stands of it, and appends the packets of the
+    /// records or blocks that end within the piece.
     ///
     /// An error comes exactly where the capture with this piece is refused, with the first cause, or where memory runs
     /// out. Then `out` is as before, and another piece may be fed in place of this one.
@@ -84,6 +84,27 @@ impl CaptureStream {
         ensures fault { IfErr result (λ e. e ≢ Memory → (s : List ℕ) (c : Capture) → StandsFor self.now s c → IsFault (s ++ piece.now) e) }
         ensures size { IfOk result (λ next. size_of next ≡ size_of self.now + length piece.now) }
         ensures unchanged { OnErr result (out.new.items ≡ out.old.items) }
+    {
+        let mut first = FirstPackets::new(self.alloc, u64::MAX);
+        let next = self.feed_first(piece, &mut first)?;
+        out.append(&mut first.kept)?;
+        Ok(next)
+    }
+
+    /// Reads the next piece as `feed` does, and adds its packets, of which the first are kept as far as there is room.
+    ///
+    /// An error comes exactly where the capture with this piece is refused, with the first cause, or where memory runs
+    /// out. Then `out` is as before, and another piece may be fed in place of this one.
+    pub fn feed_first(
+        &self,
+        piece: &[u8],
+        out: &mut FirstPackets,
+    ) -> Result<CaptureStream, CaptureError>
+        requires { size_of self.now + length piece.now ≤ 2 ^ 30 }
+        ensures ok { IfOk result (λ next. Adds (λ completed. (s : List ℕ) (c : Capture) → StandsFor self.now s c → Grows next (s ++ piece.now) c [] completed) out.old out.new) }
+        ensures fault { IfErr result (λ e. e ≢ Memory → (s : List ℕ) (c : Capture) → StandsFor self.now s c → IsFault (s ++ piece.now) e) }
+        ensures size { IfOk result (λ next. size_of next ≡ size_of self.now + length piece.now) }
+        ensures unchanged { OnErr result (IsSame out.old out.new) }
     {
         let kind = feed_kind(self.alloc, &self.kind, piece, out)?;
         Ok(CaptureStream {
@@ -97,61 +118,61 @@ impl CaptureStream {
 fn feed_classic(
     stream: &PcapStream,
     piece: &[u8],
-    out: &mut Vec<Packet>,
+    out: &mut FirstPackets,
 ) -> Result<Kind, CaptureError>
     requires early { stream.now.offset + length stream.now.rest + length piece.now ≤ 2 ^ 30 }
     requires begun { 0 < stream.now.offset + length stream.now.rest }
-    ensures ok { IfOk result (λ next. GoesOn (ClassicTail stream.now) piece.now (seen_packets out.old.items) (seen_packets out.new.items) next) }
+    ensures ok { IfOk result (λ next. Adds (λ added. GoesOn (ClassicTail stream.now) piece.now [] added next) out.old out.new) }
     ensures fault { IfErr result (λ e. IsRefused (ClassicTail stream.now) piece.now e) }
-    ensures unchanged { OnErr result (out.new.items ≡ out.old.items) }
+    ensures unchanged { OnErr result (IsSame out.old out.new) }
 {
-    Ok(Kind::Classic(stream.feed(piece, out)?))
+    Ok(Kind::Classic(stream.feed_first(piece, out)?))
 }
 
 // The next of a capture in blocks.
 fn feed_blocks(
     stream: &BlockStream,
     piece: &[u8],
-    out: &mut Vec<Packet>,
+    out: &mut FirstPackets,
 ) -> Result<Kind, CaptureError>
     requires { stream.now.offset + length stream.now.rest + length piece.now ≤ 2 ^ 30 }
-    ensures ok { IfOk result (λ next. GoesOn (PcapngTail stream.now) piece.now (seen_packets out.old.items) (seen_packets out.new.items) next) }
+    ensures ok { IfOk result (λ next. Adds (λ added. GoesOn (PcapngTail stream.now) piece.now [] added next) out.old out.new) }
     ensures fault { IfErr result (λ e. IsRefused (PcapngTail stream.now) piece.now e) }
-    ensures unchanged { OnErr result (out.new.items ≡ out.old.items) }
+    ensures unchanged { OnErr result (IsSame out.old out.new) }
 {
-    Ok(Kind::Pcapng(stream.feed(piece, out)?))
+    Ok(Kind::Pcapng(stream.feed_first(piece, out)?))
 }
 
 // The first piece of a classic capture.
-fn begin_classic(alloc: Global, piece: &[u8], out: &mut Vec<Packet>) -> Result<Kind, CaptureError>
+fn begin_classic(alloc: Global, piece: &[u8], out: &mut FirstPackets) -> Result<Kind, CaptureError>
     requires early { length piece.now ≤ 2 ^ 30 }
     requires begun { 0 < length piece.now }
     requires classic { IsPcapng piece.now → ⊥ }
-    ensures ok { IfOk result (λ next. Begins piece.now (seen_packets out.old.items) (seen_packets out.new.items) next) }
+    ensures ok { IfOk result (λ next. Adds (λ added. Begins piece.now [] added next) out.old out.new) }
     ensures fault { IfErr result (λ e. e ≢ Memory → IsFault piece.now e) }
-    ensures unchanged { OnErr result (out.new.items ≡ out.old.items) }
+    ensures unchanged { OnErr result (IsSame out.old out.new) }
 {
     new_stands();
-    Ok(Kind::Classic(PcapStream::new(alloc).feed(piece, out)?))
+    Ok(Kind::Classic(PcapStream::new(alloc).feed_first(piece, out)?))
 }
 
 // The first piece of a capture in blocks.
-fn begin_blocks(alloc: Global, piece: &[u8], out: &mut Vec<Packet>) -> Result<Kind, CaptureError>
+fn begin_blocks(alloc: Global, piece: &[u8], out: &mut FirstPackets) -> Result<Kind, CaptureError>
     requires early { length piece.now ≤ 2 ^ 30 }
     requires pcapng { IsPcapng piece.now }
-    ensures ok { IfOk result (λ next. Begins piece.now (seen_packets out.old.items) (seen_packets out.new.items) next) }
+    ensures ok { IfOk result (λ next. Adds (λ added. Begins piece.now [] added next) out.old out.new) }
     ensures fault { IfErr result (λ e. e ≢ Memory → IsFault piece.now e) }
-    ensures unchanged { OnErr result (out.new.items ≡ out.old.items) }
+    ensures unchanged { OnErr result (IsSame out.old out.new) }
 {
-    Ok(Kind::Pcapng(BlockStream::new(alloc).feed(piece, out)?))
+    Ok(Kind::Pcapng(BlockStream::new(alloc).feed_first(piece, out)?))
 }
 
 // The first piece of a capture, which may be empty: its first byte tells the kind.
-fn begin(alloc: Global, piece: &[u8], out: &mut Vec<Packet>) -> Result<Kind, CaptureError>
+fn begin(alloc: Global, piece: &[u8], out: &mut FirstPackets) -> Result<Kind, CaptureError>
     requires { length piece.now ≤ 2 ^ 30 }
-    ensures ok { IfOk result (λ next. Begins piece.now (seen_packets out.old.items) (seen_packets out.new.items) next) }
+    ensures ok { IfOk result (λ next. Adds (λ added. Begins piece.now [] added next) out.old out.new) }
     ensures fault { IfErr result (λ e. e ≢ Memory → IsFault piece.now e) }
-    ensures unchanged { OnErr result (out.new.items ≡ out.old.items) }
+    ensures unchanged { OnErr result (IsSame out.old out.new) }
 {
     new_stands();
     if piece.is_empty() {
@@ -169,13 +190,13 @@ fn feed_kind(
     alloc: Global,
     kind: &Kind,
     piece: &[u8],
-    out: &mut Vec<Packet>,
+    out: &mut FirstPackets,
 ) -> Result<Kind, CaptureError>
     requires early { size_of (kept_in kind.now) + length piece.now ≤ 2 ^ 30 }
     requires kept { IsKept kind.now }
-    ensures ok { IfOk result (λ next. GoesOn (kept_in kind.now) piece.now (seen_packets out.old.items) (seen_packets out.new.items) next) }
+    ensures ok { IfOk result (λ next. Adds (λ added. GoesOn (kept_in kind.now) piece.now [] added next) out.old out.new) }
     ensures fault { IfErr result (λ e. IsRefused (kept_in kind.now) piece.now e) }
-    ensures unchanged { OnErr result (out.new.items ≡ out.old.items) }
+    ensures unchanged { OnErr result (IsSame out.old out.new) }
 {
     match kind {
         Kind::Unknown => begin(alloc, piece, out),

@@ -14,7 +14,7 @@ pub enum Side {
 }
 
 /// What a message is known by at both of its ends. Keys of different kinds are never equal.
-#[derive(Debug, PartialEq, Eq, Hash, Drop)]
+#[derive(Debug, PartialEq, Eq, PartialOrd, Ord, Drop)]
 pub enum Key {
     /// A packet of IPv4, by its headers and the beginning of its payload.
     Packet(PacketKey),

@@ -6,7 +6,7 @@ use ip_headers::{PacketKey, Reason};
 /// on the way, and the first bytes of its payload. IPv6 has no identification.
 ///
 /// IPv6 is that of RFC 8200, TCP that of RFC 9293 and UDP that of RFC 768.
-#[derive(Clone, Debug, PartialEq, Eq, Hash, Drop)]
+#[derive(Clone, Debug, PartialEq, Eq, PartialOrd, Ord, Drop)]
 pub struct WideKey {
     /// The source address, as the number of its 16 octets in network byte order.
     pub source: u128,

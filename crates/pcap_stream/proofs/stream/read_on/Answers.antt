@@ -1,8 +1,9 @@
-use Rattle.std.proofs.Common.{◌≡◌, ◌+◌, ◌≤◌, ℕ, List, Err, length, arith, rules}
+use Rattle.std.proofs.Common.{◌≡◌, ◌+◌, ◌≤◌, ℕ, List, [], Err, length, arith, rules}
 use Rattle.std.proofs.lemmas.Result.{IfOk-weaker}
 use Rattle.pcap_stream.specs.Capture.{Record}
-use Rattle.pcap_stream.specs.Feeding.{Tail, Grows, seen_packets}
+use Rattle.pcap_stream.specs.Feeding.{Tail, Grows, Adds}
 use Rattle.pcap_stream.specs.Inside.{IsAt, with_records}
+use Rattle.pcap_stream.proofs.Collecting.{adds_weaker}
 use Rattle.pcap_stream.proofs.Reading.{read_short}
 use Rattle.pcap_stream.proofs.Growing.{part_short, read_grows, records_fault}
 use Rattle.pcap_stream.proofs.stream.read_on.Goals as goal
@@ -14,22 +15,21 @@ returns-in_err-rest-clause-fault c =
 
 pub keep-requires : goal.keep-requires
 keep-requires c =
-    let ends = c.in_ok-rest.ensures.ok in
+    let ends = c.in_ok-rest.ensures.ok.are in
     let fewer : length c.in_ok-rest.rest.now ≤ length c.args.bytes.now = read_short ends.read in
     record { short = part_short c.args.header.order c.in_ok-rest.rest.now ends.part; early = omega (arith, fewer, c.requires) }
 
 pub returns-clause-ok : goal.returns-clause-ok
 returns-clause-ok c =
-    let ends = c.in_ok-rest.ensures.ok in
     IfOk-weaker c.keep.result _
-    (λ (next : Tail). (s : List ℕ) (records : List Record) → IsAt c.args.header s records c.args.offset c.args.bytes.now
-    → Grows next s (with_records c.args.header records) (seen_packets c.args.packets.now.items) (seen_packets c.read_records.new.packets.items))
-    (λ next kept s records at. read_grows c.args.header s records c.args.offset c.args.bytes.now c.in_ok-rest.rest.now _ _ next at ends kept)
+    (λ (next : Tail). Adds (λ completed. (s : List ℕ) (records : List Record) → IsAt c.args.header s records c.args.offset c.args.bytes.now
+    → Grows next s (with_records c.args.header records) [] completed) c.args.packets.now c.read_records.new.packets)
+    (λ next kept. adds_weaker (λ added ends s records at. read_grows c.args.header s records c.args.offset c.args.bytes.now c.in_ok-rest.rest.now _ _ next at ends kept) c.in_ok-rest.ensures.ok)
     c.keep.ensures.ok
 
 pub returns-clause-size : goal.returns-clause-size
 returns-clause-size c =
-    let ends = c.in_ok-rest.ensures.ok in
+    let ends = c.in_ok-rest.ensures.ok.are in
     let fewer : length c.in_ok-rest.rest.now ≤ length c.args.bytes.now = read_short ends.read in
     IfOk-weaker c.keep.result _
     (λ (next : Tail). next.offset + length next.rest ≡ c.args.offset + length c.args.bytes.now)

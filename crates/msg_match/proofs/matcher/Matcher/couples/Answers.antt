@@ -14,6 +14,6 @@ loop-item-preserved c =
     let i = c.loop-item.item-index in
     let x = c.item-item.result in
     let next : seen_items (take i xs) ++ seen_item x ∷ [] ≡ seen_items (take (i + 1) xs) = sym (map_more seen_item xs i x c.loop-item-test.true ∙ ap (λ (y : Item). seen_items (take i xs) ++ seen_item y ∷ []) (sym c.item-item.is)) in
-    subst (λ (some : List SeenItem). AreCouplesOf c.args.self.now some c.note.new.found.keys) next
+    subst (λ (some : List SeenItem). AreCouplesOf c.args.self.now some c.note.new.self) next
     (subst (λ (found : List Couple). AreCouplesOf c.args.self.now (seen_items (take i xs) ++ seen_item x ∷ []) found) (sym c.in_ok-note.ensures)
-    (couples_more c.args.self.now (seen_items (take i xs)) (seen_item x) c.loop-item.found.keys c.couple.result c.couple.ensures c.loop-item.invariant))
+    (couples_more c.args.self.now (seen_items (take i xs)) (seen_item x) c.loop-item.found c.couple.result c.couple.ensures c.loop-item.invariant))

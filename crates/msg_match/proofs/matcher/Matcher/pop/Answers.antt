@@ -6,8 +6,14 @@ use Rattle.msg_match.specs.Groups.{SeenItem}
 use Rattle.msg_match.specs.Held.{seen_groups}
 use Rattle.msg_match.specs.Inside.{AreKept, item_by, items_by}
 use Rattle.msg_match.specs.Parts.{groups_before, keys_before, shorter}
-use Rattle.msg_match.proofs.Keeping.{kept_as, kept_less, short_push}
+use Rattle.msg_match.proofs.Keeping.{kept_as, kept_less, keys_kept, short_push}
 use Rattle.msg_match.proofs.matcher.Matcher.pop.Goals as goal
+
+pub take_back-requires-clause-kept : goal.take_back-requires-clause-kept
+take_back-requires-clause-kept c =
+    let keys = c.self.inside.keys in
+    let groups = seen_groups c.self.inside.groups.items in
+    keys_kept keys c.self.inside.log.items groups c.self.invariant
 
 pub invariant_of-self : goal.invariant_of-self
 invariant_of-self c =

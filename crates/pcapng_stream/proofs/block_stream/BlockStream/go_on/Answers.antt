@@ -1,4 +1,5 @@
-use Rattle.std.proofs.Common.{◌≡◌, ◌∙◌, ◌+◌, ◌-◌, Bool, true, false, List, None, Err, is_none, length, sym, ap, rules}
+use Rattle.std.proofs.Common.{◌≡◌, ◌∙◌, ◌+◌, ◌-◌, Bool, true, false, List, [], None, Err, is_none, length, sym, ap, rules}
+use Rattle.pcap_stream.proofs.Collecting.{adds_weaker}
 use Rattle.pcapng_stream.specs.Blocks.{Section}
 use Rattle.pcapng_stream.specs.Pcapng.{BeginsSection}
 use Rattle.pcapng_stream.specs.Feeding.{BlockTail}
@@ -43,5 +44,7 @@ returns-clause-ok c =
     let rest : c.in_ok-from_slice-2.field-0.items ≡ c.in_ok-rest.rest.now = search rules in
     let mid : Section = section_of c.read_blocks.new.section in
     let place = c.self.inside.offset + (length c.args.bytes.now - length c.in_ok-rest.rest.now) in
-    goes_so t _ _ mid c.self.inside.offset c.args.bytes.now c.in_ok-rest.rest.now _ _ known at (λ none. begins (sym order ∙ none)) c.in_ok-rest.ensures.ok
-    (ap (λ (l : List _). tail_of mid place l) rest)
+    adds_weaker (λ added ends.
+    goes_so t _ _ mid c.self.inside.offset c.args.bytes.now c.in_ok-rest.rest.now [] added known at (λ none. begins (sym order ∙ none)) ends
+    (ap (λ (l : List _). tail_of mid place l) rest))
+    c.in_ok-rest.ensures.ok

@@ -1,7 +1,8 @@
 use Rattle.std.proofs.Common.{◌≡◌, ◌∙◌, ◌++◌, ℕ, List, [], length, vec_len, sym, ap, arith, rules}
 use Rattle.std.proofs.lemmas.List.{nil_from_length}
 use Rattle.std.proofs.lemmas.Result.{IfOk-weaker}
-use Rattle.pcap_stream.specs.Feeding.{seen_packets}
+use Rattle.pcap_stream.specs.Feeding.{Adds}
+use Rattle.pcap_stream.proofs.Collecting.{adds_weaker}
 use Rattle.pcapng_stream.specs.Pcapng.{Blocks}
 use Rattle.pcapng_stream.specs.Feeding.{BlockTail, GrowsBlocks, StandsForBlocks}
 use Rattle.pcapng_stream.proofs.block_stream.BlockStream.read.Goals as goal
@@ -14,6 +15,16 @@ returns-then-is_empty-clause-ok c =
     let rest : t.rest ≡ [] = sym (ap (λ (u : BlockTail). u.rest) c.self.view_is) ∙ none in
     let whole : c.args.piece.now ≡ t.rest ++ c.args.piece.now = sym (ap (λ (l : List ℕ). l ++ c.args.piece.now) rest) in
     IfOk-weaker c.go_on.result _
-    (λ (next : BlockTail). (s : List ℕ) (d : Blocks) → StandsForBlocks t s d → GrowsBlocks next (s ++ c.args.piece.now) d (seen_packets c.args.packets.now.items) (seen_packets c.go_on.new.packets.items))
-    (λ next all s d stands. all s c.args.piece.now d whole stands)
+    (λ (next : BlockTail). Adds (λ completed. (s : List ℕ) (d : Blocks) → StandsForBlocks t s d → GrowsBlocks next (s ++ c.args.piece.now) d [] completed) c.args.packets.now c.go_on.new.packets)
+    (λ next. adds_weaker (λ added all s d stands. all s c.args.piece.now d whole stands))
     c.go_on.ensures.ok
+
+pub returns-clause-ok : goal.returns-clause-ok
+returns-clause-ok c =
+    let t = c.args.self.now in
+    let joined : c.deref-2.result.now ≡ c.self.inside.rest.items ++ c.args.piece.now = search rules in
+    let whole : c.deref-2.result.now ≡ t.rest ++ c.args.piece.now = joined ∙ ap (λ (u : BlockTail). u.rest ++ c.args.piece.now) c.self.view_is in
+    IfOk-weaker c.go_on-2.result _
+    (λ (next : BlockTail). Adds (λ completed. (s : List ℕ) (d : Blocks) → StandsForBlocks t s d → GrowsBlocks next (s ++ c.args.piece.now) d [] completed) c.args.packets.now c.go_on-2.new.packets)
+    (λ next. adds_weaker (λ added all s d stands. all s c.args.piece.now d whole stands))
+    c.go_on-2.ensures.ok

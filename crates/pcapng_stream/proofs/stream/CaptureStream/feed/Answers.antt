@@ -1,9 +1,17 @@
-use Rattle.std.proofs.Common.{◌≡◌, Err, subst, rules}
-use Rattle.pcapng_stream.specs.Feeding.{Tail}
-use Rattle.pcapng_stream.specs.Kept.{IsRefused}
+use Rattle.std.proofs.Common.{◌≡◌, ◌++◌, Err, arith, rules}
+use Rattle.pcap_stream.specs.Feeding.{seen_packets}
+use Rattle.pcap_stream.proofs.Collecting.{every_behind}
+use Rattle.pcapng_stream.proofs.EitherGrowing.{grows_behind}
 use Rattle.pcapng_stream.proofs.stream.CaptureStream.feed.Goals as goal
 
-pub returns-in_err-kind-clause-fault : goal.returns-in_err-kind-clause-fault
-returns-in_err-kind-clause-fault c =
-    let from : c.from_residual.result ≡ Err c.in_err-kind.field-0.0 = search rules in
-    rw from (subst (λ (t : Tail). IsRefused t c.args.piece.now c.in_err-kind.field-0.0) c.self.view_is c.in_err-kind.ensures.fault)
+pub returns-clause-ok : goal.returns-clause-ok
+returns-clause-ok c =
+    let adds = c.in_ok-next.ensures.ok in
+    let items : c.append.new.self.items ≡ c.args.out.now.items ++ c.feed_first.new.out.kept.items = search rules in
+    let behind = every_behind adds c.args.out.now.items c.append.new.self.items c.new-first.ensures.none (omega (arith, c.new-first.ensures.most)) items in
+    λ s capture stands. grows_behind _ _ capture adds.added (seen_packets c.args.out.now.items) (seen_packets c.append.new.self.items) (adds.are s capture stands) behind
+
+pub returns-in_err-next-clause-fault : goal.returns-in_err-next-clause-fault
+returns-in_err-next-clause-fault c =
+    let from : c.from_residual.result ≡ Err c.in_err-next.field-0.0 = search rules in
+    rw from c.in_err-next.ensures.fault
