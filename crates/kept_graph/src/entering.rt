@@ -179,7 +179,7 @@ fn enter_new<L: Ledger>(
 /// An event of the roster enters the graph, unless it has. There is room for its nodes. The answer is a stamp, in ns, that may
 /// be the nearest one above the next event, as the hint may be that of this one: a wrong one costs time alone. An error comes
 /// only where memory runs out, and then roster and graph are used no more.
-pub fn enter<L: Ledger>(
+pub(crate) fn enter<L: Ledger>(
     roster: &mut Roster,
     solver: &mut Solver,
     v: u32,

@@ -124,7 +124,7 @@ pub(crate) fn push_message<L: Ledger>(
 
 /// A message comes, whose ends have entered the graph. An error comes only where memory runs out, and then roster and graph are
 /// used no more.
-pub fn join<L: Ledger>(
+pub(crate) fn join<L: Ledger>(
     roster: &mut Roster,
     solver: &mut Solver,
     couple: &Couple,

@@ -20,6 +20,4 @@ mod pushing;
 mod room;
 mod withdrawing;
 
-pub use entering::enter;
-pub use joining::join;
 pub use kept::KeptGraph;

@@ -16,21 +16,10 @@ use earliest::Earliest;
 use line_words::line::{Line, first_word, push_decimal};
 use ports::{Failed, Sink, write_whole};
 use problem::Listing;
-use problem_model::Name;
 use report::write_merge_line;
 use trace_event::Event;
-use trace_problem::event_name;
-use traces::{EventId, PlacedEvent};
-
-// The name of an event.
-fn name_of(decl: &Decl, id: EventId) -> Name
-    requires labels { HasLawfulLabels (declaration_of decl.now) }
-    requires label { id.label < length decl.now.labels.items }
-    ensures { result ≡ name_of (declaration_of decl.now) id }
-{
-    let label = &decl.labels[id.label as usize];
-    event_name(&label.name, id.number)
-}
+use trace_problem::name_of;
+use traces::PlacedEvent;
 
 // What an event log says of an event; nothing of a packet.
 fn text_of(event: &Event) -> &[u8]

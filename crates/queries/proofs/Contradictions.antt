@@ -11,7 +11,7 @@ use Rattle.problem.specs.Listing.{Listed, all_readings}
 use Rattle.engine.specs.Solver.{SolverLists}
 use Rattle.solver.specs.Solution.{steps_of, HasContradictionBy}
 use Rattle.queries.specs.Replies.{IsContradictionText}
-use Rattle.queries.proofs.SomeReadings.{own_readings}
+use Rattle.problem.proofs.OwnReadings.{own_readings}
 
 module _ (l : Listed) (p : ProblemLists) (s : SolverLists) (cycle : List Arc) (is : s.contradiction ≡ cycle) (has : HasContradictionBy l p s.contradiction) where
   pub cycle_named : All (λ (a : Arc). IsNamed l a.name) cycle

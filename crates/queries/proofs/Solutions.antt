@@ -20,7 +20,7 @@ use Rattle.engine.specs.Changes.{KeepsAnswer, LeavesTaken}
 use Rattle.engine.specs.Current.{IsCurrent}
 use Rattle.solver.specs.Solution.{IsSolutionBy}
 use Rattle.queries.specs.Asking.{IsReadingAt, IsSourceReading}
-use Rattle.queries.proofs.SomeReadings.{own_readings}
+use Rattle.problem.proofs.OwnReadings.{own_readings}
 
 -- where the graph and what is held of it stay, so does the answer
 pub goes_on : (l : Listed) (p : ProblemLists) (old new : SolverLists) → KeepsAnswer old new → IsCurrent new → IsSolutionBy l p old → IsSolutionBy l p new

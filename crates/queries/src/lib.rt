@@ -23,4 +23,4 @@ pub use laws::replies_are_one;
 pub use prove::write_proof;
 pub use reply::{write_interval, write_order};
 pub use stop::Stop;
-pub use time::{reading_of, write_time};
+pub use time::{first_reading, write_time};

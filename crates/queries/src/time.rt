@@ -1,5 +1,5 @@
 // The time of an event by a clock that keeps time.
-ghost use Rattle.std.specs.Prelude.{◌≡◌, ℕ, List, [], nat_eq, find, option_map, IfSome, IfNone};
+ghost use Rattle.std.specs.Prelude.{◌≡◌, ℕ, List, [], IfSome, IfNone};
 ghost use Rattle.problem_model.specs.declared.items.Node.TheVariants as nodes;
 ghost use Rattle.problem_model.specs.Problem.{ProblemLists};
 ghost use Rattle.problem_model.specs.Bounds.{IsReading};
@@ -8,9 +8,9 @@ ghost use Rattle.sync_graph.specs.ListedStanding.{IsEventAt};
 ghost use Rattle.intervals.specs.Ends.{FitsPair};
 ghost use Rattle.intervals.specs.Executions.{IsPairOf};
 ghost use Rattle.solver.specs.Solution.{IsSolutionBy};
-ghost use Rattle.queries.specs.Asking.{IsSourceReading};
+ghost use Rattle.queries.specs.Asking.{IsReadingAt, IsSourceReading};
 ghost use Rattle.queries.specs.Clocks.{KeepsTime};
-ghost use Rattle.queries.specs.Replies.{HasReading, IsTimeLine, Replies};
+ghost use Rattle.queries.specs.Replies.{IsTimeLine, Replies};
 
 use crate::contradiction::write_contradiction;
 use crate::lines::time_line;
@@ -18,26 +18,23 @@ use atto::Nano;
 use engine::Solver;
 use intervals::source_time;
 use ports::{Failed, Sink, write_whole};
-use problem::{Event, Listing, Problem};
+use problem::Listing;
 use row_pool::Pair;
 use solver::{executions, pairs};
 
-// The stamp of the first of the events that is on the clock.
-fn first_stamp(events: &[Event], clock: u32) -> Option<Nano>
-    ensures { result ≡ option_map (λ e. e.stamp) (find (λ e. nat_eq e.clock clock) events.now) }
+/// A reading of a clock among those that are listed, by its stamp, in ns, and its node: the first one there. None exactly where
+/// none is listed. The time goes by the readings.
+pub fn first_reading<N: Listing>(names: &N, clock: u32) -> Option<(Nano, u32)>
+    ensures some { IfSome result (λ reading. IsReadingAt (N.listed names.now) clock reading.0 reading.1) }
+    ensures none { IfNone result ((stamp node : ℕ) → IsReadingAt (N.listed names.now) clock stamp node → ⊥) }
 {
-    events
-        .iter()
-        .find(|event| event.clock == clock)
-        .map(|event| event.stamp)
-}
-
-/// A stamp of the clock at a place, in ns: that of its first event. None where it has no event.
-pub fn reading_of(p: &Problem, clock: u32) -> Option<Nano>
-    ensures some { IfSome result (λ stamp. IsReading p.now clock stamp) }
-    ensures none { IfNone result (HasReading p.now clock → ⊥) }
-{
-    first_stamp(p.events(), clock)
+    for place in 0..names.reading_count() {
+        let (on, stamp, node) = names.reading_at(place);
+        if on == clock {
+            return Some((stamp, node));
+        }
+    }
+    None
 }
 
 // Writes the line of an event's time, by the greatest differences of a reading of this stamp and the event.

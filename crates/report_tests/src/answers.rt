@@ -3,14 +3,13 @@ ghost use Rattle.problem.specs.Listing.{listing_of};
 ghost use Rattle.sync_graph.specs.ListedStanding.{IsEventAt};
 ghost use Rattle.row_pool.specs.Pool.{free_rows};
 ghost use Rattle.solver.specs.Solution.{IsSolution};
-ghost use Rattle.queries.specs.Asking.{IsReadingAt};
 
 use crate::fixtures::CYCLE;
-use atto::{Nano, Steps};
+use atto::Steps;
 use engine::Solver;
 use ports::{Failed, MemSink};
 use problem::{Listing, Problem, read_problem};
-use queries::{is_consistent, reading_of, write_interval, write_order, write_proof, write_time};
+use queries::{first_reading, is_consistent, write_interval, write_order, write_proof, write_time};
 use solving::solve;
 use std::alloc::Global;
 use std::marker::Brand;
@@ -329,19 +328,6 @@ fn node_of(p: &Problem, place: u32) -> Option<u32>
     None
 }
 
-// The stamp and the node of the first reading of a clock.
-fn reading_by(p: &Problem, clock: u32) -> Option<(Nano, u32)>
-    ensures { IfSome result (λ r. IsReadingAt (listing_of p.now) clock r.0 r.1) }
-{
-    for place in 0..p.reading_count() {
-        let (own, stamp, node) = p.reading_at(place);
-        if own == clock {
-            return Some((stamp, node));
-        }
-    }
-    None
-}
-
 // Writes what is asked of two events.
 fn ask<L: Ledger>(
     p: &Problem,
@@ -405,7 +391,7 @@ fn ask_time<L: Ledger>(
     requires none { solver.old.kept.source ≡ None }
     requires free { 2 ≤ free_rows solver.old.pool }
 {
-    let reading = reading_by(p, case.clock)?;
+    let reading = first_reading(p, case.clock)?;
     let event = node_of(p, case.event)?;
     solver.keep_source(reading.1, steps);
     Some(write_time(p, solver, reading.0, event, out))
@@ -443,10 +429,10 @@ fn time_so(alloc: Global, case: &Timed) -> Option<bool> {
     time_is::<Brand>(alloc, &p, case, Blank::new(1))
 }
 
-// Whether the first event of the clock reads this stamp; none stands for a clock without an event.
+// Whether the first reading of the clock has this stamp; none stands for a clock without an event.
 fn reads_so(alloc: Global, problem: &str, clock: u32, stamp: Option<u64>) -> Option<bool> {
     let p = read_problem(alloc, problem.as_bytes()).ok()?;
-    Some(reading_of(&p, clock).map(|read| read.get()) == stamp)
+    Some(first_reading(&p, clock).map(|(read, _)| read.get()) == stamp)
 }
 
 // Whether a problem has an execution.
@@ -561,7 +547,7 @@ fn proofs_of_intervals(rt: HostRuntime) {
 #[test]
 fn first_readings(rt: HostRuntime) {
     for (problem, clock, stamp) in [
-        (SOURCE, 0, Some(1500)),
+        (SOURCE, 0, Some(1000)),
         (SOURCE, 1, Some(250)),
         (SILENT, 0, None),
         (SILENT, 2, Some(9)),

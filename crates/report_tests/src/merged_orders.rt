@@ -6,6 +6,7 @@ use crate::fixtures::{CYCLE, declared, log_of};
 use atto::Steps;
 use decl::Decl;
 use merging::write_merge;
+use plain_traces::{messages_in, problem_of};
 use ports::MemSink;
 use queries::Stop;
 use solving::solve;
@@ -13,8 +14,7 @@ use std::alloc::{AllocError, Global};
 use std::marker::Brand;
 use std::sync::ledger::{Blank, Ledger};
 use std::test::*;
-use trace_problem::problem_of;
-use traces::{Accepted, event_count, messages_in};
+use traces::{Accepted, event_count};
 
 // Two hosts with a log each. A message takes 10 to 20 ns each way.
 const TWO_LOGS_DECLARATION: &str =

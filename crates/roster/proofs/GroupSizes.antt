@@ -1,9 +1,9 @@
 -- Groups that are written anew in part.
-use Rattle.std.proofs.Common.{◌≡◌, ℕ, ◌+◌, ◌-◌, ◌<◌, ◌≤◌, List, [], ◌∷◌, ◌++◌, length, take, replicate, length-append, Result, Ok, Err, OnErr, get_or, zero, suc, refl, sym, ◌∙◌, ap, arith, set}
+use Rattle.std.proofs.Common.{◌≡◌, ℕ, ◌+◌, ◌-◌, ◌<◌, ◌≤◌, List, [], ◌∷◌, ◌++◌, length, take, replicate, length-append, Result, Ok, Err, OnErr, get_or, zero, suc, refl, sym, ◌∙◌, ap, subst, arith, set}
 use Rattle.std.specs.Global.{Vec}
-use Rattle.std.proofs.lemmas.List.{map-set, length-map, length-set, length-take}
-use Rattle.roster.proofs.GroupEnds.{length-ends_from}
-use Rattle.roster.specs.Groups.{ends_from, total, sizes_of, group_at, lists_of}
+use Rattle.std.proofs.lemmas.List.{map-set, length-map, length-take, get_or-set_same}
+use Rattle.roster.specs.Groups.{total, sizes_of, group_at, lists_of}
+use Rattle.roster.proofs.PairSums.{part_of_total}
 
 -- a group of the same size in the place of another
 pub same_sizes : {T : Type 0} (groups : List (List T)) (g : ℕ) (group : List T) → g < length groups → length group ≡ length (group_at groups g) → sizes_of (set groups g group) ≡ sizes_of groups
@@ -11,10 +11,10 @@ same_sizes [] g group inside same = absurd (omega (arith, inside))
 same_sizes (x ∷ groups) zero group inside same = ap (λ (n : ℕ). n ∷ sizes_of groups) same
 same_sizes (x ∷ groups) (suc g) group inside same = ap (λ (ns : List ℕ). length x ∷ ns) (same_sizes groups g group (omega (arith, inside)) same)
 
--- so many empty groups end at 0
-pub empty_ends : (T : Type 0) (n : ℕ) → replicate n 0 ≡ ends_from 0 (sizes_of (replicate {A = List T} n []))
-empty_ends T zero = refl
-empty_ends T (suc n) = ap (λ (ns : List ℕ). 0 ∷ ns) (empty_ends T n)
+-- so many empty groups have no elements
+pub empty_sizes : (T : Type 0) (n : ℕ) → replicate n 0 ≡ sizes_of (replicate {A = List T} n [])
+empty_sizes T zero = refl
+empty_sizes T (suc n) = ap (λ (ns : List ℕ). 0 ∷ ns) (empty_sizes T n)
 
 -- what lists of the code hold when one of them is written
 pub lists_set : {T : Type 0} (lists : List (Vec T)) (g : ℕ) (list : Vec T) → lists_of (set lists g list) ≡ set (lists_of lists) g list.items
@@ -55,7 +55,7 @@ total_sets (x ∷ groups) zero group inside = omega arith
 total_sets (x ∷ groups) (suc g) group inside = let more = total_sets groups g group (omega (arith, inside)) in omega (arith, more)
 
 -- one list of the code is written anew
-module _ {T : Type 0} (lists : List (Vec T)) (ends : List ℕ) (now : List (List T)) (g : ℕ) (old new : Vec T) (en : lists_of lists ≡ now) (here : old ≡ get_or lists g old) (inside : g < length now) (are : ends ≡ ends_from 0 (sizes_of (lists_of lists))) where
+module _ {T : Type 0} (lists : List (Vec T)) (sizes : List ℕ) (now : List (List T)) (g : ℕ) (old new : Vec T) (en : lists_of lists ≡ now) (here : old ≡ get_or lists g old) (inside : g < length now) (are : sizes ≡ sizes_of (lists_of lists)) where
   within : g < length lists
   within = omega (arith, inside, ap length en, length-map lists (λ (l : Vec T). l.items))
 
@@ -68,8 +68,12 @@ module _ {T : Type 0} (lists : List (Vec T)) (ends : List ℕ) (now : List (List
   pub write_none : new.items ≡ old.items → lists_of (set lists g new) ≡ now
   write_none is = write_is (λ (l : List T). l) is ∙ set_same now g
 
-  pub as_many : length ends ≡ length (set lists g new)
-  as_many = omega (arith, ap length are, length-ends_from 0 (sizes_of (lists_of lists)), length-sizes lists, length-set lists g new)
+  pub size_within : g < length sizes
+  size_within = omega (arith, within, ap length are, length-sizes lists)
+
+  pub size_written : set sizes g (length new.items) ≡ sizes_of (lists_of (set lists g new))
+  size_written =
+      ap (λ (ns : List ℕ). set ns g (length new.items)) are ∙ sym (map-set length (lists_of lists) g new.items) ∙ ap sizes_of (sym (lists_set lists g new))
 
   pub few_then : (f : List T → List T) (more most : ℕ) → new.items ≡ f old.items → length (f (group_at now g)) ≤ length (group_at now g) + more → total (sizes_of now) + more < most → total (sizes_of (lists_of (set lists g new))) < most
   few_then f more most is fits few =
@@ -77,12 +81,21 @@ module _ {T : Type 0} (lists : List (Vec T)) (ends : List ℕ) (now : List (List
       let e : total (sizes_of (lists_of (set lists g new))) ≡ total (sizes_of (set now g (f (group_at now g)))) = ap (λ (gs : List (List T)). total (sizes_of gs)) (write_is f is) in
       omega (arith, t, e, fits, few)
 
-  pub sizes_stay : (f : List T → List T) → new.items ≡ f old.items → length (f (group_at now g)) ≡ length (group_at now g) → ends ≡ ends_from 0 (sizes_of (lists_of (set lists g new)))
-  sizes_stay f is same =
-      are ∙ ap (λ (gs : List (List T)). ends_from 0 (sizes_of gs)) en ∙ ap (ends_from 0) (sym (same_sizes now g (f (group_at now g)) inside same)) ∙ ap (λ (gs : List (List T)). ends_from 0 (sizes_of gs)) (sym (write_is f is))
+  pub length_there : (n : ℕ) (x : Vec T) → n ≡ length x.items → x ≡ get_or (set lists g new) g x → n ≡ length new.items
+  length_there n x long is = long ∙ ap (λ (l : Vec T). length l.items) (is ∙ get_or-set_same lists g new x within)
 
-  pub still_few : length (lists_of lists) ≤ 65536 → length (lists_of (set lists g new)) ≤ 65536
-  still_few few = omega (arith, few, length-map lists (λ (l : Vec T). l.items), length-map (set lists g new) (λ (l : Vec T). l.items), length-set lists g new)
+  pub fits_then : (f : List T → List T) (more most : ℕ) → new.items ≡ f old.items → length (f (group_at now g)) ≤ length (group_at now g) + more → total (sizes_of now) + more < most → total (set sizes g (length new.items)) < most
+  fits_then f more most is fits few = subst (λ (ns : List ℕ). total ns < most) (sym size_written) (few_then f more most is fits few)
+
+  pub length_fits : (most : ℕ) → total (set sizes g (length new.items)) < most → length new.items < most
+  length_fits most few =
+      let part = part_of_total (set sizes g (length new.items)) g in
+      let here = get_or-set_same sizes g (length new.items) 0 size_within in
+      omega (arith, part, here, few)
+
+  pub sizes_stay : (f : List T → List T) → new.items ≡ f old.items → length (f (group_at now g)) ≡ length (group_at now g) → sizes ≡ sizes_of (lists_of (set lists g new))
+  sizes_stay f is same =
+      are ∙ ap sizes_of en ∙ sym (same_sizes now g (f (group_at now g)) inside same) ∙ ap sizes_of (sym (write_is f is))
 
 pub tail_fits : {T : Type 0} (from : ℕ) (l tail : List T) → length (take from l ++ tail) ≤ length l + length tail
 tail_fits from l tail = omega (arith, length-append (take from l) tail, length-take from l)

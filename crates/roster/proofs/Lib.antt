@@ -1,5 +1,6 @@
-pub mod GroupEnds
+pub mod PairSums
 pub mod GroupSizes
+pub mod SumLevels
 pub mod GroupTails
 pub mod Stamps
 pub mod Pushing

@@ -2,17 +2,6 @@
 use Rattle.std.specs.Prelude.{◌≡◌, ℕ, ◌+◌, ◌-◌, ◌<◌, ◌≤◌, zero, suc, List, [], ◌∷◌, ◌++◌, map, length, take, slice_set, slice_index_or}
 use Rattle.std.specs.Global.{Vec}
 
--- where each group ends, where the first one begins at n
-abbrev pub ends_from : ℕ → List ℕ → List ℕ
-ends_from n [] = []
-ends_from n (size ∷ sizes) = (n + size) ∷ ends_from (n + size) sizes
-
--- where a group begins, where the first one begins at n and the groups end here
-abbrev pub start_at : ℕ → List ℕ → ℕ → ℕ
-start_at n ends zero = n
-start_at n [] (suc g) = n
-start_at n (end ∷ ends) (suc g) = start_at end ends g
-
 -- how many elements groups of these sizes have
 abbrev pub total : List ℕ → ℕ
 total [] = 0

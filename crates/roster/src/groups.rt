@@ -2,28 +2,28 @@
 ghost use Rattle.std.specs.Prelude.{◌≡◌, ◌<◌, ◌≤◌, ◌+◌, ◌^◌, ◌++◌, [], replicate, take, length, slice_get, slice_set, Some, OnOk, OnErr, IfOk};
 ghost use Rattle.roster.specs.Groups.{total, sizes_of, lists_of, group_at, with_tail, IsPlaceOf};
 
-use crate::ends::{find_place, start_of, write_ends};
+use crate::sums::Sums;
 use std::alloc::{AllocError, Global};
 use std::marker::Model;
 
 /// Lists of several groups, which stand one behind the other: an element is found by its place among all of them, in a
-/// time that grows with the logarithm of the number of groups.
+/// time that grows with the logarithm of the number of groups. A change of one group takes no more beside its own elements.
 #[derive(Drop)]
 pub struct Groups<T> {
     lists: Vec<Vec<T>>,
-    // Where each group ends among all elements.
-    ends: Vec<u32>,
+    // How many elements each group has.
+    sizes: Sums,
 }
 
 impl<T> Model for Groups<T> {
-    ghost use Rattle.std.specs.Prelude.{◌≡◌, ◌≤◌, List, length};
-    ghost use Rattle.roster.specs.Groups.{ends_from, sizes_of, lists_of};
+    ghost use Rattle.std.specs.Prelude.{◌≡◌, List};
+    ghost use Rattle.roster.specs.Groups.{sizes_of, lists_of};
 
     ghost Value = { List (List T) };
 
     ghost view = { λ g. lists_of g.lists.items };
 
-    ghost invariant = { λ g. (g.ends.items ≡ ends_from 0 (sizes_of (lists_of g.lists.items))) × (length (lists_of g.lists.items) ≤ 65536) };
+    ghost invariant = { λ g. g.sizes ≡ sizes_of (lists_of g.lists.items) };
 }
 
 // So many empty lists.
@@ -35,15 +35,6 @@ fn empty_lists<T: Copy>(alloc: Global, count: usize) -> Result<Vec<Vec<T>>, Allo
         lists.push(Vec::new(alloc))?;
     }
     Ok(lists)
-}
-
-// So many zeros.
-fn zeros(alloc: Global, count: usize) -> Result<Vec<u32>, AllocError>
-    ensures { IfOk result (λ ends. ends.items ≡ replicate count 0) }
-{
-    let mut ends = Vec::new(alloc);
-    ends.resize(count, 0)?;
-    Ok(ends)
 }
 
 // Puts elements in the place of those from one on.
@@ -72,15 +63,15 @@ impl<T: Copy> Groups<T> {
         ensures { IfOk result (λ g. g ≡ replicate groups []) }
     {
         let lists = empty_lists(alloc, groups)?;
-        let ends = zeros(alloc, groups)?;
-        Ok(Groups { lists, ends })
+        let sizes = Sums::new(alloc, groups)?;
+        Ok(Groups { lists, sizes })
     }
 
     /// How many elements there are.
     pub fn total(&self) -> u32
         ensures { result ≡ total (sizes_of self.now) }
     {
-        start_of(&self.ends, self.ends.len())
+        self.sizes.total()
     }
 
     /// The elements of a group.
@@ -96,7 +87,7 @@ impl<T: Copy> Groups<T> {
         requires { place < total (sizes_of self.now) }
         ensures { IsPlaceOf (sizes_of self.now) place result.0 result.1 }
     {
-        find_place(&self.ends, place)
+        self.sizes.find(place)
     }
 
     /// Puts elements in the place of those of a group from one on. All stays as it was where memory runs out.
@@ -107,7 +98,7 @@ impl<T: Copy> Groups<T> {
         ensures err { OnErr result (self.new ≡ self.old) }
     {
         put_behind(&mut self.lists[g as usize], from, tail)?;
-        write_ends(&mut self.ends, &self.lists);
+        self.sizes.set(g, self.lists[g as usize].len() as u32);
         Ok(())
     }
 
@@ -118,7 +109,7 @@ impl<T: Copy> Groups<T> {
         ensures { self.new ≡ slice_set self.old g (take from (group_at self.old g)) }
     {
         self.lists[g as usize].truncate(from);
-        write_ends(&mut self.ends, &self.lists);
+        self.sizes.set(g, self.lists[g as usize].len() as u32);
     }
 
     /// Writes one element of a group anew.

@@ -3,7 +3,6 @@
 #![tactic(auto)]
 
 mod came;
-mod ends;
 mod groups;
 mod growing;
 mod laws;
@@ -11,6 +10,7 @@ mod listing;
 mod naming;
 mod readings;
 mod roster;
+mod sums;
 
 pub use came::{Came, Partner};
 pub use laws::{roster_lists_its_problem, rosters_grow, telling_keeps_events};

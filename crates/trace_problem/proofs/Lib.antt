@@ -2,5 +2,5 @@ pub mod Lists
 pub mod Names
 pub mod Places
 pub mod Follows
-pub mod Growth
+pub mod Whole
 pub mod Seen

@@ -1,11 +1,10 @@
 -- Elements of lists by their places.
-use Rattle.std.proofs.Common.{◌≡◌, ◌<◌, ℕ, zero, suc, ◌+◌, List, [], ◌∷◌, ◌++◌, map, length, take, get_or, slice_get, Some, All, AllPairs, Contains, Bool, true, false, refl, sym, ◌∙◌, ap, subst, arith}
+use Rattle.std.proofs.Common.{◌≡◌, ◌<◌, ℕ, zero, suc, List, [], ◌∷◌, map, length, get_or, slice_get, Some, All, AllPairs, Contains, Bool, true, false, refl, sym, ◌∙◌, ap, subst, arith}
 use Rattle.std.specs.List.{position, position_or_len}
 use Rattle.std.specs.Option.{unwrap_or}
-use Rattle.std.proofs.lemmas.List.{get_or-map, get_or-take, length-take, length-map}
+use Rattle.std.proofs.lemmas.List.{get_or-map, length-map}
 use Rattle.std.proofs.Math.Dec.{ltb}
 use Rattle.std.proofs.lemmas.Bool.{lt-ltb}
-use Rattle.std.proofs.lemmas.List.{map_more, take_more}
 use Rattle.std.proofs.lemmas.Option.{slice_get-get_or, slice_get_within, get_or_from_slice_get}
 
 -- the element at a place of the list
@@ -38,13 +37,6 @@ pairs_map {X} R f (x ∷ xs) all i j d less within =
     subst (λ v. R v (get_or (map f whole) j d)) (sym (get_or-map f whole i x d first))
     (subst (λ v. R (f (get_or whole i x)) v) (sym (get_or-map f whole j x d last)) (all i j x less last))
 
--- each element before a place with the one there
-pub pairs_before : {X : Type 0} (R : X → X → Type 0) (xs : List X) (k : ℕ) (x : X) → AllPairs R xs → slice_get xs k ≡ Some x → All (λ v. R v x) (take k xs)
-pairs_before R xs k x all at i d within =
-    let last : k < length xs = slice_get_within xs k x at in
-    let less : i < k = omega (arith, within, length-take k xs) in
-    subst (λ v. R v x) (sym (get_or-take k xs i d less)) (subst (λ v. R (get_or xs i d) v) (get_or_from_slice_get xs k x d at) (all i k d less last))
-
 -- ---- the first place that passes a test
 first_at : {X : Type 0} (p : X → Bool) (xs : List X) (k : ℕ) (x : X) → slice_get xs k ≡ Some x → p x ≡ true
     → ((i : ℕ) (v : X) → i < k → slice_get xs i ≡ Some v → p v ≡ false) → position_or_len p xs ≡ k
@@ -60,10 +52,3 @@ pub only_at : {X : Type 0} (p : X → Bool) (xs : List X) (k : ℕ) (x : X) → 
 only_at p xs k x at pass before =
     let within : ltb k (length xs) ≡ true = lt-ltb k (length xs) (slice_get_within xs k x at) in
     rw (first_at p xs k x at pass before, within) refl
-
--- ---- one element more
-pub take_next : {X : Type 0} (xs : List X) (k : ℕ) (x : X) → slice_get xs k ≡ Some x → take (k + 1) xs ≡ take k xs ++ x ∷ []
-take_next xs k x at = take_more xs k x (slice_get_within xs k x at) ∙ ap (λ v. take k xs ++ v ∷ []) (get_or_from_slice_get xs k x x at)
-
-pub map_next : {X Y : Type 0} (f : X → Y) (xs : List X) (k : ℕ) (x : X) → slice_get xs k ≡ Some x → map f (take (k + 1) xs) ≡ map f (take k xs) ++ f x ∷ []
-map_next f xs k x at = map_more f xs k x (slice_get_within xs k x at) ∙ ap (λ v. map f (take k xs) ++ f v ∷ []) (get_or_from_slice_get xs k x x at)

@@ -1,15 +1,17 @@
 -- Events by their ids: the places where they stand, and their places in the problem that is made of them.
-use Rattle.std.proofs.Common.{◌≡◌, ◌≢◌, ◌<◌, ℕ, List, map, length, slice_get, Some, AllPairs, true, false, ◌⊎◌, inl, inr, refl, sym, ◌∙◌, ap, subst, arith}
+use Rattle.std.proofs.Common.{◌≡◌, ◌≢◌, ◌<◌, ℕ, List, map, length, get_or, slice_get, Some, AllPairs, true, false, ◌⊎◌, inl, inr, refl, sym, ◌∙◌, ap, subst, arith}
 use Rattle.std.specs.Option.{option_map}
 use Rattle.std.proofs.lemmas.Bool.Decides.{eqb_tells}
 use Rattle.std.proofs.lemmas.List.{length-map}
-use Rattle.std.proofs.lemmas.Option.{slice_get-map, slice_get_within, same_Some}
+use Rattle.std.proofs.lemmas.Option.{slice_get-map, slice_get_read, slice_get_within, same_Some}
 use Rattle.problem_model.specs.declared.items.Event.{Event}
 use Rattle.problem.specs.Line.{HasEvent}
 use Rattle.decl.specs.Declaration.{Declaration, HasLawfulLabels}
 use Rattle.traces.specs.declared.event.EventId.{EventId}
 use Rattle.traces.specs.declared.event.Couple.{Couple}
+use Rattle.traces.specs.declared.event.PlacedEvent.{PlacedEvent}
 use Rattle.traces.specs.Traces.{Placed, is_same, name_of}
+use Rattle.traces.specs.Held.{placed_in, placed_of}
 use Rattle.traces.specs.Messages.{event_with, place_of}
 use Rattle.trace_problem.specs.Making.{problem_by, IsOneOf, AreEvents}
 use Rattle.trace_problem.proofs.Lists.{got, place_in, all_at, pair_at, only_at}
@@ -67,16 +69,11 @@ label_of d events id are one =
     let there : (k : ℕ) × (slice_get events k ≡ Some one.0) = place_in events one.0 one.1 in
     subst (λ (x : EventId). x.label < length d.labels) one.2 (all_at (λ (e : Placed). e.id.label < length d.labels) events there.0 one.0 are.labels there.1)
 
-name_there : (d : Declaration) (events : List Placed) (ms : List Couple) (k : ℕ) (e : Placed) → slice_get events k ≡ Some e → HasEvent (problem_by d events ms) k (name_of d e.id)
+-- the event at a place has its name in the problem
+pub name_there : (d : Declaration) (events : List Placed) (ms : List Couple) (k : ℕ) (e : Placed) → slice_get events k ≡ Some e → HasEvent (problem_by d events ms) k (name_of d e.id)
 name_there d events ms k e at =
     slice_get-map (λ (x : Event). x.name) (map (event_with d) events) k
     ∙ ap (option_map (λ (x : Event). x.name)) (slice_get-map (event_with d) events k ∙ ap (option_map (event_with d)) at)
-
--- an event of this id has its name in the problem
-pub known : (d : Declaration) (events : List Placed) (ms : List Couple) (id : EventId) → AreEvents d events → IsOneOf events id → (k : ℕ) × HasEvent (problem_by d events ms) k (name_of d id)
-known d events ms id are one =
-    let there : (k : ℕ) × (slice_get events k ≡ Some one.0) = place_in events one.0 one.1 in
-    (there.0, subst (λ (x : EventId). HasEvent (problem_by d events ms) there.0 (name_of d x)) one.2 (name_there d events ms there.0 one.0 there.1))
 
 -- the event of a name stands at the place of its id
 pub the_place : (d : Declaration) (events : List Placed) (ms : List Couple) (id : EventId) (k : ℕ) → HasLawfulLabels d → AreEvents d events → IsOneOf events id
@@ -91,3 +88,7 @@ the_place d events ms id k labels are one has =
       | inr w ↦ absurd (names_differ d e.0.id id labels.label_names labels.labels_rise
           (all_at (λ (x : Placed). x.id.label < length d.labels) events k e.0 are.labels e.1) (label_of d events id are one) w.1 same)
     ]
+
+-- ---- an event that is placed
+pub placed_at : (events : List PlacedEvent) (k : ℕ) (e : PlacedEvent) → k < length events → e ≡ get_or events k e → slice_get (placed_in events) k ≡ Some (placed_of e)
+placed_at events k e within is = slice_get-map placed_of events k ∙ ap (option_map placed_of) (slice_get_read events (length events) k e refl within is)

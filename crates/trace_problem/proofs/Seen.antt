@@ -12,7 +12,7 @@ use Rattle.traces.specs.Messages.{messages_of, problem_of_seen}
 use Rattle.traces.proofs.Ids.{ids_differ, ids_rise, ids_within, length_events}
 use Rattle.traces.proofs.MessageEnds.{ends_differ, ends_known, messages_few, sends_differ}
 use Rattle.trace_problem.specs.Making.{AreEvents, AreMessages, IsOneOf, StampsFit}
-use Rattle.trace_problem.proofs.Growth.{is_problem}
+use Rattle.trace_problem.proofs.Whole.{is_problem}
 
 pub are_events : (d : Declaration) (seen : List (List Seen)) → length seen ≡ length d.labels → event_count seen ≤ 2 ^ 21 → AreEvents d (events_of seen)
 are_events d seen same few = record {

@@ -1,12 +1,11 @@
 -- The problem that events and messages under a declaration make.
-use Rattle.std.specs.Prelude.{◌≡◌, ◌≢◌, ℕ, ◌^◌, ◌<◌, ◌≤◌, List, map, length, All, AllPairs, Contains}
+use Rattle.std.specs.Prelude.{◌≡◌, ◌≢◌, ◌^◌, ◌<◌, ◌≤◌, List, map, length, All, AllPairs, Contains}
 use Rattle.problem_model.specs.Problem.{ProblemLists}
-use Rattle.problem.specs.Line.{HasEvent}
 use Rattle.decl.specs.Declaration.{Declaration, follows_of}
 use Rattle.traces.specs.declared.event.EventId.{EventId}
 use Rattle.traces.specs.declared.event.Couple.{Couple}
 use Rattle.trace_event.specs.Seen.{Seen}
-use Rattle.traces.specs.Traces.{Placed, name_of}
+use Rattle.traces.specs.Traces.{Placed}
 use Rattle.traces.specs.Messages.{event_with, linked}
 
 -- the clocks of all hosts, a follow for each two neighbouring clocks of a host, these events and these messages
@@ -31,10 +30,6 @@ pub record AreMessages (events : List Placed) (couples : List Couple) : Type 0 w
   pub two_ends : All (λ m. m.send ≢ m.receive) couples
   pub differ : AllPairs (λ a b. a.send ≢ b.send) couples
   pub limit : length couples ≤ 2 ^ 21
-
--- the problem has an event of this id's name
-abbrev pub IsKnown : Declaration → ProblemLists → EventId → Type 0
-IsKnown d p id = (k : ℕ) × HasEvent p k (name_of d id)
 
 -- every stamp is in its range
 abbrev pub StampsFit : List (List Seen) → Type 0

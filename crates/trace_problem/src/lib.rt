@@ -1,12 +1,8 @@
-//! The problem of a declaration and of what was accepted under its labels.
+//! The problem of a declaration and of what was accepted under its labels: the names of its events, and that it is lawful.
 #![tactic(auto)]
 
-mod adding;
 mod law;
-mod making;
 mod naming;
-mod parts;
 
 pub use law::lawful;
-pub use making::problem_of;
-pub use naming::event_name;
+pub use naming::{event_name, name_of};

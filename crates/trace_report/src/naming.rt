@@ -1,7 +1,6 @@
 // The ambiguous keys, with the names of their events.
 ghost use Rattle.std.specs.Prelude.{◌≡◌, ◌<◌, ◌++◌, ◌∷◌, [], length, map, filter, All, IfOk, OnOk};
 ghost use Rattle.decl.specs.Declaration.{HasLawfulLabels, declaration_of};
-ghost use Rattle.traces.specs.Traces.{name_of};
 ghost use Rattle.traces.specs.Held.{placed_in};
 ghost use Rattle.msg_match.specs.Groups.{is_ambiguous};
 ghost use Rattle.msg_match.specs.Held.{seen_group, seen_groups};
@@ -15,18 +14,8 @@ use msg_match::Group;
 use problem_model::Name;
 use report::NamedGroup;
 use std::alloc::{AllocError, Global};
-use trace_problem::event_name;
-use traces::{EventId, PlacedEvent};
-
-// The name of an event.
-fn name_of(decl: &Decl, id: EventId) -> Name
-    requires lawful { HasLawfulLabels (declaration_of decl.now) }
-    requires label { id.label < length decl.now.labels.items }
-    ensures { result ≡ name_of (declaration_of decl.now) id }
-{
-    let label = &decl.labels[id.label as usize];
-    event_name(&label.name, id.number)
-}
+use trace_problem::name_of;
+use traces::PlacedEvent;
 
 // The name of the event at a place.
 fn name_at(decl: &Decl, events: &[PlacedEvent], place: u32) -> Name

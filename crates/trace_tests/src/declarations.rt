@@ -1,3 +1,5 @@
+ghost use Rattle.decl.specs.Declaration.{HasLawfulLabels, declaration_of};
+
 use decl::{Decl, DeclError, Section, TraceKind, read_decl};
 use std::alloc::Global;
 use std::test::*;
@@ -54,8 +56,8 @@ fn are_owners(decl: &Decl, wanted: &Wanted) -> bool {
 }
 
 fn are_addresses(decl: &Decl, wanted: &Wanted) -> bool {
-    decl.addresses.len() == wanted.addresses.len()
-        && decl.addresses.iter().zip(wanted.addresses).all(|(address, one)| {
+    decl.addresses.list().len() == wanted.addresses.len()
+        && decl.addresses.list().iter().zip(wanted.addresses).all(|(address, one)| {
             address.address == one.0 && address.host == one.1 && decl.host_of(one.0) == Some(one.1)
         })
 }
@@ -70,13 +72,25 @@ fn are_labels(decl: &Decl, wanted: &Wanted) -> bool {
         })
 }
 
+// Whether each label is found by its name, and none by a name that none has.
+fn finds_labels(decl: &Decl, wanted: &Wanted) -> bool
+    requires { HasLawfulLabels (declaration_of decl.now) }
+{
+    for (place, one) in wanted.labels.iter().enumerate() {
+        if decl.label_at(one.0.as_bytes()) != Some(place) {
+            return false;
+        }
+    }
+    decl.label_at(b"?").is_none()
+}
+
 fn is_most(most: Option<u64>, found: Option<u64>) -> bool {
     most == found
 }
 
 fn are_links(decl: &Decl, wanted: &Wanted) -> bool {
-    decl.links.len() == wanted.links.len()
-        && decl.links.iter().zip(wanted.links).all(|(link, one)| {
+    decl.links.list().len() == wanted.links.len()
+        && decl.links.list().iter().zip(wanted.links).all(|(link, one)| {
             let (least, most) = decl.link_of(one.0, one.1);
             link.from == one.0
                 && link.to == one.1
@@ -95,6 +109,7 @@ pub(crate) fn says(alloc: Global, text: &str, wanted: &Wanted) -> bool {
                 && are_owners(&decl, wanted)
                 && are_addresses(&decl, wanted)
                 && are_labels(&decl, wanted)
+                && finds_labels(&decl, wanted)
                 && are_links(&decl, wanted)
                 && decl.payload_bytes == wanted.payload_bytes
                 && decl.source == wanted.source
@@ -465,8 +480,8 @@ const WIDE_WANTED: [(u128, u32); 3] = [
 fn says_wide(alloc: Global) -> bool {
     match read_decl(alloc, WIDE.as_bytes()) {
         Ok(decl) => {
-            decl.addresses6.len() == WIDE_WANTED.len()
-                && decl.addresses6.iter().zip(&WIDE_WANTED).all(|(address, one)| {
+            decl.addresses6.list().len() == WIDE_WANTED.len()
+                && decl.addresses6.list().iter().zip(&WIDE_WANTED).all(|(address, one)| {
                     address.address == one.0
                         && address.host == one.1
                         && decl.host_of6(one.0) == Some(one.1)

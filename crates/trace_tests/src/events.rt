@@ -3,7 +3,7 @@ ghost use Rattle.std.specs.Prelude.{◌≤◌, ◌^◌, length, IfSome};
 use arrayvec::ArrayVec;
 use atto::Nano;
 use captures::Packet;
-use decl::{Address, Address6, Decl};
+use decl::{Decl, read_decl};
 use event_log::read_rows;
 use ip_headers::PacketKey;
 use std::alloc::Global;
@@ -27,48 +27,22 @@ const BACK: [u8; 28] = [
 ];
 
 // Each address is one of another host.
-const APART: [Address; 2] = [
-    Address {
-        address: FIRST,
-        host: 0,
-    },
-    Address {
-        address: SECOND,
-        host: 1,
-    },
-];
+const APART: &str = "payload_bytes = 16\n\
+    [hosts.a]\naddresses = ['10.0.0.1']\naddresses6 = ['fd00:0:0:0:0:0:0:1']\n\
+    [hosts.b]\naddresses = ['10.0.0.2']\naddresses6 = ['fd00:0:0:0:0:0:0:2']";
 
 // Both are of one host.
-const TOGETHER: [Address; 2] = [
-    Address {
-        address: FIRST,
-        host: 0,
-    },
-    Address {
-        address: SECOND,
-        host: 0,
-    },
-];
+const TOGETHER: &str =
+    "payload_bytes = 16\n[hosts.a]\naddresses = ['10.0.0.1', '10.0.0.2']\n[hosts.b]";
 
 // Only the first one is declared.
-const ALONE: [Address; 1] = [Address {
-    address: FIRST,
-    host: 0,
-}];
+const ALONE: &str = "payload_bytes = 16\n[hosts.a]\naddresses = ['10.0.0.1']\n[hosts.b]";
 
-// Addresses of IPv6 of both hosts.
-const WIDE_APART: [Address6; 2] = [
-    Address6 {
-        address: 0xfd00_0000_0000_0000_0000_0000_0000_0001,
-        host: 0,
-    },
-    Address6 {
-        address: 0xfd00_0000_0000_0000_0000_0000_0000_0002,
-        host: 1,
-    },
-];
+const WIDE_FIRST: u128 = 0xfd00_0000_0000_0000_0000_0000_0000_0001;
 
-// UDP over IPv6 from the first of these and port 5000 to the second one and port 6000.
+const WIDE_SECOND: u128 = 0xfd00_0000_0000_0000_0000_0000_0000_0002;
+
+// UDP over IPv6 from the first address of IPv6 and port 5000 to the second one and port 6000.
 const WIDE_OVER: [u8; 48] = [
     0x60, 0, 0, 0, 0, 8, 0x11, 0x40, //
     0xfd, 0, 0, 0, 0, 0, 0, 0, 0, 0, 0, 0, 0, 0, 0, 1, //
@@ -77,17 +51,17 @@ const WIDE_OVER: [u8; 48] = [
 ];
 
 // Packets at a host, and the side of each; None where the host has both addresses, or neither.
-const SIDES: [(&[Address], u32, &[u8], Option<Side>); 10] = [
-    (&APART, 0, &OVER, Some(Side::Send)),
-    (&APART, 1, &OVER, Some(Side::Receive)),
-    (&APART, 0, &BACK, Some(Side::Receive)),
-    (&APART, 1, &BACK, Some(Side::Send)),
-    (&APART, 2, &OVER, None),
-    (&TOGETHER, 0, &OVER, None),
-    (&TOGETHER, 1, &BACK, None),
-    (&ALONE, 0, &OVER, Some(Side::Send)),
-    (&ALONE, 0, &BACK, Some(Side::Receive)),
-    (&ALONE, 1, &OVER, None),
+const SIDES: [(&str, u32, &[u8], Option<Side>); 10] = [
+    (APART, 0, &OVER, Some(Side::Send)),
+    (APART, 1, &OVER, Some(Side::Receive)),
+    (APART, 0, &BACK, Some(Side::Receive)),
+    (APART, 1, &BACK, Some(Side::Send)),
+    (APART, 2, &OVER, None),
+    (TOGETHER, 0, &OVER, None),
+    (TOGETHER, 1, &BACK, None),
+    (ALONE, 0, &OVER, Some(Side::Send)),
+    (ALONE, 0, &BACK, Some(Side::Receive)),
+    (ALONE, 1, &OVER, None),
 ];
 
 // Frames that have no key.
@@ -119,35 +93,15 @@ const REASONS: [(u16, &[u8], NoKey); 7] = [
     ),
 ];
 
-fn declared(alloc: Global, addresses: &[Address]) -> Option<Decl>
+fn declared(alloc: Global, text: &str) -> Option<Decl>
     ensures { IfSome result (λ d. d.payload_bytes ≤ 64) }
 {
-    let mut all = Vec::new(alloc);
-    all.extend_from_slice(addresses).ok()?;
-    let mut wide = Vec::new(alloc);
-    wide.extend_from_slice(&WIDE_APART).ok()?;
-    Some(Decl {
-        hosts: Vec::new(alloc),
-        clocks: Vec::new(alloc),
-        owners: Vec::new(alloc),
-        addresses: all,
-        addresses6: wide,
-        labels: Vec::new(alloc),
-        links: Vec::new(alloc),
-        payload_bytes: 16,
-        source: None,
-    })
+    read_decl(alloc, text.as_bytes()).ok()
 }
 
 // The event of a packet that was captured at 100 ns.
-fn event_of(
-    alloc: Global,
-    addresses: &[Address],
-    host: u32,
-    link: u16,
-    frame: &[u8],
-) -> Option<Event> {
-    let decl = declared(alloc, addresses)?;
+fn event_of(alloc: Global, declaration: &str, host: u32, link: u16, frame: &[u8]) -> Option<Event> {
+    let decl = declared(alloc, declaration)?;
     let mut bytes = Vec::new(alloc);
     bytes.extend_from_slice(frame).ok()?;
     let stamp = Nano::new(100)?;
@@ -188,10 +142,10 @@ fn has_mark(mark: &Mark, wanted: Option<Side>, over: bool) -> bool {
     }
 }
 
-fn has_side(alloc: Global, case: &(&[Address], u32, &[u8], Option<Side>)) -> bool {
-    let (addresses, host, frame, wanted) = case;
+fn has_side(alloc: Global, case: &(&str, u32, &[u8], Option<Side>)) -> bool {
+    let (declaration, host, frame, wanted) = case;
     let over = *frame == OVER.as_slice();
-    match event_of(alloc, addresses, *host, 101, frame) {
+    match event_of(alloc, declaration, *host, 101, frame) {
         Some(event) => {
             event.stamp.get() == 100 && event.text.is_none() && has_mark(&event.mark, *wanted, over)
         }
@@ -207,8 +161,8 @@ fn has_wide_mark(mark: &Mark, wanted: Side) -> bool {
             side,
         } => {
             *side == wanted
-                && key.source == WIDE_APART[0].address
-                && key.target == WIDE_APART[1].address
+                && key.source == WIDE_FIRST
+                && key.target == WIDE_SECOND
                 && key.source_port == 5000
                 && key.length == 8
         }
@@ -218,14 +172,14 @@ fn has_wide_mark(mark: &Mark, wanted: Side) -> bool {
 
 // The same of its event at a host.
 fn has_wide_side(alloc: Global, host: u32, wanted: Side) -> bool {
-    match event_of(alloc, &APART, host, 101, &WIDE_OVER) {
+    match event_of(alloc, APART, host, 101, &WIDE_OVER) {
         Some(event) => has_wide_mark(&event.mark, wanted),
         None => false,
     }
 }
 
 fn has_reason(alloc: Global, link: u16, frame: &[u8], wanted: NoKey) -> bool {
-    match event_of(alloc, &APART, 0, link, frame) {
+    match event_of(alloc, APART, 0, link, frame) {
         Some(event) => match event.mark {
             Mark::Keyed { .. } => false,
             Mark::Unkeyed(reason) => reason == wanted,

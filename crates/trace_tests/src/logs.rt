@@ -1,4 +1,4 @@
-use event_log::{Kind, LogError, Row, read_rows};
+use event_log::{Kind, LogError, Row, read_first_rows, read_rows};
 use std::alloc::Global;
 use std::test::*;
 
@@ -39,6 +39,14 @@ fn fault_of(alloc: Global, piece: &str) -> Option<LogError> {
         return None;
     }
     read_rows(alloc, piece.as_bytes()).err()
+}
+
+// Why a log is refused of which no row is kept.
+fn fault_behind_the_limit(alloc: Global, piece: &str) -> Option<LogError> {
+    if piece.len() > 1 << 28 {
+        return None;
+    }
+    read_first_rows(alloc, piece.as_bytes(), 0).err()
 }
 
 #[test]
@@ -128,5 +136,29 @@ fn faults(rt: HostRuntime) {
     ];
     for (piece, wanted) in &cases {
         assert!(rt; fault_of(rt.alloc(), piece) == Some(*wanted), "{piece}");
+        assert!(rt;
+            fault_behind_the_limit(rt.alloc(), piece) == Some(*wanted),
+            "{piece}"
+        );
+    }
+}
+
+// How many rows of a log are kept where at most so many are, and how many it has.
+fn first_rows(alloc: Global, piece: &str, most: u64) -> Option<(usize, u64)> {
+    if piece.len() > 1 << 28 {
+        return None;
+    }
+    let rows = read_first_rows(alloc, piece.as_bytes(), most).ok()?;
+    Some((rows.kept.len(), rows.count))
+}
+
+#[test]
+fn few_rows(rt: HostRuntime) {
+    let log = "1,local,,\n2,local,,\n3,local,,\n";
+    for (most, kept) in [(0, 0), (1, 1), (2, 2), (3, 3), (4, 3)] {
+        assert!(rt;
+            first_rows(rt.alloc(), log, most) == Some((kept, 3)),
+            "{most}"
+        );
     }
 }

@@ -4,12 +4,13 @@ ghost use Rattle.decl.specs.Declaration.{IsDeclaration, declaration_of};
 
 use crate::fixtures::log_of;
 use decl::{Decl, read_decl};
+use plain_traces::{messages_in, problem_of};
 use problem::{Problem, read_problem};
 use problem_model::Name;
 use std::alloc::Global;
 use std::test::*;
-use trace_problem::{event_name, problem_of};
-use traces::{Accepted, event_count, messages_in};
+use trace_problem::event_name;
+use traces::{Accepted, event_count};
 
 // Label p at the host b, q and r at the host a. From a to b a message takes 10 to 20 ns, from b to a at least 5, and from a
 // to a 1 or 2.

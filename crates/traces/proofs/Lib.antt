@@ -1,4 +1,3 @@
-mod Only
 pub mod Sent
 mod Counting
 pub mod Members

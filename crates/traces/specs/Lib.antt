@@ -1,5 +1,4 @@
 pub mod Traces
 pub mod Messages
 pub mod Held
-pub mod Ends
 pub mod Pairs

@@ -4,13 +4,9 @@
 mod accepted;
 mod event;
 mod laws;
-mod pairing;
 mod placing;
-mod withdrawn;
 
 pub use accepted::{Accepted, Stream};
 pub use event::{Couple, EventId, PlacedEvent};
 pub use laws::messages_are_pairs;
-pub use pairing::{messages, messages_in};
 pub use placing::{event_count, events};
-pub use withdrawn::missing;

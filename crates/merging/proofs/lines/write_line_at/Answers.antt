@@ -7,7 +7,7 @@ use Rattle.ports.proofs.Writing.{writes_as}
 use Rattle.decl.specs.Declaration.{Declaration, declaration_of}
 use Rattle.traces.specs.Traces.{Placed, name_of}
 use Rattle.traces.specs.Held.{placed_in, placed_of}
-use Rattle.trace_problem.proofs.Growth.{placed_at}
+use Rattle.trace_problem.proofs.Places.{placed_at}
 use Rattle.trace_problem.proofs.Lists.{all_at}
 use Rattle.report.specs.Merging.{merge_line}
 use Rattle.merging.specs.Merged.{line_if}

@@ -13,7 +13,7 @@ use Rattle.trace_problem.specs.Making.{AreEvents}
 use Rattle.trace_problem.proofs.Seen.{are_events}
 use Rattle.earliest.specs.Values.{Values}
 use Rattle.queries.specs.Replies.{Replies}
-use Rattle.queries.proofs.SomeReadings.{own_readings}
+use Rattle.problem.proofs.OwnReadings.{own_readings}
 use Rattle.merging.specs.Merged.{IsMergeText}
 use Rattle.merging.specs.Writing.{AreValued, IsTextBy, times_by}
 use Rattle.merging.proofs.Texts.{valued, merge_shows}

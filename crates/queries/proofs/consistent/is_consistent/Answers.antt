@@ -1,7 +1,7 @@
 use Rattle.std.proofs.Common.{sym, ◌∙◌, ap}
 use Rattle.problem.specs.Listing.{all_readings}
 use Rattle.earliest.specs.Values.{Values}
-use Rattle.queries.proofs.SomeReadings.{own_readings}
+use Rattle.problem.proofs.OwnReadings.{own_readings}
 use Rattle.queries.proofs.Consistency.{consistent_by}
 use Rattle.queries.proofs.consistent.is_consistent.Goals as goal
 

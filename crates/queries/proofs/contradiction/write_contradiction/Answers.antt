@@ -1,7 +1,7 @@
 use Rattle.problem.specs.Listing.{all_readings}
 use Rattle.cert.specs.Listed.{listed_cycle}
 use Rattle.solver.specs.Solution.{steps_of}
-use Rattle.queries.proofs.SomeReadings.{own_readings}
+use Rattle.problem.proofs.OwnReadings.{own_readings}
 use Rattle.queries.proofs.Contradictions.{cycle_named, cycle_shows}
 use Rattle.queries.proofs.contradiction.write_contradiction.Goals as goal
 

@@ -5,7 +5,7 @@ use Rattle.sync_graph.specs.Graph.{GraphLists}
 use Rattle.sync_graph.specs.InForce.{IsEarliestOf}
 use Rattle.sync_graph.specs.ListedStanding.{StandsForListed}
 use Rattle.attain.specs.Ends.{AreRowsOf}
-use Rattle.queries.proofs.SomeReadings.{own_readings}
+use Rattle.problem.proofs.OwnReadings.{own_readings}
 use Rattle.queries.proofs.Solutions.{stands, earliest_so}
 use Rattle.queries.proofs.prove.write_by.Goals as goal
 

@@ -1,7 +1,7 @@
 use Rattle.std.proofs.Common.{◌≡◌, inl}
 use Rattle.problem_model.specs.declared.items.Node.TheVariants as nodes
 use Rattle.problem.specs.Listing.{all_readings}
-use Rattle.queries.proofs.SomeReadings.{own_readings}
+use Rattle.problem.proofs.OwnReadings.{own_readings}
 use Rattle.queries.proofs.Solutions.{event_by, event_below}
 use Rattle.queries.proofs.Hands.{where_one_kept}
 use Rattle.queries.proofs.reply.write_answer.Goals as goal

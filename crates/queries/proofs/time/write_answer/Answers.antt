@@ -2,7 +2,7 @@ use Rattle.std.proofs.Common.{sym, ◌∙◌, inl}
 use Rattle.std.proofs.lemmas.Option.{none-some}
 use Rattle.problem_model.specs.declared.items.Node.TheVariants as nodes
 use Rattle.problem.specs.Listing.{all_readings}
-use Rattle.queries.proofs.SomeReadings.{own_readings}
+use Rattle.problem.proofs.OwnReadings.{own_readings}
 use Rattle.queries.proofs.Solutions.{event_by, event_below, reading_by, reading_below, reading_is, slot_reading}
 use Rattle.queries.proofs.time.write_answer.Goals as goal
 

@@ -1,4 +1,4 @@
-use Rattle.std.proofs.Common.{◌≡◌, ◌+◌, ◌≤◌, suc, ℕ, Option, Some, length, slice_get, subst, arith}
+use Rattle.std.proofs.Common.{◌≡◌, ◌+◌, ◌≤◌, suc, ℕ, Some, length, slice_get, subst, arith}
 use Rattle.std.specs.Prelude.{IfSome, IfNone}
 use Rattle.roster.specs.Readings.{Stamped}
 use Rattle.roster.proofs.Beside.{first_over, found}

@@ -1,4 +1,4 @@
-use Rattle.std.proofs.Common.{◌≡◌, ◌-◌, ◌<◌, suc, ℕ, Option, Some, length, slice_get, ap, ◌∙◌, arith}
+use Rattle.std.proofs.Common.{◌≡◌, ◌-◌, suc, ℕ, Some, slice_get, arith}
 use Rattle.roster.specs.Readings.{Stamped}
 use Rattle.roster.proofs.Beside.{none_under, last_under, found, next_place}
 use Rattle.roster.proofs.readings.stamp_below.Goals as goal

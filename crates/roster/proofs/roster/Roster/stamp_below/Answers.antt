@@ -1,7 +1,7 @@
-use Rattle.std.proofs.Common.{◌≡◌, ◌<◌, List, [], length, sym, subst, arith}
+use Rattle.std.proofs.Common.{List, [], sym, subst}
 use Rattle.std.proofs.lemmas.Option.{get_or_from_slice_get}
 use Rattle.roster.specs.Groups.{group_at}
-use Rattle.roster.specs.Readings.{Stamped, Rise, HasStamp, IsLastUnder, IsFirstOver}
+use Rattle.roster.specs.Readings.{Stamped, Rise, HasStamp, IsLastUnder}
 use Rattle.roster.specs.Roster.{RosterLists}
 use Rattle.roster.proofs.roster.Roster.stamp_below.Goals as goal
 

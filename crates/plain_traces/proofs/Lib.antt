@@ -1,0 +1,4 @@
+mod Only
+mod Taken
+mod Follows
+mod Growth
