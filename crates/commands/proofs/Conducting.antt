@@ -7,7 +7,7 @@ use Rattle.ports.proofs.Appending.{rose_later}
 use Rattle.ports.proofs.Writing.{appends_then, prefix_then}
 use Rattle.decl.specs.Declaration.{Declaration}
 use Rattle.line_reader.specs.Lines.{whole_lines, lines_of, most_taken}
-use Rattle.session.specs.Sessions.{Session, start}
+use Rattle.replies.specs.Sessions.{Session, start}
 use Rattle.script.specs.declared.ended.Ended.{Ended}
 use Rattle.script.specs.declared.ended.Ended.TheVariants as ended
 use Rattle.script.specs.Script.{Devices, devices, OfScript, Replied, IsTaken, IsBegun, IsInterrupted, IsDone, IsScriptFault, IsTooLong, IsOutOfMemory, ScriptAnswered}

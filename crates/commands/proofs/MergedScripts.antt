@@ -8,8 +8,8 @@ use Rattle.std.specs.Prelude.{All}
 use Rattle.mergecap.specs.MergedCapture.{Timed, AreWritable, IsShort, merged_capture}
 use Rattle.mergecap.specs.Reading.{IsReadBack}
 use Rattle.trace_event.specs.Seen.{Seen}
-use Rattle.session.specs.Reply.{State}
-use Rattle.session.specs.Sessions.{start}
+use Rattle.replies.specs.Reply.{State}
+use Rattle.replies.specs.Sessions.{start}
 use Rattle.script.specs.Script.{OfScript}
 use Rattle.script.proofs.Replies.{counted_earlier}
 use Rattle.script.proofs.Places.{of_script}

@@ -13,10 +13,10 @@ use Rattle.mergecap.specs.MergedCapture.{Timed}
 use Rattle.mergecap.specs.Packets.{timed, all_timed}
 use Rattle.session.specs.declared.taking.AddAnswer.{AddAnswer}
 use Rattle.session.specs.declared.taking.AddAnswer.TheVariants as answers
-use Rattle.session.specs.declared.refusal.Refusal.TheVariants.{NoCommand}
-use Rattle.session.specs.Refusals.{refusal_line}
-use Rattle.session.specs.Reply.{State, Found, Unread}
-use Rattle.session.specs.Sessions.{AreCounted, start}
+use Rattle.replies.specs.declared.refusal.Refusal.TheVariants.{NoCommand}
+use Rattle.replies.specs.Refusals.{refusal_line}
+use Rattle.replies.specs.Reply.{State, Found, Unread}
+use Rattle.replies.specs.Sessions.{AreCounted, start}
 use Rattle.session.specs.Stands.{Held, StandsFor}
 use Rattle.session.specs.Taken.{packets_behind}
 use Rattle.session.specs.Taking.{AddLineReply, IsAddedLine, IsAnswerOf, Takes}

@@ -6,9 +6,9 @@ use Rattle.decl.specs.Declaration.{Declaration}
 use Rattle.line_reader.specs.Lines.{whole_lines, lines_of, most_taken}
 use Rattle.mergecap.specs.MergedCapture.{Timed}
 use Rattle.traces.specs.Traces.{Traces}
-use Rattle.session.specs.declared.refusal.Refusal.TheVariants.{NoCommand}
-use Rattle.session.specs.Reply.{State, Found, Unread, Refuses}
-use Rattle.session.specs.Sessions.{AreCounted, start}
+use Rattle.replies.specs.declared.refusal.Refusal.TheVariants.{NoCommand}
+use Rattle.replies.specs.Reply.{State, Found, Unread, Refuses}
+use Rattle.replies.specs.Sessions.{AreCounted, start}
 use Rattle.session.specs.Taken.{packets_behind}
 use Rattle.session.specs.Taking.{AddLineReply, IsAddedLine, IsRefusalLine}
 use Rattle.script.specs.Script.{Devices, lines_within}

@@ -8,7 +8,7 @@ use Rattle.trace_event.specs.Seen.{Seen}
 use Rattle.traces.specs.Traces.{seen_by}
 use Rattle.traces.specs.Messages.{problem_of_seen}
 use Rattle.queries.specs.Consistent.{IsConsistent}
-use Rattle.session.specs.Reply.{State}
+use Rattle.replies.specs.Reply.{State}
 use Rattle.session.specs.Settled.{AreSettled}
 use Rattle.script.specs.Script.{Devices, OfScript}
 use Rattle.merge_script.specs.declared.unmerged.Unmerged.{Unmerged}

@@ -5,8 +5,8 @@ use Rattle.ports.specs.Files.{FilesTold}
 use Rattle.decl.specs.Declaration.{Declaration}
 use Rattle.line_reader.specs.Reader.{Reader}
 use Rattle.mergecap.specs.MergedCapture.{Timed}
-use Rattle.session.specs.Reply.{State, Found}
-use Rattle.session.specs.Sessions.{AreCounted}
+use Rattle.replies.specs.Reply.{State, Found}
+use Rattle.replies.specs.Sessions.{AreCounted}
 use Rattle.session.specs.Stands.{Held, StandsFor}
 use Rattle.session.specs.Taking.{IsAddedLine}
 use Rattle.script.specs.Script.{Devices, devices, OfScript}

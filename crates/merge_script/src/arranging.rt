@@ -5,7 +5,7 @@ ghost use Rattle.decl.specs.Declaration.{IsDeclaration, declaration_of};
 ghost use Rattle.report.specs.Merging.{AreApart};
 ghost use Rattle.mergecap.specs.MergedCapture.{AreWritable, IsArranged, IsShort, keys_of};
 ghost use Rattle.mergecap.specs.Packets.{all_timed};
-ghost use Rattle.session.specs.Sessions.{start};
+ghost use Rattle.replies.specs.Sessions.{start};
 ghost use Rattle.session.specs.Stands.{StandsFor, IsReady, seen_held};
 ghost use Rattle.merge_script.specs.Turns.{AreKeptFor, reads};
 ghost use Rattle.merge_script.specs.Merged.{IsMergeOf, LacksMerge, MergesTo, MergesNot, IsUnarranged, unarranged};

@@ -4,7 +4,7 @@ ghost use Rattle.ports.specs.Files.{Keeps};
 ghost use Rattle.line_reader.specs.Reader.{fresh, room};
 ghost use Rattle.mergecap.specs.MergedCapture.{Timed};
 ghost use Rattle.mergecap.specs.Packets.{all_timed};
-ghost use Rattle.session.specs.Sessions.{start};
+ghost use Rattle.replies.specs.Sessions.{start};
 ghost use Rattle.session.specs.Stands.{StandsFor, IsReady};
 ghost use Rattle.script.specs.Turns.{HasNoLine};
 ghost use Rattle.merge_script.specs.Gathered.{bytes_in, most_bytes};

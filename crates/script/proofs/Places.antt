@@ -10,8 +10,8 @@ use Rattle.line_reader.specs.Lines.{lines_of, whole_lines, most_taken}
 use Rattle.line_reader.specs.Reader.{Reader, IsFirst, Gives, fresh}
 use Rattle.line_reader.proofs.Pieces.{came_off, nothing_left}
 use Rattle.line_reader.proofs.LinesOf.{gives_first}
-use Rattle.session.specs.Reply.{State, Found}
-use Rattle.session.specs.Sessions.{Session, LineReply, AreCounted, start}
+use Rattle.replies.specs.Reply.{State, Found}
+use Rattle.replies.specs.Sessions.{Session, LineReply, AreCounted, start}
 use Rattle.session.specs.Stands.{Held, StandsFor}
 use Rattle.script.specs.Script.{Devices, OfScript, IsBegun, lines_within}
 use Rattle.script.specs.Turns.{TakesOff, AnswersLine}

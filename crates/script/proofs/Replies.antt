@@ -4,10 +4,10 @@ use Rattle.std.specs.List.{concat}
 use Rattle.std.proofs.lemmas.List.Sums.{sum_by-append}
 use Rattle.ports.specs.Files.{Content, FilesTold, Keeps}
 use Rattle.decl.specs.Declaration.{Declaration}
-use Rattle.session.specs.declared.refusal.Refusal.TheVariants.{NoCommand}
-use Rattle.session.specs.Refusals.{refusal_line}
-use Rattle.session.specs.Reply.{State, Found, Unread}
-use Rattle.session.specs.Sessions.{Session, LineReply, AreCounted, is_failed, is_absent}
+use Rattle.replies.specs.declared.refusal.Refusal.TheVariants.{NoCommand}
+use Rattle.replies.specs.Refusals.{refusal_line}
+use Rattle.replies.specs.Reply.{State, Found, Unread}
+use Rattle.replies.specs.Sessions.{Session, LineReply, AreCounted, is_failed, is_absent}
 use Rattle.session.specs.Stands.{Held, Stepped}
 
 -- a session over one line more

@@ -5,9 +5,9 @@ use Rattle.ports.specs.Content.{Rose, Appends, AppendsPrefix, SourceTold, SinkTo
 use Rattle.ports.specs.Files.{FilesTold}
 use Rattle.decl.specs.Declaration.{Declaration}
 use Rattle.line_reader.specs.Lines.{whole_lines, lines_of, most_taken}
-use Rattle.session.specs.Commands.{AsksForMemory}
-use Rattle.session.specs.Reply.{State, Found}
-use Rattle.session.specs.Sessions.{Session, AreCounted, start}
+use Rattle.replies.specs.Commands.{AsksForMemory}
+use Rattle.replies.specs.Reply.{State, Found}
+use Rattle.replies.specs.Sessions.{Session, AreCounted, start}
 use Rattle.script.specs.declared.ended.Ended.{Ended}
 use Rattle.script.specs.declared.ended.Ended.TheVariants.{Done, ReadFault, Limit, WriteFault, Memory}
 

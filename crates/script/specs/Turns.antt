@@ -3,7 +3,7 @@ use Rattle.std.specs.Prelude.{◌≡◌, ℕ, ◌+◌, ◌≤◌, List, length}
 use Rattle.ports.specs.Content.{Rose, AppendsPrefix}
 use Rattle.line_reader.specs.Lines.{most_taken}
 use Rattle.line_reader.specs.Reader.{Reader, Came, Gives, Ends, BreaksOff, GoesPast}
-use Rattle.session.specs.Commands.{AsksForMemory}
+use Rattle.replies.specs.Commands.{AsksForMemory}
 use Rattle.session.specs.Stands.{Held, Stepped}
 use Rattle.script.specs.Script.{Devices}
 use Rattle.script.specs.declared.ended.Ended.{Ended}

@@ -4,7 +4,7 @@ ghost use Rattle.ports.specs.Content.{Appends};
 ghost use Rattle.ports.specs.Files.{Keeps};
 ghost use Rattle.decl.specs.Declaration.{Declaration, IsDeclaration, declaration_of};
 ghost use Rattle.line_reader.specs.Reader.{fresh, room};
-ghost use Rattle.session.specs.Sessions.{start};
+ghost use Rattle.replies.specs.Sessions.{start};
 ghost use Rattle.session.specs.Stands.{StandsFor, IsReady};
 ghost use Rattle.script.specs.Script.{ScriptAnswered, devices};
 ghost use Rattle.script.specs.Turns.{AnswersLine, HasNoReply};

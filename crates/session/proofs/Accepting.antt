@@ -1,5 +1,6 @@
 -- Events that are accepted under a label.
-use Rattle.std.proofs.Common.{◌≡◌, ◌≢◌, ◌⊎◌, inl, inr, ℕ, zero, suc, ◌+◌, ◌-◌, ◌*◌, ◌^◌, ◌<◌, ◌≤◌, List, [], ◌∷◌, ◌++◌, length, map, slice_get, slice_set, Option, Some, None, Bool, true, false, nat_le, option_map, refl, sym, ◌∙◌, ap, subst, arith, MatchBool, length-set}
+use Rattle.std.proofs.Common.{◌≡◌, ◌≢◌, ◌⊎◌, inl, inr, ℕ, ◌+◌, ◌-◌, ◌*◌, ◌^◌, ◌<◌, ◌≤◌, List, ◌++◌, length, map, slice_get, slice_set, Option, Some, None, Bool, true, false, nat_le, option_map, refl, sym, ◌∙◌, ap, subst, arith, MatchBool, length-set}
+use Rattle.std.specs.Prelude.{IsSome}
 use Rattle.std.proofs.lemmas.Option.{slice_get-map}
 use Rattle.std.proofs.Math.Seq.{map-set}
 use Rattle.problem_model.specs.Problem.{ProblemLists}
@@ -13,54 +14,30 @@ use Rattle.solver.specs.Solution.{IsSolutionBy}
 use Rattle.roster.specs.Roster.{listed}
 use Rattle.traces.specs.declared.accepted.Stream.{Stream}
 use Rattle.traces.specs.Held.{seen_in}
-use Rattle.traces.specs.Traces.{Trace, Traces, size_of, seen_of, seen_under, seen_by, IsOfKind, event_count, events_of}
+use Rattle.traces.specs.Traces.{Trace, size_of, seen_of, seen_by, IsOfKind, event_count, events_of}
 use Rattle.traces.specs.Messages.{messages_of, missing, problem_of, problem_of_seen}
 use Rattle.trace_match.specs.declared.changes.Changed.{Changed}
 use Rattle.trace_match.specs.declared.changes.Changes.{Changes}
-use Rattle.session.specs.declared.answers.Answers.{Answers}
+use Rattle.ready_answers.specs.declared.answers.Answers.{Answers}
 use Rattle.trace_match.specs.Ends.{End, AreEndsOf, AreChanges, IsChange}
 use Rattle.queries.specs.Consistent.{IsConsistent}
-use Rattle.session.specs.declared.refusal.Refusal.TheVariants.{TooManyEvents}
-use Rattle.session.specs.Refusals.{refusal_line}
-use Rattle.session.specs.Reply.{State, IsAdded, added_line, count_by, messages_by, pending_of}
-use Rattle.session.specs.Stands.{Held, Under, IsHeld, IsKeptUp, KeepsSource, AreKept, AreAnswersOf, StandsFor, held_of, under_of, problem_held, seen_held, solver_of, waiting, IsStreamOf}
+use Rattle.replies.specs.declared.refusal.Refusal.TheVariants.{TooManyEvents}
+use Rattle.replies.specs.Refusals.{refusal_line}
+use Rattle.replies.specs.Reply.{State, IsAdded, added_line, count_by, messages_by, pending_of, AreKept}
+use Rattle.session.specs.Stands.{Held, Under, IsHeld, IsKeptUp, StandsFor, held_of, under_of, problem_held, seen_held, solver_of, waiting, IsStreamOf}
+use Rattle.ready_answers.specs.Ready.{KeepsSource, AreAnswersOf}
 use Rattle.session.specs.Inside.{AcceptAnswered, HasPlace, IsStreamWithin, IsAddedTo, IsGrownAt, IsGrownTrace, grown}
-use Rattle.session.specs.Keeping.{Brings}
-use Rattle.session.proofs.RosterEvents.{came_count}
-use Rattle.session.proofs.Slotting.{kept_grown}
+use Rattle.ready_answers.specs.Keeping.{Brings}
+use Rattle.ready_answers.proofs.RosterEvents.{came_count}
+use Rattle.replies.proofs.KeptEvents.{kept_grown}
 use Rattle.session.proofs.Telling.{Told}
-use Rattle.session.proofs.Holding.{IsWithinLimits, held_by, accepted_few, held_same, count_grown, held_grown, room_by, room_few, seen_accepted, some_same, there_some}
+use Rattle.session.proofs.Standby.{ready_of}
+use Rattle.session.proofs.Holding.{IsWithinLimits, held_by, accepted_few, held_same, count_grown, held_grown, room_by, room_few, seen_accepted}
+use Rattle.replies.proofs.Elements.{some_same, there_some, set_or_same}
+use Rattle.replies.proofs.SeenUnder.{seen_at, seen_set}
 
 pub choose : (b b' : Bool) (P Q : Type 0) → b ≡ b' → MatchBool b' P Q → MatchBool b P Q
 choose b b' P Q e m = rw e m
-
--- the place is the one that was set, or what stands there stood there
-pub set_or_same : {A : Type 0} (xs : List A) (k j : ℕ) (x y : A) → slice_get (slice_set xs k x) j ≡ Some y → ((j ≡ k) × (y ≡ x)) ⊎ ((j ≢ k) × (slice_get xs j ≡ Some y))
-set_or_same [] k j x y e = absurd cc
-set_or_same (z ∷ xs) zero zero x y e = inl (refl, sym (some_same x y e))
-set_or_same (z ∷ xs) zero (suc j) x y e = inr (λ same. omega (arith, same), e)
-set_or_same (z ∷ xs) (suc k) zero x y e = inr (λ same. omega (arith, same), e)
-set_or_same (z ∷ xs) (suc k) (suc j) x y e = next (set_or_same xs k j x y e)
-  where
-    next : ((j ≡ k) × (y ≡ x)) ⊎ ((j ≢ k) × (slice_get xs j ≡ Some y)) → ((suc j ≡ suc k) × (y ≡ x)) ⊎ ((suc j ≢ suc k) × (slice_get xs j ≡ Some y))
-    next (inl p) = inl (ap suc p.0, p.1)
-    next (inr p) = inr (λ same. p.0 (omega (arith, same)), p.1)
-
--- ---- the events under each label
-pub seen_at : (d : Declaration) (labels : List Label) (traces : Traces) (k : ℕ) (label : Label) (trace : Trace) → slice_get labels k ≡ Some label → slice_get traces k ≡ Some trace →
-    slice_get (seen_under d labels traces) k ≡ Some (seen_of d label.host trace)
-seen_at d [] traces k label trace at at' = absurd cc
-seen_at d (l ∷ labels) [] k label trace at at' = absurd cc
-seen_at d (l ∷ labels) (t ∷ traces) zero label trace at at' =
-    ap (λ (x : Label). Some (seen_of d x.host t)) (some_same l label at) ∙ ap (λ (x : Trace). Some (seen_of d label.host x)) (some_same t trace at')
-seen_at d (l ∷ labels) (t ∷ traces) (suc k) label trace at at' = seen_at d labels traces k label trace at at'
-
-pub seen_set : (d : Declaration) (labels : List Label) (traces : Traces) (k : ℕ) (label : Label) (new : Trace) → slice_get labels k ≡ Some label →
-    seen_under d labels (slice_set traces k new) ≡ slice_set (seen_under d labels traces) k (seen_of d label.host new)
-seen_set d [] traces k label new at = absurd cc
-seen_set d (l ∷ labels) [] k label new at = refl
-seen_set d (l ∷ labels) (t ∷ traces) zero label new at = ap (λ (x : Label). seen_of d x.host new ∷ seen_under d labels traces) (some_same l label at)
-seen_set d (l ∷ labels) (t ∷ traces) (suc k) label new at = ap (λ (more : List (List Seen)). seen_of d l.host t ∷ more) (seen_set d labels traces k label new at)
 
 -- ---- a trace that grew
 module _ (held : Held) (d : Declaration) (s : State) (k : ℕ) (label : Label) (old new : Trace) (events : List Seen) (size : ℕ) (stream : Stream) (stands : StandsFor held d s) (at_label : slice_get d.labels k ≡ Some label)
@@ -184,13 +161,36 @@ added_says p changed b events new gone pending line consistent new_is gone_is li
     (b, consistent, line_is ∙ ap (λ (n : ℕ). added_line events n gone pending b) new_is ∙ ap (λ (n : ℕ). added_line events changed.messages n pending b) gone_is)
 
 -- ---- the same by what the code holds
-pub refused_in : (d : Declaration) (accepted : List Accepted) (kept : List EventId) (answers : Option SolverLists) (held : Held) (k n : ℕ) (events : List Seen) (size : ℕ) (stream : Stream) (r : Bool) (IsWritten : List ℕ → Type 0) →
-    held_of d accepted kept answers ≡ held → k < length held.under → n ≡ length events → r ≡ nat_le (event_count (seen_in accepted) + n) (2 ^ 21) → r ≡ false → IsWritten (refusal_line TooManyEvents) →
-    AcceptAnswered held held k events size stream IsWritten
-refused_in d accepted kept answers held k n events size stream r IsWritten same inside n_is r_is full written =
-    let P : Held → Type 0 = λ h. k < length h.under → AcceptAnswered h h k events size stream IsWritten in
-    let room = room_by accepted (length events) r false (r_is ∙ ap (λ (m : ℕ). nat_le (event_count (seen_in accepted) + m) (2 ^ 21)) n_is) full in
-    subst P same (λ within. accept_refused (held_of d accepted kept answers) k events size stream IsWritten within room written) inside
+-- the roster of answers that stand ready has the events that are held
+pub count_is : (accepted : List Accepted) (kept : List EventId) (ready : Bool) (a : Answers) (held : Held) → held_of a.graph.roster.declaration accepted kept (solver_of ready a) ≡ held → IsSome held.answers →
+    (ready ≡ true → AreAnswersOf (seen_in accepted) kept a) → (n : ℕ) → n ≡ length a.graph.roster.came → n ≡ event_count (seen_held held.under)
+count_is accepted kept ready a held same some are n n_is =
+    let all : AreAnswersOf (seen_in accepted) kept a = are (ready_of held ready a (ap (λ (h : Held). h.answers) same) some) in
+    n_is ∙ came_count a.graph.roster all.lawful (seen_in accepted) all.graph.holds ∙ sym (ap event_count (seen_accepted accepted)) ∙ ap (λ (h : Held). event_count (seen_held h.under)) same
+
+-- whether there is room for more, by a count of the events that are held
+room_by_count : (d : Declaration) (accepted : List Accepted) (kept : List EventId) (answers : Option SolverLists) (held : Held) (count n more : ℕ) (r : Bool) →
+    held_of d accepted kept answers ≡ held → count ≡ event_count (seen_held held.under) → n ≡ more → r ≡ nat_le (count + n) (2 ^ 21) → r ≡ nat_le (event_count (seen_in accepted) + more) (2 ^ 21)
+room_by_count d accepted kept answers held count n more r same counted n_is r_is =
+    let all : count ≡ event_count (seen_in accepted) =
+    counted ∙ ap (λ (h : Held). event_count (seen_held h.under)) (sym same) ∙ ap event_count (seen_accepted accepted) in
+    r_is ∙ ap (λ (m : ℕ). nat_le (m + n) (2 ^ 21)) all ∙ ap (λ (m : ℕ). nat_le (event_count (seen_in accepted) + m) (2 ^ 21)) n_is
+
+-- there is room for so many more
+pub fits : (held n more : ℕ) → n ≡ more → held + more ≤ 2 ^ 21 → nat_le (held + n) (2 ^ 21) ≡ true
+fits held n more n_is few = ap (λ (m : ℕ). nat_le (held + m) (2 ^ 21)) n_is ∙ le_true_back (held + more) few
+  where
+    le_true_back : (m : ℕ) → m ≤ 2 ^ 21 → nat_le m (2 ^ 21) ≡ true
+    le_true_back m le = grind (arith, le)
+
+-- events that there is no room for are refused
+pub refused_in : (held : Held) (k room : ℕ) (events : List Seen) (size : ℕ) (stream : Stream) (IsWritten : List ℕ → Type 0) →
+    k < length held.under → room ≡ 2 ^ 21 - event_count (seen_held held.under) → room < length events → IsWritten (refusal_line TooManyEvents) → AcceptAnswered held held k events size stream IsWritten
+refused_in held k room events size stream IsWritten inside room_is many written =
+    accept_refused held k events size stream IsWritten inside (over (event_count (seen_held held.under) + length events) (omega (arith, room_is, many))) written
+  where
+    over : (m : ℕ) → 2 ^ 21 < m → nat_le m (2 ^ 21) ≡ false
+    over m lt = grind (arith, lt)
 
 -- what was found out of an addition of events to what the code holds
 pub record Extended (d : Declaration) (accepted new : List Accepted) (kept : List EventId) (answers : Option SolverLists) (held : Held) (k : ℕ) (events : List Seen) (size : ℕ) (stream : Stream) : Type 0 where
@@ -201,16 +201,16 @@ pub record Extended (d : Declaration) (accepted new : List Accepted) (kept : Lis
   pub room : nat_le (event_count (seen_in accepted) + length events) (2 ^ 21) ≡ true
   pub grew : IsGrownAt (map under_of accepted) (map under_of new) k events size stream
 
-pub extended : (d : Declaration) (accepted seen taken new : List Accepted) (kept : List EventId) (answers : Option SolverLists) (held : Held) (k n : ℕ) (events : List Seen) (size : ℕ) (stream : Stream) (r : Bool) →
+pub extended : (d : Declaration) (accepted taken new : List Accepted) (kept : List EventId) (answers : Option SolverLists) (held : Held) (k n count : ℕ) (events : List Seen) (size : ℕ) (stream : Stream) (r : Bool) →
     held_of d accepted kept answers ≡ held → k < length held.under →
-    HasPlace held.under k size → IsStreamWithin held.under k size stream → seen ≡ accepted → n ≡ length events → r ≡ nat_le (event_count (seen_in seen) + n) (2 ^ 21) → r ≡ true → taken ≡ accepted →
+    HasPlace held.under k size → IsStreamWithin held.under k size stream → n ≡ length events → count ≡ event_count (seen_held held.under) → r ≡ nat_le (count + n) (2 ^ 21) → r ≡ true → taken ≡ accepted →
     IsGrownAt (map under_of taken) (map under_of new) k events size stream → Extended d accepted new kept answers held k events size stream
-extended d accepted seen taken new kept answers held k n events size stream r same inside place within seen_is n_is r_is fit taken_is grew = record {
+extended d accepted taken new kept answers held k n count events size stream r same inside place within n_is counted r_is fit taken_is grew = record {
   same = same;
   inside = inside;
   place = place;
   within = within;
-  room = ap (λ (m : ℕ). nat_le (event_count (seen_in accepted) + m) (2 ^ 21)) (sym n_is) ∙ ap (λ (l : List Accepted). nat_le (event_count (seen_in l) + n) (2 ^ 21)) (sym seen_is) ∙ sym r_is ∙ fit;
+  room = sym (room_by_count d accepted kept answers held count n (length events) r same counted n_is r_is) ∙ fit;
   grew = subst (λ (l : List Accepted). IsGrownAt (map under_of l) (map under_of new) k events size stream) taken_is grew;
 }
 

@@ -2,10 +2,10 @@
 use Rattle.std.proofs.Common.{◌≡◌, ℕ, ◌^◌, List, refl, Bool, true, Result, Ok, Err, IfOk, subst}
 use Rattle.captures.specs.Capture as captures
 use Rattle.ports.specs.Files.{FilesTold, Keeps, HasBytes, IsFront}
-use Rattle.session.specs.declared.outcome.Outcome.{Outcome}
-use Rattle.session.specs.declared.outcome.Outcome.TheVariants.{Added, Kept, Refused}
-use Rattle.session.specs.declared.refusal.Refusal.{Refusal}
-use Rattle.session.specs.Outcomes.{IsLineOf}
+use Rattle.replies.specs.declared.outcome.Outcome.{Outcome}
+use Rattle.replies.specs.declared.outcome.Outcome.TheVariants.{Added, Kept, Refused}
+use Rattle.replies.specs.declared.refusal.Refusal.{Refusal}
+use Rattle.replies.specs.Outcomes.{IsLineOf}
 use Rattle.session.specs.Stands.{Held}
 use Rattle.session.specs.Inside.{FrontAnswered}
 use Rattle.session.specs.TakingInside.{WhereAdded, Completes, CompletesFront, KeepsFound, UnderAnswered}

@@ -17,16 +17,16 @@ use Rattle.trace_event.specs.Seen.{Seen, event_of_packet}
 use Rattle.traces.specs.declared.accepted.Stream.{Stream}
 use Rattle.traces.specs.declared.accepted.Stream.TheVariants as streams
 use Rattle.traces.specs.Traces.{Trace, Captured, Logged, IsOfKind, seen_of}
-use Rattle.session.specs.declared.refusal.Refusal.{Refusal}
-use Rattle.session.specs.declared.refusal.Refusal.TheVariants.{TooManyBytes, TooManyEvents}
-use Rattle.session.specs.Refusals.{refusal_line}
-use Rattle.session.specs.Reply.{State, Found, Unread, Bytes, Absent, Failed, Refuses, added_line, count_by, pending_of, IsAdded, AcceptReply, KindReply, PieceReply, AddReply, fits_label}
+use Rattle.replies.specs.declared.refusal.Refusal.{Refusal}
+use Rattle.replies.specs.declared.refusal.Refusal.TheVariants.{TooManyBytes, TooManyEvents}
+use Rattle.replies.specs.Refusals.{refusal_line}
+use Rattle.replies.specs.Reply.{State, Found, Unread, Bytes, Absent, Failed, Refuses, added_line, count_by, pending_of, IsAdded, AcceptReply, KindReply, PieceReply, AddReply, fits_label}
 use Rattle.session.specs.Stands.{Held, Under, StandsFor, IsStreamOf, seen_held}
 use Rattle.session.specs.Taken.{at_start, packets_from, packets_under, BringsPackets}
 use Rattle.session.specs.Taking.{IsAddedLine}
 use Rattle.session.specs.TakingInside.{Completes, CompletesFound}
-use Rattle.session.proofs.Accepting.{seen_at}
-use Rattle.session.proofs.Holding.{some_same, there_some}
+use Rattle.replies.proofs.SeenUnder.{seen_at}
+use Rattle.replies.proofs.Elements.{some_same, there_some}
 
 -- ---- replies
 first_of : List ℕ → ℕ

@@ -20,7 +20,9 @@ use Rattle.decl.specs.Declaration.{Declaration}
 use Rattle.session.specs.Stands.{Under, Held, IsUnder, IsWithin, held_of, under_of}
 use Rattle.session.specs.Inside.{HasPlace, IsGrownAt, IsStreamWithin, grown}
 use Rattle.session.specs.Pieces.{HasPlaceFor, SaysEvents}
-use Rattle.session.proofs.Holding.{IsWithinLimits, some_same}
+use Rattle.session.proofs.Holding.{IsWithinLimits}
+use Rattle.replies.proofs.Elements.{some_same}
+use Rattle.ready_answers.proofs.Entering.{seen_there}
 
 pub in_err : {V E : Type 0} (r : Result V E) (P : Type 0) → P → OnErr r P
 in_err (Ok v) P p = tt
@@ -119,9 +121,6 @@ stream_within held d host k u next piece events is at_k says v at_v =
 abbrev pub EndsGrow : Type 0
 EndsGrow = (seen : List (List Seen)) (label : ℕ) (old more : List Seen) (ends : List End) → slice_get seen label ≡ Some old → AreEndsOf ends seen →
     AreEndsOf (ends ++ ends_of (numbered label (length old + 1) more)) (slice_set seen label (old ++ more))
-
-pub seen_there : (accepted : List Accepted) (k : ℕ) (a : Accepted) → slice_get accepted k ≡ Some a → slice_get (seen_in accepted) k ≡ Some (seen_events a.events.items)
-seen_there accepted k a at_k = slice_get-map (λ (x : Accepted). seen_events x.events.items) accepted k ∙ ap (option_map (λ (x : Accepted). seen_events x.events.items)) at_k
 
 seen_set_at : (accepted : List Accepted) (k : ℕ) (new : Accepted) (events : List Seen) → seen_events new.events.items ≡ events → seen_in (slice_set accepted k new) ≡ slice_set (seen_in accepted) k events
 seen_set_at accepted k new events is = map-set (λ (x : Accepted). seen_events x.events.items) accepted k new ∙ ap (λ (s : List Seen). slice_set (seen_in accepted) k s) is

@@ -7,11 +7,11 @@ use Rattle.ports.specs.Content.{Rose}
 use Rattle.ports.specs.Files.{Content, FilesTold, Keeps, IsAbsent, HasBytes, IsFront}
 use Rattle.decl.specs.declared.items.Label.{Label}
 use Rattle.decl.specs.Declaration.{Declaration}
-use Rattle.session.specs.declared.refusal.Refusal.TheVariants.{UnknownLabel, UnreadFile}
-use Rattle.session.specs.Refusals.{refusal_line}
-use Rattle.session.specs.Commands.{Add}
-use Rattle.session.specs.Reply.{State, Found, Unread, Bytes, Absent, Failed, AddReply, label_at}
-use Rattle.session.specs.Sessions.{FoundAt}
+use Rattle.replies.specs.declared.refusal.Refusal.TheVariants.{UnknownLabel, UnreadFile}
+use Rattle.replies.specs.Refusals.{refusal_line}
+use Rattle.replies.specs.Commands.{Add}
+use Rattle.replies.specs.Reply.{State, Found, Unread, Bytes, Absent, Failed, AddReply, label_at}
+use Rattle.replies.specs.Sessions.{FoundAt}
 use Rattle.session.specs.Stands.{Held, StandsFor}
 use Rattle.session.specs.Inside.{IsPiece, FrontAnswered, CommandAnswered}
 use Rattle.session.specs.TakingInside.{UnderAnswered}

@@ -16,13 +16,13 @@ use Rattle.trace_event.specs.Seen.{Seen, seen_row, event_of_packet}
 use Rattle.traces.specs.declared.accepted.Stream.{Stream}
 use Rattle.traces.specs.declared.accepted.Stream.TheVariants as streams
 use Rattle.traces.specs.Traces.{Trace, Captured, Logged, IsOfKind}
-use Rattle.session.specs.declared.refusal.Refusal.{Refusal}
-use Rattle.session.specs.Refusals.{refusal_line}
-use Rattle.session.specs.Reply.{State, LogReply, CaptureReply, KindReply, IsLogRefusal, with_rows}
+use Rattle.replies.specs.declared.refusal.Refusal.{Refusal}
+use Rattle.replies.specs.Refusals.{refusal_line}
+use Rattle.replies.specs.Reply.{State, LogReply, CaptureReply, KindReply, IsLogRefusal, with_rows}
 use Rattle.session.specs.Stands.{Under, Held, StandsFor, IsStreamOf, kind_of}
 use Rattle.session.specs.Pieces.{IsFed, SaysEvents, IsRefusedAs}
 use Rattle.session.specs.Inside.{AcceptAnswered, Answered, KindAnswered, IsGrownTrace}
-use Rattle.session.proofs.Holding.{some_same, there_some}
+use Rattle.replies.proofs.Elements.{some_same, there_some}
 
 -- the label of a trace
 label_of : (held : Held) (d : Declaration) (s : State) (k : ℕ) (trace : Trace) → StandsFor held d s → slice_get s.traces k ≡ Some trace → (label : Label) × (slice_get d.labels k ≡ Some label)

@@ -1,9 +1,8 @@
 -- What a session holds, and the events of it.
-use Rattle.std.proofs.Common.{◌≡◌, ℕ, zero, suc, ◌+◌, ◌*◌, ◌^◌, ◌<◌, ◌≤◌, List, [], ◌∷◌, ◌++◌, length, map, replicate, slice_get, slice_set, Option, Some, Bool, true, nat_le, option_map, refl, sym, ◌∙◌, ap, subst, arith, length-set}
+use Rattle.std.proofs.Common.{◌≡◌, ℕ, ◌+◌, ◌^◌, ◌<◌, ◌≤◌, List, [], ◌∷◌, ◌++◌, length, map, slice_get, slice_set, Option, Some, Bool, true, nat_le, option_map, refl, sym, ◌∙◌, ap, subst, arith, length-set}
 use Rattle.std.specs.List.{slice_index_or}
 use Rattle.std.proofs.lemmas.List.{length-map}
 use Rattle.std.proofs.lemmas.List.Elements.{All-set}
-use Rattle.std.proofs.lemmas.List.Folds.{sum_by-replicate}
 use Rattle.std.proofs.lemmas.Option.{slice_get-map, slice_get_within, get_or_from_slice_get}
 use Rattle.std.proofs.Math.Seq.{map-set}
 use Rattle.std.specs.Prelude.{All, IfSome}
@@ -16,16 +15,9 @@ use Rattle.traces.specs.declared.accepted.Stream.{Stream}
 use Rattle.traces.specs.Traces.{event_count}
 use Rattle.traces.specs.Held.{seen_in}
 use Rattle.traces.proofs.Ids.{count_appended}
+use Rattle.replies.proofs.Elements.{le_true}
 use Rattle.session.specs.Stands.{Under, Held, IsUnder, IsHeld, IsKeptUp, held_of, under_of, seen_held}
 use Rattle.session.specs.Inside.{HasPlace, IsStreamWithin, IsGrownAt, grown}
-
-pub some_same : {A : Type 0} (x y : A) → Some x ≡ Some y → x ≡ y
-some_same x y e = cc
-
-pub there_some : {A : Type 0} (xs : List A) (k : ℕ) → k < length xs → (x : A) × (slice_get xs k ≡ Some x)
-there_some [] k inside = absurd (omega (arith, inside))
-there_some (x ∷ xs) zero inside = (x, refl)
-there_some (x ∷ xs) (suc k) inside = there_some xs k (omega (arith, inside))
 
 -- ---- limits
 -- what a session holds is within its limits, whatever stands ready
@@ -61,18 +53,8 @@ pub room_by : (accepted : List Accepted) (n : ℕ) (r b : Bool) → r ≡ nat_le
     nat_le (event_count (seen_held (map under_of accepted)) + n) (2 ^ 21) ≡ b
 room_by accepted n r b is e = ap (λ (seen : List (List Seen)). nat_le (event_count seen + n) (2 ^ 21)) (seen_accepted accepted) ∙ sym is ∙ e
 
-pub le_true : (n most : ℕ) → nat_le n most ≡ true → n ≤ most
-le_true n most e = grind (arith, e)
-
 pub room_few : (under : List Under) (n : ℕ) → nat_le (event_count (seen_held under) + n) (2 ^ 21) ≡ true → event_count (seen_held under) + n ≤ 2 ^ 21
 room_few under n e = le_true (event_count (seen_held under) + n) (2 ^ 21) e
-
--- ---- nothing is held
-none_times : (n : ℕ) → n * 0 ≡ 0
-none_times n = omega arith
-
-pub none_counted : (n : ℕ) → event_count (replicate {A = List Seen} n []) ≡ 0
-none_counted n = sum_by-replicate (λ (of_label : List Seen). length of_label) n [] ∙ none_times n
 
 -- ---- more is held under one label
 -- events that come under one label are so many more

@@ -7,12 +7,14 @@ use Rattle.traces.specs.declared.accepted.Accepted.{Accepted}
 use Rattle.traces.specs.declared.event.EventId.{EventId}
 use Rattle.traces.specs.Held.{seen_in}
 use Rattle.trace_match.specs.Ends.{End, AreEndsOf}
-use Rattle.session.specs.declared.answers.Answers.{Answers}
-use Rattle.session.specs.Stands.{AreKept, AreAnswersOf, held_of, solver_of, under_of}
+use Rattle.ready_answers.specs.declared.answers.Answers.{Answers}
+use Rattle.replies.specs.Reply.{AreKept}
+use Rattle.ready_answers.specs.Ready.{AreAnswersOf}
+use Rattle.session.specs.Stands.{held_of, solver_of, under_of}
 use Rattle.session.specs.Inside.{AreEmpty}
 use Rattle.session.proofs.Accepting.{IsWhole, held_ready}
-use Rattle.session.proofs.Beginning.{all_nothing, nothing_for}
-use Rattle.session.proofs.Slotting.{none_kept}
+use Rattle.ready_answers.proofs.Beginning.{all_nothing, nothing_for}
+use Rattle.replies.proofs.KeptEvents.{none_kept}
 use Rattle.session.proofs.Starting.{held_start, nothing_seen, each_empty}
 
 -- no label has any event

@@ -14,13 +14,14 @@ use Rattle.traces.specs.Messages.{problem_of, problem_of_seen}
 use Rattle.queries.specs.Clocks.{KeepsTime}
 use Rattle.queries.specs.Replies.{IsIntervalLine, IsOrderLine, IsProofText, Replies}
 use Rattle.merging.specs.Merged.{IsMergeText}
-use Rattle.session.specs.declared.refusal.Refusal.TheVariants.{NoCommand}
-use Rattle.session.specs.Refusals.{refusal_line}
-use Rattle.session.specs.Commands.{Command, Add, Interval, Order, Time, Merge, Prove, Keep, Problem, Report, Asks}
-use Rattle.session.specs.Reply.{State, Found, Unread, OfTwo, OfOne, IsTimeReply, IsReport, KeepReply}
-use Rattle.session.specs.Sessions.{CommandReply, LineReply, FoundAt, AreCounted}
+use Rattle.replies.specs.declared.refusal.Refusal.TheVariants.{NoCommand}
+use Rattle.replies.specs.Refusals.{refusal_line}
+use Rattle.replies.specs.Commands.{Command, Add, Interval, Order, Time, Merge, Prove, Keep, Problem, Report, Asks}
+use Rattle.replies.specs.Reply.{State, Found, Unread, OfTwo, OfOne, IsTimeReply, IsReport, KeepReply}
+use Rattle.replies.specs.Sessions.{CommandReply, LineReply, FoundAt, AreCounted}
 use Rattle.session.specs.Stands.{Held, StandsFor, Stepped, held_of, problem_held, seen_held}
-use Rattle.session.specs.Inside.{IsReplyOfTwo, Answered, Asked, CommandAnswered}
+use Rattle.ready_answers.specs.Keeping.{IsReplyOfTwo}
+use Rattle.session.specs.Inside.{Answered, Asked, CommandAnswered}
 use Rattle.session.proofs.Telling.{Told}
 use Rattle.session.proofs.Holding.{seen_accepted}
 

@@ -1,7 +1,6 @@
 -- Packets at the values of their events' nodes.
-use Rattle.std.proofs.Common.{◌≡◌, ℕ, zero, suc, ◌+◌, ◌-◌, ◌<◌, ◌≤◌, List, [], ◌∷◌, ◌++◌, length, map, take, drop, slice_get, slice_set, Some, All, ℤ, pos, ◌≤ℤ◌, refl, sym, ◌∙◌, ap, subst, arith}
+use Rattle.std.proofs.Common.{◌≡◌, ℕ, zero, suc, ◌+◌, ◌-◌, ◌<◌, ◌≤◌, List, [], ◌∷◌, ◌++◌, length, map, take, drop, slice_get, slice_set, Some, All, ℤ, pos, ◌≤ℤ◌, refl, sym, ◌∙◌, ap, subst, arith, get_or}
 use Rattle.std.specs.List.{slice_index_or, AllByRecursion}
-use Rattle.std.proofs.Common.{get_or}
 use Rattle.std.proofs.lemmas.List.{length-map}
 use Rattle.std.proofs.lemmas.List.Elements.{All-head, All-tail, All-from_recursion}
 use Rattle.std.proofs.lemmas.Option.{slice_get_within, get_or_from_slice_get}
@@ -31,11 +30,11 @@ use Rattle.solver.specs.Solution.{HasContradictionBy}
 use Rattle.roster.specs.declared.came.Came.{Came}
 use Rattle.roster.specs.Groups.{group_at, sizes_of}
 use Rattle.roster.specs.Roster.{RosterLists, IsRoster, Holds, IsUnder, id_of, event_at, no_event, listed}
-use Rattle.session.specs.Reply.{IsPlacedAt}
-use Rattle.session.specs.Stands.{HasNodeOf}
+use Rattle.replies.specs.Reply.{IsPlacedAt}
+use Rattle.ready_answers.specs.Ready.{HasNodeOf}
 use Rattle.session.specs.Settled.{HasEventOf, event_of, node_of, settled, valued, at_time}
-use Rattle.session.proofs.Holding.{some_same, there_some}
-use Rattle.session.proofs.RosterEvents.{event_place, placed_at, sizes_are}
+use Rattle.replies.proofs.Elements.{some_same, there_some}
+use Rattle.ready_answers.proofs.RosterEvents.{event_place, placed_at, sizes_are}
 use Rattle.session.proofs.Standing.{map_there}
 
 -- ---- none is held where there is an execution

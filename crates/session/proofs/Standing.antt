@@ -9,12 +9,12 @@ use Rattle.decl.specs.Declaration.{Declaration}
 use Rattle.traces.specs.declared.accepted.Stream.{Stream}
 use Rattle.traces.specs.declared.accepted.Stream.TheVariants as streams
 use Rattle.traces.specs.Traces.{Trace, Captured, Logged, size_of, IsOfKind}
-use Rattle.session.specs.declared.refusal.Refusal.TheVariants.{TooManyBytes}
-use Rattle.session.specs.Refusals.{refusal_line}
-use Rattle.session.specs.Reply.{State, Refuses, PieceReply, KindReply}
+use Rattle.replies.specs.declared.refusal.Refusal.TheVariants.{TooManyBytes}
+use Rattle.replies.specs.Refusals.{refusal_line}
+use Rattle.replies.specs.Reply.{State, Refuses, PieceReply, KindReply}
 use Rattle.session.specs.Stands.{Under, Held, StandsFor, IsStreamOf, kind_of}
 use Rattle.session.specs.Inside.{PieceAnswered, KindAnswered, HasPlace, IsPiece}
-use Rattle.session.proofs.Holding.{some_same, there_some}
+use Rattle.replies.proofs.Elements.{some_same, there_some}
 use Rattle.session.proofs.Accepting.{choose}
 
 mapped : {A B : Type 0} (f : A → B) (o : Option A) (y : B) → option_map f o ≡ Some y → (x : A) × (o ≡ Some x) × (f x ≡ y)

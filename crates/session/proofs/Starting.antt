@@ -15,17 +15,15 @@ use Rattle.traces.specs.declared.accepted.Accepted.{Accepted}
 use Rattle.traces.specs.declared.accepted.Stream.{Stream}
 use Rattle.traces.specs.declared.accepted.Stream.TheVariants as streams
 use Rattle.traces.specs.Held.{seen_in}
-use Rattle.traces.specs.Traces.{Trace, size_of, seen_of, seen_under, nothing_for, IsOfKind, event_count}
-use Rattle.session.specs.Sessions.{start}
+use Rattle.traces.specs.Traces.{Trace, size_of, nothing_for, event_count}
+use Rattle.replies.specs.Sessions.{start}
 use Rattle.session.specs.Stands.{Held, Under, IsUnder, IsStreamOf, IsWithin, StandsFor, kind_of, seen_held, under_of}
 use Rattle.session.specs.Inside.{IsEmpty, AreEmpty, IsNewStream, kinds_held}
-use Rattle.session.proofs.Holding.{IsWithinLimits, none_counted, seen_accepted, some_same}
+use Rattle.session.proofs.Holding.{IsWithinLimits, seen_accepted}
+use Rattle.replies.proofs.Elements.{none_counted, some_same}
+use Rattle.replies.proofs.SeenUnder.{events_start, kinds_start}
 
 -- ---- a label by itself
-no_events : (d : Declaration) (host : ℕ) (kind : TraceKind) → seen_of d host (nothing_for kind) ≡ []
-no_events d host Capture = refl
-no_events d host Log = refl
-
 no_size : (kind : TraceKind) → size_of (nothing_for kind) ≡ 0
 no_size Capture = refl
 no_size Log = refl
@@ -35,10 +33,6 @@ new_within streams.Log n new = tt
 new_within (streams.Capture tail) n new = let none : taken tail ≡ 0 = new_taken tail new in let within : taken tail ≤ n = omega (arith, none) in within
 
 -- ---- all labels
-pub events_start : (d : Declaration) (labels : List Label) → seen_under d labels (map (λ (l : Label). nothing_for l.kind) labels) ≡ replicate (length labels) []
-events_start d [] = refl
-events_start d (label ∷ labels) = rw (no_events d label.host label.kind, events_start d labels) refl
-
 sizes_start : (labels : List Label) → map size_of (map (λ (l : Label). nothing_for l.kind) labels) ≡ replicate (length labels) 0
 sizes_start [] = refl
 sizes_start (label ∷ labels) = rw (no_size label.kind, sizes_start labels) refl
@@ -80,19 +74,6 @@ cons_parts : {A : Type 0} (x y : A) (xs ys : List A) → x ∷ xs ≡ y ∷ ys �
 cons_parts x y xs ys is = (cc, cc)
 
 -- ---- what it stands for, by what is true of captures of which nothing came yet
-module _ (nothing_reads : Reads [] nothing) where
-  of_kind : (kind : TraceKind) → IsOfKind kind (nothing_for kind)
-  of_kind Capture = nothing_reads
-  of_kind Log = tt
-
-  pub kinds_start : (labels : List Label) (k : ℕ) (label : Label) (trace : Trace) → slice_get labels k ≡ Some label → slice_get (map (λ (l : Label). nothing_for l.kind) labels) k ≡ Some trace →
-      IsOfKind label.kind trace
-  kinds_start [] k label trace at at' = absurd cc
-  kinds_start (l ∷ labels) zero label trace at at' =
-      subst (λ (t : Trace). IsOfKind label.kind t) (some_same (nothing_for l.kind) trace at')
-      (subst (λ (x : Label). IsOfKind x.kind (nothing_for l.kind)) (some_same l label at) (of_kind l.kind))
-  kinds_start (l ∷ labels) (suc k) label trace at at' = kinds_start labels k label trace at at'
-
 module _ (nothing_reads : Reads [] nothing) (new_stands : (t : Tail) → IsNew t → feeding.StandsFor t [] nothing) where
   new_stream : (kind : TraceKind) (stream : Stream) → IsNewStream stream → kind_of stream ≡ kind → IsStreamOf stream (nothing_for kind)
   new_stream Capture streams.Log new is = absurd cc

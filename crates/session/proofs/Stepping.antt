@@ -1,12 +1,12 @@
 -- What a line asks for, once its command is known.
 use Rattle.std.proofs.Common.{◌≡◌, ℕ, List, Some, None, subst}
-use Rattle.session.specs.Commands.{Command, Add, Keep, Asks, TakesMemory, AsksForMemory}
-use Rattle.session.specs.declared.command.Question.{Question}
-use Rattle.session.specs.declared.command.Question.TheVariants as questions
-use Rattle.session.specs.CommandSeen.{question_seen}
+use Rattle.replies.specs.Commands.{Command, Add, Keep, Asks, TakesMemory, AsksForMemory}
+use Rattle.replies.specs.declared.command.Question.{Question}
+use Rattle.replies.specs.declared.command.Question.TheVariants as questions
+use Rattle.replies.specs.CommandSeen.{question_seen}
 use Rattle.session.specs.Stands.{Held, IsAnsweredFromRows, AsksOfRows, AddsByLine}
-use Rattle.session.proofs.Holding.{some_same}
-use Rattle.session.proofs.OneCommand.{command_one}
+use Rattle.replies.proofs.Elements.{some_same}
+use Rattle.replies.proofs.OneCommand.{command_one}
 
 one_asked : (line : List ℕ) (a b : Command) → Asks line (Some a) → Asks line (Some b) → a ≡ b
 one_asked line a b x y = some_same a b (command_one line (Some a) (Some b) x y)

@@ -4,21 +4,21 @@ use Rattle.ports.specs.Files.{FilesTold}
 use Rattle.captures.specs.Capture as captures
 use Rattle.captures.specs.Capture.{Reads}
 use Rattle.mergecap.specs.MergedCapture.{Timed}
-use Rattle.session.specs.declared.outcome.Outcome.{Outcome}
-use Rattle.session.specs.declared.outcome.Outcome.TheVariants.{Added, Kept, Refused}
-use Rattle.session.specs.declared.refusal.Refusal.{Refusal}
-use Rattle.session.specs.declared.refusal.Refusal.TheVariants.{NoCommand, UnknownLabel}
+use Rattle.replies.specs.declared.outcome.Outcome.{Outcome}
+use Rattle.replies.specs.declared.outcome.Outcome.TheVariants.{Added, Kept, Refused}
+use Rattle.replies.specs.declared.refusal.Refusal.{Refusal}
+use Rattle.replies.specs.declared.refusal.Refusal.TheVariants.{NoCommand, UnknownLabel}
 use Rattle.session.specs.declared.taking.AddAnswer.{AddAnswer}
 use Rattle.session.specs.declared.taking.AddAnswer.TheVariants as answers
-use Rattle.session.specs.Refusals.{refusal_line}
-use Rattle.session.specs.Outcomes.{IsLineOf}
-use Rattle.session.specs.declared.command.Question.{Question}
-use Rattle.session.specs.declared.command.Question.TheVariants as questions
-use Rattle.session.specs.CommandSeen.{question_seen}
+use Rattle.replies.specs.Refusals.{refusal_line}
+use Rattle.replies.specs.Outcomes.{IsLineOf}
+use Rattle.replies.specs.declared.command.Question.{Question}
+use Rattle.replies.specs.declared.command.Question.TheVariants as questions
+use Rattle.replies.specs.CommandSeen.{question_seen}
 use Rattle.traces.specs.Traces.{Traces}
-use Rattle.session.specs.Commands.{Command, Add, Asks}
-use Rattle.session.specs.Reply.{Found, Unread, label_at}
-use Rattle.session.specs.Sessions.{CommandReply, AreCounted}
+use Rattle.replies.specs.Commands.{Command, Add, Asks}
+use Rattle.replies.specs.Reply.{Found, Unread, label_at}
+use Rattle.replies.specs.Sessions.{CommandReply, AreCounted}
 use Rattle.session.specs.Stands.{Held, Under}
 use Rattle.session.specs.Taken.{packets_from}
 use Rattle.session.specs.Taking.{only_adding, IsAddedLine, IsAnswerOf, Takes}

@@ -20,8 +20,7 @@ use Rattle.engine.specs.Solver.{SolverLists}
 use Rattle.kept_graph.specs.Kept.{IsKeptFor}
 use Rattle.kept_graph.proofs.Held.{id_under, number_is, one_id}
 use Rattle.kept_graph.proofs.Staying.{send_known}
-use Rattle.session.proofs.Accepting.{set_or_same}
-use Rattle.session.proofs.Holding.{some_same}
+use Rattle.replies.proofs.Elements.{set_or_same, some_same}
 use Rattle.session.proofs.Standing.{map_there}
 
 -- ---- flags

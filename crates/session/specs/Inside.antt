@@ -1,5 +1,5 @@
 -- What the parts of a session promise each other.
-use Rattle.std.specs.Prelude.{◌≡◌, ◌⊎◌, ℕ, ◌+◌, ◌^◌, ◌<◌, ◌≤◌, List, [], ◌∷◌, ◌++◌, length, map, slice_get, slice_set, Option, Some, Bool, true, false, All, ⊤}
+use Rattle.std.specs.Prelude.{◌≡◌, ℕ, ◌+◌, ◌^◌, ◌<◌, ◌≤◌, List, [], ◌∷◌, ◌++◌, length, map, slice_get, slice_set, Option, Some, Bool, true, false, All, ⊤}
 use Rattle.ports.specs.Files.{FilesTold}
 use Rattle.captures.specs.Feeding.{IsNew}
 use Rattle.decl.specs.declared.items.Label.{Label}
@@ -11,14 +11,10 @@ use Rattle.traces.specs.declared.accepted.Stream.TheVariants as streams
 use Rattle.traces.specs.Traces.{Trace, IsOfKind, seen_of, size_of}
 use Rattle.trace_match.specs.declared.changes.Changed.{Changed}
 use Rattle.queries.specs.Consistent.{IsConsistent}
-use Rattle.session.specs.declared.refusal.Refusal.TheVariants.{UnknownEvent}
-use Rattle.session.specs.Refusals.{refusal_line}
-use Rattle.session.specs.Commands.{Command}
+use Rattle.replies.specs.Commands.{Command}
 use Rattle.problem_model.specs.Problem.{ProblemLists}
-use Rattle.problem.specs.Line.{HasEvent, IsUnknown}
-use Rattle.queries.specs.Replies.{Replies}
-use Rattle.session.specs.Reply.{State, Found, Unread, Reply, AcceptReply, PieceReply, pending_of, added_line}
-use Rattle.session.specs.Sessions.{CommandReply, AreCounted}
+use Rattle.replies.specs.Reply.{State, Found, Unread, Reply, AcceptReply, PieceReply, pending_of, added_line}
+use Rattle.replies.specs.Sessions.{CommandReply, AreCounted}
 use Rattle.session.specs.Stands.{Held, Under, StandsFor, IsStreamOf, IsWithin, kind_of, waiting}
 
 -- ---- what is written
@@ -26,12 +22,6 @@ use Rattle.session.specs.Stands.{Held, Under, StandsFor, IsStreamOf, IsWithin, k
 -- bytes wait
 abbrev pub IsAddedTo : ProblemLists → Changed → ℕ → ℕ → List ℕ → Type 0
 IsAddedTo p changed more pending text = (b : Bool) × IsConsistent p b × (text ≡ added_line more changed.messages changed.withdrawn pending b)
-
--- what is asked of two events by their names, or the refusal where one is unknown
-abbrev pub IsReplyOfTwo : ProblemLists → List ℕ → List ℕ → (ℕ → ℕ → List ℕ → Type 0) → List ℕ → Type 0
-IsReplyOfTwo p first second Says text =
-    ((i : ℕ) × (j : ℕ) × HasEvent p i first × HasEvent p j second × Replies p (Says i j) text)
-    ⊎ ((IsUnknown p first ⊎ IsUnknown p second) × (text ≡ refusal_line UnknownEvent))
 
 -- ---- what is held
 -- this is kept of nothing

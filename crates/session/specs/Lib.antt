@@ -1,16 +1,6 @@
-pub mod Commands
-pub mod CommandSeen
-pub mod Refusals
-pub mod Reply
-pub mod Outcomes
-pub mod Sessions
 pub mod Stands
-pub mod Keeping
 pub mod Pieces
 pub mod Inside
-pub mod OneReply
-pub mod Lawful
-pub mod OneProof
 pub mod Taken
 pub mod Taking
 pub mod Settled

@@ -1,5 +1,5 @@
 -- What a piece says, by what is kept of those before it.
-use Rattle.std.specs.Prelude.{◌≡◌, ℕ, ◌+◌, ◌^◌, ◌≤◌, List, [], ◌++◌, length, map, ⊤}
+use Rattle.std.specs.Prelude.{◌≡◌, ℕ, ◌+◌, ◌^◌, ◌<◌, ◌≤◌, List, [], ◌++◌, length, map, ⊤}
 use Rattle.event_log.specs.declared.row.Row.{Row}
 use Rattle.event_log.specs.Log.{records_of, AreRows}
 use Rattle.captures.specs.Capture as captures
@@ -9,10 +9,10 @@ use Rattle.decl.specs.Declaration.{Declaration}
 use Rattle.trace_event.specs.Seen.{Seen, seen_row, seen_events, event_of_packet}
 use Rattle.traces.specs.declared.accepted.Stream.{Stream}
 use Rattle.traces.specs.declared.accepted.Stream.TheVariants as streams
-use Rattle.session.specs.declared.refusal.Refusal.{Refusal}
+use Rattle.replies.specs.declared.refusal.Refusal.{Refusal}
 use Rattle.session.specs.declared.reading.Piece.{Piece}
 use Rattle.session.specs.declared.reading.Piece.TheVariants as pieces
-use Rattle.session.specs.Reply.{IsLogRefusal, IsCaptureRefusal}
+use Rattle.replies.specs.Reply.{IsLogRefusal, IsCaptureRefusal}
 
 -- so many bytes more may be read
 abbrev pub HasPlaceFor : Stream → ℕ → Type 0
@@ -49,7 +49,14 @@ abbrev pub IsRefusedAs : Stream → List ℕ → Refusal → Type 0
 IsRefusedAs streams.Log piece r = IsLogRefusal piece r
 IsRefusedAs (streams.Capture tail) piece r = (s : List ℕ) (c : captures.Capture) → feeding.StandsFor tail s c → IsCaptureRefusal (s ++ piece) r
 
--- what the code reads of a piece
-abbrev pub IsRead : Declaration → ℕ → Stream → List ℕ → Piece → Type 0
-IsRead d host kept piece (pieces.Read events next) = SaysEvents d host kept piece (seen_events events.items) next
-IsRead d host kept piece (pieces.Refused r) = IsRefusedAs kept piece r
+-- what the code reads of a piece where there is room for so many events more
+abbrev pub IsRead : Declaration → ℕ → ℕ → Stream → List ℕ → Piece → Type 0
+IsRead d host room kept piece (pieces.Read events next) = SaysEvents d host kept piece (seen_events events.items) next
+IsRead d host room kept piece pieces.TooManyEvents = (events : List Seen) × (next : Stream) × SaysEvents d host kept piece events next × (room < length events)
+IsRead d host room kept piece (pieces.Refused r) = IsRefusedAs kept piece r
+
+-- there is room for the events that were read
+abbrev pub HasRoomFor : ℕ → Piece → Type 0
+HasRoomFor room (pieces.Read events next) = length events.items ≤ room
+HasRoomFor room pieces.TooManyEvents = ⊤
+HasRoomFor room (pieces.Refused r) = ⊤

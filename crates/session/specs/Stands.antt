@@ -16,24 +16,16 @@ use Rattle.traces.specs.declared.accepted.Stream.TheVariants as streams
 use Rattle.traces.specs.Traces.{Trace, Captured, Logged, size_of, seen_by, name_of, IsOfKind, event_count}
 use Rattle.traces.specs.Messages.{problem_of_seen}
 use Rattle.problem_model.specs.Problem.{ProblemLists}
-use Rattle.problem.specs.Listing.{Listed}
-use Rattle.row_pool.specs.Pool.{free_rows}
-use Rattle.repair.specs.declared.slot.Slot.{Slot}
-use Rattle.repair.specs.Slots.{all_slots}
 use Rattle.engine.specs.Solver.{SolverLists}
-use Rattle.roster.specs.declared.came.Came.{Came}
-use Rattle.roster.specs.Roster.{RosterLists, IsRoster, id_of, listed}
+use Rattle.roster.specs.Roster.{RosterLists, IsRoster, listed}
 use Rattle.solver.specs.Solution.{IsSolutionBy}
-use Rattle.kept_graph.specs.Kept.{IsKeptFor}
-use Rattle.kept_graph.specs.Steps.{IsBetween, TakesFewToAdd}
 use Rattle.queries.specs.declared.stop.Stop.{Stop}
 use Rattle.queries.specs.declared.stop.Stop.TheVariants as stops
-use Rattle.queries.specs.Asking.{IsSourceReading}
-use Rattle.queries.specs.Replies.{HasReading}
-use Rattle.session.specs.declared.answers.Answers.{Answers}
-use Rattle.session.specs.Commands.{Command, Add, Interval, Order, Time, Merge, Prove, Keep, Problem, Report, Asks}
-use Rattle.session.specs.Reply.{State, Found, IsPlacedAt, most_kept}
-use Rattle.session.specs.Sessions.{LineReply, AreCounted}
+use Rattle.ready_answers.specs.declared.answers.Answers.{Answers}
+use Rattle.ready_answers.specs.Ready.{AreSlotsOf, KeepsSource, IsAddition}
+use Rattle.replies.specs.Commands.{Command, Add, Interval, Order, Time, Merge, Prove, Keep, Problem, Report, Asks}
+use Rattle.replies.specs.Reply.{State, Found}
+use Rattle.replies.specs.Sessions.{LineReply, AreCounted}
 
 -- ---- what is kept of the bytes under a label
 -- the kind of the label
@@ -94,32 +86,6 @@ abbrev pub held_of : Declaration → List Accepted → List EventId → Option S
 held_of d accepted kept answers = record { declaration = d; under = map under_of accepted; kept = kept; answers = answers }
 
 -- ---- what stands ready
--- kept events are at most eight, each is one of these events, and no two are the same
-pub record AreKept (seen : List (List Seen)) (kept : List EventId) : Type 0 where
-  pub few : length kept ≤ most_kept
-  pub there : (k : ℕ) (event : EventId) → slice_get kept k ≡ Some event → (place : ℕ) × IsPlacedAt seen place event
-  pub differ : (j k : ℕ) (event : EventId) → slice_get kept j ≡ Some event → slice_get kept k ≡ Some event → j ≡ k
-
--- a roster has this node of the event
-pub record HasNodeOf (r : RosterLists) (event : EventId) (node : ℕ) : Type 0 where
-  pub number : ℕ
-  pub came : Came
-  pub there : slice_get r.came number ≡ Some came
-  pub id_is : id_of came ≡ event
-  pub node_is : came.node ≡ node
-
--- the nodes of the slots are those of the kept events, in their order
-pub record AreSlotsOf (r : RosterLists) (kept : List EventId) (slots : List Slot) : Type 0 where
-  pub each : length slots ≡ length kept
-  pub nodes : (k : ℕ) (event : EventId) (slot : Slot) → slice_get kept k ≡ Some event → slice_get slots k ≡ Some slot → HasNodeOf r event slot.node
-
--- the source's slot is that of a reading of its clock with this stamp; there is none where no source is declared, or where
--- its clock has no reading
-abbrev pub KeepsSource : Listed → ProblemLists → Option ℕ → Option ℕ → SolverLists → Type 0
-KeepsSource l p None stamp s = (stamp ≡ None) × (s.kept.source ≡ None)
-KeepsSource l p (Some clock) None s = (HasReading p clock → ⊥) × (s.kept.source ≡ None)
-KeepsSource l p (Some clock) (Some stamp) s = IsSourceReading l s clock stamp
-
 -- there are at most eight arcs for each of so many events, withdrawn ones included
 abbrev pub HasFewArcs : ℕ → SolverLists → Type 0
 HasFewArcs events s = length s.graph.arcs ≤ 8 * events
@@ -143,23 +109,6 @@ pub record IsHeld (h : Held) : Type 0 where
   pub fit : All IsUnder h.under
   pub few : event_count (seen_held h.under) ≤ 2 ^ 21
   pub kept_up : IfSome h.answers (IsKeptUp h)
-
--- there are at least two rows for each kept event, two for the source and two for a question, and none is taken but those of the slots
-abbrev pub HasSpareRows : SolverLists → Type 0
-HasSpareRows s = (2 * length s.kept.slots + 4 ≤ length s.pool.rows) × (length s.pool.rows ≤ free_rows s.pool + 2 * length (all_slots s.kept))
-
--- the problem of events by the declaration of the answers
-abbrev pub problem_by : Answers → List (List Seen) → ProblemLists
-problem_by a seen = problem_of_seen a.graph.roster.declaration seen
-
--- the answers are those of these events: the graph is kept for them, with the rows of the kept events and of the source, and
--- the stamp of the source's reading
-pub record AreAnswersOf (seen : List (List Seen)) (kept : List EventId) (a : Answers) : Type 0 where
-  pub lawful : IsRoster a.graph.roster
-  pub graph : IsKeptFor seen a.graph.roster a.graph.solver
-  pub slots : AreSlotsOf a.graph.roster kept a.graph.solver.kept.slots
-  pub source_slot : KeepsSource (listed a.graph.roster) (problem_by a seen) a.graph.roster.declaration.source a.source a.graph.solver
-  pub rows : HasSpareRows a.graph.solver
 
 -- the engine of the answers, where they stand ready
 abbrev pub solver_of : Bool → Answers → Option SolverLists
@@ -192,15 +141,6 @@ abbrev pub AsksOfRows : Held → List ℕ → Type 0
 AsksOfRows h line = (c : Command) × Asks line (Some c) × IsAnsweredFromRows h c
 
 -- ---- additions
--- what an addition of so many events makes of what stood ready: slots stay, and where an execution existed, there is the graph between
--- them; it takes no more steps than the changes ask for, and none where no event came and an execution exists
-pub record IsAddition (events : ℕ) (before after : SolverLists) (first last : ℕ) : Type 0 where
-  pub slots : after.kept.slots ≡ before.kept.slots
-  pub source : (slot : Slot) → before.kept.source ≡ Some slot → after.kept.source ≡ Some slot
-  pub between : before.earliest.is_solved ≡ true → (between : SolverLists) × IsBetween before after between
-  pub steps : TakesFewToAdd events before after first last
-  pub nothing : events ≡ 0 → before.earliest.is_solved ≡ true → last ≤ first
-
 -- so it is of as many events as are held more afterwards, where answers stand ready before and after
 abbrev pub AddsSo : Held → Held → ℕ → ℕ → Type 0
 AddsSo old new first last = (events : ℕ) → event_count (seen_held new.under) ≡ event_count (seen_held old.under) + events

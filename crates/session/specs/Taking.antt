@@ -4,13 +4,13 @@ use Rattle.ports.specs.Files.{Content, FilesTold}
 use Rattle.decl.specs.Declaration.{Declaration}
 use Rattle.mergecap.specs.MergedCapture.{Timed}
 use Rattle.traces.specs.Traces.{Traces}
-use Rattle.session.specs.declared.refusal.Refusal.{Refusal}
+use Rattle.replies.specs.declared.refusal.Refusal.{Refusal}
 use Rattle.session.specs.declared.taking.AddAnswer.{AddAnswer}
 use Rattle.session.specs.declared.taking.AddAnswer.TheVariants.{Accepted, Refused}
-use Rattle.session.specs.Refusals.{refusal_line}
-use Rattle.session.specs.Commands.{Command, Add, Interval, Order, Time, Merge, Prove, Keep, Problem, Report, Asks}
-use Rattle.session.specs.Reply.{State, Found, added_line}
-use Rattle.session.specs.Sessions.{CommandReply, AreCounted}
+use Rattle.replies.specs.Refusals.{refusal_line}
+use Rattle.replies.specs.Commands.{Command, Add, Interval, Order, Time, Merge, Prove, Keep, Problem, Report, Asks}
+use Rattle.replies.specs.Reply.{State, Found, added_line}
+use Rattle.replies.specs.Sessions.{CommandReply, AreCounted}
 use Rattle.session.specs.Stands.{Held, StandsFor}
 use Rattle.session.specs.Taken.{BringsPackets}
 

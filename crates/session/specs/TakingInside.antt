@@ -8,14 +8,14 @@ use Rattle.mergecap.specs.MergedCapture.{Timed}
 use Rattle.traces.specs.declared.accepted.Stream.{Stream}
 use Rattle.traces.specs.declared.accepted.Stream.TheVariants as streams
 use Rattle.traces.specs.Traces.{event_count}
-use Rattle.session.specs.declared.outcome.Outcome.{Outcome}
-use Rattle.session.specs.declared.outcome.Outcome.TheVariants.{Added, Kept, Refused}
+use Rattle.replies.specs.declared.outcome.Outcome.{Outcome}
+use Rattle.replies.specs.declared.outcome.Outcome.TheVariants.{Added, Kept, Refused}
 use Rattle.session.specs.declared.reading.Piece.{Piece}
 use Rattle.session.specs.declared.reading.Piece.TheVariants as pieces
 use Rattle.session.specs.declared.taking.AddAnswer.{AddAnswer}
-use Rattle.session.specs.Commands.{Add}
-use Rattle.session.specs.Reply.{State, Found, Unread, Bytes, Absent, Failed, AddReply}
-use Rattle.session.specs.Sessions.{CommandReply, FoundAt, AreCounted}
+use Rattle.replies.specs.Commands.{Add}
+use Rattle.replies.specs.Reply.{State, Found, Unread, Bytes, Absent, Failed, AddReply}
+use Rattle.replies.specs.Sessions.{CommandReply, FoundAt, AreCounted}
 use Rattle.session.specs.Stands.{Held, Under, StandsFor, seen_held}
 use Rattle.session.specs.Pieces.{IsFed}
 use Rattle.session.specs.Inside.{Answered}
@@ -30,6 +30,7 @@ Completes (streams.Capture tail) piece packets = (fed : Tail) × IsFed tail piec
 -- what was read of a piece has these packets, at most one for each event
 abbrev pub HasPackets : Stream → List ℕ → List captures.Seen → Piece → Type 0
 HasPackets kept piece packets (pieces.Read events next) = Completes kept piece packets × (length packets ≤ length events.items)
+HasPackets kept piece packets pieces.TooManyEvents = ⊤
 HasPackets kept piece packets (pieces.Refused r) = ⊤
 
 -- ---- what came of an addition

@@ -1,5 +1,5 @@
 // What was accepted under the labels.
-ghost use Rattle.std.specs.Prelude.{◌≡◌, ◌<◌, ◌≤◌, ◌+◌, ◌^◌, ◌++◌, ◌&&◌, List, length, map, nat_le, OnOk, OnErr, IfOk};
+ghost use Rattle.std.specs.Prelude.{◌≡◌, ◌<◌, ◌≤◌, ◌+◌, ◌-◌, ◌^◌, ◌++◌, ◌&&◌, List, length, map, nat_le, OnOk, OnErr, IfOk};
 ghost use Rattle.trace_event.specs.Seen.{Seen, seen_events};
 ghost use Rattle.traces.specs.Traces.{event_count, numbered};
 ghost use Rattle.traces.specs.Held.{seen_in};
@@ -13,7 +13,7 @@ use decl::{Label, TraceKind};
 use std::alloc::{AllocError, Global};
 use trace_event::Event;
 use trace_match::{Changes, TraceMatcher, ends_grow};
-use traces::{Accepted, Stream, event_count};
+use traces::{Accepted, Stream};
 
 // What is kept under a label of this kind of which nothing came yet.
 fn new_stream(alloc: Global, kind: TraceKind) -> Stream
@@ -58,16 +58,12 @@ pub(crate) fn has_place(old: u64, size: u64) -> bool
     size <= MOST_PIECE && old <= MOST_OF_LABEL && old + size <= MOST_OF_LABEL
 }
 
-/// Whether there may be so many events more.
-pub(crate) fn has_room(accepted: &[Accepted], more: usize) -> bool
-    requires { event_count (seen_in accepted.now) ≤ 2 ^ 21 }
-    ensures { result ≡ nat_le (event_count (seen_in accepted.now) + more) (2 ^ 21) }
+/// How many events more there may be where there are so many.
+pub(crate) fn room_left(count: u32) -> u64
+    requires { count ≤ 2 ^ 21 }
+    ensures { result ≡ 2 ^ 21 - count }
 {
-    let more = more as u64;
-    if more > MOST_EVENTS {
-        return false;
-    }
-    event_count(accepted) + more <= MOST_EVENTS
+    MOST_EVENTS - u64::from(count)
 }
 
 // Appends events to those of a label, and to the ends of messages. It answers how the messages change; for want of memory all

@@ -1,26 +1,26 @@
 // Additions to the labels of a session.
-ghost use Rattle.std.specs.Prelude.{◌≡◌, ◌<◌, [], length, Some, true, IfOk, OnOk};
+ghost use Rattle.std.specs.Prelude.{◌≡◌, ◌<◌, ◌≤◌, ◌+◌, ◌^◌, [], length, Some, true, IfOk, OnOk};
 ghost use Rattle.ports.specs.Files.{Keeps};
 ghost use Rattle.captures.specs.Feeding.{seen_packets};
 ghost use Rattle.trace_event.specs.Seen.{seen_events};
-ghost use Rattle.session.specs.Commands as asked;
-ghost use Rattle.session.specs.Outcomes.{IsLineOf};
-ghost use Rattle.session.specs.Stands.{AddsSo, IsReady};
+ghost use Rattle.traces.specs.Traces.{event_count};
+ghost use Rattle.replies.specs.Commands as asked;
+ghost use Rattle.replies.specs.Outcomes.{IsLineOf};
+ghost use Rattle.session.specs.Stands.{AddsSo, IsReady, seen_held};
 ghost use Rattle.session.specs.Inside.{HasPlace, IsStreamWithin, FrontAnswered, AcceptAnswered, CommandAnswered};
 ghost use Rattle.session.specs.TakingInside.{CompletesFront, HadRoom, KeepsFound, UnderAnswered};
 
 use crate::Session;
-use crate::accepted::{extend, has_place, has_room, waiting};
+use crate::accepted::{extend, has_place, room_left, waiting};
 use crate::addition::outcome_of;
-use crate::answers::{decl_of, renew};
-use crate::labels::{host_of, label_at};
+use crate::labels::host_of;
 use crate::limits::MOST_PIECE;
-use crate::outcome::Outcome;
 use crate::reading::{Piece, read_piece};
-use crate::refusal::Refusal;
 use atto::Steps;
 use captures::Packet;
 use ports::{FileFault, Files, read_file};
+use ready_answers::{decl_of, renew};
+use replies::{Outcome, Refusal};
 use std::alloc::AllocError;
 use std::sync::ledger::Ledger;
 use trace_event::Event;
@@ -50,7 +50,7 @@ impl Session {
         ensures ready { OnOk result (IsReady self.new) }
         ensures addition { AddsSo self.old self.new steps.old steps.new }
     {
-        match label_at(&decl_of(&self.answers).labels, label) {
+        match decl_of(&self.answers).label_at(label) {
             Some(k) => {
                 let mut packets = Vec::new(self.alloc);
                 self.add_under(k, path, files, false, &mut packets, steps)
@@ -107,6 +107,8 @@ impl Session {
         ensures ready { OnOk result (IsReady self.new) }
         ensures addition { AddsSo self.old self.new steps.old steps.new }
     {
+        let count = self.answers.graph.roster.len();
+        let room = room_left(count);
         let under = &self.accepted[k];
         if more {
             return Ok(Outcome::Refused(Refusal::TooManyBytes));
@@ -116,7 +118,7 @@ impl Session {
         }
         let decl = decl_of(&self.answers);
         let host = host_of(&decl.labels, k);
-        let read = read_piece(self.alloc, decl, host, &under.stream, front, packets)?;
+        let read = read_piece(self.alloc, decl, host, &under.stream, front, room, packets)?;
         keep_only(keeps, packets);
         match read {
             Piece::Read { events, stream } => self.accept(
@@ -126,11 +128,12 @@ impl Session {
                 stream,
                 steps,
             ),
+            Piece::TooManyEvents => Ok(Outcome::Refused(Refusal::TooManyEvents)),
             Piece::Refused(refusal) => Ok(Outcome::Refused(refusal)),
         }
     }
 
-    // Accepts events that came in a piece of so many bytes, unless there would be too many.
+    // Accepts events that came in a piece of so many bytes, and for which there is room.
     fn accept<L: Ledger>(
         &mut self,
         k: usize,
@@ -142,6 +145,7 @@ impl Session {
         requires inside { k < length self.old.under }
         requires place { HasPlace self.old.under k size }
         requires within { IsStreamWithin self.old.under k size stream }
+        requires room { event_count (seen_held self.old.under) + length events.items ≤ 2 ^ 21 }
         requires ready { IsReady self.old }
         ensures answers { IfOk result (λ outcome. AcceptAnswered self.old self.new k (seen_events events.items) size stream (IsLineOf outcome)) }
         ensures room { IfOk result (HadRoom self.old (length events.items)) }
@@ -149,9 +153,6 @@ impl Session {
         ensures addition { AddsSo self.old self.new steps.old steps.new }
     {
         let more = events.len();
-        if !has_room(&self.accepted, more) {
-            return Ok(Outcome::Refused(Refusal::TooManyEvents));
-        }
         let pending = waiting(&stream);
         // What stood ready is of fewer events.
         self.ready = false;

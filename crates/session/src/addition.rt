@@ -3,10 +3,10 @@ ghost use Rattle.std.specs.Prelude.{⊤};
 ghost use Rattle.problem_model.specs.Problem.{ProblemLists};
 ghost use Rattle.queries.specs.Consistent.{IsConsistent};
 ghost use Rattle.session.specs.Inside.{IsAddedTo};
-ghost use Rattle.session.specs.Outcomes.{outcome_line};
+ghost use Rattle.replies.specs.Outcomes.{outcome_line};
 ghost use Rattle.session.specs.TakingInside.{WhereAdded};
 
-use crate::outcome::{Added, Outcome};
+use replies::{Added, Outcome};
 use trace_match::Changed;
 
 /// What is told of an addition of so many events, behind which so many bytes wait, by whether some execution obeys all

@@ -15,31 +15,21 @@ mod accepted;
 mod adding;
 mod addition;
 mod answering;
-mod answers;
-mod command;
 mod counts;
-mod events;
 mod keeping;
 mod labels;
-mod laws;
 mod limits;
 mod lines;
-mod outcome;
-mod questions;
 mod reading;
-mod refusal;
-mod refused;
 mod reporting;
 mod session;
 mod settling;
-mod slots;
 mod taking;
 
-pub use laws::{
-    commands_are_one, outputs_are_one, proofs_are_one, reads_are_one, replies_are_one,
-    sessions_are_lawful,
-};
 pub use queries::Stop;
-pub use refused::{RefusedText, too_long_text};
+pub use replies::{
+    RefusedText, commands_are_one, outputs_are_one, proofs_are_one, reads_are_one, replies_are_one,
+    sessions_are_lawful, too_long_text,
+};
 pub use session::Session;
 pub use taking::AddAnswer;

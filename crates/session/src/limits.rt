@@ -8,6 +8,3 @@ pub(crate) const MOST_OF_LABEL: u64 = 1 << 30;
 
 /// How many events all labels have at most: as many as a problem has.
 pub(crate) const MOST_EVENTS: u64 = 1 << 21;
-
-/// How many events are kept at most: as many as an engine has slots for.
-pub(crate) const MOST_KEPT: usize = 8;

@@ -3,13 +3,13 @@ ghost use Rattle.std.specs.Prelude.{◌≡◌, ◌≤◌, ◌+◌, ◌^◌, ℕ,
 ghost use Rattle.captures.specs.Feeding.{taken, seen_packets};
 ghost use Rattle.decl.specs.Declaration.{Declaration, declaration_of};
 ghost use Rattle.traces.specs.declared.accepted.Stream.TheVariants as streams;
-ghost use Rattle.session.specs.Pieces.{IsRead, HasPlaceFor};
+ghost use Rattle.session.specs.Pieces.{IsRead, HasPlaceFor, HasRoomFor};
 ghost use Rattle.session.specs.TakingInside.{HasPackets};
 
-use crate::refusal::{Refusal, capture_refusal, log_refusal};
-use captures::{CaptureStream, Packet};
+use captures::{CaptureStream, FirstPackets, Packet};
 use decl::Decl;
-use event_log::read_rows;
+use event_log::read_first_rows;
+use replies::{Refusal, capture_refusal, log_refusal};
 use std::alloc::{AllocError, Global};
 use trace_event::{Event, packet_events, row_events};
 use traces::Stream;
@@ -24,41 +24,50 @@ pub enum Piece {
         /// What is then kept.
         stream: Stream,
     },
+    /// More events than there is room for.
+    TooManyEvents,
     /// It is refused.
     Refused(Refusal),
 }
 
-/// Reads a piece for a label of this host, under which this is kept. The packets that a capture's piece completes are appended
-/// to `packets`, which has none yet.
+/// Reads a piece for a label of this host, under which this is kept, where there is room for so many events more. It is read to
+/// its end, and no more rows or packets are held than there is room for. `packets`, which has none yet, gets those that a
+/// capture's piece completes.
 pub(crate) fn read_piece(
     alloc: Global,
     decl: &Decl,
     host: u32,
     stream: &Stream,
     piece: &[u8],
+    room: u64,
     packets: &mut Vec<Packet>,
 ) -> Result<Piece, AllocError>
     requires payload { decl.now.payload_bytes ≤ 64 }
     requires short { length piece.now ≤ 2 ^ 28 }
     requires place { HasPlaceFor stream.now (length piece.now) }
     requires none { packets.old.items ≡ [] }
-    ensures read { IfOk result (λ read. IsRead (declaration_of decl.now) host stream.now piece.now read) }
+    ensures read { IfOk result (λ read. IsRead (declaration_of decl.now) host room stream.now piece.now read) }
+    ensures room { IfOk result (λ read. HasRoomFor room read) }
     ensures packets { IfOk result (λ read. HasPackets stream.now piece.now (seen_packets packets.new.items) read) }
 {
     match stream {
-        Stream::Log => read_log(alloc, piece),
-        Stream::Capture(stream) => read_capture(alloc, decl, host, stream, piece, packets),
+        Stream::Log => read_log(alloc, piece, room),
+        Stream::Capture(stream) => read_capture(alloc, decl, host, stream, piece, room, packets),
     }
 }
 
 // Reads a piece of a log.
-fn read_log(alloc: Global, piece: &[u8]) -> Result<Piece, AllocError>
+fn read_log(alloc: Global, piece: &[u8], room: u64) -> Result<Piece, AllocError>
     requires { length piece.now ≤ 2 ^ 28 }
-    ensures { IfOk result (λ read. (d : Declaration) (host : ℕ) → IsRead d host streams.Log piece.now read) }
+    ensures read { IfOk result (λ read. (d : Declaration) (host : ℕ) → IsRead d host room streams.Log piece.now read) }
+    ensures room { IfOk result (λ read. HasRoomFor room read) }
 {
-    match read_rows(alloc, piece) {
+    match read_first_rows(alloc, piece, room) {
         Ok(rows) => {
-            let events = row_events(alloc, rows)?;
+            if rows.count > room {
+                return Ok(Piece::TooManyEvents);
+            }
+            let events = row_events(alloc, rows.kept)?;
             let stream = Stream::Log;
             Ok(Piece::Read { events, stream })
         }
@@ -76,17 +85,23 @@ fn read_capture(
     host: u32,
     stream: &CaptureStream,
     piece: &[u8],
+    room: u64,
     packets: &mut Vec<Packet>,
 ) -> Result<Piece, AllocError>
     requires payload { decl.now.payload_bytes ≤ 64 }
     requires place { taken stream.now + length piece.now ≤ 2 ^ 30 }
-    requires none { packets.old.items ≡ [] }
-    ensures read { IfOk result (λ read. IsRead (declaration_of decl.now) host (streams.Capture stream.now) piece.now read) }
+    ensures read { IfOk result (λ read. IsRead (declaration_of decl.now) host room (streams.Capture stream.now) piece.now read) }
+    ensures room { IfOk result (λ read. HasRoomFor room read) }
     ensures packets { IfOk result (λ read. HasPackets (streams.Capture stream.now) piece.now (seen_packets packets.new.items) read) }
 {
-    match stream.feed(piece, packets) {
+    let mut completed = FirstPackets::new(alloc, room);
+    match stream.feed_first(piece, &mut completed) {
         Ok(next) => {
-            let events = packet_events(alloc, decl, host, packets)?;
+            if completed.more {
+                return Ok(Piece::TooManyEvents);
+            }
+            let events = packet_events(alloc, decl, host, &completed.kept)?;
+            *packets = completed.kept;
             let stream = Stream::Capture(next);
             Ok(Piece::Read { events, stream })
         }

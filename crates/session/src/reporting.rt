@@ -8,7 +8,7 @@ ghost use Rattle.traces.specs.Messages.{problem_of_seen};
 ghost use Rattle.problem.specs.Listing.{Listed};
 ghost use Rattle.solver.specs.Solution.{IsSolutionBy};
 ghost use Rattle.queries.specs.declared.stop.Stop.TheVariants as stops;
-ghost use Rattle.session.specs.Reply.{IsReport};
+ghost use Rattle.replies.specs.Reply.{IsReport};
 
 use crate::lines::write_line;
 use decl::Decl;

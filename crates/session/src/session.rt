@@ -4,25 +4,24 @@ ghost use Rattle.ports.specs.Content.{Writes};
 ghost use Rattle.ports.specs.Files.{Keeps};
 ghost use Rattle.decl.specs.Declaration.{IsDeclaration, declaration_of};
 ghost use Rattle.queries.specs.declared.stop.Stop.TheVariants as stops;
-ghost use Rattle.session.specs.Commands.{TakesMemory, AsksForMemory};
-ghost use Rattle.session.specs.CommandSeen.{question_seen};
-ghost use Rattle.session.specs.declared.refusal.Refusal.TheVariants as refusals;
-ghost use Rattle.session.specs.Refusals.{refusal_line};
-ghost use Rattle.session.specs.Sessions.{start};
+ghost use Rattle.replies.specs.Commands.{TakesMemory, AsksForMemory};
+ghost use Rattle.replies.specs.CommandSeen.{question_seen};
+ghost use Rattle.replies.specs.declared.refusal.Refusal.TheVariants as refusals;
+ghost use Rattle.replies.specs.Refusals.{refusal_line};
+ghost use Rattle.replies.specs.Sessions.{start};
 ghost use Rattle.session.specs.Stands.{WritesReply, StandsFor, Stepped, IsReady, IsKeptUp, AddsByLine, IsAnsweredFromRows, AsksOfRows};
 ghost use Rattle.session.specs.Inside.{Asked};
 
 use crate::accepted::nothing_under;
 use crate::answering::answer;
-use crate::answers::{Answers, decl_of, first_answers};
-use crate::command::{Command, Question, read_command};
 use crate::lines::{write_line, written};
-use crate::refusal::{Refusal, write_refusal};
 use atto::Steps;
 use captures::{new_stands, nothing_reads};
 use decl::Decl;
 use ports::{Files, Sink};
 use queries::Stop;
+use ready_answers::{Answers, decl_of, first_answers};
+use replies::{Command, Question, Refusal, read_command, write_refusal};
 use std::alloc::{AllocError, Global};
 use std::marker::Model;
 use std::sync::ledger::Ledger;
@@ -46,7 +45,9 @@ impl Model for Session {
     ghost use Rattle.std.specs.Prelude.{◌≡◌, true};
     ghost use Rattle.traces.specs.Held.{seen_in};
     ghost use Rattle.trace_match.specs.Ends.{AreEndsOf};
-    ghost use Rattle.session.specs.Stands.{Held, IsHeld, AreKept, AreAnswersOf, held_of, solver_of};
+    ghost use Rattle.session.specs.Stands.{Held, IsHeld, held_of, solver_of};
+    ghost use Rattle.replies.specs.Reply.{AreKept};
+    ghost use Rattle.ready_answers.specs.Ready.{AreAnswersOf};
 
     ghost Value = { Held };
 

@@ -9,16 +9,12 @@ ghost use Rattle.session.specs.Taking.{Takes};
 ghost use Rattle.session.specs.TakingInside.{TakesFile, TakesUnder};
 
 use crate::Session;
-use crate::answers::decl_of;
-use crate::command::{Command, read_command};
-use crate::labels::label_at;
-use crate::outcome::Outcome;
-use crate::refusal::Refusal;
-use crate::refused::{RefusedText, refused_text};
 use atto::Steps;
 use captures::{Packet, captures_are_one};
 use mergecap::Stored;
 use ports::Files;
+use ready_answers::decl_of;
+use replies::{Command, Outcome, Refusal, RefusedText, read_command, refused_text};
 use std::alloc::AllocError;
 use std::sync::ledger::Ledger;
 
@@ -100,7 +96,7 @@ impl Session {
         ensures keeps { Keeps (F.told files.old) (F.told files.new) }
         ensures ready { OnOk result (IsReady self.new) }
     {
-        match label_at(&decl_of(&self.answers).labels, label) {
+        match decl_of(&self.answers).label_at(label) {
             Some(k) => self.take_under(k, path, files, kept, steps),
             None => Ok(AddAnswer::Refused(refused_text(Refusal::UnknownLabel))),
         }

@@ -16,10 +16,10 @@ use Rattle.traces.specs.Messages.{messages_of, problem_of}
 use Rattle.trial.specs.Declaration.{declaration_text}
 use Rattle.trial.specs.Workload.{files_of, script_of, HasFiles}
 use Rattle.queries.specs.Replies.{IsIntervalLine}
-use Rattle.session.specs.Commands.{Command, Interval, IsWord, command_words, Asks}
-use Rattle.session.specs.declared.refusal.Refusal.TheVariants.{NoCommand}
-use Rattle.session.specs.Reply.{State, Found, Unread, Refuses, OfTwo, Reply}
-use Rattle.session.specs.Sessions.{Session, LineReply, CommandReply, AreCounted, start, is_failed}
+use Rattle.replies.specs.Commands.{Command, Interval, IsWord, command_words, Asks}
+use Rattle.replies.specs.declared.refusal.Refusal.TheVariants.{NoCommand}
+use Rattle.replies.specs.Reply.{State, Found, Unread, Refuses, OfTwo, Reply}
+use Rattle.replies.specs.Sessions.{Session, LineReply, CommandReply, AreCounted, start, is_failed}
 use Rattle.session.specs.Stands.{Held, seen_held}
 use Rattle.trial_session.specs.Logs.{LogsState, told_of}
 use Rattle.trial_session.specs.Answering.{Answers}

@@ -4,8 +4,8 @@ use Rattle.std.specs.List.{concat}
 use Rattle.ports.specs.Content.{Appends}
 use Rattle.ports.specs.Files.{FilesTold}
 use Rattle.decl.specs.Declaration.{Declaration}
-use Rattle.session.specs.Reply.{State, Found}
-use Rattle.session.specs.Sessions.{Session, AreCounted}
+use Rattle.replies.specs.Reply.{State, Found}
+use Rattle.replies.specs.Sessions.{Session, AreCounted}
 use Rattle.session.specs.Stands.{Held, StandsFor}
 
 -- from this state on each line has its reply, in order, all of them stand written, and what is held stands for what follows

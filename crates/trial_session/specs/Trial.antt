@@ -10,9 +10,9 @@ use Rattle.traces.specs.Traces.{event_count, events_of, seen_by}
 use Rattle.traces.specs.Messages.{messages_of}
 use Rattle.trial.specs.Declaration.{declaration_text}
 use Rattle.trial.specs.Workload.{files_of, script_of}
-use Rattle.session.specs.Commands.{Interval}
-use Rattle.session.specs.Reply.{State, Found, Unread, Reply}
-use Rattle.session.specs.Sessions.{Session, start, is_failed}
+use Rattle.replies.specs.Commands.{Interval}
+use Rattle.replies.specs.Reply.{State, Found, Unread, Reply}
+use Rattle.replies.specs.Sessions.{Session, start, is_failed}
 
 -- ---- the session
 -- the bytes at each path of the trial with this number

@@ -4,7 +4,7 @@ ghost use Rattle.ports.specs.Content.{Appends};
 ghost use Rattle.ports.specs.Files.{Keeps};
 ghost use Rattle.decl.specs.Declaration.{Declaration};
 ghost use Rattle.line_reader.specs.Lines.{lines_of};
-ghost use Rattle.session.specs.Reply.{State};
+ghost use Rattle.replies.specs.Reply.{State};
 ghost use Rattle.session.specs.Stands.{StandsFor, Stepped, IsReady};
 ghost use Rattle.trial_session.specs.Answering.{Answers};
 

@@ -1,7 +1,7 @@
 use Rattle.problem_model.specs.declared.items.Node.TheVariants as nodes
 use Rattle.problem.specs.Listing.{listing_of, all_readings}
 use Rattle.sync_graph.proofs.OwnStanding.{own_event}
-use Rattle.queries.proofs.SomeReadings.{own_readings}
+use Rattle.problem.proofs.OwnReadings.{own_readings}
 use Rattle.queries.proofs.Solutions.{event_by, event_below}
 use Rattle.commands.proofs.ends.interval.Goals as goal
 

@@ -2,7 +2,7 @@ use Rattle.std.proofs.Common.{◌≡◌, refl, sym, rules}
 use Rattle.std.specs.Prelude.{IfErr}
 use Rattle.line_reader.specs.Lines.{most_taken}
 use Rattle.mergecap.specs.Packets.{all_timed}
-use Rattle.session.specs.declared.refusal.Refusal.TheVariants.{NoCommand}
+use Rattle.replies.specs.declared.refusal.Refusal.TheVariants.{NoCommand}
 use Rattle.script.specs.Script.{Devices}
 use Rattle.script.specs.Turns.{TakesOff}
 use Rattle.script.proofs.Places.{within_most}

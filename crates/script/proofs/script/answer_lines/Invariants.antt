@@ -2,7 +2,7 @@ use Rattle.std.proofs.Common.{◌≡◌, ◌≤◌, false}
 use Rattle.ports.specs.Files.{Keeps}
 use Rattle.decl.specs.Declaration.{Declaration}
 use Rattle.line_reader.specs.Reader.{room}
-use Rattle.session.specs.Sessions.{start}
+use Rattle.replies.specs.Sessions.{start}
 use Rattle.session.specs.Stands.{StandsFor, IsReady}
 use Rattle.script.specs.Script.{Devices, devices, OfScript}
 use Rattle.script.proofs.Places.{IsAt}

@@ -8,10 +8,10 @@ use Rattle.roster.specs.Roster.{listed}
 use Rattle.solver.specs.Solution.{IsSolutionBy}
 use Rattle.traces.specs.Held.{seen_in}
 use Rattle.traces.specs.Messages.{problem_of_seen}
-use Rattle.session.specs.Stands.{problem_by}
+use Rattle.ready_answers.specs.Ready.{problem_by}
 use Rattle.session.proofs.Telling.{reply_such, reply_text}
-use Rattle.session.proofs.AskedRows.{answers_left}
-use Rattle.session.proofs.Engines.{spare_free, told}
+use Rattle.ready_answers.proofs.AskedRows.{answers_left}
+use Rattle.ready_answers.proofs.Engines.{spare_free, told}
 use Rattle.session.proofs.Replying.{interval_answered, order_answered, proof_answered, source_keeps, time_answered, merge_answered, report_answered, problem_answered}
 use Rattle.session.proofs.answering.answer.Goals as goal
 

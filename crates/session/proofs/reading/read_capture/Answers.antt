@@ -1,28 +1,59 @@
-use Rattle.std.proofs.Common.{◌≡◌, ◌++◌, ℕ, List, Some, refl, subst, rules, ◌∙◌, ap, map, length, arith}
+use Rattle.std.proofs.Common.{◌≡◌, ◌∙◌, List, [], Some, refl, sym, ap, subst, rules, map, length, arith}
 use Rattle.std.proofs.lemmas.List.{length-map}
-use Rattle.captures.specs.Capture.{Capture}
-use Rattle.captures.specs.Feeding as feeding
-use Rattle.captures.specs.Feeding.{Grows, Packet, seen_packet, seen_packets}
+use Rattle.pcap_stream.proofs.Collecting.{all_few, all_kept}
+use Rattle.captures.specs.Capture as captures
+use Rattle.captures.specs.Feeding.{seen_packet, seen_packets}
 use Rattle.decl.specs.Declaration.{declaration_of}
 use Rattle.trace_event.specs.Seen.{event_of_packet, seen_event, seen_events}
-use Rattle.session.specs.Refusals.{capture_refusal}
-use Rattle.session.proofs.OneReply.{capture_not_memory}
+use Rattle.traces.specs.declared.accepted.Stream.TheVariants as streams
+use Rattle.replies.specs.Refusals.{capture_refusal}
+use Rattle.session.specs.Pieces.{IsFed}
+use Rattle.replies.proofs.OneReply.{capture_not_memory}
 use Rattle.session.proofs.reading.read_capture.Goals as goal
 
-pub returns-in_ok-events-in-Ok-clause-read : goal.returns-in_ok-events-in-Ok-clause-read
-returns-in_ok-events-in-Ok-clause-read c =
-    let fed = subst (λ (ps : List Packet). (s : List ℕ) (x : Capture) → feeding.StandsFor c.args.stream.now s x → Grows c.in-Ok.next (s ++ c.args.piece.now) x (seen_packets ps) (seen_packets c.feed.new.out.items))
-    c.requires.none c.in-Ok.ensures.ok in
-    record { fed = c.in-Ok.next; packets = seen_packets c.feed.new.out.items; completes = fed; seen = rw (← c.deref.ensures.value) c.in_ok-events-in-Ok.ensures; size = c.in-Ok.ensures.size; kept = refl }
+pub returns-then-completed-clause-read : goal.returns-then-completed-clause-read
+returns-then-completed-clause-read c =
+    let adds = c.in-Ok.ensures.ok in
+    let keeps = adds.keeps [] c.new-completed.ensures.none in
+    let at_host = event_of_packet (declaration_of c.args.decl.now) c.args.host in
+    let many = keeps.more.0 c.if-completed.true in (
+      map at_host adds.added,
+      streams.Capture c.in-Ok.next,
+      record { fed = c.in-Ok.next; packets = adds.added; completes = adds.are; seen = refl; size = c.in-Ok.ensures.size; kept = refl },
+      omega (arith, many, adds.most, c.new-completed.ensures.most, length-map adds.added at_host),
+    )
 
-pub returns-in_ok-events-in-Ok-clause-packets : goal.returns-in_ok-events-in-Ok-clause-packets
-returns-in_ok-events-in-Ok-clause-packets c =
-    let fed = subst (λ (ps : List Packet). (s : List ℕ) (x : Capture) → feeding.StandsFor c.args.stream.now s x → Grows c.in-Ok.next (s ++ c.args.piece.now) x (seen_packets ps) (seen_packets c.feed.new.out.items))
-    c.requires.none c.in-Ok.ensures.ok in
+pub returns-in-Ok-clause-read : goal.returns-in-Ok-clause-read
+returns-in-Ok-clause-read c =
+    let adds = c.in-Ok.ensures.ok in
+    let keeps = adds.keeps [] c.new-completed.ensures.none in
+    let at_host = event_of_packet (declaration_of c.args.decl.now) c.args.host in
+    let kept : seen_packets c.feed_first.new.out.kept.items ≡ adds.added = all_kept c.feed_first.new.out adds.added keeps c.if-completed.false in
+    let seen : seen_events c.in_ok-events-in-Ok.events.items ≡ map at_host (seen_packets c.feed_first.new.out.kept.items) = rw (← c.deref.ensures.value) c.in_ok-events-in-Ok.ensures in
+    record { fed = c.in-Ok.next; packets = adds.added; completes = adds.are; seen = seen ∙ ap (map at_host) kept; size = c.in-Ok.ensures.size; kept = refl }
+
+pub returns-in-Ok-clause-room : goal.returns-in-Ok-clause-room
+returns-in-Ok-clause-room c =
+    let adds = c.in-Ok.ensures.ok in
+    let keeps = adds.keeps [] c.new-completed.ensures.none in
+    let at_host = event_of_packet (declaration_of c.args.decl.now) c.args.host in
+    let kept : seen_packets c.feed_first.new.out.kept.items ≡ adds.added = all_kept c.feed_first.new.out adds.added keeps c.if-completed.false in
+    let few = all_few c.feed_first.new.out adds.added keeps c.if-completed.false in
+    let seen : seen_events c.in_ok-events-in-Ok.events.items ≡ map at_host (seen_packets c.feed_first.new.out.kept.items) = rw (← c.deref.ensures.value) c.in_ok-events-in-Ok.ensures in
     let events : length (seen_events c.in_ok-events-in-Ok.events.items) ≡ length c.in_ok-events-in-Ok.events.items = length-map c.in_ok-events-in-Ok.events.items seen_event in
-    let seen : seen_events c.in_ok-events-in-Ok.events.items ≡ map (event_of_packet (declaration_of c.args.decl.now) c.args.host) (seen_packets c.feed.new.out.items) =
-    rw (← c.deref.ensures.value) c.in_ok-events-in-Ok.ensures in
-    let same : length (seen_events c.in_ok-events-in-Ok.events.items) ≡ length (seen_packets c.feed.new.out.items) = ap length seen ∙ length-map (seen_packets c.feed.new.out.items) (event_of_packet (declaration_of c.args.decl.now) c.args.host) in
+    let same : length (seen_events c.in_ok-events-in-Ok.events.items) ≡ length adds.added = ap length (seen ∙ ap (map at_host) kept) ∙ length-map adds.added at_host in
+    omega (arith, events, same, few, adds.most, c.new-completed.ensures.most)
+
+pub returns-in-Ok-clause-packets : goal.returns-in-Ok-clause-packets
+returns-in-Ok-clause-packets c =
+    let adds = c.in-Ok.ensures.ok in
+    let keeps = adds.keeps [] c.new-completed.ensures.none in
+    let at_host = event_of_packet (declaration_of c.args.decl.now) c.args.host in
+    let kept : seen_packets c.feed_first.new.out.kept.items ≡ adds.added = all_kept c.feed_first.new.out adds.added keeps c.if-completed.false in
+    let fed = subst (λ (packets : List captures.Seen). IsFed c.args.stream.now c.args.piece.now c.in-Ok.next packets) (sym kept) adds.are in
+    let seen : seen_events c.in_ok-events-in-Ok.events.items ≡ map at_host (seen_packets c.feed_first.new.out.kept.items) = rw (← c.deref.ensures.value) c.in_ok-events-in-Ok.ensures in
+    let events : length (seen_events c.in_ok-events-in-Ok.events.items) ≡ length c.in_ok-events-in-Ok.events.items = length-map c.in_ok-events-in-Ok.events.items seen_event in
+    let same : length (seen_events c.in_ok-events-in-Ok.events.items) ≡ length (seen_packets c.feed_first.new.out.kept.items) = ap length seen ∙ length-map (seen_packets c.feed_first.new.out.kept.items) at_host in
     ((c.in-Ok.next, fed), omega (arith, events, same))
 
 pub returns-in-Some-clause-read : goal.returns-in-Some-clause-read

@@ -1,11 +1,31 @@
-use Rattle.std.proofs.Common.{◌≡◌, Some, refl, rules}
-use Rattle.session.specs.Refusals.{log_refusal}
+use Rattle.std.proofs.Common.{◌≡◌, ◌∙◌, ◌≤◌, Some, length, map, refl, ap, arith, rules}
+use Rattle.std.proofs.lemmas.List.{length-map, take_all}
+use Rattle.trace_event.specs.Seen.{seen_event, seen_events, seen_row}
+use Rattle.traces.specs.declared.accepted.Stream.TheVariants as streams
+use Rattle.replies.specs.Refusals.{log_refusal}
 use Rattle.session.proofs.reading.read_log.Goals as goal
 
-pub returns-in_ok-events-in-Ok : goal.returns-in_ok-events-in-Ok
-returns-in_ok-events-in-Ok c = λ d host. record { rows = c.in-Ok.rows.items; are = c.in-Ok.ensures.rows; seen = c.in_ok-events-in-Ok.ensures; kept = refl }
+pub returns-then-rows-room-clause-read : goal.returns-then-rows-room-clause-read
+returns-then-rows-room-clause-read c = λ d host.
+    let first = c.in-Ok.ensures.rows in
+    (map seen_row first.all, streams.Log, record { rows = first.all; are = first.are; seen = refl; kept = refl }, omega (arith, length-map first.all seen_row, first.count, c.if-rows-room.true))
 
-pub returns-in-Some : goal.returns-in-Some
-returns-in-Some c =
+pub returns-in_ok-events-in-Ok-clause-read : goal.returns-in_ok-events-in-Ok-clause-read
+returns-in_ok-events-in-Ok-clause-read c = λ d host.
+    let first = c.in-Ok.ensures.rows in
+    let kept = first.kept ∙ take_all c.args.room first.all (omega (arith, first.count, c.if-rows-room.false)) in
+    record { rows = first.all; are = first.are; seen = c.in_ok-events-in-Ok.ensures ∙ ap (map seen_row) kept; kept = refl }
+
+pub returns-in_ok-events-in-Ok-clause-room : goal.returns-in_ok-events-in-Ok-clause-room
+returns-in_ok-events-in-Ok-clause-room c =
+    let first = c.in-Ok.ensures.rows in
+    let few : length first.all ≤ c.args.room = omega (arith, first.count, c.if-rows-room.false) in
+    let kept = first.kept ∙ take_all c.args.room first.all few in
+    let events : length (seen_events c.in_ok-events-in-Ok.events.items) ≡ length c.in_ok-events-in-Ok.events.items = length-map c.in_ok-events-in-Ok.events.items seen_event in
+    let same : length (seen_events c.in_ok-events-in-Ok.events.items) ≡ length first.all = ap length (c.in_ok-events-in-Ok.ensures ∙ ap (map seen_row) kept) ∙ length-map first.all seen_row in
+    omega (arith, events, same, few)
+
+pub returns-in-Some-clause-read : goal.returns-in-Some-clause-read
+returns-in-Some-clause-read c =
     let is : log_refusal c.in-Err.e ≡ Some c.in-Some.refusal = search rules in
     λ d host. (c.in-Err.e, c.in-Err.ensures.fault, is)

@@ -4,7 +4,7 @@ use Rattle.report.specs.Report.{report_line}
 use Rattle.traces.specs.Held.{seen_in}
 use Rattle.traces.specs.Messages.{problem_of_seen}
 use Rattle.ports.proofs.Writing.{such_of}
-use Rattle.session.specs.Reply.{IsReport}
+use Rattle.replies.specs.Reply.{IsReport}
 use Rattle.session.proofs.Telling.{never_memory}
 use Rattle.session.proofs.reporting.write_report.Goals as goal
 

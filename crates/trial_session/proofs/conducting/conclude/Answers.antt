@@ -1,4 +1,4 @@
-use Rattle.session.specs.Sessions.{start}
+use Rattle.replies.specs.Sessions.{start}
 use Rattle.trial_session.proofs.Concluding.{concluded}
 use Rattle.trial_session.proofs.conducting.conclude.Goals as goal
 

@@ -1,7 +1,7 @@
 use Rattle.std.proofs.Common.{length}
 use Rattle.ports.specs.Files.{FilesTold, Keeps}
 use Rattle.decl.specs.Declaration.{Declaration}
-use Rattle.session.specs.Reply.{State}
+use Rattle.replies.specs.Reply.{State}
 use Rattle.session.specs.Stands.{StandsFor, IsReady}
 use Rattle.trial_session.proofs.Going.{IsOver}
 use Rattle.trial_session.proofs.lines.answer_lines.Given as goal

@@ -1,4 +1,4 @@
-use Rattle.std.proofs.Common.{◌≡◌, ◌∙◌, ◌+◌, refl, ◌^◌, ◌≤◌, ◌<◌, ℕ, sym, ap, subst, nat_le, List, length, map, true, false, rules, arith}
+use Rattle.std.proofs.Common.{◌≡◌, ◌∙◌, ◌+◌, refl, ◌^◌, ◌≤◌, ◌<◌, ℕ, sym, ap, subst, List, length, map, true, false, rules, arith}
 use Rattle.std.specs.Vec.{with_items}
 use Rattle.std.proofs.lemmas.List.{length-map, with_items_is}
 use Rattle.decl.specs.Declaration.{Declaration}
@@ -9,27 +9,20 @@ use Rattle.traces.specs.Held.{seen_in}
 use Rattle.traces.specs.Messages.{problem_of_seen}
 use Rattle.trace_match.specs.Ends.{AreEndsOf, AreChanges, IsChange}
 use Rattle.queries.specs.Consistent.{IsConsistent}
-use Rattle.session.specs.declared.refusal.Refusal.TheVariants.{TooManyEvents}
-use Rattle.session.specs.declared.outcome.Outcome.TheVariants.{Refused}
-use Rattle.session.specs.Outcomes.{IsLineOf, outcome_line}
-use Rattle.session.specs.Stands.{Held, AreAnswersOf, held_of, problem_held, seen_held, solver_of, under_of}
-use Rattle.session.specs.Keeping.{Brings}
+use Rattle.replies.specs.declared.refusal.Refusal.TheVariants.{TooManyEvents}
+use Rattle.replies.specs.declared.outcome.Outcome.TheVariants.{Refused}
+use Rattle.replies.specs.Outcomes.{IsLineOf, outcome_line}
+use Rattle.session.specs.Stands.{Held, held_of, problem_held, seen_held, solver_of, under_of}
+use Rattle.ready_answers.specs.Ready.{AreAnswersOf}
+use Rattle.ready_answers.specs.Keeping.{Brings}
 use Rattle.session.specs.Inside.{AcceptAnswered, HasPlace}
 use Rattle.session.proofs.AddedThere.{where_weaker}
-use Rattle.session.proofs.Holding.{limits, labels_few, le_true, seen_accepted}
+use Rattle.session.proofs.Holding.{limits, labels_few, seen_accepted}
+use Rattle.replies.proofs.Elements.{le_true}
 use Rattle.session.proofs.Standby.{ready_of}
 use Rattle.session.proofs.Additions.{adds_nothing, added_so}
-use Rattle.session.proofs.Accepting.{refused_in, extended, added_in, whole_same, whole_grown, whole_few, brings, never_ready}
+use Rattle.session.proofs.Accepting.{extended, fits, added_in, whole_same, whole_grown, whole_few, brings, never_ready}
 use Rattle.session.proofs.session.Session.accept.Goals as goal
-
-pub returns-then-not-has_room-clause-answers : goal.returns-then-not-has_room-clause-answers
-returns-then-not-has_room-clause-answers g c =
-    let len : c.len-more.result ≡ length c.args.events.items = search rules in
-    let count : c.len-more.result ≡ length (seen_events c.args.events.items) = len ∙ sym (length-map c.args.events.items seen_event) in
-    let room : c.has_room.result ≡ nat_le (event_count (seen_in c.self.inside.accepted.items) + c.len-more.result) (2 ^ 21) = rw (← c.deref.ensures.value) c.has_room.ensures in
-    let full : c.has_room.result ≡ false = search rules in
-    refused_in c.self.inside.answers.graph.roster.declaration c.self.inside.accepted.items _ _ c.args.self.now c.args.k c.len-more.result (seen_events c.args.events.items) c.args.size c.args.stream
-    c.has_room.result (IsLineOf (Refused TooManyEvents)) c.self.view_is c.requires.inside count room full refl
 
 pub extend-requires-clause-labels : goal.extend-requires-clause-labels
 extend-requires-clause-labels g c =
@@ -42,10 +35,9 @@ extend-requires-clause-place g c =
 
 pub extend-requires-clause-few : goal.extend-requires-clause-few
 extend-requires-clause-few g c =
-    let len : c.len-more.result ≡ length c.args.events.items = search rules in
-    let few : event_count (seen_in c.deref.result.now) + c.len-more.result ≤ 2 ^ 21 = le_true _ _ (sym c.if-not-has_room.ensures) in
-    subst (λ (n : ℕ). event_count (seen_in c.deref_mut.result.now) + n ≤ 2 ^ 21) len
-    (subst (λ (l : List Accepted). event_count (seen_in l) + c.len-more.result ≤ 2 ^ 21) (c.deref.ensures.value ∙ sym c.deref_mut.ensures.value) few)
+    let seen : event_count (seen_held c.args.self.now.under) ≡ event_count (seen_in c.deref_mut.result.now) =
+    ap (λ (h : Held). event_count (seen_held h.under)) (sym c.self.view_is) ∙ ap event_count (seen_accepted c.self.inside.accepted.items) ∙ ap (λ (l : List Accepted). event_count (seen_in l)) (sym c.deref_mut.ensures.value) in
+    subst (λ (n : ℕ). n + length c.args.events.items ≤ 2 ^ 21) seen c.requires.room
 
 pub extend-requires-clause-ends : goal.extend-requires-clause-ends
 extend-requires-clause-ends g c = subst (λ (l : List Accepted). AreEndsOf c.self.inside.matcher (seen_in l)) (sym c.deref_mut.ensures.value) c.self.invariant.1
@@ -54,54 +46,54 @@ pub renew-requires-clause-inside : goal.renew-requires-clause-inside
 renew-requires-clause-inside g c =
     let len : c.len-more.result ≡ length c.args.events.items = search rules in
     let count : c.len-more.result ≡ length (seen_events c.args.events.items) = len ∙ sym (length-map c.args.events.items seen_event) in
-    let fit : c.has_room.result ≡ true = search rules in
+    let fit = fits (event_count (seen_held c.args.self.now.under)) c.len-more.result (length c.args.events.items) len c.requires.room in
     let d = c.self.inside.answers.graph.roster.declaration in
     let before = solver_of c.self.inside.ready c.self.inside.answers in
-    let e = extended d c.self.inside.accepted.items _ _ c.extend.new.accepted c.self.inside.kept.items before c.args.self.now c.args.k _
-    (seen_events c.args.events.items) c.args.size c.args.stream _ c.self.view_is c.requires.inside c.requires.place c.requires.within c.deref.ensures.value count c.has_room.ensures fit
+    let e = extended d c.self.inside.accepted.items _ c.extend.new.accepted c.self.inside.kept.items before c.args.self.now c.args.k _ _
+    (seen_events c.args.events.items) c.args.size c.args.stream _ c.self.view_is c.requires.inside c.requires.place c.requires.within count refl refl fit
     c.deref_mut.ensures.value c.in_ok-changes.ensures.grown in
     let long : length c.extend.new.accepted ≡ c.self.inside.accepted.len = c.in_ok-changes.ensures.len ∙ ap length c.deref_mut.ensures.value ∙ sym c.self.inside.accepted.ok.0 in
     let back : (with_items c.self.inside.accepted c.extend.new.accepted).items ≡ c.extend.new.accepted = with_items_is c.self.inside.accepted c.extend.new.accepted long in
     let under : c.args.k < length (map under_of c.self.inside.accepted.items) = subst (λ (h : Held). c.args.k < length h.under) (sym c.self.view_is) c.requires.inside in
     let many = length-map c.self.inside.accepted.items under_of in
-    let all : length c.deref-2.result.now ≡ length c.self.inside.accepted.items = ap length (c.deref-2.ensures.value ∙ back) ∙ c.in_ok-changes.ensures.len ∙ ap length c.deref_mut.ensures.value in
+    let all : length c.deref.result.now ≡ length c.self.inside.accepted.items = ap length (c.deref.ensures.value ∙ back) ∙ c.in_ok-changes.ensures.len ∙ ap length c.deref_mut.ensures.value in
     omega (arith, under, many, all)
 
 pub renew-requires-clause-few : goal.renew-requires-clause-few
 renew-requires-clause-few g c =
     let len : c.len-more.result ≡ length c.args.events.items = search rules in
     let count : c.len-more.result ≡ length (seen_events c.args.events.items) = len ∙ sym (length-map c.args.events.items seen_event) in
-    let fit : c.has_room.result ≡ true = search rules in
+    let fit = fits (event_count (seen_held c.args.self.now.under)) c.len-more.result (length c.args.events.items) len c.requires.room in
     let d = c.self.inside.answers.graph.roster.declaration in
     let before = solver_of c.self.inside.ready c.self.inside.answers in
-    let e = extended d c.self.inside.accepted.items _ _ c.extend.new.accepted c.self.inside.kept.items before c.args.self.now c.args.k _
-    (seen_events c.args.events.items) c.args.size c.args.stream _ c.self.view_is c.requires.inside c.requires.place c.requires.within c.deref.ensures.value count c.has_room.ensures fit
+    let e = extended d c.self.inside.accepted.items _ c.extend.new.accepted c.self.inside.kept.items before c.args.self.now c.args.k _ _
+    (seen_events c.args.events.items) c.args.size c.args.stream _ c.self.view_is c.requires.inside c.requires.place c.requires.within count refl refl fit
     c.deref_mut.ensures.value c.in_ok-changes.ensures.grown in
     let long : length c.extend.new.accepted ≡ c.self.inside.accepted.len = c.in_ok-changes.ensures.len ∙ ap length c.deref_mut.ensures.value ∙ sym c.self.inside.accepted.ok.0 in
     let back : (with_items c.self.inside.accepted c.extend.new.accepted).items ≡ c.extend.new.accepted = with_items_is c.self.inside.accepted c.extend.new.accepted long in
-    subst (λ (l : List Accepted). event_count (seen_in l) ≤ 2 ^ 21) (sym (c.deref-2.ensures.value ∙ back))
+    subst (λ (l : List Accepted). event_count (seen_in l) ≤ 2 ^ 21) (sym (c.deref.ensures.value ∙ back))
     (whole_few d c.self.inside.accepted.items c.extend.new.accepted c.self.inside.kept.items before c.args.self.now c.args.k (seen_events c.args.events.items) c.args.size c.args.stream e (limits c.self.invariant.0))
 
 pub renew-requires-clause-brings : goal.renew-requires-clause-brings
 renew-requires-clause-brings g c =
     let len : c.len-more.result ≡ length c.args.events.items = search rules in
     let count : c.len-more.result ≡ length (seen_events c.args.events.items) = len ∙ sym (length-map c.args.events.items seen_event) in
-    let fit : c.has_room.result ≡ true = search rules in
+    let fit = fits (event_count (seen_held c.args.self.now.under)) c.len-more.result (length c.args.events.items) len c.requires.room in
     let d = c.self.inside.answers.graph.roster.declaration in
     let before = solver_of c.self.inside.ready c.self.inside.answers in
-    let e = extended d c.self.inside.accepted.items _ _ c.extend.new.accepted c.self.inside.kept.items before c.args.self.now c.args.k _
-    (seen_events c.args.events.items) c.args.size c.args.stream _ c.self.view_is c.requires.inside c.requires.place c.requires.within c.deref.ensures.value count c.has_room.ensures fit
+    let e = extended d c.self.inside.accepted.items _ c.extend.new.accepted c.self.inside.kept.items before c.args.self.now c.args.k _ _
+    (seen_events c.args.events.items) c.args.size c.args.stream _ c.self.view_is c.requires.inside c.requires.place c.requires.within count refl refl fit
     c.deref_mut.ensures.value c.in_ok-changes.ensures.grown in
     let long : length c.extend.new.accepted ≡ c.self.inside.accepted.len = c.in_ok-changes.ensures.len ∙ ap length c.deref_mut.ensures.value ∙ sym c.self.inside.accepted.ok.0 in
     let back : (with_items c.self.inside.accepted c.extend.new.accepted).items ≡ c.extend.new.accepted = with_items_is c.self.inside.accepted c.extend.new.accepted long in
-    let same : c.deref-2.result.now ≡ c.extend.new.accepted = c.deref-2.ensures.value ∙ back in
+    let same : c.deref.result.now ≡ c.extend.new.accepted = c.deref.ensures.value ∙ back in
     let changes : AreChanges (seen_in c.self.inside.accepted.items) (seen_in c.extend.new.accepted) c.in_ok-changes.changes =
     subst (λ (l : List Accepted). AreChanges (seen_in l) (seen_in c.extend.new.accepted) c.in_ok-changes.changes) c.deref_mut.ensures.value c.in_ok-changes.ensures.changes in
     let more : Brings (seen_in c.self.inside.accepted.items) (seen_in c.extend.new.accepted) c.args.k c.len-more.result c.in_ok-changes.changes =
     brings c.self.inside.accepted.items c.extend.new.accepted c.args.k c.len-more.result (seen_events c.args.events.items) c.args.size c.args.stream c.in_ok-changes.changes e.grew count changes in
     let ready : c.self.inside.ready ≡ true = ready_of c.args.self.now c.self.inside.ready c.self.inside.answers (ap (λ (h : Held). h.answers) c.self.view_is) c.requires.ready in
     let are = c.self.invariant.3 ready in
-    let here : Brings (seen_in c.self.inside.accepted.items) (seen_in c.deref-2.result.now) c.args.k c.len-more.result c.in_ok-changes.changes =
+    let here : Brings (seen_in c.self.inside.accepted.items) (seen_in c.deref.result.now) c.args.k c.len-more.result c.in_ok-changes.changes =
     subst (λ (l : List Accepted). Brings (seen_in c.self.inside.accepted.items) (seen_in l) c.args.k c.len-more.result c.in_ok-changes.changes) (sym same) more in
     (seen_in c.self.inside.accepted.items, c.self.inside.kept.items, are, here)
 
@@ -119,11 +111,11 @@ pub invariant_of-self-in_err-consistent : goal.invariant_of-self-in_err-consiste
 invariant_of-self-in_err-consistent g c =
     let len : c.len-more.result ≡ length c.args.events.items = search rules in
     let count : c.len-more.result ≡ length (seen_events c.args.events.items) = len ∙ sym (length-map c.args.events.items seen_event) in
-    let fit : c.has_room.result ≡ true = search rules in
+    let fit = fits (event_count (seen_held c.args.self.now.under)) c.len-more.result (length c.args.events.items) len c.requires.room in
     let d = c.self.inside.answers.graph.roster.declaration in
     let before = solver_of c.self.inside.ready c.self.inside.answers in
-    let e = extended d c.self.inside.accepted.items _ _ c.extend.new.accepted c.self.inside.kept.items before c.args.self.now c.args.k _
-    (seen_events c.args.events.items) c.args.size c.args.stream _ c.self.view_is c.requires.inside c.requires.place c.requires.within c.deref.ensures.value count c.has_room.ensures fit
+    let e = extended d c.self.inside.accepted.items _ c.extend.new.accepted c.self.inside.kept.items before c.args.self.now c.args.k _ _
+    (seen_events c.args.events.items) c.args.size c.args.stream _ c.self.view_is c.requires.inside c.requires.place c.requires.within count refl refl fit
     c.deref_mut.ensures.value c.in_ok-changes.ensures.grown in
     let long : length c.extend.new.accepted ≡ c.self.inside.accepted.len = c.in_ok-changes.ensures.len ∙ ap length c.deref_mut.ensures.value ∙ sym c.self.inside.accepted.ok.0 in
     let back : (with_items c.self.inside.accepted c.extend.new.accepted).items ≡ c.extend.new.accepted = with_items_is c.self.inside.accepted c.extend.new.accepted long in
@@ -136,27 +128,27 @@ pub invariant_of-self-2 : goal.invariant_of-self-2
 invariant_of-self-2 g c =
     let len : c.len-more.result ≡ length c.args.events.items = search rules in
     let count : c.len-more.result ≡ length (seen_events c.args.events.items) = len ∙ sym (length-map c.args.events.items seen_event) in
-    let fit : c.has_room.result ≡ true = search rules in
+    let fit = fits (event_count (seen_held c.args.self.now.under)) c.len-more.result (length c.args.events.items) len c.requires.room in
     let d = c.self.inside.answers.graph.roster.declaration in
     let before = solver_of c.self.inside.ready c.self.inside.answers in
-    let e = extended d c.self.inside.accepted.items _ _ c.extend.new.accepted c.self.inside.kept.items before c.args.self.now c.args.k _
-    (seen_events c.args.events.items) c.args.size c.args.stream _ c.self.view_is c.requires.inside c.requires.place c.requires.within c.deref.ensures.value count c.has_room.ensures fit
+    let e = extended d c.self.inside.accepted.items _ c.extend.new.accepted c.self.inside.kept.items before c.args.self.now c.args.k _ _
+    (seen_events c.args.events.items) c.args.size c.args.stream _ c.self.view_is c.requires.inside c.requires.place c.requires.within count refl refl fit
     c.deref_mut.ensures.value c.in_ok-changes.ensures.grown in
     let long : length c.extend.new.accepted ≡ c.self.inside.accepted.len = c.in_ok-changes.ensures.len ∙ ap length c.deref_mut.ensures.value ∙ sym c.self.inside.accepted.ok.0 in
     let back : (with_items c.self.inside.accepted c.extend.new.accepted).items ≡ c.extend.new.accepted = with_items_is c.self.inside.accepted c.extend.new.accepted long in
-    let same : c.deref-2.result.now ≡ c.extend.new.accepted = c.deref-2.ensures.value ∙ back in
+    let same : c.deref.result.now ≡ c.extend.new.accepted = c.deref.ensures.value ∙ back in
     let changes : AreChanges (seen_in c.self.inside.accepted.items) (seen_in c.extend.new.accepted) c.in_ok-changes.changes =
     subst (λ (l : List Accepted). AreChanges (seen_in l) (seen_in c.extend.new.accepted) c.in_ok-changes.changes) c.deref_mut.ensures.value c.in_ok-changes.ensures.changes in
     let more : Brings (seen_in c.self.inside.accepted.items) (seen_in c.extend.new.accepted) c.args.k c.len-more.result c.in_ok-changes.changes =
     brings c.self.inside.accepted.items c.extend.new.accepted c.args.k c.len-more.result (seen_events c.args.events.items) c.args.size c.args.stream c.in_ok-changes.changes e.grew count changes in
     let ready : c.self.inside.ready ≡ true = ready_of c.args.self.now c.self.inside.ready c.self.inside.answers (ap (λ (h : Held). h.answers) c.self.view_is) c.requires.ready in
     let are = c.self.invariant.3 ready in
-    let here : Brings (seen_in c.self.inside.accepted.items) (seen_in c.deref-2.result.now) c.args.k c.len-more.result c.in_ok-changes.changes =
+    let here : Brings (seen_in c.self.inside.accepted.items) (seen_in c.deref.result.now) c.args.k c.len-more.result c.in_ok-changes.changes =
     subst (λ (l : List Accepted). Brings (seen_in c.self.inside.accepted.items) (seen_in l) c.args.k c.len-more.result c.in_ok-changes.changes) (sym same) more in
     let kept = c.self.inside.kept.items in
     let then = (with_items c.self.inside.accepted c.extend.new.accepted).items in
     let done : AreAnswersOf (seen_in then) kept c.renew.new.answers =
-    subst (λ (l : List Accepted). AreAnswersOf (seen_in l) kept c.renew.new.answers) c.deref-2.ensures.value (c.in_ok-consistent.ensures.ready (seen_in c.self.inside.accepted.items) kept are here) in
+    subst (λ (l : List Accepted). AreAnswersOf (seen_in l) kept c.renew.new.answers) c.deref.ensures.value (c.in_ok-consistent.ensures.ready (seen_in c.self.inside.accepted.items) kept are here) in
     whole_grown d c.self.inside.accepted.items c.extend.new.accepted then kept before true c.renew.new.answers c.args.self.now c.args.k (seen_events c.args.events.items) c.args.size c.args.stream
     c.extend.new.matcher e c.renew.ensures.declaration back (limits c.self.invariant.0) c.self.invariant.2 c.in_ok-changes.ensures.ends (λ is. done)
 
@@ -164,22 +156,22 @@ pub returns-clause-answers : goal.returns-clause-answers
 returns-clause-answers g c =
     let len : c.len-more.result ≡ length c.args.events.items = search rules in
     let count : c.len-more.result ≡ length (seen_events c.args.events.items) = len ∙ sym (length-map c.args.events.items seen_event) in
-    let fit : c.has_room.result ≡ true = search rules in
+    let fit = fits (event_count (seen_held c.args.self.now.under)) c.len-more.result (length c.args.events.items) len c.requires.room in
     let d = c.self.inside.answers.graph.roster.declaration in
     let before = solver_of c.self.inside.ready c.self.inside.answers in
-    let e = extended d c.self.inside.accepted.items _ _ c.extend.new.accepted c.self.inside.kept.items before c.args.self.now c.args.k _
-    (seen_events c.args.events.items) c.args.size c.args.stream _ c.self.view_is c.requires.inside c.requires.place c.requires.within c.deref.ensures.value count c.has_room.ensures fit
+    let e = extended d c.self.inside.accepted.items _ c.extend.new.accepted c.self.inside.kept.items before c.args.self.now c.args.k _ _
+    (seen_events c.args.events.items) c.args.size c.args.stream _ c.self.view_is c.requires.inside c.requires.place c.requires.within count refl refl fit
     c.deref_mut.ensures.value c.in_ok-changes.ensures.grown in
     let long : length c.extend.new.accepted ≡ c.self.inside.accepted.len = c.in_ok-changes.ensures.len ∙ ap length c.deref_mut.ensures.value ∙ sym c.self.inside.accepted.ok.0 in
     let back : (with_items c.self.inside.accepted c.extend.new.accepted).items ≡ c.extend.new.accepted = with_items_is c.self.inside.accepted c.extend.new.accepted long in
-    let same : c.deref-2.result.now ≡ c.extend.new.accepted = c.deref-2.ensures.value ∙ back in
+    let same : c.deref.result.now ≡ c.extend.new.accepted = c.deref.ensures.value ∙ back in
     let changes : AreChanges (seen_in c.self.inside.accepted.items) (seen_in c.extend.new.accepted) c.in_ok-changes.changes =
     subst (λ (l : List Accepted). AreChanges (seen_in l) (seen_in c.extend.new.accepted) c.in_ok-changes.changes) c.deref_mut.ensures.value c.in_ok-changes.ensures.changes in
     let more : Brings (seen_in c.self.inside.accepted.items) (seen_in c.extend.new.accepted) c.args.k c.len-more.result c.in_ok-changes.changes =
     brings c.self.inside.accepted.items c.extend.new.accepted c.args.k c.len-more.result (seen_events c.args.events.items) c.args.size c.args.stream c.in_ok-changes.changes e.grew count changes in
     let ready : c.self.inside.ready ≡ true = ready_of c.args.self.now c.self.inside.ready c.self.inside.answers (ap (λ (h : Held). h.answers) c.self.view_is) c.requires.ready in
     let are = c.self.invariant.3 ready in
-    let here : Brings (seen_in c.self.inside.accepted.items) (seen_in c.deref-2.result.now) c.args.k c.len-more.result c.in_ok-changes.changes =
+    let here : Brings (seen_in c.self.inside.accepted.items) (seen_in c.deref.result.now) c.args.k c.len-more.result c.in_ok-changes.changes =
     subst (λ (l : List Accepted). Brings (seen_in c.self.inside.accepted.items) (seen_in l) c.args.k c.len-more.result c.in_ok-changes.changes) (sym same) more in
     let kept = c.self.inside.kept.items in
     let after = solver_of true c.renew.new.answers in
@@ -195,28 +187,17 @@ returns-clause-answers g c =
     problem change count c.waiting-pending.ensures (outcome_line c.outcome_of.result, c.outcome_of.ensures.line p consistent, refl)))
 
 pub returns-clause-room : goal.returns-clause-room
-returns-clause-room g c =
-    let len : c.len-more.result ≡ length c.args.events.items = search rules in
-    let few : event_count (seen_in c.deref.result.now) + c.len-more.result ≤ 2 ^ 21 = le_true _ _ (sym c.if-not-has_room.ensures) in
-    let seen : seen_in c.deref.result.now ≡ seen_held c.args.self.now.under =
-    ap seen_in c.deref.ensures.value ∙ sym (seen_accepted c.self.inside.accepted.items) ∙ ap (λ (h : Held). seen_held h.under) c.self.view_is in
-    let room : event_count (seen_held c.args.self.now.under) + length c.args.events.items ≤ 2 ^ 21 =
-    subst (λ (n : ℕ). event_count (seen_held c.args.self.now.under) + n ≤ 2 ^ 21) len
-    (subst (λ (x : List (List Seen)). event_count x + c.len-more.result ≤ 2 ^ 21) seen few) in
-    where_weaker c.outcome_of.result (λ there. room) c.outcome_of.ensures.added
-
-pub returns-then-not-has_room-clause-addition : goal.returns-then-not-has_room-clause-addition
-returns-then-not-has_room-clause-addition g c = adds_nothing _ c.args.self.now c.args.steps.now c.self.view_is c.self.invariant.0
+returns-clause-room g c = where_weaker c.outcome_of.result (λ there. c.requires.room) c.outcome_of.ensures.added
 
 pub returns-clause-addition : goal.returns-clause-addition
 returns-clause-addition g c =
     let len : c.len-more.result ≡ length c.args.events.items = search rules in
     let count : c.len-more.result ≡ length (seen_events c.args.events.items) = len ∙ sym (length-map c.args.events.items seen_event) in
-    let fit : c.has_room.result ≡ true = search rules in
+    let fit = fits (event_count (seen_held c.args.self.now.under)) c.len-more.result (length c.args.events.items) len c.requires.room in
     let d = c.self.inside.answers.graph.roster.declaration in
     let before = solver_of c.self.inside.ready c.self.inside.answers in
-    let e = extended d c.self.inside.accepted.items _ _ c.extend.new.accepted c.self.inside.kept.items before c.args.self.now c.args.k _
-    (seen_events c.args.events.items) c.args.size c.args.stream _ c.self.view_is c.requires.inside c.requires.place c.requires.within c.deref.ensures.value count c.has_room.ensures fit
+    let e = extended d c.self.inside.accepted.items _ c.extend.new.accepted c.self.inside.kept.items before c.args.self.now c.args.k _ _
+    (seen_events c.args.events.items) c.args.size c.args.stream _ c.self.view_is c.requires.inside c.requires.place c.requires.within count refl refl fit
     c.deref_mut.ensures.value c.in_ok-changes.ensures.grown in
     let long : length c.extend.new.accepted ≡ c.self.inside.accepted.len = c.in_ok-changes.ensures.len ∙ ap length c.deref_mut.ensures.value ∙ sym c.self.inside.accepted.ok.0 in
     let back : (with_items c.self.inside.accepted c.extend.new.accepted).items ≡ c.extend.new.accepted = with_items_is c.self.inside.accepted c.extend.new.accepted long in

@@ -1,25 +1,27 @@
-use Rattle.std.proofs.Common.{◌≡◌, ◌∙◌, ◌<◌, ◌≤◌, ℕ, List, sym, ap, subst, refl, ◌+◌, ◌^◌, length, map, slice_get, Some, true, false, rules, arith}
+use Rattle.std.proofs.Common.{◌≡◌, ◌∙◌, ◌<◌, ◌≤◌, ℕ, List, sym, ap, subst, refl, ◌+◌, ◌-◌, ◌^◌, length, map, slice_get, Some, true, false, rules, arith}
 use Rattle.std.proofs.lemmas.Result.{IfOk-weaker}
 use Rattle.std.proofs.lemmas.List.{length-map}
 use Rattle.decl.specs.declared.items.Label.{Label}
 use Rattle.decl.specs.Declaration.{Declaration, declaration_of}
 use Rattle.trace_event.specs.Seen.{seen_events}
-use Rattle.session.specs.declared.refusal.Refusal.TheVariants.{TooManyBytes}
-use Rattle.session.specs.declared.outcome.Outcome.TheVariants.{Refused}
-use Rattle.session.specs.Outcomes.{IsLineOf}
+use Rattle.replies.specs.declared.refusal.Refusal.TheVariants.{TooManyBytes, TooManyEvents}
+use Rattle.replies.specs.declared.outcome.Outcome.TheVariants.{Refused}
+use Rattle.replies.specs.Outcomes.{IsLineOf}
 use Rattle.captures.specs.Feeding.{Packet, seen_packet, seen_packets}
 use Rattle.traces.specs.Traces.{event_count}
 use Rattle.session.specs.declared.reading.Piece.TheVariants as pieces
 use Rattle.session.specs.Stands.{Held, Under, under_of, seen_held}
 use Rattle.session.specs.TakingInside.{Completes, CompletesFront, HadRoom, HasPackets}
-use Rattle.session.specs.Pieces.{SaysEvents, IsRefusedAs}
+use Rattle.session.specs.Pieces.{SaysEvents, IsRead, IsRefusedAs}
 use Rattle.session.specs.Inside.{FrontAnswered}
+use Rattle.session.proofs.Accepting.{count_is, refused_in}
 use Rattle.session.proofs.Extending.{under_at, inside_under, stream_fits, stream_within}
 use Rattle.session.proofs.Growing.{says_answered, refusal_answered}
 use Rattle.session.proofs.Standing.{piece_more, piece_read, piece_without_place, fits_short, fits_place}
 use Rattle.session.proofs.Additions.{adds_nothing}
 use Rattle.session.proofs.AddedThere.{where_weaker}
-use Rattle.session.proofs.Holding.{IsWithinLimits, limits, some_same}
+use Rattle.session.proofs.Holding.{IsWithinLimits, limits}
+use Rattle.replies.proofs.Elements.{some_same}
 use Rattle.session.proofs.session.Session.add_piece.Goals as goal
 
 pub returns-then-more-clause-answers : goal.returns-then-more-clause-answers
@@ -90,6 +92,30 @@ returns-in-Read-clause-answers g c =
     (says_answered c.args.self.now c.accept.new.self c.args.k c.host_of-host.result c.args.front.now (under_of c.index-under.result.now) (seen_events c.in-Read.events.items) c.in-Read.stream (IsLineOf outcome)
     at_under at_host answered by_held))
     c.accept.ensures.answers
+
+pub accept-requires-clause-room : goal.accept-requires-clause-room
+accept-requires-clause-room g c =
+    let counted = count_is c.self.inside.accepted.items c.self.inside.kept.items c.self.inside.ready c.self.inside.answers c.args.self.now c.self.view_is c.requires.ready c.self.invariant.3 c.len-count.result c.len-count.ensures.count in
+    let room : length c.in-Read.events.items ≤ c.room_left-room.result = rw c.in-Read.is at c.in_ok-read.ensures.room in
+    omega (arith, room, c.room_left-room.ensures, counted, c.len-count.ensures.few)
+
+pub returns-in-TooManyEvents-clause-answers : goal.returns-in-TooManyEvents-clause-answers
+returns-in-TooManyEvents-clause-answers g c =
+    let more : c.args.more ≡ false = search rules in
+    let place : c.has_place.result ≡ true = search rules in
+    let held = subst IsWithinLimits c.self.view_is (limits c.self.invariant.0) in
+    let at_under = under_at c.self.inside.answers.graph.roster.declaration c.self.inside.accepted.items _ _ c.args.self.now c.args.k c.index-under.result.now c.self.view_is (inside_under c.args.self.now c.args.k held c.requires.inside) c.index-under.ensures in
+    let counted = count_is c.self.inside.accepted.items c.self.inside.kept.items c.self.inside.ready c.self.inside.answers c.args.self.now c.self.view_is c.requires.ready c.self.invariant.3 c.len-count.result c.len-count.ensures.count in
+    let read : IsRead (declaration_of c.decl_of-decl.result.now) c.host_of-host.result c.room_left-room.result c.index-under.result.now.stream c.args.front.now pieces.TooManyEvents =
+    rw c.in-TooManyEvents.is at c.in_ok-read.ensures.read in
+    let host : slice_get (map (λ (l : Label). l.host) c.decl_of-decl.result.now.labels.items) c.args.k ≡ Some c.host_of-host.result = rw (← c.deref.ensures.value) c.host_of-host.ensures in
+    let declared = c.decl_of-decl.ensures.same ∙ ap (λ (h : Held). h.declaration) c.self.view_is in
+    let at_host = subst (λ (d : Declaration). slice_get (map (λ (l : Label). l.host) d.labels) c.args.k ≡ Some c.host_of-host.result) declared host in
+    let by_held = subst (λ (d : Declaration). SaysEvents d c.host_of-host.result c.index-under.result.now.stream c.args.front.now read.0 read.1) declared read.2 in
+    let room = c.room_left-room.ensures ∙ ap (λ (n : ℕ). 2 ^ 21 - n) counted in
+    let answered = refused_in c.args.self.now c.args.k c.room_left-room.result read.0 (length c.args.front.now) read.1 (IsLineOf (Refused TooManyEvents)) (inside_under c.args.self.now c.args.k held c.requires.inside) room read.3 refl in
+    piece_read c.args.self.now c.args.self.now c.args.k (under_of c.index-under.result.now) c.args.more c.args.front.now (IsLineOf (Refused TooManyEvents)) more at_under (sym c.has_place.ensures ∙ place)
+    (says_answered c.args.self.now c.args.self.now c.args.k c.host_of-host.result c.args.front.now (under_of c.index-under.result.now) read.0 read.1 (IsLineOf (Refused TooManyEvents)) at_under at_host answered by_held)
 
 pub returns-in-Refused-clause-answers : goal.returns-in-Refused-clause-answers
 returns-in-Refused-clause-answers g c =

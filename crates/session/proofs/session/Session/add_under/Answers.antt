@@ -1,8 +1,8 @@
 use Rattle.std.proofs.Common.{refl}
 use Rattle.captures.specs.Feeding.{seen_packets}
-use Rattle.session.specs.declared.refusal.Refusal.TheVariants.{UnreadFile}
-use Rattle.session.specs.declared.outcome.Outcome.TheVariants.{Refused}
-use Rattle.session.specs.Outcomes.{IsLineOf}
+use Rattle.replies.specs.declared.refusal.Refusal.TheVariants.{UnreadFile}
+use Rattle.replies.specs.declared.outcome.Outcome.TheVariants.{Refused}
+use Rattle.replies.specs.Outcomes.{IsLineOf}
 use Rattle.session.specs.TakingInside.{KeepsFound}
 use Rattle.session.proofs.AddedThere.{file_answered}
 use Rattle.session.proofs.Finding.{under_failed, under_absent}

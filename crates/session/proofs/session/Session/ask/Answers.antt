@@ -4,12 +4,13 @@ use Rattle.roster.specs.Roster.{RosterLists}
 use Rattle.traces.specs.declared.accepted.Accepted.{Accepted}
 use Rattle.traces.specs.Traces.{event_count}
 use Rattle.traces.specs.Held.{seen_in}
-use Rattle.session.specs.CommandSeen.{question_seen}
-use Rattle.session.specs.Stands.{Held, AreAnswersOf, held_of, solver_of}
+use Rattle.replies.specs.CommandSeen.{question_seen}
+use Rattle.session.specs.Stands.{Held, held_of, solver_of}
+use Rattle.ready_answers.specs.Ready.{AreAnswersOf}
 use Rattle.session.specs.Inside.{Asked}
 use Rattle.session.proofs.Telling.{reply_as}
 use Rattle.session.proofs.Standby.{ready_of, ready_some}
-use Rattle.session.proofs.AskedRows.{from_slots}
+use Rattle.session.proofs.FromSlots.{from_slots}
 use Rattle.session.proofs.Accepting.{whole_kept}
 use Rattle.session.proofs.Holding.{limits, accepted_each, accepted_few}
 use Rattle.session.proofs.session.Session.ask.Goals as goal

@@ -1,11 +1,20 @@
-use Rattle.std.proofs.Common.{◌^◌, ◌-◌, ◌∙◌, List, ap, sym, min, arith}
+use Rattle.std.proofs.Common.{◌≡◌, ◌^◌, ◌-◌, ◌∙◌, List, length, ap, sym, min, arith, rules}
 use Rattle.traces.specs.declared.accepted.Accepted.{Accepted}
 use Rattle.traces.specs.Traces.{event_count}
 use Rattle.traces.specs.Held.{seen_in}
+use Rattle.ready_answers.proofs.RosterEvents.{came_count}
 use Rattle.session.specs.Stands.{Held, seen_held, solver_of}
 use Rattle.session.proofs.Counting.{least_of_few}
 use Rattle.session.proofs.Holding.{limits, accepted_few, seen_accepted}
 use Rattle.session.proofs.session.Session.event_count.Goals as goal
+
+pub returns-then-self : goal.returns-then-self
+returns-then-self c =
+    let inside = c.self.inside in
+    let are = c.self.invariant.3 c.if-self.true in
+    let came : length inside.answers.graph.roster.came ≡ event_count (seen_in inside.accepted.items) = came_count inside.answers.graph.roster are.lawful (seen_in inside.accepted.items) are.graph.holds in
+    let count : c.from.result ≡ length inside.answers.graph.roster.came = search rules in
+    count ∙ came ∙ sym (ap event_count (ap (λ (h : Held). seen_held h.under) (sym c.self.view_is) ∙ seen_accepted inside.accepted.items))
 
 pub returns : goal.returns
 returns c =

@@ -1,8 +1,8 @@
 use Rattle.std.proofs.Common.{◌∙◌, Some}
 use Rattle.ports.proofs.Writing.{writes_as}
-use Rattle.session.specs.Commands as asked
-use Rattle.session.specs.CommandSeen.{question_seen}
-use Rattle.session.specs.Outcomes.{outcome_line}
+use Rattle.replies.specs.Commands as asked
+use Rattle.replies.specs.CommandSeen.{question_seen}
+use Rattle.replies.specs.Outcomes.{outcome_line}
 use Rattle.session.proofs.Telling.{reply_as, reply_text}
 use Rattle.session.proofs.Replying.{asked_written, line_written, stepped, stepped_unread, stepped_none}
 use Rattle.session.proofs.Stepping.{rows_of_line, memory_of_line, keeps_no_addition, asks_no_addition, spells_no_addition}

@@ -6,12 +6,13 @@ use Rattle.traces.specs.Messages.{problem_of_seen}
 use Rattle.problem_model.specs.Problem.{ProblemLists}
 use Rattle.queries.specs.Consistent.{IsConsistent}
 use Rattle.roster.specs.Roster.{listed}
-use Rattle.session.specs.Stands.{Held, problem_by, problem_held, seen_held}
+use Rattle.session.specs.Stands.{Held, problem_held, seen_held}
+use Rattle.ready_answers.specs.Ready.{problem_by}
 use Rattle.session.proofs.Holding.{seen_accepted}
 use Rattle.session.proofs.Standby.{ready_of}
 use Rattle.mergecap.specs.Packets.{all_timed}
 use Rattle.problem.specs.Listing.{all_readings}
-use Rattle.queries.proofs.SomeReadings.{own_readings}
+use Rattle.problem.proofs.OwnReadings.{own_readings}
 use Rattle.session.specs.Settled.{AreSettled, HasEventOf}
 use Rattle.session.proofs.Settles.{none_held, all_under, all_settled, values_from}
 use Rattle.session.proofs.session.Session.settle.Goals as goal

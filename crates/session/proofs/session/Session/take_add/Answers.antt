@@ -1,9 +1,9 @@
 use Rattle.std.proofs.Common.{◌∙◌, Some, None, refl, sym}
 use Rattle.std.proofs.lemmas.Result.{IfOk-weaker}
 use Rattle.mergecap.specs.Packets.{all_timed}
-use Rattle.session.specs.Commands as asked
-use Rattle.session.specs.CommandSeen.{question_seen}
-use Rattle.session.specs.declared.refusal.Refusal.TheVariants.{NoCommand}
+use Rattle.replies.specs.Commands as asked
+use Rattle.replies.specs.CommandSeen.{question_seen}
+use Rattle.replies.specs.declared.refusal.Refusal.TheVariants.{NoCommand}
 use Rattle.session.specs.declared.taking.AddAnswer.TheVariants as answers
 use Rattle.session.specs.Taking.{Takes}
 use Rattle.session.proofs.TakingOver.{line_takes, line_refused, question_adds_none}

@@ -2,11 +2,11 @@ use Rattle.std.proofs.Common.{◌≡◌, ◌∙◌, ◌+◌, ◌^◌, ◌<◌, �
 use Rattle.captures.specs.Feeding.{seen_packets}
 use Rattle.mergecap.specs.Packets.{all_timed}
 use Rattle.traces.specs.Traces.{event_count}
-use Rattle.session.specs.declared.outcome.Outcome.{Outcome}
-use Rattle.session.specs.declared.outcome.Outcome.TheVariants.{Refused}
+use Rattle.replies.specs.declared.outcome.Outcome.{Outcome}
+use Rattle.replies.specs.declared.outcome.Outcome.TheVariants.{Refused}
 use Rattle.session.specs.declared.taking.AddAnswer.TheVariants as answers
 use Rattle.session.specs.Stands.{seen_held, under_of}
-use Rattle.session.specs.Outcomes.{IsLineOf}
+use Rattle.replies.specs.Outcomes.{IsLineOf}
 use Rattle.session.specs.TakingInside.{KeepsFound, UnderAnswered}
 use Rattle.session.proofs.AddedThere.{where_not_refused}
 use Rattle.session.proofs.Holding.{limits}

@@ -1,0 +1,138 @@
+// What stands ready for questions.
+ghost use Rattle.std.specs.Prelude.{◌≡◌, ◌<◌, ◌≤◌, ◌+◌, ◌++◌, ◌*◌, ◌^◌, ◌↔◌, List, [], Some, length, map, IfOk, OnOk, IsTrue};
+ghost use Rattle.decl.specs.declared.items.Label.{Label};
+ghost use Rattle.decl.specs.Declaration.{IsDeclaration, declaration_of};
+ghost use Rattle.trace_event.specs.Seen.{Seen, seen_events};
+ghost use Rattle.traces.specs.declared.event.EventId.{EventId};
+ghost use Rattle.traces.specs.Traces.{event_count};
+ghost use Rattle.traces.specs.Held.{seen_in};
+ghost use Rattle.roster.specs.Roster.{IsRoster};
+ghost use Rattle.queries.specs.Consistent.{IsConsistent};
+ghost use Rattle.replies.specs.Reply.{most_kept};
+ghost use Rattle.ready_answers.specs.Ready.{AreAnswersOf, IsAddition, problem_by};
+ghost use Rattle.ready_answers.specs.Keeping.{AreAnswersBut, Brings, BringsSource, clock_at};
+
+use crate::slots::keep_source;
+use atto::{Nano, Steps};
+use decl::Decl;
+use kept_graph::KeptGraph;
+use queries::is_consistent;
+use std::alloc::{AllocError, Global};
+use std::sync::ledger::Ledger;
+use trace_event::Event;
+use trace_match::Changes;
+use traces::Accepted;
+
+/// The graph of all that was added, with its declaration, and with the rows of the kept events and of the source.
+#[derive(Drop)]
+pub struct Answers {
+    /// The graph, with its declaration and the rows.
+    pub graph: KeptGraph,
+    /// The stamp, in ns, of the source's reading whose rows are kept. None where there is no source, or its clock has no
+    /// reading.
+    pub source: Option<Nano>,
+}
+
+/// How many rows there are for so many kept events: two for each, two for the source, and two for a question.
+pub(crate) fn rows_for(kept: usize) -> u32
+    requires { kept ≤ most_kept }
+    ensures { result ≡ 2 * kept + 4 }
+{
+    2 * kept as u32 + 4
+}
+
+/// The declaration.
+pub fn decl_of(answers: &Answers) -> &Decl
+    ensures same { declaration_of result.now ≡ answers.now.graph.roster.declaration }
+    ensures lawful { IsRoster answers.now.graph.roster }
+{
+    answers.graph.roster.decl()
+}
+
+/// The answers where nothing was added. It answers an error only where memory runs out.
+pub fn first_answers(alloc: Global, decl: Decl) -> Result<Answers, AllocError>
+    requires { IsDeclaration (declaration_of decl) }
+    ensures declared { IfOk result (λ answers. answers.graph.roster.declaration ≡ declaration_of decl) }
+    ensures ready { IfOk result (λ answers. AreAnswersOf (map (λ (l : Label). []) answers.graph.roster.declaration.labels) [] answers) }
+{
+    let mut graph = KeptGraph::new(alloc, decl)?;
+    // It tells that the roster is lawful.
+    let _ = graph.roster.decl();
+    graph.solver.reserve(rows_for(0), 0)?;
+    Ok(Answers {
+        graph,
+        source: None,
+    })
+}
+
+// The events under a label that came last, so many.
+fn newest(under: &Accepted, more: usize) -> &[Event]
+    requires { more ≤ length under.now.events.items }
+    ensures events { (old events : List Seen) → seen_events under.now.events.items ≡ old ++ events → length events ≡ more → seen_events result.now ≡ events }
+    ensures count { length result.now ≡ more }
+{
+    let first = under.events.len() - more;
+    &under.events[first..]
+}
+
+// Whether the label at a place is on the source's clock.
+fn is_on_source(decl: &Decl, k: usize) -> bool
+    requires { k < length decl.now.labels.items }
+    ensures { IsTrue result ↔ (decl.now.source ≡ Some (clock_at (declaration_of decl.now) k)) }
+{
+    match decl.source {
+        Some(clock) => decl.labels[k].clock == clock,
+        None => false,
+    }
+}
+
+// Keeps the rows of a reading of the source's clock, where events that came under the label at a place brought its first.
+fn keep_source_now<L: Ledger>(answers: &mut Answers, k: usize, steps: &mut Steps<L>)
+    requires label { k < length answers.old.graph.roster.declaration.labels }
+    requires so_far { (seen : List (List Seen)) × (kept : List EventId) × AreAnswersBut k seen kept answers.old }
+    ensures roster { answers.new.graph.roster ≡ answers.old.graph.roster }
+    ensures source { BringsSource answers.old.graph.solver answers.new.graph.solver steps.old steps.new }
+    ensures ready { (seen : List (List Seen)) (kept : List EventId) → AreAnswersBut k seen kept answers.old → AreAnswersOf seen kept answers.new }
+{
+    if answers.source.is_some() {
+        return;
+    }
+    let decl = answers.graph.roster.decl();
+    if !is_on_source(decl, k) {
+        return;
+    }
+    let source = decl.source;
+    answers.source = keep_source(
+        &mut answers.graph.solver,
+        &answers.graph.roster,
+        source,
+        steps,
+    );
+}
+
+/// Brings the events into the graph that came last under the label at a place, and tells whether some execution obeys all
+/// bounds. It answers an error only where memory runs out, and then the graph is used no more.
+pub fn renew<L: Ledger>(
+    answers: &mut Answers,
+    accepted: &[Accepted],
+    k: usize,
+    more: usize,
+    changes: &Changes,
+    steps: &mut Steps<L>,
+) -> Result<bool, AllocError>
+    requires inside { k < length accepted.now }
+    requires few { event_count (seen_in accepted.now) ≤ 2 ^ 21 }
+    requires brings { (before : List (List Seen)) × (kept : List EventId) × AreAnswersOf before kept answers.old × Brings before (seen_in accepted.now) k more changes.now }
+    ensures declaration { answers.new.graph.roster.declaration ≡ answers.old.graph.roster.declaration }
+    ensures consistent { IfOk result (λ b. IsConsistent (problem_by answers.new (seen_in accepted.now)) b) }
+    ensures ready { OnOk result ((before : List (List Seen)) (kept : List EventId) → AreAnswersOf before kept answers.old → Brings before (seen_in accepted.now) k more changes.now
+        → AreAnswersOf (seen_in accepted.now) kept answers.new) }
+    ensures addition { OnOk result (IsAddition more answers.old.graph.solver answers.new.graph.solver steps.old steps.new) }
+{
+    let events = newest(&accepted[k], more);
+    answers.graph.add(k as u32, events, changes, steps)?;
+    // It tells that the roster is lawful.
+    let _ = decl_of(answers);
+    keep_source_now(answers, k, steps);
+    Ok(is_consistent(&answers.graph.solver))
+}

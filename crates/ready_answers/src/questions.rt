@@ -1,0 +1,120 @@
+// Questions about events, by their names.
+ghost use Rattle.std.specs.Prelude.{◌≡◌, ◌⊎◌, ◌≤◌, ◌<◌, ℕ, List, Option, IfSome};
+ghost use Rattle.problem_model.specs.Problem.{ProblemLists};
+ghost use Rattle.ports.specs.Content.{Writes};
+ghost use Rattle.row_pool.specs.Pool.{free_rows};
+ghost use Rattle.roster.specs.Roster.{listed};
+ghost use Rattle.solver.specs.Solution.{IsSolutionBy};
+ghost use Rattle.queries.specs.Clocks.{KeepsTime};
+ghost use Rattle.queries.specs.Replies.{IsIntervalLine, IsOrderLine, IsProofText};
+ghost use Rattle.replies.specs.Reply.{IsTimeReply, OfOne};
+ghost use Rattle.ready_answers.specs.Ready.{KeepsSource};
+ghost use Rattle.ready_answers.specs.Keeping.{HasSlotBy, LeavesAnswer, IsReplyOfTwo};
+
+use crate::events::{find_event, two_events};
+use atto::{Nano, Steps};
+use engine::Solver;
+use ports::{Failed, Sink};
+use queries::{write_interval, write_order, write_proof, write_time};
+use replies::{Refusal, write_refusal};
+use roster::Roster;
+use std::sync::ledger::Ledger;
+
+/// Writes the interval from the first event to the second, or the refusal where there is no such event. `Failed` comes only where
+/// a write fails.
+pub fn ask_interval<O: Sink, L: Ledger>(
+    names: &Roster,
+    solver: &mut Solver,
+    first: &[u8],
+    second: &[u8],
+    out: &mut O,
+    steps: &mut Steps<L>,
+) -> Result<(), Failed>
+    requires solution { (p : ProblemLists) × IsSolutionBy (listed names.now) p solver.old }
+    requires free { 2 ≤ free_rows solver.old.pool }
+    ensures writes { (p : ProblemLists) → IsSolutionBy (listed names.now) p solver.old
+        → (text : List ℕ) × IsReplyOfTwo p first.now second.now (IsIntervalLine p) text × Writes text (O.told out.old) (O.told out.new) result }
+    ensures leaves { LeavesAnswer solver.old solver.new }
+    ensures steps { HasSlotBy names.now solver.old first.now ⊎ HasSlotBy names.now solver.old second.now → steps.new ≡ steps.old }
+{
+    // It tells that the roster is lawful.
+    let _ = names.decl();
+    match two_events(names, first, second) {
+        Some((from, to)) => write_interval(names, solver, from, to, out, steps),
+        None => write_refusal(Refusal::UnknownEvent, out),
+    }
+}
+
+/// Writes the order of two events, or the refusal where there is no such event. `Failed` comes only where a write fails.
+pub fn ask_order<O: Sink, L: Ledger>(
+    names: &Roster,
+    solver: &mut Solver,
+    first: &[u8],
+    second: &[u8],
+    out: &mut O,
+    steps: &mut Steps<L>,
+) -> Result<(), Failed>
+    requires solution { (p : ProblemLists) × IsSolutionBy (listed names.now) p solver.old }
+    requires free { 2 ≤ free_rows solver.old.pool }
+    ensures writes { (p : ProblemLists) → IsSolutionBy (listed names.now) p solver.old
+        → (text : List ℕ) × IsReplyOfTwo p first.now second.now (IsOrderLine p) text × Writes text (O.told out.old) (O.told out.new) result }
+    ensures leaves { LeavesAnswer solver.old solver.new }
+    ensures steps { HasSlotBy names.now solver.old first.now ⊎ HasSlotBy names.now solver.old second.now → steps.new ≡ steps.old }
+{
+    // It tells that the roster is lawful.
+    let _ = names.decl();
+    match two_events(names, first, second) {
+        Some((from, to)) => write_order(names, solver, from, to, out, steps),
+        None => write_refusal(Refusal::UnknownEvent, out),
+    }
+}
+
+/// Writes the certificate of the interval from the first event to the second, or the refusal where there is no such event.
+/// `Failed` comes only where a write fails.
+pub fn ask_proof<O: Sink, L: Ledger>(
+    names: &Roster,
+    solver: &mut Solver,
+    first: &[u8],
+    second: &[u8],
+    out: &mut O,
+    steps: &mut Steps<L>,
+) -> Result<(), Failed>
+    requires solution { (p : ProblemLists) × IsSolutionBy (listed names.now) p solver.old }
+    requires free { 2 ≤ free_rows solver.old.pool }
+    ensures writes { (p : ProblemLists) → IsSolutionBy (listed names.now) p solver.old
+        → (text : List ℕ) × IsReplyOfTwo p first.now second.now (IsProofText p) text × Writes text (O.told out.old) (O.told out.new) result }
+    ensures leaves { LeavesAnswer solver.old solver.new }
+    ensures steps { HasSlotBy names.now solver.old first.now → steps.new ≡ steps.old }
+{
+    // It tells that the roster is lawful.
+    let _ = names.decl();
+    match two_events(names, first, second) {
+        Some((from, to)) => write_proof(names, solver, from, to, out, steps),
+        None => write_refusal(Refusal::UnknownEvent, out),
+    }
+}
+
+/// Writes the time of an event by the source's clock, whose reading with kept rows has this stamp, in ns; or the refusal where there
+/// is no such event, or no source with a reading. `Failed` comes only where a write fails.
+pub fn ask_time<O: Sink>(
+    names: &Roster,
+    solver: &Solver,
+    source: Option<Nano>,
+    event: &[u8],
+    out: &mut O,
+) -> Result<(), Failed>
+    requires { (p : ProblemLists) × IsSolutionBy (listed names.now) p solver.now × ((declared : Option ℕ) × KeepsSource (listed names.now) p declared source solver.now) }
+    ensures { (p : ProblemLists) (declared : Option ℕ) → IsSolutionBy (listed names.now) p solver.now → IfSome declared (λ clock. KeepsTime p clock)
+        → KeepsSource (listed names.now) p declared source solver.now
+        → (text : List ℕ) × OfOne p event.now (IsTimeReply p declared) text × Writes text (O.told out.old) (O.told out.new) result }
+{
+    // It tells that the roster is lawful.
+    let _ = names.decl();
+    match find_event(names, event) {
+        Some((_, node)) => match source {
+            Some(stamp) => write_time(names, solver, stamp, node, out),
+            None => write_refusal(Refusal::NoSourceTime, out),
+        },
+        None => write_refusal(Refusal::UnknownEvent, out),
+    }
+}

@@ -1,0 +1,14 @@
+pub mod Elements
+pub mod SeenUnder
+pub mod Placing
+pub mod KeptEvents
+pub mod Asking
+pub mod OneCommand
+mod Numbers
+mod GreatestOrNone
+mod OneProof
+mod CaptureStamps
+mod LawfulStates
+mod FoundReads
+mod WholeScripts
+pub mod OneReply

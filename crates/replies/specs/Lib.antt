@@ -1,0 +1,9 @@
+pub mod Commands
+pub mod CommandSeen
+pub mod Refusals
+pub mod Reply
+pub mod Outcomes
+pub mod Sessions
+pub mod OneProof
+pub mod OneReply
+pub mod Lawful

@@ -1,0 +1,62 @@
+-- Refusals by their numbers, and the lines that tell them.
+use Rattle.std.specs.Prelude.{ℕ, List, [], ◌∷◌, Option, Some, None, codes}
+use Rattle.atto.specs.Decimal.{decimal_of}
+use Rattle.line_format.specs.Words.{line_of}
+use Rattle.event_log.specs.declared.errors.LogError.{LogError}
+use Rattle.event_log.specs.declared.errors.LogError.TheVariants as faults
+use Rattle.captures.specs.declared.errors.CaptureError.{CaptureError}
+use Rattle.captures.specs.declared.errors.CaptureError.TheVariants as refused
+use Rattle.replies.specs.declared.refusal.Refusal.{Refusal}
+use Rattle.replies.specs.declared.refusal.Refusal.TheVariants.{NoCommand, UnknownLabel, UnreadFile, TooManyBytes, CaptureMagic, CaptureVersion, CaptureRecord, CaptureBlock, LogRow, TooManyEvents, UnknownEvent, NoSourceTime, EightAreKept}
+
+-- the number of a refusal
+abbrev pub number_of : Refusal → ℕ
+number_of NoCommand = 20
+number_of UnknownLabel = 21
+number_of UnreadFile = 22
+number_of TooManyBytes = 23
+number_of CaptureMagic = 24
+number_of CaptureVersion = 24
+number_of (CaptureRecord place) = 25
+number_of (CaptureBlock place) = 31
+number_of (LogRow row lack) = 26
+number_of TooManyEvents = 27
+number_of UnknownEvent = 28
+number_of NoSourceTime = 29
+number_of EightAreKept = 30
+
+-- the numbers that say where and why
+abbrev pub details : Refusal → List (List ℕ)
+details NoCommand = []
+details UnknownLabel = []
+details UnreadFile = []
+details TooManyBytes = []
+details CaptureMagic = decimal_of 1 ∷ []
+details CaptureVersion = decimal_of 2 ∷ []
+details (CaptureRecord place) = decimal_of place ∷ []
+details (CaptureBlock place) = decimal_of place ∷ []
+details (LogRow row lack) = decimal_of row ∷ decimal_of lack ∷ []
+details TooManyEvents = []
+details UnknownEvent = []
+details NoSourceTime = []
+details EightAreKept = []
+
+-- the line of a refusal
+abbrev pub refusal_line : Refusal → List ℕ
+refusal_line r = line_of (codes "refused" ∷ decimal_of (number_of r) ∷ details r)
+
+-- the refusal of a log with this fault: its row, and what it lacks
+abbrev pub log_refusal : LogError → Option Refusal
+log_refusal (faults.Fields row) = Some (LogRow row 1)
+log_refusal (faults.Stamp row) = Some (LogRow row 2)
+log_refusal (faults.Kind row) = Some (LogRow row 3)
+log_refusal (faults.Text row) = Some (LogRow row 4)
+log_refusal faults.Memory = None
+
+-- the refusal of a capture with this fault
+abbrev pub capture_refusal : CaptureError → Option Refusal
+capture_refusal refused.Magic = Some CaptureMagic
+capture_refusal refused.Version = Some CaptureVersion
+capture_refusal (refused.Length place) = Some (CaptureRecord place)
+capture_refusal (refused.Block place) = Some (CaptureBlock place)
+capture_refusal refused.Memory = None

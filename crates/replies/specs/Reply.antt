@@ -1,0 +1,234 @@
+-- What a session may reply to a command, and what it then has.
+use Rattle.std.specs.Prelude.{◌≡◌, ℕ, ◌+◌, ◌-◌, ◌^◌, ◌<◌, ◌≤◌, ◌⊎◌, List, [], ◌∷◌, ◌++◌, length, map, slice_get, slice_set, Option, Some, None, Bool, true, false, nat_le, ◌&&◌, codes, MatchBool, position}
+use Rattle.std.specs.Str.{bytes_eq}
+use Rattle.atto.specs.Decimal.{decimal_of}
+use Rattle.line_format.specs.Words.{line_of}
+use Rattle.problem_model.specs.Problem.{ProblemLists}
+use Rattle.problem_model.specs.ProblemText.{problem_text}
+use Rattle.problem.specs.Line.{HasEvent, IsUnknown}
+use Rattle.event_log.specs.declared.errors.LogError.{LogError}
+use Rattle.event_log.specs.declared.row.Row.{Row}
+use Rattle.event_log.specs.Log.{records_of, AreRows, IsLogFault}
+use Rattle.captures.specs.declared.errors.CaptureError.{CaptureError}
+use Rattle.captures.specs.Capture as captures
+use Rattle.captures.specs.Capture.{Reads, IsFault}
+use Rattle.decl.specs.declared.items.Label.{Label}
+use Rattle.decl.specs.declared.items.TraceKind.{TraceKind}
+use Rattle.decl.specs.declared.items.TraceKind.TheVariants.{Capture, Log}
+use Rattle.decl.specs.Declaration.{Declaration}
+use Rattle.trace_event.specs.Seen.{Seen}
+use Rattle.traces.specs.declared.event.EventId.{EventId}
+use Rattle.traces.specs.declared.event.Couple.{Couple}
+use Rattle.traces.specs.Traces.{Trace, Captured, Logged, Traces, Placed, seen_by, size_of, events_of, event_count}
+use Rattle.traces.specs.Messages.{messages_of, missing, problem_of, problem_of_seen}
+use Rattle.queries.specs.Consistent.{IsConsistent}
+use Rattle.queries.specs.Replies.{HasReading, IsIntervalLine, IsOrderLine, IsProofText, IsTimeLine, Replies}
+use Rattle.merging.specs.Merged.{IsMergeText}
+use Rattle.trace_report.specs.Reports.{report_text}
+use Rattle.replies.specs.declared.refusal.Refusal.{Refusal}
+use Rattle.replies.specs.declared.refusal.Refusal.TheVariants.{UnknownLabel, UnreadFile, TooManyBytes, TooManyEvents, UnknownEvent, NoSourceTime, EightAreKept}
+use Rattle.replies.specs.Refusals.{refusal_line, log_refusal, capture_refusal}
+use Rattle.replies.specs.Commands.{Command, Add, Interval, Order, Time, Merge, Prove, Keep, Problem, Report}
+
+-- what a session has: the traces, and the events that are kept
+pub record State : Type 0 where
+  pub traces : Traces
+  pub kept : List EventId
+
+-- what came of the read that a command makes
+pub data Found : Type 0 where
+  -- the command reads no file
+  Unread : Found
+  -- the path has these bytes
+  Bytes : List ℕ → Found
+  -- the path is not there
+  Absent : Found
+  -- a read failed
+  Failed : Found
+
+-- ---- refusals
+-- the command is refused so, and nothing changes
+abbrev pub Refuses : State → Refusal → List ℕ → State → Type 0
+Refuses s r text s' = (text ≡ refusal_line r) × (s' ≡ s)
+
+-- ---- questions
+-- two events are asked about by their names
+abbrev pub OfTwo : ProblemLists → List ℕ → List ℕ → (ℕ → ℕ → List ℕ → Type 0) → State → List ℕ → State → Type 0
+OfTwo p first second Says s text s' =
+    ((i : ℕ) × (j : ℕ) × HasEvent p i first × HasEvent p j second × Replies p (Says i j) text × (s' ≡ s))
+    ⊎ ((IsUnknown p first ⊎ IsUnknown p second) × Refuses s UnknownEvent text s')
+
+-- what is said of an event by its name, or the refusal where none has it
+abbrev pub OfOne : ProblemLists → List ℕ → (ℕ → List ℕ → Type 0) → List ℕ → Type 0
+OfOne p event Says text = ((i : ℕ) × HasEvent p i event × Says i text) ⊎ (IsUnknown p event × (text ≡ refusal_line UnknownEvent))
+
+-- the time of an event by the source's clock, or the refusal where no source is declared or its clock has no reading
+abbrev pub IsTimeReply : ProblemLists → Option ℕ → ℕ → List ℕ → Type 0
+IsTimeReply p None event text = text ≡ refusal_line NoSourceTime
+IsTimeReply p (Some clock) event text = (HasReading p clock × Replies p (IsTimeLine p clock event) text)
+    ⊎ ((HasReading p clock → ⊥) × (text ≡ refusal_line NoSourceTime))
+
+-- the report on the events of all labels, by whether their problem has an execution
+abbrev pub IsReport : Declaration → List (List Seen) → List ℕ → Type 0
+IsReport d seen text = (b : Bool) × IsConsistent (problem_of_seen d seen) b × (text ≡ report_text d seen b)
+
+-- ---- additions
+-- whether there is an execution, as a word
+abbrev pub state_word : Bool → List ℕ
+state_word true = codes "consistent"
+state_word false = codes "inconsistent"
+
+-- the line of an addition: new events, new messages, messages that are none any more, bytes that wait
+abbrev pub added_line : ℕ → ℕ → ℕ → ℕ → Bool → List ℕ
+added_line events messages withdrawn pending consistent =
+    line_of (codes "added" ∷ codes "events" ∷ decimal_of events ∷ codes "messages" ∷ decimal_of messages ∷ codes "withdrawn" ∷ decimal_of withdrawn
+    ∷ codes "pending" ∷ decimal_of pending ∷ state_word consistent ∷ [])
+
+-- the messages of traces
+abbrev pub messages_by : Declaration → Traces → List Couple
+messages_by d traces = messages_of (events_of (seen_by d traces))
+
+-- how many events traces have
+abbrev pub count_by : Declaration → Traces → ℕ
+count_by d traces = event_count (seen_by d traces)
+
+-- the line of an addition by the traces before and after, where so many bytes wait
+abbrev pub IsAdded : Declaration → Traces → Traces → ℕ → List ℕ → Type 0
+IsAdded d old new pending text =
+    (b : Bool) × IsConsistent (problem_of d new) b
+    × (text ≡ added_line (count_by d new - count_by d old) (missing (messages_by d new) (messages_by d old)) (missing (messages_by d old) (messages_by d new)) pending b)
+
+-- how many bytes under a label wait for the rest of their record or header; of a log none do
+abbrev pub pending_of : Trace → ℕ
+pending_of (Captured bytes capture) = length capture.rest
+pending_of (Logged rows size) = 0
+
+-- what was accepted under the label at a place becomes this, unless there would be too many events
+abbrev pub AcceptReply : Declaration → State → ℕ → Trace → List ℕ → State → Type 0
+AcceptReply d s k trace text s' =
+    let traces = slice_set s.traces k trace in
+    MatchBool (nat_le (count_by d traces) (2 ^ 21))
+    ((s' ≡ record s { traces = traces }) × IsAdded d s.traces traces (pending_of trace) text)
+    (Refuses s TooManyEvents text s')
+
+-- ---- pieces of logs
+-- a trace with the rows of one piece more, of so many bytes
+abbrev pub with_rows : Trace → List Row → ℕ → Trace
+with_rows (Captured bytes capture) more size = Captured bytes capture
+with_rows (Logged rows old) more size = Logged (rows ++ more) (old + size)
+
+-- the refusal of a piece of a log by its first record that is no row
+abbrev pub IsLogRefusal : List ℕ → Refusal → Type 0
+IsLogRefusal bytes r = (e : LogError) × IsLogFault bytes e × (log_refusal e ≡ Some r)
+
+-- a piece of a log has rows, or a first fault
+abbrev pub LogReply : Declaration → State → ℕ → Trace → List ℕ → List ℕ → State → Type 0
+LogReply d s k trace bytes text s' =
+    ((rows : List Row) × AreRows (records_of bytes) rows × AcceptReply d s k (with_rows trace rows (length bytes)) text s')
+    ⊎ ((r : Refusal) × IsLogRefusal bytes r × Refuses s r text s')
+
+-- ---- pieces of captures
+-- the bytes of a capture so far
+abbrev pub bytes_of : Trace → List ℕ
+bytes_of (Captured bytes capture) = bytes
+bytes_of (Logged rows size) = []
+
+-- the refusal of a capture of these bytes
+abbrev pub IsCaptureRefusal : List ℕ → Refusal → Type 0
+IsCaptureRefusal bytes r = (e : CaptureError) × IsFault bytes e × (capture_refusal e ≡ Some r)
+
+-- a capture with one piece more is read, or refused
+abbrev pub CaptureReply : Declaration → State → ℕ → Trace → List ℕ → List ℕ → State → Type 0
+CaptureReply d s k trace piece text s' =
+    let bytes = bytes_of trace ++ piece in
+    ((capture : captures.Capture) × Reads bytes capture × AcceptReply d s k (Captured bytes capture) text s')
+    ⊎ ((r : Refusal) × IsCaptureRefusal bytes r × Refuses s r text s')
+
+-- a piece by the kind of its label
+abbrev pub KindReply : Declaration → State → ℕ → Trace → TraceKind → List ℕ → List ℕ → State → Type 0
+KindReply d s k trace Capture bytes text s' = CaptureReply d s k trace bytes text s'
+KindReply d s k trace Log bytes text s' = LogReply d s k trace bytes text s'
+
+-- whether a piece is not too long, by itself and with what its label has
+abbrev pub fits_label : Trace → List ℕ → Bool
+fits_label trace bytes = nat_le (length bytes) (2 ^ 28) && nat_le (size_of trace + length bytes) (2 ^ 30)
+
+-- a piece for the label at a place
+abbrev pub PieceReply : Declaration → State → ℕ → Option Label → Option Trace → List ℕ → List ℕ → State → Type 0
+PieceReply d s k None trace bytes text s' = ⊥
+PieceReply d s k (Some label) None bytes text s' = ⊥
+PieceReply d s k (Some label) (Some trace) bytes text s' =
+    MatchBool (fits_label trace bytes) (KindReply d s k trace label.kind bytes text s') (Refuses s TooManyBytes text s')
+
+-- the place of a label by its name
+abbrev pub label_at : Declaration → List ℕ → Option ℕ
+label_at d name = position (λ (l : Label). bytes_eq l.name name) d.labels
+
+-- the first refusal that applies, or what was added
+abbrev pub AddReply : Declaration → State → Option ℕ → Found → List ℕ → State → Type 0
+AddReply d s None Unread text s' = Refuses s UnknownLabel text s'
+AddReply d s None (Bytes bytes) text s' = ⊥
+AddReply d s None Absent text s' = ⊥
+AddReply d s None Failed text s' = ⊥
+AddReply d s (Some k) Unread text s' = ⊥
+AddReply d s (Some k) (Bytes bytes) text s' = PieceReply d s k (slice_get d.labels k) (slice_get s.traces k) bytes text s'
+AddReply d s (Some k) Absent text s' = Refuses s UnreadFile text s'
+AddReply d s (Some k) Failed text s' = Refuses s UnreadFile text s'
+
+-- ---- events that are kept
+-- how many events are kept at most
+abbrev pub most_kept : ℕ
+most_kept = 8
+
+-- the event at this place among all
+abbrev pub IsPlacedAt : List (List Seen) → ℕ → EventId → Type 0
+IsPlacedAt seen place event = slice_get (map (λ (e : Placed). e.id) (events_of seen)) place ≡ Some event
+
+-- the event is one of these
+abbrev pub IsAmong : List EventId → EventId → Type 0
+IsAmong kept event = (k : ℕ) × (slice_get kept k ≡ Some event)
+
+-- kept events are at most eight, each is one of these events, and no two are the same
+pub record AreKept (seen : List (List Seen)) (kept : List EventId) : Type 0 where
+  pub few : length kept ≤ most_kept
+  pub there : (k : ℕ) (event : EventId) → slice_get kept k ≡ Some event → (place : ℕ) × IsPlacedAt seen place event
+  pub differ : (j k : ℕ) (event : EventId) → slice_get kept j ≡ Some event → slice_get kept k ≡ Some event → j ≡ k
+
+-- the line of a slot
+abbrev pub kept_line : ℕ → List ℕ
+kept_line slot = line_of (codes "kept" ∷ decimal_of slot ∷ [])
+
+-- the event has its place among those that are kept; or it gets the next one where fewer than eight are; or it is refused
+abbrev pub SlotReply : List EventId → EventId → List ℕ → List EventId → Type 0
+SlotReply kept event text kept' =
+    ((k : ℕ) × (slice_get kept k ≡ Some event) × (text ≡ kept_line (k + 1)) × (kept' ≡ kept))
+    ⊎ ((IsAmong kept event → ⊥) × (length kept < most_kept) × (text ≡ kept_line (length kept + 1)) × (kept' ≡ kept ++ event ∷ []))
+    ⊎ ((IsAmong kept event → ⊥) × (length kept ≡ most_kept) × (text ≡ refusal_line EightAreKept) × (kept' ≡ kept))
+
+-- the slot of the event of this name among these of a problem, and the events that are then kept; or the refusal where none
+-- has the name
+abbrev pub KeepReply : ProblemLists → List (List Seen) → List EventId → List ℕ → List ℕ → List EventId → Type 0
+KeepReply p seen kept name text kept' =
+    ((place : ℕ) × (event : EventId) × HasEvent p place name × IsPlacedAt seen place event × SlotReply kept event text kept')
+    ⊎ (IsUnknown p name × (text ≡ refusal_line UnknownEvent) × (kept' ≡ kept))
+
+-- ---- any command
+-- the texts that are replies, and what the session then has
+abbrev pub Reply : Declaration → State → Command → Found → List ℕ → State → Type 0
+Reply d s (Add label path) found text s' = AddReply d s (label_at d label) found text s'
+Reply d s (Interval first second) found text s' =
+    let p = problem_of d s.traces in
+    (found ≡ Unread) × OfTwo p first second (IsIntervalLine p) s text s'
+Reply d s (Order first second) found text s' =
+    let p = problem_of d s.traces in
+    (found ≡ Unread) × OfTwo p first second (IsOrderLine p) s text s'
+Reply d s (Time event) found text s' =
+    let p = problem_of d s.traces in
+    (found ≡ Unread) × (s' ≡ s) × OfOne p event (IsTimeReply p d.source) text
+Reply d s Merge found text s' = (found ≡ Unread) × (s' ≡ s) × Replies (problem_of d s.traces) (IsMergeText d (seen_by d s.traces)) text
+Reply d s (Prove first second) found text s' =
+    let p = problem_of d s.traces in
+    (found ≡ Unread) × OfTwo p first second (IsProofText p) s text s'
+Reply d s (Keep event) found text s' = (found ≡ Unread) × (s'.traces ≡ s.traces) × KeepReply (problem_of d s.traces) (seen_by d s.traces) s.kept event text s'.kept
+Reply d s Problem found text s' = (found ≡ Unread) × (s' ≡ s) × (text ≡ problem_text (problem_of d s.traces))
+Reply d s Report found text s' = (found ≡ Unread) × (s' ≡ s) × IsReport d (seen_by d s.traces) text

@@ -1,0 +1,165 @@
+// The command of a line.
+ghost use Rattle.std.specs.Prelude.{◌≡◌, ◌↔◌, ◌∷◌, [], None, IsTrue, option_map, All};
+ghost use Rattle.std.specs.Int.{IsInRange};
+ghost use Rattle.line_format.specs.Cut.{fields};
+ghost use Rattle.replies.specs.Commands.{IsWord, Asks, HasWords};
+ghost use Rattle.replies.specs.CommandSeen.{command_seen};
+
+use line_format::{cut, three_words};
+
+/// What is asked of all that was added. Each word is 1 byte or more from 33 to 126.
+#[derive(Clone, Copy, Debug)]
+pub enum Question<'a> {
+    /// The interval of the real time from one event to another.
+    Interval {
+        /// The name of the event that it is measured from.
+        first: &'a [u8],
+        /// The name of the event that it leads to.
+        second: &'a [u8],
+    },
+    /// The order of two events.
+    Order {
+        /// The name of the one.
+        first: &'a [u8],
+        /// The name of the other.
+        second: &'a [u8],
+    },
+    /// The time of an event by the source's clock.
+    Time {
+        /// The name of the event.
+        event: &'a [u8],
+    },
+    /// All events in one order.
+    Merge,
+    /// The certificate of the interval of the real time from one event to another.
+    Prove {
+        /// The name of the event that it is measured from.
+        first: &'a [u8],
+        /// The name of the event that it leads to.
+        second: &'a [u8],
+    },
+    /// The problem of all that was added.
+    Problem,
+    /// What there is to say of all events.
+    Report,
+}
+
+/// What a line asks for. Each word is 1 byte or more from 33 to 126.
+#[derive(Clone, Copy, Debug)]
+pub enum Command<'a> {
+    /// Adds the file at a path to a label.
+    Add {
+        /// The name of the label.
+        label: &'a [u8],
+        /// Where the file is.
+        path: &'a str,
+    },
+    /// Keeps the rows of an event from now on.
+    Keep {
+        /// The name of the event.
+        event: &'a [u8],
+    },
+    /// Asks about all that was added.
+    Ask(Question<'a>),
+}
+
+fn are_visible(word: &[u8]) -> bool
+    ensures { IsTrue result ↔ All (λ b. IsInRange 33 126 b) word.now }
+{
+    word.iter().all(|b| b.is_ascii_graphic())
+}
+
+// Whether these bytes may be a word of a command.
+fn is_word(word: &[u8]) -> bool
+    ensures { IsTrue result ↔ IsWord word.now }
+{
+    if word.is_empty() {
+        return false;
+    }
+    are_visible(word)
+}
+
+// The text of a word.
+fn text_of(word: &[u8]) -> &str
+    requires { IsWord word.now }
+    ensures { result.now ≡ word.now }
+{
+    match std::str::from_utf8(word) {
+        Ok(text) => text,
+        Err(_) => unreachable!(),
+    }
+}
+
+// The command of three words.
+fn command_of<'a>(name: &[u8], first: &'a [u8], second: &'a [u8]) -> Option<Command<'a>>
+    ensures { HasWords (name.now ∷ first.now ∷ second.now ∷ []) (option_map command_seen result) }
+{
+    if !is_word(first) || !is_word(second) {
+        return None;
+    }
+    if name == b"add".as_slice() {
+        let path = text_of(second);
+        Some(Command::Add { label: first, path })
+    } else if name == b"interval".as_slice() {
+        Some(Command::Ask(Question::Interval { first, second }))
+    } else if name == b"order".as_slice() {
+        Some(Command::Ask(Question::Order { first, second }))
+    } else if name == b"prove".as_slice() {
+        Some(Command::Ask(Question::Prove { first, second }))
+    } else {
+        None
+    }
+}
+
+// The command of two words.
+fn command_of_two<'a>(name: &[u8], event: &'a [u8]) -> Option<Command<'a>>
+    ensures { HasWords (name.now ∷ event.now ∷ []) (option_map command_seen result) }
+{
+    if !is_word(event) {
+        return None;
+    }
+    if name == b"time".as_slice() {
+        Some(Command::Ask(Question::Time { event }))
+    } else if name == b"keep".as_slice() {
+        Some(Command::Keep { event })
+    } else {
+        None
+    }
+}
+
+// The command of one word.
+fn command_of_one(name: &[u8]) -> Option<Command<'_>>
+    ensures { HasWords (name.now ∷ []) (option_map command_seen result) }
+{
+    if name == b"merge".as_slice() {
+        Some(Command::Ask(Question::Merge))
+    } else if name == b"problem".as_slice() {
+        Some(Command::Ask(Question::Problem))
+    } else if name == b"report".as_slice() {
+        Some(Command::Ask(Question::Report))
+    } else {
+        None
+    }
+}
+
+// The command of fewer than three words.
+fn shorter_command(line: &[u8]) -> Option<Command<'_>>
+    requires { fields 2 line.now ≡ None }
+    ensures { Asks line.now (option_map command_seen result) }
+{
+    match cut(b' ', line) {
+        Some((name, event)) => command_of_two(name, event),
+        None => command_of_one(line),
+    }
+}
+
+/// The command that a line spells: its words are separated by single spaces, and no other byte stands before, between or
+/// behind them. None where it spells no command.
+pub fn read_command(line: &[u8]) -> Option<Command<'_>>
+    ensures { Asks line.now (option_map command_seen result) }
+{
+    match three_words(line) {
+        Some((name, first, second)) => command_of(name, first, second),
+        None => shorter_command(line),
+    }
+}

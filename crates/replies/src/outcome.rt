@@ -1,0 +1,95 @@
+// What came of a command that changes a session, and the line that tells it.
+ghost use Rattle.std.specs.Prelude.{◌≡◌, ◌≤◌, ◌+◌, ◌∷◌, [], ◌++◌, ℕ, List, length};
+ghost use Rattle.atto.specs.Decimal.{decimal_of};
+ghost use Rattle.line_format.specs.Words.{words};
+ghost use Rattle.line_words.specs.Room.{HasRoom};
+ghost use Rattle.replies.specs.Reply.{added_line, kept_line, state_word};
+ghost use Rattle.replies.specs.Outcomes.{outcome_line};
+
+use crate::refusal::Refusal;
+use line_words::line::{Line, first_word, push_decimal, push_word};
+
+/// What an addition changed.
+#[derive(Clone, Copy, Debug)]
+pub struct Added {
+    /// How many events there are more.
+    pub events: u64,
+    /// How many messages are new.
+    pub messages: u64,
+    /// How many messages are none any more.
+    pub withdrawn: u64,
+    /// How many bytes under the label wait for more.
+    pub pending: u64,
+    /// Whether some execution obeys all bounds.
+    pub consistent: bool,
+}
+
+/// What came of a command that changes a session.
+#[derive(Clone, Copy, Debug)]
+pub enum Outcome {
+    /// The piece was accepted.
+    Added(Added),
+    /// The event has this slot, counted from 1.
+    Kept(u32),
+    /// Nothing changed.
+    Refused(Refusal),
+}
+
+impl Outcome {
+    /// The line that tells it.
+    pub fn line(self) -> Line
+        ensures { result.items ≡ outcome_line self }
+    {
+        match self {
+            Outcome::Added(added) => added_line(added),
+            Outcome::Kept(slot) => kept_line(slot),
+            Outcome::Refused(refusal) => refusal.line(),
+        }
+    }
+}
+
+// Appends a word of at most 20 bytes and a decimal.
+fn push_count(line: &mut Line, word: &[u8], number: u64)
+    requires short { length word.now ≤ 20 }
+    requires room { HasRoom line.old.items 98 }
+    ensures appended { (first : List ℕ) (ws : List (List ℕ)) → line.old.items ≡ words (first ∷ ws) → line.new.items ≡ words (first ∷ ws ++ word.now ∷ decimal_of number ∷ []) }
+    ensures grown { length line.new.items ≤ length line.old.items + 98 }
+{
+    push_word(line, word);
+    push_decimal(line, number);
+}
+
+fn state_word(consistent: bool) -> &'static [u8]
+    ensures word { result.now ≡ state_word consistent }
+    ensures short { length result.now ≤ 20 }
+{
+    if consistent {
+        b"consistent"
+    } else {
+        b"inconsistent"
+    }
+}
+
+// The line of what an addition changed.
+fn added_line(added: Added) -> Line
+    ensures { result.items ≡ added_line added.events added.messages added.withdrawn added.pending added.consistent }
+{
+    let mut line = first_word(b"added");
+    push_count(&mut line, b"events", added.events);
+    push_count(&mut line, b"messages", added.messages);
+    push_count(&mut line, b"withdrawn", added.withdrawn);
+    push_count(&mut line, b"pending", added.pending);
+    push_word(&mut line, state_word(added.consistent));
+    line.push(b'\n');
+    line
+}
+
+// The line of the slot of an event.
+fn kept_line(slot: u32) -> Line
+    ensures { result.items ≡ kept_line slot }
+{
+    let mut line = first_word(b"kept");
+    push_decimal(&mut line, u64::from(slot));
+    line.push(b'\n');
+    line
+}
