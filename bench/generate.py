@@ -16,7 +16,7 @@ from a thousand events on there is none.
 
 With --one-way the number is that of messages, all from h1 to h0, and ten events of h0 alone come with
 each of them. --drift is the same, but that messages take 1,000 to 1,100 ns, and that the clock of h1 is 0.02% fast, where 0.002% is
-declared: from fifty messages on no real times obey that. No execution is written.
+declared: from fifty messages on no real times obey that. No execution is written. With --alone another number of events of h0 comes with each message.
 """
 
 import argparse
@@ -93,7 +93,7 @@ def generate(count):
     return trace, delays
 
 
-def generate_one_way(count, fast, most):
+def generate_one_way(count, alone_each, fast, most):
     """A trace of messages from h1 to h0, and the delays of these, as above; then the events of h0 alone."""
     draws = Draws(count + 1)
     trace = Trace([draws.below(10**9) for _ in range(2)], fast)
@@ -101,7 +101,7 @@ def generate_one_way(count, fast, most):
     alone = []
     time = 10**9
     while len(delays) < count:
-        for _ in range(ALONE):
+        for _ in range(alone_each):
             time += 1 + draws.below(10_000)
             alone.append(time)
         time += 1 + draws.below(10_000)
@@ -158,11 +158,12 @@ def main():
         ("drift", "N-drift.problem alone"),
     ):
         forms.add_argument(f"--{form}", dest="form", action="store_const", const=form, help=what)
+    parser.add_argument("--alone", type=int, default=ALONE, help="how many events of h0 alone come with each message of --one-way or --drift")
     args = parser.parse_args()
     if args.form in ("one-way", "drift"):
-        if not 1 <= args.count <= MOST_EVENTS // (ALONE + 2):
-            parser.error(f"a number of messages from 1 to {MOST_EVENTS // (ALONE + 2)}")
-        trace, delays = generate_one_way(args.count, *((FAST, NEAR) if args.form == "drift" else (0, MOST)))
+        if not 0 <= args.alone <= MOST_EVENTS or not 1 <= args.count <= MOST_EVENTS // (args.alone + 2):
+            parser.error(f"at most {MOST_EVENTS} events, one message at least")
+        trace, delays = generate_one_way(args.count, args.alone, *((FAST, NEAR) if args.form == "drift" else (0, MOST)))
     else:
         if args.count % 2 != 0 or not 2 <= args.count <= MOST_EVENTS:
             parser.error("an even number of events from 2 to 2^21")

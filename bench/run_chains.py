@@ -5,9 +5,9 @@
 
 CLOCKS are how many clocks a chain has, up to 65,536; with none 16384, 32768 and 65536. Prints two Markdown tables, with the least processor time of
 RUNS runs, 3 if it is not set. The first: `obey` of a problem with one chain of so many clocks, an event on each, where the follows stand from the front of
-the chain on, and from its end; and where the first and the last clock alone have an event. The second: `verify` of a cycle of STEPS steps, 8388608
-if it is not set, which is the most that a certificate may have, each a follow from the first clock to one somewhere behind it. PROGRAM names the program, else it is the one that
-the gate built.
+the chain on, from its end, and by halves, where each joins two chains of one length; and where the first and the last clock alone have an event. The
+second: `verify` of a cycle of STEPS steps, 8388608 if it is not set, which is the most that a certificate may have, each a follow from the first clock to
+one somewhere behind it. PROGRAM names the program, else it is the one that the gate built.
 """
 import os
 import resource
@@ -30,6 +30,14 @@ def problem(clocks, follows, stamped):
     yield from (f"follow c{it} c{it + 1} 1\n" for it in follows)
     yield from (f"event e{it} c{it} 0\n" for it in stamped)
     yield "end\n"
+
+
+def by_halves(clocks):
+    """The follows of one chain, of which each joins two chains that are as long as each other."""
+    step = 1
+    while step < clocks:
+        yield from range(step - 1, clocks - 1, 2 * step)
+        step *= 2
 
 
 def execution(stamped):
@@ -69,11 +77,12 @@ def seconds(words, wanted):
 
 def main(counts):
     with tempfile.TemporaryDirectory() as folder:
-        print("| clocks | from the front, s | from the end, s | two events alone, s |\n|---:|---:|---:|---:|")
+        print("| clocks | from the front, s | from the end, s | by halves, s | two events alone, s |\n|---:|---:|---:|---:|---:|")
         for clocks in counts:
             every, ends = range(clocks), (0, clocks - 1)
             cells = []
-            for follows, stamped in ((range(clocks - 1), every), (range(clocks - 2, -1, -1), every), (range(clocks - 1), ends)):
+            orders = ((range(clocks - 1), every), (range(clocks - 2, -1, -1), every), (by_halves(clocks), every), (range(clocks - 1), ends))
+            for follows, stamped in orders:
                 text = written(f"{folder}/problem", problem(clocks, follows, stamped))
                 times = written(f"{folder}/execution", execution(stamped))
                 cells.append(f"{seconds([PROGRAM, 'obey', text, times], 'obeys'):.2f}")

@@ -6,10 +6,10 @@
 #     bench/run_widen.sh [EVENTS..]
 #
 # EVENTS are even numbers from 100 to 2^21; with none, 1,000, 10,000, 100,000 and 2^20. Of each size there are three traces: one without a
-# contradiction, one in which a link declares too small a greatest delay, and one-way messages to a clock that declares too small a drift, of
-# twelve events each. TRACESYNC names another program to measure than crates/tracesync/out/tracesync, and RUNS another number of runs than 3, of
-# which the least time counts. Above REFERENCE_UP_TO events, 100,000 if it is not set, traces with a contradiction are left out, and those of a drift above a
-# tenth of that: there the offsets of clocks grow all along, and a round takes minutes.
+# contradiction, one in which a link declares too small a greatest delay, and one-way messages to a clock that declares too small a drift, one for
+# each twelve events. TRACESYNC names another program to measure than crates/tracesync/out/tracesync, and RUNS another number of runs than 3, of
+# which the least time counts. Of a drift there are at most DRIFTING messages, 833 if it is not set, among the other events: there the offsets of clocks grow all
+# along, so a round takes the square of their number.
 set -euo pipefail
 export LC_ALL=C
 
@@ -19,13 +19,16 @@ sizes=("$@")
 [ ${#sizes[@]} -gt 0 ] || sizes=(1000 10000 100000 1048576)
 
 table_row() {
-    local events=$1 trace=$2 count=$1 suffix=-$2 form=$2 problem
+    local events=$1 trace=$2 count=$1 suffix=-$2 form=$2 alone=10 problem
     case $trace in
     none) form=problem suffix='' ;;
-    drift) count=$((events / 12)) ;;
+    drift)
+        count=$((events / 12 < drifting ? events / 12 : drifting))
+        alone=$((events / count - 2))
+        ;;
     esac
     problem=$out/$count$suffix.problem
-    python3 "$bench/generate.py" "--$form" "$count" "$out"
+    python3 "$bench/generate.py" "--$form" "$count" --alone "$alone" "$out"
     local ours='' theirs='' rounds k
     for ((k = 0; k < runs; k++)); do
         ours=$(lesser "$ours" "$(time_once tracesync "$program" widen "$problem")")
@@ -40,16 +43,13 @@ table_row() {
     rm -f "$problem"
 }
 
+drifting=${DRIFTING:-833}
 check_sizes "${sizes[@]}"
 compile rounds
 need_program
 table_head events contradiction 'least, ns' rounds 'tracesync, ms' 'C++, ms' ratio 'tracesync, KiB' 'C++, KiB'
 for events in "${sizes[@]}"; do
     table_row "$events" none
-    if ((events <= reference_up_to)); then
-        table_row "$events" link
-    fi
-    if ((10 * events <= reference_up_to)); then
-        table_row "$events" drift
-    fi
+    table_row "$events" link
+    table_row "$events" drift
 done
