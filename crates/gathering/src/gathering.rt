@@ -1,5 +1,5 @@
 // A sink that holds what is written, and passes it on in large pieces.
-ghost use Rattle.std.specs.Prelude.{◌≡◌, ◌⊎◌, ◌++◌, ◌+◌, ◌-◌, ◌≤◌, [], Ok, IfOk, OnErr, min, length, take, drop, vec_len, vec_capacity};
+ghost use Rattle.std.specs.Prelude.{◌≡◌, ◌⊎◌, ◌++◌, ◌+◌, ◌-◌, ◌≤◌, ◌<◌, [], Ok, IfOk, OnErr, min, length, take, drop, vec_len, vec_capacity};
 ghost use Rattle.ports.specs.Content.{WritesSome};
 ghost use Rattle.gathering.specs.Gathered.{Finishes, Holds, with_held};
 
@@ -106,6 +106,10 @@ impl<O: Sink + Drop> Sink for Gathering<O> {
         ensures held { length self.old.held + length piece.now ≤ self.old.room → Holds piece.now self.old self.new × (result ≡ Ok (length piece.now)) }
         ensures kept { OnErr result (self.new.held ≡ self.old.held) }
         ensures room { self.new.room ≡ self.old.room }
+
+        // A piece longer than the room, where nothing is held, goes below as it is.
+        ensures passed { self.old.held ≡ [] → self.old.room < length piece.now → WritesSome piece.now (O.told self.old.below) (O.told self.new.below) result }
+        ensures none_held { self.old.held ≡ [] → self.old.room < length piece.now → self.new.held ≡ [] }
     {
         if piece.len() <= self.room - self.bytes.len() {
             return Ok(hold(&mut self.bytes, self.room, piece));
