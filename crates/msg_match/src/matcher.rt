@@ -63,8 +63,8 @@ impl Matcher {
         self.log.len()
     }
 
-    /// The message of a key, where it has one send and one receive among all events.
-    pub fn couple(&self, key: &Key) -> Option<Couple>
+    // The message of a key, where it has one send and one receive among all events.
+    fn couple(&self, key: &Key) -> Option<Couple>
         ensures { result ≡ couple_of (group_of self.now (key_of key.now)) }
     {
         let place = self.keys.place(key)?;

@@ -1,5 +1,5 @@
 // Declarations, logs and texts that several modules use.
-ghost use Rattle.std.specs.Prelude.{IfSome};
+ghost use Rattle.std.specs.Prelude.{◌≡◌, IfSome};
 ghost use Rattle.decl.specs.Declaration.{IsDeclaration, declaration_of};
 
 use decl::{Decl, read_decl};
@@ -27,7 +27,9 @@ pub(crate) fn declared(alloc: Global, text: &[u8]) -> Option<Decl>
 }
 
 // These events, accepted from a piece of so many bytes.
-pub(crate) fn accepted(events: Vec<Event>, size: u64) -> Accepted {
+pub(crate) fn accepted(events: Vec<Event>, size: u64) -> Accepted
+    ensures { result.events.items ≡ events.items }
+{
     Accepted {
         events,
         size,
@@ -35,12 +37,17 @@ pub(crate) fn accepted(events: Vec<Event>, size: u64) -> Accepted {
     }
 }
 
-// What is accepted of a log with this text.
-pub(crate) fn log_of(alloc: Global, text: &[u8]) -> Option<Accepted> {
+// The events of a log with this text.
+pub(crate) fn events_of_log(alloc: Global, text: &[u8]) -> Option<Vec<Event>> {
     if text.len() > 1 << 28 {
         return None;
     }
     let rows = read_rows(alloc, text).ok()?;
-    let events = row_events(alloc, rows).ok()?;
+    row_events(alloc, rows).ok()
+}
+
+// What is accepted of a log with this text.
+pub(crate) fn log_of(alloc: Global, text: &[u8]) -> Option<Accepted> {
+    let events = events_of_log(alloc, text)?;
     Some(accepted(events, text.len() as u64))
 }

@@ -1,7 +1,9 @@
 // Reports on small traces, byte for byte. The lines were made by another JSON writer (Python's json), with sorted keys.
-ghost use Rattle.std.specs.Prelude.{◌≤◌};
+ghost use Rattle.std.specs.Prelude.{◌≡◌, ◌≤◌, [], IfOk, OnOk};
+ghost use Rattle.traces.specs.Held.{seen_in};
+ghost use Rattle.trace_match.specs.Ends.{AreEndsOf};
 
-use crate::fixtures::{EMPTY_REPORT, accepted, declared, log_of};
+use crate::fixtures::{EMPTY_REPORT, accepted, declared, events_of_log};
 use arrayvec::ArrayVec;
 use atto::Nano;
 use captures::Packet;
@@ -9,9 +11,10 @@ use decl::Decl;
 use event_log::WordKey;
 use ip_headers::PacketKey;
 use report::report_line;
-use std::alloc::Global;
+use std::alloc::{AllocError, Global};
 use std::test::*;
-use trace_event::{Key, packet_events};
+use trace_event::{Event, Key, packet_events};
+use trace_match::{TraceMatcher, ends_grow};
 use trace_report::{key_text, view_of};
 use traces::{Accepted, event_count};
 use wide_headers::WideKey;
@@ -63,11 +66,13 @@ const LENGTH: [u8; 20] = [
 // A frame by its link type and its bytes.
 type Frame = (u16, &'static [u8]);
 
-// The frames captured at each host, the logs there, and the line of the report.
+// The frames captured at each host, the logs there, how many events are added to which label, turn by turn, and the line of
+// the report.
 #[derive(Clone, Copy)]
 struct Case {
     frames: [&'static [Frame]; 2],
     logs: [&'static [u8]; 2],
+    turns: &'static [(u32, u32)],
     consistent: bool,
     line: &'static str,
 }
@@ -75,6 +80,7 @@ struct Case {
 const NOTHING: Case = Case {
     frames: [&[], &[]],
     logs: [b"", b""],
+    turns: &[],
     consistent: true,
     line: EMPTY_REPORT,
 };
@@ -86,6 +92,7 @@ const SECOND_SEND: Case = Case {
         b"1,send,m1,\n2,send,m2,\n3,send,m1,\n",
         b"5,receive,m1,\n6,receive,m2,\n",
     ],
+    turns: &[(3, 1), (2, 1), (3, 1), (2, 2)],
     consistent: true,
     line: "{\"ambiguous\":[{\"key\":\"log m1\",\"receives\":[\"lb#1\"],\"sends\":[\"la#1\",\"la#3\"]}],\"consistent\":true,\
     \"events\":5,\"messages\":1,\"nokey\":{\"fragment\":0,\"header\":0,\"length\":0,\"link\":0,\"local\":0,\"other\":0,\
@@ -99,6 +106,7 @@ const ALONE: Case = Case {
         b"1,send,a,\n2,local,,x\n3,local,,\n",
         b"1,receive,b,\n2,send,c,\n2,send,c,\n3,local,,\n",
     ],
+    turns: &[(3, 4), (2, 3)],
     consistent: false,
     line: "{\"ambiguous\":[],\"consistent\":false,\"events\":7,\"messages\":0,\"nokey\":{\"fragment\":0,\"header\":0,\
     \"length\":0,\"link\":0,\"local\":3,\"other\":0,\"short\":0,\"side\":0},\"unmatched\":4}\n",
@@ -111,9 +119,25 @@ const ORDER: Case = Case {
         b"1,send,z,\n2,send,a,\n3,send,z,\n4,send,a,\n",
         b"1,receive,a,\n2,receive,z,\n",
     ],
+    turns: &[(3, 2), (2, 4)],
     consistent: true,
     line: "{\"ambiguous\":[{\"key\":\"log z\",\"receives\":[\"lb#2\"],\"sends\":[\"la#1\",\"la#3\"]},{\"key\":\"log a\",\
     \"receives\":[\"lb#1\"],\"sends\":[\"la#2\",\"la#4\"]}],\"consistent\":true,\"events\":6,\"messages\":0,\
+    \"nokey\":{\"fragment\":0,\"header\":0,\"length\":0,\"link\":0,\"local\":0,\"other\":0,\"short\":0,\"side\":0},\
+    \"unmatched\":0}\n",
+};
+
+// Keys with events of both labels, which are added in turn: the first event of the key that came first is added last.
+const IN_TURN: Case = Case {
+    frames: [&[], &[]],
+    logs: [
+        b"1,send,q,\n2,receive,p,\n3,send,p,\n",
+        b"1,send,p,\n2,receive,q,\n3,send,q,\n4,receive,p,\n5,send,p,\n",
+    ],
+    turns: &[(3, 3), (2, 1), (3, 2), (2, 2)],
+    consistent: true,
+    line: "{\"ambiguous\":[{\"key\":\"log q\",\"receives\":[\"lb#2\"],\"sends\":[\"la#1\",\"lb#3\"]},{\"key\":\"log p\",\
+    \"receives\":[\"la#2\",\"lb#4\"],\"sends\":[\"la#3\",\"lb#1\",\"lb#5\"]}],\"consistent\":true,\"events\":8,\"messages\":0,\
     \"nokey\":{\"fragment\":0,\"header\":0,\"length\":0,\"link\":0,\"local\":0,\"other\":0,\"short\":0,\"side\":0},\
     \"unmatched\":0}\n",
 };
@@ -140,6 +164,7 @@ const PACKETS: Case = Case {
         &[(101, &SEGMENT), (101, &OVER), (101, &BACK), (101, &SEGMENT)],
     ],
     logs: [b"1,send,m,\n", b"1,local,,\n"],
+    turns: &[(1, 3), (0, 10), (3, 1), (1, 1), (2, 1), (0, 4)],
     consistent: true,
     line: "{\"ambiguous\":[{\"key\":\"udp 10.1.2.3:5000 192.168.3.254:6000 id 7 length 8 payload -\",\"receives\":[\"cb#2\"],\
     \"sends\":[\"ca#1\",\"ca#3\"]},\
@@ -149,7 +174,7 @@ const PACKETS: Case = Case {
     \"unmatched\":1}\n",
 };
 
-const CASES: [Case; 5] = [NOTHING, SECOND_SEND, ALONE, ORDER, PACKETS];
+const CASES: [Case; 6] = [NOTHING, SECOND_SEND, ALONE, ORDER, IN_TURN, PACKETS];
 
 fn packets_of(alloc: Global, frames: &[Frame]) -> Option<Vec<Packet>> {
     let mut packets = Vec::new(alloc);
@@ -162,31 +187,117 @@ fn packets_of(alloc: Global, frames: &[Frame]) -> Option<Vec<Packet>> {
     Some(packets)
 }
 
-fn captured(alloc: Global, decl: &Decl, host: u32, frames: &[Frame]) -> Option<Accepted>
+fn captured(alloc: Global, decl: &Decl, host: u32, frames: &[Frame]) -> Option<Vec<Event>>
     requires { decl.now.payload_bytes ≤ 64 }
 {
     let packets = packets_of(alloc, frames)?;
-    let events = packet_events(alloc, decl, host, &packets).ok()?;
-    Some(accepted(events, 0))
+    packet_events(alloc, decl, host, &packets).ok()
 }
 
-fn traces_of(alloc: Global, decl: &Decl, case: &Case) -> Option<Vec<Accepted>>
+// The events of each label, from the last to the first.
+fn events_backward(alloc: Global, decl: &Decl, case: &Case) -> Option<Vec<Vec<Event>>>
     requires { decl.now.payload_bytes ≤ 64 }
 {
     let at_a = captured(alloc, decl, 0, case.frames[0])?;
     let at_b = captured(alloc, decl, 1, case.frames[1])?;
-    let of_a = log_of(alloc, case.logs[0])?;
-    let of_b = log_of(alloc, case.logs[1])?;
-    Vec::from_array(alloc, [at_a, at_b, of_a, of_b]).ok()
+    let of_a = events_of_log(alloc, case.logs[0])?;
+    let of_b = events_of_log(alloc, case.logs[1])?;
+    let mut labels = Vec::from_array(alloc, [at_a, at_b, of_a, of_b]).ok()?;
+    for events in &mut labels {
+        events.reverse();
+    }
+    Some(labels)
+}
+
+// What was accepted under four labels, and the ends of messages among it.
+#[derive(Drop)]
+struct Kept {
+    matcher: TraceMatcher,
+    labels: Vec<Accepted>,
+}
+
+fn nothing(alloc: Global) -> Accepted
+    ensures { result.events.items ≡ [] }
+{
+    accepted(Vec::new(alloc), 0)
+}
+
+fn none_kept(alloc: Global) -> Result<Kept, AllocError>
+    ensures { IfOk result (λ kept. AreEndsOf kept.matcher (seen_in kept.labels.items)) }
+{
+    ends_grow();
+    let labels = [
+        nothing(alloc),
+        nothing(alloc),
+        nothing(alloc),
+        nothing(alloc),
+    ];
+    let labels = Vec::from_array(alloc, labels)?;
+    let matcher = TraceMatcher::new(alloc);
+    Ok(Kept { matcher, labels })
+}
+
+// Adds events to a label and to the ends of messages.
+fn add_more(kept: &mut Kept, label: u32, mut events: Vec<Event>) -> Result<(), AllocError>
+    requires { AreEndsOf kept.old.matcher (seen_in kept.old.labels.items) }
+    ensures { OnOk result (AreEndsOf kept.new.matcher (seen_in kept.new.labels.items)) }
+{
+    ends_grow();
+    if event_count(&kept.labels) > 1000 || events.len() > 1000 {
+        return Err(AllocError);
+    }
+    if label as usize >= kept.labels.len() {
+        return Err(AllocError);
+    }
+    let under = &mut kept.labels[label as usize];
+    let before = under.events.len();
+    if before > 1000 {
+        return Err(AllocError);
+    }
+    let _changes = kept.matcher.add(label, before as u32 + 1, &events)?;
+    under.events.append(&mut events)?;
+    Ok(())
+}
+
+// The next events of those that are left.
+fn next_events(alloc: Global, left: &mut Vec<Event>, count: u32) -> Result<Vec<Event>, AllocError> {
+    let mut next = Vec::new(alloc);
+    for _ in 0..count {
+        match left.pop() {
+            Some(event) => next.push(event)?,
+            None => return Err(AllocError),
+        }
+    }
+    Ok(next)
+}
+
+// Events added turn by turn: to which label, and how many of those that are left for it.
+fn added_in_turn(
+    alloc: Global,
+    left: &mut [Vec<Event>],
+    turns: &[(u32, u32)],
+) -> Result<Kept, AllocError>
+    ensures { IfOk result (λ kept. AreEndsOf kept.matcher (seen_in kept.labels.items)) }
+{
+    let mut kept = none_kept(alloc)?;
+    for (label, count) in turns {
+        if *label as usize >= left.len() {
+            return Err(AllocError);
+        }
+        let events = next_events(alloc, &mut left[*label as usize], *count)?;
+        add_more(&mut kept, *label, events)?;
+    }
+    Ok(kept)
 }
 
 fn line_of(alloc: Global, case: &Case) -> Option<Vec<u8>> {
     let decl = declared(alloc, DECLARATION)?;
-    let traces = traces_of(alloc, &decl, case)?;
-    if traces.len() != decl.labels.len() || event_count(&traces) > 1 << 21 {
+    let mut left = events_backward(alloc, &decl, case)?;
+    let kept = added_in_turn(alloc, &mut left, case.turns).ok()?;
+    if kept.labels.len() != decl.labels.len() || event_count(&kept.labels) > 1 << 21 {
         return None;
     }
-    let view = view_of(alloc, &decl, &traces, case.consistent).ok()?;
+    let view = view_of(alloc, &decl, &kept.labels, &kept.matcher, case.consistent).ok()?;
     report_line(alloc, &view).ok()
 }
 

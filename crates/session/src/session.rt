@@ -190,6 +190,7 @@ impl Session {
         answer(
             self.alloc,
             &self.accepted,
+            &self.matcher,
             &mut self.answers,
             question,
             out,

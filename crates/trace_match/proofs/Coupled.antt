@@ -1,26 +1,25 @@
 -- Messages by the names of their ends.
-use Rattle.std.proofs.Common.{◌≡◌, ◌≢◌, ℕ, List, [], ◌∷◌, map, refl, sym, ap, ◌∙◌, subst, arith}
-use Rattle.std.specs.Prelude.{AllPairs, Contains, option_map, option_to_list}
-use Rattle.std.specs.List.{flat_map}
+use Rattle.std.proofs.Common.{◌≡◌, ◌≢◌, ℕ, List, [], ◌∷◌, map, sym, ap, ◌∙◌, subst}
+use Rattle.std.specs.Prelude.{AllPairs, Contains}
 use Rattle.std.specs.List.Sorted.{IsPermutation}
 use Rattle.std.proofs.lemmas.List.Sorted.{IsPermutation-sym}
 use Rattle.trace_event.specs.declared.event.Side.{Side}
 use Rattle.trace_event.specs.declared.event.Side.TheVariants.{Send, Receive}
-use Rattle.trace_event.specs.Seen.{EventKey, SeenMark, Keyed, Unkeyed}
+use Rattle.trace_event.specs.Seen.{EventKey}
 use Rattle.msg_match.specs.declared.change.Couple as numbers
-use Rattle.msg_match.specs.Groups as groups
 use Rattle.msg_match.specs.Groups.{SeenItem, events_with}
 use Rattle.msg_match.specs.Messages.{IsMessage}
 use Rattle.traces.specs.declared.event.EventId.{EventId}
 use Rattle.traces.specs.declared.event.Couple.{Couple}
 use Rattle.traces.specs.Traces.{Placed}
-use Rattle.traces.specs.Messages.{messages_of, only_two, sent_by, with_mark}
+use Rattle.traces.specs.Messages.{messages_of, with_mark}
 use Rattle.traces.proofs.Marks.{only_from, only_to}
 use Rattle.traces.proofs.MessageEnds.{pair_from, pair_to}
 use Rattle.trace_match.specs.Ends.{End, ends_of}
-use Rattle.trace_match.specs.Inside.{name_at, named, named_by}
-use Rattle.trace_match.proofs.Lists.{AreAlike, alike_filter, alike_map, alike_one, flat_map_same, map_one}
-use Rattle.trace_match.proofs.Names.{end_at, is_end, names_at, names_of, names_with}
+use Rattle.trace_match.specs.Ambiguous.{is_end, names_with}
+use Rattle.trace_match.specs.Inside.{name_at, named}
+use Rattle.trace_match.proofs.Lists.{AreAlike, alike_filter, alike_map, alike_one, map_one}
+use Rattle.trace_match.proofs.Names.{end_at, names_by, names_of}
 
 -- of all ends with some key, the couple has the only send and the only receive
 pub record IsCouple (ends : List End) (m : Couple) : Type 0 where
@@ -82,15 +81,15 @@ module _ (ids : List EventId) (items : List SeenItem) where
   pub item_couple : (m : numbers.Couple) → IsMessage items m → IsCouple (map (end_at ids) items) (named ids m)
   item_couple m message = record {
     key = message.key;
-    sent = names_at ids items message.key Send ∙ ap (λ (l : List ℕ). map (name_at ids) l) message.sent;
-    received = names_at ids items message.key Receive ∙ ap (λ (l : List ℕ). map (name_at ids) l) message.received;
+    sent = names_by (name_at ids) items message.key Send ∙ ap (λ (l : List ℕ). map (name_at ids) l) message.sent;
+    received = names_by (name_at ids) items message.key Receive ∙ ap (λ (l : List ℕ). map (name_at ids) l) message.received;
   }
 
   -- and a couple is a message
   pub couple_item : (m : Couple) → IsCouple (map (end_at ids) items) m → (n : numbers.Couple) × IsMessage items n × (named ids n ≡ m)
   couple_item m couple =
-      let (s, only_s, is_s) = map_one (name_at ids) (events_with items couple.key Send) m.send (sym (names_at ids items couple.key Send) ∙ couple.sent) in
-      let (r, only_r, is_r) = map_one (name_at ids) (events_with items couple.key Receive) m.receive (sym (names_at ids items couple.key Receive) ∙ couple.received) in (
+      let (s, only_s, is_s) = map_one (name_at ids) (events_with items couple.key Send) m.send (sym (names_by (name_at ids) items couple.key Send) ∙ couple.sent) in
+      let (r, only_r, is_r) = map_one (name_at ids) (events_with items couple.key Receive) m.receive (sym (names_by (name_at ids) items couple.key Receive) ∙ couple.received) in (
         record { send = s; receive = r },
         record { key = couple.key; sent = only_s; received = only_r },
         ap (λ (n : EventId). made n (name_at ids r)) is_s ∙ ap (λ (n : EventId). made m.send n) is_r,
@@ -98,63 +97,3 @@ module _ (ids : List EventId) (items : List SeenItem) where
     where
       made : EventId → EventId → Couple
       made send receive = record { send = send; receive = receive }
-
--- ---- the message that an event sends
-placed_ids : List Placed → List EventId
-placed_ids events = map (λ (e : Placed). e.id) events
-
-one_id : (a b : EventId) → AreAlike (a ∷ []) (b ∷ []) → b ≡ a
-one_id a b alike = let is = alike_one a (b ∷ []) alike in cc
-
-abbrev two_named : List EventId → List ℕ → List ℕ → List Couple
-two_named ids ss rs = option_to_list (option_map (named ids) (groups.only_two ss rs))
-
-two_receive : (ids : List EventId) (s : ℕ) (w : Placed) (rs : List ℕ) (vs : List Placed) → name_at ids s ≡ w.id → AreAlike (placed_ids vs) (map (name_at ids) rs) → two_named ids (s ∷ []) rs ≡ only_two (w ∷ []) vs
-unfolding placed_ids
-two_receive ids s w [] [] is alike = refl
-two_receive ids s w [] (v ∷ vs) is alike = let long = alike.0 in absurd (omega (arith, long))
-two_receive ids s w (r ∷ rs) [] is alike = let long = alike.0 in absurd (omega (arith, long))
-two_receive ids s w (r ∷ []) (v ∷ []) is alike =
-    let is' : name_at ids r ≡ v.id = one_id v.id (name_at ids r) alike in
-    ap (λ (n : EventId). made n (name_at ids r) ∷ []) is ∙ ap (λ (n : EventId). made w.id n ∷ []) is'
-  where
-    made : EventId → EventId → Couple
-    made send receive = record { send = send; receive = receive }
-two_receive ids s w (r ∷ []) (v ∷ u ∷ vs) is alike = let long = alike.0 in absurd (omega (arith, long))
-two_receive ids s w (r ∷ q ∷ rs) (v ∷ []) is alike = let long = alike.0 in absurd (omega (arith, long))
-two_receive ids s w (r ∷ q ∷ rs) (v ∷ u ∷ vs) is alike = refl
-
-two_send : (ids : List EventId) (ss rs : List ℕ) (ws vs : List Placed) → AreAlike (placed_ids ws) (map (name_at ids) ss) → AreAlike (placed_ids vs) (map (name_at ids) rs) → two_named ids ss rs ≡ only_two ws vs
-unfolding placed_ids
-two_send ids [] rs [] vs alike alike' = refl
-two_send ids [] rs (w ∷ ws) vs alike alike' = let long = alike.0 in absurd (omega (arith, long))
-two_send ids (s ∷ ss) rs [] vs alike alike' = let long = alike.0 in absurd (omega (arith, long))
-two_send ids (s ∷ []) rs (w ∷ []) vs alike alike' = two_receive ids s w rs vs (one_id w.id (name_at ids s) alike) alike'
-two_send ids (s ∷ []) rs (w ∷ u ∷ ws) vs alike alike' = let long = alike.0 in absurd (omega (arith, long))
-two_send ids (s ∷ t ∷ ss) rs (w ∷ []) vs alike alike' = let long = alike.0 in absurd (omega (arith, long))
-two_send ids (s ∷ t ∷ ss) rs (w ∷ u ∷ ws) vs alike alike' = refl
-
-module _ (ids : List EventId) (items : List SeenItem) (events : List Placed) (same : IsPermutation (ends_of events) (map (end_at ids) items)) where
-  alike_at : (key : EventKey) (side : Side) → AreAlike (placed_ids (with_mark key side events)) (map (name_at ids) (events_with items key side))
-  unfolding placed_ids
-  alike_at key side =
-      subst (λ (l : List EventId). AreAlike l (map (name_at ids) (events_with items key side))) (names_of events key side)
-      (subst (λ (l : List EventId). AreAlike (names_with (ends_of events) key side) l) (names_at ids items key side) (alike_names (ends_of events) (map (end_at ids) items) key side same))
-
-  at_side : (key : EventKey) (side : Side) → option_to_list (named_by ids items (Keyed key side)) ≡ sent_by events (Keyed key side)
-  at_side key Send =
-      two_send ids (events_with items key Send) (events_with items key Receive) (with_mark key Send events) (with_mark key Receive events) (alike_at key Send) (alike_at key Receive)
-  at_side key Receive = refl
-
-  -- what the items say is what the filters say
-  pub sent_named : (mark : SeenMark) → option_to_list (named_by ids items mark) ≡ sent_by events mark
-  sent_named (Unkeyed reason) = refl
-  sent_named (Keyed key side) = at_side key side
-
--- the messages that some events send
-abbrev pub sent_names : List EventId → List SeenItem → List Placed → List Couple
-sent_names ids items events = flat_map (λ (e : Placed). option_to_list (named_by ids items e.seen.mark)) events
-
--- where the events are all, they are the messages
-pub all_names : (ids : List EventId) (items : List SeenItem) (events : List Placed) → IsPermutation (ends_of events) (map (end_at ids) items) → sent_names ids items events ≡ messages_of events
-all_names ids items events same = flat_map_same (λ (e : Placed). option_to_list (named_by ids items e.seen.mark)) (λ (e : Placed). sent_by events e.seen.mark) events (λ e. sent_named ids items events same e.seen.mark)

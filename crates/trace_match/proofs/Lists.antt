@@ -1,7 +1,7 @@
 -- Lists with the same elements.
-use Rattle.std.proofs.Common.{◌≡◌, ◌≢◌, ◌≤◌, ℕ, List, [], ◌∷◌, ◌++◌, length, map, get_or, Bool, true, false, cond, inl, inr, refl, sym, ap, ◌∙◌, subst, arith, ◌+◌}
+use Rattle.std.proofs.Common.{◌≡◌, ◌≢◌, ◌≤◌, ℕ, List, [], ◌∷◌, length, map, get_or, Bool, true, false, cond, inl, inr, refl, sym, ap, ◌∙◌, subst, arith, ◌+◌}
 use Rattle.std.specs.Prelude.{All, AllPairs, Contains, filter, sum_by}
-use Rattle.std.specs.List.{flat_map, remove}
+use Rattle.std.specs.List.{remove}
 use Rattle.std.specs.List.Sorted.{IsPermutation}
 use Rattle.std.proofs.lemmas.List.{get_or-map, length-map}
 use Rattle.std.proofs.lemmas.List.Elements.{All-contains, All-map, Contains-get_or}
@@ -29,10 +29,6 @@ pub map_one : {X Y : Type 0} (f : X → Y) (xs : List X) (y : Y) → map f xs �
 map_one f [] y is = absurd cc
 map_one f (x ∷ []) y is = let same : f x ≡ y = cc in (x, refl, same)
 map_one f (x ∷ z ∷ xs) y is = let long = ap length is in absurd (omega (arith, long))
-
-pub flat_map_same : {X Y : Type 0} (f g : X → List Y) (xs : List X) → ((x : X) → f x ≡ g x) → flat_map f xs ≡ flat_map g xs
-flat_map_same f g [] same = refl
-flat_map_same f g (x ∷ xs) same = ap (λ l. l ++ flat_map f xs) (same x) ∙ ap (λ l. g x ++ l) (flat_map_same f g xs same)
 
 -- ---- different elements
 -- elements stay different under a function that tells them

@@ -1,6 +1,6 @@
 -- Ends of messages by the names of their events.
 use Rattle.std.proofs.Common.{◌≡◌, ◌≢◌, ◌-◌, ℕ, suc, List, [], ◌∷◌, ◌++◌, length, map, get_or, Bool, true, false, cond, ◌&&◌, ◌==◌, inl, inr, refl, sym, ap, ◌∙◌, subst, arith}
-use Rattle.std.specs.Prelude.{All, AllPairs, Contains, filter, Decides}
+use Rattle.std.specs.Prelude.{All, AllPairs, Contains, Decides}
 use Rattle.std.specs.List.Sorted.{IsPermutation}
 use Rattle.std.proofs.lemmas.Bool.{and_from, and_parts, cases_Bool, eq-eqb, eqb-true, false≢true}
 use Rattle.std.proofs.lemmas.List.{append_assoc, get_or-append_right, length_push}
@@ -18,11 +18,12 @@ use Rattle.traces.specs.Traces.{Placed, is_same}
 use Rattle.traces.specs.Messages.{with_mark}
 use Rattle.traces.proofs.Members.{first_of_pairs, giver, head_or_tail, no_pairs, none_in, rest_of_pairs}
 use Rattle.trace_match.specs.Ends.{End, end_of, ends_of}
+use Rattle.trace_match.specs.Ambiguous.{names_with}
 use Rattle.trace_match.specs.Inside.{ends_by, name_at, no_name}
 use Rattle.trace_match.proofs.Lists.{each_in, from_map}
 
 -- ---- names
-abbrev made_id : ℕ → ℕ → EventId
+abbrev pub made_id : ℕ → ℕ → EventId
 made_id label number = record { label = label; number = number }
 
 pub same_id : (a b : EventId) → is_same a b ≡ true → a ≡ b
@@ -49,15 +50,7 @@ turned_id a b = elim (cases_Bool (is_same a b)) [
 ]
 
 -- ---- ends with a key and a side
-pub is_end : EventKey → Side → End → Bool
-is_end key side e = is_same_key e.key key && is_same_side e.side side
-
--- their names
-abbrev pub names_with : List End → EventKey → Side → List EventId
-names_with ends key side = map (λ (e : End). e.id) (filter (is_end key side) ends)
-
 one_end : (id : EventId) (mark : SeenMark) (key : EventKey) (side : Side) (us : List End) (vs : List EventId) → names_with us key side ≡ vs → names_with (end_of id mark ++ us) key side ≡ cond (is_mark key side mark) (id ∷ vs) vs
-unfolding is_end
 one_end id (Unkeyed reason) key side us vs is = is
 one_end id (Keyed other its_side) key side us vs is = elim (cases_Bool (is_same_key other key && is_same_side its_side side)) [
   | inl yes' ↦ rw yes' (ap (λ (l : List EventId). id ∷ l) is)
@@ -76,17 +69,26 @@ names_of (e ∷ events) key side =
     ∙ sym (one_placed (is_mark key side e.seen.mark) e (with_mark key side events))
 
 -- ---- items as ends
-abbrev pub end_at : List EventId → SeenItem → End
-end_at ids x = record { id = name_at ids x.event; key = x.key; side = x.side }
+-- an item as an end, where its number stands for this event
+abbrev pub end_by : (ℕ → EventId) → SeenItem → End
+end_by f x = record { id = f x.event; key = x.key; side = x.side }
 
--- items have the names of their numbers
-pub names_at : (ids : List EventId) (items : List SeenItem) (key : EventKey) (side : Side) → names_with (map (end_at ids) items) key side ≡ map (name_at ids) (events_with items key side)
-unfolding is_end
-names_at ids [] key side = refl
-names_at ids (x ∷ items) key side = elim (cases_Bool (is_same_key x.key key && is_same_side x.side side)) [
-  | inl yes' ↦ rw yes' (ap (λ (l : List EventId). name_at ids x.event ∷ l) (names_at ids items key side))
-  | inr no' ↦ rw no' (names_at ids items key side)
+-- items have the names that their numbers stand for
+pub names_by : (f : ℕ → EventId) (items : List SeenItem) (key : EventKey) (side : Side) → names_with (map (end_by f) items) key side ≡ map f (events_with items key side)
+names_by f [] key side = refl
+names_by f (x ∷ items) key side = elim (cases_Bool (is_same_key x.key key && is_same_side x.side side)) [
+  | inl yes' ↦ rw yes' (ap (λ (l : List EventId). f x.event ∷ l) (names_by f items key side))
+  | inr no' ↦ rw no' (names_by f items key side)
 ]
+
+-- and the keys
+pub keys_by : (f : ℕ → EventId) (items : List SeenItem) → map (λ (e : End). e.key) (map (end_by f) items) ≡ map (λ (x : SeenItem). x.key) items
+keys_by f [] = refl
+keys_by f (x ∷ items) = ap (λ (l : List EventKey). x.key ∷ l) (keys_by f items)
+
+-- the same where numbers are those of names
+abbrev pub end_at : List EventId → SeenItem → End
+end_at ids x = end_by (name_at ids) x
 
 -- items that are numbered are ends by their places, whatever names stand before and behind
 pub by_names : (front ids back : List EventId) (items : List SeenItem) → length ids ≡ length items → AreNumberedFrom (length front) items → ends_by ids items ≡ map (end_at (front ++ (ids ++ back))) items
@@ -133,7 +135,7 @@ joined_by (id ∷ ids) more (x ∷ items) new many =
     ap (λ (l : List End). (record { id = id; key = x.key; side = x.side }) ∷ l) (joined_by ids more items new (omega (arith, many)))
 
 -- ---- names of their own
-own_end : (id : EventId) (mark : SeenMark) (x : End) → Contains (end_of id mark) x → x.id ≡ id
+pub own_end : (id : EventId) (mark : SeenMark) (x : End) → Contains (end_of id mark) x → x.id ≡ id
 own_end id (Unkeyed reason) x held = absurd (none_in x held)
 own_end id (Keyed key side) x held = elim (head_or_tail _ x [] held) [
   | inl is ↦ ap (λ (e : End). e.id) (sym is)

@@ -1,29 +1,24 @@
 -- What is found among events, and added to what is kept.
 use Rattle.std.proofs.Common.{◌≡◌, ◌≢◌, ◌≤◌, ◌<◌, ◌+◌, ℕ, List, [], ◌∷◌, ◌++◌, length, map, take, get_or, zero, suc, refl, sym, ap, ◌∙◌, subst, arith, length-append, length-take}
-use Rattle.std.specs.Prelude.{AllPairs, Some}
-use Rattle.std.specs.List.Sorted.{IsPermutation}
+use Rattle.std.specs.Prelude.{AllPairs}
 use Rattle.std.proofs.lemmas.List.{append-nil, length-map, map_more}
 use Rattle.trace_event.specs.declared.event.Event.{Event}
-use Rattle.trace_event.specs.declared.event.Side.TheVariants.{Send, Receive}
-use Rattle.trace_event.specs.Seen.{EventKey, Seen, mark_of, seen_event, seen_events}
-use Rattle.msg_match.specs.Groups.{SeenItem, couple_of, events_with, group_of}
+use Rattle.trace_event.specs.Seen.{Seen, mark_of, seen_event, seen_events}
+use Rattle.msg_match.specs.Groups.{SeenItem}
 use Rattle.msg_match.specs.declared.item.Item.{Item}
 use Rattle.msg_match.specs.Held.{seen_item, seen_items}
 use Rattle.msg_match.specs.Changes.{AreMessagesAnew, AreNumberedFrom, HaveOwnNumbers}
 use Rattle.msg_match.specs.declared.change.Couple as numbers
-use Rattle.msg_match.proofs.Changing.{two_parts}
 use Rattle.msg_match.proofs.Numbering.{numbers_apart, numbers_go_on}
 use Rattle.traces.specs.declared.event.EventId.{EventId}
 use Rattle.traces.specs.declared.event.Couple.{Couple}
-use Rattle.traces.specs.Traces.{Placed, events_of, numbered}
-use Rattle.traces.specs.Messages.{messages_of}
+use Rattle.traces.specs.Traces.{events_of, numbered}
 use Rattle.traces.proofs.Ids.{ids_differ}
 use Rattle.trace_match.specs.declared.changes.Changes.{Changes}
 use Rattle.trace_match.specs.Ends.{AreChanges, AreEndsOf, AreNewMessages, End, end_of, ends_of}
 use Rattle.trace_match.specs.Inside.{AreCouplesWithin, AreFound, AreNumbered, ends_by, named}
 use Rattle.trace_match.proofs.Names.{by_names, end_at, joined_by, length_by, names_differ}
-use Rattle.trace_match.proofs.Renamed.{AreWithin, anew_within, named_anew, number_within}
-use Rattle.trace_match.proofs.Coupled.{all_names, sent_names}
+use Rattle.trace_match.proofs.Renamed.{AreWithin, anew_within, named_anew}
 use Rattle.trace_match.proofs.Growing.{ends_joined, label_few, numbered_joined}
 
 -- ---- what is found
@@ -87,11 +82,15 @@ pub kept_ends : (ids more : List EventId) (items new : List SeenItem) (n : ℕ) 
 kept_ends ids more items new n ends kept found = joined_by ids more items new kept.many ∙ ap (λ (l : List End). ends_by ids items ++ l) found.is
 
 -- ---- how the messages change
-all_within : (ids : List EventId) (items : List SeenItem) → length items ≤ length ids → AreNumberedFrom 0 items → AreWithin ids items
+pub all_within : (ids : List EventId) (items : List SeenItem) → length items ≤ length ids → AreNumberedFrom 0 items → AreWithin ids items
 all_within ids items few from k d inside = omega (arith, from k d inside, few, inside)
 
 by_place : (ids back : List EventId) (items : List SeenItem) → AreNumbered ids items → ends_by ids items ≡ map (end_at (ids ++ back)) items
 by_place ids back items kept = by_names [] ids back items kept.many kept.numbered
+
+-- all ends by their numbers
+pub all_by : (ids : List EventId) (items : List SeenItem) → AreNumbered ids items → ends_by ids items ≡ map (end_at ids) items
+all_by ids items kept = by_place ids [] items kept ∙ ap (λ (l : List EventId). map (end_at l) items) (append-nil ids)
 
 module _ (ids more : List EventId) (items new : List SeenItem) (kept : AreNumbered ids items) (kept' : AreNumbered (ids ++ more) (items ++ new)) where
   names : List EventId
@@ -103,7 +102,7 @@ module _ (ids more : List EventId) (items new : List SeenItem) (kept : AreNumber
 
   after_by : ends_by (ids ++ more) (items ++ new) ≡ map (end_at names) (items ++ new)
   unfolding names
-  after_by = by_place (ids ++ more) [] (items ++ new) kept' ∙ ap (λ (l : List EventId). map (end_at l) (items ++ new)) (append-nil (ids ++ more))
+  after_by = all_by (ids ++ more) (items ++ new) kept'
 
   within_before : AreWithin names items
   unfolding names
@@ -134,17 +133,3 @@ module _ (ids more : List EventId) (items new : List SeenItem) (kept : AreNumber
         added = subst (λ (l : List Couple). AreNewMessages before after l) (sym is) (named_anew names items (items ++ new) before after differ within_before within_after first second added anew);
         withdrawn = subst (λ (l : List Couple). AreNewMessages after before l) (sym is') (named_anew names (items ++ new) items after before differ within_after within_before second first withdrawn gone);
       }
-
--- a message of a key has numbers of names
-pub couple_within : (ids : List EventId) (items : List SeenItem) (key : EventKey) (m : numbers.Couple) → AreNumbered ids items → couple_of (group_of items key) ≡ Some m → (m.send < length ids) × (m.receive < length ids)
-couple_within ids items key m kept is =
-    let parts = two_parts (events_with items key Send) (events_with items key Receive) m is in
-    let within : AreWithin ids items = all_within ids items (omega (arith, kept.many)) kept.numbered in
-    (number_within ids items key Send m.send within parts.0, number_within ids items key Receive m.receive within parts.1)
-
--- the messages by names are those of the events
-pub names_sent : (ids : List EventId) (items : List SeenItem) (seen : List (List Seen)) (events : List Placed) → AreNumbered ids items → AreEndsOf (ends_by ids items) seen → events ≡ events_of seen → sent_names ids items events ≡ messages_of events
-names_sent ids items seen events kept ends is =
-    let plain : ends_by ids items ≡ map (end_at ids) items = by_place ids [] items kept ∙ ap (λ (l : List EventId). map (end_at l) items) (append-nil ids) in
-    let same : IsPermutation (ends_of (events_of seen)) (map (end_at ids) items) = subst (λ (l : List End). AreEndsOf l seen) plain ends in
-    all_names ids items events (subst (λ (l : List Placed). IsPermutation (ends_of l) (map (end_at ids) items)) (sym is) same)

@@ -1,19 +1,20 @@
 // The messages of traces.
-ghost use Rattle.std.specs.Prelude.{◌≡◌, ◌≤◌, ◌<◌, ◌+◌, ◌^◌, ◌++◌, [], List, length, OnOk, OnErr, IfOk};
+ghost use Rattle.std.specs.Prelude.{◌≡◌, ◌≤◌, ◌<◌, ◌+◌, ◌^◌, ◌++◌, [], List, length, map, OnOk, OnErr, IfOk};
 ghost use Rattle.trace_event.specs.Seen.{Seen, seen_events};
 ghost use Rattle.traces.specs.Traces.{numbered, events_of};
-ghost use Rattle.traces.specs.Messages.{messages_of};
-ghost use Rattle.traces.specs.Held.{placed_in};
 ghost use Rattle.trace_match.specs.Ends.{ends_of, AreEndsOf, AreChanges};
+ghost use Rattle.trace_match.specs.Ambiguous.{ambiguous_ends, seen_ambiguous, tallies_of};
 
+use crate::Ambiguous;
+use crate::ambiguous::{ambiguous_keys, sort_keys};
 use crate::changes::Changes;
 use crate::finding::find_ends;
-use crate::naming::{append_names, messages_by};
-use msg_match::Matcher;
+use crate::naming::append_names;
+use msg_match::{Matcher, Tallies};
 use std::alloc::{AllocError, Global};
 use std::marker::Model;
 use trace_event::Event;
-use traces::{Couple, EventId, PlacedEvent};
+use traces::EventId;
 
 /// The ends of messages among the events that were added, and which of them are a message. It is seen as the list of these
 /// ends, in the order in which they were added, at most 2^22.
@@ -74,13 +75,24 @@ impl TraceMatcher {
         }
     }
 
-    /// The messages among the events of all labels, which are those that were added, in the order of their sends; an error
-    /// where memory runs out. The time goes by the events.
-    pub fn messages(&self, events: &[PlacedEvent]) -> Result<Vec<Couple>, AllocError>
-        requires ends { (seen : List (List Seen)) × AreEndsOf self.now seen × (placed_in events.now ≡ events_of seen) }
-        ensures { IfOk result (λ messages. messages.items ≡ messages_of (placed_in events.now)) }
+    /// How many messages there are, events that are in none, and events with ambiguous keys. The time goes by the keys.
+    pub fn tallies(&self) -> Tallies
+        ensures { result ≡ tallies_of self.now }
+    {
+        self.matcher.tallies()
+    }
+
+    /// The ambiguous keys, each with its events, in the order of their first events by label and then by number; an error
+    /// where memory runs out.
+    ///
+    /// The time goes by the keys, and by n log n for the n events of those that are ambiguous. Memory is taken for these
+    /// events alone.
+    pub fn ambiguous(&self) -> Result<Vec<Ambiguous<'_>>, AllocError>
+        ensures { (seen : List (List Seen)) → AreEndsOf self.now seen → IfOk result (λ keys. map seen_ambiguous keys.items ≡ ambiguous_ends (ends_of (events_of seen))) }
     {
         let alloc = *self.ids.allocator();
-        messages_by(alloc, &self.ids, &self.matcher, events)
+        let mut keys = ambiguous_keys(alloc, &self.ids, self.matcher.all_groups())?;
+        sort_keys(&mut keys);
+        Ok(keys)
     }
 }

@@ -1,11 +1,8 @@
 mod Composing
 mod Ascii
-mod Keyed
-mod Fitting
 mod Matched
 mod Counted
-mod Named
-mod Grouped
+mod Ended
 mod Whole
 mod Adding
 mod Worked

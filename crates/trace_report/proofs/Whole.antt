@@ -1,19 +1,16 @@
 -- A report by its parts.
-use Rattle.std.proofs.Common.{◌≡◌, ◌≤◌, ◌^◌, ℕ, List, length, map, Bool, refl, ap, arith}
-use Rattle.std.proofs.lemmas.List.{length-map}
+use Rattle.std.proofs.Common.{◌-◌, ◌≡◌, ◌≤◌, ◌^◌, ℕ, List, length, map, Bool, refl, arith}
+use Rattle.std.specs.Prelude.{min}
 use Rattle.decl.specs.Declaration.{Declaration}
 use Rattle.trace_event.specs.Seen.{Seen}
 use Rattle.traces.specs.Traces.{events_of, event_count}
 use Rattle.traces.specs.Messages.{messages_of}
-use Rattle.traces.specs.declared.event.PlacedEvent.{PlacedEvent}
-use Rattle.traces.specs.Held.{placed_in, placed_of}
-use Rattle.traces.proofs.Ids.{ids_within, length_events}
+use Rattle.traces.proofs.Ids.{length_events}
 use Rattle.msg_match.specs.Groups.{ambiguous_groups}
 use Rattle.msg_match.specs.Messages.{tallies}
 use Rattle.report.specs.declared.view.NoKeys.{NoKeys}
 use Rattle.report.specs.Report.{Reported, ReportedKey}
 use Rattle.trace_report.specs.Reports.{keyed_from, named, nokeys_of, report_of}
-use Rattle.trace_report.specs.Inside.{AreLabelled}
 
 -- a report of these parts
 abbrev pub made : ℕ → ℕ → ℕ → Bool → NoKeys → List ReportedKey → Reported
@@ -26,10 +23,6 @@ pub made_is : (d : Declaration) (seen : List (List Seen)) (consistent : Bool) (n
     → made n m u consistent nokeys groups ≡ report_of d seen consistent
 made_is d seen consistent n m u nokeys groups en em eu ek eg = rw (en, em, eu, ek, eg) refl
 
--- each event has a label of the declaration
-pub labelled : (d : Declaration) (seen : List (List Seen)) → length seen ≡ length d.labels → AreLabelled d (events_of seen)
-labelled d seen same = λ k x within. rw (← same) (ids_within seen k x within).0
-
--- there are not too many
-pub few_events : (events : List PlacedEvent) (seen : List (List Seen)) → placed_in events ≡ events_of seen → event_count seen ≤ 2 ^ 21 → length events ≤ 2 ^ 21
-few_events events seen is few = omega (arith, length-map events placed_of, ap length is, length_events seen, few)
+-- the count is that of all events, where there are not too many
+pub counted : (seen : List (List Seen)) (n : ℕ) → n ≡ min (event_count seen) (2 ^ 64 - 1) → event_count seen ≤ 2 ^ 21 → n ≡ length (events_of seen)
+counted seen n is few = grind (arith, is, few, length_events seen)

@@ -1,12 +1,14 @@
 // How many events have no key.
 ghost use Rattle.std.specs.Prelude.{◌≡◌, ◌≤◌, ◌^◌, length};
-ghost use Rattle.trace_event.specs.Seen.{mark_of};
-ghost use Rattle.traces.specs.Held.{placed_in};
+ghost use Rattle.trace_event.specs.Seen.{mark_of, seen_events};
+ghost use Rattle.traces.specs.Traces.{event_count, events_of};
+ghost use Rattle.traces.specs.Held.{seen_in};
 ghost use Rattle.trace_report.specs.Reports.{count_without, is_reason, lacks_key, nokeys_of};
+ghost use Rattle.trace_report.specs.Inside.{lacking};
 
 use report::NoKeys;
-use trace_event::{Mark, NoKey};
-use traces::PlacedEvent;
+use trace_event::{Event, Mark, NoKey};
+use traces::Accepted;
 
 // Whether it is the same reason.
 fn is_reason(reason: NoKey, other: NoKey) -> bool
@@ -34,33 +36,45 @@ fn lacks_key(mark: &Mark, reason: NoKey) -> bool
     }
 }
 
-// How many events have no key for this reason.
-fn count_without(events: &[PlacedEvent], reason: NoKey) -> u32
+// How many events of a label have no key for this reason.
+fn count_under(events: &[Event], reason: NoKey) -> u32
     requires { length events.now ≤ 2 ^ 21 }
-    ensures { result ≡ count_without (placed_in events.now) reason }
+    ensures { result ≡ lacking reason (seen_events events.now) }
 {
     let mut count: u32 = 0;
     for event in events {
-        if lacks_key(&event.event.mark, reason) {
+        if lacks_key(&event.mark, reason) {
             count += 1;
         }
     }
     count
 }
 
+// How many events have no key for this reason.
+fn count_without(accepted: &[Accepted], reason: NoKey) -> u32
+    requires { event_count (seen_in accepted.now) ≤ 2 ^ 21 }
+    ensures { result ≡ count_without (events_of (seen_in accepted.now)) reason }
+{
+    let mut count: u32 = 0;
+    for under in accepted {
+        count += count_under(&under.events, reason);
+    }
+    count
+}
+
 /// How many events have no key, by reason. Each reason is looked for among all events.
-pub(crate) fn nokeys_of(events: &[PlacedEvent]) -> NoKeys
-    requires { length events.now ≤ 2 ^ 21 }
-    ensures { result ≡ nokeys_of (placed_in events.now) }
+pub(crate) fn nokeys_of(accepted: &[Accepted]) -> NoKeys
+    requires { event_count (seen_in accepted.now) ≤ 2 ^ 21 }
+    ensures { result ≡ nokeys_of (events_of (seen_in accepted.now)) }
 {
     NoKeys {
-        link: count_without(events, NoKey::Link),
-        other: count_without(events, NoKey::Other),
-        short: count_without(events, NoKey::Short),
-        header: count_without(events, NoKey::Header),
-        fragment: count_without(events, NoKey::Fragment),
-        length: count_without(events, NoKey::Length),
-        side: count_without(events, NoKey::Side),
-        local: count_without(events, NoKey::Local),
+        link: count_without(accepted, NoKey::Link),
+        other: count_without(accepted, NoKey::Other),
+        short: count_without(accepted, NoKey::Short),
+        header: count_without(accepted, NoKey::Header),
+        fragment: count_without(accepted, NoKey::Fragment),
+        length: count_without(accepted, NoKey::Length),
+        side: count_without(accepted, NoKey::Side),
+        local: count_without(accepted, NoKey::Local),
     }
 }

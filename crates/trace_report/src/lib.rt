@@ -4,7 +4,6 @@
 
 mod counting;
 mod laws;
-mod matching;
 mod naming;
 mod spelling;
 mod texts;

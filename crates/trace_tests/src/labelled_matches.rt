@@ -1,4 +1,4 @@
-// Events that are added label by label: what the index says of each addition, and what the plain filters say.
+// Events that are added label by label: what the index says of each addition and of all, and what the plain filters say.
 ghost use Rattle.std.specs.Prelude.{◌≡◌, [], IfOk, OnOk};
 ghost use Rattle.traces.specs.Held.{seen_in};
 ghost use Rattle.trace_match.specs.Ends.{AreEndsOf};
@@ -9,8 +9,15 @@ use event_log::WordKey;
 use std::alloc::{AllocError, Global};
 use std::test::*;
 use trace_event::{Event, Key, Mark, NoKey, Side};
-use trace_match::{Changed, Changes, TraceMatcher, ends_grow};
-use traces::{Accepted, Couple, Stream, event_count, events};
+use trace_match::{Ambiguous, Changed, Changes, Tallies, TraceMatcher, ends_grow};
+use traces::{Accepted, Couple, EventId, Stream, event_count};
+
+// An ambiguous key, and its events by label and number.
+struct Unclear {
+    key: &'static str,
+    sends: &'static [[u32; 2]],
+    receives: &'static [[u32; 2]],
+}
 
 // Events that are added to a label, and what is to follow.
 struct Step {
@@ -22,6 +29,10 @@ struct Step {
     withdrawn: u32,
     // All messages from then on: label and number of the send, and of the receive.
     messages: &'static [[u32; 4]],
+    // How many events are then in no message, and not ambiguous.
+    unmatched: u32,
+    // All ambiguous keys from then on.
+    unclear: &'static [Unclear],
 }
 
 // Over and back between labels, with local rows between; a second send withdraws, and a third changes nothing.
@@ -32,6 +43,8 @@ const OVER_AND_BACK: [Step; 6] = [
         added: 0,
         withdrawn: 0,
         messages: &[],
+        unmatched: 2,
+        unclear: &[],
     },
     Step {
         label: 0,
@@ -39,6 +52,8 @@ const OVER_AND_BACK: [Step; 6] = [
         added: 2,
         withdrawn: 0,
         messages: &[[0, 2, 1, 1], [1, 3, 0, 3]],
+        unmatched: 0,
+        unclear: &[],
     },
     Step {
         label: 2,
@@ -46,6 +61,8 @@ const OVER_AND_BACK: [Step; 6] = [
         added: 0,
         withdrawn: 0,
         messages: &[[0, 2, 1, 1], [1, 3, 0, 3]],
+        unmatched: 0,
+        unclear: &[],
     },
     Step {
         label: 0,
@@ -53,6 +70,12 @@ const OVER_AND_BACK: [Step; 6] = [
         added: 0,
         withdrawn: 1,
         messages: &[[0, 2, 1, 1]],
+        unmatched: 1,
+        unclear: &[Unclear {
+            key: "n",
+            sends: &[[0, 5], [1, 3]],
+            receives: &[[0, 3]],
+        }],
     },
     Step {
         label: 2,
@@ -60,6 +83,12 @@ const OVER_AND_BACK: [Step; 6] = [
         added: 1,
         withdrawn: 0,
         messages: &[[0, 2, 1, 1], [0, 4, 2, 2]],
+        unmatched: 0,
+        unclear: &[Unclear {
+            key: "n",
+            sends: &[[0, 5], [1, 3], [2, 1]],
+            receives: &[[0, 3]],
+        }],
     },
     Step {
         label: 0,
@@ -67,6 +96,12 @@ const OVER_AND_BACK: [Step; 6] = [
         added: 0,
         withdrawn: 0,
         messages: &[[0, 2, 1, 1], [0, 4, 2, 2]],
+        unmatched: 0,
+        unclear: &[Unclear {
+            key: "n",
+            sends: &[[0, 5], [1, 3], [2, 1]],
+            receives: &[[0, 3]],
+        }],
     },
 ];
 
@@ -78,6 +113,8 @@ const AT_ONCE: [Step; 4] = [
         added: 1,
         withdrawn: 0,
         messages: &[[2, 1, 2, 4]],
+        unmatched: 2,
+        unclear: &[],
     },
     Step {
         label: 1,
@@ -85,6 +122,12 @@ const AT_ONCE: [Step; 4] = [
         added: 2,
         withdrawn: 1,
         messages: &[[2, 2, 1, 3], [2, 3, 1, 1]],
+        unmatched: 0,
+        unclear: &[Unclear {
+            key: "a",
+            sends: &[[2, 1]],
+            receives: &[[1, 2], [2, 4]],
+        }],
     },
     Step {
         label: 1,
@@ -92,6 +135,19 @@ const AT_ONCE: [Step; 4] = [
         added: 0,
         withdrawn: 0,
         messages: &[[2, 2, 1, 3], [2, 3, 1, 1]],
+        unmatched: 0,
+        unclear: &[
+            Unclear {
+                key: "a",
+                sends: &[[2, 1]],
+                receives: &[[1, 2], [2, 4]],
+            },
+            Unclear {
+                key: "d",
+                sends: &[[1, 4]],
+                receives: &[[1, 5], [1, 6]],
+            },
+        ],
     },
     Step {
         label: 0,
@@ -105,6 +161,29 @@ const AT_ONCE: [Step; 4] = [
         added: 1,
         withdrawn: 2,
         messages: &[[0, 3, 0, 4]],
+        unmatched: 0,
+        unclear: &[
+            Unclear {
+                key: "c",
+                sends: &[[0, 1], [2, 3]],
+                receives: &[[1, 1]],
+            },
+            Unclear {
+                key: "b",
+                sends: &[[2, 2]],
+                receives: &[[0, 2], [1, 3]],
+            },
+            Unclear {
+                key: "a",
+                sends: &[[0, 5], [2, 1]],
+                receives: &[[1, 2], [2, 4]],
+            },
+            Unclear {
+                key: "d",
+                sends: &[[1, 4]],
+                receives: &[[1, 5], [1, 6]],
+            },
+        ],
     },
 ];
 
@@ -116,6 +195,8 @@ const APART: [Step; 4] = [
         added: 0,
         withdrawn: 0,
         messages: &[],
+        unmatched: 3,
+        unclear: &[],
     },
     Step {
         label: 1,
@@ -123,6 +204,8 @@ const APART: [Step; 4] = [
         added: 1,
         withdrawn: 0,
         messages: &[[2, 3, 1, 1]],
+        unmatched: 4,
+        unclear: &[],
     },
     Step {
         label: 0,
@@ -130,6 +213,8 @@ const APART: [Step; 4] = [
         added: 3,
         withdrawn: 0,
         messages: &[[0, 1, 1, 2], [0, 3, 2, 2], [2, 1, 0, 2], [2, 3, 1, 1]],
+        unmatched: 1,
+        unclear: &[],
     },
     Step {
         label: 2,
@@ -137,6 +222,12 @@ const APART: [Step; 4] = [
         added: 1,
         withdrawn: 1,
         messages: &[[0, 1, 1, 2], [0, 3, 2, 2], [1, 3, 2, 5], [2, 3, 1, 1]],
+        unmatched: 0,
+        unclear: &[Unclear {
+            key: "/a",
+            sends: &[[2, 1]],
+            receives: &[[0, 2], [2, 4]],
+        }],
     },
 ];
 
@@ -167,14 +258,18 @@ fn none_kept(alloc: Global) -> Result<Kept, AllocError>
     Ok(Kept { matcher, labels })
 }
 
+fn key_with(text: &str) -> Option<Key> {
+    match text.strip_prefix('/') {
+        Some(payload) => Some(Key::Packet(packet_key(0, payload.as_bytes())?)),
+        None => Some(Key::Word(WordKey::new(text.as_bytes())?)),
+    }
+}
+
 fn mark(side: Side, text: &str) -> Option<Mark> {
     if text.is_empty() {
         return Some(Mark::Unkeyed(NoKey::Local));
     }
-    let key = match text.strip_prefix('/') {
-        Some(payload) => Key::Packet(packet_key(0, payload.as_bytes())?),
-        None => Key::Word(WordKey::new(text.as_bytes())?),
-    };
+    let key = key_with(text)?;
     Some(Mark::Keyed { key, side })
 }
 
@@ -213,15 +308,47 @@ fn add_more(kept: &mut Kept, label: u32, mut events: Vec<Event>) -> Result<Chang
     Ok(changes)
 }
 
-// The messages by the index.
-fn by_index(alloc: Global, kept: &Kept) -> Result<Vec<Couple>, AllocError>
-    requires { AreEndsOf kept.now.matcher (seen_in kept.now.labels.items) }
-{
-    if kept.labels.len() > 65536 || event_count(&kept.labels) > 1 << 21 {
-        return Err(AllocError);
+// The messages after an addition, by those before it.
+fn follow(messages: &mut Vec<Couple>, changes: &Changes) -> Result<(), AllocError> {
+    messages.retain(|message| !changes.withdrawn.contains(message));
+    for message in &changes.added {
+        messages.push(*message)?;
     }
-    let events = events(alloc, &kept.labels)?;
-    kept.matcher.messages(&events)
+    Ok(())
+}
+
+// Whether two lists have the same messages, each once.
+fn are_same(found: &[Couple], wanted: &[Couple]) -> bool {
+    found.len() == wanted.len() && wanted.iter().all(|message| found.contains(message))
+}
+
+fn are_events(found: &[EventId], wanted: &[[u32; 2]]) -> bool {
+    found.len() == wanted.len()
+        && found
+            .iter()
+            .zip(wanted)
+            .all(|(id, w)| id.label == w[0] && id.number == w[1])
+}
+
+fn is_unclear(found: &Ambiguous<'_>, wanted: &Unclear) -> bool {
+    match key_with(wanted.key) {
+        Some(key) => {
+            *found.key == key
+                && are_events(&found.sends, wanted.sends)
+                && are_events(&found.receives, wanted.receives)
+        }
+        None => false,
+    }
+}
+
+// Whether the ambiguous keys are these, in their order.
+fn are_unclear(found: &[Ambiguous<'_>], wanted: &[Unclear]) -> bool {
+    found.len() == wanted.len() && found.iter().zip(wanted).all(|(f, w)| is_unclear(f, w))
+}
+
+// Whether there are so many messages and events that are in none.
+fn are_tallied(tallies: Tallies, step: &Step) -> bool {
+    tallies.messages as usize == step.messages.len() && tallies.unmatched == step.unmatched
 }
 
 // Whether each message of the first list is in the second one, and none is in the third.
@@ -249,7 +376,12 @@ fn is_right(changes: &Changes, step: &Step, before: &[Couple], after: &[Couple])
         && are_messages(after, step.messages)
 }
 
-fn step_holds(alloc: Global, kept: &mut Kept, step: &Step) -> Result<bool, AllocError>
+fn step_holds(
+    alloc: Global,
+    kept: &mut Kept,
+    sum: &mut Vec<Couple>,
+    step: &Step,
+) -> Result<bool, AllocError>
     requires { AreEndsOf kept.old.matcher (seen_in kept.old.labels.items) }
     ensures { OnOk result (AreEndsOf kept.new.matcher (seen_in kept.new.labels.items)) }
 {
@@ -257,14 +389,21 @@ fn step_holds(alloc: Global, kept: &mut Kept, step: &Step) -> Result<bool, Alloc
     let events = events_with(alloc, step.ends)?;
     let changes = add_more(kept, step.label, events)?;
     let after = by_filters(alloc, &kept.labels)?;
-    let found = by_index(alloc, kept)?;
-    Ok(is_right(&changes, step, &before, &after) && are_messages(&found, step.messages))
+    follow(sum, &changes)?;
+    let unclear = kept.matcher.ambiguous()?;
+    Ok(
+        is_right(&changes, step, &before, &after)
+            && are_same(sum, &after)
+            && are_tallied(kept.matcher.tallies(), step)
+            && are_unclear(&unclear, step.unclear),
+    )
 }
 
 fn replay(alloc: Global, steps: &[Step]) -> Result<bool, AllocError> {
     let mut kept = none_kept(alloc)?;
+    let mut sum = Vec::new(alloc);
     for step in steps {
-        if !step_holds(alloc, &mut kept, step)? {
+        if !step_holds(alloc, &mut kept, &mut sum, step)? {
             return Ok(false);
         }
     }

@@ -1,13 +1,32 @@
-use Rattle.std.proofs.Common.{◌+◌, cond, Bool, ap, sym, ◌∙◌}
-use Rattle.trace_report.proofs.Counted.{one_more}
-use Rattle.trace_report.proofs.counting.count_without.Goals.{then-lacks_key, else-lacks_key}
+use Rattle.std.proofs.Common.{◌≡◌, ◌≤◌, ◌^◌, List, length, ap, sym, subst, ◌∙◌, arith, take, take_all}
+use Rattle.std.specs.Prelude.{sum_by}
+use Rattle.std.proofs.lemmas.List.{length-map}
+use Rattle.trace_event.specs.declared.event.Event.{Event}
+use Rattle.trace_event.specs.Seen.{Seen, seen_events}
+use Rattle.traces.specs.declared.accepted.Accepted.{Accepted}
+use Rattle.traces.specs.Held.{seen_in}
+use Rattle.trace_report.specs.Inside.{lacking}
+use Rattle.trace_report.proofs.Counted.{all_lacking, count_fits, few_under, label_more}
 use Rattle.trace_report.proofs.counting.count_without.Goals as goal
 
-pub loop-event-preserved : goal.loop-event-preserved
-loop-event-preserved c =
-    let n = c.loop-event.count in
-    one_more c.args.events.now c.args.reason c.loop-event.event-index c.event-item.result c.lacks_key.result n c.if-lacks_key.count c.loop-event-test.true c.event-item.is c.lacks_key.ensures c.loop-event.invariant
-    (elim c.if-lacks_key.branch [
-      | then-lacks_key w ↦ w.count-is ∙ sym (ap (λ (b : Bool). cond b (n + 1) n) w.if-lacks_key.true)
-      | else-lacks_key w ↦ w.count-is ∙ sym (ap (λ (b : Bool). cond b (n + 1) n) w.if-lacks_key.false)
-    ])
+pub count_under-count-requires : goal.count_under-count-requires
+count_under-count-requires c =
+    subst (λ (l : List Event). length l ≤ 2 ^ 21) (sym c.deref.ensures.value) (few_under c.args.accepted.now c.args.reason c.loop-under.under-index c.under-item.result c.loop-under-test.true c.under-item.is c.requires)
+
+pub overflow_add-count : goal.overflow_add-count
+overflow_add-count c =
+    let fits = count_fits c.args.accepted.now c.args.reason c.loop-under.under-index c.under-item.result c.loop-under-test.true c.under-item.is c.loop-under.count c.count_under-count.result c.loop-under.invariant
+    (c.count_under-count.ensures ∙ ap (λ (l : List Event). lacking c.args.reason (seen_events l)) c.deref.ensures.value) c.requires in
+    omega (arith, fits)
+
+pub loop-under-preserved : goal.loop-under-preserved
+loop-under-preserved c =
+    label_more c.args.accepted.now c.args.reason c.loop-under.under-index c.under-item.result c.loop-under-test.true c.under-item.is c.loop-under.count c.count_under-count.result c.loop-under.invariant
+    (c.count_under-count.ensures ∙ ap (λ (l : List Event). lacking c.args.reason (seen_events l)) c.deref.ensures.value)
+
+pub returns : goal.returns
+returns c =
+    let seen = seen_in c.args.accepted.now in
+    let all : take c.loop-under.under-index seen ≡ seen =
+    take_all c.loop-under.under-index seen (omega (arith, length-map c.args.accepted.now (λ (a : Accepted). seen_events a.events.items), c.loop-under-test.false)) in
+    c.loop-under.invariant ∙ ap (λ (l : List (List Seen)). sum_by (lacking c.args.reason) l) all ∙ sym (all_lacking c.args.reason seen)

@@ -1,7 +1,9 @@
 use Rattle.std.proofs.Common.{◌≡◌, take}
-use Rattle.traces.specs.Held.{placed_in}
-use Rattle.trace_report.specs.Reports.{count_without}
+use Rattle.std.specs.Prelude.{sum_by}
+use Rattle.traces.specs.Held.{seen_in}
+use Rattle.trace_report.specs.Inside.{lacking}
 use Rattle.trace_report.proofs.counting.count_without.Given as goal
 
-abbrev pub invariant-loop-event : goal.invariant-loop-event
-invariant-loop-event l = l.count ≡ count_without (take l.event-index (placed_in l.events)) l.reason
+-- the count of the labels so far
+abbrev pub invariant-loop-under : goal.invariant-loop-under
+invariant-loop-under l = l.count ≡ sum_by (lacking l.reason) (take l.under-index (seen_in l.accepted))

@@ -4,6 +4,7 @@ use Rattle.roster.specs.Roster.{RosterLists}
 use Rattle.traces.specs.declared.accepted.Accepted.{Accepted}
 use Rattle.traces.specs.Traces.{event_count}
 use Rattle.traces.specs.Held.{seen_in}
+use Rattle.trace_match.specs.Ends.{AreEndsOf}
 use Rattle.replies.specs.CommandSeen.{question_seen}
 use Rattle.session.specs.Stands.{Held, held_of, solver_of}
 use Rattle.ready_answers.specs.Ready.{AreAnswersOf}
@@ -21,6 +22,9 @@ answer-requires-clause-labels g c = ap length c.deref.ensures.value ∙ accepted
 pub answer-requires-clause-few : goal.answer-requires-clause-few
 answer-requires-clause-few g c =
     subst (λ (l : List Accepted). event_count (seen_in l) ≤ 2 ^ 21) (sym c.deref.ensures.value) (accepted_few c.self.inside.answers.graph.roster.declaration c.self.inside.accepted.items _ _ (limits c.self.invariant.0))
+
+pub answer-requires-clause-ends : goal.answer-requires-clause-ends
+answer-requires-clause-ends g c = subst (λ (l : List Accepted). AreEndsOf c.self.inside.matcher (seen_in l)) (sym c.deref.ensures.value) c.self.invariant.1
 
 pub answer-requires-clause-ready : goal.answer-requires-clause-ready
 answer-requires-clause-ready g c =
