@@ -22,6 +22,7 @@ use decl::Section;
 use intervals::{End, Ends, Order};
 use line_words::line::{Line, first_word, push_decimal, push_ns, push_word};
 use problem::{Bound, Problem};
+use queries::order_word;
 
 /// The line that names a broken bound, its weight and the difference found, which are given in units of 1e-9 ns and
 /// printed as ns texts.
@@ -82,12 +83,7 @@ fn push_order(line: &mut Line, order: Order)
     ensures appended { (first : List ℕ) (ws : List (List ℕ)) → line.old.items ≡ words (first ∷ ws) → line.new.items ≡ words (first ∷ ws ++ order_word order ∷ []) }
     ensures grown { length line.new.items ≤ length line.old.items + 49 }
 {
-    match order {
-        Order::Before => push_word(line, b"before"),
-        Order::After => push_word(line, b"after"),
-        Order::Same => push_word(line, b"same"),
-        Order::Undecided => push_word(line, b"open"),
-    }
+    push_word(line, order_word(order));
 }
 
 /// The line of an interval, whose ends are given in units of 1e-9 ns and printed as ns texts, and of an order.

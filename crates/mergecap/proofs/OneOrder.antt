@@ -1,25 +1,11 @@
 -- Packets are arranged in one way.
 use Rattle.std.proofs.Common.{◌≡◌, ◌⊎◌, zero, suc, List, [], ◌∷◌, All, AllPairs, Contains, refl, sym, ◌∙◌, subst, arith, inl, inr}
 use Rattle.std.specs.List.Sorted.{IsPermutation}
-use Rattle.std.proofs.lemmas.Int.{ints}
 use Rattle.std.proofs.lemmas.List.Elements.{All-contains}
 use Rattle.std.proofs.lemmas.List.Sorted.{Contains-permutation, IsPermutation-sym, IsPermutation-trans}
-use Rattle.report.specs.declared.merge.MergeKey.{MergeKey}
-use Rattle.report.specs.Merging.{ComesFirst, StandsBefore}
+use Rattle.report.specs.Merging.{ComesFirst}
+use Rattle.report.proofs.OneFirst.{both_first}
 use Rattle.mergecap.specs.MergedCapture.{IsArranged, Timed}
-
--- ---- two keys
-both_stand : (a b : MergeKey) → StandsBefore a b → StandsBefore b a → ⊥
-both_stand a b (inl x) (inl y) = omega (arith, x, y)
-both_stand a b (inl x) (inr y) = omega (arith, x, y.0)
-both_stand a b (inr x) (inl y) = omega (arith, x.0, y)
-both_stand a b (inr x) (inr y) = omega (arith, x.1, y.1)
-
-both_first : (a b : MergeKey) → ComesFirst a b → ComesFirst b a → ⊥
-both_first a b (inl x) (inl y) = omega (arith, ints, x, y)
-both_first a b (inl x) (inr y) = omega (arith, ints, x, y.0)
-both_first a b (inr x) (inl y) = omega (arith, ints, x.0, y)
-both_first a b (inr x) (inr y) = both_stand a b x.1 y.1
 
 -- ---- lists in order
 abbrev Before : Timed → Timed → Type 0

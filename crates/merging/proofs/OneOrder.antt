@@ -1,7 +1,6 @@
 -- Keys have one order.
 use Rattle.std.proofs.Common.{◌≡◌, ◌<◌, ℕ, suc, List, [], ◌∷◌, length, All, AllPairs, refl, sym, ◌∙◌, subst, arith, inl, inr}
 use Rattle.std.specs.List.{AllByRecursion, range_with_len}
-use Rattle.std.proofs.lemmas.Int.{ints}
 use Rattle.std.proofs.lemmas.List.Elements.{All-contains, recursion_from_All}
 use Rattle.std.proofs.lemmas.List.FromFn.{length-range_with_len, get_or-range_with_len}
 use Rattle.std.proofs.lemmas.List.Sorted.{All-permutation, Contains-permutation, IsPermutation-sym}
@@ -9,20 +8,8 @@ use Rattle.problem_model.proofs.Chains.{Among, among, each_among}
 use Rattle.problem_model.proofs.OneList.{contained}
 use Rattle.trace_problem.proofs.Lists.{got}
 use Rattle.report.specs.declared.merge.MergeKey.{MergeKey}
-use Rattle.report.specs.Merging.{ComesFirst, ComeInOrder, IsMergeOrder, StandsBefore}
-
--- ---- two keys
-both_stand : (a b : MergeKey) → StandsBefore a b → StandsBefore b a → ⊥
-both_stand a b (inl x) (inl y) = omega (arith, x, y)
-both_stand a b (inl x) (inr y) = omega (arith, x, y.0)
-both_stand a b (inr x) (inl y) = omega (arith, x.0, y)
-both_stand a b (inr x) (inr y) = omega (arith, x.1, y.1)
-
-both_first : (a b : MergeKey) → ComesFirst a b → ComesFirst b a → ⊥
-both_first a b (inl x) (inl y) = omega (arith, ints, x, y)
-both_first a b (inl x) (inr y) = omega (arith, ints, x, y.0)
-both_first a b (inr x) (inl y) = omega (arith, ints, x.0, y)
-both_first a b (inr x) (inr y) = both_stand a b x.1 y.1
+use Rattle.report.specs.Merging.{ComeInOrder, IsMergeOrder}
+use Rattle.report.proofs.OneFirst.{both_first}
 
 -- ---- positions
 within_range : (n : ℕ) → All (λ k. k < n) (range_with_len 0 n)

@@ -52,8 +52,8 @@ pub fn time_line(ends: &Ends) -> Line
     ends_line(b"time", ends)
 }
 
-// The word of an order.
-fn order_word(order: Order) -> &'static [u8]
+/// The word of an order.
+pub fn order_word(order: Order) -> &'static [u8]
     ensures word { result.now ≡ order_word order }
     ensures short { length result.now ≤ 48 }
 {

@@ -1,5 +1,5 @@
 // The time of an event by a clock that keeps time.
-ghost use Rattle.std.specs.Prelude.{◌≡◌, ℕ, List, [], IfSome, IfNone};
+ghost use Rattle.std.specs.Prelude.{◌≡◌, ℕ, List, []};
 ghost use Rattle.problem_model.specs.declared.items.Node.TheVariants as nodes;
 ghost use Rattle.problem_model.specs.Problem.{ProblemLists};
 ghost use Rattle.problem_model.specs.Bounds.{IsReading};
@@ -8,7 +8,7 @@ ghost use Rattle.sync_graph.specs.ListedStanding.{IsEventAt};
 ghost use Rattle.intervals.specs.Ends.{FitsPair};
 ghost use Rattle.intervals.specs.Executions.{IsPairOf};
 ghost use Rattle.solver.specs.Solution.{IsSolutionBy};
-ghost use Rattle.queries.specs.Asking.{IsReadingAt, IsSourceReading};
+ghost use Rattle.queries.specs.Asking.{IsSourceReading};
 ghost use Rattle.queries.specs.Clocks.{KeepsTime};
 ghost use Rattle.queries.specs.Replies.{IsTimeLine, Replies};
 
@@ -21,21 +21,6 @@ use ports::{Failed, Sink, write_whole};
 use problem::Listing;
 use row_pool::Pair;
 use solver::{executions, pairs};
-
-/// A reading of a clock among those that are listed, by its stamp, in ns, and its node: the first one there. None exactly where
-/// none is listed. The time goes by the readings.
-pub fn first_reading<N: Listing>(names: &N, clock: u32) -> Option<(Nano, u32)>
-    ensures some { IfSome result (λ reading. IsReadingAt (N.listed names.now) clock reading.0 reading.1) }
-    ensures none { IfNone result ((stamp node : ℕ) → IsReadingAt (N.listed names.now) clock stamp node → ⊥) }
-{
-    for place in 0..names.reading_count() {
-        let (on, stamp, node) = names.reading_at(place);
-        if on == clock {
-            return Some((stamp, node));
-        }
-    }
-    None
-}
 
 // Writes the line of an event's time, by the greatest differences of a reading of this stamp and the event.
 fn write_line<O: Sink>(stamp: Nano, pair: Pair, out: &mut O) -> Result<(), Failed>

@@ -1,11 +1,13 @@
 -- Engines that keep nodes.
 use Rattle.std.proofs.Common.{◌≡◌, ◌⊎◌, inl, inr, ℕ, zero, suc, ◌+◌, ◌*◌, ◌<◌, ◌≤◌, List, [], ◌∷◌, length, map, slice_get, Option, Some, None, refl, sym, ◌∙◌, ap, subst, arith}
-use Rattle.std.specs.Prelude.{Contains}
+use Rattle.std.specs.Prelude.{Contains, IfSome}
 use Rattle.std.proofs.lemmas.Option.{slice_get_within, get_or_from_slice_get}
+use Rattle.problem_model.specs.declared.items.Clock.{Clock}
 use Rattle.problem_model.specs.Problem.{ProblemLists}
 use Rattle.problem_model.specs.Nodes.{Reading}
 use Rattle.problem.specs.Listing.{Listed, listed_nodes}
 use Rattle.problem.proofs.ListedNodes.{reading_node}
+use Rattle.decl.specs.Declaration.{IsSource}
 use Rattle.trace_event.specs.Seen.{Seen}
 use Rattle.trace_problem.proofs.Lists.{place_in}
 use Rattle.traces.specs.Messages.{problem_of_seen}
@@ -21,7 +23,8 @@ use Rattle.engine.specs.Solver.{SolverLists}
 use Rattle.engine.specs.Changes.{KeepsAnswer}
 use Rattle.engine.specs.Current.{IsCurrent}
 use Rattle.solver.specs.Solution.{IsSolutionBy}
-use Rattle.roster.specs.Readings.{Stamped}
+use Rattle.roster.specs.Groups.{group_at}
+use Rattle.roster.specs.Readings.{Stamped, HasStamp}
 use Rattle.roster.specs.Roster.{RosterLists, listed}
 use Rattle.roster.proofs.Telling.{among}
 use Rattle.roster.proofs.Turns.{from_turn, into_turn}
@@ -126,6 +129,29 @@ reading_listed l p readings g clock stands (stamp, reading) =
         let is : r.1 ≡ stamp = ap (λ (x : Reading). x.1) same in
         (stamp, r.2, (0, ap (λ (c : ℕ). Some (c, r.1, r.2)) on ∙ ap (λ (s : ℕ). Some (clock, s, r.2)) is))
     by (r ∷ rs) (suc k) at = let more = by rs k at in (more.0, more.1, (suc more.2.0, more.2.1))
+
+-- a reading of a clock is listed
+pub clock_listed : (r : RosterLists) (clock stamp node : ℕ) → Contains {X = Stamped} (group_at r.readings clock) (stamp, node) → IsReadingAt (listed r) clock stamp node
+clock_listed r clock stamp node has =
+    let f : ℕ → Stamped → ℕ × ℕ × ℕ = λ c s. (c, s.0, s.1) in
+    let none : 0 + clock ≡ clock = omega arith in
+    let there : Contains {X = ℕ × ℕ × ℕ} (listed r).readings (0 + clock, stamp, node) = into_turn {T = Stamped} {X = ℕ × ℕ × ℕ} f 0 r.readings clock (stamp, node) has in
+    place_in {X = ℕ × ℕ × ℕ} (listed r).readings (clock, stamp, node) (subst (λ (c : ℕ). Contains {X = ℕ × ℕ × ℕ} (listed r).readings (c, stamp, node)) none there)
+
+-- what is listed of a clock is a reading of it
+pub listed_clock : (r : RosterLists) (clock stamp node : ℕ) → IsReadingAt (listed r) clock stamp node → HasStamp (group_at r.readings clock) stamp
+listed_clock r clock stamp node (place, at) =
+    let f : ℕ → Stamped → ℕ × ℕ × ℕ = λ c s. (c, s.0, s.1) in
+    let t = from_turn {T = Stamped} {X = ℕ × ℕ × ℕ} f 0 r.readings (clock, stamp, node) (among {X = ℕ × ℕ × ℕ} (listed r).readings place (clock, stamp, node) at) in
+    let on : 0 + t.0 ≡ clock = ap (λ (x : ℕ × ℕ × ℕ). x.0) t.3 in
+    let own : t.0 ≡ clock = omega (arith, on) in
+    let is : t.1 ≡ (stamp, node) = ap (λ (x : ℕ × ℕ × ℕ). let s : Stamped = (x.1, x.2) in s) t.3 in
+    (node, subst (λ (c : ℕ). Contains {X = Stamped} (group_at r.readings c) (stamp, node)) own (subst (λ (s : Stamped). Contains {X = Stamped} (group_at r.readings t.0) s) is t.2))
+
+-- a source is one of the clocks
+pub source_inside : (clocks : List Clock) (source : Option ℕ) → IfSome source (IsSource clocks) → IfSome source (λ clock. clock < length clocks)
+source_inside clocks None is = tt
+source_inside clocks (Some clock) is = slice_get_within clocks clock is.0 is.1
 
 -- readings of a roster stay where more come
 pub reading_kept : (old new : RosterLists) (clock stamp node : ℕ) → KeepsReadings old new → IsReadingAt (listed old) clock stamp node → IsReadingAt (listed new) clock stamp node

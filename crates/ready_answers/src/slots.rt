@@ -1,17 +1,18 @@
 // Nodes and a source whose rows an engine keeps.
-ghost use Rattle.std.specs.Prelude.{◌≡◌, ◌<◌, ◌≤◌, ◌+◌, None, Some, length};
+ghost use Rattle.std.specs.Prelude.{◌≡◌, ◌<◌, ◌≤◌, ◌+◌, ℕ, None, Some, length, IfSome, IfNone};
 ghost use Rattle.problem_model.specs.Problem.{ProblemLists};
 ghost use Rattle.row_pool.specs.Pool.{free_rows};
 ghost use Rattle.repair.specs.Slots.{slot_of};
 ghost use Rattle.engine.specs.Current.{IsCurrent};
+ghost use Rattle.roster.specs.Roster.{listed};
 ghost use Rattle.solver.specs.Solution.{IsSolutionBy};
+ghost use Rattle.queries.specs.Asking.{IsReadingAt};
 ghost use Rattle.ready_answers.specs.Ready.{KeepsSource};
 ghost use Rattle.ready_answers.specs.Keeping.{TakesFree, TakesForSource, HasNextSlot};
 
 use atto::{Nano, Steps};
 use engine::Solver;
-use problem::Listing;
-use queries::first_reading;
+use roster::Roster;
 use std::sync::ledger::Ledger;
 
 /// Keeps the rows of a node that has no slot, where fewer than eight have one, and answers the number of its slot.
@@ -31,22 +32,34 @@ pub(crate) fn keep_node<L: Ledger>(solver: &mut Solver, node: u32, steps: &mut S
     }
 }
 
+// The first reading of a clock, by its stamp, in ns, and its node; None exactly where it has none.
+fn first_reading(roster: &Roster, clock: u32) -> Option<(Nano, u32)>
+    requires { clock < length roster.now.declaration.clocks }
+    ensures some { IfSome result (λ reading. IsReadingAt (listed roster.now) clock reading.0 reading.1) }
+    ensures none { IfNone result ((stamp node : ℕ) → IsReadingAt (listed roster.now) clock stamp node → ⊥) }
+{
+    let stamp = roster.first_stamp(clock)?;
+    let node = roster.reading_node(clock, stamp)?;
+    Some((stamp, node))
+}
+
 // Keeps the rows of the first reading of a clock, and answers its stamp.
-fn keep_reading<N: Listing, L: Ledger>(
+fn keep_reading<L: Ledger>(
     solver: &mut Solver,
-    names: &N,
+    roster: &Roster,
     clock: u32,
     steps: &mut Steps<L>,
 ) -> Option<Nano>
-    requires solution { (p : ProblemLists) × IsSolutionBy (N.listed names.now) p solver.old }
+    requires clock { clock < length roster.now.declaration.clocks }
+    requires solution { (p : ProblemLists) × IsSolutionBy (listed roster.now) p solver.old }
     requires none { solver.old.kept.source ≡ None }
     requires free { 2 ≤ free_rows solver.old.pool }
-    ensures source { (p : ProblemLists) → IsSolutionBy (N.listed names.now) p solver.old → KeepsSource (N.listed names.now) p (Some clock) result solver.new }
+    ensures source { (p : ProblemLists) → IsSolutionBy (listed roster.now) p solver.old → KeepsSource (listed roster.now) p (Some clock) result solver.new }
     ensures slots { solver.new.kept.slots ≡ solver.old.kept.slots }
     ensures takes { TakesForSource solver.old solver.new }
     ensures idle { solver.new.kept.source ≡ solver.old.kept.source → steps.new ≡ steps.old }
 {
-    match first_reading(names, clock) {
+    match first_reading(roster, clock) {
         Some((stamp, node)) => {
             solver.keep_source(node, steps);
             Some(stamp)
@@ -56,22 +69,23 @@ fn keep_reading<N: Listing, L: Ledger>(
 }
 
 /// Keeps the rows of a reading of the source's clock, where there are a source and such a reading, and answers its stamp.
-pub(crate) fn keep_source<N: Listing, L: Ledger>(
+pub(crate) fn keep_source<L: Ledger>(
     solver: &mut Solver,
-    names: &N,
+    roster: &Roster,
     source: Option<u32>,
     steps: &mut Steps<L>,
 ) -> Option<Nano>
-    requires solution { (p : ProblemLists) × IsSolutionBy (N.listed names.now) p solver.old }
+    requires clock { IfSome source (λ clock. clock < length roster.now.declaration.clocks) }
+    requires solution { (p : ProblemLists) × IsSolutionBy (listed roster.now) p solver.old }
     requires none { solver.old.kept.source ≡ None }
     requires free { 2 ≤ free_rows solver.old.pool }
-    ensures source { (p : ProblemLists) → IsSolutionBy (N.listed names.now) p solver.old → KeepsSource (N.listed names.now) p source result solver.new }
+    ensures source { (p : ProblemLists) → IsSolutionBy (listed roster.now) p solver.old → KeepsSource (listed roster.now) p source result solver.new }
     ensures slots { solver.new.kept.slots ≡ solver.old.kept.slots }
     ensures takes { TakesForSource solver.old solver.new }
     ensures idle { solver.new.kept.source ≡ solver.old.kept.source → steps.new ≡ steps.old }
 {
     match source {
-        Some(clock) => keep_reading(solver, names, clock, steps),
+        Some(clock) => keep_reading(solver, roster, clock, steps),
         None => None,
     }
 }

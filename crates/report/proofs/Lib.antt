@@ -3,3 +3,4 @@ mod Text
 mod Worked
 mod MergeLines
 mod MergeOrders
+pub mod OneFirst

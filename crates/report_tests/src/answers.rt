@@ -3,13 +3,14 @@ ghost use Rattle.problem.specs.Listing.{listing_of};
 ghost use Rattle.sync_graph.specs.ListedStanding.{IsEventAt};
 ghost use Rattle.row_pool.specs.Pool.{free_rows};
 ghost use Rattle.solver.specs.Solution.{IsSolution};
+ghost use Rattle.queries.specs.Asking.{IsReadingAt};
 
 use crate::fixtures::CYCLE;
-use atto::Steps;
+use atto::{Nano, Steps};
 use engine::Solver;
 use ports::{Failed, MemSink};
 use problem::{Listing, Problem, read_problem};
-use queries::{first_reading, is_consistent, write_interval, write_order, write_proof, write_time};
+use queries::{is_consistent, write_interval, write_order, write_proof, write_time};
 use solving::solve;
 use std::alloc::Global;
 use std::marker::Brand;
@@ -50,10 +51,6 @@ const SOURCE: &str =
 // The same without the way back, and the source may stamp 2 ns early or 3 ns late.
 const STRAYING: &str =
     "problem 1\nclock r 0 0 2 3\nclock b 0 0 0 0\nevent r#1 r 1000\nevent b#1 b 250\nmessage r#1 b#1 10 20\nend\n";
-
-// Clock a has no event.
-const SILENT: &str =
-    "problem 1\nclock a 0 0 0 0\nclock b 0 0 0 0\nclock c 0 0 0 0\nevent b#1 b 7\nevent c#1 c 9\nend\n";
 
 // The certificate of events a#1 and b#1 of the two logs.
 const LIMITED: &str =
@@ -379,6 +376,19 @@ fn pair_so(alloc: Global, asked: &Asked<'_>) -> Option<bool> {
     pair_is::<Brand>(alloc, &p, asked, Blank::new(1))
 }
 
+// The first reading of a clock, by its stamp and its node.
+fn first_reading(p: &Problem, clock: u32) -> Option<(Nano, u32)>
+    ensures { IfSome result (λ reading. IsReadingAt (listing_of p.now) clock reading.0 reading.1) }
+{
+    for place in 0..p.reading_count() {
+        let (on, stamp, node) = p.reading_at(place);
+        if on == clock {
+            return Some((stamp, node));
+        }
+    }
+    None
+}
+
 // Writes the time of an event by a clock, of which a reading is kept as the source's.
 fn ask_time<L: Ledger>(
     p: &Problem,
@@ -427,12 +437,6 @@ fn time_is<L: Ledger>(alloc: Global, p: &Problem, case: &Timed, blank: Blank) ->
 fn time_so(alloc: Global, case: &Timed) -> Option<bool> {
     let p = read_problem(alloc, case.problem.as_bytes()).ok()?;
     time_is::<Brand>(alloc, &p, case, Blank::new(1))
-}
-
-// Whether the first reading of the clock has this stamp; none stands for a clock without an event.
-fn reads_so(alloc: Global, problem: &str, clock: u32, stamp: Option<u64>) -> Option<bool> {
-    let p = read_problem(alloc, problem.as_bytes()).ok()?;
-    Some(first_reading(&p, clock).map(|(read, _)| read.get()) == stamp)
 }
 
 // Whether a problem has an execution.
@@ -541,18 +545,5 @@ fn times_by_a_clock(rt: HostRuntime) {
 fn proofs_of_intervals(rt: HostRuntime) {
     for case in &PROOFS {
         assert!(rt; pair_so(rt.alloc(), case) == Some(true));
-    }
-}
-
-#[test]
-fn first_readings(rt: HostRuntime) {
-    for (problem, clock, stamp) in [
-        (SOURCE, 0, Some(1000)),
-        (SOURCE, 1, Some(250)),
-        (SILENT, 0, None),
-        (SILENT, 2, Some(9)),
-        (SILENT, 3, None),
-    ] {
-        assert!(rt; reads_so(rt.alloc(), problem, clock, stamp) == Some(true));
     }
 }

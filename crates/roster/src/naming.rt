@@ -1,10 +1,7 @@
 // Events by their names.
-ghost use Rattle.std.specs.Prelude.{◌≡◌, ◌≢◌, ◌<◌, ◌≤◌, ◌+◌, ◌++◌, ◌∷◌, ◌^◌, ℕ, suc, List, length, take, drop, slice_get, Some, All, AllPairs, IfSome, IfNone};
-ghost use Rattle.std.specs.Ordering.{nat_cmp};
-ghost use Rattle.std.specs.Cmp.Lexicographic.{slice_cmp};
+ghost use Rattle.std.specs.Prelude.{◌≡◌, ◌≢◌, ◌<◌, ◌≤◌, ◌+◌, ◌++◌, ◌∷◌, ◌^◌, ℕ, suc, List, length, take, drop, slice_get, Some, All, IfSome, IfNone};
 ghost use Rattle.atto.specs.Decimal.{decimal_of};
-ghost use Rattle.decl.specs.Declaration.{IsDeclaration, Precedes, declaration_of};
-ghost use Rattle.decl.specs.declared.items.Label.{Label};
+ghost use Rattle.decl.specs.Declaration.{IsDeclaration, declaration_of};
 ghost use Rattle.traces.specs.Traces.{name_of};
 ghost use Rattle.traces.specs.declared.event.EventId.{EventId};
 ghost use Rattle.roster.specs.Groups.{total, sizes_of};
@@ -13,27 +10,7 @@ ghost use Rattle.roster.specs.Names.{IsCutAt};
 
 use crate::groups::Groups;
 use atto::read_decimal;
-use decl::{Decl, Label};
-use std::cmp::Ordering;
-
-// How a label's name stands to a name, in byte order.
-fn compare(label: &Label, name: &[u8]) -> Ordering
-    ensures { result ≡ slice_cmp nat_cmp label.now.name name.now }
-{
-    label.name.bytes().cmp(name)
-}
-
-// The place of the label of this name.
-fn label_of(labels: &[Label], name: &[u8]) -> Option<usize>
-    requires { AllPairs (λ (a b : Label). Precedes a.name b.name) labels.now }
-    ensures some { IfSome result (λ k. (l : Label) × (slice_get labels.now k ≡ Some l) × (l.name ≡ name.now)) }
-    ensures none { IfNone result ((k : ℕ) (l : Label) → slice_get labels.now k ≡ Some l → l.name ≢ name.now) }
-{
-    match labels.binary_search_by(|label| compare(label, name)) {
-        Ok(place) => Some(place),
-        Err(_) => None,
-    }
-}
+use decl::Decl;
 
 // The place of the first `#`.
 fn sharp_of(name: &[u8]) -> Option<usize>
@@ -90,6 +67,6 @@ pub(crate) fn find_event(decl: &Decl, under: &Groups<u32>, name: &[u8]) -> Optio
     ensures none { IfNone result ((id : EventId) (v : ℕ) → IsUnder under.now id v → name_of (declaration_of decl.now) id ≢ name.now) }
 {
     let (sharp, number) = parts_of(name)?;
-    let label = label_of(&decl.labels, &name[..sharp])?;
+    let label = decl.label_at(&name[..sharp])?;
     numbered(under.group(label as u32), number)
 }

@@ -1,10 +1,10 @@
 use Rattle.std.proofs.Common.{◌≡◌, ◌∙◌, ◌<◌, ℕ, Bool, Option, Some, None, true, false, length, sym, ap, subst, rules, arith}
-use Rattle.std.specs.Prelude.{IsTrue}
-use Rattle.decl.specs.Declaration.{Declaration}
+use Rattle.std.specs.Prelude.{IfSome, IsTrue}
+use Rattle.decl.specs.Declaration.{Declaration, IsSource}
 use Rattle.roster.specs.Roster.{listed}
 use Rattle.ready_answers.specs.Ready.{KeepsSource, problem_by}
 use Rattle.ready_answers.specs.Keeping.{clock_at}
-use Rattle.ready_answers.proofs.Engines.{spare_source}
+use Rattle.ready_answers.proofs.Engines.{source_inside, spare_source}
 use Rattle.ready_answers.proofs.Entering.{some_of, known_source, other_source, no_source_slot, looked_for}
 use Rattle.ready_answers.proofs.answers.keep_source_now.Goals as goal
 
@@ -24,6 +24,10 @@ returns-then-not-is_on_source-clause-ready g c = λ seen kept are.
     other_source c.args.k seen kept a are none (λ is.
     let on : IsTrue c.is_on_source.result = c.is_on_source.ensures.1 (subst (λ (d : Declaration). d.source ≡ Some (clock_at d c.args.k)) (sym c.decl-decl.ensures.same) is) in
     let no : false ≡ true = subst (λ (b : Bool). IsTrue b) off on in absurd cc)
+
+pub keep_source-answers-requires-clause-clock : goal.keep_source-answers-requires-clause-clock
+keep_source-answers-requires-clause-clock g c =
+    source_inside _ _ (subst (λ (d : Declaration). IfSome d.source (IsSource c.args.answers.now.graph.roster.declaration.clocks)) (sym c.decl-decl.ensures.same) c.decl-decl.ensures.lawful.declared.clocks.source_true)
 
 pub keep_source-answers-requires-clause-solution : goal.keep_source-answers-requires-clause-solution
 keep_source-answers-requires-clause-solution g c = (problem_by c.args.answers.now c.requires.so_far.0, c.requires.so_far.2.graph.solution)

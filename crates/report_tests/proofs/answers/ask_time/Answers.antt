@@ -9,7 +9,7 @@ pub keep_source-requires-clause-node : goal.keep_source-requires-clause-node
 keep_source-requires-clause-node g c =
     let p = c.args.p.now in
     let reading = c.in_ok-reading.reading in
-    reading_below (listing_of p) p c.args.solver.now c.requires.solution c.args.case.now.clock reading.0 reading.1 c.in_ok-reading.ensures.some
+    reading_below (listing_of p) p c.args.solver.now c.requires.solution c.args.case.now.clock reading.0 reading.1 c.in_ok-reading.ensures
 
 pub write_time-requires-clause-solution : goal.write_time-requires-clause-solution
 write_time-requires-clause-solution g c =
@@ -21,5 +21,5 @@ write_time-requires-clause-source g c =
     let p = c.args.p.now in
     let reading = c.in_ok-reading.reading in
     let takes = c.keep_source.ensures.takes in
-    let at = subst (λ (node : ℕ). IsReadingAt (listing_of p) c.args.case.now.clock reading.0 node) (sym takes.1) c.in_ok-reading.ensures.some in
+    let at = subst (λ (node : ℕ). IsReadingAt (listing_of p) c.args.case.now.clock reading.0 node) (sym takes.1) c.in_ok-reading.ensures in
     (c.args.case.now.clock, (takes.0, ap (λ (kept : KeptRows). kept.source) takes.2, at))
