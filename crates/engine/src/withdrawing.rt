@@ -21,8 +21,8 @@ use sync_graph::{Arc, Graph};
 
 impl Solver {
     /// Takes arcs in force out of force, which are given by their numbers, each once. Where there was an execution there is
-    /// one still, and values and rows are repaired; where a withdrawn arc was one of the contradiction they are made anew;
-    /// else the contradiction stands.
+    /// one still, and values and rows are repaired. Where a withdrawn arc was one of the contradiction, or has the nodes and
+    /// the weight of one of it, they are made anew; else the contradiction stands.
     ///
     /// Where there was an execution there are few steps: two for the values and for each row, and for each node that is
     /// affected there five and two for each arc in force that reaches or leaves it. A node is affected in the values where a

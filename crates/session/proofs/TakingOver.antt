@@ -1,5 +1,6 @@
 -- What answers an addition whose packets are kept: by the place of its label, by its name, and by its line.
 use Rattle.std.proofs.Common.{◌≡◌, ℕ, ◌+◌, ◌<◌, List, [], ◌∷◌, ◌++◌, length, slice_get, Option, Some, None, true, refl, sym, ◌∙◌, ap, subst, arith}
+use Rattle.std.specs.Prelude.{Result, Ok, Err, OnErr}
 use Rattle.ports.specs.Files.{FilesTold}
 use Rattle.captures.specs.Capture as captures
 use Rattle.captures.specs.Capture.{Reads}
@@ -25,6 +26,11 @@ use Rattle.session.specs.Taking.{only_adding, IsAddedLine, IsAnswerOf, Takes}
 use Rattle.session.specs.TakingInside.{KeepsFound, UnderAnswered, TakesUnder, TakesFile}
 use Rattle.session.proofs.BroughtPackets.{found_brings}
 use Rattle.session.proofs.Finding.{by_place, found_unread, label_in}
+
+-- what is so anyway is so of an error
+pub where_err : {T E : Type 0} (r : Result T E) (P : Type 0) → P → OnErr r P
+where_err (Ok x) P p = tt
+where_err (Err e) P p = p
 
 -- nothing was read, and no file failed
 counted_none : (files : FilesTold) → AreCounted (Unread ∷ []) files files

@@ -31,6 +31,10 @@ only_adding (Some Report) = None
 abbrev pub AddLineReply : Declaration → Content → State → List ℕ → Found → List ℕ → State → Type 0
 AddLineReply d files s line found text s' = (c : Option Command) × Asks line c × CommandReply d files s (only_adding c) found text s'
 
+-- the line asks for an addition
+abbrev pub AsksToAdd : List ℕ → Type 0
+AsksToAdd line = (label : List ℕ) × (path : List ℕ) × Asks line (Some (Add label path))
+
 -- the line says what was added
 abbrev pub IsAddedLine : List ℕ → Type 0
 IsAddedLine text = (events : ℕ) × (messages : ℕ) × (withdrawn : ℕ) × (pending : ℕ) × (consistent : Bool) × (text ≡ added_line events messages withdrawn pending consistent)

@@ -1,11 +1,11 @@
 // Additions of which the packets are kept.
-ghost use Rattle.std.specs.Prelude.{◌≡◌, ◌≤◌, ◌<◌, ◌+◌, ◌^◌, ◌++◌, length, IfOk, OnOk};
+ghost use Rattle.std.specs.Prelude.{◌≡◌, ◌≤◌, ◌<◌, ◌+◌, ◌^◌, ◌++◌, length, IfOk, OnOk, OnErr};
 ghost use Rattle.ports.specs.Files.{Keeps};
 ghost use Rattle.captures.specs.Feeding.{seen_packets};
 ghost use Rattle.mergecap.specs.Packets.{all_timed};
 ghost use Rattle.session.specs.Stands.{IsReady};
 ghost use Rattle.session.specs.Taken.{packets_from};
-ghost use Rattle.session.specs.Taking.{Takes};
+ghost use Rattle.session.specs.Taking.{AsksToAdd, Takes};
 ghost use Rattle.session.specs.TakingInside.{TakesFile, TakesUnder};
 
 use crate::Session;
@@ -57,8 +57,8 @@ impl Session {
     /// reply tells what was added; else the reply is a refusal, and nothing is kept. A line that asks for anything else
     /// is refused as one that spells no command.
     ///
-    /// The steps of its searches are counted. No call before ran out of memory. Where memory runs out in this one, nothing is
-    /// promised of the session and of the packets.
+    /// The steps of its searches are counted. No call before ran out of memory. An error is answered where memory runs out,
+    /// which it may on a line `add` alone; then nothing is promised of the session and of the packets.
     pub fn take_add<F: Files, L: Ledger>(
         &mut self,
         line: &[u8],
@@ -71,6 +71,7 @@ impl Session {
         ensures takes { IfOk result (λ answer. Takes line.now (F.told files.old) (F.told files.new) self.old self.new (all_timed kept.old.items) (all_timed kept.new.items) answer) }
         ensures keeps { Keeps (F.told files.old) (F.told files.new) }
         ensures ready { OnOk result (IsReady self.new) }
+        ensures memory { OnErr result (AsksToAdd line.now) }
     {
         match read_command(line) {
             Some(Command::Add { label, path }) => self.take_file(label, path, files, kept, steps),

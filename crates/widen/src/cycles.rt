@@ -65,6 +65,7 @@ fn rise_below(lacks: u128, delays: u64, limit: u64) -> u64
     requires few { delays ≤ most_nodes }
     ensures limit { result ≤ limit }
     ensures below { delays * (result * 1000000000) < lacks }
+    ensures greatest { (rise : ℕ) → rise ≤ limit → delays * (rise * 1000000000) < lacks → rise ≤ result }
 {
     if delays == 0 {
         return limit;
@@ -128,6 +129,8 @@ pub fn last_rise(arcs: &[Arc], extra: u64) -> u64
     requires lacks { (n : ℕ) × (weight_of (weighed_arcs arcs.now) ≡ neg_ℤ (pos n)) × (0 < n) }
     ensures limit { extra + result ≤ most_extra }
     ensures below { (n : ℕ) → weight_of (weighed_arcs arcs.now) ≡ neg_ℤ (pos n) → delays_of (weighed_arcs arcs.now) * (result * 1000000000) < n }
+    ensures greatest { (n rise : ℕ) → weight_of (weighed_arcs arcs.now) ≡ neg_ℤ (pos n) → extra + rise ≤ most_extra
+        → delays_of (weighed_arcs arcs.now) * (rise * 1000000000) < n → rise ≤ result }
 {
     let lacks = sum_of(arcs).unsigned_abs();
     rise_below(lacks, delays_of(arcs), MOST_EXTRA - extra)

@@ -5,8 +5,8 @@ use Rattle.replies.specs.Commands as asked
 use Rattle.replies.specs.CommandSeen.{question_seen}
 use Rattle.replies.specs.declared.refusal.Refusal.TheVariants.{NoCommand}
 use Rattle.session.specs.declared.taking.AddAnswer.TheVariants as answers
-use Rattle.session.specs.Taking.{Takes}
-use Rattle.session.proofs.TakingOver.{line_takes, line_refused, question_adds_none}
+use Rattle.session.specs.Taking.{AsksToAdd, Takes}
+use Rattle.session.proofs.TakingOver.{line_takes, line_refused, question_adds_none, where_err}
 use Rattle.session.proofs.session.Session.take_add.Goals as goal
 
 pub returns-in-Some-Add-clause-takes : goal.returns-in-Some-Add-clause-takes
@@ -17,6 +17,10 @@ returns-in-Some-Add-clause-takes g c =
     (λ answer. line_takes c.args.self.now c.take_file.new.self (g.F.Files.told c.args.files.now) (g.F.Files.told c.take_file.new.files) c.args.line.now c.in-Some-Add.label.now c.in-Some-Add.path.now
     (all_timed c.args.kept.now.items) (all_timed c.take_file.new.kept.items) answer (rw c.in-Some-Add.field-0-is at c.in-Some-Add.ensures))
     c.take_file.ensures.takes
+
+pub returns-in-Some-Add-clause-memory : goal.returns-in-Some-Add-clause-memory
+returns-in-Some-Add-clause-memory g c =
+    where_err c.take_file.result (AsksToAdd c.args.line.now) (c.in-Some-Add.label.now, c.in-Some-Add.path.now, rw c.in-Some-Add.field-0-is at c.in-Some-Add.ensures)
 
 pub returns-in-Some-Keep-clause-takes : goal.returns-in-Some-Keep-clause-takes
 returns-in-Some-Keep-clause-takes g c =
