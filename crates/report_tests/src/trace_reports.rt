@@ -127,7 +127,8 @@ const ORDER: Case = Case {
     \"unmatched\":0}\n",
 };
 
-// Keys with events of both labels, which are added in turn: the first event of the key that came first is added last.
+// Keys with events of both labels, which are added in turn: the first event of the key that came first is added in the
+// last turn.
 const IN_TURN: Case = Case {
     frames: [&[], &[]],
     logs: [

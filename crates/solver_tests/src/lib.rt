@@ -2,8 +2,9 @@
 //!
 //! `engines` has arcs that come and go, and `greatest_differences` those of two nodes, asked for and by rows that are lent
 //! (`engine`); `event_orders` when the events of problems come (`event_order`); `solutions` problems that are solved, and
-//! `insertion_orders` the order in which their arcs come (`solving`); `interval_ends` the ends and the order of two events (`intervals`); `empty_certificates` and
-//! `interval_certificates` certificates that are made (`attain`); `fixtures` has problems that several of them use.
+//! `insertion_orders` the order in which their arcs come (`solving`); `interval_ends` the ends and the order of two events
+//! (`intervals`); `empty_certificates` and `interval_certificates` certificates that are made (`attain`); `fixtures` has
+//! problems that several of them use.
 #![tactic(auto)]
 
 #[cfg(test)]

@@ -346,9 +346,21 @@ fn are_unclear(found: &[Ambiguous<'_>], wanted: &[Unclear]) -> bool {
     found.len() == wanted.len() && found.iter().zip(wanted).all(|(f, w)| is_unclear(f, w))
 }
 
-// Whether there are so many messages and events that are in none.
+// How many events have these keys, up to some thousands.
+fn unclear_events(keys: &[Unclear]) -> usize {
+    let mut events: usize = 0;
+    for key in keys {
+        events = events.saturating_add(key.sends.len());
+        events = events.saturating_add(key.receives.len());
+    }
+    events
+}
+
+// Whether there are so many messages, unmatched events, and events with ambiguous keys.
 fn are_tallied(tallies: Tallies, step: &Step) -> bool {
-    tallies.messages as usize == step.messages.len() && tallies.unmatched == step.unmatched
+    tallies.messages as usize == step.messages.len()
+        && tallies.unmatched == step.unmatched
+        && tallies.ambiguous as usize == unclear_events(step.unclear)
 }
 
 // Whether each message of the first list is in the second one, and none is in the third.
