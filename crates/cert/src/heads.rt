@@ -1,5 +1,5 @@
 // The lines that name the events of a certificate and begin its parts.
-ghost use Rattle.std.specs.Prelude.{◌≡◌, ◌↔◌, ℕ, List, IsTrue, IfSome, IfNone};
+ghost use Rattle.std.specs.Prelude.{◌≡◌, ◌↔◌, ℕ, IsTrue, IfSome, IfNone};
 ghost use Rattle.problem_model.specs.Name.{IsEventName};
 ghost use Rattle.problem.specs.Line.{HasEvent};
 ghost use Rattle.cert.specs.CertificateFormat.{side_word, unlimited_word};

@@ -1,5 +1,5 @@
 // The nodes of a problem, by their names.
-ghost use Rattle.std.specs.Prelude.{◌≡◌, ◌≤◌, ◌^◌, length};
+ghost use Rattle.std.specs.Prelude.{◌≡◌, ◌≤◌, length};
 ghost use Rattle.problem_model.specs.Nodes.{AreReadings, nodes_of, most_nodes};
 ghost use Rattle.cert.specs.NodeLists.{StandsAt};
 

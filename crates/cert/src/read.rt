@@ -1,5 +1,5 @@
 // The text of an execution, line by line.
-ghost use Rattle.std.specs.Prelude.{◌≡◌, ◌↔◌, ◌<◌, ◌≤◌, ◌^◌, ◌++◌, ℕ, List, length, IfSome, IfNone, codes, ℤ};
+ghost use Rattle.std.specs.Prelude.{◌≡◌, ◌↔◌, ◌<◌, ◌≤◌, ◌++◌, ℕ, List, length, IfSome, IfNone, codes, ℤ};
 ghost use Rattle.line_format.specs.Words.{line_of};
 ghost use Rattle.line_format.specs.Format.{Takes, Answers, Answer, most_bytes};
 ghost use Rattle.line_format.specs.Format.Answer.{Found};
@@ -15,7 +15,7 @@ use crate::error::{CertError, error_at};
 use crate::execution::Execution;
 use crate::nodes::{NextNode, Nodes};
 use crate::words::{event_words, reading_words};
-use atto::{Nano, Units};
+use atto::Nano;
 use line_format::{FaultKind, LineError, MOST_BYTES, Taken, cut};
 use problem::{Name, Problem};
 use std::alloc::Global;

@@ -1,5 +1,5 @@
 // The text of a certificate, line by line.
-ghost use Rattle.std.specs.Prelude.{◌≡◌, ◌↔◌, ◌≤◌, ◌^◌, ◌++◌, ◌⊎◌, ℕ, List, length, IfSome, IfNone, Result, Ok, Err};
+ghost use Rattle.std.specs.Prelude.{◌≡◌, ◌↔◌, ◌≤◌, ◌++◌, ◌⊎◌, ℕ, List, length, IfSome, IfNone, Result, Ok, Err};
 ghost use Rattle.line_format.specs.Words.{line_of};
 ghost use Rattle.line_format.specs.Format.{Answers, Answer, most_bytes};
 ghost use Rattle.line_format.specs.Format.Answer.{Found};

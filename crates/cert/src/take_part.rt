@@ -1,5 +1,5 @@
 // Lines of the lists and ends of a certificate, taken one by one.
-ghost use Rattle.std.specs.Prelude.{◌≡◌, ◌↔◌, ◌≤◌, ◌<◌, ℕ, ℤ, List, length, IsTrue, All, AllPairs, SomeIff, IfSome, IfNone, OnOk};
+ghost use Rattle.std.specs.Prelude.{◌≡◌, ◌↔◌, ◌<◌, ℤ, length, IsTrue, All, AllPairs, SomeIff, IfSome, IfNone, OnOk};
 ghost use Rattle.atto.specs.Number.{FitsUnits};
 ghost use Rattle.line_format.specs.Format.{Takes};
 ghost use Rattle.problem_model.specs.Nodes.{nodes_of};

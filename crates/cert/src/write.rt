@@ -1,6 +1,5 @@
 // The lines of steps and of executions, written one by one.
-ghost use Rattle.std.specs.Prelude.{◌≡◌, ◌≤◌, ◌<◌, ◌+◌, ◌++◌, ◌∷◌, [], ℕ, List, length, slice_get, Some, codes};
-ghost use Rattle.atto.specs.Decimal.{decimal_of};
+ghost use Rattle.std.specs.Prelude.{◌≡◌, ◌≤◌, ◌<◌, ◌+◌, ◌++◌, ◌∷◌, [], ℕ, List, length, codes};
 ghost use Rattle.line_format.specs.Words.{words};
 ghost use Rattle.ports.specs.Content.{Writes};
 ghost use Rattle.cert.specs.Listed.{name_at, listed_bound, listed_step, listed_words, words_at, timed_line, IsNamed};

@@ -18,7 +18,7 @@ use crate::cycle::cycle_fault;
 use crate::declared::no_extra;
 use crate::path::path_fault;
 use atto::Nano;
-use cert::{Cert, Chain, EndProof, Execution};
+use cert::{Cert, Chain, EndProof};
 use problem::Problem;
 
 // What is wrong with one end of the interval from the first event to the second.

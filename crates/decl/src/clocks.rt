@@ -23,7 +23,7 @@ pub(crate) struct ClockBook {
 }
 
 impl Model for ClockBook {
-    ghost use Rattle.std.specs.Prelude.{◌≡◌, ◌≤◌, ℕ, List, map, length, slice_get};
+    ghost use Rattle.std.specs.Prelude.{◌≡◌, ◌≤◌, ℕ, map, length, slice_get};
     ghost use Rattle.problem_model.specs.Problem.{most_clocks};
     ghost use Rattle.decl.specs.Booked.{Booked};
     ghost use Rattle.decl.specs.Clocks.{first_clock_place};

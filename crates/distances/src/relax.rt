@@ -1,5 +1,5 @@
 // The relaxing of the arcs that are followed from one node.
-ghost use Rattle.std.specs.Prelude.{◌≡◌, ◌+◌, ◌<◌, ◌≤◌, ℤ, ◌+ℤ◌, ◌-ℤ◌, ◌≤ℤ◌, false, true, not, All, length, slice_get, slice_set, Some};
+ghost use Rattle.std.specs.Prelude.{◌≡◌, ◌+◌, ◌<◌, ◌≤◌, ℤ, ◌+ℤ◌, ◌-ℤ◌, ◌≤ℤ◌, false, true, All, length, slice_get, slice_set, Some};
 ghost use Rattle.difference_bounds.specs.Executions.{at};
 ghost use Rattle.difference_bounds.specs.Numbers.{IsUpTo};
 ghost use Rattle.difference_bounds.specs.RowPops.{IsRowStep};

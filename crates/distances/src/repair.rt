@@ -1,5 +1,5 @@
 // Rows that are repaired after an arc more.
-ghost use Rattle.std.specs.Prelude.{◌≡◌, ◌+◌, ◌≤◌, false, true, not, length, slice_index_or};
+ghost use Rattle.std.specs.Prelude.{◌≡◌, ◌+◌, ◌≤◌, false, true, length, slice_index_or};
 ghost use Rattle.difference_bounds.specs.Parents.{IsRow};
 ghost use Rattle.difference_bounds.specs.Tables.{without, reversed_table};
 ghost use Rattle.frontier.specs.Keys.{IsEmpty};

@@ -1,6 +1,6 @@
 // The marking of the nodes that a withdrawal affects: they wait in the frontier, and a list has them in the order in
 // which they were found.
-ghost use Rattle.std.specs.Prelude.{◌≡◌, ℕ, ◌+◌, ◌<◌, ◌≤◌, ◌^◌, false, true, All, List, length, map};
+ghost use Rattle.std.specs.Prelude.{◌≡◌, ℕ, ◌+◌, ◌<◌, ◌≤◌, false, true, All, List, length, map};
 ghost use Rattle.difference_bounds.specs.Executions as bounds;
 ghost use Rattle.difference_bounds.specs.Executions.{at};
 ghost use Rattle.difference_bounds.specs.Numbers.{IsUpTo};

@@ -1,10 +1,10 @@
 // The falls of marked nodes: each falls only as far as arcs to nodes that do not wait allow, the least fall first.
-ghost use Rattle.std.specs.Prelude.{◌≡◌, ℕ, ◌+◌, ◌*◌, ◌<◌, ◌≤◌, ◌^◌, neg_ℤ, ◌-ℤ◌, ◌≤ℤ◌, false, true, All, length, slice_set, Some, None, IfSome, IfNone};
+ghost use Rattle.std.specs.Prelude.{◌≡◌, ℕ, ◌+◌, ◌<◌, ◌≤◌, neg_ℤ, ◌≤ℤ◌, false, true, All, length, Some, None};
 ghost use Rattle.difference_bounds.specs.Executions.{at, Obeys};
 ghost use Rattle.difference_bounds.specs.Numbers.{IsUpTo};
 ghost use Rattle.difference_bounds.specs.Sums.{sum_to};
 ghost use Rattle.frontier.specs.Keys.{IsEmpty};
-ghost use Rattle.sync_graph.specs.Graph.{arc_at, table_of, reaching, departing};
+ghost use Rattle.sync_graph.specs.Graph.{table_of, reaching, departing};
 ghost use Rattle.sync_graph.specs.Lists.{list_at};
 ghost use Rattle.falls.specs.Withdrawals.{flagged_sum};
 ghost use Rattle.falls.specs.Falls.{IsHolding, IsHeldBy};

@@ -1,5 +1,5 @@
 // A graph with its earliest execution or a contradiction, and kept rows.
-ghost use Rattle.std.specs.Prelude.{◌≡◌, ◌-◌, ◌<◌, ◌≤◌, [], true, ◌++◌, length, max, replicate, None, OnOk};
+ghost use Rattle.std.specs.Prelude.{◌≡◌, ◌-◌, ◌<◌, ◌≤◌, [], ◌++◌, length, max, replicate, None, OnOk};
 ghost use Rattle.problem_model.specs.Nodes.{most_nodes};
 ghost use Rattle.difference_bounds.specs.Executions.{at};
 ghost use Rattle.sync_graph.specs.Graph.{no_graph};

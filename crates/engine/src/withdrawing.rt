@@ -1,5 +1,5 @@
 // Arcs that go.
-ghost use Rattle.std.specs.Prelude.{◌≡◌, ◌≢◌, ◌<◌, ◌++◌, ◌∷◌, [], ℕ, ℤ, List, false, true, All, AllPairs, Contains, length, slice_index_or, IfOk, OnOk};
+ghost use Rattle.std.specs.Prelude.{◌≡◌, ◌≢◌, ◌<◌, ◌++◌, ◌∷◌, [], ℤ, List, false, true, All, AllPairs, Contains, length, slice_index_or, IfOk, OnOk};
 ghost use Rattle.sync_graph.specs.Graph.{arc_at};
 ghost use Rattle.sync_graph.specs.InForce.{IsEarliestOf};
 ghost use Rattle.earliest.specs.Withdrawn.{IsEarliestWith};

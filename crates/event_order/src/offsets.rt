@@ -1,5 +1,5 @@
 // How far the clocks of a problem are apart, by the stamps of messages.
-ghost use Rattle.std.specs.Prelude.{◌≡◌, ◌+◌, ◌<◌, ℕ, length, All, IfOk, IfSome, IfNone, OnOk};
+ghost use Rattle.std.specs.Prelude.{◌≡◌, ◌+◌, ◌<◌, ℕ, length, IfOk, IfSome, OnOk};
 ghost use Rattle.event_order.specs.Offsets.{AreLinks};
 
 use problem::Problem;

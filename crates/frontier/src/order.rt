@@ -1,5 +1,5 @@
 // The order in which nodes come out: by key, and of equal keys by number.
-ghost use Rattle.std.specs.Prelude.{◌≡◌, ◌<◌, length, ℤ, MatchBool};
+ghost use Rattle.std.specs.Prelude.{◌<◌, length, MatchBool};
 ghost use Rattle.frontier.specs.Keys.{ComesFirst};
 ghost use Rattle.frontier.specs.Heap.{IsFirstOf};
 

@@ -1,5 +1,5 @@
 // Graphs that several modules are over, arcs that are brought into them, and their earliest executions.
-ghost use Rattle.std.specs.Prelude.{◌≡◌, ◌+◌, ◌≤◌, [], false, true, IfSome, OnOk, length, slice_index_or};
+ghost use Rattle.std.specs.Prelude.{◌≡◌, ◌≤◌, [], false, true, IfSome, OnOk, length, slice_index_or};
 ghost use Rattle.frontier.specs.Keys.{IsEmpty};
 ghost use Rattle.sync_graph.specs.declared.arc.Arc.{Arc};
 ghost use Rattle.sync_graph.specs.Graph.{with_arc};

@@ -1,5 +1,5 @@
 // The graph of two logs with a message each way, and the lists of a graph whose arcs come and go.
-ghost use Rattle.std.specs.Prelude.{◌≡◌, ◌<◌, ◌≤◌, length};
+ghost use Rattle.std.specs.Prelude.{◌≡◌, ◌<◌, length};
 
 use crate::fixtures::{Link, fill, first_wrong_arc, graph_from, push};
 use atto::{Nano, Steps};

@@ -1,7 +1,6 @@
 // The key of a frame.
 ghost use Rattle.std.specs.Prelude.{◌≡◌, ◌≤◌, ℕ, List, Some, None, IfOk, IfErr, OnOk};
 ghost use Rattle.ip_headers.specs.Checks.{first_reason};
-ghost use Rattle.ip_headers.specs.Datagram.{datagram_checks};
 ghost use Rattle.ip_headers.specs.Decoding.{decoded, checks, key_of, key_with, transport_checks, transport_part};
 ghost use Rattle.ip_headers.specs.Frame.{datagram_in};
 ghost use Rattle.ip_headers.specs.Inside.{IsRead};

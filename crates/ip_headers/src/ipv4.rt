@@ -1,5 +1,5 @@
 // IPv4 datagrams (RFC 791).
-ghost use Rattle.std.specs.Prelude.{◌≡◌, ◌<◌, ◌≤◌, ◌+◌, ◌||◌, ◌==◌, true, false, length, take, drop, Some, None, IfSome, IfNone, IfOk, IfErr, OnOk};
+ghost use Rattle.std.specs.Prelude.{◌≡◌, ◌<◌, ◌≤◌, ◌||◌, ◌==◌, false, length, take, drop, Some, None, IfSome, IfNone, IfOk, IfErr, OnOk};
 ghost use Rattle.ip_headers.specs.Checks.{first_reason};
 ghost use Rattle.ip_headers.specs.Datagram.{version, header_length, is_fragment, datagram_checks};
 ghost use Rattle.ip_headers.specs.Inside.{number_of, IsRead};

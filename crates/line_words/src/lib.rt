@@ -5,7 +5,7 @@
 
 pub mod line;
 
-ghost use Rattle.std.specs.Prelude.{◌≡◌, ◌∷◌, [], ◌++◌, ℕ, ℤ, List, OnOk};
+ghost use Rattle.std.specs.Prelude.{◌≡◌, ◌∷◌, [], ◌++◌, ℕ, List, OnOk};
 ghost use Rattle.atto.specs.Decimal.{decimal_of};
 ghost use Rattle.atto.specs.NsText.{ns_text};
 ghost use Rattle.line_format.specs.Words.{words};

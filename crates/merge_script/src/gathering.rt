@@ -2,7 +2,6 @@
 ghost use Rattle.std.specs.Prelude.{◌≡◌, ◌<◌, ◌≤◌, [], false, true, drop, length, IfOk, IfErr, OnOk, MatchBool};
 ghost use Rattle.ports.specs.Files.{Keeps};
 ghost use Rattle.line_reader.specs.Reader.{fresh, room};
-ghost use Rattle.mergecap.specs.MergedCapture.{Timed};
 ghost use Rattle.mergecap.specs.Packets.{all_timed};
 ghost use Rattle.replies.specs.Sessions.{start};
 ghost use Rattle.session.specs.Stands.{StandsFor, IsReady};

@@ -1,6 +1,5 @@
 // How a block begins: its type and its length, and of a section header the magic number that tells the order of bytes.
-ghost use Rattle.std.specs.Prelude.{◌≡◌, ◌≤◌, ◌||◌, true, false, length, take, IfOk, IfErr, OnOk, IsTrue, ◌↔◌};
-ghost use Rattle.pcap_stream.specs.Capture.{IsFrontOf};
+ghost use Rattle.std.specs.Prelude.{◌≡◌, ◌≤◌, ◌||◌, true, false, length, IfOk, IfErr, OnOk, IsTrue, ◌↔◌};
 ghost use Rattle.pcapng_stream.specs.declared.flaw.Flaw.TheVariants.{Malformed};
 ghost use Rattle.pcapng_stream.specs.Blocks.{is_section, magic_order, order_of, head_by, head_of};
 ghost use Rattle.pcapng_stream.specs.Flaws.{lacks_order, is_wrong_size, begins_wrong};

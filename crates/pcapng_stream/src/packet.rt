@@ -1,6 +1,6 @@
 // Packets in blocks.
-ghost use Rattle.std.specs.Prelude.{◌≡◌, ◌≤◌, ◌<◌, ◌^◌, true, false, not, nat_lt, length, Some, None, IfSome, IfNone, IfOk, IfErr, OnOk, SomeIff};
-ghost use Rattle.pcapng_stream.specs.Blocks.{interface_number, interface_for, time_of, captured_length, nanos, stamp_of, packet_of, parts_of_second};
+ghost use Rattle.std.specs.Prelude.{◌≡◌, ◌≤◌, ◌<◌, ◌^◌, true, false, nat_lt, length, Some, None, IfSome, IfNone, IfOk, IfErr, OnOk, SomeIff};
+ghost use Rattle.pcapng_stream.specs.Blocks.{interface_number, interface_for, time_of, nanos, packet_of};
 ghost use Rattle.pcap_stream.specs.Feeding.{seen_packet};
 ghost use Rattle.pcapng_stream.specs.Flaws.{first_flaw, packet_checks};
 ghost use Rattle.pcapng_stream.specs.Inside.{block_of, section_of, seen_captured};

@@ -1,7 +1,7 @@
 //! Different values, each with its place: for names and keys that are looked up, whoever chose them.
 #![tactic(auto)]
 
-ghost use Rattle.std.specs.Prelude.{◌≡◌, ◌-◌, ◌<◌, ◌++◌, ◌∷◌, [], true, length, take, position, slice_get, Some, None, IfSome, IfErr, OnOk, OnErr};
+ghost use Rattle.std.specs.Prelude.{◌≡◌, ◌-◌, ◌<◌, ◌++◌, ◌∷◌, [], length, take, position, Some, None, IfSome, IfErr, OnOk, OnErr};
 ghost use Rattle.places.specs.Numbers.{IsLast};
 
 use std::alloc::{AllocFailed, Global};

@@ -1,5 +1,5 @@
 // A source in memory.
-ghost use Rattle.std.specs.Prelude.{◌≡◌, ◌↔◌, ◌≤◌, ◌<◌, Some, IsErr, IfOk, OnErr, length, min, take, drop};
+ghost use Rattle.std.specs.Prelude.{◌≡◌, ◌↔◌, ◌≤◌, ◌<◌, Some, IsErr, IfOk, OnErr, length, min, drop};
 ghost use Rattle.ports.specs.Content.{TakesSome};
 ghost use Rattle.ports.specs.Memory.{CallFails, no_calls, next_call, failed_call};
 

@@ -2,7 +2,6 @@
 ghost use Rattle.std.specs.Prelude.{◌≡◌, ◌≢◌, ◌↔◌, [], ℕ, Option, IsTrue, OnOk};
 ghost use Rattle.line_format.specs.Format.{Takes, TakesLine};
 ghost use Rattle.problem_model.specs.Name.{IsClockName};
-ghost use Rattle.problem_model.specs.Problem.{IsProblem};
 ghost use Rattle.problem.specs.Line.{IsInOrder, IsSaid, HasFollow, problem_format};
 ghost use Rattle.problem.specs.Line.Line.{ClockLine, FollowLine, EventLine, MessageLine};
 ghost use Rattle.problem.specs.Written.{ClockIs, NanoIs, MostIs, RefusesDelays, RefusesGap, clock_body, follow_body, event_body, message_body};

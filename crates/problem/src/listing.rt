@@ -1,5 +1,5 @@
 // What is printed of a problem: its names, its events and its readings.
-ghost use Rattle.std.specs.Prelude.{◌≡◌, ◌<◌, ◌≤◌, ◌+◌, ◌^◌, Some, length, slice_get};
+ghost use Rattle.std.specs.Prelude.{◌≡◌, ◌<◌, ◌≤◌, ◌+◌, Some, length, slice_get};
 ghost use Rattle.problem.specs.Listing.{Listed};
 ghost use Rattle.problem_model.specs.Nodes.{most_nodes};
 

@@ -1,8 +1,8 @@
 // The follows of the short list.
-ghost use Rattle.std.specs.Prelude.{◌≡◌, ◌<◌, ℕ, List, length, AllPairs, IfSome};
+ghost use Rattle.std.specs.Prelude.{◌≡◌, ◌<◌, AllPairs, IfSome};
 ghost use Rattle.problem_model.specs.declared.items.Bound.TheVariants as bounds;
 ghost use Rattle.problem_model.specs.Bounds.{Declares};
-ghost use Rattle.problem_model.specs.Nodes.{Reading, AreReadings, ComesBefore};
+ghost use Rattle.problem_model.specs.Nodes.{AreReadings, ComesBefore};
 ghost use Rattle.problem_model.specs.ShortList.{clocks_before, first_reading, nearest_reading, follow_bound};
 ghost use Rattle.problem.specs.Nearest.{listed_follow, gap_between};
 

@@ -1,5 +1,5 @@
 // The readings of a problem: the clocks and stamps of its events, without repeats.
-ghost use Rattle.std.specs.Prelude.{◌≡◌, ◌<◌, ◌++◌, ◌∷◌, [], ℕ, map, AllPairs, Contains, slice_get, Some, IfSome, IfNone, IfOk};
+ghost use Rattle.std.specs.Prelude.{◌≡◌, ◌<◌, map, AllPairs, Contains, slice_get, Some, IfSome, IfNone, IfOk};
 ghost use Rattle.std.specs.Vec.{vec_len, vec_capacity};
 ghost use Rattle.problem_model.specs.Nodes.{Reading, AreReadings, ComesBefore};
 ghost use Rattle.problem_model.specs.ShortList.{first_reading, last_reading};

@@ -1,17 +1,13 @@
 // The name of an event or a clock.
-ghost use Rattle.std.specs.Prelude.{◌≡◌, ◌≤◌, ◌↔◌, ◌++◌, ◌∷◌, [], length, refl, IsTrue, take, drop, All};
+ghost use Rattle.std.specs.Prelude.{◌≡◌, ◌≤◌, ◌↔◌, length, refl, IsTrue, take, drop, All};
 ghost use Rattle.std.specs.Option.{SomeIff};
 ghost use Rattle.problem_model.specs.Name.{IsEventName, IsClockName, is_event_byte, is_clock_byte};
 ghost use Rattle.std.specs.Cmp.{partial_equiv_from_equiv, partial_order_from_agreeing_total, unsigned_ties};
 ghost use Rattle.std.specs.Cmp.Lexicographic.{slice_cmp, nat_list_eq_equiv, nat_list_cmp_total, lists_ties};
 ghost use Rattle.std.specs.Ordering.{nat_cmp, as_partial_cmp};
 ghost use Rattle.std.specs.Str.{bytes_eq};
-ghost use Rattle.std.specs.Hash as fed;
-ghost use Rattle.std.specs.Cmp.Rules.{hashing};
-ghost use Rattle.std.proofs.Common.{rules};
 
 use std::cmp::Ordering;
-use std::hash::{Hash, Hasher};
 use std::marker::Model;
 
 /// A name of an event or a clock: 1 to 48 ASCII letters, digits, `.`, `_`, `-` and `#`.
@@ -22,7 +18,7 @@ pub struct Name {
 }
 
 impl Model for Name {
-    ghost use Rattle.std.specs.Prelude.{◌≡◌, ◌-◌, ◌≤◌, ℕ, List, take, drop, length, replicate};
+    ghost use Rattle.std.specs.Prelude.{◌≡◌, ◌-◌, ◌≤◌, ℕ, List, take, drop, length};
     ghost use Rattle.problem_model.specs.Name.{IsEventName, padded};
 
     ghost Value = { List ℕ };
@@ -74,16 +70,6 @@ impl Ord for Name {
 
     fn cmp(&self, other: &Name) -> Ordering {
         self.bytes().cmp(other.bytes())
-    }
-}
-
-impl Hash for Name {
-    ghost hash_input = { fed.slice fed.u8 };
-
-    ghost respects_eq = { Prim.search (hashing, rules) };
-
-    fn hash<H: Hasher>(&self, state: &mut H) {
-        self.bytes().hash(state);
     }
 }
 

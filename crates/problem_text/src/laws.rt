@@ -1,5 +1,5 @@
 // What a written text is read as.
-ghost use Rattle.std.specs.Prelude.{◌≤◌, ◌^◌, length};
+ghost use Rattle.std.specs.Prelude.{◌≤◌, length};
 ghost use Rattle.problem_model.specs.Problem.{ProblemLists, IsProblem};
 ghost use Rattle.problem_model.specs.ProblemText.{problem_text};
 ghost use Rattle.problem_text.specs.ReadAgain.{IsReadAs};

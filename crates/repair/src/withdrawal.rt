@@ -1,5 +1,5 @@
 // Rows that are repaired once arcs are withdrawn.
-ghost use Rattle.std.specs.Prelude.{◌≡◌, ◌≤◌, ◌∷◌, [], ℕ, true, length, vec_capacity};
+ghost use Rattle.std.specs.Prelude.{◌≡◌, ◌≤◌, ◌∷◌, [], true, length, vec_capacity};
 ghost use Rattle.frontier.specs.Keys.{IsEmpty};
 ghost use Rattle.sync_graph.specs.Graph.{table_of};
 ghost use Rattle.earliest.specs.Values.{IsEarliestOf};

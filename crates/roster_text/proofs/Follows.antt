@@ -14,7 +14,7 @@ use Rattle.line_format.specs.Words.{line_of}
 use Rattle.decl.specs.Declaration.{Declaration, IsDeclaration, follow_from, follows_of}
 use Rattle.decl.proofs.Following.{follow_listed, follows_lead}
 use Rattle.traces.proofs.Members.{none_in}
-use Rattle.trace_problem.proofs.Follows.{before_more, follows_before}
+use Rattle.traces.proofs.Follows.{before_more, follows_before}
 use Rattle.roster.specs.Roster.{RosterLists, IsRoster, listed}
 use Rattle.roster_text.specs.RosterText.{next_line}
 use Rattle.roster_text.proofs.Lists.{given_twice}

@@ -6,7 +6,7 @@ use Rattle.problem.proofs.ListedNodes.{map_at}
 use Rattle.trace_event.specs.Seen.{Seen}
 use Rattle.traces.specs.declared.event.EventId.{EventId}
 use Rattle.traces.specs.Traces.{Placed, numbered, events_from, events_of, name_of}
-use Rattle.trace_problem.proofs.Lists.{got, place_in}
+use Rattle.traces.proofs.Lists.{got, place_in}
 use Rattle.roster.specs.declared.came.Came.{Came}
 use Rattle.roster.specs.Groups.{group_at}
 use Rattle.roster.specs.Roster.{RosterLists, id_of, no_event, event_at, IsRoster, Holds, in_turn, listed}

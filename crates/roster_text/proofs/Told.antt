@@ -21,8 +21,8 @@ use Rattle.traces.proofs.Ids.{ids_differ}
 use Rattle.traces.proofs.Marks.{event_one, only_from, only_to}
 use Rattle.traces.proofs.Members.{given_by, head_or_tail, none_in}
 use Rattle.traces.proofs.MessageEnds.{ends_known, pair_from}
-use Rattle.trace_problem.proofs.Lists.{got}
-use Rattle.trace_problem.proofs.Places.{stands}
+use Rattle.traces.proofs.Lists.{got}
+use Rattle.traces.proofs.Places.{stands}
 use Rattle.roster.specs.declared.came.Came.{Came}
 use Rattle.roster.specs.declared.came.Partner.{Partner}
 use Rattle.roster.specs.Roster.{RosterLists, event_at, IsRoster, Holds, listed}

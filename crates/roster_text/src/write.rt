@@ -1,5 +1,5 @@
 // The text of what a roster holds, written line by line.
-ghost use Rattle.std.specs.Prelude.{◌≡◌, ◌≤◌, ◌⊎◌, ◌∷◌, [], ℕ, List, codes, length};
+ghost use Rattle.std.specs.Prelude.{◌≡◌, ◌≤◌, ◌⊎◌, ◌∷◌, [], List, codes, length};
 ghost use Rattle.std.specs.List.{flat_map};
 ghost use Rattle.atto.specs.Decimal.{decimal_of};
 ghost use Rattle.ports.specs.Content.{Writes};

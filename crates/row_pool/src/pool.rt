@@ -1,5 +1,5 @@
 // A pool that lends rows.
-ghost use Rattle.std.specs.Prelude.{◌≡◌, ◌≢◌, ℕ, ◌+◌, ◌*◌, ◌<◌, ◌≤◌, ◌↔◌, [], ◌++◌, true, false, ◌^◌, length, position, not, IfNone, IfSome, IfOk, IsTrue, OnOk, OnErr};
+ghost use Rattle.std.specs.Prelude.{◌≡◌, ◌≢◌, ℕ, ◌+◌, ◌*◌, ◌<◌, ◌≤◌, ◌↔◌, [], true, false, ◌^◌, length, position, not, IfNone, IfSome, IsTrue, OnOk, OnErr};
 ghost use Rattle.std.specs.Borrow.{sem, Lends, Array};
 ghost use Rattle.problem_model.specs.Nodes.{most_nodes};
 ghost use Rattle.row_pool.specs.Region.{spaced};

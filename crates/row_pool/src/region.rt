@@ -1,5 +1,5 @@
 // Two parts of one list of cells.
-ghost use Rattle.std.specs.Prelude.{◌≡◌, ◌+◌, ◌≤◌, ◌⊎◌, length, take, drop};
+ghost use Rattle.std.specs.Prelude.{◌+◌, ◌≤◌, ◌⊎◌, length, take, drop};
 ghost use Rattle.row_pool.specs.Writing.{TakesBoth, WritesParts};
 
 use crate::cell::Cell;

@@ -1,5 +1,5 @@
 // A graph of three events to which arcs come and from which they go: what is held of it then.
-ghost use Rattle.std.specs.Prelude.{◌≡◌, ◌+◌, ◌<◌, ◌≤◌, ◌^◌, ◌++◌, ◌∷◌, [], true, All, IfOk, OnOk, length, ℤ, pos, neg_ℤ, ◌<ℤ◌, slice_get, Some};
+ghost use Rattle.std.specs.Prelude.{◌≡◌, ◌+◌, ◌<◌, ◌^◌, ◌++◌, ◌∷◌, [], true, All, IfOk, OnOk, length, ℤ, pos, neg_ℤ, ◌<ℤ◌, slice_get, Some};
 ghost use Rattle.problem_model.specs.declared.items.Node.TheVariants.{Event};
 ghost use Rattle.sync_graph.specs.Graph.{no_graph};
 ghost use Rattle.row_pool.specs.Pool.{free_rows};

@@ -18,7 +18,7 @@ use atto::{Nano, Steps, delay_units, span_least, span_most};
 use engine::Solver;
 use problem::{NearestFollow, Problem};
 use problem_model::{Bound, Event, Message, Node};
-use std::alloc::{AllocError, Global};
+use std::alloc::AllocError;
 use std::sync::ledger::Ledger;
 use sync_graph::Arc;
 

@@ -1,5 +1,5 @@
 // A list of arc numbers for each node, all in one table.
-ghost use Rattle.std.specs.Prelude.{◌≡◌, ℕ, ◌-◌, ◌<◌, ◌^◌, ◌++◌, ◌∷◌, [], length, take, slice_get, slice_set, slice_index_or, OnOk, OnErr, IfOk};
+ghost use Rattle.std.specs.Prelude.{◌≡◌, ℕ, ◌-◌, ◌<◌, ◌++◌, ◌∷◌, [], length, take, slice_get, slice_set, slice_index_or, OnOk, OnErr, IfOk};
 ghost use Rattle.std.specs.List.{swap_remove};
 ghost use Rattle.sync_graph.specs.Graph.{most_arcs};
 ghost use Rattle.sync_graph.specs.Layout.{LiesWithin, HasPlace};

@@ -1,5 +1,5 @@
 // The logs of a batch.
-ghost use Rattle.std.specs.Prelude.{◌≡◌, ◌++◌, codes, map, IfOk, OnOk, string_bytes};
+ghost use Rattle.std.specs.Prelude.{◌≡◌, ◌++◌, codes, IfOk, OnOk, string_bytes};
 ghost use Rattle.trial.specs.Workload.{row, rows_of, piece_of};
 
 use crate::rounds::Message;

@@ -2,7 +2,6 @@
 ghost use Rattle.std.specs.Prelude.{◌≡◌, ◌++◌, OnOk, string_bytes};
 ghost use Rattle.std.specs.List.{flat_map, range_with_len};
 ghost use Rattle.trial.specs.Rounds.{hosts};
-ghost use Rattle.trial.specs.Declaration.{host_name};
 ghost use Rattle.trial.specs.Workload.{keep_line, keep_lines, ask_lines};
 
 use crate::rounds::HOSTS;

@@ -1,10 +1,10 @@
 // The workload of a trial.
-ghost use Rattle.std.specs.Prelude.{◌≡◌, ◌+◌, ◌-◌, ◌*◌, ◌<◌, ◌≤◌, ◌++◌, [], List, map, IfOk, OnOk, string_bytes};
+ghost use Rattle.std.specs.Prelude.{◌≡◌, ◌+◌, ◌-◌, ◌<◌, ◌≤◌, ◌++◌, [], List, map, IfOk, OnOk, string_bytes};
 ghost use Rattle.std.specs.List.{flat_map, range_with_len};
 ghost use Rattle.ports.specs.Memory.{PutFile, no_calls};
 ghost use Rattle.trial.specs.Rounds.{hosts, message};
 ghost use Rattle.trial.specs.Declaration.{declaration_text};
-ghost use Rattle.trial.specs.Workload.{file_of, batch_files, add_line, batch_lines, messages_of, files_of, script_of, HasFiles};
+ghost use Rattle.trial.specs.Workload.{file_of, batch_files, add_line, batch_lines, files_of, script_of, HasFiles};
 
 use crate::declaration::declare;
 use crate::pieces::piece;

@@ -1,5 +1,5 @@
 // The text of a widening, line by line.
-ghost use Rattle.std.specs.Prelude.{◌≡◌, ◌≢◌, ◌≤◌, ◌<◌, ◌^◌, ◌+◌, ◌++◌, ◌∷◌, [], ℕ, ℤ, List, length, Option, Some, None, IfSome, IfNone, OnOk};
+ghost use Rattle.std.specs.Prelude.{◌≡◌, ◌≤◌, ◌<◌, ◌^◌, ◌+◌, ◌++◌, ◌∷◌, [], ℕ, ℤ, List, length, Option, Some, None, IfSome, IfNone, OnOk};
 ghost use Rattle.line_format.specs.Words.{words, line_of};
 ghost use Rattle.line_format.specs.Cut.{Lacks};
 ghost use Rattle.line_format.specs.Format.{Takes, most_bytes};

@@ -2,7 +2,6 @@
 ghost use Rattle.std.specs.Prelude.{◌≡◌, ◌≤◌, ◌<◌, ◌^◌, [], true, length, All, IfOk};
 ghost use Rattle.difference_bounds.specs.Numbers.{IsUpTo};
 ghost use Rattle.problem_model.specs.Nodes.{most_nodes};
-ghost use Rattle.sync_graph.specs.Graph.{GraphLists, IsGraph};
 ghost use Rattle.engine.specs.Current.{IsCurrent};
 ghost use Rattle.solver.specs.Bounds.{HoldsShortList};
 ghost use Rattle.solving.specs.GraphSolution.{IsGraphSolution};

@@ -1,5 +1,5 @@
 // Widenings of a problem, written piece by piece.
-ghost use Rattle.std.specs.Prelude.{◌≡◌, ◌++◌, ◌∷◌, [], List, Option, Some, None, All};
+ghost use Rattle.std.specs.Prelude.{◌≡◌, ◌++◌, List, Option, Some, None, All};
 ghost use Rattle.std.specs.List.{flat_map};
 ghost use Rattle.line_format.specs.Words.{line_of};
 ghost use Rattle.ports.specs.Content.{Writes};

@@ -1,6 +1,6 @@
 use Rattle.std.proofs.Common.{◌≡◌, []}
 use Rattle.decl.specs.Declaration.{declaration_of}
-use Rattle.trace_problem.proofs.Follows.{follows_before}
+use Rattle.traces.proofs.Follows.{follows_before}
 use Rattle.roster_text.proofs.write.version_of.Given as goal
 
 -- there is no follow from a place before
