@@ -17,7 +17,7 @@ use Rattle.problem_model.specs.Nodes.{Reading}
 use Rattle.problem.specs.Listing.{Listed, name_at}
 use Rattle.problem.proofs.ListedNodes.{map_at}
 use Rattle.sync_graph.specs.ListedProblem.{IsListedBy, StandsAt, IsCarried}
-use Rattle.trace_problem.proofs.Lists.{got}
+use Rattle.traces.proofs.Lists.{got}
 use Rattle.growth.specs.Entered.{IsReadingOf, AreNeighbours, AreLinked, IsDue, all_events}
 use Rattle.growth.specs.ByNumber.{IsByNumber, IsCarriedMessage}
 use Rattle.growth.proofs.Leading.{follow_over, after_over}

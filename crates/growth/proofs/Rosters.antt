@@ -14,7 +14,7 @@ use Rattle.traces.specs.declared.event.EventId.{EventId}
 use Rattle.traces.specs.Traces.{numbered, events_from, name_of, clock_of}
 use Rattle.traces.specs.Messages.{event_with, problem_of_seen}
 use Rattle.traces.proofs.Members.{no_pairs, pairs_joined}
-use Rattle.trace_problem.proofs.Lists.{place_in, pairs_map}
+use Rattle.traces.proofs.Lists.{place_in, pairs_map}
 use Rattle.roster.specs.declared.came.Came.{Came}
 use Rattle.roster.specs.Groups.{group_at}
 use Rattle.roster.specs.Readings.{Stamped}

@@ -17,7 +17,7 @@ use Rattle.sync_graph.specs.Graph.{GraphLists, IsGraph}
 use Rattle.sync_graph.specs.InForce.{IsInForce}
 use Rattle.sync_graph.specs.ListedProblem.{IsListedBy, IsCarried}
 use Rattle.sync_graph.specs.ListedStanding.{IsNodeBy, IsBoundBy, StandsForListed}
-use Rattle.trace_problem.proofs.Lists.{got, place_in, pairs_map}
+use Rattle.traces.proofs.Lists.{got, place_in, pairs_map}
 use Rattle.traces.proofs.Members.{pairs_joined}
 use Rattle.roster.proofs.Turns.{into_map, from_map}
 use Rattle.roster.proofs.Telling.{among}

@@ -1,9 +1,11 @@
 -- Messages of two lists of events.
-use Rattle.std.proofs.Common.{◌≡◌, ◌≢◌, ◌⊎◌, ℕ, Bool, true, false, List, [], ◌∷◌, get_or, Contains, All, AllPairs, inl, inr, refl, sym, ◌∙◌, ap, subst, arith}
+use Rattle.std.proofs.Common.{◌≡◌, ◌≢◌, ◌⊎◌, ℕ, Bool, true, false, List, [], ◌∷◌, map, get_or, Contains, All, AllPairs, inl, inr, refl, sym, ◌∙◌, ap, subst, arith}
 use Rattle.std.specs.Bool.{Decides}
 use Rattle.std.specs.List.Sorted.{IsPermutation}
 use Rattle.std.proofs.lemmas.Bool.{cases_eq}
+use Rattle.std.proofs.lemmas.List.{get_or-map, length-map}
 use Rattle.std.proofs.lemmas.List.Elements.{All-contains, Contains-get_or}
+use Rattle.std.proofs.lemmas.List.Sorted.{IsPermutation-map}
 use Rattle.std.proofs.lemmas.Map.Keys.{IsDistinct-IsPermutation}
 use Rattle.std.proofs.lemmas.Map.Made.{AllPairs-from_IsDistinct, IsDistinct-from_AllPairs}
 use Rattle.trace_event.specs.Seen.{Seen}
@@ -12,6 +14,7 @@ use Rattle.traces.specs.declared.event.Couple.{Couple}
 use Rattle.traces.specs.Traces.{events_of}
 use Rattle.traces.specs.Messages.{messages_of}
 use Rattle.traces.proofs.Ids.{ids_rise}
+use Rattle.traces.proofs.Lists.{pairs_map}
 use Rattle.traces.proofs.Members.{here, there, head_or_tail, none_in, first_of_pairs, rest_of_pairs}
 use Rattle.traces.proofs.MessageEnds.{sends_differ}
 
@@ -76,15 +79,18 @@ flag_alike (inl is) (inr none) forth back = absurd (none (forth is))
 flag_alike (inr none) (inl is) forth back = absurd (none (back is))
 flag_alike (inr none) (inr none') forth back = refl
 
-abbrev is_one : Couple → Couple → Bool
-is_one a b = flag (one_or_not a b)
+-- numbers that differ do so in any order
+numbers_permuted : (some others : List ℕ) → IsPermutation some others → AllPairs (λ (a b : ℕ). a ≢ b) some → AllPairs (λ (a b : ℕ). a ≢ b) others
+numbers_permuted some others permuted differ =
+    AllPairs-from_IsDistinct (λ a b. flag_decides (cases_eq a b)) others
+    (IsDistinct-IsPermutation (λ (a b : ℕ). flag (cases_eq a b)) (λ a b. flag_alike (cases_eq a b) (cases_eq b a) sym sym) some others permuted
+    (IsDistinct-from_AllPairs (λ a b. flag_decides (cases_eq a b)) some differ))
 
--- messages that differ do so in any order
-pub differ_permuted : (some others : List Couple) → IsPermutation some others → AllPairs (λ (a b : Couple). a ≢ b) some → AllPairs (λ (a b : Couple). a ≢ b) others
-differ_permuted some others permuted differ =
-    AllPairs-from_IsDistinct (λ a b. flag_decides (one_or_not a b)) others
-    (IsDistinct-IsPermutation is_one (λ a b. flag_alike (one_or_not a b) (one_or_not b a) sym sym) some others permuted
-    (IsDistinct-from_AllPairs (λ a b. flag_decides (one_or_not a b)) some differ))
+-- and so do elements that differ by a number of theirs
+pub differ_permuted : {X : Type 0} (f : X → ℕ) (some others : List X) → IsPermutation some others → AllPairs (λ (a b : X). f a ≢ f b) some → AllPairs (λ (a b : X). f a ≢ f b) others
+differ_permuted f some others permuted differ i j d below inside same =
+    let numbers : AllPairs (λ (a b : ℕ). a ≢ b) (map f others) = numbers_permuted (map f some) (map f others) (IsPermutation-map f some others permuted) (pairs_map (λ (a b : ℕ). a ≢ b) f some differ) in
+    numbers i j (f d) below (omega (arith, inside, length-map others f)) (get_or-map f others i d (f d) (omega (arith, below, inside)) ∙ same ∙ sym (get_or-map f others j d (f d) inside))
 
 pub in_or_not : (ms : List Couple) (m : Couple) → Contains ms m ⊎ (Contains ms m → ⊥)
 in_or_not [] m = inr (λ has. none_in m has)

@@ -12,10 +12,10 @@ use Rattle.traces.specs.declared.event.Couple.{Couple}
 use Rattle.traces.specs.Traces.{event_count, events_of, name_of}
 use Rattle.traces.specs.Messages.{linked, messages_of, place_of, problem_of_seen}
 use Rattle.traces.proofs.MessageEnds.{ends_known}
-use Rattle.trace_problem.specs.Making.{IsOneOf}
-use Rattle.trace_problem.proofs.Lists.{place_in}
-use Rattle.trace_problem.proofs.Places.{the_place}
-use Rattle.trace_problem.proofs.Seen.{are_events}
+use Rattle.traces.specs.Making.{IsOneOf}
+use Rattle.traces.proofs.Lists.{place_in}
+use Rattle.traces.proofs.Places.{the_place}
+use Rattle.traces.proofs.Seen.{are_events}
 use Rattle.roster.specs.declared.came.Came.{Came}
 use Rattle.roster.specs.Groups.{group_at}
 use Rattle.roster.specs.Roster.{RosterLists, id_of, event_at, IsRoster, Holds, listed}

@@ -1,10 +1,10 @@
 -- Events come at once, and the messages change: what is kept behind it.
-use Rattle.std.proofs.Common.{◌≡◌, ◌⊎◌, ◌<◌, ◌≤◌, ◌+◌, ◌*◌, ◌^◌, ℕ, zero, suc, List, [], ◌∷◌, ◌++◌, length, map, set, Contains, All, inl, inr, refl, sym, ◌∙◌, ap, subst, arith}
+use Rattle.std.proofs.Common.{◌≡◌, ◌≢◌, ◌⊎◌, ◌<◌, ◌≤◌, ◌+◌, ◌*◌, ◌^◌, ℕ, zero, suc, List, [], ◌∷◌, ◌++◌, length, map, set, Contains, All, AllPairs, inl, inr, refl, sym, ◌∙◌, ap, subst, arith}
 use Rattle.std.specs.List.{range_with_len}
 use Rattle.std.specs.List.Sorted.{IsPermutation}
 use Rattle.std.proofs.lemmas.Bool.{cases_eq, cases_lt}
 use Rattle.std.proofs.lemmas.List.{length-map, set-get_or}
-use Rattle.std.proofs.lemmas.List.Elements.{All-append, All-cons, All-head, All-nil, All-tail}
+use Rattle.std.proofs.lemmas.List.Elements.{All-append, All-cons, All-head, All-nil, All-tail, Contains-append_cases, Contains-append_left, Contains-append_right}
 use Rattle.std.proofs.lemmas.List.FromFn.{length-range_with_len}
 use Rattle.std.proofs.lemmas.List.Sorted.{All-permutation, Contains-permutation, IsPermutation-sym, length_permutation}
 use Rattle.std.proofs.lemmas.Option.{slice_get-get_or}
@@ -14,15 +14,17 @@ use Rattle.sync_graph.specs.Standing.{HasNode}
 use Rattle.engine.specs.Solver.{SolverLists}
 use Rattle.trace_event.specs.declared.event.Event.{Event}
 use Rattle.trace_event.specs.Seen.{Seen, seen_event, seen_events}
+use Rattle.traces.specs.declared.event.EventId.{EventId}
 use Rattle.traces.specs.declared.event.Couple.{Couple}
 use Rattle.traces.specs.Traces.{events_of}
 use Rattle.traces.proofs.Members.{here, there}
 use Rattle.traces.specs.Messages.{messages_of}
-use Rattle.trace_problem.specs.Making.{StampsFit}
-use Rattle.trace_match.specs.Ends.{AreNewMessages}
+use Rattle.traces.specs.Making.{StampsFit}
+use Rattle.msg_match.specs.declared.change.Change.{Change}
+use Rattle.event_match.specs.Ends.{AreNewMessages, AreChanges, AreCouplesWithin, ids_from, named}
 use Rattle.roster.specs.Groups.{group_at}
 use Rattle.roster.specs.Readings.{stamps_of}
-use Rattle.roster.specs.Roster.{RosterLists, IsRoster, IsUnder, IsGrown, Holds}
+use Rattle.roster.specs.Roster.{RosterLists, IsRoster, IsGrown, Holds, id_of}
 use Rattle.roster.proofs.Turns.{map-map}
 use Rattle.growth.specs.Entered.{events_below}
 use Rattle.growth.specs.Told.{messages_by_number, numbered_message}
@@ -32,16 +34,18 @@ use Rattle.kept_graph.specs.Kept.{IsKeptFor, with_more}
 use Rattle.kept_graph.specs.UnderWay.{IsUnderWay, IsEntering}
 use Rattle.kept_graph.specs.Growing.{Gains, Retells, KeepsNodesThere}
 use Rattle.kept_graph.specs.Withdrawing.{AreLeft}
-use Rattle.kept_graph.specs.Planning.{numbers_of, couples_of}
+use Rattle.kept_graph.specs.Planning.{numbers_of, messages_in}
+use Rattle.kept_graph.specs.Numbering.{AreInside, message_by, names_then}
 use Rattle.kept_graph.specs.Coming.{HaveOwnSends, HaveCome}
 use Rattle.kept_graph.proofs.Alike.{AreAlike}
 use Rattle.kept_graph.proofs.Both.{AreInBoth, in_both, differ_permuted}
 use Rattle.kept_graph.proofs.Gaining.{gains_behind, same_numbered}
 use Rattle.kept_graph.proofs.Held.{labels_many}
 use Rattle.kept_graph.proofs.InARow.{keeps_none}
+use Rattle.kept_graph.proofs.Naming.{messages_are, inside_names, same_names, names_pushed, names_of_same}
 use Rattle.kept_graph.proofs.NewEnds.{few_added}
 use Rattle.kept_graph.proofs.Pushed.{pushed_gains, came_count, begins, before_there, ends_way}
-use Rattle.kept_graph.proofs.Staying.{gone_sends, gone_receives, are_left, own_sends, come_sends, come_receives, all_there}
+use Rattle.kept_graph.proofs.Staying.{gone_differ, are_left, own_sends, come_sends, come_receives, all_there}
 use Rattle.kept_graph.proofs.WholeGraph.{kept_way, way_kept}
 
 -- ---- stamps
@@ -79,37 +83,55 @@ range_has first (suc many) v from less = elim (cases_eq v first) [
 ]
 
 -- ---- nothing comes
+append_nil : {X : Type 0} (xs : List X) → xs ++ [] ≡ xs
+append_nil [] = refl
+append_nil {X} (x ∷ xs) = ap (λ (ys : List X). x ∷ ys) (append_nil xs)
+
 same_seen : (seen : List (List Seen)) (label : ℕ) → with_more seen label [] ≡ seen
 same_seen seen label = ap (set seen label) (append_nil (group_at seen label)) ∙ set-get_or seen label []
-  where
-    append_nil : {X : Type 0} (xs : List X) → xs ++ [] ≡ xs
-    append_nil [] = refl
-    append_nil {X} (x ∷ xs) = ap (λ (ys : List X). x ∷ ys) (append_nil xs)
 
 no_couples : (couples : List Couple) → ((m : Couple) → Contains couples m → ⊥) → couples ≡ []
 no_couples [] none = refl
 no_couples (m ∷ couples) none = absurd (none m (here m couples))
 
 -- no message goes then
-pub none_gone : (before : List (List Seen)) (label : ℕ) (events : List Event) (gone : List Couple) → events ≡ [] → AreNewMessages (with_more before label (seen_events events)) before gone → gone ≡ []
-none_gone before label events gone none went =
+no_named : (before : List (List Seen)) (label : ℕ) (events : List Event) (gone : List Couple) → events ≡ [] → AreNewMessages (with_more before label (seen_events events)) before gone → gone ≡ []
+no_named before label events gone none went =
     let same : with_more before label (seen_events events) ≡ before = ap (λ (es : List Event). with_more before label (seen_events es)) none ∙ same_seen before label in
     let new : AreNewMessages before before gone = subst (λ (after : List (List Seen)). AreNewMessages after before gone) same went in
     no_couples gone (λ m among. (let is = new.only m among in is.1 is.0))
 
--- the same new messages in another order
-new_permuted : (before after : List (List Seen)) (some others : List Couple) → IsPermutation some others → AreNewMessages before after some → AreNewMessages before after others
-new_permuted before after some others permuted is = record {
-  only = λ m has. is.only m (Contains-permutation others some m (IsPermutation-sym some others permuted) has);
-  all = λ m new. Contains-permutation some others m permuted (is.all m new);
-  once = differ_permuted some others permuted is.once;
+-- the same messages in another order
+own_permuted : (some others messages : List Message) → IsPermutation some others → HaveOwnSends some messages → HaveOwnSends others messages
+own_permuted some others messages permuted own = record {
+  differ = differ_permuted (λ (m : Message). m.send) some others permuted own.differ;
+  fresh = All-permutation (λ (m : Message). (n : Message) → Contains messages n → n.send ≢ m.send) some others permuted own.fresh;
+}
+
+alike_permuted : (some others rest all : List Message) → IsPermutation some others → AreAlike (some ++ rest) all → AreAlike (others ++ rest) all
+alike_permuted some others rest all permuted alike = record {
+  forth = λ m has. alike.forth m (elim (Contains-append_cases others rest m has) [
+    | inl one ↦ Contains-append_left some rest m (Contains-permutation others some m (IsPermutation-sym some others permuted) one)
+    | inr other ↦ Contains-append_right some rest m other
+  ]);
+  back = λ m has. elim (Contains-append_cases some rest m (alike.back m has)) [
+    | inl one ↦ Contains-append_left others rest m (Contains-permutation some others m permuted one)
+    | inr other ↦ Contains-append_right others rest m other
+  ];
 }
 
 -- ---- an addition
-module _ (before : List (List Seen)) (label : ℕ) (events : List Event) (added gone : List Couple) (r : RosterLists) (s : SolverLists) (is : IsRoster r) (inside : label < length r.declaration.labels) (kept : IsKeptFor before r s)
-    (come : AreNewMessages before (with_more before label (seen_events events)) added) (went : AreNewMessages (with_more before label (seen_events events)) before gone) where
+module _ (before : List (List Seen)) (label : ℕ) (events : List Event) (c : Change) (r : RosterLists) (s : SolverLists) (is : IsRoster r) (inside : label < length r.declaration.labels) (kept : IsKeptFor before r s)
+    (changes : AreChanges (names_then r label (seen_events events)) before (with_more before label (seen_events events)) c) where
   abbrev after : List (List Seen)
   after = with_more before label (seen_events events)
+
+  -- what comes and what goes, by name
+  abbrev added : List Couple
+  added = map (named (names_then r label (seen_events events))) c.added.items
+
+  abbrev gone : List Couple
+  gone = map (named (names_then r label (seen_events events))) c.withdrawn.items
 
   pub staying : (both : List Couple) × AreInBoth (messages_of (events_of before)) (messages_of (events_of after)) both
   staying = in_both (messages_of (events_of before)) (messages_of (events_of after))
@@ -118,130 +140,153 @@ module _ (before : List (List Seen)) (label : ℕ) (events : List Event) (added 
   stay = map (numbered_message r) staying.0
 
   -- before anything comes
-  pub sends_there : All (λ (m : Couple). (v : ℕ) × IsUnder r.under m.send v) gone
-  sends_there = gone_sends r is before after kept.holds gone staying.0 went staying.1
-
-  pub receives_there : All (λ (m : Couple). (v : ℕ) × IsUnder r.under m.receive v) gone
-  receives_there = gone_receives r is before after kept.holds gone staying.0 went staying.1
+  pub gone_there : AreCouplesWithin (map id_of r.came) c.withdrawn.items → AreInside r c.withdrawn.items
+  gone_there within = inside_names r (map id_of r.came) c.withdrawn.items (length-map r.came id_of) within
 
   pub way_there : IsUnderWay (messages_by_number r before) r s
   way_there = kept_way r is before s kept
 
-  pub left_there : AreLeft (messages_by_number r before) (map (numbered_message r) gone) (map (numbered_message r) staying.0)
-  left_there = are_left r is before after kept.holds gone staying.0 went staying.1
+  module _ (within : AreCouplesWithin (map id_of r.came) c.withdrawn.items) (some : List Message) (by_number : some ≡ map (message_by r) c.withdrawn.items) where
+    by_name : some ≡ map (numbered_message r) gone
+    by_name = by_number ∙ messages_are r is (ids_from label (length (group_at r.under label) + 1) (seen_events events)) c.withdrawn.items (gone_there within)
 
-  -- messages are withdrawn
-  module _ (r1 : RosterLists) (s1 : SolverLists) (retells : Retells r r1) (arcs : s1.graph.arcs ≡ s.graph.arcs)
-      (left : (messages left : List Message) → IsUnderWay messages r s → AreLeft messages (map (numbered_message r) gone) left → IsUnderWay left r1 s1) where
-    pub way_left : IsUnderWay (map (numbered_message r) staying.0) r1 s1
-    way_left = left (messages_by_number r before) stay way_there left_there
+    pub differ_there : AllPairs (λ (a b : Message). a ≢ b) some
+    differ_there = subst (AllPairs (λ (a b : Message). a ≢ b)) (sym by_name) (gone_differ r is before after kept.holds gone staying.0 changes.withdrawn staying.1)
 
-    -- events are pushed
-    module _ (r2 : RosterLists) (is1 : IsRoster r1) (is2 : IsRoster r2) (pushed : IsGrown r1 r2 label (stamps_of events)) where
-      pub begins_there : IsEntering (events_below (length r1.came)) (map (numbered_message r) staying.0) r2 s1
-      begins_there = begins r1 r2 is1 is2 label (stamps_of events) pushed stay s1 way_left
+    pub left_there : AreLeft (messages_by_number r before) some (map (numbered_message r) staying.0)
+    left_there = subst (λ (ms : List Message). AreLeft (messages_by_number r before) ms stay) (sym by_name) (are_left r is before after kept.holds gone staying.0 changes.withdrawn staying.1)
 
-      count_there : length r2.came ≡ length r.came + length events
-      count_there = (
-          let many = came_count r1 r2 is1 is2 label (stamps_of events) pushed in
-          let same = retells.count in
-          omega (arith, many, same, length-map events (λ (e : Event). e.stamp)))
+    pub none_gone : events ≡ [] → some ≡ []
+    none_gone none = by_name ∙ ap (map (numbered_message r)) (no_named before label events gone none changes.withdrawn)
 
-      gains_when : (last : RosterLists) → KeepsNodesThere s1.graph r2 last → Gains label (stamps_of events) r last
-      gains_when last keeps = gains_behind label (stamps_of events) r r1 last retells (pushed_gains r1 r2 is1 is2 label (stamps_of events) pushed s1.graph last way_left.grown.knows keeps)
+    -- messages are withdrawn
+    module _ (r1 : RosterLists) (s1 : SolverLists) (retells : Retells r r1) (arcs : s1.graph.arcs ≡ s.graph.arcs)
+        (left : (all left : List Message) → IsUnderWay all r s → AreLeft all some left → IsUnderWay left r1 s1) where
+      pub way_left : IsUnderWay (map (numbered_message r) staying.0) r1 s1
+      way_left = left (messages_by_number r before) stay way_there left_there
 
-      gains : Gains label (stamps_of events) r r2
-      gains = gains_when r2 (keeps_none s1.graph r2)
+      -- events are pushed
+      module _ (r2 : RosterLists) (is1 : IsRoster r1) (is2 : IsRoster r2) (pushed : IsGrown r1 r2 label (stamps_of events)) where
+        names_there : map id_of r2.came ≡ names_then r label (seen_events events)
+        names_there = names_pushed r1 r2 label events pushed ∙ names_of_same r r1 label (seen_events events) (same_names r is r1 is1 retells.under retells.count) retells.under
 
-      holds : Holds r2 (with_more before label (seen_events events))
-      holds =
-          let within : label < length before = subst (λ (n : ℕ). label < n) (sym (labels_many r is before kept.holds)) inside in
-          gains.holds before (group_at before label) (seen_events events) kept.holds (slice_get-get_or before label [] within) (map-map (λ (x : Seen). x.stamp) seen_event events)
+        pub added_there : AreCouplesWithin (names_then r label (seen_events events)) c.added.items → AreInside r2 c.added.items
+        added_there among = inside_names r2 (names_then r label (seen_events events)) c.added.items (ap length (sym names_there) ∙ length-map r2.came id_of) among
 
-      pub sends_came : All (λ (m : Couple). (v : ℕ) × IsUnder r2.under m.send v) added
-      sends_came = come_sends r r2 is is2 before after kept.holds holds gains.declaration gains.under added staying.0 come staying.1
+        pub begins_there : IsEntering (events_below (length r1.came)) (map (numbered_message r) staying.0) r2 s1
+        begins_there = begins r1 r2 is1 is2 label (stamps_of events) pushed stay s1 way_left
 
-      pub receives_came : All (λ (m : Couple). (v : ℕ) × IsUnder r2.under m.receive v) added
-      receives_came = come_receives r r2 is is2 before after kept.holds holds gains.declaration gains.under added staying.0 come staying.1
+        count_there : length r2.came ≡ length r.came + length events
+        count_there = (
+            let many = came_count r1 r2 is1 is2 label (stamps_of events) pushed in
+            let same = retells.count in
+            omega (arith, many, same, length-map events (λ (e : Event). e.stamp)))
 
-      -- turns are taken
-      module _ (turns : List Turn) (dues : List Due) (order : IsPermutation (range_with_len (length r1.came) (length events)) (numbers_of turns)) (queue : IsPermutation added (couples_of dues)) where
-        come_due : AreNewMessages before after (couples_of dues)
-        come_due = new_permuted before after added (couples_of dues) queue come
+        gains_when : (last : RosterLists) → KeepsNodesThere s1.graph r2 last → Gains label (stamps_of events) r last
+        gains_when last keeps = gains_behind label (stamps_of events) r r1 last retells (pushed_gains r1 r2 is1 is2 label (stamps_of events) pushed s1.graph last way_left.grown.knows keeps)
 
-        pub sends_due : All (λ (m : Couple). (v : ℕ) × IsUnder r2.under m.send v) (couples_of dues)
-        sends_due = All-permutation (λ (m : Couple). (v : ℕ) × IsUnder r2.under m.send v) added (couples_of dues) queue sends_came
+        gains : Gains label (stamps_of events) r r2
+        gains = gains_when r2 (keeps_none s1.graph r2)
 
-        pub receives_due : All (λ (m : Couple). (v : ℕ) × IsUnder r2.under m.receive v) (couples_of dues)
-        receives_due = All-permutation (λ (m : Couple). (v : ℕ) × IsUnder r2.under m.receive v) added (couples_of dues) queue receives_came
+        holds : Holds r2 (with_more before label (seen_events events))
+        holds =
+            let within' : label < length before = subst (λ (n : ℕ). label < n) (sym (labels_many r is before kept.holds)) inside in
+            gains.holds before (group_at before label) (seen_events events) kept.holds (slice_get-get_or before label [] within') (map-map (λ (x : Seen). x.stamp) seen_event events)
 
-        pub own_due : HaveOwnSends r2.under (couples_of dues) (map (numbered_message r) staying.0)
-        own_due = own_sends r r2 is is2 before after kept.holds holds gains.declaration gains.under (couples_of dues) staying.0 come_due staying.1
+        -- turns are taken
+        module _ (turns : List Turn) (dues : List Due) (order : IsPermutation (range_with_len (length r1.came) (length events)) (numbers_of turns)) (among : AreCouplesWithin (names_then r label (seen_events events)) c.added.items)
+            (queue : IsPermutation (map (message_by r2) c.added.items) (messages_in dues)) where
+          named_queue : IsPermutation (map (numbered_message r2) added) (messages_in dues)
+          named_queue =
+              let ids : List EventId = map id_of r2.came in
+              let by_ids : map (message_by r2) c.added.items ≡ map (numbered_message r2) (map (named (ids ++ [])) c.added.items) = messages_are r2 is2 [] c.added.items (added_there among) in
+              subst (λ (ms : List Message). IsPermutation ms (messages_in dues))
+              (by_ids ∙ ap (λ (l : List EventId). map (numbered_message r2) (map (named l) c.added.items)) (append_nil ids ∙ names_there)) queue
 
-        few_due : length dues ≤ length events
-        few_due =
-            let few = few_added before label (seen_events events) (couples_of dues) come_due in
-            omega (arith, few, length-map dues (λ (d : Due). d.couple), length-map events seen_event)
+          pub sends_due : All (λ (m : Message). m.send < length r2.came) (messages_in dues)
+          sends_due =
+              All-permutation (λ (m : Message). m.send < length r2.came) (map (numbered_message r2) added) (messages_in dues) named_queue
+              (come_sends r r2 is is2 before after kept.holds holds gains.declaration gains.under added staying.0 changes.added staying.1)
 
-        many_turns : length turns ≡ length events
-        many_turns =
-            let many = length_permutation (range_with_len (length r1.came) (length events)) (numbers_of turns) order in
-            omega (arith, many, length-map turns (λ (t : Turn). t.event), length-range_with_len (length r1.came) (length events))
+          pub receives_due : All (λ (m : Message). m.receive < length r2.came) (messages_in dues)
+          receives_due =
+              All-permutation (λ (m : Message). m.receive < length r2.came) (map (numbered_message r2) added) (messages_in dues) named_queue
+              (come_receives r r2 is is2 before after kept.holds holds gains.declaration gains.under added staying.0 changes.added staying.1)
 
-        pub inside_turns : All (λ v. v < length r2.came) (numbers_of turns)
-        inside_turns =
-            All-permutation (λ (v : ℕ). v < length r2.came) (range_with_len (length r1.came) (length events)) (numbers_of turns) order
-            (range_below (length r1.came) (length events) (length r2.came) (let many = count_there in let same = retells.count in omega (arith, many, same)))
+          pub own_due : HaveOwnSends (messages_in dues) (map (numbered_message r) staying.0)
+          own_due =
+              own_permuted (map (numbered_message r2) added) (messages_in dues) stay named_queue
+              (own_sends r r2 is is2 before after kept.holds holds gains.declaration gains.under added staying.0 changes.added staying.1)
 
-        pub all_turns : (v : ℕ) → v < length r2.came → HasNode s1.graph (nodes.Event v) ⊎ Contains (numbers_of turns) v
-        all_turns v less = elim (cases_lt v (length r1.came)) [
-          | inl old ↦ inl (before_there r1 r2 is1 is2 label (stamps_of events) pushed stay s1 way_left v old)
-          | inr new ↦ inr (Contains-permutation (range_with_len (length r1.came) (length events)) (numbers_of turns) v order
-              (range_has (length r1.came) (length events) v new (let many = count_there in let same = retells.count in omega (arith, less, many, same))))
-        ]
+          few_due : length dues ≤ length events
+          few_due =
+              let few = few_added before label (seen_events events) added changes.added in
+              let many = length_permutation (map (numbered_message r2) added) (messages_in dues) named_queue in
+              omega (arith, few, many, length-map dues (λ (d : Due). d.message), length-map added (numbered_message r2), length-map events seen_event)
 
-        -- at most eight arcs and two nodes an event
-        few_arcs : length s1.graph.arcs + 6 * length turns + 2 * length dues ≤ 8 * (length r.came + length events)
-        few_arcs =
-            let few = kept.few in
-            omega (arith, few, ap length arcs, few_due, many_turns)
+          many_turns : length turns ≡ length events
+          many_turns =
+              let many = length_permutation (range_with_len (length r1.came) (length events)) (numbers_of turns) order in
+              omega (arith, many, length-map turns (λ (t : Turn). t.event), length-range_with_len (length r1.came) (length events))
 
-        pub few_nodes : length s1.graph.nodes + 2 * length turns ≤ 2 * (length r.came + length events)
-        few_nodes = (let few = way_left.nodes in let same = retells.count in omega (arith, few, same, many_turns))
+          pub inside_turns : All (λ v. v < length r2.came) (numbers_of turns)
+          inside_turns =
+              All-permutation (λ (v : ℕ). v < length r2.came) (range_with_len (length r1.came) (length events)) (numbers_of turns) order
+              (range_below (length r1.came) (length events) (length r2.came) (let many = count_there in let same = retells.count in omega (arith, many, same)))
 
-        pub arcs_last : length r.came + length events ≤ 2 ^ 21 → length s1.graph.arcs + 6 * length turns + 2 * length dues ≤ 2 ^ 25
-        arcs_last all = let few = few_arcs in omega (arith, few, all)
+          pub all_turns : (v : ℕ) → v < length r2.came → HasNode s1.graph (nodes.Event v) ⊎ Contains (numbers_of turns) v
+          all_turns v less = elim (cases_lt v (length r1.came)) [
+            | inl old ↦ inl (before_there r1 r2 is1 is2 label (stamps_of events) pushed stay s1 way_left v old)
+            | inr new ↦ inr (Contains-permutation (range_with_len (length r1.came) (length events)) (numbers_of turns) v order
+                (range_has (length r1.came) (length events) v new (let many = count_there in let same = retells.count in omega (arith, less, many, same))))
+          ]
 
-        pub nodes_last : length r.came + length events ≤ 2 ^ 21 → length s1.graph.nodes + 2 * length turns ≤ 2 ^ 22
-        nodes_last all = let few = few_nodes in omega (arith, few, all)
+          -- at most eight arcs and two nodes an event
+          few_arcs : length s1.graph.arcs + 6 * length turns + 2 * length dues ≤ 8 * (length r.came + length events)
+          few_arcs =
+              let few = kept.few in
+              omega (arith, few, ap length arcs, few_due, many_turns)
 
-        -- all have come
-        module _ (r3 : RosterLists) (s3 : SolverLists) (is3 : IsRoster r3) (have : HaveCome (couples_of dues) r2 r3 s1 s3) (all : (v : ℕ) → v < length r2.came → HasNode s3.graph (nodes.Event v))
-            (nodes_few : length s3.graph.nodes ≤ length s1.graph.nodes + 2 * length turns) (arcs_few : length s3.graph.arcs ≤ length s1.graph.arcs + 6 * length turns + 2 * length dues) where
-          pub gains_all : Gains label (stamps_of events) r r3
-          gains_all = gains_when r3 have.keeps
+          pub few_nodes : length s1.graph.nodes + 2 * length turns ≤ 2 * (length r.came + length events)
+          few_nodes = (let few = way_left.nodes in let same = retells.count in omega (arith, few, same, many_turns))
 
-          pub count_all : length r3.came ≡ length r.came + length events
-          count_all = have.keeps.count ∙ count_there
+          pub arcs_last : length r.came + length events ≤ 2 ^ 21 → length s1.graph.arcs + 6 * length turns + 2 * length dues ≤ 2 ^ 25
+          arcs_last all = let few = few_arcs in omega (arith, few, all)
 
-          pub way_all : IsUnderWay (map (numbered_message r2) (couples_of dues) ++ map (numbered_message r) staying.0) r3 s3
-          way_all =
-              let (now, way) = have.grown (events_below (length r1.came)) stay begins_there own_due in
-              let same = have.keeps.count in
-              ends_way r3 is3 now (map (numbered_message r2) (couples_of dues) ++ stay) s3 way (λ v less. all v (omega (arith, less, same)))
-              (let few = few_nodes in let many = count_all in omega (arith, few, many, nodes_few))
+          pub nodes_last : length r.came + length events ≤ 2 ^ 21 → length s1.graph.nodes + 2 * length turns ≤ 2 ^ 22
+          nodes_last all = let few = few_nodes in omega (arith, few, all)
 
-          -- at most eight arcs an event that comes
-          pub arcs_all : length s3.graph.arcs ≤ length s.graph.arcs + 8 * length events
-          arcs_all = omega (arith, ap length arcs, arcs_few, few_due, many_turns)
+          -- all have come
+          module _ (r3 : RosterLists) (s3 : SolverLists) (is3 : IsRoster r3) (have : HaveCome (messages_in dues) r2 r3 s1 s3) (all : (v : ℕ) → v < length r2.came → HasNode s3.graph (nodes.Event v))
+              (nodes_few : length s3.graph.nodes ≤ length s1.graph.nodes + 2 * length turns) (arcs_few : length s3.graph.arcs ≤ length s1.graph.arcs + 6 * length turns + 2 * length dues) where
+            pub gains_all : Gains label (stamps_of events) r r3
+            gains_all = gains_when r3 have.keeps
 
-          alike_all : AreAlike (map (numbered_message r2) (couples_of dues) ++ map (numbered_message r) staying.0) (messages_by_number r3 after)
-          alike_all =
-              subst (AreAlike (map (numbered_message r2) (couples_of dues) ++ stay))
-              (sym (map_alike (numbered_message r3) (numbered_message r2) (messages_of (events_of after)) (same_numbered r2 r3 have.keeps.declaration have.keeps.under)))
-              (all_there r r2 is is2 before after kept.holds holds gains.declaration gains.under (couples_of dues) staying.0 come_due staying.1)
+            pub names_all : map id_of r3.came ≡ names_then r label (seen_events events)
+            names_all = same_names r2 is2 r3 is3 have.keeps.under have.keeps.count ∙ names_there
 
-          pub kept_all : All (λ stamp. stamp < 2 ^ 62) (stamps_of events) → IsKeptFor (with_more before label (seen_events events)) r3 s3
-          kept_all fit =
-              way_kept r3 is3 after s3 (map (numbered_message r2) (couples_of dues) ++ stay) (have.keeps.holds after holds) (more_fit before label (seen_events events) kept.stamps (seen_fit events fit)) alike_all way_all
-              (let few = few_arcs in omega (arith, few, arcs_few, count_all))
+            pub count_all : length r3.came ≡ length r.came + length events
+            count_all = have.keeps.count ∙ count_there
+
+            pub way_all : IsUnderWay (messages_in dues ++ map (numbered_message r) staying.0) r3 s3
+            way_all =
+                let (now, way) = have.grown (events_below (length r1.came)) stay begins_there own_due in
+                let same = have.keeps.count in
+                ends_way r3 is3 now (messages_in dues ++ stay) s3 way (λ v less. all v (omega (arith, less, same)))
+                (let few = few_nodes in let many = count_all in omega (arith, few, many, nodes_few))
+
+            -- at most eight arcs an event that comes
+            pub arcs_all : length s3.graph.arcs ≤ length s.graph.arcs + 8 * length events
+            arcs_all = omega (arith, ap length arcs, arcs_few, few_due, many_turns)
+
+            alike_all : AreAlike (messages_in dues ++ map (numbered_message r) staying.0) (messages_by_number r3 after)
+            alike_all =
+                subst (AreAlike (messages_in dues ++ stay))
+                (sym (map_alike (numbered_message r3) (numbered_message r2) (messages_of (events_of after)) (same_numbered r2 r3 have.keeps.declaration have.keeps.under)))
+                (alike_permuted (map (numbered_message r2) added) (messages_in dues) stay (messages_by_number r2 after) named_queue
+                (all_there r r2 is is2 before after kept.holds holds gains.declaration gains.under added staying.0 changes.added staying.1))
+
+            pub kept_all : All (λ stamp. stamp < 2 ^ 62) (stamps_of events) → IsKeptFor (with_more before label (seen_events events)) r3 s3
+            kept_all fit =
+                way_kept r3 is3 after s3 (messages_in dues ++ stay) (have.keeps.holds after holds) (more_fit before label (seen_events events) kept.stamps (seen_fit events fit)) alike_all way_all
+                (let few = few_arcs in omega (arith, few, arcs_few, count_all))

@@ -14,7 +14,7 @@ use Rattle.decl.specs.Declaration.{Declaration}
 use Rattle.sync_graph.specs.declared.arc.Arc.{Arc}
 use Rattle.sync_graph.specs.Graph.{GraphLists, arc_at}
 use Rattle.traces.proofs.Members.{none_in}
-use Rattle.trace_problem.proofs.Lists.{place_in}
+use Rattle.traces.proofs.Lists.{place_in}
 use Rattle.roster.specs.declared.came.Came.{Came}
 use Rattle.roster.specs.declared.came.Partner.{Partner}
 use Rattle.roster.specs.Readings.{Stamped, Rise}

@@ -4,22 +4,21 @@ use Rattle.std.proofs.lemmas.Bool.{cases_eq}
 use Rattle.std.proofs.lemmas.List.{length-set}
 use Rattle.std.proofs.lemmas.List.Elements.{All-head, All-tail}
 use Rattle.std.proofs.lemmas.Option.{same_Some}
+use Rattle.problem_model.specs.declared.items.Message.{Message}
 use Rattle.problem_model.specs.declared.items.Node.{Node}
 use Rattle.sync_graph.specs.Graph.{GraphLists}
-use Rattle.traces.specs.declared.event.Couple.{Couple}
 use Rattle.traces.proofs.Members.{here, there, none_in, head_or_tail}
 use Rattle.roster.specs.declared.came.Came.{Came}
 use Rattle.roster.specs.Roster.{RosterLists, event_at}
 use Rattle.growth.specs.Rosters.{named_event, KnowsNodes}
-use Rattle.kept_graph.specs.Kept.{number_of}
 use Rattle.kept_graph.specs.Growing.{Retells}
 use Rattle.kept_graph.specs.Withdrawing.{without_partner, without_partners}
 use Rattle.kept_graph.proofs.Gaining.{retells_none, retells_then}
 use Rattle.kept_graph.proofs.OneMessage.{told_here, told_other, retells, events_same, knows_same}
 
 -- the numbers of the sends of messages
-abbrev pub sends_of : RosterLists → List Couple → List ℕ
-sends_of r couples = map {A = Couple} (λ c. number_of r.under c.send) couples
+abbrev pub sends_of : List Message → List ℕ
+sends_of messages = map (λ (m : Message). m.send) messages
 
 -- the event sends nothing, as the roster tells
 abbrev pub SendsNone : RosterLists → ℕ → Type 0
@@ -76,11 +75,11 @@ module _ (r : RosterLists) (v : ℕ) (inside : v < length r.came) where
       others = λ w out. rest.others w (λ among. out (there v w sends among)) ∙ told_other r (without_partner r v) v inside None refl w (λ same. out (subst (Contains (v ∷ sends)) (sym same) (here v sends)));
     }
 
-pub forgets : (couples : List Couple) (r : RosterLists) (n : ℕ) → length r.came ≡ n → All (λ (c : Couple). number_of r.under c.send < n) couples → IsForgetting (sends_of r couples) r (without_partners r couples)
+pub forgets : (messages : List Message) (r : RosterLists) (n : ℕ) → length r.came ≡ n → All (λ (m : Message). m.send < n) messages → IsForgetting (sends_of messages) r (without_partners r messages)
 forgets [] r n many inside = forgets_nothing r
-forgets (c ∷ couples) r n many inside =
-    let v = number_of r.under c.send in
-    let within : v < length r.came = (let below = All-head (λ (d : Couple). number_of r.under d.send < n) c couples inside in omega (arith, below, many)) in
+forgets (m ∷ messages) r n many inside =
+    let v = m.send in
+    let within : v < length r.came = (let below = All-head (λ (x : Message). x.send < n) m messages inside in omega (arith, below, many)) in
     let f : Came = record (event_at r.came v) { partner = None } in
-    forgets_more r v within (sends_of r couples) (without_partners (without_partner r v) couples)
-    (forgets couples (without_partner r v) n (length-set r.came v f ∙ many) (All-tail (λ (d : Couple). number_of r.under d.send < n) c couples inside))
+    forgets_more r v within (sends_of messages) (without_partners (without_partner r v) messages)
+    (forgets messages (without_partner r v) n (length-set r.came v f ∙ many) (All-tail (λ (x : Message). x.send < n) m messages inside))

@@ -1,15 +1,15 @@
 -- The events that a roster holds, by their ids.
-use Rattle.std.proofs.Common.{◌≡◌, ℕ, ◌-◌, ◌<◌, ◌≤◌, zero, suc, List, [], ◌∷◌, length, map, get_or, refl, sym, ◌∙◌, ap, subst, arith}
+use Rattle.std.proofs.Common.{◌≡◌, ℕ, ◌-◌, ◌<◌, ◌≤◌, zero, suc, List, [], ◌∷◌, length, map, get_or, slice_get, refl, sym, ◌∙◌, ap, subst, arith}
 use Rattle.std.proofs.lemmas.List.{length-map}
 use Rattle.std.proofs.lemmas.List.Elements.{All-contains}
 use Rattle.std.proofs.lemmas.List.Sums.{sum_by-cons}
-use Rattle.std.proofs.lemmas.Option.{same_Some, get_or_from_slice_get}
+use Rattle.std.proofs.lemmas.Option.{same_Some, slice_get_within, get_or_from_slice_get}
 use Rattle.trace_event.specs.Seen.{Seen}
 use Rattle.traces.specs.declared.event.EventId.{EventId}
 use Rattle.traces.specs.Traces.{Placed, event_count, events_of}
 use Rattle.traces.proofs.Ids.{ids_within}
-use Rattle.trace_problem.specs.Making.{IsOneOf}
-use Rattle.trace_problem.proofs.Lists.{got}
+use Rattle.traces.specs.Making.{IsOneOf}
+use Rattle.traces.proofs.Lists.{got}
 use Rattle.roster.specs.Groups.{total, sizes_of, group_at}
 use Rattle.roster.specs.Roster.{RosterLists, id_of, event_at, IsRoster, IsUnder, Holds}
 use Rattle.growth.specs.Told.{number_of}
@@ -20,6 +20,12 @@ pub number_is : (under : List (List ℕ)) (id : EventId) (v : ℕ) → IsUnder u
 number_is under id v (k, number, at) =
     let place : id.number - 1 ≡ k = omega (arith, number) in
     ap (λ (n : ℕ). get_or (group_at under id.label) n 0) place ∙ get_or_from_slice_get (group_at under id.label) k v 0 at
+
+-- it is that of an event
+pub number_inside : (r : RosterLists) → IsRoster r → (id : EventId) (v : ℕ) → IsUnder r.under id v → number_of r.under id < length r.came
+number_inside r is id v (k, number, at) =
+    let e = is.numbered id.label k v at in
+    slice_get_within r.came (number_of r.under id) e.0 (ap (slice_get r.came) (number_is r.under id v (k, number, at)) ∙ e.1)
 
 -- a number is that of one event
 pub one_id : (r : RosterLists) → IsRoster r → (a b : EventId) (v : ℕ) → IsUnder r.under a v → IsUnder r.under b v → a ≡ b
@@ -61,6 +67,10 @@ module _ (r : RosterLists) (is : IsRoster r) (seen : List (List Seen)) (holds : 
       let labels = is.labels in
       omega (arith, ap length holds, length-map r.under (map stamp_by), length-map seen (λ (ss : List Seen). map (λ (s : Seen). s.stamp) ss), labels)
 
+  -- each label has as many numbers as events
+  pub group_many : (label : ℕ) → length (group_at r.under label) ≡ length (group_at seen label)
+  group_many label = same_long stamp_by r.under seen holds label
+
   pub events_many : event_count seen ≡ length r.came
   events_many = sym (all_long stamp_by r.under seen holds) ∙ is.count
 
@@ -70,6 +80,6 @@ module _ (r : RosterLists) (is : IsRoster r) (seen : List (List Seen)) (holds : 
       let within = All-contains (λ (x : Placed). (x.id.label < length seen) × (1 ≤ x.id.number) × (x.id.number ≤ length (group_at seen x.id.label))) (events_of seen) e (ids_within seen) held in
       let least = within.1 in
       let most = within.2 in
-      let inside : e.id.number - 1 < length (group_at r.under e.id.label) = omega (arith, least, most, same_long stamp_by r.under seen holds e.id.label) in
+      let inside : e.id.number - 1 < length (group_at r.under e.id.label) = omega (arith, least, most, group_many e.id.label) in
       let x = got (group_at r.under e.id.label) (e.id.number - 1) inside in
       subst (λ (i : EventId). (v : ℕ) × IsUnder r.under i v) same (x.0, (e.id.number - 1, (let n : e.id.number ≡ suc (e.id.number - 1) = omega (arith, least) in n), x.1))

@@ -1,5 +1,5 @@
 -- Events and messages that come in turn, one more at a time.
-use Rattle.std.proofs.Common.{◌≡◌, ◌≢◌, ◌<◌, ◌≤◌, ◌+◌, ◌-◌, ◌*◌, ℕ, zero, suc, List, [], ◌∷◌, ◌++◌, length, map, drop, slice_get, Some, Contains, inl, inr, refl, sym, ◌∙◌, ap, subst, arith}
+use Rattle.std.proofs.Common.{◌≡◌, ◌≢◌, ◌<◌, ◌≤◌, ◌+◌, ◌-◌, ◌*◌, ℕ, zero, suc, List, [], ◌∷◌, ◌++◌, length, drop, slice_get, Some, Contains, inl, inr, refl, sym, ◌∙◌, ap, subst, arith}
 use Rattle.std.proofs.lemmas.List.Elements.{All-cons, All-contains, All-head, All-nil, All-tail, Contains-append_cases}
 use Rattle.std.proofs.lemmas.List.Kept.{AllPairs-cons}
 use Rattle.problem_model.specs.declared.items.Message.{Message}
@@ -8,21 +8,15 @@ use Rattle.problem_model.specs.declared.items.Node.TheVariants as nodes
 use Rattle.sync_graph.specs.Graph.{GraphLists}
 use Rattle.sync_graph.specs.Standing.{HasNode}
 use Rattle.engine.specs.Solver.{SolverLists, HasRoom}
-use Rattle.traces.specs.declared.event.EventId.{EventId}
-use Rattle.traces.specs.declared.event.Couple.{Couple}
 use Rattle.traces.proofs.Members.{first_of_pairs, rest_of_pairs, no_pairs}
-use Rattle.roster.specs.Roster.{RosterLists, IsUnder}
-use Rattle.roster.proofs.Turns.{from_map}
-use Rattle.growth.specs.Told.{number_of, numbered_message}
+use Rattle.roster.specs.Roster.{RosterLists}
 use Rattle.kept_graph.specs.declared.planning.Due.{Due}
 use Rattle.kept_graph.specs.declared.planning.Turn.{Turn}
 use Rattle.kept_graph.specs.Extending.{Extends}
-use Rattle.kept_graph.specs.Planning.{couples_of, numbers_of}
+use Rattle.kept_graph.specs.Planning.{numbers_of, messages_in}
 use Rattle.kept_graph.specs.Growing.{KeepsNodesThere}
-use Rattle.kept_graph.specs.UnderWay.{IsEntering}
 use Rattle.kept_graph.specs.Coming.{HaveOwnSends, HaveCome}
 use Rattle.kept_graph.proofs.Bringing.{rows_same, rows_then}
-use Rattle.kept_graph.proofs.Gaining.{same_numbered}
 
 -- ---- what a roster keeps
 pub keeps_none : (g : GraphLists) (r : RosterLists) → KeepsNodesThere g r r
@@ -58,18 +52,18 @@ come_none r s = record {
   room = λ n room. room;
 }
 
-no_sends : (under : List (List ℕ)) (messages : List Message) → HaveOwnSends under [] messages
-no_sends under messages = record {
-  differ = no_pairs (λ (x y : Couple). number_of under x.send ≢ number_of under y.send);
-  fresh = All-nil (λ (k : Couple). (n : Message) → Contains messages n → n.send ≢ number_of under k.send);
+no_sends : (messages : List Message) → HaveOwnSends [] messages
+no_sends messages = record {
+  differ = no_pairs (λ (x y : Message). x.send ≢ y.send);
+  fresh = All-nil (λ (m : Message). (n : Message) → Contains messages n → n.send ≢ m.send);
 }
 
 -- an event more
-pub come_event : (couples : List Couple) (a b c : RosterLists) (s t u : SolverLists) → HaveCome couples a b s t → HaveCome [] b c t u → HaveCome couples a c s u
-come_event couples a b c s t u one two = record {
+pub come_event : (more : List Message) (a b c : RosterLists) (s t u : SolverLists) → HaveCome more a b s t → HaveCome [] b c t u → HaveCome more a c s u
+come_event more a b c s t u one two = record {
   grown = λ entered messages way own. (
       let (now, way') = one.grown entered messages way own in
-      two.grown now (map (numbered_message a) couples ++ messages) way' (no_sends b.under (map (numbered_message a) couples ++ messages)));
+      two.grown now (more ++ messages) way' (no_sends (more ++ messages)));
   keeps = keeps_then s.graph t.graph a b c one.stay one.keeps two.keeps;
   stay = λ n has. two.stay n (one.stay n has);
   rows = rows_then s t u one.rows two.rows;
@@ -77,28 +71,22 @@ come_event couples a b c s t u one two = record {
 }
 
 -- a message more
-pub come_message : (m : Couple) (couples : List Couple) (a b c : RosterLists) (s t u : SolverLists) → HaveCome couples a b s t → HaveCome (m ∷ []) b c t u → HaveCome (m ∷ couples) a c s u
-come_message m couples a b c s t u one two = record {
+pub come_message : (m : Message) (more : List Message) (a b c : RosterLists) (s t u : SolverLists) → HaveCome more a b s t → HaveCome (m ∷ []) b c t u → HaveCome (m ∷ more) a c s u
+come_message m more a b c s t u one two = record {
   grown = λ entered messages way own. (
-      let Fresh : Couple → Type 0 = λ k. (n : Message) → Contains messages n → n.send ≢ number_of a.under k.send in
-      let Differ : Couple → Couple → Type 0 = λ x y. number_of a.under x.send ≢ number_of a.under y.send in
-      let others : List Message = map (numbered_message a) couples in
-      let (now, way') = one.grown entered messages way (record { differ = rest_of_pairs Differ m couples own.differ; fresh = All-tail Fresh m couples own.fresh }) in
-      let fresh : (n : Message) → Contains (others ++ messages) n → n.send ≢ number_of b.under m.send = (λ n has same.
-      let own_send : n.send ≡ number_of a.under m.send = same ∙ ap (λ (l : List (List ℕ)). number_of l m.send) one.keeps.under in
-      elim (Contains-append_cases others messages n has) [
-        | inl new ↦ (
-            let (k, held, is) = from_map (numbered_message a) couples n new in
-            All-contains (Differ m) couples k (first_of_pairs Differ m couples own.differ) held (sym (ap (λ (x : Message). x.send) is ∙ own_send)))
-        | inr old ↦ All-head Fresh m couples own.fresh n old own_send
+      let Fresh : Message → Type 0 = λ x. (n : Message) → Contains messages n → n.send ≢ x.send in
+      let Differ : Message → Message → Type 0 = λ x y. x.send ≢ y.send in
+      let (now, way') = one.grown entered messages way (record { differ = rest_of_pairs Differ m more own.differ; fresh = All-tail Fresh m more own.fresh }) in
+      let fresh : (n : Message) → Contains (more ++ messages) n → n.send ≢ m.send = (λ n has same.
+      elim (Contains-append_cases more messages n has) [
+        | inl new ↦ All-contains (Differ m) more n (first_of_pairs Differ m more own.differ) new (sym same)
+        | inr old ↦ All-head Fresh m more own.fresh n old same
       ]) in
-      let Differ' : Couple → Couple → Type 0 = λ x y. number_of b.under x.send ≢ number_of b.under y.send in
-      let Fresh' : Couple → Type 0 = λ k. (n : Message) → Contains (others ++ messages) n → n.send ≢ number_of b.under k.send in
-      let (then', way'') = two.grown now (others ++ messages) way' (record {
-        differ = AllPairs-cons Differ' m [] (All-nil (Differ' m)) (no_pairs Differ');
+      let Fresh' : Message → Type 0 = λ x. (n : Message) → Contains (more ++ messages) n → n.send ≢ x.send in
+      two.grown now (more ++ messages) way' (record {
+        differ = AllPairs-cons Differ m [] (All-nil (Differ m)) (no_pairs Differ);
         fresh = All-cons Fresh' m [] fresh (All-nil Fresh');
-      }) in
-      (then', subst (λ (x : Message). IsEntering then' (x ∷ others ++ messages) c u) (same_numbered a b one.keeps.declaration one.keeps.under m) way''));
+      }));
   keeps = keeps_then s.graph t.graph a b c one.stay one.keeps two.keeps;
   stay = λ n has. two.stay n (one.stay n has);
   rows = rows_then s t u one.rows two.rows;
@@ -119,25 +107,22 @@ room_less m n s less room = record {
   front = (let x = room.front in omega (arith, less, x));
 }
 
-pub under_still : (old new : List (List ℕ)) (id : EventId) → new ≡ old → ((v : ℕ) × IsUnder old id v) → (v : ℕ) × IsUnder new id v
-under_still old new id same there' = subst (λ (u : List (List ℕ)). (v : ℕ) × IsUnder u id v) (sym same) there'
-
-pub own_from : (under : List (List ℕ)) (dues : List Due) (messages : List Message) (k : ℕ) → HaveOwnSends under (couples_of dues) messages → HaveOwnSends under (couples_of (drop k dues)) messages
-own_from under dues messages zero own = own
-own_from under [] messages (suc k) own = own
-own_from under (d ∷ dues) messages (suc k) own =
-    let Fresh : Couple → Type 0 = λ c. (n : Message) → Contains messages n → n.send ≢ number_of under c.send in
-    let Differ : Couple → Couple → Type 0 = λ x y. number_of under x.send ≢ number_of under y.send in
-    own_from under dues messages k (record { differ = rest_of_pairs Differ d.couple (couples_of dues) own.differ; fresh = All-tail Fresh d.couple (couples_of dues) own.fresh })
+pub own_from : (dues : List Due) (messages : List Message) (k : ℕ) → HaveOwnSends (messages_in dues) messages → HaveOwnSends (messages_in (drop k dues)) messages
+own_from dues messages zero own = own
+own_from [] messages (suc k) own = own
+own_from (d ∷ dues) messages (suc k) own =
+    let Fresh : Message → Type 0 = λ x. (n : Message) → Contains messages n → n.send ≢ x.send in
+    let Differ : Message → Message → Type 0 = λ x y. x.send ≢ y.send in
+    own_from dues messages k (record { differ = rest_of_pairs Differ d.message (messages_in dues) own.differ; fresh = All-tail Fresh d.message (messages_in dues) own.fresh })
 
 -- one message more, of those that are left
-pub come_next : (dues : List Due) (left : ℕ) (d : Due) → 0 < left → slice_get dues (left - 1) ≡ Some d → (a b c : RosterLists) (s t u : SolverLists) → HaveCome (couples_of (drop left dues)) a b s t → HaveCome (d.couple ∷ []) b c t u
-    → HaveCome (couples_of (drop (left - 1) dues)) a c s u
+pub come_next : (dues : List Due) (left : ℕ) (d : Due) → 0 < left → slice_get dues (left - 1) ≡ Some d → (a b c : RosterLists) (s t u : SolverLists) → HaveCome (messages_in (drop left dues)) a b s t → HaveCome (d.message ∷ []) b c t u
+    → HaveCome (messages_in (drop (left - 1) dues)) a c s u
 come_next dues left d some at a b c s t u one two =
     let k : ℕ = left - 1 in
     let on : left ≡ suc k = omega (arith, some) in
-    let before : HaveCome (couples_of (drop (suc k) dues)) a b s t = subst (λ (n : ℕ). HaveCome (couples_of (drop n dues)) a b s t) on one in
-    subst (λ (l : List Due). HaveCome (couples_of l) a c s u) (sym (drop_next dues k d at)) (come_message d.couple (couples_of (drop (suc k) dues)) a b c s t u before two)
+    let before : HaveCome (messages_in (drop (suc k) dues)) a b s t = subst (λ (n : ℕ). HaveCome (messages_in (drop n dues)) a b s t) on one in
+    subst (λ (l : List Due). HaveCome (messages_in l) a c s u) (sym (drop_next dues k d at)) (come_message d.message (messages_in (drop (suc k) dues)) a b c s t u before two)
 
 -- ---- where the turns stand
 -- so many events have entered, and the messages from a place on have come
@@ -145,7 +130,7 @@ pub record StandsAt (turns : List Turn) (dues : List Due) (a b : RosterLists) (s
   pub next : n ≤ length turns
   pub left : l ≤ length dues
   pub sum : n + length dues ≡ k + l
-  pub come : HaveCome (couples_of (drop l dues)) a b s t
+  pub come : HaveCome (messages_in (drop l dues)) a b s t
   pub entered : (j w : ℕ) → j < n → slice_get (numbers_of turns) j ≡ Some w → HasNode t.graph (nodes.Event w)
   pub nodes : length t.graph.nodes ≤ length s.graph.nodes + 2 * n
   pub arcs : length t.graph.arcs + 2 * l ≤ length s.graph.arcs + 6 * n + 2 * length dues

@@ -4,7 +4,6 @@ use Rattle.std.specs.Prelude.{nat_lt}
 use Rattle.std.specs.List.{flat_map}
 use Rattle.std.proofs.lemmas.Bool.Decides.{nat_tests}
 use Rattle.std.proofs.lemmas.List.{length-map}
-use Rattle.std.proofs.lemmas.List.Elements.{All-contains}
 use Rattle.std.proofs.lemmas.Option.{none-some, slice_get_within}
 use Rattle.problem_model.specs.declared.items.Event.{Event}
 use Rattle.problem_model.specs.declared.items.Message.{Message}
@@ -20,11 +19,10 @@ use Rattle.sync_graph.specs.Graph.{arc_at}
 use Rattle.engine.specs.Solver.{SolverLists}
 use Rattle.engine.specs.Current.{IsCurrent}
 use Rattle.engine.specs.Changes.{withdrawn}
-use Rattle.traces.specs.declared.event.Couple.{Couple}
 use Rattle.traces.proofs.Members.{none_in}
 use Rattle.roster.specs.declared.came.Came.{Came}
 use Rattle.roster.specs.declared.came.Partner.{Partner}
-use Rattle.roster.specs.Roster.{RosterLists, IsRoster, IsUnder}
+use Rattle.roster.specs.Roster.{RosterLists}
 use Rattle.growth.specs.Entered.{all_events, events_below}
 use Rattle.growth.specs.Growing.{IsGrownTo}
 use Rattle.growth.specs.Withdrawing.{IsMore, IsDelayOf, Withdraws, HasMessage}
@@ -33,36 +31,29 @@ use Rattle.growth.specs.Rosters.{named_event, problem_by_number}
 use Rattle.growth.proofs.Once.{taken_out}
 use Rattle.growth.proofs.Withdrawn.{grown_after}
 use Rattle.growth.proofs.Loop.{grown_alike}
-use Rattle.kept_graph.specs.Kept.{HasArcs, KnowsMessages, Tells, number_of, numbered_message}
+use Rattle.kept_graph.specs.Kept.{HasArcs, KnowsMessages, Tells}
 use Rattle.kept_graph.specs.UnderWay.{IsUnderWay}
 use Rattle.kept_graph.specs.Withdrawing.{AreLeft, told_arcs, without_partners}
 use Rattle.kept_graph.proofs.Messages.{OfMessage}
 use Rattle.kept_graph.proofs.OneEvent.{none_behind}
-use Rattle.kept_graph.proofs.OneMessage.{end_inside}
 use Rattle.kept_graph.proofs.ToldArcs.{all_from, mapped, map_has, all_on, all_differ, sends_apart, takes_out}
 use Rattle.kept_graph.proofs.Forgetting.{sends_of, IsForgetting, forgets}
 
 is_below : (v n : ℕ) → v < n → nat_lt v n ≡ true
 is_below v n less = grind (arith, nat_tests)
 
-module _ (r : RosterLists) (s : SolverLists) (messages left : List Message) (couples : List Couple) (way : IsUnderWay messages r s) (of : AreLeft messages (map (numbered_message r) couples) left) where
-  pub among : (c : Couple) → Contains couples c → Contains messages (numbered_message r c)
-  among c held = of.were (numbered_message r c) (map_has (numbered_message r) couples c held)
+module _ (r : RosterLists) (s : SolverLists) (messages left went : List Message) (way : IsUnderWay messages r s) (of : AreLeft messages went left) where
+  pub all_told : All (λ m. Tells r s.graph m) went
+  all_told = all_from (λ (m : Message). Tells r s.graph m) went (λ m held. way.grown.tells.each m (of.were m held))
 
-  pub all_told : All (λ c. Tells r s.graph (numbered_message r c)) couples
-  all_told = all_from (λ (c : Couple). Tells r s.graph (numbered_message r c)) couples (λ c held. way.grown.tells.each (numbered_message r c) (among c held))
-
-  pub numbers_on : All (IsOn s.graph) (flat_map (told_arcs r) couples)
-  numbers_on = all_on r s.graph messages of.own_sends way.grown.tells.each couples among
+  pub numbers_on : All (IsOn s.graph) (flat_map (told_arcs r) went)
+  numbers_on = all_on r s.graph messages of.own_sends way.grown.tells.each went of.were
 
   -- ---- numbers
-  module _ (is : IsRoster r) (sends : All (λ c. (v : ℕ) × IsUnder r.under c.send v) couples) (receives : All (λ c. (v : ℕ) × IsUnder r.under c.receive v) couples) (differ : AllPairs (λ a b. a ≢ b) couples) where
-    pub numbers_differ : AllPairs (λ j k. j ≢ k) (flat_map (told_arcs r) couples)
-    numbers_differ =
-        all_differ r s.graph messages of.own_sends way.grown.tells.each couples among
-        (sends_apart r s.graph messages of.own_sends way.grown.tells.each is couples among
-        (λ c held. All-contains (λ (d : Couple). (v : ℕ) × IsUnder r.under d.send v) couples c sends held)
-        (λ c held. All-contains (λ (d : Couple). (v : ℕ) × IsUnder r.under d.receive v) couples c receives held) differ)
+  pub numbers_differ : AllPairs (λ (a b : Message). a ≢ b) went → AllPairs (λ j k. j ≢ k) (flat_map (told_arcs r) went)
+  numbers_differ differ =
+      all_differ r s.graph messages of.own_sends way.grown.tells.each went of.were
+      (sends_apart r s.graph messages of.own_sends way.grown.tells.each went of.were differ)
 
   -- ---- messages that are left
   abbrev p : ProblemLists
@@ -73,6 +64,12 @@ module _ (r : RosterLists) (s : SolverLists) (messages left : List Message) (cou
 
   send_inside : (m : Message) → Contains messages m → m.send < length r.came
   send_inside m held = (let (e, arc, at, partner, has) = way.grown.tells.each m held in slice_get_within r.came m.send e at)
+
+  pub sends_inside : All (λ (m : Message). m.send < length r.came) went
+  sends_inside = all_from (λ (m : Message). m.send < length r.came) went (λ m held. send_inside m (of.were m held))
+
+  pub forgotten : IsForgetting (sends_of went) r (without_partners r went)
+  forgotten = forgets went r (length r.came) refl sends_inside
 
   receive_inside : (m : Message) → Contains messages m → m.receive < length (map (named_event r.declaration) r.came)
   receive_inside m held = elim (way.grown.grown.every (DelayLeast m.send m.receive) (m, record { among = held; send_is = refl; receive_is = refl; send_in = refl; receive_in = refl })) [
@@ -86,25 +83,25 @@ module _ (r : RosterLists) (s : SolverLists) (messages left : List Message) (cou
         slice_get_within (map (named_event r.declaration) r.came) m.receive there'.0 there'.1.0)
   ]
 
-  more : IsMore (problem_by_number r messages) (problem_by_number r left) (map (numbered_message r) couples)
+  more : IsMore (problem_by_number r messages) (problem_by_number r left) went
   more = record {
     clocks = refl;
     follows = refl;
     more = [];
     events = sym (none_behind (map (named_event r.declaration) r.came));
     messages = record {
-      kept = λ m held. elim (of.stay m held) [ inl went ↦ inr went | inr stays ↦ inl stays ];
-      gone = λ m n went stays from to. of.gone n stays (subst (Contains (map (numbered_message r) couples)) (of.own_sends m n (of.were m went) (of.only n stays) (sym from)) went);
+      kept = λ m held. elim (of.stay m held) [ inl goes ↦ inr goes | inr stays ↦ inl stays ];
+      gone = λ m n goes stays from to. of.gone n stays (subst (Contains went) (of.own_sends m n (of.were m goes) (of.only n stays) (sym from)) goes);
       none = λ m held from to. of.only m held;
     };
   }
 
-  module _ (s' : SolverLists) (is_nodes : s'.graph.nodes ≡ s.graph.nodes) (is_arcs : s'.graph.arcs ≡ s.graph.arcs) (flags : s'.graph.in_force ≡ withdrawn s.graph.in_force (flat_map (told_arcs r) couples)) where
-    takes : TakesOut (map (numbered_message r) couples) (flat_map (told_arcs r) couples) s.graph s'.graph
-    takes = takes_out r s.graph messages of.own_sends way.grown.tells.each couples among way.grown.grown s'.graph is_nodes is_arcs flags
+  module _ (s' : SolverLists) (is_nodes : s'.graph.nodes ≡ s.graph.nodes) (is_arcs : s'.graph.arcs ≡ s.graph.arcs) (flags : s'.graph.in_force ≡ withdrawn s.graph.in_force (flat_map (told_arcs r) went)) where
+    takes : TakesOut went (flat_map (told_arcs r) went) s.graph s'.graph
+    takes = takes_out r s.graph messages of.own_sends way.grown.tells.each went of.were way.grown.grown s'.graph is_nodes is_arcs flags
 
-    out : Withdraws (map (numbered_message r) couples) s.graph s'.graph × HasEachOnce [] s'.graph
-    out = taken_out (map (numbered_message r) couples) (flat_map (told_arcs r) couples) s.graph s'.graph takes way.grown.once
+    out : Withdraws went s.graph s'.graph × HasEachOnce [] s'.graph
+    out = taken_out went (flat_map (told_arcs r) went) s.graph s'.graph takes way.grown.once
 
     grown : IsGrownTo (problem_by_number r left) all_events s'.graph
     grown =
@@ -113,15 +110,15 @@ module _ (r : RosterLists) (s : SolverLists) (messages left : List Message) (cou
         grown_alike (problem_by_number r left) (events_below n) all_events (λ v inside. is_below v n inside)
         (all_from (λ (m : Message). m.send < n) left (λ m held. (let x = send_inside m (of.only m held) in omega (arith, x, many))))
         (all_from (λ (m : Message). m.receive < n) left (λ m held. receive_inside m (of.only m held))) [] s'.graph
-        (grown_after (problem_by_number r messages) (problem_by_number r left) (map (numbered_message r) couples) more s.graph s'.graph out.0 way.grown.grown)
+        (grown_after (problem_by_number r messages) (problem_by_number r left) went more s.graph s'.graph out.0 way.grown.grown)
 
     -- an arc of a message that is left stays in force
-    gone_not : (m : Message) → Contains left m → HasMessage (map (numbered_message r) couples) m.send m.receive → ⊥
-    gone_not m held (n, went, from, to) = of.gone m held (subst (Contains (map (numbered_message r) couples)) (of.own_sends n m (of.were n went) (of.only m held) from) went)
+    gone_not : (m : Message) → Contains left m → HasMessage went m.send m.receive → ⊥
+    gone_not m held (n, goes, from, to) = of.gone m held (subst (Contains went) (of.own_sends n m (of.were n goes) (of.only m held) from) goes)
 
-    not_taken : (m : Message) → Contains left m → (b : Bound) → OfMessage m b → IsDelayOf (map (numbered_message r) couples) b → ⊥
-    not_taken m held b (inl is) delay = gone_not m held (subst (IsDelayOf (map (numbered_message r) couples)) is delay)
-    not_taken m held b (inr is) delay = gone_not m held (subst (IsDelayOf (map (numbered_message r) couples)) is delay)
+    not_taken : (m : Message) → Contains left m → (b : Bound) → OfMessage m b → IsDelayOf went b → ⊥
+    not_taken m held b (inl is) delay = gone_not m held (subst (IsDelayOf went) is delay)
+    not_taken m held b (inr is) delay = gone_not m held (subst (IsDelayOf went) is delay)
 
     stays_on : (m : Message) → Contains left m → (k : ℕ) → IsOn s.graph k → OfMessage m (arc_at s.graph.arcs k).name → IsOn s'.graph k
     stays_on m held k on own = elim (takes.others k on) [
@@ -140,18 +137,15 @@ module _ (r : RosterLists) (s : SolverLists) (messages left : List Message) (cou
     }
 
     -- ---- the roster
-    module _ (new : RosterLists) (forgetting : IsForgetting (sends_of r couples) r new) where
-      not_sent : (m : Message) → Contains left m → Contains (sends_of r couples) m.send → ⊥
+    module _ (new : RosterLists) (forgetting : IsForgetting (sends_of went) r new) where
+      not_sent : (m : Message) → Contains left m → Contains (sends_of went) m.send → ⊥
       not_sent m held sent =
-          let (c, held_c, is) = mapped {X = Couple} {Y = ℕ} (λ (d : Couple). number_of r.under d.send) couples m.send sent in
-          let one : numbered_message r c ≡ m = of.own_sends (numbered_message r c) m (among c held_c) (of.only m held) is in
-          of.gone m held (subst (Contains (map (numbered_message r) couples)) one (map_has (numbered_message r) couples c held_c))
+          let (n, held_n, is) = mapped (λ (x : Message). x.send) went m.send sent in
+          let one : n ≡ m = of.own_sends n m (of.were n held_n) (of.only m held) is in
+          of.gone m held (subst (Contains went) one held_n)
 
-      sent_if : (m : Message) → Contains (map (numbered_message r) couples) m → (v : ℕ) → m.send ≡ v → Contains (sends_of r couples) v
-      sent_if m went v from =
-          let (c, held_c, is) = mapped (numbered_message r) couples m went in
-          let number : number_of r.under c.send ≡ v = ap (λ (x : Message). x.send) is ∙ from in
-          subst (Contains (sends_of r couples)) number (map_has {X = Couple} {Y = ℕ} (λ (d : Couple). number_of r.under d.send) couples c held_c)
+      sent_if : (m : Message) → Contains went m → (v : ℕ) → m.send ≡ v → Contains (sends_of went) v
+      sent_if m held v from = subst (Contains (sends_of went)) from (map_has (λ (x : Message). x.send) went m held)
 
       tells : KnowsMessages new left s'.graph
       tells = record {
@@ -159,10 +153,10 @@ module _ (r : RosterLists) (s : SolverLists) (messages left : List Message) (cou
             let (e, arc, at, partner, has) = way.grown.tells.each m (of.only m held) in
             (e, arc, forgetting.others m.send (not_sent m held) ∙ at, partner, arcs_still m held arc has));
         only = λ v e q at told. (
-            let silent : Contains (sends_of r couples) v → ⊥ = λ sent. none_told e q (forgetting.none v sent e at) told in
+            let silent : Contains (sends_of went) v → ⊥ = λ sent. none_told e q (forgetting.none v sent e at) told in
             let (n, held, from, to) = way.grown.tells.only v e q (sym (forgetting.others v silent) ∙ at) told in
             elim (of.stay n held) [
-              | inl went ↦ absurd (silent (sent_if n went v from))
+              | inl goes ↦ absurd (silent (sent_if n goes v from))
               | inr stays ↦ (n, stays, from, to)
             ]);
       }
@@ -190,8 +184,3 @@ module _ (r : RosterLists) (s : SolverLists) (messages left : List Message) (cou
             let few = way.nodes in
             omega (arith, same, many, few));
       }
-
-pub forgotten : (r : RosterLists) (couples : List Couple) → IsRoster r → All (λ c. (v : ℕ) × IsUnder r.under c.send v) couples → IsForgetting (sends_of r couples) r (without_partners r couples)
-forgotten r couples is sends =
-    forgets couples r (length r.came) refl
-    (all_from (λ (c : Couple). number_of r.under c.send < length r.came) couples (λ c held. end_inside r is c.send (All-contains (λ (d : Couple). (v : ℕ) × IsUnder r.under d.send v) couples c sends held)))

@@ -25,5 +25,7 @@ pub mod Pushed
 pub mod InARow
 pub mod Both
 pub mod Staying
+pub mod Naming
+mod Matching
 pub mod WholeGraph
 pub mod Changed

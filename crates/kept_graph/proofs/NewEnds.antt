@@ -10,8 +10,8 @@ use Rattle.traces.specs.Traces.{Placed, numbered, events_from, events_of}
 use Rattle.traces.specs.Pairs.{IsOnly, IsPair}
 use Rattle.traces.proofs.Members.{here, there, head_or_tail, none_in, no_pairs, first_of_pairs, rest_of_pairs}
 use Rattle.traces.proofs.MessageEnds.{pair_from, pairs_of}
-use Rattle.trace_match.specs.Ends.{IsNewMessage, AreNewMessages}
-use Rattle.trace_match.proofs.Growing.{numbered_joined}
+use Rattle.event_match.specs.Ends.{IsNewMessage, AreNewMessages}
+use Rattle.event_match.proofs.Growing.{numbered_joined}
 use Rattle.roster.specs.Groups.{group_at}
 use Rattle.growth.proofs.Counting.{fits}
 use Rattle.kept_graph.specs.Kept.{with_more}

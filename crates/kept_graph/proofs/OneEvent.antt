@@ -24,7 +24,7 @@ use Rattle.engine.specs.Solver.{SolverLists, HasRoom, with_new_node}
 use Rattle.trace_event.specs.Seen.{Seen}
 use Rattle.traces.specs.Traces.{clock_of}
 use Rattle.traces.proofs.Members.{no_pairs}
-use Rattle.trace_problem.proofs.Lists.{place_in}
+use Rattle.traces.proofs.Lists.{place_in}
 use Rattle.roster.specs.declared.came.Came.{Came}
 use Rattle.roster.specs.Groups.{group_at}
 use Rattle.roster.specs.Readings.{Stamped, HasStamp}

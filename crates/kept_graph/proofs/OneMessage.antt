@@ -1,9 +1,9 @@
 -- A message that comes to a roster and its graph.
-use Rattle.std.proofs.Common.{◌≡◌, ◌≢◌, ◌<◌, ◌≤◌, ◌+◌, ◌-◌, ℕ, suc, Bool, true, List, [], ◌∷◌, ◌++◌, Option, Some, None, Result, Ok, Err, length, map, get_or, set, slice_get, Contains, refl, sym, ◌∙◌, ap, subst, arith, inl, inr}
+use Rattle.std.proofs.Common.{◌≡◌, ◌≢◌, ◌<◌, ◌≤◌, ◌+◌, ℕ, suc, Bool, true, List, [], ◌∷◌, ◌++◌, Option, Some, None, Result, Ok, Err, length, map, set, slice_get, Contains, refl, sym, ◌∙◌, ap, subst, arith, inl, inr}
 use Rattle.std.specs.Prelude.{OnOk}
 use Rattle.std.proofs.lemmas.Bool.{cases_eq}
-use Rattle.std.proofs.lemmas.List.{length-set}
-use Rattle.std.proofs.lemmas.Option.{same_Some, slice_get_within, slice_get-get_or, get_or_from_slice_get}
+use Rattle.std.proofs.lemmas.List.{length-map, length-set}
+use Rattle.std.proofs.lemmas.Option.{same_Some, slice_get_within, slice_get-get_or}
 use Rattle.problem_model.specs.declared.items.Event.{Event}
 use Rattle.problem_model.specs.declared.items.Message.{Message}
 use Rattle.problem_model.specs.declared.items.Node.{Node}
@@ -18,15 +18,13 @@ use Rattle.sync_graph.specs.Graph.{GraphLists, arc_at}
 use Rattle.sync_graph.specs.Standing.{HasNode}
 use Rattle.engine.specs.Solver.{SolverLists}
 use Rattle.traces.proofs.Members.{here, there, head_or_tail}
-use Rattle.traces.specs.declared.event.EventId.{EventId}
 use Rattle.roster.specs.declared.came.Came.{Came}
 use Rattle.roster.specs.declared.came.Partner.{Partner}
 use Rattle.roster.specs.Groups.{group_at}
-use Rattle.roster.specs.Roster.{RosterLists, IsRoster, IsUnder, Holds, event_at, no_event}
+use Rattle.roster.specs.Roster.{RosterLists, Holds, event_at, no_event}
 use Rattle.roster.proofs.Telling.{set_here, set_elsewhere, holds_still}
 use Rattle.growth.specs.Growing.{IsGrowing, IsGrownTo}
 use Rattle.growth.specs.Once.{IsOn, HasEachOnce}
-use Rattle.growth.specs.Told.{number_of}
 use Rattle.growth.specs.Rosters.{named_event, problem_by_number, KnowsNodes}
 use Rattle.kept_graph.specs.Kept.{HasArcs, KnowsMessages}
 use Rattle.kept_graph.specs.Pushing.{Brings}
@@ -118,6 +116,13 @@ module _ (r new : RosterLists) (v : ℕ) (inside : v < length r.came) (partner :
         ap (λ (ns : List Node). slice_get ns y.node) same ∙ ap (slice_get g.nodes) (sym back.2) ∙ knows.events w back.0 back.1);
     readings = λ c s has. ap (λ (ns : List Node). slice_get ns s.1) same ∙ knows.readings c s (subst (λ (x : RosterLists). Contains (group_at x.readings c) s) is has);
   }
+
+-- an event that is a node of the graph is one of the roster
+pub sent_inside : (r : RosterLists) (s : SolverLists) (entered : ℕ → Bool) (messages : List Message) (v : ℕ) → IsEntering entered messages r s → HasNode s.graph (nodes.Event v) → v < length r.came
+sent_inside r s entered messages v way has =
+    let x = way.grown.nodes (nodes.Event v) has in
+    let inside : v < length (map (named_event r.declaration) r.came) = slice_get_within (map (named_event r.declaration) r.came) v x.0 x.1.0 in
+    omega (arith, inside, length-map r.came (named_event r.declaration))
 
 -- ---- a message comes
 module _ (r new : RosterLists) (s s' : SolverLists) (m : Message) (arc : ℕ) (inside : m.send < length r.came)
@@ -217,18 +222,3 @@ keeps_told g old new is = record {
   readings = λ c s has there'. is.readings c s has;
   holds = is.holds;
 }
-
--- ---- the ends of a message
-pub number_is : (under : List (List ℕ)) (id : EventId) (v : ℕ) → IsUnder under id v → number_of under id ≡ v
-number_is under id v (k, is, at) =
-    let place : id.number - 1 ≡ k = omega (arith, is) in
-    ap (λ (n : ℕ). get_or (group_at under id.label) n 0) place ∙ get_or_from_slice_get (group_at under id.label) k v 0 at
-
-module _ (r : RosterLists) (is : IsRoster r) (id : EventId) (known : (v : ℕ) × IsUnder r.under id v) where
-  came_at : (e : Came) × (slice_get r.came (number_of r.under id) ≡ Some e)
-  came_at =
-      let e = is.numbered id.label known.1.0 known.0 known.1.2 in
-      (e.0, ap (slice_get r.came) (number_is r.under id known.0 known.1) ∙ e.1)
-
-  pub end_inside : number_of r.under id < length r.came
-  end_inside = slice_get_within r.came (number_of r.under id) came_at.0 came_at.1

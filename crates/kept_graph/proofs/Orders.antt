@@ -4,16 +4,16 @@ use Rattle.std.specs.List.{range_with_len}
 use Rattle.std.proofs.lemmas.List.{length-map}
 use Rattle.std.proofs.lemmas.List.Elements.{All-contains}
 use Rattle.std.proofs.lemmas.Option.{slice_get_within}
+use Rattle.problem_model.specs.declared.items.Message.{Message}
 use Rattle.problem_model.specs.declared.items.Node.TheVariants as nodes
 use Rattle.sync_graph.specs.Graph.{GraphLists}
 use Rattle.sync_graph.specs.Standing.{HasNode}
-use Rattle.traces.specs.declared.event.Couple.{Couple}
-use Rattle.trace_problem.proofs.Lists.{place_in}
+use Rattle.traces.proofs.Lists.{place_in}
 use Rattle.roster.proofs.Telling.{among}
 use Rattle.roster.proofs.Turns.{into_map}
 use Rattle.kept_graph.specs.declared.planning.Due.{Due}
 use Rattle.kept_graph.specs.declared.planning.Turn.{Turn}
-use Rattle.kept_graph.specs.Planning.{numbers_of, couples_of}
+use Rattle.kept_graph.specs.Planning.{numbers_of, messages_in}
 
 -- numbers from one on, with one more
 pub range_more : (a n j : ℕ) → a + n ≡ j → range_with_len a (suc n) ≡ range_with_len a n ++ j ∷ []
@@ -21,8 +21,8 @@ range_more a zero j e = let same : a ≡ j = omega (arith, e) in rw same refl
 range_more a (suc n) j e = ap (λ (ks : List ℕ). a ∷ ks) (range_more (a + 1) n j (omega (arith, e)))
 
 -- what holds of each message holds of that of one
-pub of_due : (P : Couple → Type 0) (dues : List Due) (k : ℕ) (d : Due) → All P (couples_of dues) → slice_get dues k ≡ Some d → P d.couple
-of_due P dues k d all at = All-contains P (couples_of dues) d.couple all (into_map (λ (x : Due). x.couple) dues d (among dues k d at))
+pub of_due : (P : Message → Type 0) (dues : List Due) (k : ℕ) (d : Due) → All P (messages_in dues) → slice_get dues k ≡ Some d → P d.message
+of_due P dues k d all at = All-contains P (messages_in dues) d.message all (into_map (λ (x : Due). x.message) dues d (among dues k d at))
 
 -- all events of the turns stand once each has entered
 pub all_stand : (turns : List Turn) (n v : ℕ) (g h : GraphLists) → ((w : ℕ) → HasNode g (nodes.Event w) → HasNode h (nodes.Event w)) → n ≡ length turns

@@ -15,7 +15,7 @@ use Rattle.sync_graph.specs.Graph.{GraphLists}
 use Rattle.sync_graph.specs.Standing.{HasNode}
 use Rattle.engine.specs.Solver.{SolverLists}
 use Rattle.trace_event.specs.Seen.{Seen}
-use Rattle.trace_problem.proofs.Lists.{place_in}
+use Rattle.traces.proofs.Lists.{place_in}
 use Rattle.roster.specs.declared.came.Came.{Came}
 use Rattle.roster.specs.Groups.{group_at}
 use Rattle.roster.specs.Readings.{Stamped, HasStamp}

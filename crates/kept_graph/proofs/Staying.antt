@@ -1,5 +1,5 @@
 -- The messages of a roster while events come: those that stay, those that are withdrawn and those that come.
-use Rattle.std.proofs.Common.{◌≡◌, ◌≢◌, ℕ, List, ◌++◌, map, Contains, All, inl, inr, sym, ◌∙◌, ap, subst}
+use Rattle.std.proofs.Common.{◌≡◌, ◌≢◌, ◌<◌, ℕ, List, ◌++◌, length, map, Contains, All, AllPairs, inl, inr, sym, ◌∙◌, ap, subst}
 use Rattle.std.proofs.lemmas.List.Elements.{Contains-append_cases, Contains-append_left, Contains-append_right}
 use Rattle.decl.specs.Declaration.{Declaration, link_bounds}
 use Rattle.problem_model.specs.declared.items.Message.{Message}
@@ -8,9 +8,10 @@ use Rattle.traces.specs.declared.event.EventId.{EventId}
 use Rattle.traces.specs.declared.event.Couple.{Couple}
 use Rattle.traces.specs.Traces.{events_of, host_of}
 use Rattle.traces.specs.Messages.{messages_of}
+use Rattle.traces.proofs.Lists.{pairs_map}
 use Rattle.traces.proofs.MessageEnds.{ends_known}
-use Rattle.trace_problem.specs.Making.{IsOneOf}
-use Rattle.trace_match.specs.Ends.{AreNewMessages}
+use Rattle.traces.specs.Making.{IsOneOf}
+use Rattle.event_match.specs.Ends.{AreNewMessages}
 use Rattle.roster.specs.Roster.{RosterLists, IsRoster, IsUnder, Holds}
 use Rattle.roster.proofs.Turns.{from_map, into_map}
 use Rattle.growth.specs.Told.{messages_by_number, number_of, numbered_message}
@@ -18,7 +19,7 @@ use Rattle.kept_graph.specs.Withdrawing.{AreLeft}
 use Rattle.kept_graph.specs.Coming.{HaveOwnSends}
 use Rattle.kept_graph.proofs.Alike.{AreAlike}
 use Rattle.kept_graph.proofs.Both.{AreInBoth, each_in, in_or_not, one_send, told_by}
-use Rattle.kept_graph.proofs.Held.{id_under, number_is, one_id}
+use Rattle.kept_graph.proofs.Held.{id_under, number_is, number_inside, one_id}
 
 abbrev all_of : List (List Seen) → List Couple
 all_of seen = messages_of (events_of seen)
@@ -63,11 +64,10 @@ module _ (old new : RosterLists) (is : IsRoster old) (before : List (List Seen))
 
 -- ---- what is withdrawn
 module _ (r : RosterLists) (is : IsRoster r) (before after : List (List Seen)) (holds : Holds r before) (gone staying : List Couple) (went : AreNewMessages after before gone) (stay : AreInBoth (messages_of (events_of before)) (messages_of (events_of after)) staying) where
-  pub gone_sends : All (λ (m : Couple). (v : ℕ) × IsUnder r.under m.send v) gone
-  gone_sends = each_in (λ (m : Couple). (v : ℕ) × IsUnder r.under m.send v) gone (λ m has. id_under r is before holds m.send (send_known before m (went.only m has).0))
-
-  pub gone_receives : All (λ (m : Couple). (v : ℕ) × IsUnder r.under m.receive v) gone
-  gone_receives = each_in (λ (m : Couple). (v : ℕ) × IsUnder r.under m.receive v) gone (λ m has. id_under r is before holds m.receive (receive_known before m (went.only m has).0))
+  pub gone_differ : AllPairs (λ (a b : Message). a ≢ b) (map (numbered_message r) gone)
+  gone_differ =
+      pairs_map (λ (a b : Message). a ≢ b) (numbered_message r) gone
+      (told_by (numbered_message r) gone went.once (λ a b has has' same. one_message r is before holds a b (went.only a has).0 (went.only b has').0 (ap (λ (x : Message). x.send) same)))
 
   pub are_left : AreLeft (messages_by_number r before) (map (numbered_message r) gone) (map (numbered_message r) staying)
   are_left = record {
@@ -99,22 +99,31 @@ module _ (r : RosterLists) (is : IsRoster r) (before after : List (List Seen)) (
 -- ---- what comes
 module _ (old new : RosterLists) (is : IsRoster old) (is' : IsRoster new) (before after : List (List Seen)) (holds : Holds old before) (holds' : Holds new after) (declaration : new.declaration ≡ old.declaration)
     (under : (id : EventId) (v : ℕ) → IsUnder old.under id v → IsUnder new.under id v) (added staying : List Couple) (came : AreNewMessages before after added) (stay : AreInBoth (messages_of (events_of before)) (messages_of (events_of after)) staying) where
-  pub own_sends : HaveOwnSends new.under added (map (numbered_message old) staying)
+  pub own_sends : HaveOwnSends (map (numbered_message new) added) (map (numbered_message old) staying)
   own_sends = record {
-    differ = told_by (λ (m : Couple). number_of new.under m.send) added came.once (λ a b has has' same. one_message new is' after holds' a b (came.only a has).0 (came.only b has').0 same);
-    fresh = each_in (λ (c : Couple). (n : Message) → Contains (map (numbered_message old) staying) n → n.send ≢ number_of new.under c.send) added (λ c has n has' same.
+    differ = pairs_map (λ (a b : Message). a.send ≢ b.send) (numbered_message new) added
+        (told_by (λ (m : Couple). number_of new.under m.send) added came.once (λ a b has has' same. one_message new is' after holds' a b (came.only a has).0 (came.only b has').0 same));
+    fresh = each_in (λ (m : Message). (n : Message) → Contains (map (numbered_message old) staying) n → n.send ≢ m.send) (map (numbered_message new) added) (λ m has n has' same.
+        let (c, held', is_c) = from_map (numbered_message new) added m has in
         let (a, held, is_a) = from_map (numbered_message old) staying n has' in
         let was = stay.only a held in
-        let send : number_of new.under a.send ≡ number_of new.under c.send = send_stays old new is before holds declaration under a was.0 ∙ ap (λ (x : Message). x.send) is_a ∙ same in
-        let one : a ≡ c = one_message new is' after holds' a c was.1 (came.only c has).0 send in
-        (came.only c has).1 (subst (Contains (all_of before)) one was.0));
+        let send : number_of new.under a.send ≡ number_of new.under c.send =
+        send_stays old new is before holds declaration under a was.0 ∙ ap (λ (x : Message). x.send) is_a ∙ same ∙ sym (ap (λ (x : Message). x.send) is_c) in
+        let one : a ≡ c = one_message new is' after holds' a c was.1 (came.only c held').0 send in
+        (came.only c held').1 (subst (Contains (all_of before)) one was.0));
   }
 
-  pub come_sends : All (λ (m : Couple). (v : ℕ) × IsUnder new.under m.send v) added
-  come_sends = each_in (λ (m : Couple). (v : ℕ) × IsUnder new.under m.send v) added (λ m has. id_under new is' after holds' m.send (send_known after m (came.only m has).0))
+  pub come_sends : All (λ (m : Message). m.send < length new.came) (map (numbered_message new) added)
+  come_sends = each_in (λ (m : Message). m.send < length new.came) (map (numbered_message new) added) (λ m has.
+      let (a, held, is_a) = from_map (numbered_message new) added m has in
+      let (v, at) = id_under new is' after holds' a.send (send_known after a (came.only a held).0) in
+      subst (λ (x : Message). x.send < length new.came) is_a (number_inside new is' a.send v at))
 
-  pub come_receives : All (λ (m : Couple). (v : ℕ) × IsUnder new.under m.receive v) added
-  come_receives = each_in (λ (m : Couple). (v : ℕ) × IsUnder new.under m.receive v) added (λ m has. id_under new is' after holds' m.receive (receive_known after m (came.only m has).0))
+  pub come_receives : All (λ (m : Message). m.receive < length new.came) (map (numbered_message new) added)
+  come_receives = each_in (λ (m : Message). m.receive < length new.came) (map (numbered_message new) added) (λ m has.
+      let (a, held, is_a) = from_map (numbered_message new) added m has in
+      let (v, at) = id_under new is' after holds' a.receive (receive_known after a (came.only a held).0) in
+      subst (λ (x : Message). x.receive < length new.came) is_a (number_inside new is' a.receive v at))
 
   -- what stays and what comes is all that is there
   pub all_there : AreAlike (map (numbered_message new) added ++ map (numbered_message old) staying) (messages_by_number new after)

@@ -15,8 +15,8 @@ use Rattle.trace_event.specs.Seen.{Seen}
 use Rattle.traces.specs.Traces.{Placed, event_count, events_from}
 use Rattle.traces.specs.Messages.{messages_of, problem_of_seen}
 use Rattle.traces.proofs.Members.{none_in}
-use Rattle.trace_problem.specs.Making.{StampsFit}
-use Rattle.trace_problem.proofs.Seen.{problem_lawful}
+use Rattle.traces.specs.Making.{StampsFit}
+use Rattle.traces.proofs.Seen.{problem_lawful}
 use Rattle.roster.specs.declared.came.Came.{Came}
 use Rattle.roster.specs.Roster.{RosterLists, IsRoster, Holds, listed}
 use Rattle.roster.proofs.Holding.{holds_none}

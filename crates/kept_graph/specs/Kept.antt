@@ -8,7 +8,7 @@ use Rattle.engine.specs.Solver.{SolverLists}
 use Rattle.solver.specs.Solution.{IsSolutionBy}
 use Rattle.trace_event.specs.Seen.{Seen}
 use Rattle.traces.specs.Messages.{problem_of_seen}
-use Rattle.trace_problem.specs.Making.{StampsFit}
+use Rattle.traces.specs.Making.{StampsFit}
 use Rattle.roster.specs.declared.came.Came.{Came}
 use Rattle.roster.specs.declared.came.Partner.{Partner}
 use Rattle.roster.specs.Groups.{group_at}

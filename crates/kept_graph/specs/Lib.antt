@@ -8,4 +8,5 @@ pub mod Linking
 pub mod Withdrawing
 pub mod Cutting
 pub mod Planning
+pub mod Numbering
 pub mod Coming

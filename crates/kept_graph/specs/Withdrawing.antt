@@ -1,10 +1,8 @@
 -- Messages that are withdrawn.
 use Rattle.std.specs.Prelude.{◌≡◌, ◌⊎◌, ℕ, ◌-◌, List, [], ◌∷◌, Option, Some, None, slice_set, Contains}
 use Rattle.problem_model.specs.declared.items.Message.{Message}
-use Rattle.traces.specs.declared.event.Couple.{Couple}
 use Rattle.roster.specs.declared.came.Partner.{Partner}
 use Rattle.roster.specs.Roster.{RosterLists, event_at}
-use Rattle.kept_graph.specs.Kept.{number_of, numbered_message}
 
 -- of messages no two of which have one send these are withdrawn, and those are left
 pub record AreLeft (messages withdrawn left : List Message) : Type 0 where
@@ -26,10 +24,8 @@ arcs_to arc None = arc ∷ []
 arcs_to arc (Some most) = (arc - 1) ∷ arc ∷ []
 
 -- the numbers of a message's arcs, as the roster tells of them
-abbrev pub told_arcs : RosterLists → Couple → List ℕ
-told_arcs r c =
-    let m = numbered_message r c in
-    arcs_to (arc_of (event_at r.came m.send).partner) m.most
+abbrev pub told_arcs : RosterLists → Message → List ℕ
+told_arcs r m = arcs_to (arc_of (event_at r.came m.send).partner) m.most
 
 -- ---- messages of which nothing is told
 -- the roster with no partner at an event
@@ -37,6 +33,6 @@ abbrev pub without_partner : RosterLists → ℕ → RosterLists
 without_partner r v = record r { came = slice_set r.came v (record (event_at r.came v) { partner = None }) }
 
 -- the roster with no partner at the sends of these messages
-abbrev pub without_partners : RosterLists → List Couple → RosterLists
+abbrev pub without_partners : RosterLists → List Message → RosterLists
 without_partners r [] = r
-without_partners r (c ∷ couples) = without_partners (without_partner r (number_of r.under c.send)) couples
+without_partners r (m ∷ messages) = without_partners (without_partner r m.send) messages

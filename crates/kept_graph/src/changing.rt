@@ -1,42 +1,49 @@
 // Events that come at once, and the messages that change with them.
-ghost use Rattle.std.specs.Prelude.{◌≡◌, ◌<◌, ◌≤◌, ◌+◌, ◌*◌, ◌^◌, ◌++◌, true, List, [], length, OnOk};
+ghost use Rattle.std.specs.Prelude.{◌≡◌, ◌<◌, ◌≤◌, ◌+◌, ◌*◌, ◌^◌, ◌++◌, true, List, [], length, map, OnOk};
 ghost use Rattle.sync_graph.specs.declared.arc.Arc.{Arc};
 ghost use Rattle.engine.specs.Solver.{SolverLists, HasRoom};
 ghost use Rattle.trace_event.specs.Seen.{Seen, seen_events};
-ghost use Rattle.trace_match.specs.Ends.{AreChanges};
+ghost use Rattle.event_match.specs.Ends.{AreChanges, AreCouplesWithin};
+ghost use Rattle.roster.specs.Roster.{id_of};
 ghost use Rattle.kept_graph.specs.Kept.{IsKeptFor, KeepsEvents, KeepsReadings, KeepsRows, with_more};
+ghost use Rattle.kept_graph.specs.Numbering.{names_then};
 ghost use Rattle.kept_graph.specs.Steps.{IsBetween, TakesFewToAdd};
 
 use crate::coming::come;
+use crate::numbering::messages_of;
 use crate::planning::{dues_of, turns_of};
 use crate::withdrawing::withdraw;
 use atto::Steps;
 use engine::Solver;
+use msg_match::Change;
 use roster::Roster;
 use std::alloc::{AllocError, Global};
 use std::sync::ledger::Ledger;
 use trace_event::Event;
-use trace_match::Changes;
 
-/// Events of a label come, which change the messages so: those that go are withdrawn, the events enter in the order of their
-/// stamps, and each message that comes joins once both its ends have entered. There is room for all nodes.
+/// Events of a label come, which change the messages so, by the numbers that the events have then: those that go are withdrawn, the
+/// events enter in the order of their stamps, and each message that comes joins once both its ends have entered. There is room for
+/// all nodes. An error comes only where memory runs out, and then roster and graph are used no more.
 pub(crate) fn change<L: Ledger>(
     alloc: Global,
     roster: &mut Roster,
     solver: &mut Solver,
     label: u32,
     events: &[Event],
-    changes: &Changes,
+    change: &Change,
     steps: &mut Steps<L>,
 ) -> Result<(), AllocError>
-    requires kept { (before : List (List Seen)) × IsKeptFor before roster.old solver.old × AreChanges before (with_more before label (seen_events events.now)) changes.now }
+    requires kept { (before : List (List Seen)) × IsKeptFor before roster.old solver.old × AreChanges (names_then roster.old label (seen_events events.now)) before (with_more before label (seen_events events.now)) change.now }
+    requires added { AreCouplesWithin (names_then roster.old label (seen_events events.now)) change.now.added.items }
+    requires withdrawn { AreCouplesWithin (map id_of roster.old.came) change.now.withdrawn.items }
     requires label { label < length roster.old.declaration.labels }
     requires few { length roster.old.came + length events.now ≤ 2 ^ 21 }
     requires room { HasRoom (2 * (length roster.old.came + length events.now)) solver.old }
-    ensures kept { OnOk result ((before : List (List Seen)) → IsKeptFor before roster.old solver.old → AreChanges before (with_more before label (seen_events events.now)) changes.now
+    ensures kept { OnOk result ((before : List (List Seen)) → IsKeptFor before roster.old solver.old → AreChanges (names_then roster.old label (seen_events events.now)) before (with_more before label (seen_events events.now)) change.now
         → IsKeptFor (with_more before label (seen_events events.now)) roster.new solver.new) }
     ensures declaration { roster.new.declaration ≡ roster.old.declaration }
     ensures count { OnOk result (length roster.new.came ≡ length roster.old.came + length events.now) }
+    ensures names { OnOk result (map id_of roster.new.came ≡ names_then roster.old label (seen_events events.now)) }
     ensures events { OnOk result (KeepsEvents roster.old roster.new) }
     ensures readings { OnOk result (KeepsReadings roster.old roster.new) }
     ensures rows { OnOk result (KeepsRows solver.old solver.new) }
@@ -45,13 +52,16 @@ pub(crate) fn change<L: Ledger>(
     ensures nothing { events.now ≡ [] → solver.old.earliest.is_solved ≡ true → OnOk result (steps.new ≤ steps.old) }
     ensures steps { OnOk result (TakesFewToAdd (length events.now) solver.old solver.new steps.old steps.new) }
 {
+    // Here and below it tells that the roster is lawful.
     let _ = roster.decl();
-    withdraw(alloc, roster, solver, &changes.withdrawn, steps)?;
+    let withdrawn = messages_of(alloc, roster, &change.withdrawn)?;
+    withdraw(alloc, roster, solver, &withdrawn, steps)?;
     let _ = roster.decl();
     let first = roster.push(label, events)?;
     let _ = roster.decl();
     let turns = turns_of(alloc, events, first)?;
-    let dues = dues_of(alloc, roster, &changes.added, first)?;
+    let added = messages_of(alloc, roster, &change.added)?;
+    let dues = dues_of(alloc, roster, &added, first)?;
     come(roster, solver, &turns, &dues, steps)?;
     let _ = roster.decl();
     Ok(())

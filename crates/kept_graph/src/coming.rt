@@ -5,12 +5,10 @@ ghost use Rattle.problem_model.specs.declared.items.Node.TheVariants as nodes;
 ghost use Rattle.sync_graph.specs.Graph.{most_nodes, most_arcs};
 ghost use Rattle.sync_graph.specs.Standing.{HasNode};
 ghost use Rattle.engine.specs.Solver.{HasRoom};
-ghost use Rattle.roster.specs.Roster.{IsUnder};
 ghost use Rattle.kept_graph.specs.declared.planning.Due.{Due};
-ghost use Rattle.kept_graph.specs.Kept.{number_of};
 ghost use Rattle.kept_graph.specs.UnderWay.{IsEntering};
 ghost use Rattle.kept_graph.specs.Extending.{Extends, TakesFewToPush};
-ghost use Rattle.kept_graph.specs.Planning.{numbers_of, couples_of};
+ghost use Rattle.kept_graph.specs.Planning.{numbers_of, messages_in};
 ghost use Rattle.kept_graph.specs.Coming.{HaveOwnSends, HaveCome};
 
 use crate::entering::{enter, has_entered};
@@ -18,10 +16,10 @@ use crate::joining::join;
 use crate::planning::{Due, Turn};
 use atto::Steps;
 use engine::Solver;
+use problem_model::Message;
 use roster::Roster;
 use std::alloc::AllocError;
 use std::sync::ledger::Ledger;
-use traces::{Couple, EventId};
 
 // The event at a place.
 fn event_at(turns: &[Turn], place: usize) -> u32
@@ -39,63 +37,42 @@ fn due_at(dues: &[Due], place: usize) -> Due
     dues[place]
 }
 
-// Whether an event has entered.
-fn stands(roster: &Roster, solver: &Solver, id: EventId) -> bool
-    requires { (v : ℕ) × IsUnder roster.now.under id v }
-    ensures { result ≡ true → HasNode solver.now.graph (nodes.Event (number_of roster.now.under id)) }
-{
-    has_entered(solver, roster.number_of(id))
-}
-
 // Whether both ends of a message have entered.
-fn both_stand(roster: &Roster, solver: &Solver, couple: Couple) -> bool
-    requires send { (v : ℕ) × IsUnder roster.now.under couple.send v }
-    requires receive { (v : ℕ) × IsUnder roster.now.under couple.receive v }
-    ensures sent { result ≡ true → HasNode solver.now.graph (nodes.Event (number_of roster.now.under couple.send)) }
-    ensures received { result ≡ true → HasNode solver.now.graph (nodes.Event (number_of roster.now.under couple.receive)) }
+fn both_stand(solver: &Solver, message: &Message) -> bool
+    ensures sent { result ≡ true → HasNode solver.now.graph (nodes.Event message.now.send) }
+    ensures received { result ≡ true → HasNode solver.now.graph (nodes.Event message.now.receive) }
 {
-    let sent = stands(roster, solver, couple.send);
-    let received = stands(roster, solver, couple.receive);
+    let sent = has_entered(solver, message.send);
+    let received = has_entered(solver, message.receive);
     sent && received
 }
 
 // Whether the last of these messages that are left can join: both its ends have entered.
-fn is_ready(roster: &Roster, solver: &Solver, dues: &[Due], left: usize) -> bool
-    requires inside { left ≤ length dues.now }
-    requires sends { All (λ m. (v : ℕ) × IsUnder roster.now.under m.send v) (couples_of dues.now) }
-    requires receives { All (λ m. (v : ℕ) × IsUnder roster.now.under m.receive v) (couples_of dues.now) }
+fn is_ready(solver: &Solver, dues: &[Due], left: usize) -> bool
+    requires { left ≤ length dues.now }
     ensures some { result ≡ true → 0 < left }
-    ensures sent { result ≡ true → (d : Due) → slice_get dues.now (left - 1) ≡ Some d → HasNode solver.now.graph (nodes.Event (number_of roster.now.under d.couple.send)) }
-    ensures received { result ≡ true → (d : Due) → slice_get dues.now (left - 1) ≡ Some d → HasNode solver.now.graph (nodes.Event (number_of roster.now.under d.couple.receive)) }
+    ensures sent { result ≡ true → (d : Due) → slice_get dues.now (left - 1) ≡ Some d → HasNode solver.now.graph (nodes.Event d.message.send) }
+    ensures received { result ≡ true → (d : Due) → slice_get dues.now (left - 1) ≡ Some d → HasNode solver.now.graph (nodes.Event d.message.receive) }
 {
     if left == 0 {
         return false;
     }
     let due = due_at(dues, left - 1);
-    both_stand(roster, solver, due.couple)
+    both_stand(solver, &due.message)
 }
 
 // Whether a message comes next, and no event: its ends have entered, or no event is left.
-fn is_message_next(
-    roster: &Roster,
-    solver: &Solver,
-    turns: &[Turn],
-    next: usize,
-    dues: &[Due],
-    left: usize,
-) -> bool
-    requires inside { left ≤ length dues.now }
-    requires sends { All (λ m. (v : ℕ) × IsUnder roster.now.under m.send v) (couples_of dues.now) }
-    requires receives { All (λ m. (v : ℕ) × IsUnder roster.now.under m.receive v) (couples_of dues.now) }
+fn is_message_next(solver: &Solver, turns: &[Turn], next: usize, dues: &[Due], left: usize) -> bool
+    requires { left ≤ length dues.now }
     ensures event { result ≡ false → next < length turns.now }
     ensures some { result ≡ true → next < length turns.now → 0 < left }
-    ensures sent { result ≡ true → next < length turns.now → (d : Due) → slice_get dues.now (left - 1) ≡ Some d → HasNode solver.now.graph (nodes.Event (number_of roster.now.under d.couple.send)) }
-    ensures received { result ≡ true → next < length turns.now → (d : Due) → slice_get dues.now (left - 1) ≡ Some d → HasNode solver.now.graph (nodes.Event (number_of roster.now.under d.couple.receive)) }
+    ensures sent { result ≡ true → next < length turns.now → (d : Due) → slice_get dues.now (left - 1) ≡ Some d → HasNode solver.now.graph (nodes.Event d.message.send) }
+    ensures received { result ≡ true → next < length turns.now → (d : Due) → slice_get dues.now (left - 1) ≡ Some d → HasNode solver.now.graph (nodes.Event d.message.receive) }
 {
     if next >= turns.len() {
         return true;
     }
-    is_ready(roster, solver, dues, left)
+    is_ready(solver, dues, left)
 }
 
 /// Events of the roster enter the graph, in the order of their turns, and messages come, from the last to the first, each as soon
@@ -108,14 +85,14 @@ pub(crate) fn come<L: Ledger>(
     steps: &mut Steps<L>,
 ) -> Result<(), AllocError>
     requires inside { All (λ v. v < length roster.old.came) (numbers_of turns.now) }
-    requires sends { All (λ m. (v : ℕ) × IsUnder roster.old.under m.send v) (couples_of dues.now) }
-    requires receives { All (λ m. (v : ℕ) × IsUnder roster.old.under m.receive v) (couples_of dues.now) }
-    requires ready { (entered : ℕ → Bool) × (messages : List Message) × IsEntering entered messages roster.old solver.old × HaveOwnSends roster.old.under (couples_of dues.now) messages }
+    requires sends { All (λ m. m.send < length roster.old.came) (messages_in dues.now) }
+    requires receives { All (λ m. m.receive < length roster.old.came) (messages_in dues.now) }
+    requires ready { (entered : ℕ → Bool) × (messages : List Message) × IsEntering entered messages roster.old solver.old × HaveOwnSends (messages_in dues.now) messages }
     requires all { (v : ℕ) → v < length roster.old.came → HasNode solver.old.graph (nodes.Event v) ⊎ Contains (numbers_of turns.now) v }
     requires nodes { length solver.old.graph.nodes + 2 * length turns.now ≤ most_nodes }
     requires room { HasRoom (length solver.old.graph.nodes + 2 * length turns.now) solver.old }
     requires arcs { length solver.old.graph.arcs + 6 * length turns.now + 2 * length dues.now ≤ most_arcs }
-    ensures come { OnOk result (HaveCome (couples_of dues.now) roster.old roster.new solver.old solver.new) }
+    ensures come { OnOk result (HaveCome (messages_in dues.now) roster.old roster.new solver.old solver.new) }
     ensures all { OnOk result ((v : ℕ) → v < length roster.old.came → HasNode solver.new.graph (nodes.Event v)) }
     ensures nodes { OnOk result (length solver.new.graph.nodes ≤ length solver.old.graph.nodes + 2 * length turns.now) }
     ensures arcs { OnOk result (length solver.new.graph.arcs ≤ length solver.old.graph.arcs + 6 * length turns.now + 2 * length dues.now) }
@@ -123,16 +100,15 @@ pub(crate) fn come<L: Ledger>(
     ensures extends { OnOk result (Extends solver.old solver.new) }
     ensures steps { OnOk result (TakesFewToPush solver.old solver.new steps.old steps.new) }
 {
-    let _ = roster.decl();
     let mut next = 0;
     let mut left = dues.len();
     let mut hint = 0;
     let total = turns.len() + dues.len();
     for k in 0..total {
-        if is_message_next(roster, solver, turns, next, dues, left) {
+        if is_message_next(solver, turns, next, dues, left) {
             left -= 1;
             let due = due_at(dues, left);
-            join(roster, solver, &due.couple, steps)?;
+            join(roster, solver, &due.message, steps)?;
         } else {
             let event = event_at(turns, next);
             hint = enter(roster, solver, event, hint, steps)?;

@@ -1,13 +1,12 @@
 // An event that enters the graph.
-ghost use Rattle.std.specs.Prelude.{◌≡◌, ◌<◌, ◌≤◌, ◌+◌, ◌*◌, ◌^◌, ℕ, Bool, true, false, List, [], ◌∷◌, ◌++◌, Option, Some, None, length, slice_get, slice_set, map, Contains, IfSome, IfOk, OnOk};
+ghost use Rattle.std.specs.Prelude.{◌≡◌, ◌<◌, ◌≤◌, ◌+◌, ℕ, Bool, true, false, List, [], ◌∷◌, ◌++◌, Option, Some, None, length, slice_get, slice_set, OnOk};
 ghost use Rattle.problem_model.specs.declared.items.Event as items;
 ghost use Rattle.problem_model.specs.declared.items.Message.{Message};
 ghost use Rattle.problem_model.specs.declared.items.Node.TheVariants as nodes;
-ghost use Rattle.problem_model.specs.declared.items.Bound.{Bound};
 ghost use Rattle.problem_model.specs.declared.items.Bound.TheVariants.{Late, Early};
 ghost use Rattle.problem_model.specs.Problem.{ProblemLists};
 ghost use Rattle.problem_model.specs.Bounds.{ClockAt, EventAt};
-ghost use Rattle.decl.specs.Declaration.{IsDeclaration, follows_of};
+ghost use Rattle.decl.specs.Declaration.{follows_of};
 ghost use Rattle.sync_graph.specs.Graph.{most_nodes, most_arcs};
 ghost use Rattle.sync_graph.specs.Standing.{HasNode};
 ghost use Rattle.engine.specs.Solver.{HasRoom, with_new_node};
@@ -15,7 +14,7 @@ ghost use Rattle.engine.specs.Current.{IsCurrent};
 ghost use Rattle.traces.specs.Traces.{clock_of};
 ghost use Rattle.roster.specs.Groups.{group_at};
 ghost use Rattle.roster.specs.Readings.{HasStamp};
-ghost use Rattle.roster.specs.Roster.{RosterLists, IsRoster, SetsReading, event_at, id_of};
+ghost use Rattle.roster.specs.Roster.{SetsReading, event_at};
 ghost use Rattle.growth.specs.Growing.{IsGrowing};
 ghost use Rattle.kept_graph.specs.Pushing.{Brings};
 ghost use Rattle.kept_graph.specs.Linking.{AreThere, AreBeside, links_of};

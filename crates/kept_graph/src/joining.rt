@@ -1,6 +1,5 @@
 // Messages that come.
-ghost use Rattle.std.specs.Prelude.{◌≡◌, ◌≢◌, ◌<◌, ◌≤◌, ◌+◌, ℕ, Bool, suc, List, [], ◌∷◌, ◌++◌, Some, length, map, take, Contains, AllPairs, All, IfOk, OnOk};
-ghost use Rattle.decl.specs.Declaration.{link_bounds};
+ghost use Rattle.std.specs.Prelude.{◌≡◌, ◌<◌, ◌≤◌, ◌+◌, ℕ, Bool, suc, List, [], ◌∷◌, ◌++◌, Some, length, Contains, IfOk, OnOk};
 ghost use Rattle.problem_model.specs.declared.items.Message.{Message};
 ghost use Rattle.problem_model.specs.declared.items.Node.TheVariants as nodes;
 ghost use Rattle.problem_model.specs.declared.items.Bound.{Bound};
@@ -9,14 +8,10 @@ ghost use Rattle.problem_model.specs.Problem.{ProblemLists};
 ghost use Rattle.problem_model.specs.ShortList.{most_bound, message_bounds};
 ghost use Rattle.sync_graph.specs.Graph.{most_arcs, arc_at};
 ghost use Rattle.sync_graph.specs.Standing.{HasNode};
-ghost use Rattle.engine.specs.Solver.{HasRoom};
 ghost use Rattle.engine.specs.Current.{IsCurrent};
-ghost use Rattle.traces.specs.declared.event.Couple.{Couple};
-ghost use Rattle.traces.specs.Traces.{host_of};
-ghost use Rattle.roster.specs.Roster.{IsUnder};
 ghost use Rattle.growth.specs.Growing.{IsGrowing};
 ghost use Rattle.growth.specs.Once.{IsOn};
-ghost use Rattle.kept_graph.specs.Kept.{HasArcs, number_of, numbered_message};
+ghost use Rattle.kept_graph.specs.Kept.{HasArcs};
 ghost use Rattle.kept_graph.specs.Pushing.{Brings};
 ghost use Rattle.kept_graph.specs.Extending.{Extends, TakesFewToPush};
 ghost use Rattle.kept_graph.specs.UnderWay.{IsEntering};
@@ -29,32 +24,6 @@ use problem_model::{Bound, Message, Node};
 use roster::{Partner, Roster};
 use std::alloc::AllocError;
 use std::sync::ledger::Ledger;
-use traces::{Couple, EventId};
-
-// The host of an event that came.
-fn host_of(roster: &Roster, id: EventId) -> u32
-    requires { (v : ℕ) × IsUnder roster.now.under id v }
-    ensures { result ≡ host_of roster.now.declaration id }
-{
-    roster.decl().labels[id.label as usize].host
-}
-
-/// A message by the numbers of its ends, with the bounds of the link between their hosts.
-pub(crate) fn message_of(roster: &Roster, couple: &Couple) -> Message
-    requires send { (v : ℕ) × IsUnder roster.now.under couple.now.send v }
-    requires receive { (v : ℕ) × IsUnder roster.now.under couple.now.receive v }
-    ensures { result ≡ numbered_message roster.now couple.now }
-{
-    let from = host_of(roster, couple.send);
-    let to = host_of(roster, couple.receive);
-    let (least, most) = roster.decl().link_of(from, to);
-    Message {
-        send: roster.number_of(couple.send),
-        receive: roster.number_of(couple.receive),
-        least,
-        most,
-    }
-}
 
 // Brings in the bound on the greatest delay of a message, where there is one.
 fn push_most<L: Ledger>(
@@ -127,25 +96,21 @@ pub(crate) fn push_message<L: Ledger>(
 pub(crate) fn join<L: Ledger>(
     roster: &mut Roster,
     solver: &mut Solver,
-    couple: &Couple,
+    message: &Message,
     steps: &mut Steps<L>,
 ) -> Result<(), AllocError>
-    requires send { (v : ℕ) × IsUnder roster.old.under couple.now.send v }
-    requires receive { (v : ℕ) × IsUnder roster.old.under couple.now.receive v }
-    requires sent { HasNode solver.old.graph (nodes.Event (number_of roster.old.under couple.now.send)) }
-    requires received { HasNode solver.old.graph (nodes.Event (number_of roster.old.under couple.now.receive)) }
+    requires sent { HasNode solver.old.graph (nodes.Event message.now.send) }
+    requires received { HasNode solver.old.graph (nodes.Event message.now.receive) }
     requires ready { (entered : ℕ → Bool) × (messages : List Message) × IsEntering entered messages roster.old solver.old }
     requires arcs { length solver.old.graph.arcs + 2 ≤ most_arcs }
-    ensures come { OnOk result (HaveCome (couple.now ∷ []) roster.old roster.new solver.old solver.new) }
+    ensures come { OnOk result (HaveCome (message.now ∷ []) roster.old roster.new solver.old solver.new) }
     ensures nodes { OnOk result (solver.new.graph.nodes ≡ solver.old.graph.nodes) }
     ensures arcs { OnOk result (length solver.new.graph.arcs ≤ length solver.old.graph.arcs + 2) }
     ensures declaration { roster.new.declaration ≡ roster.old.declaration }
     ensures extends { OnOk result (Extends solver.old solver.new) }
     ensures steps { OnOk result (TakesFewToPush solver.old solver.new steps.old steps.new) }
 {
-    let _ = roster.decl();
-    let message = message_of(roster, couple);
-    let arc = push_message(solver, &message, steps)?;
+    let arc = push_message(solver, message, steps)?;
     let partner = Partner {
         event: message.receive,
         arc,

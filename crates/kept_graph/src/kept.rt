@@ -1,11 +1,13 @@
-// A graph and the roster of its events.
+// A graph, the roster of its events and the matcher of their messages.
 ghost use Rattle.std.specs.Prelude.{◌≡◌, ◌<◌, ◌≤◌, ◌+◌, ◌^◌, ◌++◌, true, List, [], None, length, map, IfOk, OnOk};
 ghost use Rattle.decl.specs.declared.items.Label.{Label};
 ghost use Rattle.decl.specs.Declaration.{IsDeclaration, declaration_of};
 ghost use Rattle.sync_graph.specs.declared.arc.Arc.{Arc};
 ghost use Rattle.engine.specs.Solver.{SolverLists};
 ghost use Rattle.trace_event.specs.Seen.{Seen, seen_events};
-ghost use Rattle.trace_match.specs.Ends.{AreChanges};
+ghost use Rattle.msg_match.specs.Changes.{HaveOwnNumbers, AreMessagesAnew};
+ghost use Rattle.event_match.specs.Ends.{AreEndsBy, IsChange, items_from};
+ghost use Rattle.roster.specs.Roster.{id_of};
 ghost use Rattle.kept_graph.specs.Kept.{IsKeptFor, KeepsEvents, KeepsReadings, KeepsRows, with_more};
 ghost use Rattle.kept_graph.specs.Steps.{IsBetween, TakesFewToAdd};
 
@@ -14,17 +16,39 @@ use crate::room::make_room;
 use atto::Steps;
 use decl::Decl;
 use engine::Solver;
+use event_match::{Changed, counts, items_of};
+use msg_match::{Change, Matcher};
 use roster::Roster;
 use std::alloc::{AllocError, Global};
 use std::sync::ledger::Ledger;
 use trace_event::Event;
-use trace_match::Changes;
 
-/// The events of a session by number, with its declaration, and their graph with what is known of it.
+// The matcher gets the ends of messages among events that have the numbers from `first` on, and answers how the messages change;
+// an error where memory runs out.
+fn rematch(
+    alloc: Global,
+    matcher: &mut Matcher,
+    first: u32,
+    events: &[Event],
+) -> Result<Change, AllocError>
+    requires fits { first + length events.now < 2 ^ 32 }
+    requires few { length matcher.old + length (items_from first (seen_events events.now)) ≤ 2 ^ 22 }
+    requires differ { HaveOwnNumbers (matcher.old ++ items_from first (seen_events events.now)) }
+    ensures ok { OnOk result (matcher.new ≡ matcher.old ++ items_from first (seen_events events.now)) }
+    ensures added { IfOk result (λ change. AreMessagesAnew matcher.old matcher.new change.added.items) }
+    ensures withdrawn { IfOk result (λ change. AreMessagesAnew matcher.new matcher.old change.withdrawn.items) }
+{
+    let items = items_of(alloc, first, events)?;
+    matcher.add(&items)
+}
+
+/// The events of a session by number, with its declaration, which of them are messages, and their graph with what is known of it.
 #[derive(Drop)]
 pub struct KeptGraph {
     /// The declaration, the events by number, and the readings, each with its node.
     pub roster: Roster,
+    /// The events that are ends of messages, by number, and which of them are a message.
+    pub matcher: Matcher,
     /// The graph, its earliest execution or a contradiction, and the rows of kept nodes.
     pub solver: Solver,
 }
@@ -35,21 +59,24 @@ impl KeptGraph {
         requires { IsDeclaration (declaration_of decl) }
         ensures declared { IfOk result (λ k. k.roster.declaration ≡ declaration_of decl) }
         ensures kept { IfOk result (λ k. IsKeptFor (map (λ (l : Label). []) k.roster.declaration.labels) k.roster k.solver) }
+        ensures ends { IfOk result (λ k. AreEndsBy (map id_of k.roster.came) k.matcher (map (λ (l : Label). []) k.roster.declaration.labels)) }
         ensures none { IfOk result (λ k. k.roster.came ≡ []) }
         ensures slots { IfOk result (λ k. k.solver.kept.slots ≡ []) }
         ensures source { IfOk result (λ k. k.solver.kept.source ≡ None) }
         ensures rows { IfOk result (λ k. k.solver.pool.rows ≡ []) }
     {
         let roster = Roster::new(alloc, decl)?;
+        // It tells that the roster is lawful.
         let _ = roster.decl();
         Ok(KeptGraph {
             roster,
+            matcher: Matcher::new(alloc),
             solver: Solver::new(alloc),
         })
     }
 
-    /// Adds events of a label, behind those that it has, which change the messages so. Arcs keep their numbers. An error comes only
-    /// where memory runs out, and then the graph is used no more.
+    /// Adds events of a label, behind those that it has, and answers how many messages come by them, and how many go. Arcs keep their
+    /// numbers. An error comes only where memory runs out, and then the graph is used no more.
     ///
     /// Where an execution exists before and after, the steps are at most those of the withdrawing part, which is none where no
     /// message goes, and for each event eight times the inserting part: that counts the nodes that are new or changed, in the
@@ -59,14 +86,17 @@ impl KeptGraph {
         &mut self,
         label: u32,
         events: &[Event],
-        changes: &Changes,
         steps: &mut Steps<L>,
-    ) -> Result<(), AllocError>
-        requires kept { (before : List (List Seen)) × IsKeptFor before self.old.roster self.old.solver × AreChanges before (with_more before label (seen_events events.now)) changes.now }
+    ) -> Result<Changed, AllocError>
+        requires kept { (before : List (List Seen)) × IsKeptFor before self.old.roster self.old.solver × AreEndsBy (map id_of self.old.roster.came) self.old.matcher before }
         requires label { label < length self.old.roster.declaration.labels }
         requires few { length self.old.roster.came + length events.now ≤ 2 ^ 21 }
-        ensures kept { OnOk result ((before : List (List Seen)) → IsKeptFor before self.old.roster self.old.solver → AreChanges before (with_more before label (seen_events events.now)) changes.now
+        ensures kept { OnOk result ((before : List (List Seen)) → IsKeptFor before self.old.roster self.old.solver → AreEndsBy (map id_of self.old.roster.came) self.old.matcher before
             → IsKeptFor (with_more before label (seen_events events.now)) self.new.roster self.new.solver) }
+        ensures ends { OnOk result ((before : List (List Seen)) → IsKeptFor before self.old.roster self.old.solver → AreEndsBy (map id_of self.old.roster.came) self.old.matcher before
+            → AreEndsBy (map id_of self.new.roster.came) self.new.matcher (with_more before label (seen_events events.now))) }
+        ensures changed { IfOk result (λ changed. (before : List (List Seen)) → IsKeptFor before self.old.roster self.old.solver → AreEndsBy (map id_of self.old.roster.came) self.old.matcher before
+            → IsChange before (with_more before label (seen_events events.now)) changed) }
         ensures declaration { self.new.roster.declaration ≡ self.old.roster.declaration }
         ensures count { OnOk result (length self.new.roster.came ≡ length self.old.roster.came + length events.now) }
         ensures events { OnOk result (KeepsEvents self.old.roster self.new.roster) }
@@ -77,16 +107,18 @@ impl KeptGraph {
         ensures nothing { events.now ≡ [] → self.old.solver.earliest.is_solved ≡ true → OnOk result (steps.new ≤ steps.old) }
         ensures steps { OnOk result (TakesFewToAdd (length events.now) self.old.solver self.new.solver steps.old steps.new) }
     {
-        let alloc = *changes.withdrawn.allocator();
+        let alloc = *self.roster.decl().labels.allocator();
         make_room(&self.roster, &mut self.solver, events.len() as u32)?;
+        let changes = rematch(alloc, &mut self.matcher, self.roster.len(), events)?;
         change(
             alloc,
             &mut self.roster,
             &mut self.solver,
             label,
             events,
-            changes,
+            &changes,
             steps,
-        )
+        )?;
+        Ok(counts(&changes))
     }
 }

@@ -1,5 +1,5 @@
 // The nearest nodes of a new reading.
-ghost use Rattle.std.specs.Prelude.{◌≡◌, ◌<◌, ◌≤◌, ℕ, true, false, Option, Some, None, length, slice_get, IfSome};
+ghost use Rattle.std.specs.Prelude.{◌≡◌, ◌<◌, ℕ, true, false, Option, Some, None, length, slice_get, IfSome};
 ghost use Rattle.problem_model.specs.declared.items.Node.TheVariants as nodes;
 ghost use Rattle.sync_graph.specs.Standing.{HasNode};
 ghost use Rattle.roster.specs.Groups.{group_at};

@@ -1,15 +1,14 @@
 // In which order events and messages come.
-ghost use Rattle.std.specs.Prelude.{◌≡◌, ◌<◌, ◌≤◌, ◌+◌, ◌^◌, ℕ, Some, All, length, slice_get, IfOk, OnOk};
+ghost use Rattle.std.specs.Prelude.{◌≡◌, ◌<◌, ◌≤◌, ◌+◌, ◌^◌, Some, All, length, slice_get, IfOk, OnOk};
 ghost use Rattle.std.specs.List.{range_with_len};
 ghost use Rattle.std.specs.List.Sorted.{IsPermutation};
 ghost use Rattle.roster.specs.Readings.{stamps_of};
-ghost use Rattle.roster.specs.Roster.{IsUnder};
-ghost use Rattle.kept_graph.specs.Planning.{numbers_of, couples_of};
+ghost use Rattle.kept_graph.specs.Planning.{numbers_of, messages_in};
 
+use problem_model::Message;
 use roster::Roster;
 use std::alloc::{AllocError, Global};
 use trace_event::Event;
-use traces::{Couple, EventId};
 
 /// An event that comes, by its number, with its stamp in ns.
 #[derive(Clone, Copy)]
@@ -23,7 +22,7 @@ pub struct Turn {
 pub struct Due {
     pub stamp: u64,
     pub event: u32,
-    pub couple: Couple,
+    pub message: Message,
 }
 
 // The stamp of an event, in ns.
@@ -35,7 +34,7 @@ fn stamp_of(events: &[Event], k: usize) -> u64
     events[k].stamp.get()
 }
 
-// The turns of events that are numbered from one on, as they stand.
+// The turns of events that have the numbers from `first` on, as they stand.
 fn turns_from(alloc: Global, events: &[Event], first: u32) -> Result<Vec<Turn>, AllocError>
     requires { first + length events.now ≤ 2 ^ 21 }
     ensures numbers { IfOk result (λ turns. numbers_of turns.items ≡ range_with_len first (length events.now)) }
@@ -52,7 +51,7 @@ fn turns_from(alloc: Global, events: &[Event], first: u32) -> Result<Vec<Turn>, 
     Ok(turns)
 }
 
-/// The turns of events that are numbered from one on, in the order of their stamps.
+/// The turns of events that have the numbers from `first` on, in the order of their stamps.
 pub(crate) fn turns_of(alloc: Global, events: &[Event], first: u32) -> Result<Vec<Turn>, AllocError>
     requires { first + length events.now ≤ 2 ^ 21 }
     ensures numbers { IfOk result (λ turns. IsPermutation (range_with_len first (length events.now)) (numbers_of turns.items)) }
@@ -64,10 +63,7 @@ pub(crate) fn turns_of(alloc: Global, events: &[Event], first: u32) -> Result<Ve
 }
 
 // The stamp and the number of an event that comes; zeros of one that was there.
-fn turn_of(roster: &Roster, id: EventId, first: u32) -> (u64, u32)
-    requires { (v : ℕ) × IsUnder roster.now.under id v }
-{
-    let v = roster.number_of(id);
+fn turn_of(roster: &Roster, v: u32, first: u32) -> (u64, u32) {
     if v < first || v >= roster.len() {
         return (0, 0);
     }
@@ -75,13 +71,11 @@ fn turn_of(roster: &Roster, id: EventId, first: u32) -> (u64, u32)
 }
 
 // A message that comes, with the turn of its later end.
-fn due_of(roster: &Roster, couple: &Couple, first: u32) -> Due
-    requires send { (v : ℕ) × IsUnder roster.now.under couple.now.send v }
-    requires receive { (v : ℕ) × IsUnder roster.now.under couple.now.receive v }
-    ensures { result.couple ≡ couple.now }
+fn due_of(roster: &Roster, message: &Message, first: u32) -> Due
+    ensures { result.message ≡ message.now }
 {
-    let (sent, send) = turn_of(roster, couple.send, first);
-    let (received, receive) = turn_of(roster, couple.receive, first);
+    let (sent, send) = turn_of(roster, message.send, first);
+    let (received, receive) = turn_of(roster, message.receive, first);
     let is_sent_last = received < sent || (received == sent && receive < send);
     let (stamp, event) = if is_sent_last {
         (sent, send)
@@ -91,7 +85,7 @@ fn due_of(roster: &Roster, couple: &Couple, first: u32) -> Due
     Due {
         stamp,
         event,
-        couple: *couple,
+        message: *message,
     }
 }
 
@@ -99,16 +93,14 @@ fn due_of(roster: &Roster, couple: &Couple, first: u32) -> Due
 fn dues_from(
     alloc: Global,
     roster: &Roster,
-    couples: &[Couple],
+    messages: &[Message],
     first: u32,
 ) -> Result<Vec<Due>, AllocError>
-    requires sends { All (λ m. (v : ℕ) × IsUnder roster.now.under m.send v) couples.now }
-    requires receives { All (λ m. (v : ℕ) × IsUnder roster.now.under m.receive v) couples.now }
-    ensures { IfOk result (λ dues. couples_of dues.items ≡ couples.now) }
+    ensures { IfOk result (λ dues. messages_in dues.items ≡ messages.now) }
 {
     let mut dues = Vec::new(alloc);
-    for k in 0..couples.len() {
-        dues.push(due_of(roster, &couples[k], first))?;
+    for k in 0..messages.len() {
+        dues.push(due_of(roster, &messages[k], first))?;
     }
     Ok(dues)
 }
@@ -125,14 +117,12 @@ fn rank_of(due: &Due) -> (u64, u32) {
 pub(crate) fn dues_of(
     alloc: Global,
     roster: &Roster,
-    couples: &[Couple],
+    messages: &[Message],
     first: u32,
 ) -> Result<Vec<Due>, AllocError>
-    requires sends { All (λ m. (v : ℕ) × IsUnder roster.now.under m.send v) couples.now }
-    requires receives { All (λ m. (v : ℕ) × IsUnder roster.now.under m.receive v) couples.now }
-    ensures { IfOk result (λ dues. IsPermutation couples.now (couples_of dues.items)) }
+    ensures { IfOk result (λ dues. IsPermutation messages.now (messages_in dues.items)) }
 {
-    let mut dues = dues_from(alloc, roster, couples, first)?;
+    let mut dues = dues_from(alloc, roster, messages, first)?;
     dues.sort_unstable_by_key(|due| rank_of(due));
     Ok(dues)
 }

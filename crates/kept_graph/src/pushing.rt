@@ -1,5 +1,5 @@
 // Bounds that are pushed.
-ghost use Rattle.std.specs.Prelude.{◌≡◌, ◌<◌, ◌≤◌, ◌+◌, ◌^◌, ℕ, Bool, List, [], ◌∷◌, ◌++◌, Some, length, slice_get, pos, neg_ℤ, ◌<ℤ◌, Contains, OnOk};
+ghost use Rattle.std.specs.Prelude.{◌≡◌, ◌<◌, ◌≤◌, ◌+◌, ◌^◌, ℕ, Bool, List, [], ◌∷◌, Some, length, slice_get, pos, neg_ℤ, ◌<ℤ◌, Contains, OnOk};
 ghost use Rattle.problem_model.specs.declared.items.Event.{Event};
 ghost use Rattle.problem_model.specs.declared.items.Follow.{Follow};
 ghost use Rattle.problem_model.specs.declared.items.Node.TheVariants as nodes;
@@ -8,7 +8,6 @@ ghost use Rattle.problem_model.specs.declared.items.Bound.TheVariants as bounds;
 ghost use Rattle.problem_model.specs.declared.items.Bound.TheVariants.{SpanMost, SpanLeast, Late, Early};
 ghost use Rattle.problem_model.specs.Problem.{ProblemLists};
 ghost use Rattle.problem_model.specs.Bounds.{Constraint, Declares, ClockAt, EventAt, ComesAfter};
-ghost use Rattle.problem_model.specs.ShortList.{most_bound, message_bounds};
 ghost use Rattle.sync_graph.specs.Graph.{most_arcs, arc_at};
 ghost use Rattle.sync_graph.specs.Names.{Joins};
 ghost use Rattle.sync_graph.specs.Standing.{HasNode};

@@ -9,7 +9,7 @@ use Rattle.problem_model.specs.Bounds.{Times}
 use Rattle.decl.specs.Declaration.{Declaration}
 use Rattle.traces.specs.Traces.{Placed, name_of}
 use Rattle.traces.proofs.Members.{no_pairs}
-use Rattle.trace_problem.proofs.Names.{id_same}
+use Rattle.traces.proofs.Names.{id_same}
 use Rattle.report.specs.declared.merge.MergeKey.{MergeKey}
 use Rattle.report.specs.Merging.{AreApart, merge_line}
 use Rattle.merging.specs.Merged.{keys_from, line_at, line_if}

@@ -6,7 +6,7 @@ use Rattle.std.proofs.lemmas.List.FromFn.{length-range_with_len, get_or-range_wi
 use Rattle.std.proofs.lemmas.List.Sorted.{All-permutation, Contains-permutation, IsPermutation-sym}
 use Rattle.problem_model.proofs.Chains.{Among, among, each_among}
 use Rattle.problem_model.proofs.OneList.{contained}
-use Rattle.trace_problem.proofs.Lists.{got}
+use Rattle.traces.proofs.Lists.{got}
 use Rattle.report.specs.declared.merge.MergeKey.{MergeKey}
 use Rattle.report.specs.Merging.{ComeInOrder, IsMergeOrder}
 use Rattle.report.proofs.OneFirst.{both_first}

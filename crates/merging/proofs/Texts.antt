@@ -12,7 +12,7 @@ use Rattle.difference_bounds.specs.Executions.{at}
 use Rattle.difference_bounds.specs.Solutions.{IsEarliestExecution}
 use Rattle.problem.specs.Listing.{Listed, all_readings, listed_nodes}
 use Rattle.problem.proofs.ListedNodes.{event_node, map_at}
-use Rattle.trace_problem.proofs.Lists.{all_at}
+use Rattle.traces.proofs.Lists.{all_at}
 use Rattle.decl.specs.Declaration.{Declaration}
 use Rattle.trace_event.specs.Seen.{Seen}
 use Rattle.traces.specs.Traces.{Placed, events_of}

@@ -6,7 +6,7 @@ ghost use Rattle.trace_event.specs.Seen.{seen_event};
 ghost use Rattle.traces.specs.Traces.{name_of};
 ghost use Rattle.traces.specs.Held.{placed_in};
 ghost use Rattle.report.specs.Merging.{merge_line};
-ghost use Rattle.trace_problem.specs.Making.{AreEvents};
+ghost use Rattle.traces.specs.Making.{AreEvents};
 ghost use Rattle.merging.specs.Merged.{line_at};
 ghost use Rattle.merging.specs.Writing.{AreValued, count_line, lines_of, times_by};
 
@@ -18,8 +18,7 @@ use ports::{Failed, Sink, write_whole};
 use problem::Listing;
 use report::write_merge_line;
 use trace_event::Event;
-use trace_problem::name_of;
-use traces::PlacedEvent;
+use traces::{PlacedEvent, name_of};
 
 // What an event log says of an event; nothing of a packet.
 fn text_of(event: &Event) -> &[u8]

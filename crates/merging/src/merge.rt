@@ -6,7 +6,7 @@ ghost use Rattle.decl.specs.Declaration.{IsDeclaration, declaration_of};
 ghost use Rattle.traces.specs.Traces.{event_count};
 ghost use Rattle.traces.specs.Held.{placed_in, seen_in};
 ghost use Rattle.traces.specs.Messages.{problem_of_seen};
-ghost use Rattle.trace_problem.specs.Making.{AreEvents};
+ghost use Rattle.traces.specs.Making.{AreEvents};
 ghost use Rattle.queries.specs.declared.stop.Stop.TheVariants as stops;
 ghost use Rattle.queries.specs.Replies.{Replies};
 ghost use Rattle.merging.specs.Merged.{IsMergeText};

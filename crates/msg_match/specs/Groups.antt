@@ -48,9 +48,13 @@ couple_of g = only_two g.sends g.receives
 abbrev pub is_matched : SeenGroup → Bool
 is_matched g = is_some (couple_of g)
 
--- sends and receives, and two of the ones or the others at least
+-- whether there are sends and receives, and two of the ones or the others at least
+abbrev pub are_ambiguous : (sends receives : ℕ) → Bool
+are_ambiguous sends receives = nat_lt 0 sends && nat_lt 0 receives && (nat_lt 1 sends || nat_lt 1 receives)
+
+-- whether a key is ambiguous
 abbrev pub is_ambiguous : SeenGroup → Bool
-is_ambiguous g = nat_lt 0 (length g.sends) && nat_lt 0 (length g.receives) && (nat_lt 1 (length g.sends) || nat_lt 1 (length g.receives))
+is_ambiguous g = are_ambiguous (length g.sends) (length g.receives)
 
 -- in no message, and not ambiguous
 abbrev pub is_unmatched : SeenGroup → Bool

@@ -24,11 +24,11 @@ sends_message items x = is_same_side x.side Send && is_matched (group_of items x
 abbrev pub has_ambiguous_key : List SeenItem → SeenItem → Bool
 has_ambiguous_key items x = is_ambiguous (group_of items x.key)
 
--- whether an event is in no message, and its key is not ambiguous
+-- whether an event is unmatched: it is in no message, and its key is not ambiguous
 abbrev pub is_unmatched_event : List SeenItem → SeenItem → Bool
 is_unmatched_event items x = is_unmatched (group_of items x.key)
 
--- how many messages there are, events that are in none, and events with ambiguous keys
+-- how many messages there are, unmatched events, and events with ambiguous keys
 abbrev pub tallies : List SeenItem → Tallies
 tallies items = record {
   messages = length (filter (sends_message items) items);

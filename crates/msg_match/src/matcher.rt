@@ -104,8 +104,8 @@ impl Matcher {
         }
     }
 
-    /// Takes all events behind the first `len` away. The time goes by those that are taken away.
-    pub fn truncate(&mut self, len: usize)
+    // Takes all events behind the first `len` away. The time goes by those that are taken away.
+    fn truncate(&mut self, len: usize)
         requires { len ≤ length self.old }
         ensures { self.new ≡ take len self.old }
     {
@@ -152,7 +152,8 @@ impl Matcher {
         }
     }
 
-    /// How many messages there are, events that are in none, and events with ambiguous keys.
+    /// How many messages there are, unmatched events (in no message, and their key is not ambiguous), and events with ambiguous
+    /// keys. The time goes by the keys.
     pub fn tallies(&self) -> Tallies
         ensures { result ≡ tallies self.now }
     {

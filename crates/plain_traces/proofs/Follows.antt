@@ -7,7 +7,7 @@ use Rattle.problem_model.specs.ChainNumbers.{with_follow}
 use Rattle.problem.specs.Growing.{IsNewFollow}
 use Rattle.decl.specs.Declaration.{Declaration, IsDeclaration, follow_from, follows_of}
 use Rattle.decl.proofs.Following.{follow_listed, follows_lead, is_follow}
-use Rattle.trace_problem.proofs.Follows.{before_more, follows_before}
+use Rattle.traces.proofs.Follows.{before_more, follows_before}
 
 -- ---- one follow
 leads : (d : Declaration) → IsDeclaration d → (k : ℕ) (f : Follow) → follow_from d k ≡ Some f → LeadsOn d.clocks f

@@ -15,10 +15,10 @@ use Rattle.traces.specs.declared.event.EventId.{EventId}
 use Rattle.traces.specs.declared.event.Couple.{Couple}
 use Rattle.traces.specs.Traces.{Placed, name_of, host_of}
 use Rattle.traces.specs.Messages.{event_with, linked, place_of}
-use Rattle.trace_problem.specs.Making.{problem_by, IsOneOf, AreEvents, AreMessages}
-use Rattle.trace_problem.proofs.Lists.{all_at, place_in}
-use Rattle.trace_problem.proofs.Whole.{clock_there, all_names_differ, apart, ends_apart}
-use Rattle.trace_problem.proofs.Places.{name_there, place_within, the_place}
+use Rattle.traces.specs.Making.{problem_by, IsOneOf, AreEvents, AreMessages}
+use Rattle.traces.proofs.Lists.{all_at, place_in}
+use Rattle.traces.proofs.Whole.{clock_there, all_names_differ, apart, ends_apart}
+use Rattle.traces.proofs.Places.{name_there, place_within, the_place}
 use Rattle.plain_traces.proofs.Taken.{pairs_before, take_next, map_next}
 
 taken_less : {X : Type 0} (xs : List X) (k : ℕ) (x : X) (n : ℕ) → slice_get xs k ≡ Some x → length xs ≤ n → length (take k xs) < n

@@ -2,3 +2,4 @@ mod Only
 mod Taken
 mod Follows
 mod Growth
+mod Added

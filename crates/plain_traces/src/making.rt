@@ -4,7 +4,7 @@ ghost use Rattle.decl.specs.Declaration.{IsDeclaration, declaration_of};
 ghost use Rattle.traces.specs.Traces.{event_count, events_of};
 ghost use Rattle.traces.specs.Messages.{messages_of, problem_of_seen};
 ghost use Rattle.traces.specs.Held.{placed_in, seen_in};
-ghost use Rattle.trace_problem.specs.Making.{AreEvents, AreMessages, problem_by};
+ghost use Rattle.traces.specs.Making.{AreEvents, AreMessages, problem_by};
 
 use crate::adding::{add_clock, add_event, add_follow, add_message};
 use crate::parts::{event_of, message_of};

@@ -1,7 +1,7 @@
 // The messages among events.
 ghost use Rattle.std.specs.Prelude.{◌≡◌, ◌≤◌, ◌^◌, length, IfOk, option_to_list};
 ghost use Rattle.trace_event.specs.declared.event.Side.TheVariants.{Send, Receive};
-ghost use Rattle.trace_event.specs.Seen.{is_mark, is_same_side, key_of, mark_of};
+ghost use Rattle.trace_event.specs.Seen.{is_mark, key_of, mark_of};
 ghost use Rattle.traces.specs.Traces.{event_count, events_of};
 ghost use Rattle.traces.specs.Messages.{messages_of, only_two, sent_by, with_mark};
 ghost use Rattle.traces.specs.Held.{placed_in, seen_in};

@@ -1,5 +1,5 @@
 // The events and messages of a problem, by the labels of their declaration.
-ghost use Rattle.std.specs.Prelude.{◌≡◌, ◌<◌, ℕ, length};
+ghost use Rattle.std.specs.Prelude.{◌≡◌, ◌<◌, length};
 ghost use Rattle.decl.specs.Declaration.{HasLawfulLabels, declaration_of, link_bounds};
 ghost use Rattle.problem.specs.Line.{HasEvent};
 ghost use Rattle.plain_traces.specs.Known.{IsKnown};
@@ -10,8 +10,7 @@ ghost use Rattle.traces.specs.Held.{placed_of};
 use decl::Decl;
 use problem::Problem;
 use problem_model::{Event, Message};
-use trace_problem::name_of;
-use traces::{Couple, EventId, PlacedEvent};
+use traces::{Couple, EventId, PlacedEvent, name_of};
 
 // The host that an event happened at.
 fn host_of(decl: &Decl, id: EventId) -> u32

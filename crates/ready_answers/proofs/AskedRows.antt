@@ -58,12 +58,13 @@ spare_left old new same leaves spare =
 
 -- the answers with this engine
 abbrev pub with_engine : Answers → SolverLists → Answers
-with_engine a s = record { graph = record { roster = a.graph.roster; solver = s }; source = a.source }
+with_engine a s = record { graph = record { roster = a.graph.roster; matcher = a.graph.matcher; solver = s }; source = a.source }
 
 pub answers_left : (seen : List (List Seen)) (kept : List EventId) (a : Answers) (s : SolverLists) → AreAnswersOf seen kept a → LeavesAnswer a.graph.solver s → AreAnswersOf seen kept (with_engine a s)
 answers_left seen kept a s is leaves = record {
   lawful = is.lawful;
   graph = kept_stays seen a.graph.roster a.graph.solver s leaves.answer leaves.current is.graph;
+  ends = is.ends;
   slots = subst (λ (k : KeptRows). AreSlotsOf a.graph.roster kept k.slots) (sym leaves.kept) is.slots;
   source_slot = keeps_source (listed a.graph.roster) (problem_by a seen) a.graph.roster.declaration.source a.source a.graph.solver s leaves.kept is.source_slot;
   rows = spare_left a.graph.solver s leaves.kept leaves.rows is.rows;

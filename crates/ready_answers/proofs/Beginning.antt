@@ -12,8 +12,9 @@ use Rattle.traces.proofs.Members.{none_in}
 use Rattle.row_pool.specs.Pool.{grown}
 use Rattle.repair.specs.declared.slot.Slot.{Slot}
 use Rattle.repair.specs.Slots.{all_slots, behind}
-use Rattle.roster.specs.Roster.{IsRoster, listed}
+use Rattle.roster.specs.Roster.{IsRoster, id_of, listed}
 use Rattle.engine.specs.Solver.{SolverLists}
+use Rattle.event_match.specs.Ends.{AreEndsBy}
 use Rattle.kept_graph.specs.Kept.{IsKeptFor}
 use Rattle.problem.specs.Listing.{Listed}
 use Rattle.queries.specs.Replies.{HasReading}
@@ -64,13 +65,14 @@ first_rows old new none slots source pool =
 
 -- the engine over no node holds the answer where nothing was added
 pub first_stands : (a : Answers) (old : SolverLists) → IsRoster a.graph.roster → IsKeptFor (map (λ (l : Label). []) a.graph.roster.declaration.labels) a.graph.roster a.graph.solver →
-    a.graph.solver.kept.slots ≡ [] → a.graph.solver.kept.source ≡ None → old.pool.rows ≡ [] → a.graph.solver.pool ≡ grown old.pool 4 0 → a.source ≡ None →
+    AreEndsBy (map id_of a.graph.roster.came) a.graph.matcher (map (λ (l : Label). []) a.graph.roster.declaration.labels) → a.graph.solver.kept.slots ≡ [] → a.graph.solver.kept.source ≡ None → old.pool.rows ≡ [] → a.graph.solver.pool ≡ grown old.pool 4 0 → a.source ≡ None →
     AreAnswersOf (map (λ (l : Label). []) a.graph.roster.declaration.labels) [] a
-first_stands a old lawful kept slots source none pool stamp =
+first_stands a old lawful kept ends slots source none pool stamp =
     let nothing = nothing_for a.graph.roster.declaration.labels in
     record {
       lawful = lawful;
       graph = kept;
+      ends = ends;
       slots = no_slots a.graph.roster a.graph.solver.kept.slots slots;
       source_slot = subst (λ (x : Option ℕ). KeepsSource (listed a.graph.roster) (problem_by a (map (λ (l : Label). []) a.graph.roster.declaration.labels)) a.graph.roster.declaration.source x a.graph.solver) (sym stamp)
           (no_source (listed a.graph.roster) a.graph.roster.declaration (map (λ (l : Label). []) a.graph.roster.declaration.labels) a.graph.roster.declaration.source a.graph.solver nothing source);

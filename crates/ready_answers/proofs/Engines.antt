@@ -9,7 +9,7 @@ use Rattle.problem.specs.Listing.{Listed, listed_nodes}
 use Rattle.problem.proofs.ListedNodes.{reading_node}
 use Rattle.decl.specs.Declaration.{IsSource}
 use Rattle.trace_event.specs.Seen.{Seen}
-use Rattle.trace_problem.proofs.Lists.{place_in}
+use Rattle.traces.proofs.Lists.{place_in}
 use Rattle.traces.specs.Messages.{problem_of_seen}
 use Rattle.row_pool.specs.Pool.{free_rows}
 use Rattle.repair.specs.declared.slot.Slot.{Slot}

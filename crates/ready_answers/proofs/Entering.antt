@@ -1,8 +1,9 @@
 -- Events that are brought into a graph.
-use Rattle.std.proofs.Common.{◌≡◌, ◌⊎◌, inl, inr, ℕ, zero, suc, ◌+◌, ◌<◌, ◌≤◌, ◌^◌, List, [], ◌∷◌, ◌++◌, length, drop, slice_get, slice_set, Option, Some, None, true, option_map, refl, sym, ◌∙◌, ap, subst, arith, length-append}
+use Rattle.std.proofs.Common.{◌≡◌, ◌⊎◌, inl, inr, ℕ, zero, suc, ◌+◌, ◌<◌, ◌≤◌, ◌^◌, List, [], ◌∷◌, ◌++◌, length, drop, slice_get, slice_set, Option, Some, None, true, map, option_map, refl, sym, ◌∙◌, ap, subst, arith, length-append}
+use Rattle.std.specs.List.{slice_index_or}
 use Rattle.std.specs.Option.{is_some}
 use Rattle.std.proofs.lemmas.List.{length-map}
-use Rattle.std.proofs.lemmas.Option.{slice_get-map, slice_get_within, get_or_from_slice_get}
+use Rattle.std.proofs.lemmas.Option.{slice_get-map, slice_get-get_or, slice_get_within, get_or_from_slice_get}
 use Rattle.repair.specs.declared.slot.Slot.{Slot}
 use Rattle.decl.specs.Declaration.{Declaration}
 use Rattle.trace_event.specs.Seen.{Seen, seen_event, seen_events}
@@ -13,10 +14,9 @@ use Rattle.traces.specs.Traces.{event_count}
 use Rattle.traces.specs.Held.{seen_in}
 use Rattle.traces.specs.Messages.{problem_of_seen}
 use Rattle.traces.proofs.Ids.{count_appended}
-use Rattle.trace_match.specs.declared.changes.Changes.{Changes}
-use Rattle.trace_match.specs.Ends.{AreChanges}
+use Rattle.event_match.specs.Ends.{AreEndsBy}
 use Rattle.roster.specs.Groups.{group_at}
-use Rattle.roster.specs.Roster.{IsRoster, listed}
+use Rattle.roster.specs.Roster.{IsRoster, id_of, listed}
 use Rattle.engine.specs.Solver.{SolverLists}
 use Rattle.kept_graph.specs.Kept.{IsKeptFor, KeepsEvents, KeepsRows, KeepsReadings, with_more}
 use Rattle.ready_answers.specs.declared.answers.Answers.{Answers}
@@ -51,12 +51,16 @@ last_seen all old events n more are count many =
 pub seen_there : (accepted : List Accepted) (k : ℕ) (a : Accepted) → slice_get accepted k ≡ Some a → slice_get (seen_in accepted) k ≡ Some (seen_events a.events.items)
 seen_there accepted k a at_k = slice_get-map (λ (x : Accepted). seen_events x.events.items) accepted k ∙ ap (option_map (λ (x : Accepted). seen_events x.events.items)) at_k
 
+-- what the code holds at a place
+pub accepted_at : (accepted : List Accepted) (k : ℕ) (a : Accepted) → k < length accepted → a ≡ slice_index_or accepted k a → slice_get accepted k ≡ Some a
+accepted_at accepted k a inside is = slice_get-get_or accepted k a inside ∙ ap (λ (x : Accepted). Some x) (sym is)
+
 set_there : {A : Type 0} (xs : List A) (k : ℕ) (x : A) → k < length xs → slice_get (slice_set xs k x) k ≡ Some x
 set_there [] k x inside = absurd (omega (arith, inside))
 set_there (y ∷ xs) zero x inside = refl
 set_there (y ∷ xs) (suc k) x inside = set_there xs k x (omega (arith, inside))
 
-module _ (accepted : List Accepted) (before : List (List Seen)) (k more : ℕ) (c : Changes) (b : Brings before (seen_in accepted) k more c) where
+module _ (accepted : List Accepted) (before : List (List Seen)) (k more : ℕ) (b : Brings before (seen_in accepted) k more) where
   inside : k < length before
   inside = slice_get_within before k b.own b.was
 
@@ -77,9 +81,6 @@ module _ (accepted : List Accepted) (before : List (List Seen)) (k more : ℕ) (
   more_is events same =
       let own : group_at before k ≡ b.own = get_or_from_slice_get before k b.own [] b.was in
       ap (λ (x : List Seen). slice_set before k (x ++ events)) own ∙ ap (λ (x : List Seen). slice_set before k (b.own ++ x)) same ∙ sym b.is
-
-  pub changes_so : (events : List Seen) → events ≡ b.events → AreChanges before (with_more before k events) c
-  changes_so events same = subst (λ (x : List (List Seen)). AreChanges before x c) (sym (more_is events same)) b.changes
 
   pub count_then : event_count (seen_in accepted) ≡ event_count before + more
   count_then =
@@ -109,17 +110,18 @@ module _ (accepted : List Accepted) (before : List (List Seen)) (k more : ℕ) (
       omega (arith, below, limit)
 
 -- a clock that has a reading then had one, or is that of the label
-pub reads_then : (d : Declaration) (before after : List (List Seen)) (k more : ℕ) (c : Changes) → Brings before after k more c → (clock : ℕ) → HasReading (problem_of_seen d after) clock →
+pub reads_then : (d : Declaration) (before after : List (List Seen)) (k more : ℕ) → Brings before after k more → (clock : ℕ) → HasReading (problem_of_seen d after) clock →
     HasReading (problem_of_seen d before) clock ⊎ (clock_at d k ≡ clock)
-reads_then d before after k more c b clock has = reading_before d before k (b.own ++ b.events) clock (subst (λ (x : List (List Seen)). HasReading (problem_of_seen d x) clock) b.is has)
+reads_then d before after k more b clock has = reading_before d before k (b.own ++ b.events) clock (subst (λ (x : List (List Seen)). HasReading (problem_of_seen d x) clock) b.is has)
 
 -- ---- the answers then
 pub so_far : (label : ℕ) (before : List (List Seen)) (after : List (List Seen)) (kept : List EventId) (a new : Answers) → AreAnswersOf before kept a → IsRoster new.graph.roster → IsKeptFor after new.graph.roster new.graph.solver →
-    new.graph.roster.declaration ≡ a.graph.roster.declaration → KeepsEvents a.graph.roster new.graph.roster → KeepsReadings a.graph.roster new.graph.roster → KeepsRows a.graph.solver new.graph.solver → new.source ≡ a.source →
+    AreEndsBy (map id_of new.graph.roster.came) new.graph.matcher after → new.graph.roster.declaration ≡ a.graph.roster.declaration → KeepsEvents a.graph.roster new.graph.roster → KeepsReadings a.graph.roster new.graph.roster → KeepsRows a.graph.solver new.graph.solver → new.source ≡ a.source →
     ((clock : ℕ) → HasReading (problem_by a after) clock → HasReading (problem_by a before) clock ⊎ (clock_at a.graph.roster.declaration label ≡ clock)) → AreAnswersBut label after kept new
-so_far label before after kept a new are lawful graph declared events readings rows stamp reads = record {
+so_far label before after kept a new are lawful graph ends declared events readings rows stamp reads = record {
   lawful = lawful;
   graph = graph;
+  ends = ends;
   slots = subst (λ (xs : List Slot). AreSlotsOf new.graph.roster kept xs) (sym rows.slots) (slots_kept a.graph.roster new.graph.roster kept a.graph.solver.kept.slots events are.slots);
   source_slot = subst (λ (x : Option ℕ). KeepsSourceBut (clock_at new.graph.roster.declaration label) (listed new.graph.roster) (problem_by new after) new.graph.roster.declaration.source x new.graph.solver) (sym stamp)
       (source_so_far a.graph.roster new.graph.roster (problem_by a before) (problem_by new after) (clock_at new.graph.roster.declaration label) a.graph.roster.declaration.source new.graph.roster.declaration.source a.source a.graph.solver
@@ -137,7 +139,7 @@ module _ (label : ℕ) (seen : List (List Seen)) (kept : List EventId) (a : Answ
   Keeps stamp = KeepsSourceBut (clock_at a.graph.roster.declaration label) (listed a.graph.roster) (problem_by a seen) a.graph.roster.declaration.source stamp a.graph.solver
 
   whole : KeepsSource (listed a.graph.roster) (problem_by a seen) a.graph.roster.declaration.source a.source a.graph.solver → AreAnswersOf seen kept a
-  whole source = record { lawful = are.lawful; graph = are.graph; slots = are.slots; source_slot = source; rows = are.rows }
+  whole source = record { lawful = are.lawful; graph = are.graph; ends = are.ends; slots = are.slots; source_slot = source; rows = are.rows }
 
   -- nothing is lacking where the source has its stamp
   pub known_source : (stamp : ℕ) → a.source ≡ Some stamp → AreAnswersOf seen kept a
@@ -154,10 +156,11 @@ module _ (label : ℕ) (seen : List (List Seen)) (kept : List EventId) (a : Answ
 
   -- nor where it was looked for
   pub looked_for : (s : SolverLists) (stamp : Option ℕ) → a.source ≡ None → TakesForSource a.graph.solver s → s.kept.slots ≡ a.graph.solver.kept.slots →
-      KeepsSource (listed a.graph.roster) (problem_by a seen) a.graph.roster.declaration.source stamp s → AreAnswersOf seen kept (record { graph = record { roster = a.graph.roster; solver = s }; source = stamp })
+      KeepsSource (listed a.graph.roster) (problem_by a seen) a.graph.roster.declaration.source stamp s → AreAnswersOf seen kept (record { graph = record { roster = a.graph.roster; matcher = a.graph.matcher; solver = s }; source = stamp })
   looked_for s stamp none takes slots source = record {
     lawful = are.lawful;
     graph = graph takes;
+    ends = are.ends;
     slots = subst (λ (xs : List Slot). AreSlotsOf a.graph.roster kept xs) (sym slots) are.slots;
     source_slot = source;
     rows = source_spare a.graph.solver s (no_source_slot none) are.rows slots takes;

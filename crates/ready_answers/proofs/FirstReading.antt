@@ -5,7 +5,7 @@ use Rattle.std.proofs.lemmas.List.Elements.{Contains-append_left, Contains-appen
 use Rattle.problem_model.specs.declared.items.Event.{Event}
 use Rattle.decl.specs.Declaration.{Declaration}
 use Rattle.trace_event.specs.Seen.{Seen}
-use Rattle.trace_problem.proofs.Lists.{place_in}
+use Rattle.traces.proofs.Lists.{place_in}
 use Rattle.traces.specs.Traces.{Placed, events_from, events_of, numbered, clock_by}
 use Rattle.traces.specs.Messages.{event_with, problem_of_seen}
 use Rattle.traces.proofs.Members.{head_or_tail, none_in}

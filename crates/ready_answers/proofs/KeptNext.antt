@@ -112,6 +112,7 @@ module _ (seen : List (List Seen)) (kept : List EventId) (a : Answers) (are : Ar
   answers_now kept' s (Kept slot) is = record {
     lawful = are.lawful;
     graph = kept_stays seen a.graph.roster a.graph.solver s is.4 is.5 are.graph;
+    ends = are.ends;
     slots = subst (λ (events : List EventId). AreSlotsOf a.graph.roster events s.kept.slots) (sym is.2)
         (subst (λ (slots : List Slot). AreSlotsOf a.graph.roster (kept ++ event ∷ []) slots) (sym is.3.2)
         (slots_more a.graph.roster are.lawful a.graph.solver.graph are.graph.grown.knows kept a.graph.solver.kept.slots are.slots node event found.known is.3.0 is.3.1));

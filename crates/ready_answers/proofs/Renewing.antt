@@ -1,5 +1,5 @@
 -- What events that are brought in make of what stood ready, and their steps.
-use Rattle.std.proofs.Common.{◌≡◌, ℕ, ◌≤◌, zero, suc, List, [], ◌∷◌, ◌++◌, length, slice_get, slice_set, Option, Some, None, true, refl, sym, ◌∙◌, ap, subst, arith}
+use Rattle.std.proofs.Common.{◌≡◌, ℕ, ◌≤◌, zero, suc, List, [], ◌∷◌, ◌++◌, length, map, slice_get, slice_set, Option, Some, None, true, refl, sym, ◌∙◌, ap, subst, arith}
 use Rattle.std.proofs.lemmas.List.{append-nil}
 use Rattle.problem_model.specs.Problem.{ProblemLists}
 use Rattle.problem.specs.Listing.{Listed}
@@ -8,19 +8,22 @@ use Rattle.sync_graph.specs.Graph.{GraphLists}
 use Rattle.repair.specs.declared.slot.Slot.{Slot}
 use Rattle.engine.specs.Solver.{SolverLists}
 use Rattle.growth.specs.Once.{IsOn}
-use Rattle.kept_graph.specs.Kept.{KeepsRows}
+use Rattle.event_match.specs.Ends.{AreEndsBy}
+use Rattle.kept_graph.specs.Kept.{IsKeptFor, KeepsEvents, KeepsReadings, KeepsRows, with_more}
 use Rattle.kept_graph.specs.Steps.{IsBetween, TakesFewToAdd}
 use Rattle.solver.specs.Solution.{IsSolutionBy}
-use Rattle.trace_event.specs.Seen.{Seen}
-use Rattle.trace_match.specs.declared.changes.Changes.{Changes}
+use Rattle.trace_event.specs.Seen.{Seen, seen_events}
+use Rattle.traces.specs.declared.accepted.Accepted.{Accepted}
+use Rattle.traces.specs.Held.{seen_in}
 use Rattle.traces.specs.declared.event.EventId.{EventId}
 use Rattle.traces.specs.Messages.{problem_of_seen}
-use Rattle.roster.specs.Roster.{listed}
+use Rattle.roster.specs.Roster.{IsRoster, id_of, listed}
 use Rattle.ready_answers.specs.declared.answers.Answers.{Answers}
 use Rattle.ready_answers.specs.Ready.{AreAnswersOf, KeepsSource, IsAddition}
-use Rattle.ready_answers.specs.Keeping.{Brings, BringsSource}
+use Rattle.ready_answers.specs.Keeping.{AreAnswersBut, Brings, BringsSource}
 use Rattle.replies.proofs.Elements.{some_same}
 use Rattle.ready_answers.proofs.AskedRows.{listed_reading}
+use Rattle.ready_answers.proofs.Entering.{brought, more_is, reads_then, so_far}
 
 -- ---- the source
 -- a source that has no slot has none where no event came
@@ -57,15 +60,15 @@ nothing_of [] n long none = refl
 nothing_of (x ∷ xs) n long none = absurd (omega (arith, long, none))
 
 -- without a new event all events are those from before
-same_events : (before after : List (List Seen)) (k more : ℕ) (c : Changes) → Brings before after k more c → more ≡ 0 → after ≡ before
-same_events before after k more c b none =
+same_events : (before after : List (List Seen)) (k more : ℕ) → Brings before after k more → more ≡ 0 → after ≡ before
+same_events before after k more b none =
     b.is ∙ ap (λ (x : List Seen). slice_set before k (b.own ++ x)) (nothing_of b.events more b.count none) ∙ ap (λ (x : List Seen). slice_set before k x) (append-nil b.own) ∙ set_back before k b.own b.was
 
 -- so the source has its slot or none as before
-pub source_idle : (before after : List (List Seen)) (kept : List EventId) (a new : Answers) (k more : ℕ) (c : Changes) → AreAnswersOf before kept a → AreAnswersOf after kept new → Brings before after k more c →
+pub source_idle : (before after : List (List Seen)) (kept : List EventId) (a new : Answers) (k more : ℕ) → AreAnswersOf before kept a → AreAnswersOf after kept new → Brings before after k more →
     new.graph.roster.declaration ≡ a.graph.roster.declaration → ((slot : Slot) → a.graph.solver.kept.source ≡ Some slot → new.graph.solver.kept.source ≡ Some slot) → more ≡ 0 → new.graph.solver.kept.source ≡ a.graph.solver.kept.source
-source_idle before after kept a new k more c are are' b declared stays none =
-    source_same before kept a new are (subst (λ (x : List (List Seen)). AreAnswersOf x kept new) (same_events before after k more c b none) are') declared stays
+source_idle before after kept a new k more are are' b declared stays none =
+    source_same before kept a new are (subst (λ (x : List (List Seen)). AreAnswersOf x kept new) (same_events before after k more b none) are') declared stays
 
 -- ---- what the graph is brought, and then the source's slot
 again : (old mid new between : SolverLists) → new.graph ≡ mid.graph → IsBetween old mid between → IsBetween old new between
@@ -91,3 +94,23 @@ addition_is events n old mid new first between last count rows some few nothing 
       (subst (λ (m : ℕ). TakesFewToAdd events old mid first m) (sym none.1) (subst (λ (m : ℕ). TakesFewToAdd m old mid first between) count few)) solved solved' source);
   nothing = λ none solved. (let same = brings.idle (idle none ∙ sym rows.source) in subst (λ (m : ℕ). m ≤ first) (sym same.1) (nothing none solved));
 }
+
+-- ---- the answers with the events that came last under a label
+module _ (accepted : List Accepted) (k more : ℕ) (under : Accepted) (at : slice_get accepted k ≡ Some under) (events : List Seen)
+    (last : (own came : List Seen) → seen_events under.events.items ≡ own ++ came → length came ≡ more → events ≡ came) where
+  -- all events are then those before and these
+  pub all_then : (before : List (List Seen)) → Brings before (seen_in accepted) k more → with_more before k events ≡ seen_in accepted
+  all_then before b = more_is accepted before k more b events (last b.own b.events (brought accepted before k more b under at) b.count)
+
+  -- where the graph was brought these events, the answers are those of all but for the source
+  pub but_source : (before : List (List Seen)) (kept : List EventId) (a new : Answers) → AreAnswersOf before kept a → Brings before (seen_in accepted) k more → IsRoster new.graph.roster →
+      ((seen : List (List Seen)) → IsKeptFor seen a.graph.roster a.graph.solver → AreEndsBy (map id_of a.graph.roster.came) a.graph.matcher seen → IsKeptFor (with_more seen k events) new.graph.roster new.graph.solver) →
+      ((seen : List (List Seen)) → IsKeptFor seen a.graph.roster a.graph.solver → AreEndsBy (map id_of a.graph.roster.came) a.graph.matcher seen → AreEndsBy (map id_of new.graph.roster.came) new.graph.matcher (with_more seen k events)) →
+      new.graph.roster.declaration ≡ a.graph.roster.declaration → KeepsEvents a.graph.roster new.graph.roster → KeepsReadings a.graph.roster new.graph.roster → KeepsRows a.graph.solver new.graph.solver → new.source ≡ a.source →
+      AreAnswersBut k (seen_in accepted) kept new
+  but_source before kept a new are b lawful graph ends declared ids readings rows stamp =
+      let is : with_more before k events ≡ seen_in accepted = all_then before b in
+      so_far k before (seen_in accepted) kept a new are lawful
+      (subst (λ (seen : List (List Seen)). IsKeptFor seen new.graph.roster new.graph.solver) is (graph before are.graph are.ends))
+      (subst (λ (seen : List (List Seen)). AreEndsBy (map id_of new.graph.roster.came) new.graph.matcher seen) is (ends before are.graph are.ends))
+      declared ids readings rows stamp (reads_then a.graph.roster.declaration before (seen_in accepted) k more b)

@@ -11,7 +11,7 @@ use Rattle.problem.specs.Listing.{name_at}
 use Rattle.problem.proofs.ListedNodes.{map_at}
 use Rattle.problem.proofs.Taking.{one_place}
 use Rattle.trace_event.specs.Seen.{Seen}
-use Rattle.trace_problem.proofs.Lists.{place_in}
+use Rattle.traces.proofs.Lists.{place_in}
 use Rattle.traces.specs.declared.event.EventId.{EventId}
 use Rattle.traces.specs.Traces.{event_count, name_of}
 use Rattle.sync_graph.specs.Graph.{GraphLists}

@@ -1,17 +1,16 @@
 -- What keeping nodes and asking questions change of an engine.
-use Rattle.std.specs.Prelude.{◌≡◌, ◌⊎◌, ℕ, ◌+◌, ◌<◌, List, [], ◌∷◌, ◌++◌, length, slice_get, slice_set, Option, Some, None, ⊤}
+use Rattle.std.specs.Prelude.{◌≡◌, ◌⊎◌, ℕ, ◌+◌, ◌<◌, List, [], ◌∷◌, ◌++◌, length, map, slice_get, slice_set, Option, Some, None, ⊤}
 use Rattle.row_pool.specs.Pool.{free_rows}
 use Rattle.repair.specs.declared.slot.Slot.{Slot}
 use Rattle.engine.specs.Solver.{SolverLists}
 use Rattle.engine.specs.Changes.{KeepsAnswer, LeavesTaken}
 use Rattle.engine.specs.Current.{IsCurrent}
 use Rattle.problem.specs.Listing.{Listed}
-use Rattle.roster.specs.Roster.{RosterLists, IsRoster, listed}
+use Rattle.roster.specs.Roster.{RosterLists, IsRoster, id_of, listed}
 use Rattle.kept_graph.specs.Kept.{IsKeptFor}
 use Rattle.queries.specs.Asking.{IsKept, IsSourceReading}
 use Rattle.trace_event.specs.Seen.{Seen}
-use Rattle.trace_match.specs.declared.changes.Changes.{Changes}
-use Rattle.trace_match.specs.Ends.{AreChanges}
+use Rattle.event_match.specs.Ends.{AreEndsBy}
 use Rattle.traces.specs.declared.event.EventId.{EventId}
 use Rattle.decl.specs.Declaration.{Declaration}
 use Rattle.problem_model.specs.Problem.{ProblemLists}
@@ -74,14 +73,13 @@ abbrev pub HasSlotBy : RosterLists → SolverLists → List ℕ → Type 0
 HasSlotBy r s name = (event : EventId) × (node : ℕ) × IsCalled r name event node × IsKept s node
 
 -- ---- more events
--- the events of each label are these with so many more under one of them, and messages change so
-pub record Brings (before after : List (List Seen)) (label more : ℕ) (c : Changes) : Type 0 where
+-- the events of each label are these with so many more under one of them
+pub record Brings (before after : List (List Seen)) (label more : ℕ) : Type 0 where
   pub own : List Seen
   pub events : List Seen
   pub count : length events ≡ more
   pub was : slice_get before label ≡ Some own
   pub is : after ≡ slice_set before label (own ++ events)
-  pub changes : AreChanges before after c
 
 -- the clock of the label at a place
 abbrev pub clock_at : Declaration → ℕ → ℕ
@@ -98,6 +96,7 @@ KeepsSourceBut on l p (Some clock) (Some stamp) s = IsSourceReading l s clock st
 pub record AreAnswersBut (label : ℕ) (seen : List (List Seen)) (kept : List EventId) (a : Answers) : Type 0 where
   pub lawful : IsRoster a.graph.roster
   pub graph : IsKeptFor seen a.graph.roster a.graph.solver
+  pub ends : AreEndsBy (map id_of a.graph.roster.came) a.graph.matcher seen
   pub slots : AreSlotsOf a.graph.roster kept a.graph.solver.kept.slots
   pub source_slot : KeepsSourceBut (clock_at a.graph.roster.declaration label) (listed a.graph.roster) (problem_by a seen) a.graph.roster.declaration.source a.source a.graph.solver
   pub rows : HasSpareRows a.graph.solver

@@ -1,5 +1,5 @@
 -- What stands ready for questions.
-use Rattle.std.specs.Prelude.{◌≡◌, ℕ, ◌+◌, ◌*◌, ◌≤◌, List, length, slice_get, true, Option, Some, None}
+use Rattle.std.specs.Prelude.{◌≡◌, ℕ, ◌+◌, ◌*◌, ◌≤◌, List, length, map, slice_get, true, Option, Some, None}
 use Rattle.trace_event.specs.Seen.{Seen}
 use Rattle.traces.specs.declared.event.EventId.{EventId}
 use Rattle.traces.specs.Messages.{problem_of_seen}
@@ -11,6 +11,7 @@ use Rattle.repair.specs.Slots.{all_slots}
 use Rattle.engine.specs.Solver.{SolverLists}
 use Rattle.roster.specs.declared.came.Came.{Came}
 use Rattle.roster.specs.Roster.{RosterLists, IsRoster, id_of, listed}
+use Rattle.event_match.specs.Ends.{AreEndsBy}
 use Rattle.kept_graph.specs.Kept.{IsKeptFor}
 use Rattle.kept_graph.specs.Steps.{IsBetween, TakesFewToAdd}
 use Rattle.queries.specs.Asking.{IsSourceReading}
@@ -47,11 +48,12 @@ HasSpareRows s = (2 * length s.kept.slots + 4 ≤ length s.pool.rows) × (length
 abbrev pub problem_by : Answers → List (List Seen) → ProblemLists
 problem_by a seen = problem_of_seen a.graph.roster.declaration seen
 
--- the answers are those of these events: the graph is kept for them, with the rows of the kept events and of the source, and
--- the stamp of the source's reading
+-- the answers are those of these events: the graph is kept for them and the matcher has their ends of messages, with the rows of the
+-- kept events and of the source, and the stamp of the source's reading
 pub record AreAnswersOf (seen : List (List Seen)) (kept : List EventId) (a : Answers) : Type 0 where
   pub lawful : IsRoster a.graph.roster
   pub graph : IsKeptFor seen a.graph.roster a.graph.solver
+  pub ends : AreEndsBy (map id_of a.graph.roster.came) a.graph.matcher seen
   pub slots : AreSlotsOf a.graph.roster kept a.graph.solver.kept.slots
   pub source_slot : KeepsSource (listed a.graph.roster) (problem_by a seen) a.graph.roster.declaration.source a.source a.graph.solver
   pub rows : HasSpareRows a.graph.solver

@@ -6,6 +6,7 @@ ghost use Rattle.trace_event.specs.Seen.{Seen, seen_events};
 ghost use Rattle.traces.specs.declared.event.EventId.{EventId};
 ghost use Rattle.traces.specs.Traces.{event_count};
 ghost use Rattle.traces.specs.Held.{seen_in};
+ghost use Rattle.event_match.specs.Ends.{IsChange};
 ghost use Rattle.roster.specs.Roster.{IsRoster};
 ghost use Rattle.queries.specs.Consistent.{IsConsistent};
 ghost use Rattle.replies.specs.Reply.{most_kept};
@@ -15,22 +16,32 @@ ghost use Rattle.ready_answers.specs.Keeping.{AreAnswersBut, Brings, BringsSourc
 use crate::slots::keep_source;
 use atto::{Nano, Steps};
 use decl::Decl;
+use event_match::Changed;
 use kept_graph::KeptGraph;
 use queries::is_consistent;
 use std::alloc::{AllocError, Global};
 use std::sync::ledger::Ledger;
 use trace_event::Event;
-use trace_match::Changes;
 use traces::Accepted;
 
-/// The graph of all that was added, with its declaration, and with the rows of the kept events and of the source.
+/// The graph of all that was added, with its declaration and the ends of messages, and with the rows of the kept events and of the
+/// source.
 #[derive(Drop)]
 pub struct Answers {
-    /// The graph, with its declaration and the rows.
+    /// The graph, with its declaration, the ends of messages and the rows.
     pub graph: KeptGraph,
     /// The stamp, in ns, of the source's reading whose rows are kept. None where there is no source, or its clock has no
     /// reading.
     pub source: Option<Nano>,
+}
+
+/// What came of events that were brought in.
+#[derive(Clone, Copy, Debug)]
+pub struct Renewed {
+    /// Whether some execution obeys all bounds.
+    pub consistent: bool,
+    /// How many messages came with the events, and how many went.
+    pub changed: Changed,
 }
 
 /// How many rows there are for so many kept events: two for each, two for the source, and two for a question.
@@ -91,6 +102,7 @@ fn keep_source_now<L: Ledger>(answers: &mut Answers, k: usize, steps: &mut Steps
     requires label { k < length answers.old.graph.roster.declaration.labels }
     requires so_far { (seen : List (List Seen)) × (kept : List EventId) × AreAnswersBut k seen kept answers.old }
     ensures roster { answers.new.graph.roster ≡ answers.old.graph.roster }
+    ensures matcher { answers.new.graph.matcher ≡ answers.old.graph.matcher }
     ensures source { BringsSource answers.old.graph.solver answers.new.graph.solver steps.old steps.new }
     ensures ready { (seen : List (List Seen)) (kept : List EventId) → AreAnswersBut k seen kept answers.old → AreAnswersOf seen kept answers.new }
 {
@@ -110,29 +122,33 @@ fn keep_source_now<L: Ledger>(answers: &mut Answers, k: usize, steps: &mut Steps
     );
 }
 
-/// Brings the events into the graph that came last under the label at a place, and tells whether some execution obeys all
-/// bounds. It answers an error only where memory runs out, and then the graph is used no more.
+/// Brings the events into the graph that came last under the label at a place, so many, and tells whether some execution obeys all
+/// bounds and how the messages changed. It answers an error only where memory runs out, and then the graph is used no more.
 pub fn renew<L: Ledger>(
     answers: &mut Answers,
     accepted: &[Accepted],
     k: usize,
     more: usize,
-    changes: &Changes,
     steps: &mut Steps<L>,
-) -> Result<bool, AllocError>
+) -> Result<Renewed, AllocError>
     requires inside { k < length accepted.now }
     requires few { event_count (seen_in accepted.now) ≤ 2 ^ 21 }
-    requires brings { (before : List (List Seen)) × (kept : List EventId) × AreAnswersOf before kept answers.old × Brings before (seen_in accepted.now) k more changes.now }
+    requires brings { (before : List (List Seen)) × (kept : List EventId) × AreAnswersOf before kept answers.old × Brings before (seen_in accepted.now) k more }
     ensures declaration { answers.new.graph.roster.declaration ≡ answers.old.graph.roster.declaration }
-    ensures consistent { IfOk result (λ b. IsConsistent (problem_by answers.new (seen_in accepted.now)) b) }
-    ensures ready { OnOk result ((before : List (List Seen)) (kept : List EventId) → AreAnswersOf before kept answers.old → Brings before (seen_in accepted.now) k more changes.now
+    ensures consistent { IfOk result (λ renewed. IsConsistent (problem_by answers.new (seen_in accepted.now)) renewed.consistent) }
+    ensures changed { IfOk result (λ renewed. (before : List (List Seen)) (kept : List EventId) → AreAnswersOf before kept answers.old → Brings before (seen_in accepted.now) k more
+        → IsChange before (seen_in accepted.now) renewed.changed) }
+    ensures ready { OnOk result ((before : List (List Seen)) (kept : List EventId) → AreAnswersOf before kept answers.old → Brings before (seen_in accepted.now) k more
         → AreAnswersOf (seen_in accepted.now) kept answers.new) }
     ensures addition { OnOk result (IsAddition more answers.old.graph.solver answers.new.graph.solver steps.old steps.new) }
 {
     let events = newest(&accepted[k], more);
-    answers.graph.add(k as u32, events, changes, steps)?;
+    let changed = answers.graph.add(k as u32, events, steps)?;
     // It tells that the roster is lawful.
     let _ = decl_of(answers);
     keep_source_now(answers, k, steps);
-    Ok(is_consistent(&answers.graph.solver))
+    Ok(Renewed {
+        consistent: is_consistent(&answers.graph.solver),
+        changed,
+    })
 }

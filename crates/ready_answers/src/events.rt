@@ -1,5 +1,5 @@
 // Events of a roster by their names.
-ghost use Rattle.std.specs.Prelude.{◌⊎◌, ℕ, None, IfSome, IfNone};
+ghost use Rattle.std.specs.Prelude.{◌⊎◌, None, IfSome, IfNone};
 ghost use Rattle.traces.specs.declared.event.EventId.{EventId};
 ghost use Rattle.roster.specs.Roster.{Finds};
 ghost use Rattle.ready_answers.specs.Keeping.{IsCalled};

@@ -60,6 +60,7 @@ pub fn keep_event<L: Ledger>(
     ensures replies { (seen : List (List Seen)) → AreKept seen kept.old.items → AreAnswersOf seen kept.old.items answers.old
         → IfOk result (λ outcome. KeepReply (problem_by answers.old seen) seen kept.old.items name.now (outcome_line outcome) kept.new.items) }
     ensures roster { answers.new.graph.roster ≡ answers.old.graph.roster }
+    ensures matcher { answers.new.graph.matcher ≡ answers.old.graph.matcher }
     ensures kept { (seen : List (List Seen)) → AreKept seen kept.old.items → AreAnswersOf seen kept.old.items answers.old → AreKept seen kept.new.items }
     ensures ready { OnOk result ((seen : List (List Seen)) → AreKept seen kept.old.items → AreAnswersOf seen kept.old.items answers.old → AreAnswersOf seen kept.new.items answers.new) }
 {

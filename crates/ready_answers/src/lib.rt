@@ -1,4 +1,5 @@
-//! What a session keeps ready for questions: the graph of all that was added, with the rows of the kept events and of the source.
+//! What a session keeps ready for questions: the graph of all that was added, with the ends of messages and the rows of the kept events
+//! and of the source.
 //!
 //! `renew` brings the events and messages of an addition into the graph, and gives the source its rows when its first reading
 //! comes. `keep_event` gives an event its rows. `ask_interval`, `ask_order`, `ask_proof` and `ask_time` answer questions about
@@ -11,6 +12,6 @@ mod keeping;
 mod questions;
 mod slots;
 
-pub use answers::{Answers, decl_of, first_answers, renew};
+pub use answers::{Answers, Renewed, decl_of, first_answers, renew};
 pub use keeping::keep_event;
 pub use questions::{ask_interval, ask_order, ask_proof, ask_time};

@@ -43,7 +43,7 @@ fn first_reading(roster: &Roster, clock: u32) -> Option<(Nano, u32)>
     Some((stamp, node))
 }
 
-// Keeps the rows of the first reading of a clock, and answers its stamp.
+// Keeps the rows of the first reading of a clock, and answers its stamp, in ns; None where the clock has no reading.
 fn keep_reading<L: Ledger>(
     solver: &mut Solver,
     roster: &Roster,
@@ -68,7 +68,8 @@ fn keep_reading<L: Ledger>(
     }
 }
 
-/// Keeps the rows of a reading of the source's clock, where there are a source and such a reading, and answers its stamp.
+/// Keeps the rows of a reading of the source's clock, and answers its stamp, in ns; None where there is no source, or its clock has no
+/// reading.
 pub(crate) fn keep_source<L: Ledger>(
     solver: &mut Solver,
     roster: &Roster,

@@ -18,7 +18,7 @@ use Rattle.trace_event.specs.Seen.{Seen, seen_row, event_of_packet}
 use Rattle.traces.specs.declared.event.EventId.{EventId}
 use Rattle.traces.specs.Traces.{Trace, Captured, Logged, Traces, IsOfKind, event_count, nothing_for, seen_by, seen_of}
 use Rattle.traces.specs.Messages.{problem_of}
-use Rattle.trace_problem.specs.Making.{StampsFit}
+use Rattle.traces.specs.Making.{StampsFit}
 use Rattle.queries.specs.Replies.{IsIntervalLine, IsOrderLine, IsProofText}
 use Rattle.replies.specs.declared.refusal.Refusal.TheVariants.{NoCommand, TooManyBytes, TooManyEvents}
 use Rattle.replies.specs.Commands.{Command, Add, Interval, Order, Time, Merge, Prove, Keep, Problem, Report, Asks}

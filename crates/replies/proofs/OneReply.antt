@@ -24,7 +24,7 @@ use Rattle.trace_event.specs.Seen.{Seen}
 use Rattle.traces.specs.declared.event.EventId.{EventId}
 use Rattle.traces.specs.Traces.{Trace, Captured, Traces, seen_under, seen_by}
 use Rattle.traces.specs.Messages.{missing, problem_of, problem_of_seen}
-use Rattle.trace_problem.proofs.Seen.{problem_lawful}
+use Rattle.traces.proofs.Seen.{problem_lawful}
 use Rattle.queries.specs.Consistent.{IsConsistent}
 use Rattle.queries.specs.Replies.{HasReading, IsIntervalLine, IsOrderLine, IsProofText, IsTimeLine, Replies}
 use Rattle.merging.specs.Merged.{IsMergeText}

@@ -6,7 +6,7 @@ use Rattle.problem.specs.Line.{HasEvent}
 use Rattle.decl.specs.declared.items.Label.{Label}
 use Rattle.decl.specs.Declaration.{Declaration}
 use Rattle.traces.specs.Traces.{Trace, IsOfKind, seen_by}
-use Rattle.trace_problem.specs.Making.{StampsFit}
+use Rattle.traces.specs.Making.{StampsFit}
 use Rattle.queries.specs.Replies.{IsContradictionText}
 use Rattle.replies.specs.Commands.{Command, Add, Interval, Order, Time, Merge, Prove, Keep, Problem, Report, Asks}
 use Rattle.replies.specs.Reply.{State, count_by, AreKept}

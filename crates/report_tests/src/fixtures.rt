@@ -1,5 +1,5 @@
 // Declarations, logs and texts that several modules use.
-ghost use Rattle.std.specs.Prelude.{◌≡◌, IfSome};
+ghost use Rattle.std.specs.Prelude.{IfSome};
 ghost use Rattle.decl.specs.Declaration.{IsDeclaration, declaration_of};
 
 use decl::{Decl, read_decl};
@@ -26,17 +26,6 @@ pub(crate) fn declared(alloc: Global, text: &[u8]) -> Option<Decl>
     read_decl(alloc, text).ok()
 }
 
-// These events, accepted from a piece of so many bytes.
-pub(crate) fn accepted(events: Vec<Event>, size: u64) -> Accepted
-    ensures { result.events.items ≡ events.items }
-{
-    Accepted {
-        events,
-        size,
-        stream: Stream::Log,
-    }
-}
-
 // The events of a log with this text.
 pub(crate) fn events_of_log(alloc: Global, text: &[u8]) -> Option<Vec<Event>> {
     if text.len() > 1 << 28 {
@@ -49,5 +38,9 @@ pub(crate) fn events_of_log(alloc: Global, text: &[u8]) -> Option<Vec<Event>> {
 // What is accepted of a log with this text.
 pub(crate) fn log_of(alloc: Global, text: &[u8]) -> Option<Accepted> {
     let events = events_of_log(alloc, text)?;
-    Some(accepted(events, text.len() as u64))
+    Some(Accepted {
+        events,
+        size: text.len() as u64,
+        stream: Stream::Log,
+    })
 }

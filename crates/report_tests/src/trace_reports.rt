@@ -1,29 +1,30 @@
 // Reports on small traces, byte for byte. The lines were made by another JSON writer (Python's json), with sorted keys.
-ghost use Rattle.std.specs.Prelude.{◌≡◌, ◌≤◌, [], IfOk, OnOk};
+ghost use Rattle.std.specs.Prelude.{◌≤◌, IfOk};
+ghost use Rattle.decl.specs.Declaration.{IsDeclaration, declaration_of};
 ghost use Rattle.traces.specs.Held.{seen_in};
-ghost use Rattle.trace_match.specs.Ends.{AreEndsOf};
+ghost use Rattle.plain_traces.specs.Added.{AreAdded};
 
-use crate::fixtures::{EMPTY_REPORT, accepted, declared, events_of_log};
+use crate::fixtures::{EMPTY_REPORT, declared, events_of_log};
 use arrayvec::ArrayVec;
 use atto::Nano;
 use captures::Packet;
 use decl::Decl;
 use event_log::WordKey;
 use ip_headers::PacketKey;
+use plain_traces::Additions;
 use report::report_line;
 use std::alloc::{AllocError, Global};
 use std::test::*;
 use trace_event::{Event, Key, packet_events};
-use trace_match::{TraceMatcher, ends_grow};
 use trace_report::{key_text, view_of};
-use traces::{Accepted, event_count};
+use traces::event_count;
 use wide_headers::WideKey;
 
-// Captures at the hosts a and b, and logs there.
+// Captures at the hosts a and b, a log at a and two at b.
 const DECLARATION: &[u8] =
     b"payload_bytes = 16\n[hosts.a]\naddresses = ['10.1.2.3']\n[hosts.b]\naddresses = ['192.168.3.254']\n[labels]\n\
     ca = { host = 'a', kind = 'capture' }\ncb = { host = 'b', kind = 'capture' }\nla = { host = 'a', kind = 'log' }\n\
-    lb = { host = 'b', kind = 'log' }\n";
+    lb = { host = 'b', kind = 'log' }\nlc = { host = 'b', kind = 'log' }\n";
 
 // UDP from a to b, without a payload.
 const OVER: [u8; 28] = [
@@ -66,12 +67,12 @@ const LENGTH: [u8; 20] = [
 // A frame by its link type and its bytes.
 type Frame = (u16, &'static [u8]);
 
-// The frames captured at each host, the logs there, how many events are added to which label, turn by turn, and the line of
+// The frames captured at each host, the three logs, how many events are added to which label, turn by turn, and the line of
 // the report.
 #[derive(Clone, Copy)]
 struct Case {
     frames: [&'static [Frame]; 2],
-    logs: [&'static [u8]; 2],
+    logs: [&'static [u8]; 3],
     turns: &'static [(u32, u32)],
     consistent: bool,
     line: &'static str,
@@ -79,7 +80,7 @@ struct Case {
 
 const NOTHING: Case = Case {
     frames: [&[], &[]],
-    logs: [b"", b""],
+    logs: [b"", b"", b""],
     turns: &[],
     consistent: true,
     line: EMPTY_REPORT,
@@ -91,6 +92,7 @@ const SECOND_SEND: Case = Case {
     logs: [
         b"1,send,m1,\n2,send,m2,\n3,send,m1,\n",
         b"5,receive,m1,\n6,receive,m2,\n",
+        b"",
     ],
     turns: &[(3, 1), (2, 1), (3, 1), (2, 2)],
     consistent: true,
@@ -105,6 +107,7 @@ const ALONE: Case = Case {
     logs: [
         b"1,send,a,\n2,local,,x\n3,local,,\n",
         b"1,receive,b,\n2,send,c,\n2,send,c,\n3,local,,\n",
+        b"",
     ],
     turns: &[(3, 4), (2, 3)],
     consistent: false,
@@ -118,6 +121,7 @@ const ORDER: Case = Case {
     logs: [
         b"1,send,z,\n2,send,a,\n3,send,z,\n4,send,a,\n",
         b"1,receive,a,\n2,receive,z,\n",
+        b"",
     ],
     turns: &[(3, 2), (2, 4)],
     consistent: true,
@@ -134,6 +138,7 @@ const IN_TURN: Case = Case {
     logs: [
         b"1,send,q,\n2,receive,p,\n3,send,p,\n",
         b"1,send,p,\n2,receive,q,\n3,send,q,\n4,receive,p,\n5,send,p,\n",
+        b"",
     ],
     turns: &[(3, 3), (2, 1), (3, 2), (2, 2)],
     consistent: true,
@@ -141,6 +146,38 @@ const IN_TURN: Case = Case {
     \"receives\":[\"la#2\",\"lb#4\"],\"sends\":[\"la#3\",\"lb#1\",\"lb#5\"]}],\"consistent\":true,\"events\":8,\"messages\":0,\
     \"nokey\":{\"fragment\":0,\"header\":0,\"length\":0,\"link\":0,\"local\":0,\"other\":0,\"short\":0,\"side\":0},\
     \"unmatched\":0}\n",
+};
+
+// Over and back between three labels: the sends of a key stand by label, and came otherwise.
+const OVER_AND_BACK: Case = Case {
+    frames: [&[], &[]],
+    logs: [
+        b"1,local,,\n2,send,m,\n3,receive,n,\n4,send,k,\n5,send,n,\n6,local,,\n",
+        b"1,receive,m,\n2,local,,\n3,send,n,\n",
+        b"1,send,n,\n2,receive,k,\n",
+    ],
+    turns: &[(3, 3), (2, 3), (4, 0), (2, 2), (4, 2), (2, 1)],
+    consistent: true,
+    line: "{\"ambiguous\":[{\"key\":\"log n\",\"receives\":[\"la#3\"],\"sends\":[\"la#5\",\"lb#3\",\"lc#1\"]}],\
+    \"consistent\":true,\"events\":11,\"messages\":2,\"nokey\":{\"fragment\":0,\"header\":0,\"length\":0,\
+    \"link\":0,\"local\":3,\"other\":0,\"short\":0,\"side\":0},\"unmatched\":0}\n",
+};
+
+// Four keys that came in the order of their letters: the last label to come has the first events of three of them.
+const FOUR_KEYS: Case = Case {
+    frames: [&[], &[]],
+    logs: [
+        b"1,send,c,\n2,receive,b,\n3,send,e,\n4,receive,e,\n5,send,a,\n",
+        b"1,receive,c,\n2,receive,a,\n3,receive,b,\n4,send,d,\n5,receive,d,\n6,receive,d,\n",
+        b"1,send,a,\n2,send,b,\n3,send,c,\n4,receive,a,\n",
+    ],
+    turns: &[(4, 4), (3, 3), (3, 3), (2, 5)],
+    consistent: true,
+    line: "{\"ambiguous\":[{\"key\":\"log c\",\"receives\":[\"lb#1\"],\"sends\":[\"la#1\",\"lc#3\"]},{\"key\":\"log b\",\
+    \"receives\":[\"la#2\",\"lb#3\"],\"sends\":[\"lc#2\"]},{\"key\":\"log a\",\"receives\":[\"lb#2\",\"lc#4\"],\
+    \"sends\":[\"la#5\",\"lc#1\"]},{\"key\":\"log d\",\"receives\":[\"lb#5\",\"lb#6\"],\"sends\":[\"lb#4\"]}],\
+    \"consistent\":true,\"events\":15,\"messages\":1,\"nokey\":{\"fragment\":0,\"header\":0,\"length\":0,\
+    \"link\":0,\"local\":0,\"other\":0,\"short\":0,\"side\":0},\"unmatched\":0}\n",
 };
 
 // Packets with keys, and some of each kind without; a word is not the payload that is spelled like it.
@@ -164,7 +201,7 @@ const PACKETS: Case = Case {
         ],
         &[(101, &SEGMENT), (101, &OVER), (101, &BACK), (101, &SEGMENT)],
     ],
-    logs: [b"1,send,m,\n", b"1,local,,\n"],
+    logs: [b"1,send,m,\n", b"1,local,,\n", b""],
     turns: &[(1, 3), (0, 10), (3, 1), (1, 1), (2, 1), (0, 4)],
     consistent: true,
     line: "{\"ambiguous\":[{\"key\":\"udp 10.1.2.3:5000 192.168.3.254:6000 id 7 length 8 payload -\",\"receives\":[\"cb#2\"],\
@@ -175,7 +212,16 @@ const PACKETS: Case = Case {
     \"unmatched\":1}\n",
 };
 
-const CASES: [Case; 6] = [NOTHING, SECOND_SEND, ALONE, ORDER, IN_TURN, PACKETS];
+const CASES: [Case; 8] = [
+    NOTHING,
+    SECOND_SEND,
+    ALONE,
+    ORDER,
+    IN_TURN,
+    OVER_AND_BACK,
+    FOUR_KEYS,
+    PACKETS,
+];
 
 fn packets_of(alloc: Global, frames: &[Frame]) -> Option<Vec<Packet>> {
     let mut packets = Vec::new(alloc);
@@ -203,61 +249,12 @@ fn events_backward(alloc: Global, decl: &Decl, case: &Case) -> Option<Vec<Vec<Ev
     let at_b = captured(alloc, decl, 1, case.frames[1])?;
     let of_a = events_of_log(alloc, case.logs[0])?;
     let of_b = events_of_log(alloc, case.logs[1])?;
-    let mut labels = Vec::from_array(alloc, [at_a, at_b, of_a, of_b]).ok()?;
+    let of_c = events_of_log(alloc, case.logs[2])?;
+    let mut labels = Vec::from_array(alloc, [at_a, at_b, of_a, of_b, of_c]).ok()?;
     for events in &mut labels {
         events.reverse();
     }
     Some(labels)
-}
-
-// What was accepted under four labels, and the ends of messages among it.
-#[derive(Drop)]
-struct Kept {
-    matcher: TraceMatcher,
-    labels: Vec<Accepted>,
-}
-
-fn nothing(alloc: Global) -> Accepted
-    ensures { result.events.items ≡ [] }
-{
-    accepted(Vec::new(alloc), 0)
-}
-
-fn none_kept(alloc: Global) -> Result<Kept, AllocError>
-    ensures { IfOk result (λ kept. AreEndsOf kept.matcher (seen_in kept.labels.items)) }
-{
-    ends_grow();
-    let labels = [
-        nothing(alloc),
-        nothing(alloc),
-        nothing(alloc),
-        nothing(alloc),
-    ];
-    let labels = Vec::from_array(alloc, labels)?;
-    let matcher = TraceMatcher::new(alloc);
-    Ok(Kept { matcher, labels })
-}
-
-// Adds events to a label and to the ends of messages.
-fn add_more(kept: &mut Kept, label: u32, mut events: Vec<Event>) -> Result<(), AllocError>
-    requires { AreEndsOf kept.old.matcher (seen_in kept.old.labels.items) }
-    ensures { OnOk result (AreEndsOf kept.new.matcher (seen_in kept.new.labels.items)) }
-{
-    ends_grow();
-    if event_count(&kept.labels) > 1000 || events.len() > 1000 {
-        return Err(AllocError);
-    }
-    if label as usize >= kept.labels.len() {
-        return Err(AllocError);
-    }
-    let under = &mut kept.labels[label as usize];
-    let before = under.events.len();
-    if before > 1000 {
-        return Err(AllocError);
-    }
-    let _changes = kept.matcher.add(label, before as u32 + 1, &events)?;
-    under.events.append(&mut events)?;
-    Ok(())
 }
 
 // The next events of those that are left.
@@ -275,31 +272,49 @@ fn next_events(alloc: Global, left: &mut Vec<Event>, count: u32) -> Result<Vec<E
 // Events added turn by turn: to which label, and how many of those that are left for it.
 fn added_in_turn(
     alloc: Global,
+    decl: Decl,
     left: &mut [Vec<Event>],
     turns: &[(u32, u32)],
-) -> Result<Kept, AllocError>
-    ensures { IfOk result (λ kept. AreEndsOf kept.matcher (seen_in kept.labels.items)) }
+) -> Result<Additions, AllocError>
+    requires { IsDeclaration (declaration_of decl) }
+    ensures { IfOk result (λ kept. AreAdded kept.roster kept.matcher (seen_in kept.labels.items)) }
 {
-    let mut kept = none_kept(alloc)?;
+    let mut kept = Additions::new(alloc, decl)?;
     for (label, count) in turns {
         if *label as usize >= left.len() {
             return Err(AllocError);
         }
         let events = next_events(alloc, &mut left[*label as usize], *count)?;
-        add_more(&mut kept, *label, events)?;
+        let _change = kept.add(*label, events)?;
     }
     Ok(kept)
+}
+
+// The line of the report on what came.
+fn report_on(alloc: Global, kept: &Additions, consistent: bool) -> Option<Vec<u8>>
+    requires { AreAdded kept.now.roster kept.now.matcher (seen_in kept.now.labels.items) }
+{
+    let decl = kept.roster.decl();
+    if kept.labels.len() != decl.labels.len() || event_count(&kept.labels) > 1 << 21 {
+        return None;
+    }
+    let view = view_of(
+        alloc,
+        decl,
+        &kept.labels,
+        &kept.roster,
+        &kept.matcher,
+        consistent,
+    )
+    .ok()?;
+    report_line(alloc, &view).ok()
 }
 
 fn line_of(alloc: Global, case: &Case) -> Option<Vec<u8>> {
     let decl = declared(alloc, DECLARATION)?;
     let mut left = events_backward(alloc, &decl, case)?;
-    let kept = added_in_turn(alloc, &mut left, case.turns).ok()?;
-    if kept.labels.len() != decl.labels.len() || event_count(&kept.labels) > 1 << 21 {
-        return None;
-    }
-    let view = view_of(alloc, &decl, &kept.labels, &kept.matcher, case.consistent).ok()?;
-    report_line(alloc, &view).ok()
+    let kept = added_in_turn(alloc, decl, &mut left, case.turns).ok()?;
+    report_on(alloc, &kept, case.consistent)
 }
 
 fn has_line(alloc: Global, case: &Case) -> bool {

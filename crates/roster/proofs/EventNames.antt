@@ -14,8 +14,8 @@ use Rattle.decl.specs.declared.items.Label.{Label}
 use Rattle.decl.specs.Declaration.{Declaration, IsDeclaration}
 use Rattle.traces.specs.declared.event.EventId.{EventId}
 use Rattle.traces.specs.Traces.{name_of}
-use Rattle.trace_problem.proofs.Lists.{got, all_at}
-use Rattle.trace_problem.proofs.Names.{one_place, name_at}
+use Rattle.traces.proofs.Lists.{got, all_at}
+use Rattle.traces.proofs.Names.{one_place, name_at}
 use Rattle.roster.specs.declared.came.Came.{Came}
 use Rattle.roster.specs.Groups.{total, sizes_of, group_at}
 use Rattle.roster.specs.Names.{IsCutAt}

@@ -7,7 +7,7 @@ use Rattle.std.proofs.lemmas.List.Quantifiers.{position-Some}
 use Rattle.std.proofs.lemmas.Option.{none-some, same_Some, get_or_from_slice_get}
 use Rattle.std.proofs.lemmas.Slice.Eq.{bytes_eq-Decides}
 use Rattle.decl.specs.declared.items.Label.{Label}
-use Rattle.trace_problem.proofs.Lists.{got}
+use Rattle.traces.proofs.Lists.{got}
 
 module _ (name : List ℕ) where
   abbrev HasName : Label → Bool

@@ -7,8 +7,8 @@ use Rattle.problem_model.specs.Name.{IsClockName}
 use Rattle.atto.specs.Decimal.{decimal_of}
 use Rattle.decl.specs.declared.items.Label.{Label}
 use Rattle.traces.specs.Traces.{name_of}
-use Rattle.trace_problem.proofs.Lists.{all_at}
-use Rattle.trace_problem.proofs.Names.{name_at}
+use Rattle.traces.proofs.Lists.{all_at}
+use Rattle.traces.proofs.Names.{name_at}
 use Rattle.roster.specs.declared.came.Came.{Came}
 use Rattle.roster.specs.Groups.{total, sizes_of, group_at, IsPlaceOf}
 use Rattle.roster.specs.Readings.{Stamped}

@@ -11,7 +11,7 @@ use Rattle.decl.specs.Declaration.{Declaration, IsDeclaration, IsClockOf}
 use Rattle.traces.specs.declared.event.EventId.{EventId}
 use Rattle.traces.specs.Traces.{clock_by, clock_of}
 use Rattle.traces.proofs.Members.{here, there, head_or_tail, none_in}
-use Rattle.trace_problem.proofs.Lists.{all_at}
+use Rattle.traces.proofs.Lists.{all_at}
 use Rattle.roster.specs.declared.came.Came.{Came}
 use Rattle.roster.specs.Groups.{group_at}
 use Rattle.roster.specs.Readings.{Stamped, Rise, HasStamp, Joins}

@@ -7,7 +7,7 @@ use Rattle.decl.specs.Declaration.{Declaration}
 use Rattle.trace_event.specs.Seen.{Seen}
 use Rattle.traces.specs.declared.event.EventId.{EventId}
 use Rattle.traces.specs.Traces.{clock_of}
-use Rattle.trace_problem.proofs.Lists.{place_in}
+use Rattle.traces.proofs.Lists.{place_in}
 use Rattle.roster.specs.declared.came.Came.{Came}
 use Rattle.roster.specs.Groups.{total, group_at}
 use Rattle.roster.specs.Readings.{Stamped, Rise, HasStamp}

@@ -6,7 +6,7 @@ use crate::roster::Roster;
 use atto::Nano;
 use problem::Listing;
 use problem_model::Name;
-use trace_problem::event_name;
+use traces::event_name;
 
 // The reading at a place of its clock.
 fn reading_of(readings: &[(Nano, u32)], place: u32) -> (Nano, u32)

@@ -1,5 +1,5 @@
 // The readings of one clock, in the order of their stamps, and how more come among them.
-ghost use Rattle.std.specs.Prelude.{◌≡◌, ◌<◌, ◌≤◌, ◌+◌, ◌++◌, ◌∷◌, ◌^◌, [], ℕ, List, length, take, drop, slice_get, Some, All, IfSome, IfNone, IfOk, OnOk};
+ghost use Rattle.std.specs.Prelude.{◌≡◌, ◌<◌, ◌≤◌, ◌+◌, ◌++◌, ◌∷◌, [], ℕ, List, length, take, slice_get, Some, All, IfSome, IfNone, IfOk, OnOk};
 ghost use Rattle.roster.specs.Readings.{Stamped, Rise, HasStamp, IsLastUnder, IsFirstOver, IsFirstStamp, IsLastStamp, stamps_of, Joins, AreFresh, AreBefore, AreSorted};
 
 use atto::Nano;

@@ -16,10 +16,9 @@ use Rattle.traces.specs.declared.accepted.Stream.{Stream}
 use Rattle.traces.specs.Held.{seen_in}
 use Rattle.traces.specs.Traces.{Trace, size_of, seen_of, seen_by, IsOfKind, event_count, events_of}
 use Rattle.traces.specs.Messages.{messages_of, missing, problem_of, problem_of_seen}
-use Rattle.trace_match.specs.declared.changes.Changed.{Changed}
-use Rattle.trace_match.specs.declared.changes.Changes.{Changes}
+use Rattle.event_match.specs.declared.changes.Changed.{Changed}
 use Rattle.ready_answers.specs.declared.answers.Answers.{Answers}
-use Rattle.trace_match.specs.Ends.{End, AreEndsOf, AreChanges, IsChange}
+use Rattle.event_match.specs.Ends.{IsChange}
 use Rattle.queries.specs.Consistent.{IsConsistent}
 use Rattle.replies.specs.declared.refusal.Refusal.TheVariants.{TooManyEvents}
 use Rattle.replies.specs.Refusals.{refusal_line}
@@ -257,10 +256,9 @@ module _ (accepted new : List Accepted) (k : ℕ) (events : List Seen) (size : �
 
 -- ---- what a session holds then
 -- all that is known of what a session holds
-abbrev pub IsWhole : List Accepted → List EventId → Bool → Answers → List End → Type 0
-IsWhole accepted kept ready a ends =
-    IsHeld (held_of a.graph.roster.declaration accepted kept (solver_of ready a)) × AreEndsOf ends (seen_in accepted) × AreKept (seen_in accepted) kept
-    × (ready ≡ true → AreAnswersOf (seen_in accepted) kept a)
+abbrev pub IsWhole : List Accepted → List EventId → Bool → Answers → Type 0
+IsWhole accepted kept ready a =
+    IsHeld (held_of a.graph.roster.declaration accepted kept (solver_of ready a)) × AreKept (seen_in accepted) kept × (ready ≡ true → AreAnswersOf (seen_in accepted) kept a)
 
 -- answers of all events are of what is held
 kept_up : (accepted : List Accepted) (kept : List EventId) (answers : Option SolverLists) (a : Answers) → AreAnswersOf (seen_in accepted) kept a → IsKeptUp (held_of a.graph.roster.declaration accepted kept answers) a.graph.solver
@@ -290,36 +288,33 @@ held_ready accepted kept false a limits are = held_by limits tt
 pub never_ready : (ready : Bool) (P : Type 0) → ready ≡ false → ready ≡ true → P
 never_ready ready P is not = let both : false ≡ true = sym is ∙ not in absurd cc
 
-pub whole_same : (d : Declaration) (accepted new then : List Accepted) (kept : List EventId) (before : Option SolverLists) (ready : Bool) (a : Answers) (ends : List End) → a.graph.roster.declaration ≡ d → then ≡ new →
-    map under_of new ≡ map under_of accepted → IsWithinLimits (held_of d accepted kept before) → AreKept (seen_in accepted) kept → AreEndsOf ends (seen_in new) → ready ≡ false → IsWhole then kept ready a ends
-whole_same d accepted new then kept before ready a ends declared is stays held lawful are none =
+pub whole_same : (d : Declaration) (accepted new then : List Accepted) (kept : List EventId) (before : Option SolverLists) (ready : Bool) (a : Answers) → a.graph.roster.declaration ≡ d → then ≡ new →
+    map under_of new ≡ map under_of accepted → IsWithinLimits (held_of d accepted kept before) → AreKept (seen_in accepted) kept → ready ≡ false → IsWhole then kept ready a
+whole_same d accepted new then kept before ready a declared is stays held lawful none =
     let seen : seen_in then ≡ seen_in accepted = ap seen_in is ∙ sym (seen_accepted new) ∙ ap seen_held stays ∙ seen_accepted accepted in
     let never = never_ready ready (AreAnswersOf (seen_in then) kept a) none in (
       held_ready then kept ready a (held_same (held_of d accepted kept before) (held_of a.graph.roster.declaration then kept (solver_of ready a)) held declared (ap (map under_of) is ∙ stays)) never,
-      subst (λ (l : List Accepted). AreEndsOf ends (seen_in l)) (sym is) are,
       subst (λ (x : List (List Seen)). AreKept x kept) (sym seen) lawful,
       never,
     )
 
-pub whole_grown : (d : Declaration) (accepted new then : List Accepted) (kept : List EventId) (before : Option SolverLists) (ready : Bool) (a : Answers) (held : Held) (k : ℕ) (events : List Seen) (size : ℕ) (stream : Stream)
-    (ends : List End) → Extended d accepted new kept before held k events size stream → a.graph.roster.declaration ≡ d → then ≡ new → IsWithinLimits (held_of d accepted kept before) → AreKept (seen_in accepted) kept →
-    AreEndsOf ends (seen_in new) → (ready ≡ true → AreAnswersOf (seen_in then) kept a) → IsWhole then kept ready a ends
-whole_grown d accepted new then kept before ready a held k events size stream ends e declared is was lawful are answers =
+pub whole_grown : (d : Declaration) (accepted new then : List Accepted) (kept : List EventId) (before : Option SolverLists) (ready : Bool) (a : Answers) (held : Held) (k : ℕ) (events : List Seen) (size : ℕ) (stream : Stream) →
+    Extended d accepted new kept before held k events size stream → a.graph.roster.declaration ≡ d → then ≡ new → IsWithinLimits (held_of d accepted kept before) → AreKept (seen_in accepted) kept →
+    (ready ≡ true → AreAnswersOf (seen_in then) kept a) → IsWhole then kept ready a
+whole_grown d accepted new then kept before ready a held k events size stream e declared is was lawful answers =
     let more : IsWithinLimits (held_of d new kept (solver_of ready a)) = held_extended d accepted new kept before held k events size stream e (solver_of ready a) was in
     let limits : IsWithinLimits (held_of a.graph.roster.declaration then kept (solver_of ready a)) =
     subst (λ (x : Declaration). IsWithinLimits (held_of x then kept (solver_of ready a))) (sym declared) (subst (λ (l : List Accepted). IsWithinLimits (held_of d l kept (solver_of ready a))) (sym is) more) in (
       held_ready then kept ready a limits answers,
-      subst (λ (l : List Accepted). AreEndsOf ends (seen_in l)) (sym is) are,
       subst (λ (l : List Accepted). AreKept (seen_in l) kept) (sym is) (kept_then accepted new k events size stream e.grew kept lawful),
       answers,
     )
 
 -- and where other events are kept, or the engine changed
-pub whole_kept : (d : Declaration) (accepted : List Accepted) (kept kept' : List EventId) (before : Option SolverLists) (ready : Bool) (a : Answers) (ends : List End) → a.graph.roster.declaration ≡ d →
-    IsWithinLimits (held_of d accepted kept before) → AreEndsOf ends (seen_in accepted) → AreKept (seen_in accepted) kept' → (ready ≡ true → AreAnswersOf (seen_in accepted) kept' a) → IsWhole accepted kept' ready a ends
-whole_kept d accepted kept kept' before ready a ends declared held are lawful answers = (
+pub whole_kept : (d : Declaration) (accepted : List Accepted) (kept kept' : List EventId) (before : Option SolverLists) (ready : Bool) (a : Answers) → a.graph.roster.declaration ≡ d →
+    IsWithinLimits (held_of d accepted kept before) → AreKept (seen_in accepted) kept' → (ready ≡ true → AreAnswersOf (seen_in accepted) kept' a) → IsWhole accepted kept' ready a
+whole_kept d accepted kept kept' before ready a declared held lawful answers = (
   held_ready accepted kept' ready a (held_same (held_of d accepted kept before) (held_of a.graph.roster.declaration accepted kept' (solver_of ready a)) held declared refl) answers,
-  are,
   lawful,
   answers,
 )
@@ -330,9 +325,9 @@ pub whole_few : (d : Declaration) (accepted new : List Accepted) (kept : List Ev
 whole_few d accepted new kept before held k events size stream e was = accepted_few d new kept None (held_extended d accepted new kept before held k events size stream e None was)
 
 -- ---- what the graph is brought
-pub brings : (accepted new : List Accepted) (k more : ℕ) (events : List Seen) (size : ℕ) (stream : Stream) (c : Changes) → IsGrownAt (map under_of accepted) (map under_of new) k events size stream → more ≡ length events →
-    AreChanges (seen_in accepted) (seen_in new) c → Brings (seen_in accepted) (seen_in new) k more c
-brings accepted new k more events size stream c grew count changes =
+pub brings : (accepted new : List Accepted) (k more : ℕ) (events : List Seen) (size : ℕ) (stream : Stream) → IsGrownAt (map under_of accepted) (map under_of new) k events size stream → more ≡ length events →
+    Brings (seen_in accepted) (seen_in new) k more
+brings accepted new k more events size stream grew count =
     let before : seen_held (map under_of accepted) ≡ seen_in accepted = seen_accepted accepted in
     record {
       own = grew.at.events;
@@ -340,5 +335,4 @@ brings accepted new k more events size stream c grew count changes =
       count = sym count;
       was = subst (λ (x : List (List Seen)). slice_get x k ≡ Some grew.at.events) before (seen_then_at accepted new k events size stream grew);
       is = sym (seen_accepted new) ∙ seen_then_is accepted new k events size stream grew ∙ ap (λ (x : List (List Seen)). slice_set x k (grew.at.events ++ events)) before;
-      changes = changes;
     }

@@ -8,9 +8,8 @@ use Rattle.std.proofs.lemmas.Option.{slice_get-map, slice_get-get_or, slice_get_
 use Rattle.std.proofs.Math.Seq.{map-set}
 use Rattle.captures.specs.Feeding.{taken}
 use Rattle.trace_event.specs.Seen.{Seen, seen_event, seen_events}
-use Rattle.traces.specs.Traces.{event_count, numbered}
+use Rattle.traces.specs.Traces.{event_count}
 use Rattle.traces.specs.Held.{seen_in}
-use Rattle.trace_match.specs.Ends.{End, ends_of, AreEndsOf}
 use Rattle.traces.specs.declared.accepted.Accepted.{Accepted}
 use Rattle.traces.specs.declared.event.EventId.{EventId}
 use Rattle.engine.specs.Solver.{SolverLists}
@@ -115,39 +114,6 @@ pub stream_within : (held : Held) (d : Declaration) (host k : ℕ) (u : Under) (
 stream_within held d host k u next piece events is at_k says v at_v =
     subst (λ (x : Under). IsWithin next (x.size + length piece)) (some_same u v (sym at_k ∙ at_v))
     (says_within d host u.stream next piece events u.size (fits_at held.under k u is.fit at_k).1 says)
-
--- ---- the ends of messages
--- with events that are added to those of a label, their ends are added
-abbrev pub EndsGrow : Type 0
-EndsGrow = (seen : List (List Seen)) (label : ℕ) (old more : List Seen) (ends : List End) → slice_get seen label ≡ Some old → AreEndsOf ends seen →
-    AreEndsOf (ends ++ ends_of (numbered label (length old + 1) more)) (slice_set seen label (old ++ more))
-
-seen_set_at : (accepted : List Accepted) (k : ℕ) (new : Accepted) (events : List Seen) → seen_events new.events.items ≡ events → seen_in (slice_set accepted k new) ≡ slice_set (seen_in accepted) k events
-seen_set_at accepted k new events is = map-set (λ (x : Accepted). seen_events x.events.items) accepted k new ∙ ap (λ (s : List Seen). slice_set (seen_in accepted) k s) is
-
-pub ends_then : (accepted : List Accepted) (k : ℕ) (a new : Accepted) (more : List Seen) (ends ends' : List End) → EndsGrow → slice_get accepted k ≡ Some a →
-    seen_events new.events.items ≡ seen_events a.events.items ++ more → ends' ≡ ends ++ ends_of (numbered k (length a.events.items + 1) more) → AreEndsOf ends (seen_in accepted) →
-    AreEndsOf ends' (seen_in (slice_set accepted k new))
-ends_then accepted k a new more ends ends' grow at_k events_are ends_are are =
-    let then = grow (seen_in accepted) k (seen_events a.events.items) more ends (seen_there accepted k a at_k) are in
-    let number : length (seen_events a.events.items) ≡ length a.events.items = length-map a.events.items seen_event in
-    let counted : ends ++ ends_of (numbered k (length (seen_events a.events.items) + 1) more) ≡ ends' =
-    ap (λ (n : ℕ). ends ++ ends_of (numbered k (n + 1) more)) number ∙ sym ends_are in
-    let seen : slice_set (seen_in accepted) k (seen_events a.events.items ++ more) ≡ seen_in (slice_set accepted k new) = sym (seen_set_at accepted k new (seen_events a.events.items ++ more) events_are) in
-    subst (λ (es : List End). AreEndsOf es (seen_in (slice_set accepted k new))) counted
-    (subst (λ (s : List (List Seen)). AreEndsOf (ends ++ ends_of (numbered k (length (seen_events a.events.items) + 1) more)) s) seen then)
-
-seen_kept : (accepted : List Accepted) (k : ℕ) (a new : Accepted) → slice_get accepted k ≡ Some a → seen_events new.events.items ≡ seen_events a.events.items → seen_in (slice_set accepted k new) ≡ seen_in accepted
-seen_kept [] k a new at_k is = absurd cc
-seen_kept (x ∷ accepted) zero a new at_k is = ap (λ (s : List Seen). s ∷ seen_in accepted) (is ∙ ap (λ (y : Accepted). seen_events y.events.items) (sym (some_same x a at_k)))
-seen_kept (x ∷ accepted) (suc k) a new at_k is = ap (λ (s : List (List Seen)). seen_events x.events.items ∷ s) (seen_kept accepted k a new at_k is)
-
--- and where all stays, so do they
-pub ends_stay : (accepted : List Accepted) (k : ℕ) (a new : Accepted) (ends ends' : List End) → slice_get accepted k ≡ Some a → seen_events new.events.items ≡ seen_events a.events.items → ends' ≡ ends →
-    AreEndsOf ends (seen_in accepted) → AreEndsOf ends' (seen_in (slice_set accepted k new))
-ends_stay accepted k a new ends ends' at_k events_are ends_are are =
-    subst (λ (es : List End). AreEndsOf es (seen_in (slice_set accepted k new))) (sym ends_are)
-    (subst (λ (s : List (List Seen)). AreEndsOf ends s) (sym (seen_kept accepted k a new at_k events_are)) are)
 
 -- a label has no more events than all have
 pub label_few : (accepted : List Accepted) (k more most : ℕ) (a : Accepted) → slice_get accepted k ≡ Some a → event_count (seen_in accepted) + more ≤ most → length a.events.items + more ≤ most

@@ -45,9 +45,6 @@ accepted_few d accepted kept answers held = subst (λ (seen : List (List Seen)).
 pub accepted_each : (d : Declaration) (accepted : List Accepted) (kept : List EventId) (answers : Option SolverLists) → IsWithinLimits (held_of d accepted kept answers) → length accepted ≡ length d.labels
 accepted_each d accepted kept answers held = sym (length-map accepted under_of) ∙ held.each
 
-pub labels_few : (d : Declaration) (accepted : List Accepted) (kept : List EventId) (answers : Option SolverLists) → IsWithinLimits (held_of d accepted kept answers) → length accepted ≤ 65536
-labels_few d accepted kept answers held = let each = accepted_each d accepted kept answers held in let few = held.declared.limits.label_limit in omega (arith, each, few)
-
 -- whether there is room for more events, by what the code holds
 pub room_by : (accepted : List Accepted) (n : ℕ) (r b : Bool) → r ≡ nat_le (event_count (seen_in accepted) + n) (2 ^ 21) → r ≡ b →
     nat_le (event_count (seen_held (map under_of accepted)) + n) (2 ^ 21) ≡ b

@@ -6,7 +6,6 @@ use Rattle.trace_event.specs.Seen.{Seen, seen_events}
 use Rattle.traces.specs.declared.accepted.Accepted.{Accepted}
 use Rattle.traces.specs.declared.event.EventId.{EventId}
 use Rattle.traces.specs.Held.{seen_in}
-use Rattle.trace_match.specs.Ends.{End, AreEndsOf}
 use Rattle.ready_answers.specs.declared.answers.Answers.{Answers}
 use Rattle.replies.specs.Reply.{AreKept}
 use Rattle.ready_answers.specs.Ready.{AreAnswersOf}
@@ -24,13 +23,12 @@ nothing_under a accepted empty =
     all_nothing (map (λ (l : Label). []) labels) (seen_in accepted) (nothing_for labels) (nothing_seen accepted labels empty)
     (length-map labels (λ (l : Label). let e : List Seen = [] in e) ∙ sym (each_empty (map under_of accepted) labels empty) ∙ length-map accepted under_of ∙ sym (length-map accepted (λ (x : Accepted). seen_events x.events.items)))
 
-pub whole_start : (accepted : List Accepted) (kept : List EventId) (a : Answers) (ends : List End) → AreEmpty (map under_of accepted) a.graph.roster.declaration.labels →
-    AreAnswersOf (map (λ (l : Label). []) a.graph.roster.declaration.labels) [] a → kept ≡ [] → AreEndsOf ends (seen_in accepted) → IsWhole accepted kept true a ends
-whole_start accepted kept a ends empty are none of =
+pub whole_start : (accepted : List Accepted) (kept : List EventId) (a : Answers) → AreEmpty (map under_of accepted) a.graph.roster.declaration.labels →
+    AreAnswersOf (map (λ (l : Label). []) a.graph.roster.declaration.labels) [] a → kept ≡ [] → IsWhole accepted kept true a
+whole_start accepted kept a empty are none =
     let here : AreAnswersOf (seen_in accepted) kept a = subst (λ (events : List EventId). AreAnswersOf (seen_in accepted) events a) (sym none)
     (subst (λ (x : List (List Seen)). AreAnswersOf x [] a) (nothing_under a accepted empty) are) in (
       held_ready accepted kept true a (held_start (held_of a.graph.roster.declaration accepted kept (solver_of true a)) are.lawful.declared empty) (λ e. here),
-      of,
       subst (λ (events : List EventId). AreKept (seen_in accepted) events) (sym none) (none_kept (seen_in accepted)),
       λ e. here,
     )

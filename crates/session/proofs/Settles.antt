@@ -23,7 +23,7 @@ use Rattle.traces.specs.declared.event.EventId.{EventId}
 use Rattle.traces.specs.Traces.{Placed, events_of}
 use Rattle.traces.specs.Messages.{place_of, event_with}
 use Rattle.traces.proofs.Ids.{ids_differ}
-use Rattle.trace_problem.proofs.Places.{place_is}
+use Rattle.traces.proofs.Places.{place_is}
 use Rattle.sync_graph.specs.declared.arc.Arc.{Arc}
 use Rattle.engine.specs.Solver.{SolverLists}
 use Rattle.solver.specs.Solution.{HasContradictionBy}

@@ -9,7 +9,7 @@ use Rattle.trace_event.specs.Seen.{Seen}
 use Rattle.traces.specs.declared.accepted.Stream.{Stream}
 use Rattle.traces.specs.declared.accepted.Stream.TheVariants as streams
 use Rattle.traces.specs.Traces.{Trace, IsOfKind, seen_of, size_of}
-use Rattle.trace_match.specs.declared.changes.Changed.{Changed}
+use Rattle.event_match.specs.declared.changes.Changed.{Changed}
 use Rattle.queries.specs.Consistent.{IsConsistent}
 use Rattle.replies.specs.Commands.{Command}
 use Rattle.problem_model.specs.Problem.{ProblemLists}

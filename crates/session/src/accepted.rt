@@ -1,9 +1,6 @@
 // What was accepted under the labels.
-ghost use Rattle.std.specs.Prelude.{◌≡◌, ◌<◌, ◌≤◌, ◌+◌, ◌-◌, ◌^◌, ◌++◌, ◌&&◌, List, length, map, nat_le, OnOk, OnErr, IfOk};
-ghost use Rattle.trace_event.specs.Seen.{Seen, seen_events};
-ghost use Rattle.traces.specs.Traces.{event_count, numbered};
-ghost use Rattle.traces.specs.Held.{seen_in};
-ghost use Rattle.trace_match.specs.Ends.{ends_of, AreEndsOf, AreChanges};
+ghost use Rattle.std.specs.Prelude.{◌≡◌, ◌<◌, ◌≤◌, ◌+◌, ◌-◌, ◌^◌, ◌++◌, ◌&&◌, length, map, nat_le, OnOk, OnErr, IfOk};
+ghost use Rattle.trace_event.specs.Seen.{seen_events};
 ghost use Rattle.session.specs.Stands.{under_of, waiting, kind_of};
 ghost use Rattle.session.specs.Inside.{AreEmpty, IsNewStream, HasPlace, IsGrownAt};
 
@@ -12,7 +9,6 @@ use captures::CaptureStream;
 use decl::{Label, TraceKind};
 use std::alloc::{AllocError, Global};
 use trace_event::Event;
-use trace_match::{Changes, TraceMatcher, ends_grow};
 use traces::{Accepted, Stream};
 
 // What is kept under a label of this kind of which nothing came yet.
@@ -66,59 +62,32 @@ pub(crate) fn room_left(count: u32) -> u64
     MOST_EVENTS - u64::from(count)
 }
 
-// Appends events to those of a label, and to the ends of messages. It answers how the messages change; for want of memory all
-// stays.
-fn append(
-    held: &mut Vec<Event>,
-    matcher: &mut TraceMatcher,
-    label: u32,
-    mut events: Vec<Event>,
-) -> Result<Changes, AllocError>
-    requires few { length matcher.old + length events.items ≤ 2 ^ 22 }
-    requires numbers { length held.old.items + length events.items ≤ 2 ^ 21 }
-    ensures held_ok { OnOk result (seen_events held.new.items ≡ seen_events held.old.items ++ seen_events events.items) }
-    ensures held_err { OnErr result (seen_events held.new.items ≡ seen_events held.old.items) }
-    ensures ends_ok { OnOk result (matcher.new ≡ matcher.old ++ ends_of (numbered label (length held.old.items + 1) (seen_events events.items))) }
-    ensures ends_err { OnErr result (matcher.new ≡ matcher.old) }
-    ensures changes { IfOk result (λ changes. (before after : List (List Seen)) → AreEndsOf matcher.old before → AreEndsOf matcher.new after → AreChanges before after changes) }
+// Appends events to those of a label; for want of memory all stays.
+fn append(held: &mut Vec<Event>, mut events: Vec<Event>) -> Result<(), AllocError>
+    ensures grown { OnOk result (seen_events held.new.items ≡ seen_events held.old.items ++ seen_events events.items) }
+    ensures stays { OnErr result (seen_events held.new.items ≡ seen_events held.old.items) }
 {
-    let old = held.len();
-    held.append(&mut events)?;
-    match matcher.add(label, old as u32 + 1, &held[old..]) {
-        Ok(changes) => Ok(changes),
-        Err(error) => {
-            held.truncate(old);
-            Err(error)
-        }
-    }
+    held.append(&mut events)
 }
 
-/// Appends events to those of the label at a place, which came in so many bytes, and to the ends of messages, and notes
-/// what is then kept of its bytes. It answers how the messages change; for want of memory all stays.
+/// Appends events to those of the label at a place, which came in so many bytes, and notes what is then kept of its bytes; for
+/// want of memory all stays.
 pub(crate) fn extend(
     accepted: &mut [Accepted],
-    matcher: &mut TraceMatcher,
     k: usize,
     events: Vec<Event>,
     size: u64,
     stream: Stream,
-) -> Result<Changes, AllocError>
+) -> Result<(), AllocError>
     requires inside { k < length accepted.old }
-    requires labels { length accepted.old ≤ 65536 }
     requires place { HasPlace (map under_of accepted.old) k size }
-    requires few { event_count (seen_in accepted.old) + length events.items ≤ 2 ^ 21 }
-    requires ends { AreEndsOf matcher.old (seen_in accepted.old) }
     ensures grown { OnOk result (IsGrownAt (map under_of accepted.old) (map under_of accepted.new) k (seen_events events.items) size stream) }
     ensures stays { OnErr result (map under_of accepted.new ≡ map under_of accepted.old) }
-    ensures ends { AreEndsOf matcher.new (seen_in accepted.new) }
-    ensures changes { IfOk result (λ changes. AreChanges (seen_in accepted.old) (seen_in accepted.new) changes) }
     ensures len { length accepted.new ≡ length accepted.old }
 {
-    // It tells of what the ends are with more events.
-    ends_grow();
     let under = &mut accepted[k];
-    let changes = append(&mut under.events, matcher, k as u32, events)?;
+    append(&mut under.events, events)?;
     under.size += size;
     under.stream = stream;
-    Ok(changes)
+    Ok(())
 }

@@ -156,16 +156,9 @@ impl Session {
         let pending = waiting(&stream);
         // What stood ready is of fewer events.
         self.ready = false;
-        let changes = extend(
-            &mut self.accepted,
-            &mut self.matcher,
-            k,
-            events,
-            size,
-            stream,
-        )?;
-        let consistent = renew(&mut self.answers, &self.accepted, k, more, &changes, steps)?;
+        extend(&mut self.accepted, k, events, size, stream)?;
+        let renewed = renew(&mut self.answers, &self.accepted, k, more, steps)?;
         self.ready = true;
-        Ok(outcome_of(consistent, more as u64, pending, changes.counts()))
+        Ok(outcome_of(renewed.consistent, more as u64, pending, renewed.changed))
     }
 }

@@ -6,8 +6,8 @@ ghost use Rattle.session.specs.Inside.{IsAddedTo};
 ghost use Rattle.replies.specs.Outcomes.{outcome_line};
 ghost use Rattle.session.specs.TakingInside.{WhereAdded};
 
+use event_match::Changed;
 use replies::{Added, Outcome};
-use trace_match::Changed;
 
 /// What is told of an addition of so many events, behind which so many bytes wait, by whether some execution obeys all
 /// bounds and how the messages changed.

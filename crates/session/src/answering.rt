@@ -3,7 +3,6 @@ ghost use Rattle.std.specs.Prelude.{◌≡◌, ◌≤◌, ◌^◌, List, Option,
 ghost use Rattle.traces.specs.declared.event.EventId.{EventId};
 ghost use Rattle.traces.specs.Traces.{event_count};
 ghost use Rattle.traces.specs.Held.{seen_in};
-ghost use Rattle.trace_match.specs.Ends.{AreEndsOf};
 ghost use Rattle.engine.specs.Solver.{SolverLists};
 ghost use Rattle.queries.specs.declared.stop.Stop.TheVariants as stops;
 ghost use Rattle.replies.specs.Commands.{TakesMemory};
@@ -24,15 +23,12 @@ use replies::Question;
 use roster_text::write_roster;
 use std::alloc::Global;
 use std::sync::ledger::Ledger;
-use trace_match::TraceMatcher;
 use traces::Accepted;
 
-/// Writes the answer to a question about what was accepted, of which the matcher has the ends of messages, and these are the
-/// answers.
+/// Writes the answer to a question about what was accepted, of which these are the answers.
 pub(crate) fn answer<O: Sink, L: Ledger>(
     alloc: Global,
     accepted: &[Accepted],
-    matcher: &TraceMatcher,
     answers: &mut Answers,
     question: Question,
     out: &mut O,
@@ -40,7 +36,6 @@ pub(crate) fn answer<O: Sink, L: Ledger>(
 ) -> Result<(), Stop>
     requires labels { length accepted.now ≡ length answers.old.graph.roster.declaration.labels }
     requires few { event_count (seen_in accepted.now) ≤ 2 ^ 21 }
-    requires ends { AreEndsOf matcher.now (seen_in accepted.now) }
     requires ready { (kept : List EventId) × AreAnswersOf (seen_in accepted.now) kept answers.old }
     ensures writes { WritesReply (λ IsWritten. (kept : List EventId) (before after : Option SolverLists)
         → Asked (held_of answers.old.graph.roster.declaration accepted.now kept before) (held_of answers.old.graph.roster.declaration accepted.now kept after) (question_seen question.entry) IsWritten)
@@ -52,6 +47,7 @@ pub(crate) fn answer<O: Sink, L: Ledger>(
     ensures steps { IsAnsweredFromSlots answers.old.graph.roster answers.old.graph.solver (question_seen question.entry) → steps.new ≡ steps.old }
 {
     let names = &answers.graph.roster;
+    let matcher = &answers.graph.matcher;
     let solver = &mut answers.graph.solver;
     match question {
         Question::Interval { first, second } => {
@@ -66,6 +62,8 @@ pub(crate) fn answer<O: Sink, L: Ledger>(
             written(ask_proof(names, solver, first, second, out, steps))
         }
         Question::Problem => written(write_roster(names, out)),
-        Question::Report => { write_report(alloc, names.decl(), accepted, matcher, solver, out) }
+        Question::Report => {
+            write_report(alloc, names.decl(), accepted, names, matcher, solver, out)
+        }
     }
 }

@@ -1,12 +1,13 @@
 // The report on all events.
-ghost use Rattle.std.specs.Prelude.{◌≡◌, ◌≤◌, ◌^◌, length, IsErrOf};
+ghost use Rattle.std.specs.Prelude.{◌≡◌, ◌≤◌, ◌^◌, length, map, IsErrOf};
 ghost use Rattle.ports.specs.Content.{WritesSuch};
 ghost use Rattle.decl.specs.Declaration.{IsDeclaration, declaration_of};
 ghost use Rattle.traces.specs.Traces.{event_count};
 ghost use Rattle.traces.specs.Held.{seen_in};
 ghost use Rattle.traces.specs.Messages.{problem_of_seen};
-ghost use Rattle.trace_match.specs.Ends.{AreEndsOf};
+ghost use Rattle.event_match.specs.Ends.{AreEndsBy};
 ghost use Rattle.problem.specs.Listing.{Listed};
+ghost use Rattle.roster.specs.Roster.{id_of};
 ghost use Rattle.solver.specs.Solution.{IsSolutionBy};
 ghost use Rattle.queries.specs.declared.stop.Stop.TheVariants as stops;
 ghost use Rattle.replies.specs.Reply.{IsReport};
@@ -14,33 +15,36 @@ ghost use Rattle.replies.specs.Reply.{IsReport};
 use crate::lines::write_line;
 use decl::Decl;
 use engine::Solver;
+use msg_match::Matcher;
 use ports::Sink;
 use queries::{Stop, is_consistent};
 use report::report_line;
+use roster::Roster;
 use std::alloc::Global;
-use trace_match::TraceMatcher;
 use trace_report::view_of;
 use traces::Accepted;
 
-/// Writes the report on all events, of which the matcher has the ends of messages, and the engine holds the answer.
+/// Writes the report on all events, of which the roster has the names by number and the matcher the ends of messages, and the engine
+/// holds the answer.
 pub(crate) fn write_report<O: Sink>(
     alloc: Global,
     decl: &Decl,
     accepted: &[Accepted],
-    matcher: &TraceMatcher,
+    roster: &Roster,
+    matcher: &Matcher,
     solver: &Solver,
     out: &mut O,
 ) -> Result<(), Stop>
     requires declared { IsDeclaration (declaration_of decl.now) }
     requires labels { length accepted.now ≡ length decl.now.labels.items }
     requires few { event_count (seen_in accepted.now) ≤ 2 ^ 21 }
-    requires ends { AreEndsOf matcher.now (seen_in accepted.now) }
+    requires ends { AreEndsBy (map id_of roster.now.came) matcher.now (seen_in accepted.now) }
     requires solution { (l : Listed) × IsSolutionBy l (problem_of_seen (declaration_of decl.now) (seen_in accepted.now)) solver.now }
     ensures writes { WritesSuch (IsReport (declaration_of decl.now) (seen_in accepted.now)) stops.WriteFault (O.told out.old) (O.told out.new) result }
     ensures untouched { IsErrOf result stops.Memory → O.told out.new ≡ O.told out.old }
 {
     let consistent = is_consistent(solver);
-    let view = view_of(alloc, decl, accepted, matcher, consistent)?;
+    let view = view_of(alloc, decl, accepted, roster, matcher, consistent)?;
     let line = report_line(alloc, &view)?;
     write_line(&line, out)
 }

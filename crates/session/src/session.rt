@@ -25,7 +25,6 @@ use replies::{Command, Question, Refusal, read_command, write_refusal};
 use std::alloc::{AllocError, Global};
 use std::marker::Model;
 use std::sync::ledger::Ledger;
-use trace_match::{TraceMatcher, ends_grow};
 use traces::{Accepted, EventId};
 
 /// A session over a declaration: what was added to its labels, the events that are kept, and replies to commands about them.
@@ -34,7 +33,6 @@ use traces::{Accepted, EventId};
 pub struct Session {
     pub(crate) alloc: Global,
     pub(crate) accepted: Vec<Accepted>,
-    pub(crate) matcher: TraceMatcher,
     pub(crate) kept: Vec<EventId>,
     pub(crate) answers: Answers,
     // Not where memory ran out in a change: the answers are used no more then, but for the declaration.
@@ -44,7 +42,6 @@ pub struct Session {
 impl Model for Session {
     ghost use Rattle.std.specs.Prelude.{◌≡◌, true};
     ghost use Rattle.traces.specs.Held.{seen_in};
-    ghost use Rattle.trace_match.specs.Ends.{AreEndsOf};
     ghost use Rattle.session.specs.Stands.{Held, IsHeld, held_of, solver_of};
     ghost use Rattle.replies.specs.Reply.{AreKept};
     ghost use Rattle.ready_answers.specs.Ready.{AreAnswersOf};
@@ -54,7 +51,6 @@ impl Model for Session {
     ghost view = { λ s. held_of s.answers.graph.roster.declaration s.accepted.items s.kept.items (solver_of s.ready s.answers) };
 
     ghost invariant = { λ s. IsHeld (held_of s.answers.graph.roster.declaration s.accepted.items s.kept.items (solver_of s.ready s.answers))
-        × AreEndsOf s.matcher (seen_in s.accepted.items)
         × AreKept (seen_in s.accepted.items) s.kept.items
         × (s.ready ≡ true → AreAnswersOf (seen_in s.accepted.items) s.kept.items s.answers) };
 }
@@ -67,17 +63,14 @@ impl Session {
         ensures ready { IfOk result (λ session. IsReady session) }
         ensures current { IfOk result (λ session. IfSome session.answers (IsKeptUp session)) }
     {
-        // They tell that there are no ends of messages, and what a capture is of which nothing came yet.
-        ends_grow();
+        // They tell what a capture is of which nothing came yet.
         nothing_reads();
         new_stands();
         let answers = first_answers(alloc, decl)?;
         let accepted = nothing_under(alloc, &decl_of(&answers).labels)?;
-        let matcher = TraceMatcher::new(alloc);
         Ok(Session {
             alloc,
             accepted,
-            matcher,
             kept: Vec::new(alloc),
             answers,
             ready: true,
@@ -190,7 +183,6 @@ impl Session {
         answer(
             self.alloc,
             &self.accepted,
-            &self.matcher,
             &mut self.answers,
             question,
             out,

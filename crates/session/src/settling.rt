@@ -1,5 +1,5 @@
 // Packets at the times of their events.
-ghost use Rattle.std.specs.Prelude.{◌≡◌, ◌≤ℤ◌, ℕ, [], length, map, pos, true, All};
+ghost use Rattle.std.specs.Prelude.{◌≡◌, ◌≤ℤ◌, ℕ, [], map, pos, true, All};
 ghost use Rattle.difference_bounds.specs.Executions.{at};
 ghost use Rattle.mergecap.specs.Packets.{timed, all_timed};
 ghost use Rattle.engine.specs.Current.{IsCurrent};

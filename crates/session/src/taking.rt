@@ -58,7 +58,7 @@ impl Session {
     /// is refused as one that spells no command.
     ///
     /// The steps of its searches are counted. No call before ran out of memory. An error is answered where memory runs out,
-    /// which it may on a line `add` alone; then nothing is promised of the session and of the packets.
+    /// which it may only on a line that asks for an addition; then nothing is promised of the session and of the packets.
     pub fn take_add<F: Files, L: Ledger>(
         &mut self,
         line: &[u8],

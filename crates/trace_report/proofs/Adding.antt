@@ -7,16 +7,20 @@ use Rattle.std.proofs.lemmas.List.Sums.{sum_by-cons}
 use Rattle.decl.specs.Declaration.{Declaration}
 use Rattle.trace_event.specs.declared.event.NoKey.{NoKey}
 use Rattle.trace_event.specs.declared.event.NoKey.TheVariants as without
-use Rattle.trace_event.specs.Seen.{EventKey, Seen, SeenMark, Keyed, Unkeyed}
-use Rattle.traces.specs.Traces.{Placed, events_of}
+use Rattle.trace_event.specs.declared.event.Side.{Side}
+use Rattle.trace_event.specs.declared.event.Side.TheVariants.{Send, Receive}
+use Rattle.trace_event.specs.Seen.{EventKey, Seen, SeenMark, Keyed, Unkeyed, is_same_key, is_same_side}
+use Rattle.traces.specs.declared.event.EventId.{EventId}
+use Rattle.traces.specs.Traces.{Placed, events_of, name_of}
 use Rattle.msg_match.specs.declared.change.Tallies.{Tallies}
-use Rattle.msg_match.specs.Groups.{SeenGroup, SeenItem, groups_of, is_ambiguous, is_matched, is_unmatched, size_of}
-use Rattle.msg_match.specs.Messages.{tallies}
+use Rattle.msg_match.specs.Groups.{SeenGroup, SeenItem, are_ambiguous, each_once, events_with, group_of, groups_of, is_ambiguous, is_matched, is_unmatched, size_of}
 use Rattle.msg_match.specs.Parts.{total_of}
 use Rattle.msg_match.proofs.Counting.{sums_are, totals_are}
-use Rattle.trace_report.specs.Reports.{count_without, keyed_at, keyed_from, lacks_key, name_at, named, nokeys_of, report_of}
+use Rattle.event_match.specs.Ends.{End, end_of, ends_of}
+use Rattle.event_match.specs.Ambiguous.{ambiguous_ends, end_group, is_ambiguous_key, names_with, tallies_of, unnumbered}
+use Rattle.trace_report.specs.Reports.{count_without, lacks_key, named_key, nokeys_of, report_of}
 use Rattle.trace_report.specs.Counts.{AddUp, all_without, listed}
-use Rattle.trace_report.proofs.Matched.{messages_many}
+use Rattle.trace_report.proofs.Matched.{items_in, messages_many}
 
 -- ---- events with and without keys
 abbrev lacks : NoKey → SeenMark → ℕ
@@ -27,36 +31,38 @@ lacks_any m =
     lacks without.Link m + lacks without.Other m + lacks without.Short m + lacks without.Header m
     + lacks without.Fragment m + lacks without.Length m + lacks without.Side m + lacks without.Local m
 
-one_mark : (n : ℕ) (m : SeenMark) → 1 ≡ length (keyed_at n m) + lacks_any m
-one_mark n (Keyed key side) = refl
-one_mark n (Unkeyed without.Link) = refl
-one_mark n (Unkeyed without.Other) = refl
-one_mark n (Unkeyed without.Short) = refl
-one_mark n (Unkeyed without.Header) = refl
-one_mark n (Unkeyed without.Fragment) = refl
-one_mark n (Unkeyed without.Length) = refl
-one_mark n (Unkeyed without.Side) = refl
-one_mark n (Unkeyed without.Local) = refl
+one_mark : (id : EventId) (m : SeenMark) → 1 ≡ length (end_of id m) + lacks_any m
+one_mark id (Keyed key side) = refl
+one_mark id (Unkeyed without.Link) = refl
+one_mark id (Unkeyed without.Other) = refl
+one_mark id (Unkeyed without.Short) = refl
+one_mark id (Unkeyed without.Header) = refl
+one_mark id (Unkeyed without.Fragment) = refl
+one_mark id (Unkeyed without.Length) = refl
+one_mark id (Unkeyed without.Side) = refl
+one_mark id (Unkeyed without.Local) = refl
 
 counted_cons : (reason : NoKey) (e : Placed) (more : List Placed) → count_without (e ∷ more) reason ≡ lacks reason e.seen.mark + count_without more reason
 counted_cons reason e more = sum_by-cons (λ (x : Placed). lacks reason x.seen.mark) e more
 
-keyed_or_not : (n : ℕ) (events : List Placed) → length events ≡ length (keyed_from n events) + all_without (nokeys_of events)
-keyed_or_not n [] = refl
-keyed_or_not n (e ∷ more) = omega (
-  arith,
-  length-append (keyed_at n e.seen.mark) (keyed_from (n + 1) more),
-  one_mark n e.seen.mark,
-  counted_cons without.Link e more,
-  counted_cons without.Other e more,
-  counted_cons without.Short e more,
-  counted_cons without.Header e more,
-  counted_cons without.Fragment e more,
-  counted_cons without.Length e more,
-  counted_cons without.Side e more,
-  counted_cons without.Local e more,
-  keyed_or_not (n + 1) more,
-)
+keyed_or_not : (events : List Placed) → length events ≡ length (ends_of events) + all_without (nokeys_of events)
+keyed_or_not [] = refl
+keyed_or_not (e ∷ more) =
+    let first : length (ends_of (e ∷ more)) ≡ length (end_of e.id e.seen.mark) + length (ends_of more) = length-append (end_of e.id e.seen.mark) (ends_of more) in
+    omega (
+      arith,
+      first,
+      one_mark e.id e.seen.mark,
+      counted_cons without.Link e more,
+      counted_cons without.Other e more,
+      counted_cons without.Short e more,
+      counted_cons without.Header e more,
+      counted_cons without.Fragment e more,
+      counted_cons without.Length e more,
+      counted_cons without.Side e more,
+      counted_cons without.Local e more,
+      keyed_or_not more,
+    )
 
 -- ---- the events of one key
 abbrev made : EventKey → List ℕ → List ℕ → SeenGroup
@@ -91,11 +97,13 @@ summed (g ∷ gs) =
     let here : size_of g ≡ 2 * matched_in g + unmatched_in g + ambiguous_in g = parts (is_matched g) (is_ambiguous g) (size_of g) (matched_alone g.key g.sends g.receives) in
     omega (arith, sum_by-cons size_of g gs, sum_by-cons matched_in g gs, sum_by-cons unmatched_in g gs, sum_by-cons ambiguous_in g gs, here, summed gs)
 
-told : (items : List SeenItem) → length items ≡ 2 * (tallies items).messages + (tallies items).unmatched + (tallies items).ambiguous
-told items =
+told : (ends : List End) → length ends ≡ 2 * (tallies_of ends).messages + (tallies_of ends).unmatched + (tallies_of ends).ambiguous
+told ends =
+    let items : List SeenItem = items_in ends in
     let gs : List SeenGroup = groups_of items in
     omega (
       arith,
+      length-map ends unnumbered,
       totals_are items,
       summed gs,
       ap (λ (t : Tallies). t.messages) (sums_are items),
@@ -104,38 +112,57 @@ told items =
     )
 
 -- ---- the events listed
-listed_named : (d : Declaration) (events : List Placed) (g : SeenGroup) → listed (named d events g) ≡ size_of g
-listed_named d events g = omega (arith, length-map g.sends (name_at d events), length-map g.receives (name_at d events))
+-- a key has as many events by name as are counted
+many : (ends : List End) (key : EventKey) (side : Side) → length (names_with ends key side) ≡ length (events_with (items_in ends) key side)
+many [] key side = refl
+many (e ∷ ends) key side = elim (cases_Bool (is_same_key e.key key && is_same_side e.side side)) [
+  | inl yes' ↦ rw yes' (omega (arith, many ends key side))
+  | inr no' ↦ rw no' (many ends key side)
+]
 
-listed_all : (d : Declaration) (events : List Placed) (gs : List SeenGroup) → sum_by listed (map (named d events) (filter is_ambiguous gs)) ≡ sum_by ambiguous_in gs
-listed_all d events [] = refl
-listed_all d events (g ∷ gs) =
-    let rest = filter is_ambiguous gs in
-    elim (cases_Bool (is_ambiguous g)) [
+test_same : (ends : List End) (key : EventKey) → is_ambiguous_key ends key ≡ is_ambiguous (group_of (items_in ends) key)
+test_same ends key =
+    ap (λ (n : ℕ). are_ambiguous n (length (names_with ends key Receive))) (many ends key Send) ∙ ap (λ (n : ℕ). are_ambiguous (length (events_with (items_in ends) key Send)) n) (many ends key Receive)
+
+keys_same : (ends : List End) → map (λ (e : End). e.key) ends ≡ map (λ (x : SeenItem). x.key) (items_in ends)
+keys_same [] = refl
+keys_same (e ∷ ends) = ap (λ (l : List EventKey). e.key ∷ l) (keys_same ends)
+
+listed_key : (d : Declaration) (ends : List End) (key : EventKey) → listed (named_key d (end_group ends key)) ≡ size_of (group_of (items_in ends) key)
+listed_key d ends key =
+    omega (arith, length-map (names_with ends key Send) (name_of d), length-map (names_with ends key Receive) (name_of d), many ends key Send, many ends key Receive)
+
+listed_all : (d : Declaration) (ends : List End) (keys : List EventKey)
+    → sum_by listed (map (named_key d) (map (end_group ends) (filter (is_ambiguous_key ends) keys))) ≡ sum_by ambiguous_in (map (group_of (items_in ends)) keys)
+listed_all d ends [] = refl
+listed_all d ends (key ∷ keys) =
+    let rest : List EventKey = filter (is_ambiguous_key ends) keys in
+    let group : SeenGroup = group_of (items_in ends) key in
+    let groups : List SeenGroup = map (group_of (items_in ends)) keys in
+    elim (cases_Bool (is_ambiguous_key ends key)) [
       | inl yes' ↦ (
-          let kept : filter is_ambiguous (g ∷ gs) ≡ g ∷ rest = rw yes' refl in
-          let here : ambiguous_in g ≡ size_of g = ap (λ (b : Bool). cond b (size_of g) 0) yes' in
-          ap (λ (l : List SeenGroup). sum_by listed (map (named d events) l)) kept
-          ∙ omega (arith, sum_by-cons listed (named d events g) (map (named d events) rest), listed_named d events g, sum_by-cons ambiguous_in g gs, here, listed_all d events gs)
+          let kept : filter (is_ambiguous_key ends) (key ∷ keys) ≡ key ∷ rest = ap (λ (b : Bool). cond b (key ∷ rest) rest) yes' in
+          let here : ambiguous_in group ≡ size_of group = ap (λ (b : Bool). cond b (size_of group) 0) (sym (test_same ends key) ∙ yes') in
+          ap (λ (l : List EventKey). sum_by listed (map (named_key d) (map (end_group ends) l))) kept
+          ∙ omega (arith, sum_by-cons listed (named_key d (end_group ends key)) (map (named_key d) (map (end_group ends) rest)), listed_key d ends key, sum_by-cons ambiguous_in group groups, here, listed_all d ends keys)
           )
       | inr no' ↦ (
-          let left : filter is_ambiguous (g ∷ gs) ≡ rest = rw no' refl in
-          let here : ambiguous_in g ≡ 0 = ap (λ (b : Bool). cond b (size_of g) 0) no' in
-          ap (λ (l : List SeenGroup). sum_by listed (map (named d events) l)) left
-          ∙ omega (arith, sum_by-cons ambiguous_in g gs, here, listed_all d events gs)
+          let left : filter (is_ambiguous_key ends) (key ∷ keys) ≡ rest = ap (λ (b : Bool). cond b (key ∷ rest) rest) no' in
+          let here : ambiguous_in group ≡ 0 = ap (λ (b : Bool). cond b (size_of group) 0) (sym (test_same ends key) ∙ no') in
+          ap (λ (l : List EventKey). sum_by listed (map (named_key d) (map (end_group ends) l))) left
+          ∙ omega (arith, sum_by-cons ambiguous_in group groups, here, listed_all d ends keys)
           )
     ]
+
+listed_in : (d : Declaration) (ends : List End) → sum_by listed (map (named_key d) (ambiguous_ends ends)) ≡ (tallies_of ends).ambiguous
+listed_in d ends =
+    listed_all d ends (each_once is_same_key (map (λ (e : End). e.key) ends))
+    ∙ ap (λ (keys : List EventKey). sum_by ambiguous_in (map (group_of (items_in ends)) (each_once is_same_key keys))) (keys_same ends)
+    ∙ ap (λ (t : Tallies). t.ambiguous) (sums_are (items_in ends))
 
 -- the counts of each report make up its events
 pub added_up : (d : Declaration) (seen : List (List Seen)) (consistent : Bool) → AddUp (report_of d seen consistent)
 added_up d seen consistent =
     let events : List Placed = events_of seen in
-    let items : List SeenItem = keyed_from 0 events in
-    omega (
-      arith,
-      keyed_or_not 0 events,
-      told items,
-      messages_many events,
-      listed_all d events (groups_of items),
-      ap (λ (t : Tallies). t.ambiguous) (sums_are items),
-    )
+    let ends : List End = ends_of events in
+    omega (arith, keyed_or_not events, told ends, messages_many events, listed_in d ends)

@@ -1,5 +1,5 @@
--- The messages among events are those among the ones that have keys.
-use Rattle.std.proofs.Common.{◌≡◌, ℕ, ◌+◌, List, [], ◌∷◌, ◌++◌, length, Bool, cond, inl, inr, refl, sym, ap, ◌∙◌, arith, length-append}
+-- The messages among events are as many as those among their ends.
+use Rattle.std.proofs.Common.{◌≡◌, ℕ, ◌+◌, List, [], ◌∷◌, ◌++◌, length, map, Bool, cond, inl, inr, refl, sym, ap, ◌∙◌, arith, length-append}
 use Rattle.std.proofs.lemmas.List.{length-map}
 use Rattle.std.specs.Prelude.{filter, is_some}
 use Rattle.std.specs.List.{flat_map}
@@ -7,13 +7,19 @@ use Rattle.std.proofs.lemmas.Bool.{cases_Bool}
 use Rattle.trace_event.specs.declared.event.Side.{Side}
 use Rattle.trace_event.specs.declared.event.Side.TheVariants.{Send, Receive}
 use Rattle.trace_event.specs.Seen.{EventKey, SeenMark, Keyed, Unkeyed, is_mark}
+use Rattle.traces.specs.declared.event.EventId.{EventId}
 use Rattle.traces.specs.Traces.{Placed}
 use Rattle.traces.specs.Messages as traces
 use Rattle.traces.specs.Messages.{messages_of, sent_by, with_mark}
 use Rattle.msg_match.specs.Groups as groups
-use Rattle.msg_match.specs.Groups.{SeenItem, events_with, group_of, has_mark, is_matched}
-use Rattle.msg_match.specs.Messages.{sends_message, tallies}
-use Rattle.trace_report.specs.Reports.{keyed_at, keyed_from}
+use Rattle.msg_match.specs.Groups.{SeenItem, events_with, has_mark}
+use Rattle.msg_match.specs.Messages.{sends_message}
+use Rattle.event_match.specs.Ends.{End, end_of, ends_of}
+use Rattle.event_match.specs.Ambiguous.{tallies_of, unnumbered}
+
+-- ends as they are counted
+abbrev pub items_in : List End → List SeenItem
+items_in ends = map unnumbered ends
 
 -- ---- events with a key and a side
 count_first : {X : Type 0} (p : X → Bool) (x : X) (xs : List X) → length (filter p (x ∷ xs)) ≡ cond (p x) 1 0 + length (filter p xs)
@@ -25,19 +31,19 @@ count_first p x xs = elim (cases_Bool (p x)) [
 counted : (items : List SeenItem) (key : EventKey) (side : Side) → length (events_with items key side) ≡ length (filter (has_mark key side) items)
 counted items key side = length-map (filter (has_mark key side) items) (λ (x : SeenItem). x.event)
 
-keyed_first : (key : EventKey) (side : Side) (n : ℕ) (m : SeenMark) (rest : List SeenItem) → length (filter (has_mark key side) (keyed_at n m ++ rest)) ≡ cond (is_mark key side m) 1 0 + length (filter (has_mark key side) rest)
-keyed_first key side n (Keyed other its_side) rest = count_first (has_mark key side) (record { event = n; side = its_side; key = other }) rest
-keyed_first key side n (Unkeyed reason) rest = omega arith
+end_first : (key : EventKey) (side : Side) (id : EventId) (m : SeenMark) (ends : List End) → length (filter (has_mark key side) (items_in (end_of id m ++ ends))) ≡ cond (is_mark key side m) 1 0 + length (filter (has_mark key side) (items_in ends))
+end_first key side id (Keyed other its_side) ends = count_first (has_mark key side) (record { event = 0; side = its_side; key = other }) (items_in ends)
+end_first key side id (Unkeyed reason) ends = omega arith
 
-marked : (key : EventKey) (side : Side) (n : ℕ) (events : List Placed) → length (with_mark key side events) ≡ length (filter (has_mark key side) (keyed_from n events))
-marked key side n [] = refl
-marked key side n (e ∷ more) =
+marked : (key : EventKey) (side : Side) (events : List Placed) → length (with_mark key side events) ≡ length (filter (has_mark key side) (items_in (ends_of events)))
+marked key side [] = refl
+marked key side (e ∷ more) =
     count_first (λ (x : Placed). is_mark key side x.seen.mark) e more
-    ∙ ap (λ (k : ℕ). cond (is_mark key side e.seen.mark) 1 0 + k) (marked key side (n + 1) more)
-    ∙ sym (keyed_first key side n e.seen.mark (keyed_from (n + 1) more))
+    ∙ ap (λ (k : ℕ). cond (is_mark key side e.seen.mark) 1 0 + k) (marked key side more)
+    ∙ sym (end_first key side e.id e.seen.mark (ends_of more))
 
-same_many : (key : EventKey) (side : Side) (events : List Placed) → length (with_mark key side events) ≡ length (events_with (keyed_from 0 events) key side)
-same_many key side events = marked key side 0 events ∙ sym (counted (keyed_from 0 events) key side)
+same_many : (key : EventKey) (side : Side) (events : List Placed) → length (with_mark key side events) ≡ length (events_with (items_in (ends_of events)) key side)
+same_many key side events = marked key side events ∙ sym (counted (items_in (ends_of events)) key side)
 
 -- ---- messages
 -- a send and a receive alone, told by how many there are
@@ -56,23 +62,23 @@ two_alone (s ∷ []) (r ∷ []) (u ∷ []) (v ∷ w ∷ vs) e f = absurd (omega 
 two_alone (s ∷ []) (r ∷ q ∷ rs) (u ∷ []) (v ∷ []) e f = absurd (omega (arith, f))
 two_alone (s ∷ []) (r ∷ q ∷ rs) (u ∷ []) (v ∷ w ∷ vs) e f = refl
 
-sent_first : (all : List Placed) (n : ℕ) (m : SeenMark) (rest : List SeenItem)
-    → length (filter (sends_message (keyed_from 0 all)) (keyed_at n m ++ rest)) ≡ length (sent_by all m) + length (filter (sends_message (keyed_from 0 all)) rest)
-sent_first all n (Keyed key Send) rest =
-    let items : List SeenItem = keyed_from 0 all in
-    count_first (sends_message items) (record { event = n; side = Send; key = key }) rest
-    ∙ ap (λ (k : ℕ). k + length (filter (sends_message items) rest))
+sent_first : (all : List Placed) (id : EventId) (m : SeenMark) (ends : List End)
+    → length (filter (sends_message (items_in (ends_of all))) (items_in (end_of id m ++ ends))) ≡ length (sent_by all m) + length (filter (sends_message (items_in (ends_of all))) (items_in ends))
+sent_first all id (Keyed key Send) ends =
+    let items : List SeenItem = items_in (ends_of all) in
+    count_first (sends_message items) (record { event = 0; side = Send; key = key }) (items_in ends)
+    ∙ ap (λ (k : ℕ). k + length (filter (sends_message items) (items_in ends)))
     (sym (two_alone (with_mark key Send all) (with_mark key Receive all) (events_with items key Send) (events_with items key Receive) (same_many key Send all) (same_many key Receive all)))
-sent_first all n (Keyed key Receive) rest = omega arith
-sent_first all n (Unkeyed reason) rest = omega arith
+sent_first all id (Keyed key Receive) ends = omega arith
+sent_first all id (Unkeyed reason) ends = omega arith
 
-sent_many : (all : List Placed) (n : ℕ) (events : List Placed) → length (flat_map (λ (e : Placed). sent_by all e.seen.mark) events) ≡ length (filter (sends_message (keyed_from 0 all)) (keyed_from n events))
-sent_many all n [] = refl
-sent_many all n (e ∷ more) =
+sent_many : (all events : List Placed) → length (flat_map (λ (e : Placed). sent_by all e.seen.mark) events) ≡ length (filter (sends_message (items_in (ends_of all))) (items_in (ends_of events)))
+sent_many all [] = refl
+sent_many all (e ∷ more) =
     length-append (sent_by all e.seen.mark) (flat_map (λ (x : Placed). sent_by all x.seen.mark) more)
-    ∙ ap (λ (k : ℕ). length (sent_by all e.seen.mark) + k) (sent_many all (n + 1) more)
-    ∙ sym (sent_first all n e.seen.mark (keyed_from (n + 1) more))
+    ∙ ap (λ (k : ℕ). length (sent_by all e.seen.mark) + k) (sent_many all more)
+    ∙ sym (sent_first all e.id e.seen.mark (ends_of more))
 
 -- they are as many
-pub messages_many : (events : List Placed) → (tallies (keyed_from 0 events)).messages ≡ length (messages_of events)
-messages_many events = sym (sent_many events 0 events)
+pub messages_many : (events : List Placed) → (tallies_of (ends_of events)).messages ≡ length (messages_of events)
+messages_many events = sym (sent_many events events)

@@ -6,11 +6,11 @@ use Rattle.trace_event.specs.Seen.{Seen}
 use Rattle.traces.specs.Traces.{events_of, event_count}
 use Rattle.traces.specs.Messages.{messages_of}
 use Rattle.traces.proofs.Ids.{length_events}
-use Rattle.msg_match.specs.Groups.{ambiguous_groups}
-use Rattle.msg_match.specs.Messages.{tallies}
+use Rattle.event_match.specs.Ends.{ends_of}
+use Rattle.event_match.specs.Ambiguous.{ambiguous_ends, tallies_of}
 use Rattle.report.specs.declared.view.NoKeys.{NoKeys}
 use Rattle.report.specs.Report.{Reported, ReportedKey}
-use Rattle.trace_report.specs.Reports.{keyed_from, named, nokeys_of, report_of}
+use Rattle.trace_report.specs.Reports.{named_key, nokeys_of, report_of}
 
 -- a report of these parts
 abbrev pub made : ℕ → ℕ → ℕ → Bool → NoKeys → List ReportedKey → Reported
@@ -18,8 +18,8 @@ made events messages unmatched consistent nokeys groups = record { events = even
 
 -- is that of all events
 pub made_is : (d : Declaration) (seen : List (List Seen)) (consistent : Bool) (n m u : ℕ) (nokeys : NoKeys) (groups : List ReportedKey)
-    → n ≡ length (events_of seen) → m ≡ length (messages_of (events_of seen)) → u ≡ (tallies (keyed_from 0 (events_of seen))).unmatched
-    → nokeys ≡ nokeys_of (events_of seen) → groups ≡ map (named d (events_of seen)) (ambiguous_groups (keyed_from 0 (events_of seen)))
+    → n ≡ length (events_of seen) → m ≡ length (messages_of (events_of seen)) → u ≡ (tallies_of (ends_of (events_of seen))).unmatched
+    → nokeys ≡ nokeys_of (events_of seen) → groups ≡ map (named_key d) (ambiguous_ends (ends_of (events_of seen)))
     → made n m u consistent nokeys groups ≡ report_of d seen consistent
 made_is d seen consistent n m u nokeys groups en em eu ek eg = rw (en, em, eu, ek, eg) refl
 

@@ -2,13 +2,24 @@
 use Rattle.std.specs.Prelude.{ℕ, ◌<◌, List, length, map, count_by, All}
 use Rattle.decl.specs.Declaration.{Declaration}
 use Rattle.trace_event.specs.declared.event.NoKey.{NoKey}
-use Rattle.trace_event.specs.Seen.{Seen}
+use Rattle.trace_event.specs.Seen.{Seen, key_of}
 use Rattle.traces.specs.declared.event.EventId.{EventId}
-use Rattle.traces.specs.Traces.{name_of}
-use Rattle.trace_match.specs.Ambiguous.{EndGroup}
-use Rattle.report.specs.Report.{ReportedKey}
-use Rattle.trace_report.specs.KeyTexts.{key_text}
+use Rattle.roster.specs.Roster.{RosterLists, id_of}
+use Rattle.event_match.specs.Ambiguous.{EndGroup}
+use Rattle.trace_report.specs.declared.ambiguous.Ambiguous.{Ambiguous}
 use Rattle.trace_report.specs.Reports.{lacks_key}
+
+-- the names of all events, as they came
+abbrev pub ids_in : RosterLists → List EventId
+ids_in r = map id_of r.came
+
+-- an ambiguous key, by what is seen of it
+abbrev pub seen_ambiguous : Ambiguous → EndGroup
+seen_ambiguous a = record { key = key_of a.key.now; sends = a.sends.items; receives = a.receives.items }
+
+-- the same, behind the first of its events
+abbrev pub led : Ambiguous → EventId × EndGroup
+led a = (a.first, seen_ambiguous a)
 
 -- each of these events has a label of the declaration
 abbrev pub AreLabelled : Declaration → List EventId → Type 0
@@ -17,10 +28,6 @@ AreLabelled d ids = All (λ (id : EventId). id.label < length d.labels) ids
 -- so has each event of a key
 abbrev pub HasLabels : Declaration → EndGroup → Type 0
 HasLabels d g = AreLabelled d g.sends × AreLabelled d g.receives
-
--- a key by its text, and the names of its events
-abbrev pub named_key : Declaration → EndGroup → ReportedKey
-named_key d g = record { key = key_text g.key; sends = map (name_of d) g.sends; receives = map (name_of d) g.receives }
 
 -- how many events of a label have no key for this reason
 abbrev pub lacking : NoKey → List Seen → ℕ

@@ -1,40 +1,21 @@
 -- What is reported of the events of all labels.
-use Rattle.std.specs.Prelude.{ℕ, ◌+◌, List, [], ◌∷◌, ◌++◌, length, map, slice_get, count_by, Option, Some, None, Bool, true, false}
+use Rattle.std.specs.Prelude.{ℕ, List, length, map, count_by, Bool, true, false}
 use Rattle.decl.specs.Declaration.{Declaration}
 use Rattle.trace_event.specs.declared.event.NoKey.{NoKey}
 use Rattle.trace_event.specs.declared.event.NoKey.TheVariants as without
 use Rattle.trace_event.specs.Seen.{SeenMark, Keyed, Unkeyed, Seen}
 use Rattle.traces.specs.Traces.{Placed, events_of, name_of}
 use Rattle.traces.specs.Messages.{messages_of}
-use Rattle.msg_match.specs.Groups.{SeenItem, SeenGroup, ambiguous_groups}
-use Rattle.msg_match.specs.Messages.{tallies}
+use Rattle.event_match.specs.Ends.{ends_of}
+use Rattle.event_match.specs.Ambiguous.{EndGroup, ambiguous_ends, tallies_of}
 use Rattle.report.specs.declared.view.NoKeys.{NoKeys}
 use Rattle.report.specs.Report.{Reported, ReportedKey, report_line}
 use Rattle.trace_report.specs.KeyTexts.{key_text}
 
 -- ---- events with keys
--- an event with this mark, by its place among all, if it has a key
-abbrev pub keyed_at : ℕ → SeenMark → List SeenItem
-keyed_at place (Keyed key side) = (record { event = place; side = side; key = key }) ∷ []
-keyed_at place (Unkeyed reason) = []
-
--- those of these events that have keys, each by its place, which counts from n on
-abbrev pub keyed_from : ℕ → List Placed → List SeenItem
-keyed_from n [] = []
-keyed_from n (e ∷ more) = keyed_at n e.seen.mark ++ keyed_from (n + 1) more
-
--- the name of an event, if there is one
-abbrev pub name_if : Declaration → Option Placed → List ℕ
-name_if d None = []
-name_if d (Some e) = name_of d e.id
-
--- the name of the event at a place
-abbrev pub name_at : Declaration → List Placed → ℕ → List ℕ
-name_at d events place = name_if d (slice_get events place)
-
 -- a key by its text, and the names of its events
-abbrev pub named : Declaration → List Placed → SeenGroup → ReportedKey
-named d events g = record { key = key_text g.key; sends = map (name_at d events) g.sends; receives = map (name_at d events) g.receives }
+abbrev pub named_key : Declaration → EndGroup → ReportedKey
+named_key d g = record { key = key_text g.key; sends = map (name_of d) g.sends; receives = map (name_of d) g.receives }
 
 -- ---- events without keys
 -- whether it is the same reason
@@ -80,10 +61,10 @@ report_of d seen consistent =
     record {
       events = length events;
       messages = length (messages_of events);
-      unmatched = (tallies (keyed_from 0 events)).unmatched;
+      unmatched = (tallies_of (ends_of events)).unmatched;
       consistent = consistent;
       nokeys = nokeys_of events;
-      groups = map (named d events) (ambiguous_groups (keyed_from 0 events));
+      groups = map (named_key d) (ambiguous_ends (ends_of events));
     }
 
 -- its line

@@ -2,6 +2,7 @@
 //! names of events.
 #![tactic(auto)]
 
+mod ambiguous;
 mod counting;
 mod laws;
 mod naming;

@@ -2,18 +2,17 @@
 ghost use Rattle.std.specs.Prelude.{◌≡◌, map, All, IfOk};
 ghost use Rattle.decl.specs.Declaration.{HasLawfulLabels, declaration_of};
 ghost use Rattle.traces.specs.Traces.{name_of};
-ghost use Rattle.trace_match.specs.Ambiguous.{seen_ambiguous};
 ghost use Rattle.report.specs.Report.{HasAsciiKey, reported_key};
-ghost use Rattle.trace_report.specs.Inside.{AreLabelled, HasLabels, named_key};
+ghost use Rattle.trace_report.specs.Reports.{named_key};
+ghost use Rattle.trace_report.specs.Inside.{AreLabelled, HasLabels, seen_ambiguous};
 
+use crate::ambiguous::Ambiguous;
 use crate::texts::key_text;
 use decl::Decl;
 use problem_model::Name;
 use report::NamedGroup;
 use std::alloc::{AllocError, Global};
-use trace_match::Ambiguous;
-use trace_problem::name_of;
-use traces::EventId;
+use traces::{EventId, name_of};
 
 // The names of these events; an error where memory runs out.
 fn names_of(alloc: Global, decl: &Decl, ids: &[EventId]) -> Result<Vec<Name>, AllocError>

@@ -1,5 +1,9 @@
-// Keys, logs and messages that several modules use.
+// Declarations, keys, logs and messages that several modules use.
+ghost use Rattle.std.specs.Prelude.{IfSome};
+ghost use Rattle.decl.specs.Declaration.{IsDeclaration, declaration_of};
+
 use arrayvec::ArrayVec;
+use decl::{Decl, read_decl};
 use event_log::{LogError, read_rows};
 use ip_headers::PacketKey;
 use plain_traces::{messages_in, missing};
@@ -10,6 +14,17 @@ use traces::{Accepted, Couple, EventId, Stream, event_count};
 pub(crate) const SEND: Side = Side::Send;
 
 pub(crate) const RECEIVE: Side = Side::Receive;
+
+// Labels p and r at the host b, q at the host a. Clock 0 is that of a, clock 1 that of b.
+const THREE_LOGS: &str = "[hosts.a]\n[hosts.b]\n[labels.p]\nhost = \"b\"\nkind = \"log\"\n\
+    [labels.q]\nhost = \"a\"\nkind = \"log\"\n[labels.r]\nhost = \"b\"\nkind = \"log\"\n";
+
+// A declaration of logs under three labels.
+pub(crate) fn three_logs(alloc: Global) -> Option<Decl>
+    ensures { IfSome result (λ d. IsDeclaration (declaration_of d)) }
+{
+    read_decl(alloc, THREE_LOGS.as_bytes()).ok()
+}
 
 // The key of a UDP datagram from 10.0.0.1:5000 to 10.0.0.2:6000, whose payload begins so.
 pub(crate) fn packet_key(id: u16, payload: &[u8]) -> Option<PacketKey> {

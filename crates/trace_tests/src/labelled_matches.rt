@@ -1,16 +1,20 @@
-// Events that are added label by label: what the index says of each addition and of all, and what the plain filters say.
-ghost use Rattle.std.specs.Prelude.{◌≡◌, [], IfOk, OnOk};
+// Events that are added label by label, by the numbers of a roster: what the index says of each addition and of all, and what
+// the plain filters say.
+ghost use Rattle.std.specs.Prelude.{OnOk};
 ghost use Rattle.traces.specs.Held.{seen_in};
-ghost use Rattle.trace_match.specs.Ends.{AreEndsOf};
+ghost use Rattle.plain_traces.specs.Added.{AreAdded};
 
-use crate::fixtures::{RECEIVE, SEND, are_messages, by_filters, lost, packet_key};
+use crate::fixtures::{RECEIVE, SEND, are_messages, by_filters, lost, packet_key, three_logs};
 use atto::Nano;
 use event_log::WordKey;
+use event_match::{Changed, counts};
+use msg_match::{Change, Group, Matcher, Tallies};
+use plain_traces::Additions;
+use roster::Roster;
 use std::alloc::{AllocError, Global};
 use std::test::*;
 use trace_event::{Event, Key, Mark, NoKey, Side};
-use trace_match::{Ambiguous, Changed, Changes, Tallies, TraceMatcher, ends_grow};
-use traces::{Accepted, Couple, EventId, Stream, event_count};
+use traces::{Couple, EventId};
 
 // An ambiguous key, and its events by label and number.
 struct Unclear {
@@ -231,33 +235,6 @@ const APART: [Step; 4] = [
     },
 ];
 
-// What was accepted under three labels, and the ends of messages among it.
-#[derive(Drop)]
-struct Kept {
-    matcher: TraceMatcher,
-    labels: Vec<Accepted>,
-}
-
-fn nothing(alloc: Global) -> Accepted
-    ensures { result.events.items ≡ [] }
-{
-    Accepted {
-        events: Vec::new(alloc),
-        size: 0,
-        stream: Stream::Log,
-    }
-}
-
-fn none_kept(alloc: Global) -> Result<Kept, AllocError>
-    ensures { IfOk result (λ kept. AreEndsOf kept.matcher (seen_in kept.labels.items)) }
-{
-    ends_grow();
-    let labels = [nothing(alloc), nothing(alloc), nothing(alloc)];
-    let labels = Vec::from_array(alloc, labels)?;
-    let matcher = TraceMatcher::new(alloc);
-    Ok(Kept { matcher, labels })
-}
-
 fn key_with(text: &str) -> Option<Key> {
     match text.strip_prefix('/') {
         Some(payload) => Some(Key::Packet(packet_key(0, payload.as_bytes())?)),
@@ -286,26 +263,47 @@ fn events_with(alloc: Global, ends: &[(Side, &str)]) -> Result<Vec<Event>, Alloc
     Ok(events)
 }
 
-// Adds events to a label and to the ends of messages.
-fn add_more(kept: &mut Kept, label: u32, mut events: Vec<Event>) -> Result<Changes, AllocError>
-    requires { AreEndsOf kept.old.matcher (seen_in kept.old.labels.items) }
-    ensures { OnOk result (AreEndsOf kept.new.matcher (seen_in kept.new.labels.items)) }
-{
-    ends_grow();
-    if event_count(&kept.labels) > 1000 || events.len() > 1000 {
-        return Err(AllocError);
+// How an addition changes the messages: how many come and go, and which, by the names of their ends.
+#[derive(Drop)]
+struct Changes {
+    counts: Changed,
+    added: Vec<Couple>,
+    withdrawn: Vec<Couple>,
+}
+
+// The name of the event of a number.
+fn name_at(roster: &Roster, number: u32) -> Option<EventId> {
+    if number >= roster.len() {
+        return None;
     }
-    if label as usize >= kept.labels.len() {
-        return Err(AllocError);
+    let event = roster.event(number);
+    Some(EventId {
+        label: event.label,
+        number: event.number,
+    })
+}
+
+fn named(
+    alloc: Global,
+    roster: &Roster,
+    messages: &[msg_match::Couple],
+) -> Result<Vec<Couple>, AllocError> {
+    let mut named = Vec::new(alloc);
+    for message in messages {
+        named.push(Couple {
+            send: name_at(roster, message.send).ok_or(AllocError)?,
+            receive: name_at(roster, message.receive).ok_or(AllocError)?,
+        })?;
     }
-    let under = &mut kept.labels[label as usize];
-    let before = under.events.len();
-    if before > 1000 {
-        return Err(AllocError);
-    }
-    let changes = kept.matcher.add(label, before as u32 + 1, &events)?;
-    under.events.append(&mut events)?;
-    Ok(changes)
+    Ok(named)
+}
+
+fn changes_of(alloc: Global, roster: &Roster, change: &Change) -> Result<Changes, AllocError> {
+    Ok(Changes {
+        counts: counts(change),
+        added: named(alloc, roster, &change.added)?,
+        withdrawn: named(alloc, roster, &change.withdrawn)?,
+    })
 }
 
 // The messages after an addition, by those before it.
@@ -322,28 +320,47 @@ fn are_same(found: &[Couple], wanted: &[Couple]) -> bool {
     found.len() == wanted.len() && wanted.iter().all(|message| found.contains(message))
 }
 
-fn are_events(found: &[EventId], wanted: &[[u32; 2]]) -> bool {
+// Whether the events of these numbers are those of these labels and numbers, in any order.
+fn are_events(roster: &Roster, found: &[u32], wanted: &[[u32; 2]]) -> bool {
     found.len() == wanted.len()
-        && found
-            .iter()
-            .zip(wanted)
-            .all(|(id, w)| id.label == w[0] && id.number == w[1])
+        && wanted.iter().all(|w| {
+            let id = EventId {
+                label: w[0],
+                number: w[1],
+            };
+            found
+                .iter()
+                .any(|number| name_at(roster, *number) == Some(id))
+        })
 }
 
-fn is_unclear(found: &Ambiguous<'_>, wanted: &Unclear) -> bool {
+fn is_unclear(roster: &Roster, found: &Group, wanted: &Unclear) -> bool {
     match key_with(wanted.key) {
         Some(key) => {
-            *found.key == key
-                && are_events(&found.sends, wanted.sends)
-                && are_events(&found.receives, wanted.receives)
+            found.key == key
+                && are_events(roster, &found.sends, wanted.sends)
+                && are_events(roster, &found.receives, wanted.receives)
         }
         None => false,
     }
 }
 
-// Whether the ambiguous keys are these, in their order.
-fn are_unclear(found: &[Ambiguous<'_>], wanted: &[Unclear]) -> bool {
-    found.len() == wanted.len() && found.iter().zip(wanted).all(|(f, w)| is_unclear(f, w))
+// Whether one of the ambiguous keys is this one.
+fn has_unclear(roster: &Roster, matcher: &Matcher, wanted: &Unclear) -> bool {
+    for k in 0..matcher.groups() {
+        if let Some(found) = matcher.group(k) {
+            if is_unclear(roster, found, wanted) {
+                return true;
+            }
+        }
+    }
+    false
+}
+
+// Whether the ambiguous keys are these, in any order.
+fn are_unclear(roster: &Roster, matcher: &Matcher, wanted: &[Unclear]) -> bool {
+    matcher.groups() as usize == wanted.len()
+        && wanted.iter().all(|w| has_unclear(roster, matcher, w))
 }
 
 // How many events have these keys, up to some thousands.
@@ -380,7 +397,7 @@ fn are_counted(counts: Changed, step: &Step) -> bool {
 
 // Whether an addition changed the messages as is wanted, by the filters and by the index.
 fn is_right(changes: &Changes, step: &Step, before: &[Couple], after: &[Couple]) -> bool {
-    are_counted(changes.counts(), step)
+    are_counted(changes.counts, step)
         && stand_only_in(&changes.added, after, before)
         && stand_only_in(&changes.withdrawn, before, after)
         && lost(after, before) == Some(step.added)
@@ -390,29 +407,30 @@ fn is_right(changes: &Changes, step: &Step, before: &[Couple], after: &[Couple])
 
 fn step_holds(
     alloc: Global,
-    kept: &mut Kept,
+    kept: &mut Additions,
     sum: &mut Vec<Couple>,
     step: &Step,
 ) -> Result<bool, AllocError>
-    requires { AreEndsOf kept.old.matcher (seen_in kept.old.labels.items) }
-    ensures { OnOk result (AreEndsOf kept.new.matcher (seen_in kept.new.labels.items)) }
+    requires { AreAdded kept.old.roster kept.old.matcher (seen_in kept.old.labels.items) }
+    ensures { OnOk result (AreAdded kept.new.roster kept.new.matcher (seen_in kept.new.labels.items)) }
 {
     let before = by_filters(alloc, &kept.labels)?;
     let events = events_with(alloc, step.ends)?;
-    let changes = add_more(kept, step.label, events)?;
+    let change = kept.add(step.label, events)?;
+    let changes = changes_of(alloc, &kept.roster, &change)?;
     let after = by_filters(alloc, &kept.labels)?;
     follow(sum, &changes)?;
-    let unclear = kept.matcher.ambiguous()?;
     Ok(
         is_right(&changes, step, &before, &after)
             && are_same(sum, &after)
             && are_tallied(kept.matcher.tallies(), step)
-            && are_unclear(&unclear, step.unclear),
+            && are_unclear(&kept.roster, &kept.matcher, step.unclear),
     )
 }
 
 fn replay(alloc: Global, steps: &[Step]) -> Result<bool, AllocError> {
-    let mut kept = none_kept(alloc)?;
+    let decl = three_logs(alloc).ok_or(AllocError)?;
+    let mut kept = Additions::new(alloc, decl)?;
     let mut sum = Vec::new(alloc);
     for step in steps {
         if !step_holds(alloc, &mut kept, &mut sum, step)? {

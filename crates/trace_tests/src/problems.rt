@@ -9,8 +9,7 @@ use problem::{Problem, read_problem};
 use problem_model::Name;
 use std::alloc::Global;
 use std::test::*;
-use trace_problem::event_name;
-use traces::{Accepted, event_count};
+use traces::{Accepted, event_count, event_name};
 
 // Label p at the host b, q and r at the host a. From a to b a message takes 10 to 20 ns, from b to a at least 5, and from a
 // to a 1 or 2.

@@ -1,17 +1,9 @@
-// Rosters to which pieces of logs come: what they list, and the events that they find by name.
-ghost use Rattle.std.specs.Prelude.{IfSome};
-ghost use Rattle.decl.specs.Declaration.{IsDeclaration, declaration_of};
-
-use crate::fixtures::log_of;
-use decl::{Decl, read_decl};
+// Rosters to which pieces of logs come, of labels p, q and r: what they list, and the events that they find by name.
+use crate::fixtures::{log_of, three_logs};
 use problem::Listing;
 use roster::Roster;
 use std::alloc::Global;
 use std::test::*;
-
-// Labels p and r at the host b, q at the host a. Clock 0 is that of a, clock 1 that of b.
-const DECLARATION: &str = "[hosts.a]\n[hosts.b]\n[labels.p]\nhost = \"b\"\nkind = \"log\"\n\
-    [labels.q]\nhost = \"a\"\nkind = \"log\"\n[labels.r]\nhost = \"b\"\nkind = \"log\"\n";
 
 // What is listed: the names of events by place, and clocks and stamps of readings by place.
 #[derive(Drop)]
@@ -72,12 +64,6 @@ const UNKNOWN: [&str; 8] = [
     "r#18446744073709551617",
 ];
 
-fn declared(alloc: Global) -> Option<Decl>
-    ensures { IfSome result (λ d. IsDeclaration (declaration_of d)) }
-{
-    read_decl(alloc, DECLARATION.as_bytes()).ok()
-}
-
 fn push_log(alloc: Global, roster: &mut Roster, label: u32, text: &str) -> Option<u32> {
     let log = log_of(alloc, text).ok()?;
     let most = 1 << 21;
@@ -123,7 +109,7 @@ fn lists(roster: &Roster, wanted: &Wanted) -> bool {
 }
 
 fn becomes(alloc: Global, pieces: &[(u32, &str)], wanted: &Wanted) -> bool {
-    let Some(decl) = declared(alloc) else {
+    let Some(decl) = three_logs(alloc) else {
         return false;
     };
     match Roster::new(alloc, decl) {
@@ -134,7 +120,7 @@ fn becomes(alloc: Global, pieces: &[(u32, &str)], wanted: &Wanted) -> bool {
 
 // Whether none of these names is found behind the pieces.
 fn finds_none(alloc: Global, pieces: &[(u32, &str)], names: &[&str]) -> bool {
-    let Some(decl) = declared(alloc) else {
+    let Some(decl) = three_logs(alloc) else {
         return false;
     };
     match Roster::new(alloc, decl) {

@@ -4,3 +4,9 @@ pub mod Members
 pub mod Ids
 pub mod Marks
 pub mod MessageEnds
+pub mod Lists
+pub mod Names
+pub mod Places
+pub mod Follows
+pub mod Whole
+pub mod Seen

@@ -2,3 +2,4 @@ pub mod Traces
 pub mod Messages
 pub mod Held
 pub mod Pairs
+pub mod Making

@@ -1,7 +1,6 @@
 // Frames, by the type of the link that they were captured on.
 ghost use Rattle.std.specs.Prelude.{◌≡◌, ◌+◌, ◌≤◌};
 ghost use Rattle.wide_headers.specs.Decoding.{carried_answer, cooked_answer, decoded_wide, ethernet_answer, narrow_answer, raw_answer};
-ghost use Rattle.wide_headers.specs.Ipv6.{packet_answer};
 ghost use Rattle.wide_headers.specs.Keys.{answer_of};
 
 use crate::WideDecoded;

@@ -1,23 +1,19 @@
-use Rattle.std.proofs.Common.{◌≡◌, ◌<◌, ◌+◌, ◌-◌, ◌*◌, ℕ, List, length, drop, slice_get, All, refl, sym, ◌∙◌, ap, subst, arith, inl, inr}
+use Rattle.std.proofs.Common.{◌≡◌, ◌<◌, ◌+◌, ◌-◌, ◌*◌, ℕ, List, length, drop, slice_get, refl, sym, ◌∙◌, ap, subst, arith, inl, inr}
 use Rattle.std.proofs.lemmas.Bool.{cases_eq, cases_lt}
 use Rattle.std.proofs.lemmas.List.Elements.{All-contains}
 use Rattle.std.proofs.lemmas.Option.{same_Some}
+use Rattle.problem_model.specs.declared.items.Message.{Message}
 use Rattle.problem_model.specs.declared.items.Node.{Node}
 use Rattle.problem_model.specs.declared.items.Node.TheVariants as nodes
 use Rattle.sync_graph.specs.Standing.{HasNode}
-use Rattle.traces.specs.declared.event.Couple.{Couple}
-use Rattle.traces.specs.declared.event.EventId.{EventId}
-use Rattle.roster.specs.Roster.{IsUnder}
 use Rattle.roster.proofs.Telling.{among}
-use Rattle.growth.specs.Told.{number_of}
 use Rattle.kept_graph.specs.declared.planning.Due.{Due}
-use Rattle.kept_graph.specs.Planning.{numbers_of, couples_of}
+use Rattle.kept_graph.specs.Planning.{numbers_of, messages_in}
 use Rattle.engine.specs.Solver.{SolverLists}
 use Rattle.kept_graph.specs.Extending.{TakesFewToPush}
 use Rattle.kept_graph.specs.Coming.{HaveCome}
 use Rattle.kept_graph.proofs.Extending.{extends_itself, extends_then, few_then, few_without}
-use Rattle.kept_graph.proofs.InARow.{come_none, come_event, come_next, own_from, room_less, under_still, StandsAt, stands_as}
-use Rattle.kept_graph.proofs.OneMessage.{end_inside}
+use Rattle.kept_graph.proofs.InARow.{come_none, come_event, come_next, own_from, room_less, StandsAt, stands_as}
 use Rattle.kept_graph.proofs.Orders.{all_stand, drop_all, of_due}
 use Rattle.kept_graph.proofs.coming.come.Goals as goal
 use Rattle.kept_graph.proofs.coming.come.Goals.{then-is_message_next+in_ok-join, else-is_message_next+in_ok-hint}
@@ -32,7 +28,7 @@ loop-k-init g c =
         next = omega arith;
         left = omega arith;
         sum = omega arith;
-        come = subst (λ (l : List Due). HaveCome (couples_of l) r r s s) (sym (drop_all dues (length dues) (omega arith))) (come_none r s);
+        come = subst (λ (l : List Due). HaveCome (messages_in l) r r s s) (sym (drop_all dues (length dues) (omega arith))) (come_none r s);
         entered = λ j w less at. absurd (omega (arith, less));
         nodes = omega arith;
         arcs = omega arith;
@@ -41,14 +37,6 @@ loop-k-init g c =
       };
       steps = few_without s s c.args.steps.now c.args.steps.now refl refl;
     }
-
-pub is_message_next-requires-clause-sends : goal.is_message_next-requires-clause-sends
-is_message_next-requires-clause-sends g c =
-    subst (λ (u : List (List ℕ)). All (λ (m : Couple). (v : ℕ) × IsUnder u m.send v) (couples_of c.args.dues.now)) (sym c.loop-k.invariant.at.come.keeps.under) c.requires.sends
-
-pub is_message_next-requires-clause-receives : goal.is_message_next-requires-clause-receives
-is_message_next-requires-clause-receives g c =
-    subst (λ (u : List (List ℕ)). All (λ (m : Couple). (v : ℕ) × IsUnder u m.receive v) (couples_of c.args.dues.now)) (sym c.loop-k.invariant.at.come.keeps.under) c.requires.receives
 
 pub due_at-due-requires : goal.due_at-due-requires
 due_at-due-requires g c =
@@ -63,54 +51,38 @@ due_at-due-requires g c =
     let few = c.loop-k.invariant.at.left in
     omega (arith, some, few)
 
-pub join-requires-clause-send : goal.join-requires-clause-send
-join-requires-clause-send g c =
-    under_still c.args.roster.now.under c.loop-k.roster.under c.due_at-due.result.couple.send c.loop-k.invariant.at.come.keeps.under
-    (of_due (λ (m : Couple). (v : ℕ) × IsUnder c.args.roster.now.under m.send v) c.args.dues.now (c.loop-k.left - 1) c.due_at-due.result c.requires.sends c.due_at-due.ensures)
-
-pub join-requires-clause-receive : goal.join-requires-clause-receive
-join-requires-clause-receive g c =
-    under_still c.args.roster.now.under c.loop-k.roster.under c.due_at-due.result.couple.receive c.loop-k.invariant.at.come.keeps.under
-    (of_due (λ (m : Couple). (v : ℕ) × IsUnder c.args.roster.now.under m.receive v) c.args.dues.now (c.loop-k.left - 1) c.due_at-due.result c.requires.receives c.due_at-due.ensures)
-
 pub join-requires-clause-sent : goal.join-requires-clause-sent
 join-requires-clause-sent g c =
-    let sum = c.loop-k.invariant.at.sum in
     let next = c.loop-k.invariant.at.next in
-    let id : EventId = c.due_at-due.result.couple.send in
-    let known : (v : ℕ) × IsUnder c.args.roster.now.under id v = of_due (λ (m : Couple). (v : ℕ) × IsUnder c.args.roster.now.under m.send v) c.args.dues.now (c.loop-k.left - 1) c.due_at-due.result c.requires.sends c.due_at-due.ensures in
+    let m : Message = c.due_at-due.result.message in
     elim (cases_lt c.loop-k.next (length c.args.turns.now)) [
       | inl less ↦ c.if-is_message_next.ensures.sent refl less c.due_at-due.result c.due_at-due.ensures
-      | inr past ↦ subst (λ (u : List (List ℕ)). HasNode c.loop-k.solver.graph (nodes.Event (number_of u id))) (sym c.loop-k.invariant.at.come.keeps.under)
-          (all_stand c.args.turns.now c.loop-k.next (number_of c.args.roster.now.under id) c.args.solver.now.graph c.loop-k.solver.graph
+      | inr past ↦ all_stand c.args.turns.now c.loop-k.next m.send c.args.solver.now.graph c.loop-k.solver.graph
           (λ w has. c.loop-k.invariant.at.come.stay (nodes.Event w) has) (omega (arith, past, next)) c.loop-k.invariant.at.entered
-          (c.requires.all (number_of c.args.roster.now.under id) (end_inside c.args.roster.now c.decl.ensures.lawful id known)))
+          (c.requires.all m.send (of_due (λ (x : Message). x.send < length c.args.roster.now.came) c.args.dues.now (c.loop-k.left - 1) c.due_at-due.result c.requires.sends c.due_at-due.ensures))
     ]
 
 pub join-requires-clause-received : goal.join-requires-clause-received
 join-requires-clause-received g c =
-    let sum = c.loop-k.invariant.at.sum in
     let next = c.loop-k.invariant.at.next in
-    let id : EventId = c.due_at-due.result.couple.receive in
-    let known : (v : ℕ) × IsUnder c.args.roster.now.under id v = of_due (λ (m : Couple). (v : ℕ) × IsUnder c.args.roster.now.under m.receive v) c.args.dues.now (c.loop-k.left - 1) c.due_at-due.result c.requires.receives c.due_at-due.ensures in
+    let m : Message = c.due_at-due.result.message in
     elim (cases_lt c.loop-k.next (length c.args.turns.now)) [
       | inl less ↦ c.if-is_message_next.ensures.received refl less c.due_at-due.result c.due_at-due.ensures
-      | inr past ↦ subst (λ (u : List (List ℕ)). HasNode c.loop-k.solver.graph (nodes.Event (number_of u id))) (sym c.loop-k.invariant.at.come.keeps.under)
-          (all_stand c.args.turns.now c.loop-k.next (number_of c.args.roster.now.under id) c.args.solver.now.graph c.loop-k.solver.graph
+      | inr past ↦ all_stand c.args.turns.now c.loop-k.next m.receive c.args.solver.now.graph c.loop-k.solver.graph
           (λ w has. c.loop-k.invariant.at.come.stay (nodes.Event w) has) (omega (arith, past, next)) c.loop-k.invariant.at.entered
-          (c.requires.all (number_of c.args.roster.now.under id) (end_inside c.args.roster.now c.decl.ensures.lawful id known)))
+          (c.requires.all m.receive (of_due (λ (x : Message). x.receive < length c.args.roster.now.came) c.args.dues.now (c.loop-k.left - 1) c.due_at-due.result c.requires.receives c.due_at-due.ensures))
     ]
 
 pub join-requires-clause-ready : goal.join-requires-clause-ready
 join-requires-clause-ready g c =
     let (entered, messages, way, own) = c.requires.ready in
-    let (now, way') = c.loop-k.invariant.at.come.grown entered messages way (own_from c.args.roster.now.under c.args.dues.now messages c.loop-k.left own) in
+    let (now, way') = c.loop-k.invariant.at.come.grown entered messages way (own_from c.args.dues.now messages c.loop-k.left own) in
     (now, _, way')
 
 pub enter-requires-clause-ready : goal.enter-requires-clause-ready
 enter-requires-clause-ready g c =
     let (entered, messages, way, own) = c.requires.ready in
-    let (now, way') = c.loop-k.invariant.at.come.grown entered messages way (own_from c.args.roster.now.under c.args.dues.now messages c.loop-k.left own) in
+    let (now, way') = c.loop-k.invariant.at.come.grown entered messages way (own_from c.args.dues.now messages c.loop-k.left own) in
     (now, _, way')
 
 pub join-requires-clause-arcs : goal.join-requires-clause-arcs
@@ -201,7 +173,7 @@ loop-k-preserved g c = elim c.if-is_message_next.branch [
         next = omega (arith, less);
         left = left;
         sum = omega (arith, sum);
-        come = come_event (couples_of (drop c.loop-k.left c.args.dues.now)) c.args.roster.now c.loop-k.roster w.enter.new.roster c.args.solver.now c.loop-k.solver w.enter.new.solver c.loop-k.invariant.at.come w.in_ok-hint.ensures.come;
+        come = come_event (messages_in (drop c.loop-k.left c.args.dues.now)) c.args.roster.now c.loop-k.roster w.enter.new.roster c.args.solver.now c.loop-k.solver w.enter.new.solver c.loop-k.invariant.at.come w.in_ok-hint.ensures.come;
         entered = λ j v below at. elim (cases_eq j c.loop-k.next) [
           | inl same ↦ (
               let one : w.event_at-event.result ≡ v = same_Some w.event_at-event.result v (sym w.event_at-event.ensures ∙ ap (λ (n : ℕ). slice_get (numbers_of c.args.turns.now) n) (sym same) ∙ at) in
@@ -229,7 +201,7 @@ returns-clause-come g c =
     let left = c.loop-k.invariant.at.left in
     let exit = c.loop-k-test.false in
     let none : c.loop-k.left ≡ 0 = omega (arith, sum, next, left, exit) in
-    subst (λ (n : ℕ). HaveCome (couples_of (drop n c.args.dues.now)) c.args.roster.now c.loop-k.roster c.args.solver.now c.loop-k.solver) none c.loop-k.invariant.at.come
+    subst (λ (n : ℕ). HaveCome (messages_in (drop n c.args.dues.now)) c.args.roster.now c.loop-k.roster c.args.solver.now c.loop-k.solver) none c.loop-k.invariant.at.come
 
 pub returns-clause-all : goal.returns-clause-all
 returns-clause-all g c = λ v less.

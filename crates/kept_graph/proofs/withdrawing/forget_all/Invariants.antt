@@ -1,9 +1,9 @@
-use Rattle.std.proofs.Common.{◌≡◌, drop}
+use Rattle.std.proofs.Common.{◌≡◌, drop, length}
 use Rattle.kept_graph.specs.Withdrawing.{without_partners}
 use Rattle.kept_graph.proofs.withdrawing.forget_all.Given as goal
 
-abbrev pub invariant-loop-couple : goal.invariant-loop-couple
-invariant-loop-couple l = record {
-  rest : without_partners l.roster (drop l.couple-index l.couples) ≡ without_partners l.initial.roster l.couples;
-  under : l.roster.under ≡ l.initial.roster.under;
+abbrev pub invariant-loop-message : goal.invariant-loop-message
+invariant-loop-message l = record {
+  rest : without_partners l.roster (drop l.message-index l.messages) ≡ without_partners l.initial.roster l.messages;
+  many : length l.roster.came ≡ length l.initial.roster.came;
 }

@@ -3,7 +3,7 @@ use Rattle.std.specs.List.{flat_map}
 use Rattle.kept_graph.specs.Withdrawing.{told_arcs}
 use Rattle.kept_graph.proofs.withdrawing.list_messages.Given as goal
 
-abbrev pub invariant-loop-couple : goal.invariant-loop-couple
-invariant-loop-couple l = record {
-  rest : l.numbers.items ++ flat_map (told_arcs l.roster) (drop l.couple-index l.couples) ≡ flat_map (told_arcs l.roster) l.couples;
+abbrev pub invariant-loop-message : goal.invariant-loop-message
+invariant-loop-message l = record {
+  rest : l.numbers.items ++ flat_map (told_arcs l.roster) (drop l.message-index l.messages) ≡ flat_map (told_arcs l.roster) l.messages;
 }

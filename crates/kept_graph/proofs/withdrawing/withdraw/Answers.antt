@@ -5,54 +5,59 @@ use Rattle.growth.specs.Once.{IsOn}
 use Rattle.kept_graph.specs.Growing.{Retells}
 use Rattle.kept_graph.specs.Withdrawing.{told_arcs}
 use Rattle.kept_graph.proofs.Forgetting.{IsForgetting, sends_of}
-use Rattle.kept_graph.proofs.Leaving.{all_told, numbers_on, numbers_differ, left_way, forgotten}
+use Rattle.kept_graph.proofs.Leaving.{all_told, numbers_on, numbers_differ, sends_inside, left_way, forgotten}
 use Rattle.kept_graph.proofs.withdrawing.withdraw.Goals as goal
 
-pub list_messages-requires-clause-told : goal.list_messages-requires-clause-told
-list_messages-requires-clause-told g c =
-    let (messages, left, way, of) = c.requires.ready in
-    (c.args.solver.now.graph, all_told c.args.roster.now c.args.solver.now messages left c.args.couples.now way of)
+pub list_messages-requires : goal.list_messages-requires
+list_messages-requires g c =
+    let (all, left, way, of) = c.requires.ready in
+    (c.args.solver.now.graph, all_told c.args.roster.now c.args.solver.now all left c.args.messages.now way of)
 
 pub withdraw-requires-clause-in_force : goal.withdraw-requires-clause-in_force
 withdraw-requires-clause-in_force g c =
-    let (messages, left, way, of) = c.requires.ready in
-    let numbers : c.deref.result.now ≡ flat_map (told_arcs c.args.roster.now) c.args.couples.now = c.deref.ensures.value ∙ c.in_ok-numbers.ensures in
-    subst (All (IsOn c.args.solver.now.graph)) (sym numbers) (numbers_on c.args.roster.now c.args.solver.now messages left c.args.couples.now way of)
+    let (all, left, way, of) = c.requires.ready in
+    let numbers : c.deref.result.now ≡ flat_map (told_arcs c.args.roster.now) c.args.messages.now = c.deref.ensures.value ∙ c.in_ok-numbers.ensures in
+    subst (All (IsOn c.args.solver.now.graph)) (sym numbers) (numbers_on c.args.roster.now c.args.solver.now all left c.args.messages.now way of)
 
 pub withdraw-requires-clause-differ : goal.withdraw-requires-clause-differ
 withdraw-requires-clause-differ g c =
-    let (messages, left, way, of) = c.requires.ready in
-    let numbers : c.deref.result.now ≡ flat_map (told_arcs c.args.roster.now) c.args.couples.now = c.deref.ensures.value ∙ c.in_ok-numbers.ensures in
-    subst (AllPairs (λ (j k : ℕ). j ≢ k)) (sym numbers)
-    (numbers_differ c.args.roster.now c.args.solver.now messages left c.args.couples.now way of c.decl.ensures.lawful c.requires.sends c.requires.receives c.requires.differ)
+    let (all, left, way, of) = c.requires.ready in
+    let numbers : c.deref.result.now ≡ flat_map (told_arcs c.args.roster.now) c.args.messages.now = c.deref.ensures.value ∙ c.in_ok-numbers.ensures in
+    subst (AllPairs (λ (j k : ℕ). j ≢ k)) (sym numbers) (numbers_differ c.args.roster.now c.args.solver.now all left c.args.messages.now way of c.requires.differ)
+
+pub forget_all-requires : goal.forget_all-requires
+forget_all-requires g c =
+    let (all, left, way, of) = c.requires.ready in
+    sends_inside c.args.roster.now c.args.solver.now all left c.args.messages.now way of
 
 pub returns-clause-gone : goal.returns-clause-gone
-returns-clause-gone g c = λ messages left way of.
-    let numbers : c.deref.result.now ≡ flat_map (told_arcs c.args.roster.now) c.args.couples.now = c.deref.ensures.value ∙ c.in_ok-numbers.ensures in
-    left_way c.args.roster.now c.args.solver.now messages left c.args.couples.now way of c.withdraw.new.self c.withdraw.ensures.nodes c.withdraw.ensures.arcs
+returns-clause-gone g c = λ all left way of.
+    let numbers : c.deref.result.now ≡ flat_map (told_arcs c.args.roster.now) c.args.messages.now = c.deref.ensures.value ∙ c.in_ok-numbers.ensures in
+    left_way c.args.roster.now c.args.solver.now all left c.args.messages.now way of c.withdraw.new.self c.withdraw.ensures.nodes c.withdraw.ensures.arcs
     (c.withdraw.ensures.in_force ∙ ap (withdrawn c.args.solver.now.graph.in_force) numbers) c.forget_all.new.roster
-    (subst (IsForgetting (sends_of c.args.roster.now c.args.couples.now) c.args.roster.now) (sym c.forget_all.ensures) (forgotten c.args.roster.now c.args.couples.now c.decl.ensures.lawful c.requires.sends))
+    (subst (IsForgetting (sends_of c.args.messages.now) c.args.roster.now) (sym c.forget_all.ensures) (forgotten c.args.roster.now c.args.solver.now all left c.args.messages.now way of))
     c.in_ok-withdraw.ensures.current
 
 pub returns-clause-retells : goal.returns-clause-retells
 returns-clause-retells g c =
-    subst (Retells c.args.roster.now) (sym c.forget_all.ensures) (forgotten c.args.roster.now c.args.couples.now c.decl.ensures.lawful c.requires.sends).retells
+    let (all, left, way, of) = c.requires.ready in
+    subst (Retells c.args.roster.now) (sym c.forget_all.ensures) (forgotten c.args.roster.now c.args.solver.now all left c.args.messages.now way of).retells
 
 pub returns-clause-declaration : goal.returns-clause-declaration
 returns-clause-declaration g c = (returns-clause-retells g c).declaration
 
 pub returns-clause-unchanged : goal.returns-clause-unchanged
 returns-clause-unchanged g c = λ none.
-    let numbers : c.deref.result.now ≡ flat_map (told_arcs c.args.roster.now) c.args.couples.now = c.deref.ensures.value ∙ c.in_ok-numbers.ensures in
+    let numbers : c.deref.result.now ≡ flat_map (told_arcs c.args.roster.now) c.args.messages.now = c.deref.ensures.value ∙ c.in_ok-numbers.ensures in
     c.withdraw.ensures.unchanged (numbers ∙ ap (flat_map (told_arcs c.args.roster.now)) none)
 
 pub returns-clause-steps : goal.returns-clause-steps
 returns-clause-steps g c =
-    let (messages, left, way, of) = c.requires.ready in
-    let numbers : c.deref.result.now ≡ flat_map (told_arcs c.args.roster.now) c.args.couples.now = c.deref.ensures.value ∙ c.in_ok-numbers.ensures in
+    let (all, left, way, of) = c.requires.ready in
+    let numbers : c.deref.result.now ≡ flat_map (told_arcs c.args.roster.now) c.args.messages.now = c.deref.ensures.value ∙ c.in_ok-numbers.ensures in
     record {
       numbers = c.deref.result.now;
-      were = subst (All (IsOn c.args.solver.now.graph)) (sym numbers) (numbers_on c.args.roster.now c.args.solver.now messages left c.args.couples.now way of);
+      were = subst (All (IsOn c.args.solver.now.graph)) (sym numbers) (numbers_on c.args.roster.now c.args.solver.now all left c.args.messages.now way of);
       nodes = c.withdraw.ensures.nodes;
       arcs = c.withdraw.ensures.arcs;
       in_force = c.withdraw.ensures.in_force;

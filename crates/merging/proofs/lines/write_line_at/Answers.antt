@@ -7,8 +7,8 @@ use Rattle.ports.proofs.Writing.{writes_as}
 use Rattle.decl.specs.Declaration.{Declaration, declaration_of}
 use Rattle.traces.specs.Traces.{Placed, name_of}
 use Rattle.traces.specs.Held.{placed_in, placed_of}
-use Rattle.trace_problem.proofs.Places.{placed_at}
-use Rattle.trace_problem.proofs.Lists.{all_at}
+use Rattle.traces.proofs.Places.{placed_at}
+use Rattle.traces.proofs.Lists.{all_at}
 use Rattle.report.specs.Merging.{merge_line}
 use Rattle.merging.specs.Merged.{line_if}
 use Rattle.merging.specs.Writing.{times_by}

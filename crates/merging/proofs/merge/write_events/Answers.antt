@@ -9,8 +9,8 @@ use Rattle.traces.specs.declared.accepted.Accepted.{Accepted}
 use Rattle.traces.specs.Traces.{Placed, events_of}
 use Rattle.traces.specs.Held.{placed_in, placed_of, seen_in}
 use Rattle.traces.specs.Messages.{problem_of_seen}
-use Rattle.trace_problem.specs.Making.{AreEvents}
-use Rattle.trace_problem.proofs.Seen.{are_events}
+use Rattle.traces.specs.Making.{AreEvents}
+use Rattle.traces.proofs.Seen.{are_events}
 use Rattle.earliest.specs.Values.{Values}
 use Rattle.queries.specs.Replies.{Replies}
 use Rattle.problem.proofs.OwnReadings.{own_readings}

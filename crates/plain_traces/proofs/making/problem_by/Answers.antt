@@ -11,8 +11,8 @@ use Rattle.traces.specs.Traces.{Placed}
 use Rattle.traces.specs.Messages.{event_with, linked}
 use Rattle.traces.specs.Held.{placed_in, placed_of}
 use Rattle.plain_traces.specs.Known.{IsKnown}
-use Rattle.trace_problem.proofs.Lists.{all_at}
-use Rattle.trace_problem.proofs.Places.{label_of, placed_at}
+use Rattle.traces.proofs.Lists.{all_at}
+use Rattle.traces.proofs.Places.{label_of, placed_at}
 use Rattle.plain_traces.proofs.Growth.{clock_new, event_more, event_new, known, linked_is, made_more, made_new}
 use Rattle.plain_traces.proofs.Follows.{follow_more, follow_new, follow_none}
 use Rattle.plain_traces.proofs.making.problem_by.Goals as goal

@@ -1,7 +1,7 @@
 use Rattle.std.proofs.Common.{◌≡◌, [], take}
 use Rattle.decl.specs.Declaration.{declaration_of}
 use Rattle.traces.specs.Held.{placed_in}
-use Rattle.trace_problem.specs.Making.{problem_by}
+use Rattle.traces.specs.Making.{problem_by}
 use Rattle.plain_traces.proofs.Growth.{clocks_alone}
 use Rattle.plain_traces.proofs.Follows.{followed}
 use Rattle.plain_traces.proofs.making.problem_by.Given as goal

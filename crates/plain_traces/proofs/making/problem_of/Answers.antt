@@ -6,8 +6,8 @@ use Rattle.trace_event.specs.Seen.{Seen, seen_events}
 use Rattle.traces.specs.declared.accepted.Accepted.{Accepted}
 use Rattle.traces.specs.Traces.{Placed, events_of}
 use Rattle.traces.specs.Held.{placed_in, seen_in}
-use Rattle.trace_problem.specs.Making.{AreEvents, AreMessages}
-use Rattle.trace_problem.proofs.Seen.{are_events, are_messages}
+use Rattle.traces.specs.Making.{AreEvents, AreMessages}
+use Rattle.traces.proofs.Seen.{are_events, are_messages}
 use Rattle.plain_traces.proofs.making.problem_of.Goals as goal
 
 pub problem_by-requires-clause-events : goal.problem_by-requires-clause-events

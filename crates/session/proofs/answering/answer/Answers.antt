@@ -100,6 +100,9 @@ write_report-requires-clause-declared g c = subst IsDeclaration (sym c.decl-in-R
 pub write_report-requires-clause-labels : goal.write_report-requires-clause-labels
 write_report-requires-clause-labels g c = c.requires.labels ∙ ap (λ (d : Declaration). length d.labels) (sym c.decl-in-Report.ensures.same)
 
+pub write_report-requires-clause-ends : goal.write_report-requires-clause-ends
+write_report-requires-clause-ends g c = c.requires.ready.1.ends
+
 pub write_report-requires-clause-solution : goal.write_report-requires-clause-solution
 write_report-requires-clause-solution g c =
     let a = c.args.answers.now in

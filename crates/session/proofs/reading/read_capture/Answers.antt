@@ -2,7 +2,7 @@ use Rattle.std.proofs.Common.{◌≡◌, ◌∙◌, List, [], Some, refl, sym, a
 use Rattle.std.proofs.lemmas.List.{length-map}
 use Rattle.pcap_stream.proofs.Collecting.{all_few, all_kept}
 use Rattle.captures.specs.Capture as captures
-use Rattle.captures.specs.Feeding.{seen_packet, seen_packets}
+use Rattle.captures.specs.Feeding.{seen_packets}
 use Rattle.decl.specs.Declaration.{declaration_of}
 use Rattle.trace_event.specs.Seen.{event_of_packet, seen_event, seen_events}
 use Rattle.traces.specs.declared.accepted.Stream.TheVariants as streams

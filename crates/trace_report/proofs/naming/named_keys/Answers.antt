@@ -1,8 +1,7 @@
 use Rattle.std.proofs.Common.{◌≡◌, ◌<◌, ℕ, map, get_or, ap, sym, subst, ◌∙◌}
 use Rattle.std.proofs.lemmas.List.{get_or-map, length-map}
 use Rattle.decl.specs.Declaration.{declaration_of}
-use Rattle.trace_match.specs.Ambiguous.{seen_ambiguous}
-use Rattle.trace_report.specs.Inside.{HasLabels}
+use Rattle.trace_report.specs.Inside.{HasLabels, seen_ambiguous}
 use Rattle.trace_report.proofs.naming.named_keys.Goals as goal
 
 pub named-requires-clause-labels : goal.named-requires-clause-labels

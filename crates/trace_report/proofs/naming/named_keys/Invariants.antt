@@ -1,8 +1,8 @@
 use Rattle.std.proofs.Common.{◌≡◌, map, take, All}
 use Rattle.decl.specs.Declaration.{declaration_of}
-use Rattle.trace_match.specs.Ambiguous.{seen_ambiguous}
 use Rattle.report.specs.Report.{HasAsciiKey, reported_key}
-use Rattle.trace_report.specs.Inside.{named_key}
+use Rattle.trace_report.specs.Reports.{named_key}
+use Rattle.trace_report.specs.Inside.{seen_ambiguous}
 use Rattle.trace_report.proofs.naming.named_keys.Given as goal
 
 abbrev pub invariant-loop-key : goal.invariant-loop-key

@@ -6,16 +6,18 @@ use Rattle.traces.specs.declared.accepted.Accepted.{Accepted}
 use Rattle.traces.specs.Traces.{events_of}
 use Rattle.traces.specs.Held.{seen_in}
 use Rattle.msg_match.specs.declared.change.Tallies.{Tallies}
-use Rattle.msg_match.specs.Messages.{tallies}
 use Rattle.report.specs.Report.{reported_key}
-use Rattle.trace_match.specs.Ends.{ends_of}
-use Rattle.trace_match.specs.Ambiguous.{EndGroup, ambiguous_ends, seen_ambiguous}
-use Rattle.trace_report.specs.Reports.{keyed_from}
-use Rattle.trace_report.specs.Inside.{HasLabels, named_key}
-use Rattle.trace_report.proofs.Ended.{counts_told, keys_labelled, keys_named}
+use Rattle.event_match.specs.Ends.{ends_of}
+use Rattle.event_match.specs.Ambiguous.{EndGroup, ambiguous_ends, tallies_of}
+use Rattle.trace_report.specs.Reports.{named_key}
+use Rattle.trace_report.specs.Inside.{HasLabels, ids_in, seen_ambiguous}
+use Rattle.trace_report.proofs.Ended.{counts_told, keys_labelled}
 use Rattle.trace_report.proofs.Matched.{messages_many}
 use Rattle.trace_report.proofs.Whole.{counted, made_is}
 use Rattle.trace_report.proofs.view.view_of.Goals as goal
+
+pub keys_in_order-requires : goal.keys_in_order-requires
+keys_in_order-requires c = c.requires.ends.within
 
 pub named_keys-requires-clause-labels : goal.named_keys-requires-clause-labels
 named_keys-requires-clause-labels c =
@@ -29,10 +31,10 @@ returns-clause-view c =
     let d = declaration_of c.args.decl.now in
     let seen = seen_in c.args.accepted.now in
     let keys : map seen_ambiguous c.deref.result.now ≡ ambiguous_ends (ends_of (events_of seen)) = ap (map seen_ambiguous) c.deref.ensures.value ∙ c.in_ok-keys.ensures seen c.requires.ends in
-    let told : c.tallies-tallies.result ≡ tallies (keyed_from 0 (events_of seen)) = c.tallies-tallies.ensures ∙ counts_told d seen c.args.matcher.now c.requires.ends in
+    let told : c.tallies-tallies.result ≡ tallies_of (ends_of (events_of seen)) = c.tallies-tallies.ensures ∙ counts_told (ids_in c.args.roster.now) c.args.matcher.now seen c.requires.ends in
     made_is d seen c.args.consistent c.event_count.result c.tallies-tallies.result.messages c.tallies-tallies.result.unmatched c.nokeys_of.result (map reported_key c.in_ok-groups.groups.items)
     (counted seen c.event_count.result c.event_count.ensures c.requires.few)
     (ap (λ (t : Tallies). t.messages) told ∙ messages_many (events_of seen))
     (ap (λ (t : Tallies). t.unmatched) told)
     c.nokeys_of.ensures
-    (c.in_ok-groups.ensures.named ∙ ap (map (named_key d)) keys ∙ keys_named d (events_of seen))
+    (c.in_ok-groups.ensures.named ∙ ap (map (named_key d)) keys)

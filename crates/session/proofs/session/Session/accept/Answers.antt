@@ -1,4 +1,4 @@
-use Rattle.std.proofs.Common.{◌≡◌, ◌∙◌, ◌+◌, refl, ◌^◌, ◌≤◌, ◌<◌, ℕ, sym, ap, subst, List, length, map, true, false, rules, arith}
+use Rattle.std.proofs.Common.{◌≡◌, ◌∙◌, refl, ◌^◌, ◌≤◌, ◌<◌, sym, ap, subst, List, length, map, true, false, rules, arith}
 use Rattle.std.specs.Vec.{with_items}
 use Rattle.std.proofs.lemmas.List.{length-map, with_items_is}
 use Rattle.decl.specs.Declaration.{Declaration}
@@ -7,40 +7,24 @@ use Rattle.traces.specs.declared.accepted.Accepted.{Accepted}
 use Rattle.traces.specs.Traces.{event_count}
 use Rattle.traces.specs.Held.{seen_in}
 use Rattle.traces.specs.Messages.{problem_of_seen}
-use Rattle.trace_match.specs.Ends.{AreEndsOf, AreChanges, IsChange}
+use Rattle.event_match.specs.Ends.{IsChange}
 use Rattle.queries.specs.Consistent.{IsConsistent}
-use Rattle.replies.specs.declared.refusal.Refusal.TheVariants.{TooManyEvents}
-use Rattle.replies.specs.declared.outcome.Outcome.TheVariants.{Refused}
 use Rattle.replies.specs.Outcomes.{IsLineOf, outcome_line}
 use Rattle.session.specs.Stands.{Held, held_of, problem_held, seen_held, solver_of, under_of}
 use Rattle.ready_answers.specs.Ready.{AreAnswersOf}
 use Rattle.ready_answers.specs.Keeping.{Brings}
 use Rattle.session.specs.Inside.{AcceptAnswered, HasPlace}
 use Rattle.session.proofs.AddedThere.{where_weaker}
-use Rattle.session.proofs.Holding.{limits, labels_few, seen_accepted}
-use Rattle.replies.proofs.Elements.{le_true}
+use Rattle.session.proofs.Holding.{limits, seen_accepted}
 use Rattle.session.proofs.Standby.{ready_of}
-use Rattle.session.proofs.Additions.{adds_nothing, added_so}
+use Rattle.session.proofs.Additions.{added_so}
 use Rattle.session.proofs.Accepting.{extended, fits, added_in, whole_same, whole_grown, whole_few, brings, never_ready}
 use Rattle.session.proofs.session.Session.accept.Goals as goal
-
-pub extend-requires-clause-labels : goal.extend-requires-clause-labels
-extend-requires-clause-labels g c =
-    subst (λ (l : List Accepted). length l ≤ 65536) (sym c.deref_mut.ensures.value) (labels_few c.self.inside.answers.graph.roster.declaration c.self.inside.accepted.items _ _ (limits c.self.invariant.0))
 
 pub extend-requires-clause-place : goal.extend-requires-clause-place
 extend-requires-clause-place g c =
     subst (λ (l : List Accepted). HasPlace (map under_of l) c.args.k c.args.size) (sym c.deref_mut.ensures.value)
     (subst (λ (h : Held). HasPlace h.under c.args.k c.args.size) (sym c.self.view_is) c.requires.place)
-
-pub extend-requires-clause-few : goal.extend-requires-clause-few
-extend-requires-clause-few g c =
-    let seen : event_count (seen_held c.args.self.now.under) ≡ event_count (seen_in c.deref_mut.result.now) =
-    ap (λ (h : Held). event_count (seen_held h.under)) (sym c.self.view_is) ∙ ap event_count (seen_accepted c.self.inside.accepted.items) ∙ ap (λ (l : List Accepted). event_count (seen_in l)) (sym c.deref_mut.ensures.value) in
-    subst (λ (n : ℕ). n + length c.args.events.items ≤ 2 ^ 21) seen c.requires.room
-
-pub extend-requires-clause-ends : goal.extend-requires-clause-ends
-extend-requires-clause-ends g c = subst (λ (l : List Accepted). AreEndsOf c.self.inside.matcher (seen_in l)) (sym c.deref_mut.ensures.value) c.self.invariant.1
 
 pub renew-requires-clause-inside : goal.renew-requires-clause-inside
 renew-requires-clause-inside g c =
@@ -51,12 +35,12 @@ renew-requires-clause-inside g c =
     let before = solver_of c.self.inside.ready c.self.inside.answers in
     let e = extended d c.self.inside.accepted.items _ c.extend.new.accepted c.self.inside.kept.items before c.args.self.now c.args.k _ _
     (seen_events c.args.events.items) c.args.size c.args.stream _ c.self.view_is c.requires.inside c.requires.place c.requires.within count refl refl fit
-    c.deref_mut.ensures.value c.in_ok-changes.ensures.grown in
-    let long : length c.extend.new.accepted ≡ c.self.inside.accepted.len = c.in_ok-changes.ensures.len ∙ ap length c.deref_mut.ensures.value ∙ sym c.self.inside.accepted.ok.0 in
+    c.deref_mut.ensures.value c.in_ok-extend.ensures.grown in
+    let long : length c.extend.new.accepted ≡ c.self.inside.accepted.len = c.in_ok-extend.ensures.len ∙ ap length c.deref_mut.ensures.value ∙ sym c.self.inside.accepted.ok.0 in
     let back : (with_items c.self.inside.accepted c.extend.new.accepted).items ≡ c.extend.new.accepted = with_items_is c.self.inside.accepted c.extend.new.accepted long in
     let under : c.args.k < length (map under_of c.self.inside.accepted.items) = subst (λ (h : Held). c.args.k < length h.under) (sym c.self.view_is) c.requires.inside in
     let many = length-map c.self.inside.accepted.items under_of in
-    let all : length c.deref.result.now ≡ length c.self.inside.accepted.items = ap length (c.deref.ensures.value ∙ back) ∙ c.in_ok-changes.ensures.len ∙ ap length c.deref_mut.ensures.value in
+    let all : length c.deref.result.now ≡ length c.self.inside.accepted.items = ap length (c.deref.ensures.value ∙ back) ∙ c.in_ok-extend.ensures.len ∙ ap length c.deref_mut.ensures.value in
     omega (arith, under, many, all)
 
 pub renew-requires-clause-few : goal.renew-requires-clause-few
@@ -68,8 +52,8 @@ renew-requires-clause-few g c =
     let before = solver_of c.self.inside.ready c.self.inside.answers in
     let e = extended d c.self.inside.accepted.items _ c.extend.new.accepted c.self.inside.kept.items before c.args.self.now c.args.k _ _
     (seen_events c.args.events.items) c.args.size c.args.stream _ c.self.view_is c.requires.inside c.requires.place c.requires.within count refl refl fit
-    c.deref_mut.ensures.value c.in_ok-changes.ensures.grown in
-    let long : length c.extend.new.accepted ≡ c.self.inside.accepted.len = c.in_ok-changes.ensures.len ∙ ap length c.deref_mut.ensures.value ∙ sym c.self.inside.accepted.ok.0 in
+    c.deref_mut.ensures.value c.in_ok-extend.ensures.grown in
+    let long : length c.extend.new.accepted ≡ c.self.inside.accepted.len = c.in_ok-extend.ensures.len ∙ ap length c.deref_mut.ensures.value ∙ sym c.self.inside.accepted.ok.0 in
     let back : (with_items c.self.inside.accepted c.extend.new.accepted).items ≡ c.extend.new.accepted = with_items_is c.self.inside.accepted c.extend.new.accepted long in
     subst (λ (l : List Accepted). event_count (seen_in l) ≤ 2 ^ 21) (sym (c.deref.ensures.value ∙ back))
     (whole_few d c.self.inside.accepted.items c.extend.new.accepted c.self.inside.kept.items before c.args.self.now c.args.k (seen_events c.args.events.items) c.args.size c.args.stream e (limits c.self.invariant.0))
@@ -83,32 +67,30 @@ renew-requires-clause-brings g c =
     let before = solver_of c.self.inside.ready c.self.inside.answers in
     let e = extended d c.self.inside.accepted.items _ c.extend.new.accepted c.self.inside.kept.items before c.args.self.now c.args.k _ _
     (seen_events c.args.events.items) c.args.size c.args.stream _ c.self.view_is c.requires.inside c.requires.place c.requires.within count refl refl fit
-    c.deref_mut.ensures.value c.in_ok-changes.ensures.grown in
-    let long : length c.extend.new.accepted ≡ c.self.inside.accepted.len = c.in_ok-changes.ensures.len ∙ ap length c.deref_mut.ensures.value ∙ sym c.self.inside.accepted.ok.0 in
+    c.deref_mut.ensures.value c.in_ok-extend.ensures.grown in
+    let long : length c.extend.new.accepted ≡ c.self.inside.accepted.len = c.in_ok-extend.ensures.len ∙ ap length c.deref_mut.ensures.value ∙ sym c.self.inside.accepted.ok.0 in
     let back : (with_items c.self.inside.accepted c.extend.new.accepted).items ≡ c.extend.new.accepted = with_items_is c.self.inside.accepted c.extend.new.accepted long in
     let same : c.deref.result.now ≡ c.extend.new.accepted = c.deref.ensures.value ∙ back in
-    let changes : AreChanges (seen_in c.self.inside.accepted.items) (seen_in c.extend.new.accepted) c.in_ok-changes.changes =
-    subst (λ (l : List Accepted). AreChanges (seen_in l) (seen_in c.extend.new.accepted) c.in_ok-changes.changes) c.deref_mut.ensures.value c.in_ok-changes.ensures.changes in
-    let more : Brings (seen_in c.self.inside.accepted.items) (seen_in c.extend.new.accepted) c.args.k c.len-more.result c.in_ok-changes.changes =
-    brings c.self.inside.accepted.items c.extend.new.accepted c.args.k c.len-more.result (seen_events c.args.events.items) c.args.size c.args.stream c.in_ok-changes.changes e.grew count changes in
+    let more : Brings (seen_in c.self.inside.accepted.items) (seen_in c.extend.new.accepted) c.args.k c.len-more.result =
+    brings c.self.inside.accepted.items c.extend.new.accepted c.args.k c.len-more.result (seen_events c.args.events.items) c.args.size c.args.stream e.grew count in
     let ready : c.self.inside.ready ≡ true = ready_of c.args.self.now c.self.inside.ready c.self.inside.answers (ap (λ (h : Held). h.answers) c.self.view_is) c.requires.ready in
-    let are = c.self.invariant.3 ready in
-    let here : Brings (seen_in c.self.inside.accepted.items) (seen_in c.deref.result.now) c.args.k c.len-more.result c.in_ok-changes.changes =
-    subst (λ (l : List Accepted). Brings (seen_in c.self.inside.accepted.items) (seen_in l) c.args.k c.len-more.result c.in_ok-changes.changes) (sym same) more in
+    let are = c.self.invariant.2 ready in
+    let here : Brings (seen_in c.self.inside.accepted.items) (seen_in c.deref.result.now) c.args.k c.len-more.result =
+    subst (λ (l : List Accepted). Brings (seen_in c.self.inside.accepted.items) (seen_in l) c.args.k c.len-more.result) (sym same) more in
     (seen_in c.self.inside.accepted.items, c.self.inside.kept.items, are, here)
 
 pub invariant_of-self : goal.invariant_of-self
 invariant_of-self g c =
     let d = c.self.inside.answers.graph.roster.declaration in
     let kept = c.self.inside.kept.items in
-    let long : length c.extend.new.accepted ≡ c.self.inside.accepted.len = c.in_err-changes.ensures.len ∙ ap length c.deref_mut.ensures.value ∙ sym c.self.inside.accepted.ok.0 in
+    let long : length c.extend.new.accepted ≡ c.self.inside.accepted.len = c.in_err-extend.ensures.len ∙ ap length c.deref_mut.ensures.value ∙ sym c.self.inside.accepted.ok.0 in
     let back : (with_items c.self.inside.accepted c.extend.new.accepted).items ≡ c.extend.new.accepted = with_items_is c.self.inside.accepted c.extend.new.accepted long in
     whole_same d c.self.inside.accepted.items c.extend.new.accepted (with_items c.self.inside.accepted c.extend.new.accepted).items kept (solver_of c.self.inside.ready c.self.inside.answers)
-    false c.self.inside.answers c.extend.new.matcher refl back (c.in_err-changes.ensures.stays ∙ ap (λ (l : List Accepted). map under_of l) c.deref_mut.ensures.value) (limits c.self.invariant.0) c.self.invariant.2
-    c.in_err-changes.ensures.ends refl
+    false c.self.inside.answers refl back (c.in_err-extend.ensures.stays ∙ ap (λ (l : List Accepted). map under_of l) c.deref_mut.ensures.value) (limits c.self.invariant.0) c.self.invariant.1
+    refl
 
-pub invariant_of-self-in_err-consistent : goal.invariant_of-self-in_err-consistent
-invariant_of-self-in_err-consistent g c =
+pub invariant_of-self-in_err-renewed : goal.invariant_of-self-in_err-renewed
+invariant_of-self-in_err-renewed g c =
     let len : c.len-more.result ≡ length c.args.events.items = search rules in
     let count : c.len-more.result ≡ length (seen_events c.args.events.items) = len ∙ sym (length-map c.args.events.items seen_event) in
     let fit = fits (event_count (seen_held c.args.self.now.under)) c.len-more.result (length c.args.events.items) len c.requires.room in
@@ -116,12 +98,12 @@ invariant_of-self-in_err-consistent g c =
     let before = solver_of c.self.inside.ready c.self.inside.answers in
     let e = extended d c.self.inside.accepted.items _ c.extend.new.accepted c.self.inside.kept.items before c.args.self.now c.args.k _ _
     (seen_events c.args.events.items) c.args.size c.args.stream _ c.self.view_is c.requires.inside c.requires.place c.requires.within count refl refl fit
-    c.deref_mut.ensures.value c.in_ok-changes.ensures.grown in
-    let long : length c.extend.new.accepted ≡ c.self.inside.accepted.len = c.in_ok-changes.ensures.len ∙ ap length c.deref_mut.ensures.value ∙ sym c.self.inside.accepted.ok.0 in
+    c.deref_mut.ensures.value c.in_ok-extend.ensures.grown in
+    let long : length c.extend.new.accepted ≡ c.self.inside.accepted.len = c.in_ok-extend.ensures.len ∙ ap length c.deref_mut.ensures.value ∙ sym c.self.inside.accepted.ok.0 in
     let back : (with_items c.self.inside.accepted c.extend.new.accepted).items ≡ c.extend.new.accepted = with_items_is c.self.inside.accepted c.extend.new.accepted long in
     let then = (with_items c.self.inside.accepted c.extend.new.accepted).items in
     whole_grown d c.self.inside.accepted.items c.extend.new.accepted then c.self.inside.kept.items before false c.renew.new.answers c.args.self.now c.args.k (seen_events c.args.events.items) c.args.size c.args.stream
-    c.extend.new.matcher e c.renew.ensures.declaration back (limits c.self.invariant.0) c.self.invariant.2 c.in_ok-changes.ensures.ends
+    e c.renew.ensures.declaration back (limits c.self.invariant.0) c.self.invariant.1
     (never_ready false (AreAnswersOf (seen_in then) c.self.inside.kept.items c.renew.new.answers) refl)
 
 pub invariant_of-self-2 : goal.invariant_of-self-2
@@ -133,24 +115,22 @@ invariant_of-self-2 g c =
     let before = solver_of c.self.inside.ready c.self.inside.answers in
     let e = extended d c.self.inside.accepted.items _ c.extend.new.accepted c.self.inside.kept.items before c.args.self.now c.args.k _ _
     (seen_events c.args.events.items) c.args.size c.args.stream _ c.self.view_is c.requires.inside c.requires.place c.requires.within count refl refl fit
-    c.deref_mut.ensures.value c.in_ok-changes.ensures.grown in
-    let long : length c.extend.new.accepted ≡ c.self.inside.accepted.len = c.in_ok-changes.ensures.len ∙ ap length c.deref_mut.ensures.value ∙ sym c.self.inside.accepted.ok.0 in
+    c.deref_mut.ensures.value c.in_ok-extend.ensures.grown in
+    let long : length c.extend.new.accepted ≡ c.self.inside.accepted.len = c.in_ok-extend.ensures.len ∙ ap length c.deref_mut.ensures.value ∙ sym c.self.inside.accepted.ok.0 in
     let back : (with_items c.self.inside.accepted c.extend.new.accepted).items ≡ c.extend.new.accepted = with_items_is c.self.inside.accepted c.extend.new.accepted long in
     let same : c.deref.result.now ≡ c.extend.new.accepted = c.deref.ensures.value ∙ back in
-    let changes : AreChanges (seen_in c.self.inside.accepted.items) (seen_in c.extend.new.accepted) c.in_ok-changes.changes =
-    subst (λ (l : List Accepted). AreChanges (seen_in l) (seen_in c.extend.new.accepted) c.in_ok-changes.changes) c.deref_mut.ensures.value c.in_ok-changes.ensures.changes in
-    let more : Brings (seen_in c.self.inside.accepted.items) (seen_in c.extend.new.accepted) c.args.k c.len-more.result c.in_ok-changes.changes =
-    brings c.self.inside.accepted.items c.extend.new.accepted c.args.k c.len-more.result (seen_events c.args.events.items) c.args.size c.args.stream c.in_ok-changes.changes e.grew count changes in
+    let more : Brings (seen_in c.self.inside.accepted.items) (seen_in c.extend.new.accepted) c.args.k c.len-more.result =
+    brings c.self.inside.accepted.items c.extend.new.accepted c.args.k c.len-more.result (seen_events c.args.events.items) c.args.size c.args.stream e.grew count in
     let ready : c.self.inside.ready ≡ true = ready_of c.args.self.now c.self.inside.ready c.self.inside.answers (ap (λ (h : Held). h.answers) c.self.view_is) c.requires.ready in
-    let are = c.self.invariant.3 ready in
-    let here : Brings (seen_in c.self.inside.accepted.items) (seen_in c.deref.result.now) c.args.k c.len-more.result c.in_ok-changes.changes =
-    subst (λ (l : List Accepted). Brings (seen_in c.self.inside.accepted.items) (seen_in l) c.args.k c.len-more.result c.in_ok-changes.changes) (sym same) more in
+    let are = c.self.invariant.2 ready in
+    let here : Brings (seen_in c.self.inside.accepted.items) (seen_in c.deref.result.now) c.args.k c.len-more.result =
+    subst (λ (l : List Accepted). Brings (seen_in c.self.inside.accepted.items) (seen_in l) c.args.k c.len-more.result) (sym same) more in
     let kept = c.self.inside.kept.items in
     let then = (with_items c.self.inside.accepted c.extend.new.accepted).items in
     let done : AreAnswersOf (seen_in then) kept c.renew.new.answers =
-    subst (λ (l : List Accepted). AreAnswersOf (seen_in l) kept c.renew.new.answers) c.deref.ensures.value (c.in_ok-consistent.ensures.ready (seen_in c.self.inside.accepted.items) kept are here) in
+    subst (λ (l : List Accepted). AreAnswersOf (seen_in l) kept c.renew.new.answers) c.deref.ensures.value (c.in_ok-renewed.ensures.ready (seen_in c.self.inside.accepted.items) kept are here) in
     whole_grown d c.self.inside.accepted.items c.extend.new.accepted then kept before true c.renew.new.answers c.args.self.now c.args.k (seen_events c.args.events.items) c.args.size c.args.stream
-    c.extend.new.matcher e c.renew.ensures.declaration back (limits c.self.invariant.0) c.self.invariant.2 c.in_ok-changes.ensures.ends (λ is. done)
+    e c.renew.ensures.declaration back (limits c.self.invariant.0) c.self.invariant.1 (λ is. done)
 
 pub returns-clause-answers : goal.returns-clause-answers
 returns-clause-answers g c =
@@ -161,29 +141,28 @@ returns-clause-answers g c =
     let before = solver_of c.self.inside.ready c.self.inside.answers in
     let e = extended d c.self.inside.accepted.items _ c.extend.new.accepted c.self.inside.kept.items before c.args.self.now c.args.k _ _
     (seen_events c.args.events.items) c.args.size c.args.stream _ c.self.view_is c.requires.inside c.requires.place c.requires.within count refl refl fit
-    c.deref_mut.ensures.value c.in_ok-changes.ensures.grown in
-    let long : length c.extend.new.accepted ≡ c.self.inside.accepted.len = c.in_ok-changes.ensures.len ∙ ap length c.deref_mut.ensures.value ∙ sym c.self.inside.accepted.ok.0 in
+    c.deref_mut.ensures.value c.in_ok-extend.ensures.grown in
+    let long : length c.extend.new.accepted ≡ c.self.inside.accepted.len = c.in_ok-extend.ensures.len ∙ ap length c.deref_mut.ensures.value ∙ sym c.self.inside.accepted.ok.0 in
     let back : (with_items c.self.inside.accepted c.extend.new.accepted).items ≡ c.extend.new.accepted = with_items_is c.self.inside.accepted c.extend.new.accepted long in
     let same : c.deref.result.now ≡ c.extend.new.accepted = c.deref.ensures.value ∙ back in
-    let changes : AreChanges (seen_in c.self.inside.accepted.items) (seen_in c.extend.new.accepted) c.in_ok-changes.changes =
-    subst (λ (l : List Accepted). AreChanges (seen_in l) (seen_in c.extend.new.accepted) c.in_ok-changes.changes) c.deref_mut.ensures.value c.in_ok-changes.ensures.changes in
-    let more : Brings (seen_in c.self.inside.accepted.items) (seen_in c.extend.new.accepted) c.args.k c.len-more.result c.in_ok-changes.changes =
-    brings c.self.inside.accepted.items c.extend.new.accepted c.args.k c.len-more.result (seen_events c.args.events.items) c.args.size c.args.stream c.in_ok-changes.changes e.grew count changes in
+    let more : Brings (seen_in c.self.inside.accepted.items) (seen_in c.extend.new.accepted) c.args.k c.len-more.result =
+    brings c.self.inside.accepted.items c.extend.new.accepted c.args.k c.len-more.result (seen_events c.args.events.items) c.args.size c.args.stream e.grew count in
     let ready : c.self.inside.ready ≡ true = ready_of c.args.self.now c.self.inside.ready c.self.inside.answers (ap (λ (h : Held). h.answers) c.self.view_is) c.requires.ready in
-    let are = c.self.invariant.3 ready in
-    let here : Brings (seen_in c.self.inside.accepted.items) (seen_in c.deref.result.now) c.args.k c.len-more.result c.in_ok-changes.changes =
-    subst (λ (l : List Accepted). Brings (seen_in c.self.inside.accepted.items) (seen_in l) c.args.k c.len-more.result c.in_ok-changes.changes) (sym same) more in
+    let are = c.self.invariant.2 ready in
+    let here : Brings (seen_in c.self.inside.accepted.items) (seen_in c.deref.result.now) c.args.k c.len-more.result =
+    subst (λ (l : List Accepted). Brings (seen_in c.self.inside.accepted.items) (seen_in l) c.args.k c.len-more.result) (sym same) more in
     let kept = c.self.inside.kept.items in
     let after = solver_of true c.renew.new.answers in
     let p = problem_of_seen d (seen_in c.extend.new.accepted) in
     let problem : p ≡ problem_held (held_of d c.extend.new.accepted kept after) = ap (λ (x : List (List Seen)). problem_of_seen d x) (sym (seen_accepted c.extend.new.accepted)) in
-    let consistent : IsConsistent p c.in_ok-consistent.consistent =
-    subst (λ (x : Declaration). IsConsistent (problem_of_seen x (seen_in c.extend.new.accepted)) c.in_ok-consistent.consistent) c.renew.ensures.declaration
-    (subst (λ (l : List Accepted). IsConsistent (problem_of_seen c.renew.new.answers.graph.roster.declaration (seen_in l)) c.in_ok-consistent.consistent) same c.in_ok-consistent.ensures.consistent) in
-    let change : IsChange (seen_in c.self.inside.accepted.items) (seen_in c.extend.new.accepted) c.counts.result = c.counts.ensures.change (seen_in c.self.inside.accepted.items) (seen_in c.extend.new.accepted) changes in
+    let consistent : IsConsistent p c.in_ok-renewed.renewed.consistent =
+    subst (λ (x : Declaration). IsConsistent (problem_of_seen x (seen_in c.extend.new.accepted)) c.in_ok-renewed.renewed.consistent) c.renew.ensures.declaration
+    (subst (λ (l : List Accepted). IsConsistent (problem_of_seen c.renew.new.answers.graph.roster.declaration (seen_in l)) c.in_ok-renewed.renewed.consistent) same c.in_ok-renewed.ensures.consistent) in
+    let change : IsChange (seen_in c.self.inside.accepted.items) (seen_in c.extend.new.accepted) c.in_ok-renewed.renewed.changed =
+    subst (λ (l : List Accepted). IsChange (seen_in c.self.inside.accepted.items) (seen_in l) c.in_ok-renewed.renewed.changed) same (c.in_ok-renewed.ensures.changed (seen_in c.self.inside.accepted.items) kept are here) in
     subst (λ (x : Declaration). AcceptAnswered c.args.self.now (held_of x (with_items c.self.inside.accepted c.extend.new.accepted).items kept after) c.args.k (seen_events c.args.events.items) c.args.size c.args.stream (IsLineOf c.outcome_of.result)) (sym c.renew.ensures.declaration)
     (subst (λ (l : List Accepted). AcceptAnswered c.args.self.now (held_of d l kept after) c.args.k (seen_events c.args.events.items) c.args.size c.args.stream (IsLineOf c.outcome_of.result)) (sym back)
-    (added_in d c.self.inside.accepted.items c.extend.new.accepted kept before c.args.self.now c.args.k (seen_events c.args.events.items) c.args.size c.args.stream e p c.counts.result c.len-more.result c.waiting-pending.result after (IsLineOf c.outcome_of.result)
+    (added_in d c.self.inside.accepted.items c.extend.new.accepted kept before c.args.self.now c.args.k (seen_events c.args.events.items) c.args.size c.args.stream e p c.in_ok-renewed.renewed.changed c.len-more.result c.waiting-pending.result after (IsLineOf c.outcome_of.result)
     problem change count c.waiting-pending.ensures (outcome_line c.outcome_of.result, c.outcome_of.ensures.line p consistent, refl)))
 
 pub returns-clause-room : goal.returns-clause-room
@@ -198,8 +177,8 @@ returns-clause-addition g c =
     let before = solver_of c.self.inside.ready c.self.inside.answers in
     let e = extended d c.self.inside.accepted.items _ c.extend.new.accepted c.self.inside.kept.items before c.args.self.now c.args.k _ _
     (seen_events c.args.events.items) c.args.size c.args.stream _ c.self.view_is c.requires.inside c.requires.place c.requires.within count refl refl fit
-    c.deref_mut.ensures.value c.in_ok-changes.ensures.grown in
-    let long : length c.extend.new.accepted ≡ c.self.inside.accepted.len = c.in_ok-changes.ensures.len ∙ ap length c.deref_mut.ensures.value ∙ sym c.self.inside.accepted.ok.0 in
+    c.deref_mut.ensures.value c.in_ok-extend.ensures.grown in
+    let long : length c.extend.new.accepted ≡ c.self.inside.accepted.len = c.in_ok-extend.ensures.len ∙ ap length c.deref_mut.ensures.value ∙ sym c.self.inside.accepted.ok.0 in
     let back : (with_items c.self.inside.accepted c.extend.new.accepted).items ≡ c.extend.new.accepted = with_items_is c.self.inside.accepted c.extend.new.accepted long in
     added_so d c.renew.new.answers.graph.roster.declaration c.self.inside.accepted.items c.extend.new.accepted (with_items c.self.inside.accepted c.extend.new.accepted).items c.self.inside.kept.items c.self.inside.ready
-    c.self.inside.answers c.renew.new.answers c.args.self.now c.args.k c.len-more.result (seen_events c.args.events.items) c.args.size c.args.stream c.args.steps.now c.renew.new.steps e back count c.in_ok-consistent.ensures.addition
+    c.self.inside.answers c.renew.new.answers c.args.self.now c.args.k c.len-more.result (seen_events c.args.events.items) c.args.size c.args.stream c.args.steps.now c.renew.new.steps e back count c.in_ok-renewed.ensures.addition

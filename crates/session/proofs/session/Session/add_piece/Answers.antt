@@ -95,7 +95,7 @@ returns-in-Read-clause-answers g c =
 
 pub accept-requires-clause-room : goal.accept-requires-clause-room
 accept-requires-clause-room g c =
-    let counted = count_is c.self.inside.accepted.items c.self.inside.kept.items c.self.inside.ready c.self.inside.answers c.args.self.now c.self.view_is c.requires.ready c.self.invariant.3 c.len-count.result c.len-count.ensures.count in
+    let counted = count_is c.self.inside.accepted.items c.self.inside.kept.items c.self.inside.ready c.self.inside.answers c.args.self.now c.self.view_is c.requires.ready c.self.invariant.2 c.len-count.result c.len-count.ensures.count in
     let room : length c.in-Read.events.items ≤ c.room_left-room.result = rw c.in-Read.is at c.in_ok-read.ensures.room in
     omega (arith, room, c.room_left-room.ensures, counted, c.len-count.ensures.few)
 
@@ -105,7 +105,7 @@ returns-in-TooManyEvents-clause-answers g c =
     let place : c.has_place.result ≡ true = search rules in
     let held = subst IsWithinLimits c.self.view_is (limits c.self.invariant.0) in
     let at_under = under_at c.self.inside.answers.graph.roster.declaration c.self.inside.accepted.items _ _ c.args.self.now c.args.k c.index-under.result.now c.self.view_is (inside_under c.args.self.now c.args.k held c.requires.inside) c.index-under.ensures in
-    let counted = count_is c.self.inside.accepted.items c.self.inside.kept.items c.self.inside.ready c.self.inside.answers c.args.self.now c.self.view_is c.requires.ready c.self.invariant.3 c.len-count.result c.len-count.ensures.count in
+    let counted = count_is c.self.inside.accepted.items c.self.inside.kept.items c.self.inside.ready c.self.inside.answers c.args.self.now c.self.view_is c.requires.ready c.self.invariant.2 c.len-count.result c.len-count.ensures.count in
     let read : IsRead (declaration_of c.decl_of-decl.result.now) c.host_of-host.result c.room_left-room.result c.index-under.result.now.stream c.args.front.now pieces.TooManyEvents =
     rw c.in-TooManyEvents.is at c.in_ok-read.ensures.read in
     let host : slice_get (map (λ (l : Label). l.host) c.decl_of-decl.result.now.labels.items) c.args.k ≡ Some c.host_of-host.result = rw (← c.deref.ensures.value) c.host_of-host.ensures in

@@ -4,7 +4,6 @@ use Rattle.roster.specs.Roster.{RosterLists}
 use Rattle.traces.specs.declared.accepted.Accepted.{Accepted}
 use Rattle.traces.specs.Traces.{event_count}
 use Rattle.traces.specs.Held.{seen_in}
-use Rattle.trace_match.specs.Ends.{AreEndsOf}
 use Rattle.replies.specs.CommandSeen.{question_seen}
 use Rattle.session.specs.Stands.{Held, held_of, solver_of}
 use Rattle.ready_answers.specs.Ready.{AreAnswersOf}
@@ -23,13 +22,10 @@ pub answer-requires-clause-few : goal.answer-requires-clause-few
 answer-requires-clause-few g c =
     subst (λ (l : List Accepted). event_count (seen_in l) ≤ 2 ^ 21) (sym c.deref.ensures.value) (accepted_few c.self.inside.answers.graph.roster.declaration c.self.inside.accepted.items _ _ (limits c.self.invariant.0))
 
-pub answer-requires-clause-ends : goal.answer-requires-clause-ends
-answer-requires-clause-ends g c = subst (λ (l : List Accepted). AreEndsOf c.self.inside.matcher (seen_in l)) (sym c.deref.ensures.value) c.self.invariant.1
-
 pub answer-requires-clause-ready : goal.answer-requires-clause-ready
 answer-requires-clause-ready g c =
     let ready : c.self.inside.ready ≡ true = ready_of c.args.self.now c.self.inside.ready c.self.inside.answers (ap (λ (h : Held). h.answers) c.self.view_is) c.requires in
-    (c.self.inside.kept.items, subst (λ (l : List Accepted). AreAnswersOf (seen_in l) c.self.inside.kept.items c.self.inside.answers) (sym c.deref.ensures.value) (c.self.invariant.3 ready))
+    (c.self.inside.kept.items, subst (λ (l : List Accepted). AreAnswersOf (seen_in l) c.self.inside.kept.items c.self.inside.answers) (sym c.deref.ensures.value) (c.self.invariant.2 ready))
 
 pub returns-clause-writes : goal.returns-clause-writes
 returns-clause-writes g c =
@@ -51,7 +47,7 @@ pub returns-clause-steps : goal.returns-clause-steps
 returns-clause-steps g c = λ rows.
     let kept = c.self.inside.kept.items in
     let ready : c.self.inside.ready ≡ true = ready_of c.args.self.now c.self.inside.ready c.self.inside.answers (ap (λ (h : Held). h.answers) c.self.view_is) c.requires in
-    c.answer.ensures.steps (from_slots (seen_in c.self.inside.accepted.items) kept c.self.inside.answers (c.self.invariant.3 ready) c.args.self.now
+    c.answer.ensures.steps (from_slots (seen_in c.self.inside.accepted.items) kept c.self.inside.answers (c.self.invariant.2 ready) c.args.self.now
     (sym (ap (λ (h : Held). h.declaration) c.self.view_is)) (sym (ap (λ (h : Held). h.kept) c.self.view_is)) (question_seen c.args.question) rows)
 
 pub invariant_of-self : goal.invariant_of-self
@@ -61,6 +57,6 @@ invariant_of-self g c =
     let accepted = c.self.inside.accepted.items in
     let left : c.self.inside.ready ≡ true → AreAnswersOf (seen_in accepted) kept c.answer.new.answers = λ is.
     subst (λ (l : List Accepted). AreAnswersOf (seen_in l) kept c.answer.new.answers) c.deref.ensures.value
-    (c.answer.ensures.ready kept (subst (λ (l : List Accepted). AreAnswersOf (seen_in l) kept c.self.inside.answers) (sym c.deref.ensures.value) (c.self.invariant.3 is))) in
-    whole_kept d accepted kept kept (solver_of c.self.inside.ready c.self.inside.answers) c.self.inside.ready c.answer.new.answers c.self.inside.matcher (ap (λ (r : RosterLists). r.declaration) c.answer.ensures.roster)
-    (limits c.self.invariant.0) c.self.invariant.1 c.self.invariant.2 left
+    (c.answer.ensures.ready kept (subst (λ (l : List Accepted). AreAnswersOf (seen_in l) kept c.self.inside.answers) (sym c.deref.ensures.value) (c.self.invariant.2 is))) in
+    whole_kept d accepted kept kept (solver_of c.self.inside.ready c.self.inside.answers) c.self.inside.ready c.answer.new.answers (ap (λ (r : RosterLists). r.declaration) c.answer.ensures.roster)
+    (limits c.self.invariant.0) c.self.invariant.1 left

@@ -18,5 +18,5 @@ returns c =
     let p = problem_by a seen in
     let same : problem_held c.args.self.now ≡ p = ap problem_held (sym c.self.view_is) ∙ ap (λ (x : List (List Seen)). problem_of_seen a.graph.roster.declaration x) (seen_accepted c.self.inside.accepted.items) in
     let ready : c.self.inside.ready ≡ true = ready_of c.args.self.now c.self.inside.ready a (ap (λ (h : Held). h.answers) c.self.view_is) c.requires in
-    let are = c.self.invariant.3 ready in
+    let are = c.self.invariant.2 ready in
     subst (λ (q : ProblemLists). IsConsistent q c.is_consistent.result) (sym same) (c.is_consistent.ensures (listed a.graph.roster) p are.graph.solution)

@@ -11,7 +11,7 @@ use Rattle.session.proofs.session.Session.event_count.Goals as goal
 pub returns-then-self : goal.returns-then-self
 returns-then-self c =
     let inside = c.self.inside in
-    let are = c.self.invariant.3 c.if-self.true in
+    let are = c.self.invariant.2 c.if-self.true in
     let came : length inside.answers.graph.roster.came ≡ event_count (seen_in inside.accepted.items) = came_count inside.answers.graph.roster are.lawful (seen_in inside.accepted.items) are.graph.holds in
     let count : c.from.result ≡ length inside.answers.graph.roster.came = search rules in
     count ∙ came ∙ sym (ap event_count (ap (λ (h : Held). seen_held h.under) (sym c.self.view_is) ∙ seen_accepted inside.accepted.items))

@@ -18,7 +18,7 @@ use Rattle.session.proofs.session.Session.keep.Goals as goal
 pub keep_event-kept-requires : goal.keep_event-kept-requires
 keep_event-kept-requires g c =
     let ready : c.self.inside.ready ≡ true = ready_of c.args.self.now c.self.inside.ready c.self.inside.answers (ap (λ (h : Held). h.answers) c.self.view_is) c.requires.ready in
-    record { ready = (seen_in c.self.inside.accepted.items, c.self.invariant.2, c.self.invariant.3 ready) }
+    record { ready = (seen_in c.self.inside.accepted.items, c.self.invariant.1, c.self.invariant.2 ready) }
 
 pub returns-else-is_err-clause-answers : goal.returns-else-is_err-clause-answers
 returns-else-is_err-clause-answers g c =
@@ -33,7 +33,7 @@ returns-else-is_err-clause-answers g c =
     IfOk-weaker c.keep_event-kept.result _ (λ outcome. Asked c.args.self.now (held_of c.keep_event-kept.new.answers.graph.roster.declaration accepted kept' after) (Keep c.args.event.now) (IsLineOf outcome))
     (λ outcome reply. subst (λ (x : Declaration). Asked c.args.self.now (held_of x accepted kept' after) (Keep c.args.event.now) (IsLineOf outcome)) (sym same)
     (subst (λ (h : Held). Asked h (held_of d accepted kept' after) (Keep c.args.event.now) (IsLineOf outcome)) c.self.view_is
-    (keep_answered d accepted kept kept' before after c.args.event.now (outcome_line outcome) reply))) (c.keep_event-kept.ensures.replies (seen_in accepted) c.self.invariant.2 (c.self.invariant.3 ready))
+    (keep_answered d accepted kept kept' before after c.args.event.now (outcome_line outcome) reply))) (c.keep_event-kept.ensures.replies (seen_in accepted) c.self.invariant.1 (c.self.invariant.2 ready))
 
 pub returns-else-is_err-clause-ready : goal.returns-else-is_err-clause-ready
 returns-else-is_err-clause-ready g c =
@@ -46,9 +46,9 @@ invariant_of-self g c =
     let accepted = c.self.inside.accepted.items in
     let kept' = c.keep_event-kept.new.kept.items in
     let ready : c.self.inside.ready ≡ true = ready_of c.args.self.now c.self.inside.ready c.self.inside.answers (ap (λ (h : Held). h.answers) c.self.view_is) c.requires.ready in
-    whole_kept d accepted c.self.inside.kept.items kept' (solver_of c.self.inside.ready c.self.inside.answers) false c.keep_event-kept.new.answers c.self.inside.matcher
-    (ap (λ (r : RosterLists). r.declaration) c.keep_event-kept.ensures.roster) (limits c.self.invariant.0) c.self.invariant.1
-    (c.keep_event-kept.ensures.kept (seen_in accepted) c.self.invariant.2 (c.self.invariant.3 ready)) (never_ready false (AreAnswersOf (seen_in accepted) kept' c.keep_event-kept.new.answers) refl)
+    whole_kept d accepted c.self.inside.kept.items kept' (solver_of c.self.inside.ready c.self.inside.answers) false c.keep_event-kept.new.answers
+    (ap (λ (r : RosterLists). r.declaration) c.keep_event-kept.ensures.roster) (limits c.self.invariant.0)
+    (c.keep_event-kept.ensures.kept (seen_in accepted) c.self.invariant.1 (c.self.invariant.2 ready)) (never_ready false (AreAnswersOf (seen_in accepted) kept' c.keep_event-kept.new.answers) refl)
 
 pub invariant_of-self-else-is_err : goal.invariant_of-self-else-is_err
 invariant_of-self-else-is_err g c =
@@ -56,8 +56,8 @@ invariant_of-self-else-is_err g c =
     let accepted = c.self.inside.accepted.items in
     let kept' = c.keep_event-kept.new.kept.items in
     let ready : c.self.inside.ready ≡ true = ready_of c.args.self.now c.self.inside.ready c.self.inside.answers (ap (λ (h : Held). h.answers) c.self.view_is) c.requires.ready in
-    let are = c.self.invariant.3 ready in
+    let are = c.self.invariant.2 ready in
     let fine : is_err c.keep_event-kept.result ≡ false = sym c.is_err.ensures.value ∙ c.if-is_err.false in
-    whole_kept d accepted c.self.inside.kept.items kept' (solver_of c.self.inside.ready c.self.inside.answers) c.self.inside.ready c.keep_event-kept.new.answers c.self.inside.matcher
-    (ap (λ (r : RosterLists). r.declaration) c.keep_event-kept.ensures.roster) (limits c.self.invariant.0) c.self.invariant.1
-    (c.keep_event-kept.ensures.kept (seen_in accepted) c.self.invariant.2 are) (λ is. of_ok c.keep_event-kept.result _ fine c.keep_event-kept.ensures.ready (seen_in accepted) c.self.invariant.2 are)
+    whole_kept d accepted c.self.inside.kept.items kept' (solver_of c.self.inside.ready c.self.inside.answers) c.self.inside.ready c.keep_event-kept.new.answers
+    (ap (λ (r : RosterLists). r.declaration) c.keep_event-kept.ensures.roster) (limits c.self.invariant.0)
+    (c.keep_event-kept.ensures.kept (seen_in accepted) c.self.invariant.1 are) (λ is. of_ok c.keep_event-kept.result _ fine c.keep_event-kept.ensures.ready (seen_in accepted) c.self.invariant.1 are)

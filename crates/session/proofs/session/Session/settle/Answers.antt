@@ -24,7 +24,7 @@ settle_each-requires-clause-current c =
     let p = problem_by a seen in
     let same : problem_held c.args.self.now ≡ p = ap problem_held (sym c.self.view_is) ∙ ap (λ (x : List (List Seen)). problem_of_seen a.graph.roster.declaration x) (seen_accepted c.self.inside.accepted.items) in
     let ready : c.self.inside.ready ≡ true = ready_of c.args.self.now c.self.inside.ready a (ap (λ (h : Held). h.answers) c.self.view_is) c.requires.ready in
-    let are = c.self.invariant.3 ready in
+    let are = c.self.invariant.2 ready in
     are.graph.solution.current
 
 pub settle_each-requires-clause-solved : goal.settle_each-requires-clause-solved
@@ -34,7 +34,7 @@ settle_each-requires-clause-solved c =
     let p = problem_by a seen in
     let same : problem_held c.args.self.now ≡ p = ap problem_held (sym c.self.view_is) ∙ ap (λ (x : List (List Seen)). problem_of_seen a.graph.roster.declaration x) (seen_accepted c.self.inside.accepted.items) in
     let ready : c.self.inside.ready ≡ true = ready_of c.args.self.now c.self.inside.ready a (ap (λ (h : Held). h.answers) c.self.view_is) c.requires.ready in
-    let are = c.self.invariant.3 ready in
+    let are = c.self.invariant.2 ready in
     none_held a.graph.solver.contradiction (listed a.graph.roster) p (subst (λ (q : ProblemLists). IsConsistent q true) same c.requires.consistent)
     (c.contradictions.ensures.held (listed a.graph.roster) p (all_readings p.events) a.graph.solver (own_readings p) are.graph.solution)
 
@@ -45,7 +45,7 @@ settle_each-requires-clause-nodes c =
     let p = problem_by a seen in
     let same : problem_held c.args.self.now ≡ p = ap problem_held (sym c.self.view_is) ∙ ap (λ (x : List (List Seen)). problem_of_seen a.graph.roster.declaration x) (seen_accepted c.self.inside.accepted.items) in
     let ready : c.self.inside.ready ≡ true = ready_of c.args.self.now c.self.inside.ready a (ap (λ (h : Held). h.answers) c.self.view_is) c.requires.ready in
-    let are = c.self.invariant.3 ready in
+    let are = c.self.invariant.2 ready in
     are.graph.grown.knows
 
 pub settle_each-requires-clause-there : goal.settle_each-requires-clause-there
@@ -55,7 +55,7 @@ settle_each-requires-clause-there c =
     let p = problem_by a seen in
     let same : problem_held c.args.self.now ≡ p = ap problem_held (sym c.self.view_is) ∙ ap (λ (x : List (List Seen)). problem_of_seen a.graph.roster.declaration x) (seen_accepted c.self.inside.accepted.items) in
     let ready : c.self.inside.ready ≡ true = ready_of c.args.self.now c.self.inside.ready a (ap (λ (h : Held). h.answers) c.self.view_is) c.requires.ready in
-    let are = c.self.invariant.3 ready in
+    let are = c.self.invariant.2 ready in
     let held : seen_held c.args.self.now.under ≡ seen = ap (λ (h : Held). seen_held h.under) (sym c.self.view_is) ∙ seen_accepted c.self.inside.accepted.items in
     all_under a.graph.roster are.lawful seen are.graph.holds (all_timed c.args.kept.now) (subst (λ (x : List (List Seen)). All (HasEventOf x) (all_timed c.args.kept.now)) held c.requires.there)
 
@@ -66,7 +66,7 @@ returns-clause-settled c =
     let p = problem_by a seen in
     let same : problem_held c.args.self.now ≡ p = ap problem_held (sym c.self.view_is) ∙ ap (λ (x : List (List Seen)). problem_of_seen a.graph.roster.declaration x) (seen_accepted c.self.inside.accepted.items) in
     let ready : c.self.inside.ready ≡ true = ready_of c.args.self.now c.self.inside.ready a (ap (λ (h : Held). h.answers) c.self.view_is) c.requires.ready in
-    let are = c.self.invariant.3 ready in
+    let are = c.self.invariant.2 ready in
     let held : seen_held c.args.self.now.under ≡ seen = ap (λ (h : Held). seen_held h.under) (sym c.self.view_is) ∙ seen_accepted c.self.inside.accepted.items in
     let none = none_held a.graph.solver.contradiction (listed a.graph.roster) p (subst (λ (q : ProblemLists). IsConsistent q true) same c.requires.consistent)
     (c.contradictions.ensures.held (listed a.graph.roster) p (all_readings p.events) a.graph.solver (own_readings p) are.graph.solution) in
@@ -85,7 +85,7 @@ returns-clause-from_zero c =
     let p = problem_by a seen in
     let same : problem_held c.args.self.now ≡ p = ap problem_held (sym c.self.view_is) ∙ ap (λ (x : List (List Seen)). problem_of_seen a.graph.roster.declaration x) (seen_accepted c.self.inside.accepted.items) in
     let ready : c.self.inside.ready ≡ true = ready_of c.args.self.now c.self.inside.ready a (ap (λ (h : Held). h.answers) c.self.view_is) c.requires.ready in
-    let are = c.self.invariant.3 ready in
+    let are = c.self.invariant.2 ready in
     let held : seen_held c.args.self.now.under ≡ seen = ap (λ (h : Held). seen_held h.under) (sym c.self.view_is) ∙ seen_accepted c.self.inside.accepted.items in
     let none = none_held a.graph.solver.contradiction (listed a.graph.roster) p (subst (λ (q : ProblemLists). IsConsistent q true) same c.requires.consistent)
     (c.contradictions.ensures.held (listed a.graph.roster) p (all_readings p.events) a.graph.solver (own_readings p) are.graph.solution) in

@@ -1,0 +1,127 @@
+-- The ends of messages while events are added.
+use Rattle.std.proofs.Common.{◌≡◌, ◌≤◌, ◌<◌, ◌+◌, ℕ, zero, suc, List, [], ◌∷◌, ◌++◌, length, get_or, Some, refl, sym, ap, ◌∙◌, subst, arith, length-append}
+use Rattle.std.specs.Prelude.{All, slice_get, slice_set}
+use Rattle.std.specs.List.Sorted.{IsPermutation}
+use Rattle.std.proofs.lemmas.Grind.{flat_map-append}
+use Rattle.std.proofs.lemmas.List.{append_assoc, get_or-map, length-map, map-append, map-set}
+use Rattle.std.proofs.lemmas.List.Elements.{All-head, All-tail}
+use Rattle.std.proofs.lemmas.List.Sorted.{IsPermutation-append_comm, IsPermutation-append_left, IsPermutation-append_right, IsPermutation-refl, IsPermutation-sym, IsPermutation-trans, length_permutation}
+use Rattle.std.proofs.lemmas.Option.{none-some, same_Some, slice_get_read}
+use Rattle.trace_event.specs.declared.event.Event.{Event}
+use Rattle.trace_event.specs.Seen.{Seen, SeenMark, Keyed, Unkeyed, seen_event, seen_events}
+use Rattle.traces.specs.declared.accepted.Accepted.{Accepted}
+use Rattle.traces.specs.Held.{seen_in}
+use Rattle.traces.specs.declared.event.EventId.{EventId}
+use Rattle.traces.specs.Traces.{Placed, event_count, events_from, events_of, numbered}
+use Rattle.traces.proofs.Ids.{length_events}
+use Rattle.event_match.specs.Ends.{AreEndsOf, End, end_of, ends_of}
+
+-- ends of events in a row
+pub ends_joined : (xs ys : List Placed) → ends_of (xs ++ ys) ≡ ends_of xs ++ ends_of ys
+ends_joined xs ys = flat_map-append (λ (e : Placed). end_of e.id e.seen.mark) xs ys
+
+-- events in a row go on in number
+pub numbered_joined : (label n : ℕ) (xs ys : List Seen) → numbered label n (xs ++ ys) ≡ numbered label n xs ++ numbered label (length xs + n) ys
+numbered_joined label n [] ys = let same : n ≡ 0 + n = omega arith in ap (λ (k : ℕ). numbered label k ys) same
+numbered_joined label n (s ∷ xs) ys =
+    let same : length xs + (n + 1) ≡ length (s ∷ xs) + n = omega arith in
+    let rest : numbered label (n + 1) (xs ++ ys) ≡ numbered label (n + 1) xs ++ numbered label (length (s ∷ xs) + n) ys =
+    numbered_joined label (n + 1) xs ys ∙ ap (λ (k : ℕ). numbered label (n + 1) xs ++ numbered label k ys) same in
+    ap (λ (l : List Placed). (record { id = record { label = label; number = n }; seen = s }) ∷ l) rest
+
+-- ---- none
+none_from : (label : ℕ) (seen : List (List Seen)) → All (λ (events : List Seen). events ≡ []) seen → events_from label seen ≡ []
+none_from label [] empty = refl
+none_from label (s ∷ seen) empty =
+    let P = λ (events : List Seen). events ≡ [] in
+    ap (λ (l : List Seen). numbered label 1 l ++ events_from (label + 1) seen) (All-head P s seen empty) ∙ none_from (label + 1) seen (All-tail P s seen empty)
+
+pub no_ends : (seen : List (List Seen)) → All (λ (events : List Seen). events ≡ []) seen → AreEndsOf [] seen
+no_ends seen empty = subst (λ (l : List Placed). IsPermutation (ends_of l) []) (sym (none_from 0 seen empty)) (IsPermutation-refl [])
+
+-- ---- more
+-- what stands between two lists may stand behind them
+behind : (xs ys zs : List End) → IsPermutation ((xs ++ ys) ++ zs) ((xs ++ zs) ++ ys)
+behind xs ys zs =
+    subst (λ (l : List End). IsPermutation l ((xs ++ zs) ++ ys)) (sym (append_assoc xs ys zs))
+    (subst (λ (l : List End). IsPermutation (xs ++ (ys ++ zs)) l) (sym (append_assoc xs zs ys))
+    (IsPermutation-append_right xs (ys ++ zs) (zs ++ ys) (IsPermutation-append_comm ys zs)))
+
+grow_first : (k : ℕ) (old more : List Seen) (seen : List (List Seen)) → IsPermutation (ends_of (events_from k (old ∷ seen)) ++ ends_of (numbered k (length old + 1) more)) (ends_of (events_from k ((old ++ more) ∷ seen)))
+grow_first k old more seen =
+    let first = numbered k 1 old in
+    let added = numbered k (length old + 1) more in
+    let rest = events_from (k + 1) seen in
+    let before : ends_of (first ++ rest) ≡ ends_of first ++ ends_of rest = ends_joined first rest in
+    let after : ends_of (numbered k 1 (old ++ more) ++ rest) ≡ (ends_of first ++ ends_of added) ++ ends_of rest =
+    ap (λ (l : List Placed). ends_of (l ++ rest)) (numbered_joined k 1 old more)
+    ∙ ends_joined (first ++ added) rest
+    ∙ ap (λ (l : List End). l ++ ends_of rest) (ends_joined first added) in
+    subst (λ (l : List End). IsPermutation (l ++ ends_of added) (ends_of (numbered k 1 (old ++ more) ++ rest))) (sym before)
+    (subst (λ (l : List End). IsPermutation ((ends_of first ++ ends_of rest) ++ ends_of added) l) (sym after) (behind (ends_of first) (ends_of rest) (ends_of added)))
+
+grow_from : (k i : ℕ) (old more : List Seen) (seen : List (List Seen)) → slice_get seen i ≡ Some old
+    → IsPermutation (ends_of (events_from k seen) ++ ends_of (numbered (i + k) (length old + 1) more)) (ends_of (events_from k (slice_set seen i (old ++ more))))
+grow_from k i old more [] at = absurd (none-some old at)
+grow_from k zero old more (s ∷ seen) at =
+    let same : k ≡ zero + k = omega arith in
+    subst (λ (n : ℕ). IsPermutation (ends_of (events_from k (s ∷ seen)) ++ ends_of (numbered n (length old + 1) more)) (ends_of (events_from k ((old ++ more) ∷ seen)))) same
+    (subst (λ (l : List Seen). IsPermutation (ends_of (events_from k (l ∷ seen)) ++ ends_of (numbered k (length old + 1) more)) (ends_of (events_from k ((old ++ more) ∷ seen)))) (sym (same_Some s old at))
+    (grow_first k old more seen))
+grow_from k (suc i) old more (s ∷ seen) at =
+    let same : i + (k + 1) ≡ suc i + k = omega arith in
+    let first = numbered k 1 s in
+    let rest = events_from (k + 1) seen in
+    let rest' = events_from (k + 1) (slice_set seen i (old ++ more)) in
+    let added = ends_of (numbered (suc i + k) (length old + 1) more) in
+    let more_behind : IsPermutation (ends_of rest ++ added) (ends_of rest') =
+    subst (λ (n : ℕ). IsPermutation (ends_of rest ++ ends_of (numbered n (length old + 1) more)) (ends_of rest')) same (grow_from (k + 1) i old more seen at) in
+    subst (λ (l : List End). IsPermutation (l ++ added) (ends_of (first ++ rest'))) (sym (ends_joined first rest))
+    (subst (λ (l : List End). IsPermutation ((ends_of first ++ ends_of rest) ++ added) l) (sym (ends_joined first rest'))
+    (subst (λ (l : List End). IsPermutation l (ends_of first ++ ends_of rest')) (sym (append_assoc (ends_of first) (ends_of rest) added))
+    (IsPermutation-append_right (ends_of first) (ends_of rest ++ added) (ends_of rest') more_behind)))
+
+pub more_ends : (seen : List (List Seen)) (label : ℕ) (old more : List Seen) (ends : List End) → slice_get seen label ≡ Some old → AreEndsOf ends seen
+    → AreEndsOf (ends ++ ends_of (numbered label (length old + 1) more)) (slice_set seen label (old ++ more))
+more_ends seen label old more ends at are =
+    let added = ends_of (numbered label (length old + 1) more) in
+    let same : label + 0 ≡ label = omega arith in
+    let grown : IsPermutation (ends_of (events_of seen) ++ added) (ends_of (events_of (slice_set seen label (old ++ more)))) =
+    subst (λ (n : ℕ). IsPermutation (ends_of (events_of seen) ++ ends_of (numbered n (length old + 1) more)) (ends_of (events_of (slice_set seen label (old ++ more))))) same (grow_from 0 label old more seen at) in
+    IsPermutation-trans (ends_of (events_of (slice_set seen label (old ++ more)))) (ends_of (events_of seen) ++ added) (ends ++ added)
+    (IsPermutation-sym (ends_of (events_of seen) ++ added) (ends_of (events_of (slice_set seen label (old ++ more)))) grown)
+    (IsPermutation-append_left added (ends_of (events_of seen)) ends are)
+
+-- the same of what is held under labels: more events of one
+pub more_under : (accepted : List Accepted) (k : ℕ) (old new : Accepted) (more : List Event) (ends : List End) → k < length accepted → old ≡ get_or accepted k old → new.events.items ≡ old.events.items ++ more → AreEndsOf ends (seen_in accepted)
+    → AreEndsOf (ends ++ ends_of (numbered k (length old.events.items + 1) (seen_events more))) (seen_in (slice_set accepted k new))
+more_under accepted k old new more ends inside is grown are =
+    let under : Accepted → List Seen = λ a. seen_events a.events.items in
+    let read : under old ≡ get_or (seen_in accepted) k (under old) = ap under is ∙ sym (get_or-map under accepted k old (under old) inside) in
+    let at : slice_get (seen_in accepted) k ≡ Some (under old) = slice_get_read (seen_in accepted) (length accepted) k (under old) (sym (length-map accepted under)) inside read in
+    let grown' : under new ≡ under old ++ seen_events more = ap seen_events grown ∙ map-append seen_event old.events.items more in
+    let after : slice_set (seen_in accepted) k (under old ++ seen_events more) ≡ seen_in (slice_set accepted k new) =
+    ap (λ (l : List Seen). slice_set (seen_in accepted) k l) (sym grown') ∙ sym (map-set under accepted k new) in
+    subst (λ (n : ℕ). AreEndsOf (ends ++ ends_of (numbered k (n + 1) (seen_events more))) (seen_in (slice_set accepted k new))) (length-map old.events.items seen_event)
+    (subst (λ (l : List (List Seen)). AreEndsOf (ends ++ ends_of (numbered k (length (under old) + 1) (seen_events more))) l) after
+    (more_ends (seen_in accepted) k (under old) (seen_events more) ends at are))
+
+-- ---- how many
+few_of : (id : EventId) (mark : SeenMark) → length (end_of id mark) ≤ 1
+few_of id (Unkeyed reason) = omega arith
+few_of id (Keyed key side) = omega arith
+
+few_ends : (events : List Placed) → length (ends_of events) ≤ length events
+few_ends [] = omega arith
+few_ends (e ∷ events) = omega (arith, length-append (end_of e.id e.seen.mark) (ends_of events), few_of e.id e.seen.mark, few_ends events)
+
+pub length_numbered : (label n : ℕ) (seen : List Seen) → length (numbered label n seen) ≡ length seen
+length_numbered label n [] = refl
+length_numbered label n (s ∷ seen) = omega (arith, length_numbered label (n + 1) seen)
+
+-- no more of one label than events
+pub label_few : (label n : ℕ) (seen : List Seen) → length (ends_of (numbered label n seen)) ≤ length seen
+label_few label n seen = omega (arith, few_ends (numbered label n seen), length_numbered label n seen)
+
+pub ends_few : (seen : List (List Seen)) (ends : List End) → AreEndsOf ends seen → length ends ≤ event_count seen
+ends_few seen ends are = omega (arith, length_permutation (ends_of (events_of seen)) ends are, few_ends (events_of seen), length_events seen)

@@ -1,0 +1,17 @@
+use Rattle.std.proofs.Common.{◌≡◌, map, rules}
+use Rattle.std.proofs.lemmas.Fn.{always_returns_same}
+use Rattle.std.proofs.lemmas.List.Sorted.{IsPermutation-map, IsPermutation-trans}
+use Rattle.traces.specs.declared.event.EventId.{EventId}
+use Rattle.trace_report.specs.declared.ambiguous.Ambiguous.{Ambiguous}
+use Rattle.event_match.specs.Ambiguous.{EndGroup}
+use Rattle.trace_report.specs.Inside.{led}
+use Rattle.event_match.proofs.Sorting.{rank, sorted_one}
+use Rattle.trace_report.proofs.ambiguous.sort_keys.Goals as goal
+
+pub returns-clause-sorted : goal.returns-clause-sorted
+returns-clause-sorted c = λ in_order rising moved.
+    let old = c.args.keys.now in
+    let new = c.sort_unstable_by_key.new.self in
+    sorted_one led (λ (p : EventId × EndGroup). p.0) in_order new rising
+    (IsPermutation-trans in_order (map led old) (map led new) moved (IsPermutation-map led old new c.sort_unstable_by_key.ensures.permutation))
+    (c.sort_unstable_by_key.ensures.sorted (λ (a : Ambiguous). rank a.first) (always_returns_same _ (λ a r. r ≡ rank a.0.now.first) _ (λ a r q k. search rules)))

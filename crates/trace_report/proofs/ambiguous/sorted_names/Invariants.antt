@@ -1,0 +1,8 @@
+use Rattle.std.proofs.Common.{◌≡◌, map, take}
+use Rattle.event_match.specs.Ends.{name_at}
+use Rattle.trace_report.specs.Inside.{ids_in}
+use Rattle.trace_report.proofs.ambiguous.sorted_names.Given as goal
+
+-- the names of the numbers so far
+abbrev pub invariant-loop-number : goal.invariant-loop-number
+invariant-loop-number l = l.sorted.items ≡ map (name_at (ids_in l.roster)) (take l.number-index l.numbers)
