@@ -66,10 +66,6 @@ named l p readings g stands j force =
     let by = stands.each (arc_at g.arcs j) (j, force, refl) in
     bound_named l p readings stands.lawful stands.listed (arc_at g.arcs j).name by.0 by.1.constraint by.1.named by.1.declares
 
--- so are the numbers of the listed events
-pub numbers_named : (l : Listed) (p : ProblemLists) (readings : List Reading) (g : GraphLists) → StandsForListed l p readings g → (number place : ℕ) → StandsAt l number place → number < length l.event_names
-numbers_named l p readings g stands number place at = event_named l p readings stands.lawful stands.listed number place at
-
 -- ---- readings
 before_rises : (a b : Reading) → ComesBefore a b → a.0 ≤ b.0
 before_rises a b (inl less) = omega (arith, less)

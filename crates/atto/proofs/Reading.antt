@@ -6,9 +6,8 @@ use Rattle.std.specs.Int.Digits.{digits_of}
 use Rattle.std.proofs.lemmas.Int.Digits.{all_below_base_digits_of, first_digits_of, length-digits_of_step}
 use Rattle.std.proofs.lemmas.List.{length-map, length-take-le, get_or-map}
 use Rattle.std.proofs.lemmas.Nat.{div-mul-add, div-add-mod'}
-use Rattle.std.proofs.Math.Seq.{take-suc, take-length}
+use Rattle.std.proofs.Math.Seq.{take-suc}
 use Rattle.atto.specs.Decimal.{decimal_of}
-use Rattle.atto.specs.NsText.{last_digits}
 use Rattle.atto.specs.Number.{Counts}
 use Rattle.atto.proofs.DecimalLemmas.{digits_text, digits_text-step}
 
@@ -67,23 +66,3 @@ sofar_more text limit i n n' inside first digit so next = record {
   seen = rw (add-one, take-suc text i 0 inside, so.seen) (digits_text-more so.m (get_or text i 0) digit (sofar_some text i so.m inside first digit so.seen));
   counts = next so.m so.counts;
 }
-
--- at the end the whole text is the decimal of the number
-pub sofar_end : (text : List ℕ) (limit : ℕ) (n : Option ℕ) → 0 < length text → SoFar text limit (length text) n → (m : ℕ) × (text ≡ decimal_of m) × Counts limit m n
-sofar_end text limit n some so = (so.m, whole so.m so.seen, so.counts)
-  where
-    whole : (m : ℕ) → take (length text) text ≡ digits_text m → text ≡ decimal_of m
-    whole zero seen = absurd (let e : length (take (length text) text) ≡ 0 = ap length seen in omega (arith, e, length-take-le (length text) text (omega arith), some))
-    whole (suc m) seen = sym (take-length text) ∙ seen
-
-pub digit_split : (m c : ℕ) → IsInRange 48 57 c → ((m * 10 + (c - 48)) / 10 ≡ m) × (48 + (m * 10 + (c - 48)) % 10 ≡ c)
-digit_split m c digit =
-    let front : (m * 10 + (c - 48)) / 10 ≡ m = div-mul-add m 10 (c - 48) (omega (arith, digit.0, digit.1)) in
-    (front, omega (arith, front, div-add-mod' (m * 10 + (c - 48)) 10, digit.0, digit.1))
-
--- one more digit of a number of a fixed length
-pub last_digits-more : (text : List ℕ) (i m : ℕ) → i < length text → IsInRange 48 57 (get_or text i 0) → take i text ≡ last_digits i m →
-    take (i + 1) text ≡ last_digits (i + 1) (m * 10 + (get_or text i 0 - 48))
-last_digits-more text i m inside digit seen =
-    let s = digit_split m (get_or text i 0) digit in
-    rw (add-one, take-suc text i 0 inside, seen, s.0, s.1) refl

@@ -66,12 +66,6 @@ ends_says body u v w r three is named = record {
 side_cut : (body : List ℕ) (side : Side) (v : Option ℤ) → body ≡ words (cert_words (SideLine side v)) → cut 32 body ≡ Some (side_word side, limit_word side v)
 side_cut body side v is = rw is (cut_again 32 (side_word side) (limit_word side v) (side_lacks 32 side (omega arith)))
 
-pub side_not_two : (body : List ℕ) (side : Side) → cut 32 body ≡ None → BeginsEnd side body (Err (errors.Fault kinds.Syntax))
-side_not_two body side none v is = let c = side_cut body side v is in cc
-
-pub side_other : (body a b : List ℕ) (side : Side) → cut 32 body ≡ Some (a, b) → (a ≡ side_word side → ⊥) → BeginsEnd side body (Err (errors.Fault kinds.Syntax))
-side_other body a b side parts other v is = other (same_parts a b (side_word side) (limit_word side v) (cut 32 body) parts (side_cut body side v is)).0
-
 module _ (body a b : List ℕ) (side : Side) (parts : cut 32 body ≡ Some (a, b)) (is : a ≡ side_word side) where
   says_line : (v : Option ℤ) → b ≡ limit_word side v → body ≡ words (cert_words (SideLine side v))
   says_line v limit = (cut_takes 32 body (a, b) parts).0 ∙ rw (is, limit) refl

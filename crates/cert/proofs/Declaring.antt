@@ -56,10 +56,6 @@ pub stamp_is : (n : Option ℕ) (m x : ℕ) → n ≡ Some x → SomeIff n (m < 
 stamp_is None m x is held = absurd cc
 stamp_is (Some y) m x is held = let same : y ≡ x = cc in sym held.1 ∙ same
 
-pub stamp_none : (n : Option ℕ) (m : ℕ) → n ≡ None → SomeIff n (m < 2 ^ 62) m → m < 2 ^ 62 → ⊥
-stamp_none None m is held = held
-stamp_none (Some y) m is held = absurd cc
-
 module _ (p : ProblemLists) (lawful : IsProblem p) where
   pub span_named : (e : Extreme) (clock : List ℕ) (k x y s t : ℕ) (b : Bound) → HasClock p k clock → x ≡ s → y ≡ t → b ≡ span_bound e k s t → Names p (Span e clock x y) b
   span_named e clock k x y s t b at sx ty is = (k, at, is ∙ ap (λ (u : ℕ). span_bound e k u t) (sym sx) ∙ ap (λ (u : ℕ). span_bound e k x u) (sym ty))
@@ -185,9 +181,6 @@ module _ (p : ProblemLists) (lawful : IsProblem p) where
       let same = message_same k s r m d.0 at is d.2 d.3 d.4 in
       (d.1, ap (λ (x : Message). x.most) same ∙ d.5)
   delay_has Least k s r m at is d = tt
-
-  pub delay_found : (e : Extreme) (send receive : List ℕ) (s r : ℕ) (b : Bound) → HasEvent p s send → HasEvent p r receive → (b ≡ delay_bound e s r) × IsDeclared p b → Names p (Delay e send receive) b × IsDeclared p b
-  delay_found e send receive s r b at at' found = ((s, r, at, at', found.0), found.1)
 
   pub delay_not : (e : Extreme) (send receive : List ℕ) (s r : ℕ) (b : Bound) → HasEvent p s send → HasEvent p r receive → (IsDeclared p (delay_bound e s r) → ⊥) → Names p (Delay e send receive) b → IsDeclared p b → ⊥
   delay_not e send receive s r b at at' none named declared =

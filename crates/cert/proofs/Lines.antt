@@ -1,12 +1,7 @@
 -- What stands at a place of two lists in a row.
-use Rattle.std.proofs.Common.{◌≡◌, ◌+◌, List, [], ◌∷◌, ◌++◌, ℕ, zero, suc, length, map, slice_get, Some, Result, Ok, Err, ◌∙◌, ap, arith}
-use Rattle.std.specs.Prelude.{OnOk, OnErr}
+use Rattle.std.proofs.Common.{◌≡◌, ◌+◌, List, [], ◌∷◌, ◌++◌, ℕ, zero, suc, length, map, slice_get, Some, ◌∙◌, ap, arith}
 use Rattle.std.specs.List.{slice_index_or}
 pub use Rattle.problem.proofs.Naming.{name_found}
-
--- what is looked up twice is the same
-pub found_once : {A : Type 0} (xs : List A) (k : ℕ) (a b : A) → slice_get xs k ≡ Some a → slice_get xs k ≡ Some b → a ≡ b
-found_once xs k a b one two = cc
 
 -- what is looked up is what stands at that place
 pub index_found : {A : Type 0} (xs : List A) (k : ℕ) (x d : A) → slice_get xs k ≡ Some x → slice_index_or xs k d ≡ x
@@ -33,17 +28,3 @@ found_behind f g [] ys k m y d is at =
     mapped g (x ∷ ys) (suc m) y at = mapped g ys m y at
 found_behind f g (x ∷ xs) ys zero m y d is at = absurd (omega (arith, is))
 found_behind f g (x ∷ xs) ys (suc k) m y d is at = found_behind f g xs ys k m y d (omega (arith, is)) at
-
--- what is said of a good result goes on to what follows
-pub ok_more : {A E : Type 0} (r : Result A E) (P Q : Type 0) → (P → Q) → OnOk r P → OnOk r Q
-ok_more (Ok a) P Q more p = more p
-ok_more (Err e) P Q more p = p
-
-pub err_more : {A E : Type 0} (r : Result A E) (P Q : Type 0) → (P → Q) → OnErr r P → OnErr r Q
-err_more (Ok a) P Q more p = p
-err_more (Err e) P Q more p = more p
-
--- what holds anyway is said of a fault
-pub on_err : {A E : Type 0} (r : Result A E) (P : Type 0) → P → OnErr r P
-on_err (Ok a) P p = tt
-on_err (Err e) P p = p

@@ -1,5 +1,5 @@
 -- The words of a step's line.
-use Rattle.std.proofs.Common.{◌≡◌, ◌≤◌, ℕ, List, [], ◌∷◌, get_or, Option, Some, None, codes, refl, sym, ◌∙◌, ap, subst, arith, ℤ}
+use Rattle.std.proofs.Common.{◌≡◌, ℕ, List, [], ◌∷◌, get_or, Option, Some, None, codes, refl, sym, ◌∙◌, ap, subst, arith, ℤ}
 use Rattle.atto.specs.Decimal.{decimal_of}
 use Rattle.atto.specs.NsText.{ns_text}
 use Rattle.line_format.specs.Words.{words}
@@ -9,9 +9,7 @@ use Rattle.line_format.proofs.Fields.{fields_again, fields_take}
 use Rattle.line_format.proofs.Lacking.{lacks_test}
 use Rattle.problem_model.specs.Name.{IsEventName, IsClockName}
 use Rattle.cert.specs.declared.kinds.Extreme.{Extreme}
-use Rattle.cert.specs.declared.kinds.Extreme.TheVariants.{Most, Least}
 use Rattle.cert.specs.declared.kinds.StampBound.{StampBound}
-use Rattle.cert.specs.declared.kinds.StampBound.TheVariants.{Late, Early}
 use Rattle.cert.specs.declared.steps.SpanWords.{SpanWords}
 use Rattle.cert.specs.declared.steps.StampWords.{StampWords}
 use Rattle.cert.specs.declared.steps.FollowWords.{FollowWords}
@@ -139,45 +137,8 @@ delay_says rest a b c w three parts = record {
 }
 
 -- ---- the first word of a bound tells its kind
-span_byte : (e : Extreme) → get_or (span_word e) 0 0 ≡ 115
-span_byte Most = refl
-span_byte Least = refl
-
-delay_byte : (e : Extreme) → get_or (delay_word e) 0 0 ≡ 100
-delay_byte Most = refl
-delay_byte Least = refl
-
-stamp_byte : (k : StampBound) → (get_or (stamp_word k) 0 0 ≤ 108) × (101 ≤ get_or (stamp_word k) 0 0)
-stamp_byte Late = (omega arith, omega arith)
-stamp_byte Early = (omega arith, omega arith)
-
 first_byte : List ℕ → ℕ
 first_byte word = get_or word 0 0
-
-span_not_stamp : (e : Extreme) (k : StampBound) → span_word e ≡ stamp_word k → ⊥
-unfolding first_byte
-span_not_stamp e k is = let h : get_or (span_word e) 0 0 ≡ get_or (stamp_word k) 0 0 = ap first_byte is in let a = span_byte e in let b = stamp_byte k in omega (arith, h, a, b.0)
-
-span_not_delay : (e e' : Extreme) → span_word e ≡ delay_word e' → ⊥
-unfolding first_byte
-span_not_delay e e' is = let h : get_or (span_word e) 0 0 ≡ get_or (delay_word e') 0 0 = ap first_byte is in let a = span_byte e in let b = delay_byte e' in omega (arith, h, a, b)
-
-stamp_not_delay : (k : StampBound) (e : Extreme) → stamp_word k ≡ delay_word e → ⊥
-unfolding first_byte
-stamp_not_delay k e is = let h : get_or (stamp_word k) 0 0 ≡ get_or (delay_word e) 0 0 = ap first_byte is in let a = stamp_byte k in let b = delay_byte e in omega (arith, h, a.1, b)
-
-span_not_follow : (e : Extreme) → span_word e ≡ codes "follow" → ⊥
-unfolding first_byte
-span_not_follow e is = let h : get_or (span_word e) 0 0 ≡ 102 = ap first_byte is in let a = span_byte e in omega (arith, h, a)
-
-stamp_not_follow : (k : StampBound) → stamp_word k ≡ codes "follow" → ⊥
-unfolding first_byte
-stamp_not_follow Late is = let h : 108 ≡ 102 = ap first_byte is in omega (arith, h)
-stamp_not_follow Early is = let h : 101 ≡ 102 = ap first_byte is in omega (arith, h)
-
-follow_not_delay : (e : Extreme) → codes "follow" ≡ delay_word e → ⊥
-unfolding first_byte
-follow_not_delay e is = let h : 102 ≡ get_or (delay_word e) 0 0 = ap first_byte is in let b = delay_byte e in omega (arith, h, b)
 
 pub span_kind_says : (kind rest : List ℕ) (e : Extreme) (w : SpanWords) → kind ≡ span_word e → SaysSpan rest w → SaysKind kind rest (steps.Span e w)
 span_kind_says kind rest e w is says = record {
@@ -189,21 +150,6 @@ span_kind_says kind rest e w is says = record {
   rest_is = says.is;
 }
 
-pub span_kind_not : (kind rest : List ℕ) (e : Extreme) → kind ≡ span_word e → NoSpan rest → NoKind kind rest
-span_kind_not kind rest e is none (Span e' c x y) z spelled kind_is rest_is = none c x y z spelled rest_is
-span_kind_not kind rest e is none (Stamp k v) z spelled kind_is rest_is = span_not_stamp e k (sym is ∙ kind_is)
-span_kind_not kind rest e is none (Follow c x d y) z spelled kind_is rest_is = span_not_follow e (sym is ∙ kind_is)
-span_kind_not kind rest e is none (Delay e' v w) z spelled kind_is rest_is = span_not_delay e e' (sym is ∙ kind_is)
-
-pub stamp_kind_says : (kind rest : List ℕ) (k : StampBound) (w : StampWords) → kind ≡ stamp_word k → SaysStamp rest w → SaysKind kind rest (steps.Stamp k w)
-stamp_kind_says kind rest k w is says = record { n = Stamp k w.event; z = says.z; held = (says.held, refl); spelled = says.named; kind_is = is; rest_is = says.is }
-
-pub stamp_kind_not : (kind rest : List ℕ) (k : StampBound) → kind ≡ stamp_word k → NoStamp rest → NoKind kind rest
-stamp_kind_not kind rest k is none (Span e' c x y) z spelled kind_is rest_is = span_not_stamp e' k (sym kind_is ∙ is)
-stamp_kind_not kind rest k is none (Stamp k' v) z spelled kind_is rest_is = none v z spelled rest_is
-stamp_kind_not kind rest k is none (Follow c x d y) z spelled kind_is rest_is = stamp_not_follow k (sym is ∙ kind_is)
-stamp_kind_not kind rest k is none (Delay e' v w) z spelled kind_is rest_is = stamp_not_delay k e' (sym is ∙ kind_is)
-
 pub follow_kind_says : (kind rest : List ℕ) (w : FollowWords) → kind ≡ codes "follow" → SaysFollow rest w → SaysKind kind rest (steps.Follow w)
 follow_kind_says kind rest w is says = record {
   n = Follow w.earlier says.x w.later says.y;
@@ -213,21 +159,6 @@ follow_kind_says kind rest w is says = record {
   kind_is = is;
   rest_is = says.is;
 }
-
-pub follow_kind_not : (kind rest : List ℕ) → kind ≡ codes "follow" → NoFollow rest → NoKind kind rest
-follow_kind_not kind rest is none (Span e c x y) z spelled kind_is rest_is = span_not_follow e (sym kind_is ∙ is)
-follow_kind_not kind rest is none (Stamp k v) z spelled kind_is rest_is = stamp_not_follow k (sym kind_is ∙ is)
-follow_kind_not kind rest is none (Follow c x d y) z spelled kind_is rest_is = none c d x y z spelled.0 spelled.1 rest_is
-follow_kind_not kind rest is none (Delay e v w) z spelled kind_is rest_is = follow_not_delay e (sym is ∙ kind_is)
-
-pub delay_kind_says : (kind rest : List ℕ) (e : Extreme) (w : DelayWords) → kind ≡ delay_word e → SaysDelay rest w → SaysKind kind rest (steps.Delay e w)
-delay_kind_says kind rest e w is says = record { n = Delay e w.send w.receive; z = says.z; held = (says.held, refl); spelled = (says.send_named, says.receive_named); kind_is = is; rest_is = says.is }
-
-pub delay_kind_not : (kind rest : List ℕ) (e : Extreme) → kind ≡ delay_word e → NoDelay rest → NoKind kind rest
-delay_kind_not kind rest e is none (Span e' c x y) z spelled kind_is rest_is = span_not_delay e' e (sym kind_is ∙ is)
-delay_kind_not kind rest e is none (Stamp k v) z spelled kind_is rest_is = stamp_not_delay k e (sym kind_is ∙ is)
-delay_kind_not kind rest e is none (Follow c x d y) z spelled kind_is rest_is = follow_not_delay e (sym kind_is ∙ is)
-delay_kind_not kind rest e is none (Delay e' v w) z spelled kind_is rest_is = none v w z spelled.0 spelled.1 rest_is
 
 pub no_kind : (kind rest : List ℕ) → ((e : Extreme) → kind ≡ span_word e → ⊥) → ((k : StampBound) → kind ≡ stamp_word k → ⊥) → (kind ≡ codes "follow" → ⊥) → ((e : Extreme) → kind ≡ delay_word e → ⊥)
     → NoKind kind rest

@@ -1,5 +1,5 @@
 -- What taking a line does to the values so far.
-use Rattle.std.proofs.Common.{◌≡◌, ◌<◌, ◌≤◌, ◌^◌, ℕ, List, [], ◌∷◌, ◌++◌, length, slice_get, Option, Some, None, Ok, codes, refl, sym, ◌∙◌, ap, arith, ℤ, append_assoc, length-append}
+use Rattle.std.proofs.Common.{◌≡◌, ◌<◌, ◌≤◌, ◌^◌, ℕ, List, [], ◌∷◌, ◌++◌, length, slice_get, Option, Some, None, refl, sym, ◌∙◌, ap, arith, ℤ, append_assoc, length-append}
 use Rattle.std.specs.Prelude.{SomeIff}
 use Rattle.std.specs.List.{zip, flat_map}
 use Rattle.std.proofs.lemmas.Option.{slice_get_within}
@@ -8,9 +8,8 @@ use Rattle.std.proofs.lemmas.List.Elements.{All-push}
 use Rattle.std.proofs.lemmas.Grind.{flat_map-append}
 use Rattle.atto.specs.Number.{Counts, FitsUnits}
 use Rattle.line_format.specs.Words.{line_of}
-use Rattle.line_format.specs.Format.{FaultIn, Grows, Takes}
+use Rattle.line_format.specs.Format.{FaultIn, Grows}
 use Rattle.line_format.specs.declared.fault.FaultKind.TheVariants as kinds
-use Rattle.line_format.specs.declared.fault.Taken.TheVariants as taken
 use Rattle.problem_model.specs.declared.items.Node.{Node}
 use Rattle.problem_model.specs.declared.items.Node.TheVariants as nodes
 use Rattle.problem_model.specs.Problem.{ProblemLists}
@@ -18,8 +17,8 @@ use Rattle.problem_model.specs.Nodes.{Reading, nodes_of}
 use Rattle.problem_model.specs.ProblemText.{clock_name, event_name}
 use Rattle.problem_model.specs.ExecutionText.{execution_head, value_line, value_lines}
 use Rattle.cert.specs.ExecutionFormat.{execution_format, AreValues, IsNext}
-use Rattle.cert.specs.ExecutionFormat.ExecutionLine.{EventLine, ReadingLine, EndLine}
-use Rattle.cert.specs.Said.{SaysEvent, NoEvent, SaysReading, NoReading}
+use Rattle.cert.specs.ExecutionFormat.ExecutionLine.{EventLine, ReadingLine}
+use Rattle.cert.specs.Said.{SaysEvent, SaysReading}
 use Rattle.cert.specs.declared.words.EventWords.{EventWords}
 use Rattle.cert.specs.declared.words.ReadingWords.{ReadingWords}
 
@@ -70,15 +69,7 @@ module _ (p : ProblemLists) (readings : List Reading) where
     few = omega (arith, slice_get_within (nodes_of p readings) (length values) node at, length-append values (v ∷ []));
   }
 
-  not_end : (values : List ℤ) (node : Node) → IsNext p readings values node → length values ≡ length (nodes_of p readings) → ⊥
-  not_end values node at is = omega (arith, slice_get_within (nodes_of p readings) (length values) node at, is)
-
   -- ---- the place of an event
-  pub event_syntax : (values : List ℤ) (event : ℕ) (body : List ℕ) → IsNext p readings values (nodes.Event event) → NoEvent body → FaultIn (execution_format p readings) values body kinds.Syntax
-  event_syntax values event body at none (EventLine name z) may spelled is = none name z spelled is
-  event_syntax values event body at none (ReadingLine clock m z) may spelled is = not_both event may.0 may.1 (sym at ∙ may.2)
-  event_syntax values event body at none EndLine may spelled is = not_end values (nodes.Event event) at may
-
   pub event_other : (values : List ℤ) (event : ℕ) (name body : List ℕ) (w : EventWords) → IsNext p readings values (nodes.Event event) → name ≡ event_name p.events event → SaysEvent body w → (w.name ≡ name → ⊥) →
       FaultIn (execution_format p readings) values body kinds.Name
   event_other values event name body w at is says other =
@@ -97,11 +88,6 @@ module _ (p : ProblemLists) (readings : List Reading) where
       rw (grown, spelled) (value_grows values (nodes.Event event) v at)
 
   -- ---- the place of a reading
-  pub reading_syntax : (values : List ℤ) (place stamp : ℕ) (body : List ℕ) → IsNext p readings values (nodes.Reading place stamp) → NoReading body → FaultIn (execution_format p readings) values body kinds.Syntax
-  reading_syntax values place stamp body at none (EventLine name z) may spelled is = not_both may.0 place stamp (sym may.1 ∙ at)
-  reading_syntax values place stamp body at none (ReadingLine clock m z) may spelled is = none clock m z spelled is
-  reading_syntax values place stamp body at none EndLine may spelled is = not_end values (nodes.Reading place stamp) at may
-
   pub reading_other : (values : List ℤ) (place stamp : ℕ) (name body : List ℕ) (w : ReadingWords) → IsNext p readings values (nodes.Reading place stamp) → name ≡ clock_name p.clocks place → (says : SaysReading body w) →
       (w.clock ≡ name → says.m ≡ stamp → ⊥) → FaultIn (execution_format p readings) values body kinds.Name
   reading_other values place stamp name body w at is says other = (
@@ -129,14 +115,6 @@ module _ (p : ProblemLists) (readings : List Reading) where
   -- ---- the place behind the nodes
   past_end : (values : List ℤ) (node : Node) → length (nodes_of p readings) ≤ length values → IsNext p readings values node → ⊥
   past_end values node all at = omega (arith, slice_get_within (nodes_of p readings) (length values) node at, all)
-
-  pub end_syntax : (values : List ℤ) (body : List ℕ) → length (nodes_of p readings) ≤ length values → (body ≡ codes "end" → ⊥) → FaultIn (execution_format p readings) values body kinds.Syntax
-  end_syntax values body all other (EventLine name z) may spelled is = past_end values (nodes.Event may.0) all may.1
-  end_syntax values body all other (ReadingLine clock m z) may spelled is = past_end values (nodes.Reading may.0 may.1) all may.2
-  end_syntax values body all other EndLine may spelled is = other is
-
-  pub end_taken : (values : List ℤ) (body : List ℕ) → length (nodes_of p readings) ≤ length values → AreValues (length (nodes_of p readings)) values → body ≡ codes "end" → Takes (execution_format p readings) values body (Ok taken.End) values
-  end_taken values body all are is = (refl, omega (arith, all, are.few), is)
 
 -- the stamp of a line is the number that is held
 pub stamp_same : (m s : ℕ) (n : Option ℕ) → Counts (2 ^ 64) m n → n ≡ Some s → m ≡ s

@@ -19,11 +19,11 @@ use Rattle.problem_model.proofs.OneName.{declared_one}
 use Rattle.cert.specs.Shows.{IsOnClock, IsInside, IsCutOf, Parts}
 use Rattle.cert_check.specs.declared.answer.Part.{Part}
 use Rattle.cert_check.specs.declared.answer.Reason.{Reason}
-use Rattle.cert_check.specs.declared.answer.Reason.TheVariants.{Home, Away, Leaves}
+use Rattle.cert_check.specs.declared.answer.Reason.TheVariants.{Leaves}
 use Rattle.cert_check.specs.Reasons.{joining_bounds, home_of, away_of, IsLeaving, IsFirstLeaving, CutIs, IsNoLater}
 use Rattle.cert_check.specs.Faults.{IsFirstOf, StaysInside, FindsLeaving}
 use Rattle.cert_check.proofs.Chained.{front, back, inside_before}
-use Rattle.cert_check.proofs.Turns.{cut_cases, earlier_kind, same_kind, home_turn, away_turn, leaves_turn}
+use Rattle.cert_check.proofs.Turns.{cut_cases, same_kind, leaves_turn}
 
 some_same : {X : Type 0} (a b : X) → Some a ≡ Some b → a ≡ b
 some_same a b e = cc
@@ -128,18 +128,6 @@ module _ (p : ProblemLists) (inside : List ℕ) where
 
 -- ---- what is wrong with a cut first
 module _ (p : ProblemLists) (part : Part) (first second : ℕ) (inside : List ℕ) where
-  pub home_first : (IsInside p inside (nodes.Event (home_of part first second)) → ⊥) → IsFirstOf part (CutIs p part first second inside) Home
-  home_first out = record {
-    is_so = out;
-    first = cut_cases p part first second inside (IsNoLater part Home part) (λ so. same_kind part Home Home refl (omega (arith, home_turn part))) (λ so. earlier_kind part Home Away (omega arith)) (λ b so. earlier_kind part Home (Leaves b) (omega arith));
-  }
-
-  pub away_first : IsInside p inside (nodes.Event (home_of part first second)) → IsInside p inside (nodes.Event (away_of part first second)) → IsFirstOf part (CutIs p part first second inside) Away
-  away_first home away = record {
-    is_so = away;
-    first = cut_cases p part first second inside (IsNoLater part Away part) (λ so. absurd (so home)) (λ so. same_kind part Away Away refl (omega (arith, away_turn part))) (λ b so. earlier_kind part Away (Leaves b) (omega arith));
-  }
-
   pub leaves_first : (b : Bound) → IsInside p inside (nodes.Event (home_of part first second)) → (IsInside p inside (nodes.Event (away_of part first second)) → ⊥) → IsFirstLeaving p inside b → IsFirstOf part (CutIs p part first second inside) (Leaves b)
   leaves_first b home away leaves = record {
     is_so = leaves;

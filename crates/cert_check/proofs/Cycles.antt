@@ -14,7 +14,7 @@ use Rattle.cert.specs.CertificateText.{IsStepOf}
 use Rattle.cert.specs.Shows.{weighed_bounds}
 use Rattle.cert_check.specs.declared.answer.Part.TheVariants.{Cycle}
 use Rattle.cert_check.specs.declared.answer.Reason.{Reason}
-use Rattle.cert_check.specs.declared.answer.Reason.TheVariants.{Empty, Weight, Join, Sum}
+use Rattle.cert_check.specs.declared.answer.Reason.TheVariants.{Weight, Join, Sum}
 use Rattle.cert_check.specs.Walks.{Goes}
 use Rattle.cert_check.specs.Faults.{IsFirstOf}
 use Rattle.cert_check.specs.Reasons.{IsMisweighedAt, IsLooseAt, CycleIs, IsNoLater}
@@ -38,13 +38,6 @@ goes_of p m n [] leads = leads
 goes_of p m n (s ∷ steps) leads = (leads.0, leads.1, leads.2, leads.3, goes_of p leads.0.to n steps leads.4)
 
 -- ---- no steps
-pub empty_first : (p : ProblemLists) (steps : List Step) → steps ≡ [] → IsFirstOf Cycle (CycleIs p steps) Empty
-empty_first p steps none = record {
-  is_so = none;
-  first = cycle_cases p steps (IsNoLater Cycle Empty Cycle) (λ so. same_kind Cycle Empty Empty refl (omega arith)) (λ k so. earlier_kind Cycle Empty (Join k) (omega arith)) (λ k so. earlier_kind Cycle Empty (Weight k) (omega arith))
-      (λ sum is so. earlier_kind Cycle Empty (Sum sum) (omega arith));
-}
-
 module _ (p : ProblemLists) (lawful : IsWellFormed p) (steps : List Step) (each : All (IsStepOf p) steps) (m : Node) where
   -- ---- after the first steps
   module _ (n : Node) (j : ℕ) (goes : Goes p Cycle m (weighed_bounds (take j steps)) n) (short : j ≤ length steps) where

@@ -111,18 +111,6 @@ difference_turn Run d = refl
 difference_turn Upper d = refl
 difference_turn Lower d = refl
 
-pub home_turn : (part : Part) → step_turn part Home ≡ 0
-home_turn Cycle = refl
-home_turn Run = refl
-home_turn Upper = refl
-home_turn Lower = refl
-
-pub away_turn : (part : Part) → step_turn part Away ≡ 0
-away_turn Cycle = refl
-away_turn Run = refl
-away_turn Upper = refl
-away_turn Lower = refl
-
 pub leaves_turn : (part : Part) (b : Bound) → step_turn part (Leaves b) ≡ 0
 leaves_turn Cycle b = refl
 leaves_turn Run b = refl

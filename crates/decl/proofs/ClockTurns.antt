@@ -55,7 +55,6 @@ pub entry_fault : (index : ℕ) (causes : Members → List Cause) (o : Option Me
 entry_fault index causes o ms cause e is h placed = subst (λ (t : Option Members). IsFirstOf (at Hosts index (entry_causes causes t)) e) is (fault_at Hosts index (causes ms) cause e h placed)
 
 -- ---- a clock's table
-
 abbrev is_misnamed : List Clock → Members → Bool
 is_misnamed before own = not (is_clock_name (name_in own)) || is_taken before (name_in own)
 
@@ -94,17 +93,10 @@ module _ (host own : Members) (before : List Clock) (name : List ℕ) (table : t
       both : {right : Clock} {wide' : ℕ} → clock ≡ right → gap ≡ wide' → (let a : Clock × Owner = (clock, (record { host = place; gap = gap })) in a) ≡ (right, (record { host = place; gap = wide' }))
       both p q = rw (p, q) refl
 
--- where nothing is wrong with a table, its name is free and there is room
-pub table_free : (host own : Members) (before : List Clock) → clock_causes host before own ≡ [] → is_taken before (name_in own) ≡ false
-table_free host own before e =
-    let named = (no_parts (table_causes form.Clock own) _ (no_parts (table_causes form.Clock own ++ when (is_misnamed before own) Name) _ e).0).1 in
-    (neither (not (is_clock_name (name_in own))) _ (not_so _ Name named)).1
-
 pub table_room : (host own : Members) (before : List Clock) → clock_causes host before own ≡ [] → have_no_room before ≡ false
 table_room host own before e = (neither (has_wild_number own host || has_wild_gap own) _ (not_so _ Number (no_parts (table_causes form.Clock own ++ when (is_misnamed before own) Name) _ e).1)).1
 
 -- ---- table by table
-
 -- the next table
 pub next_item : (values : List Value) (k : ℕ) (v : Value) → k < length values → v ≡ get_or values k v → items_view (drop k values) ≡ item (view v) (items_view (drop (k + 1) values))
 next_item values k v inside is = ap items_view (drop-cons values k v inside) ∙ ap (λ (w : Value). item (view w) (items_view (drop (suc k) values))) (sym is) ∙ ap (λ (n : ℕ). item (view v) (items_view (drop n values))) (let same : suc k ≡ k + 1 = omega arith in same)

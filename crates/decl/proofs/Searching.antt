@@ -15,7 +15,7 @@ use Rattle.std.proofs.lemmas.Map.Text.{is_eq-slice_cmp}
 use Rattle.problem_model.specs.declared.items.Clock.{Clock}
 use Rattle.decl.specs.Declaration.{Precedes}
 use Rattle.decl.specs.declared.items.Label.{Label}
-use Rattle.decl.specs.Places.{place_of, clock_place}
+use Rattle.decl.specs.Places.{place_of}
 
 abbrev pub name_cmp : List ℕ → List ℕ → Ordering
 name_cmp name c = slice_cmp nat_cmp c name
@@ -113,7 +113,6 @@ pub place_none : (hosts : List (List ℕ)) (name : List ℕ) (place : ℕ) → R
 place_none hosts name place rising parted = entry_none (λ (host : List ℕ). host) hosts name place rising parted
 
 -- ---- labels
-
 abbrev label_name : Label → List ℕ
 label_name l = l.name
 
@@ -139,9 +138,6 @@ position_same name i (c ∷ clocks) = go (bytes_eq c.name name) refl (position_s
         → position_from (λ host. bytes_eq host name) i (map (λ (c : Clock). c.name) (c ∷ clocks)) ≡ position_from (λ (c : Clock). bytes_eq c.name name) i (c ∷ clocks)
     go true is more = rw is refl
     go false is more = rw is more
-
-pub same_place : (hosts : List (List ℕ)) (clocks : List Clock) (name : List ℕ) → map (λ (c : Clock). c.name) clocks ≡ hosts → place_of hosts name ≡ clock_place clocks name
-same_place hosts clocks name own = ap (λ (names : List (List ℕ)). place_of names name) (sym own) ∙ position_same name 0 clocks
 
 -- a name that comes before another is not the same
 pub precedes_differ : (a b : List ℕ) → Precedes a b → a ≢ b

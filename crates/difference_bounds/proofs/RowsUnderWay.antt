@@ -12,15 +12,6 @@ use Rattle.difference_bounds.proofs.RowSums.{cost_step, done_few, done_all, done
 use Rattle.difference_bounds.proofs.RowEnds.{relaxed_row}
 use Rattle.difference_bounds.proofs.RowStarts.{idle_relaxing, put_relaxing}
 
--- nothing spread yet
-pub spread_start : (table : ArcTable) (node : ℕ) (entries : List ℕ) (c : Cells) (waits : ℕ → Bool)
-    → waits node ≡ false
-    → IsSpread table node entries 0 c c waits waits
-spread_start table node entries c waits w = record {
-  each = λ k. inl (record { known = refl; value = refl; parent = refl; waiting = elim (cases_eq k node) [ inl q ↦ inl (q, ap waits q ∙ w) | inr n ↦ inr (n, refl) ] });
-  met = λ k l m. absurd (omega arith);
-}
-
 -- an arc that brings nothing nearer
 pub spread_kept : (table : ArcTable) (node : ℕ) (entries : List ℕ) (count : ℕ) (c c' : Cells) (waits waits' : ℕ → Bool) (j : ℕ)
     → IsSpread table node entries count c c' waits waits' → get_or entries count 0 ≡ j → c'.known (table.arc j).to ≡ true

@@ -1,14 +1,13 @@
 -- Slots that stay, with rows that are changed or not, and slots that come.
-use Rattle.std.proofs.Common.{◌≡◌, ◌<◌, ◌+◌, ℕ, true, false, List, [], ◌∷◌, ◌++◌, length, All, Result, Ok, Err, refl, sym, ap, subst, ◌∙◌, inl, inr, arith}
+use Rattle.std.proofs.Common.{◌≡◌, ◌<◌, ◌+◌, ℕ, true, List, [], ◌∷◌, ◌++◌, length, All, Result, Ok, Err, refl, sym, ap, subst, ◌∙◌, arith}
 use Rattle.std.specs.Prelude.{ℤ, Option, None, Some, OnOk, OnErr}
-use Rattle.std.proofs.lemmas.List.Elements.{All-push, All-cons}
-use Rattle.sync_graph.specs.InForce.{IsEarliestOf}
+use Rattle.std.proofs.lemmas.List.Elements.{All-push}
 use Rattle.frontier.specs.Keys.{IsEmpty}
 use Rattle.row_pool.specs.Pool.{Pool, free_rows}
 use Rattle.repair.specs.declared.slot.Slot.{Slot}
 use Rattle.repair.specs.declared.keep.KeepError.{KeepError}
 use Rattle.repair.specs.Slots.{KeptRows, behind, all_slots, AreOwnRows, AreRowsOf, AreNodes, ChangesRowsOf}
-use Rattle.repair.specs.Keeping.{TakesRows, with_slot, with_source}
+use Rattle.repair.specs.Keeping.{TakesRows, with_slot}
 use Rattle.engine.specs.Solver.{SolverLists}
 use Rattle.engine.specs.Changes.{KeepsSlots}
 use Rattle.engine.specs.Current.{IsCurrent}
@@ -16,7 +15,6 @@ use Rattle.engine.proofs.Lending.{free_same, two_less}
 use Rattle.engine.proofs.Staying.{with_rows, current_with_rows, rows_now}
 
 -- ---- slots that stay
-
 pub rows_as_before : (slots : List Slot) (pool : Pool) → ChangesRowsOf slots pool pool
 rows_as_before slots pool = record { width = refl; count = refl; taken = λ k. refl; others = λ k misses. refl }
 
@@ -43,26 +41,9 @@ keeps_after old mid new kept pool front keeps = record {
 }
 
 -- ---- slots that come
-
-pub present_is : (s : SolverLists) → IsCurrent s → s.kept.present ≡ s.earliest.is_solved
-present_is s current = elim current.answer [
-  | inl now ↦ now.present ∙ sym now.solved
-  | inr held ↦ held.absent ∙ sym held.unsolved
-]
-
-pub earliest_now : (s : SolverLists) → IsCurrent s → s.earliest.is_solved ≡ true → IsEarliestOf s.graph s.earliest.values
-earliest_now s current solved = elim current.answer [
-  | inl now ↦ now.earliest
-  | inr held ↦ absurd (let unsolved : s.earliest.is_solved ≡ false = held.unsolved in cc)
-]
-
 all_behind : (P : Slot → Type 0) (source : Option Slot) (slots : List Slot) (slot : Slot) → All P (behind source slots) → P slot → All P (behind source (slots ++ slot ∷ []))
 all_behind P None slots slot all one = All-push P slots slot all one
 all_behind P (Some source) slots slot all one = All-push P (source ∷ slots) slot all one
-
-all_with_source : (P : Slot → Type 0) (source : Option Slot) (slots : List Slot) (slot : Slot) → source ≡ None → All P (behind source slots) → P slot → All P (slot ∷ slots)
-all_with_source P None slots slot none all one = All-cons P slot slots one all
-all_with_source P (Some source) slots slot none all one = absurd cc
 
 module _ (s : SolverLists) (current : IsCurrent s) (node : ℕ) (below : node < length s.graph.nodes) (pool : Pool) (front : List (Option ℤ)) (idle : IsEmpty front) (long : length front ≡ length s.front) where
   module _ (slot : Slot) (of_node : slot.node ≡ node) (takes : TakesRows s.pool pool slot) where
@@ -79,13 +60,6 @@ module _ (s : SolverLists) (current : IsCurrent s) (node : ℕ) (below : node < 
     slot_current kept is own rows =
         with_kept kept
         (subst (AreNodes s.graph) (sym is) (all_behind (λ (t : Slot). t.node < length s.graph.nodes) s.kept.source s.kept.slots slot current.set_up.nodes below_slot))
-        (ap (λ (k : KeptRows). k.present) is) (ap (λ (k : KeptRows). k.room) is) own rows
-
-    pub source_current : s.kept.source ≡ None → (kept : KeptRows) → kept ≡ with_source s.kept slot → AreOwnRows kept pool → (s.earliest.is_solved ≡ true → AreRowsOf s.graph kept pool)
-        → IsCurrent (with_rows s pool kept front)
-    source_current none kept is own rows =
-        with_kept kept
-        (subst (AreNodes s.graph) (sym is) (all_with_source (λ (t : Slot). t.node < length s.graph.nodes) s.kept.source s.kept.slots slot none current.set_up.nodes below_slot))
         (ap (λ (k : KeptRows). k.present) is) (ap (λ (k : KeptRows). k.room) is) own rows
 
   refused_current : (kept : KeptRows) → kept ≡ s.kept → pool ≡ s.pool → IsCurrent (with_rows s pool kept front)

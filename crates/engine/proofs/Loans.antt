@@ -1,7 +1,6 @@
 -- Two rows that are lent, and rows that are given back.
-use Rattle.std.proofs.Common.{◌≡◌, ◌≢◌, ◌<◌, ◌+◌, ℕ, true, false, List, [], length, get_or, All, refl, sym, ap, subst, ◌∙◌, inl, inr, arith, length-set}
+use Rattle.std.proofs.Common.{◌≡◌, ◌≢◌, ◌<◌, ℕ, false, List, [], length, get_or, All, refl, sym, ap, subst, ◌∙◌, arith, length-set}
 use Rattle.std.specs.Prelude.{ℤ, Option}
-use Rattle.std.proofs.lemmas.Bool.{cases_eq}
 use Rattle.std.proofs.lemmas.List.Elements.{All-tail}
 use Rattle.difference_bounds.specs.Parents.{IsRow}
 use Rattle.difference_bounds.specs.Tables.{ArcTable, reversed_table}
@@ -10,18 +9,17 @@ use Rattle.frontier.specs.Keys.{IsEmpty}
 use Rattle.distances.specs.Changes.{AreBlank}
 use Rattle.row_pool.specs.declared.cell.Cell.{Cell}
 use Rattle.row_pool.specs.Row.{cells_of}
-use Rattle.row_pool.specs.Pool.{PoolRow, Pool, row_at, row_of, IsTaken, IsFree, free_rows, marked}
+use Rattle.row_pool.specs.Pool.{PoolRow, Pool, row_of, IsTaken, marked}
 use Rattle.row_pool.proofs.Pools.{below_rows}
 use Rattle.repair.specs.declared.slot.Slot.{Slot}
 use Rattle.repair.specs.Slots.{all_slots, HasRows, AreApart, AreOwn, IsRowsOf}
 use Rattle.repair.specs.Keeping.{TakesRows}
 use Rattle.repair.proofs.Slotting.{own_first, rows_first}
-use Rattle.repair.proofs.Taking.{apart_of, marked_own, marked_other, marked_free}
+use Rattle.repair.proofs.Taking.{apart_of, marked_other}
 use Rattle.engine.specs.declared.loan.Lent.{Lent}
 use Rattle.engine.specs.Solver.{SolverLists}
 use Rattle.engine.specs.Current.{IsCurrent}
 use Rattle.engine.specs.Lending.{IsLent}
-use Rattle.engine.proofs.Lending.{free_same}
 use Rattle.engine.proofs.Staying.{with_rows, current_with_rows, rows_now}
 
 -- ---- lent
@@ -92,36 +90,12 @@ module _ (pool : Pool) (k : ℕ) where
     as_long : length given.rows ≡ length pool.rows
     as_long = length-set pool.rows k (record { taken = false; cells = row_of pool k })
 
-    is_free : IsFree given k
-    is_free = (omega (arith, below, as_long), ap (λ (r : PoolRow). r.taken) (marked_own pool k false below))
-
-    flags_again : (j : ℕ) → (row_at (marked given k true) j).taken ≡ (row_at pool j).taken
-    flags_again j = elim (cases_eq j k) [
-      | inl same ↦
-          ap (λ (i : ℕ). (row_at (marked given k true) i).taken) same
-          ∙ ap (λ (r : PoolRow). r.taken) (marked_own given k true is_free.0)
-          ∙ sym taken ∙ ap (λ (i : ℕ). (row_at pool i).taken) (sym same)
-      | inr differ ↦ ap (λ (r : PoolRow). r.taken) (marked_other given k j true differ ∙ marked_other pool k j false differ)
-    ]
-
-    pub one_more_free : free_rows given ≡ free_rows pool + 1
-    one_more_free =
-        let long : length (marked given k true).rows ≡ length pool.rows = length-set given.rows k (record { taken = true; cells = row_of given k }) ∙ as_long in
-        let same : free_rows (marked given k true) ≡ free_rows pool = free_same (marked given k true).rows pool.rows long flags_again in
-        omega (arith, same, marked_free given k is_free)
-
 module _ (s : SolverLists) (current : IsCurrent s) (lent : Lent) (is : IsLent lent s) where
   abbrev first : Pool
   first = marked s.pool lent.from false
 
   abbrev back : Pool
   back = marked first lent.to false
-
-  pub still_taken : IsTaken first lent.to
-  still_taken = ap (λ (r : PoolRow). r.taken) (marked_other s.pool lent.from lent.to false (λ same. is.two (sym same))) ∙ is.to
-
-  pub back_free : free_rows back ≡ free_rows s.pool + 2
-  back_free = omega (arith, one_more_free s.pool lent.from is.from, one_more_free first lent.to still_taken)
 
   pub back_current : IsCurrent (with_rows s back s.kept s.front)
   back_current =

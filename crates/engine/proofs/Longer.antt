@@ -1,5 +1,5 @@
 -- A node more and an arc more.
-use Rattle.std.proofs.Common.{◌≡◌, ◌<◌, ◌+◌, ℕ, true, false, List, [], ◌∷◌, ◌++◌, length, get_or, refl, sym, ap, ◌∙◌, inl, inr, arith}
+use Rattle.std.proofs.Common.{◌≡◌, ◌<◌, ◌+◌, ℕ, true, false, List, [], ◌∷◌, ◌++◌, length, refl, sym, ap, ◌∙◌, inl, inr, arith}
 use Rattle.std.specs.Prelude.{pos}
 use Rattle.std.proofs.lemmas.List.{length_push}
 use Rattle.std.proofs.lemmas.List.Elements.{All-weaker}
@@ -7,7 +7,7 @@ use Rattle.problem_model.specs.declared.items.Node.{Node}
 use Rattle.sync_graph.specs.declared.arc.Arc.{Arc}
 use Rattle.sync_graph.specs.Graph.{GraphLists, IsGraph, with_node, with_arc}
 use Rattle.sync_graph.specs.InForce.{IsEarliestOf}
-use Rattle.sync_graph.proofs.Listed.{at_end, at_other}
+use Rattle.sync_graph.proofs.Listed.{at_other}
 use Rattle.earliest.specs.Copied.{IsPart}
 use Rattle.earliest.specs.Values.{IsEarliestBut}
 use Rattle.earliest.specs.Inserted.{IsNegativeCycle}
@@ -21,7 +21,6 @@ use Rattle.engine.specs.Current.{IsSetUp, IsCurrent}
 use Rattle.engine.specs.Pushed.{IsPushed}
 
 -- ---- a node
-
 cycle_with_node : (g : GraphLists) (n : Node) (steps : List Arc) → IsNegativeCycle g steps → IsNegativeCycle (with_node g n) steps
 cycle_with_node g n steps cycle = record {
   in_force = cycle.in_force;
@@ -58,7 +57,6 @@ module _ (s : SolverLists) (n : Node) (current : IsCurrent s) (is : IsGraph (wit
     }
 
 -- ---- an arc
-
 -- what is held of a graph is as before, and the graph has one arc more
 abbrev pub with_new_arc : SolverLists → Arc → SolverLists
 with_new_arc s a = record { graph = with_arc s.graph a; earliest = s.earliest; contradiction = s.contradiction; pool = s.pool; kept = s.kept; front = s.front }
@@ -74,9 +72,6 @@ module _ (g : GraphLists) (a : Arc) (is : IsGraph g) where
           at_other g.arcs a no_arc i.0 (λ e. omega arith) ∙ i.2,
         );
   }
-
-  pub last_in_force : get_or (g.in_force ++ true ∷ []) (length g.arcs) false ≡ true
-  last_in_force = ap (λ (n : ℕ). get_or (g.in_force ++ true ∷ []) n false) (sym is.flags) ∙ at_end g.in_force true false
 
 module _ (s : SolverLists) (a : Arc) (current : IsCurrent s) (is : IsGraph (with_arc s.graph a)) where
   set_up_with_arc : IsSetUp (with_new_arc s a)

@@ -1,52 +1,21 @@
--- What is held stays current as room comes, and is so again once it was renewed.
-use Rattle.std.proofs.Common.{◌≡◌, ◌≤◌, ◌<◌, ◌+◌, ◌-◌, ℕ, zero, suc, true, false, List, [], ◌++◌, length, get_or, max, replicate, refl, sym, ap, subst, ◌∙◌, inl, inr, arith, length-append}
+-- What is held stays current as room comes.
+use Rattle.std.proofs.Common.{◌≡◌, ◌≤◌, ◌+◌, ◌-◌, ℕ, zero, suc, true, false, List, [], ◌++◌, length, get_or, max, replicate, refl, sym, ap, subst, ◌∙◌, inl, inr, arith, length-append}
 use Rattle.std.specs.Prelude.{ℤ, pos, ◌<ℤ◌, map, Option, None, Some}
 use Rattle.std.proofs.lemmas.Int.{ints}
 use Rattle.difference_bounds.specs.Paths.{sum_of}
 use Rattle.sync_graph.specs.declared.arc.Arc.{Arc}
-use Rattle.sync_graph.specs.Graph.{GraphLists, IsGraph, no_graph, table_of, unnamed}
+use Rattle.sync_graph.specs.Graph.{unnamed}
 use Rattle.std.proofs.Math.Nat.{le-max_left}
 use Rattle.std.proofs.lemmas.Bool.{cases_lt}
 use Rattle.std.proofs.lemmas.List.{get_or_append_left, get_or-append_right}
-use Rattle.std.proofs.lemmas.List.Elements.{All-nil}
 use Rattle.std.proofs.lemmas.Option.{get_or_from_slice_get, slice_get-get_or}
-use Rattle.sync_graph.specs.InForce.{IsEarliestOf}
 use Rattle.frontier.specs.Keys.{IsEmpty}
-use Rattle.earliest.specs.Values.{Values}
-use Rattle.earliest.specs.Inserted.{IsNegativeCycle}
 use Rattle.row_pool.specs.Pool.{Pool, grown}
-use Rattle.repair.specs.declared.slot.Slot.{Slot}
-use Rattle.repair.specs.Slots.{KeptRows, HasRows, IsRowsOf, nothing_kept, with_presence, with_room, AreOwnRows, AreRowsOf, AreNodes}
+use Rattle.repair.specs.Slots.{KeptRows, with_room, AreOwnRows, AreRowsOf, AreNodes}
 use Rattle.engine.specs.Solver.{SolverLists}
 use Rattle.engine.specs.Current.{IsSolvedNow, IsContradicted, IsSetUp, IsCurrent}
 
--- ---- nothing is there
-
-pub new_current : (s : SolverLists) → s.graph ≡ no_graph → IsGraph s.graph → s.earliest ≡ record { values = []; is_solved = true } → s.contradiction ≡ [] → s.kept ≡ nothing_kept → s.front ≡ []
-    → IsEarliestOf no_graph [] → IsCurrent s
-new_current s graph is earliest none kept front first =
-    let nodes : length s.graph.nodes ≡ 0 = ap (λ (g : GraphLists). length g.nodes) graph in
-    let values : length s.earliest.values ≡ 0 = ap (λ (e : Values). length e.values) earliest in
-    record {
-      set_up = record {
-        graph = is;
-        one_each = values ∙ sym nodes;
-        own = subst (λ (k : KeptRows). AreOwnRows k s.pool) (sym kept) (record { taken = All-nil (HasRows s.pool); apart = λ i j d less below. absurd (let b : j < 0 = below in omega arith) });
-        nodes = subst (λ (k : KeptRows). AreNodes s.graph k) (sym kept) (All-nil (λ (slot : Slot). slot.node < length s.graph.nodes));
-        room = record { rows = omega (arith, nodes); found = omega (arith, nodes); front = omega (arith, nodes) };
-        idle = subst IsEmpty (sym front) (λ node key waits. absurd cc);
-      };
-      answer = inl (record {
-        solved = ap (λ (e : Values). e.is_solved) earliest;
-        earliest = subst (λ (g : GraphLists). IsEarliestOf g s.earliest.values) (sym graph) (subst (λ (e : Values). IsEarliestOf no_graph e.values) (sym earliest) first);
-        none = none;
-        present = ap (λ (k : KeptRows). k.present) kept;
-        rows = subst (λ (k : KeptRows). AreRowsOf s.graph k s.pool) (sym kept) (All-nil (IsRowsOf (length s.graph.nodes) (table_of s.graph) s.pool));
-      });
-    }
-
 -- ---- other rows, another room
-
 -- the same graph and answer, with these rows and this frontier
 abbrev pub with_rows : SolverLists → Pool → KeptRows → List (Option ℤ) → SolverLists
 with_rows s pool kept front = record { graph = s.graph; earliest = s.earliest; contradiction = s.contradiction; pool = pool; kept = kept; front = front }
@@ -130,58 +99,7 @@ rows_step s current pool count nodes is own rows =
     (current_with_rows s current (grown s.pool count nodes) s.kept s.front (own current.set_up.own) current.set_up.nodes refl (λ solved. rows current.set_up.own (rows_now s current solved))
     (le-max_left s.pool.width nodes) (omega arith) (omega arith) current.set_up.idle)
 
--- ---- renewed answers
-
--- what is held once values and rows were renewed
-abbrev pub renewed : SolverLists → Values → Pool → List (Option ℤ) → SolverLists
-renewed s e pool front = record { graph = s.graph; earliest = e; contradiction = []; pool = pool; kept = with_presence s.kept true; front = front }
-
--- what is held once a negative cycle was found
-abbrev pub given_up : SolverLists → Values → List Arc → List (Option ℤ) → SolverLists
-given_up s e cycle front = record { graph = s.graph; earliest = e; contradiction = cycle; pool = s.pool; kept = with_presence s.kept false; front = front }
-
-module _ (s : SolverLists) (set_up : IsSetUp s) (e : Values) (front : List (Option ℤ))
-    (as_many : length e.values ≡ length s.earliest.values)
-    (long : length front ≡ length s.front)
-    (idle : IsEmpty front)
-  where
-    pub renewed_current : (pool : Pool) → e.is_solved ≡ true → IsEarliestOf s.graph e.values → AreOwnRows s.kept pool → AreRowsOf s.graph s.kept pool → pool.width ≡ s.pool.width
-        → IsCurrent (renewed s e pool front)
-    renewed_current pool solved earliest own rows width = record {
-      set_up = record {
-        graph = set_up.graph;
-        one_each = as_many ∙ set_up.one_each;
-        own = own;
-        nodes = set_up.nodes;
-        room = record {
-          rows = subst (λ (n : ℕ). length s.graph.nodes ≤ n) (sym width) set_up.room.rows;
-          found = set_up.room.found;
-          front = subst (λ (n : ℕ). length s.graph.nodes ≤ n) (sym long) set_up.room.front;
-        };
-        idle = idle;
-      };
-      answer = inl (record { solved = solved; earliest = earliest; none = refl; present = refl; rows = rows });
-    }
-
-    pub given_up_current : (cycle : List Arc) → e.is_solved ≡ false → IsNegativeCycle s.graph cycle → IsCurrent (given_up s e cycle front)
-    given_up_current cycle unsolved negative = record {
-      set_up = record {
-        graph = set_up.graph;
-        one_each = as_many ∙ set_up.one_each;
-        own = set_up.own;
-        nodes = set_up.nodes;
-        room = record {
-          rows = set_up.room.rows;
-          found = set_up.room.found;
-          front = subst (λ (n : ℕ). length s.graph.nodes ≤ n) (sym long) set_up.room.front;
-        };
-        idle = idle;
-      };
-      answer = inr (record { unsolved = unsolved; cycle = negative; absent = refl });
-    }
-
 -- ---- which answer it is
-
 pub solved_now : (s : SolverLists) → IsCurrent s → s.contradiction ≡ [] → IsSolvedNow s
 solved_now s current none = elim current.answer [
   | inl now ↦ now

@@ -1,5 +1,5 @@
 -- Ends whose events go by numbers: their ambiguous keys, and their counts.
-use Rattle.std.proofs.Common.{◌≡◌, ℕ, List, [], ◌∷◌, length, map, Bool, true, false, ◌&&◌, not, cond, refl, sym, ap, ◌∙◌, arith}
+use Rattle.std.proofs.Common.{◌≡◌, ℕ, zero, suc, List, [], ◌∷◌, length, map, Bool, true, false, ◌&&◌, not, cond, refl, sym, ap, ◌∙◌, arith}
 use Rattle.std.specs.Prelude.{filter, is_some}
 use Rattle.std.specs.List.Sorted.{IsPermutation}
 use Rattle.std.proofs.lemmas.List.{length-map}
@@ -18,20 +18,18 @@ use Rattle.event_match.proofs.Names.{end_by}
 
 -- ---- counts
 -- what is counted goes by how many events of each key there are
-matched_by : (ss rs us vs : List ℕ) → length ss ≡ length us → length rs ≡ length vs → is_some (only_two ss rs) ≡ is_some (only_two us vs)
-matched_by [] rs [] vs e f = refl
-matched_by [] rs (u ∷ us) vs e f = absurd (omega (arith, e))
-matched_by (s ∷ ss) rs [] vs e f = absurd (omega (arith, e))
-matched_by (s ∷ p ∷ ss) rs (u ∷ []) vs e f = absurd (omega (arith, e))
-matched_by (s ∷ []) rs (u ∷ t ∷ us) vs e f = absurd (omega (arith, e))
-matched_by (s ∷ p ∷ ss) rs (u ∷ t ∷ us) vs e f = refl
-matched_by (s ∷ []) [] (u ∷ []) [] e f = refl
-matched_by (s ∷ []) [] (u ∷ []) (v ∷ vs) e f = absurd (omega (arith, f))
-matched_by (s ∷ []) (r ∷ rs) (u ∷ []) [] e f = absurd (omega (arith, f))
-matched_by (s ∷ []) (r ∷ []) (u ∷ []) (v ∷ []) e f = refl
-matched_by (s ∷ []) (r ∷ []) (u ∷ []) (v ∷ w ∷ vs) e f = absurd (omega (arith, f))
-matched_by (s ∷ []) (r ∷ q ∷ rs) (u ∷ []) (v ∷ []) e f = absurd (omega (arith, f))
-matched_by (s ∷ []) (r ∷ q ∷ rs) (u ∷ []) (v ∷ w ∷ vs) e f = refl
+abbrev pub is_one : ℕ → Bool
+is_one zero = false
+is_one (suc zero) = true
+is_one (suc (suc n)) = false
+
+-- a send and a receive alone, told by how many there are
+pub told_alone : (sends receives : List ℕ) → is_some (only_two sends receives) ≡ (is_one (length sends) && is_one (length receives))
+told_alone [] receives = refl
+told_alone (s ∷ t ∷ sends) receives = refl
+told_alone (s ∷ []) [] = refl
+told_alone (s ∷ []) (r ∷ []) = refl
+told_alone (s ∷ []) (r ∷ q ∷ receives) = refl
 
 -- two lists have as many events of each key
 abbrev AreAsMany : List SeenItem → List SeenItem → Type 0
@@ -50,7 +48,11 @@ same_tallies m m' u u' a a' messages unmatched ambiguous =
 
 module _ (xs ys : List SeenItem) (many : AreAsMany xs ys) where
   matched_same : (key : EventKey) → is_matched (group_of xs key) ≡ is_matched (group_of ys key)
-  matched_same key = matched_by (events_with xs key Send) (events_with xs key Receive) (events_with ys key Send) (events_with ys key Receive) (many key Send) (many key Receive)
+  matched_same key =
+      told_alone (events_with xs key Send) (events_with xs key Receive)
+      ∙ ap (λ (n : ℕ). is_one n && is_one (length (events_with xs key Receive))) (many key Send)
+      ∙ ap (λ (n : ℕ). is_one (length (events_with ys key Send)) && is_one n) (many key Receive)
+      ∙ sym (told_alone (events_with ys key Send) (events_with ys key Receive))
 
   ambiguous_same : (key : EventKey) → is_ambiguous (group_of xs key) ≡ is_ambiguous (group_of ys key)
   ambiguous_same key = ap (λ (n : ℕ). are_ambiguous n (length (events_with xs key Receive))) (many key Send) ∙ ap (λ (n : ℕ). are_ambiguous (length (events_with ys key Send)) n) (many key Receive)

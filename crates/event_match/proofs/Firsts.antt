@@ -23,9 +23,6 @@ use Rattle.event_match.specs.Inside.{AreRising, comes_first, earlier, first_with
 use Rattle.event_match.proofs.Lists.{each_in, from_map, in_map}
 use Rattle.event_match.proofs.Rising.{differ_apart, pairs_weaker, same_elements}
 
-abbrev pub key_of_end : End → EventKey
-key_of_end e = e.key
-
 abbrev pub keys_among : List End → List EventKey
 keys_among ends = each_once is_same_key (map (λ (e : End). e.key) ends)
 

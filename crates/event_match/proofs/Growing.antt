@@ -1,16 +1,13 @@
 -- The ends of messages while events are added.
-use Rattle.std.proofs.Common.{◌≡◌, ◌≤◌, ◌<◌, ◌+◌, ℕ, zero, suc, List, [], ◌∷◌, ◌++◌, length, get_or, Some, refl, sym, ap, ◌∙◌, subst, arith, length-append}
+use Rattle.std.proofs.Common.{◌≡◌, ◌≤◌, ◌+◌, ℕ, zero, suc, List, [], ◌∷◌, ◌++◌, length, Some, refl, sym, ap, ◌∙◌, subst, arith, length-append}
 use Rattle.std.specs.Prelude.{All, slice_get, slice_set}
 use Rattle.std.specs.List.Sorted.{IsPermutation}
 use Rattle.std.proofs.lemmas.Grind.{flat_map-append}
-use Rattle.std.proofs.lemmas.List.{append_assoc, get_or-map, length-map, map-append, map-set}
+use Rattle.std.proofs.lemmas.List.{append_assoc}
 use Rattle.std.proofs.lemmas.List.Elements.{All-head, All-tail}
 use Rattle.std.proofs.lemmas.List.Sorted.{IsPermutation-append_comm, IsPermutation-append_left, IsPermutation-append_right, IsPermutation-refl, IsPermutation-sym, IsPermutation-trans, length_permutation}
-use Rattle.std.proofs.lemmas.Option.{none-some, same_Some, slice_get_read}
-use Rattle.trace_event.specs.declared.event.Event.{Event}
-use Rattle.trace_event.specs.Seen.{Seen, SeenMark, Keyed, Unkeyed, seen_event, seen_events}
-use Rattle.traces.specs.declared.accepted.Accepted.{Accepted}
-use Rattle.traces.specs.Held.{seen_in}
+use Rattle.std.proofs.lemmas.Option.{none-some, same_Some}
+use Rattle.trace_event.specs.Seen.{Seen, SeenMark, Keyed, Unkeyed}
 use Rattle.traces.specs.declared.event.EventId.{EventId}
 use Rattle.traces.specs.Traces.{Placed, event_count, events_from, events_of, numbered}
 use Rattle.traces.proofs.Ids.{length_events}
@@ -91,20 +88,6 @@ more_ends seen label old more ends at are =
     IsPermutation-trans (ends_of (events_of (slice_set seen label (old ++ more)))) (ends_of (events_of seen) ++ added) (ends ++ added)
     (IsPermutation-sym (ends_of (events_of seen) ++ added) (ends_of (events_of (slice_set seen label (old ++ more)))) grown)
     (IsPermutation-append_left added (ends_of (events_of seen)) ends are)
-
--- the same of what is held under labels: more events of one
-pub more_under : (accepted : List Accepted) (k : ℕ) (old new : Accepted) (more : List Event) (ends : List End) → k < length accepted → old ≡ get_or accepted k old → new.events.items ≡ old.events.items ++ more → AreEndsOf ends (seen_in accepted)
-    → AreEndsOf (ends ++ ends_of (numbered k (length old.events.items + 1) (seen_events more))) (seen_in (slice_set accepted k new))
-more_under accepted k old new more ends inside is grown are =
-    let under : Accepted → List Seen = λ a. seen_events a.events.items in
-    let read : under old ≡ get_or (seen_in accepted) k (under old) = ap under is ∙ sym (get_or-map under accepted k old (under old) inside) in
-    let at : slice_get (seen_in accepted) k ≡ Some (under old) = slice_get_read (seen_in accepted) (length accepted) k (under old) (sym (length-map accepted under)) inside read in
-    let grown' : under new ≡ under old ++ seen_events more = ap seen_events grown ∙ map-append seen_event old.events.items more in
-    let after : slice_set (seen_in accepted) k (under old ++ seen_events more) ≡ seen_in (slice_set accepted k new) =
-    ap (λ (l : List Seen). slice_set (seen_in accepted) k l) (sym grown') ∙ sym (map-set under accepted k new) in
-    subst (λ (n : ℕ). AreEndsOf (ends ++ ends_of (numbered k (n + 1) (seen_events more))) (seen_in (slice_set accepted k new))) (length-map old.events.items seen_event)
-    (subst (λ (l : List (List Seen)). AreEndsOf (ends ++ ends_of (numbered k (length (under old) + 1) (seen_events more))) l) after
-    (more_ends (seen_in accepted) k (under old) (seen_events more) ends at are))
 
 -- ---- how many
 few_of : (id : EventId) (mark : SeenMark) → length (end_of id mark) ≤ 1

@@ -12,7 +12,7 @@ use Rattle.msg_match.specs.Groups.{SeenItem}
 use Rattle.msg_match.specs.Changes.{AreMessagesAnew, HaveOwnNumbers}
 use Rattle.traces.specs.declared.event.EventId.{EventId}
 use Rattle.traces.specs.Traces.{Placed, event_count, numbered}
-use Rattle.event_match.specs.Ends.{AreChanges, AreCouplesWithin, AreEndsBy, AreEndsOf, End, end_at, end_of, ends_of, ids_from, item_of, items_from, name_at, no_name}
+use Rattle.event_match.specs.Ends.{AreChanges, AreCouplesBelow, AreEndsBy, AreEndsOf, End, end_at, end_of, ends_of, ids_from, item_of, items_from, name_at, no_name}
 use Rattle.event_match.proofs.Growing.{ends_few as few_ends_of, length_numbered, more_ends, no_ends}
 use Rattle.event_match.proofs.Renamed.{AreWithin, anew_within, named_anew}
 
@@ -109,7 +109,7 @@ ends_right ids label n (s ∷ more) =
     (ends_right (ids ++ id ∷ []) label (n + 1) more)) in
     one_there all (length ids) id s.mark (items_from (length ids + 1) more) (ends_of (numbered label (n + 1) more)) at behind
 
-ids_many : (label n : ℕ) (more : List Seen) → length (ids_from label n more) ≡ length more
+pub ids_many : (label n : ℕ) (more : List Seen) → length (ids_from label n more) ≡ length more
 ids_many label n more = length-map (numbered label n more) (λ (e : Placed). e.id) ∙ length_numbered label n more
 
 -- ---- while events are added
@@ -157,10 +157,10 @@ few_more n (s ∷ more) = omega (arith, length-append (item_of n s.mark) (items_
 module _ (ids more : List EventId) (items new : List SeenItem) (before after : List (List Seen)) (c : Change) (are : AreEndsBy ids items before) (are' : AreEndsBy (ids ++ more) (items ++ new) after)
     (added : AreMessagesAnew items (items ++ new) c.added.items) (withdrawn : AreMessagesAnew (items ++ new) items c.withdrawn.items) where
   -- what comes and goes has numbers of names
-  pub added_within : AreCouplesWithin (ids ++ more) c.added.items
+  pub added_within : AreCouplesBelow (length (ids ++ more)) c.added.items
   added_within = anew_within (ids ++ more) items (items ++ new) c.added.items are'.within added
 
-  pub gone_within : AreCouplesWithin ids c.withdrawn.items
+  pub gone_within : AreCouplesBelow (length ids) c.withdrawn.items
   gone_within = anew_within ids (items ++ new) items c.withdrawn.items are.within withdrawn
 
   -- and by the names it is what comes and goes

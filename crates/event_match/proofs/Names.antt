@@ -1,7 +1,7 @@
 -- Ends of messages by the names of their events.
-use Rattle.std.proofs.Common.{◌≡◌, ℕ, List, [], ◌∷◌, ◌++◌, map, Bool, true, false, cond, ◌&&◌, ◌==◌, inl, inr, refl, sym, ap, ◌∙◌, subst}
-use Rattle.std.specs.Prelude.{Contains, Decides}
-use Rattle.std.proofs.lemmas.Bool.{and_from, and_parts, cases_Bool, eq-eqb, eqb-true, false≢true}
+use Rattle.std.proofs.Common.{◌≡◌, ℕ, List, [], ◌∷◌, ◌++◌, map, Bool, true, false, cond, ◌&&◌, ◌==◌, inl, inr, refl, sym, ap, ◌∙◌}
+use Rattle.std.specs.Prelude.{Contains}
+use Rattle.std.proofs.lemmas.Bool.{and_from, and_parts, cases_Bool, eq-eqb, eqb-true}
 use Rattle.trace_event.specs.declared.event.Side.{Side}
 use Rattle.trace_event.specs.Seen.{EventKey, SeenMark, Keyed, Unkeyed, is_mark, is_same_key, is_same_side}
 use Rattle.msg_match.specs.Groups.{SeenItem, events_with}
@@ -23,21 +23,6 @@ same_id a b same =
 
 pub own_id : (a : EventId) → is_same a a ≡ true
 own_id a = and_from (a.label == a.label) (a.number == a.number) (eq-eqb a.label a.label refl) (eq-eqb a.number a.number refl)
-
-tells_id : (a b : EventId) → Decides (is_same a b) (a ≡ b)
-tells_id a b = (same_id a b, λ is. subst (λ (c : EventId). is_same a c ≡ true) is (own_id a))
-
-back_id : (a b : EventId) → is_same a b ≡ true → is_same b a ≡ true
-back_id a b same = subst (λ (c : EventId). is_same c a ≡ true) (same_id a b same) (own_id a)
-
-turned_id : (a b : EventId) → is_same a b ≡ is_same b a
-turned_id a b = elim (cases_Bool (is_same a b)) [
-  | inl same ↦ same ∙ sym (back_id a b same)
-  | inr other ↦ elim (cases_Bool (is_same b a)) [
-    | inl same' ↦ absurd (false≢true (sym other ∙ back_id b a same'))
-    | inr other' ↦ other ∙ sym other'
-  ]
-]
 
 -- ---- ends with a key and a side
 one_end : (id : EventId) (mark : SeenMark) (key : EventKey) (side : Side) (us : List End) (vs : List EventId) → names_with us key side ≡ vs → names_with (end_of id mark ++ us) key side ≡ cond (is_mark key side mark) (id ∷ vs) vs

@@ -16,7 +16,7 @@ use Rattle.traces.specs.declared.event.Couple.{Couple}
 use Rattle.traces.specs.Traces.{events_of}
 use Rattle.traces.specs.Messages.{messages_of}
 use Rattle.traces.proofs.Ids.{ids_differ}
-use Rattle.event_match.specs.Ends.{AreCouplesWithin, AreEndsOf, AreNewMessages, IsNewMessage, end_at, name_at, named, no_name}
+use Rattle.event_match.specs.Ends.{AreCouplesBelow, AreEndsOf, AreNewMessages, IsNewMessage, end_at, name_at, named, no_name}
 use Rattle.event_match.proofs.Lists.{each_in, from_map, in_map, map_differs, told_apart}
 use Rattle.event_match.proofs.Coupled.{couple_item, couple_message, item_couple, message_couple}
 
@@ -52,7 +52,7 @@ named_one ids first second a b differ within within' message message' same =
     both send receive = record { send = send; receive = receive }
 
 -- messages that come have numbers of names
-pub anew_within : (ids : List EventId) (first second : List SeenItem) (found : List numbers.Couple) → AreWithin ids second → AreMessagesAnew first second found → AreCouplesWithin ids found
+pub anew_within : (ids : List EventId) (first second : List SeenItem) (found : List numbers.Couple) → AreWithin ids second → AreMessagesAnew first second found → AreCouplesBelow (length ids) found
 anew_within ids first second found within anew =
     each_in (λ (m : numbers.Couple). (m.send < length ids) × (m.receive < length ids)) found
     (λ m held.

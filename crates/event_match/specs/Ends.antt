@@ -71,9 +71,9 @@ ids_from label n more = map (λ (e : Placed). e.id) (numbered label n more)
 abbrev pub named : List EventId → numbers.Couple → Couple
 named ids m = record { send = name_at ids m.send; receive = name_at ids m.receive }
 
--- the numbers of these messages are those of names
-abbrev pub AreCouplesWithin : List EventId → List numbers.Couple → Type 0
-AreCouplesWithin ids couples = All (λ (m : numbers.Couple). (m.send < length ids) × (m.receive < length ids)) couples
+-- the ends of these messages have numbers below n
+abbrev pub AreCouplesBelow : ℕ → List numbers.Couple → Type 0
+AreCouplesBelow n couples = All (λ (m : numbers.Couple). (m.send < n) × (m.receive < n)) couples
 
 -- the couple is a message among the second events, and none among the first
 abbrev pub IsNewMessage : (first second : List (List Seen)) → Couple → Type 0

@@ -112,19 +112,6 @@ let_go keys heap places node h =
 
 -- the last node is taken away, to be put in the hole at the root
 module _ (keys : List (Option ℤ)) (heap places : List ℕ) (node root : ℕ) (h : HasHole keys (heap ++ node ∷ []) places 0 root) (gone : IsFree keys root) where
-  -- where the root was alone none waits
-  pub emptied : length heap ≡ 0 → IsHeap keys heap places
-  emptied e = record {
-    room = h.room;
-    ordered = λ place l a. absurd (omega arith);
-    waiting = λ place l. absurd (omega arith);
-    placed = λ place l. absurd (omega arith);
-    held = λ other key w.
-        let old : (place_of places other < length (heap ++ node ∷ [])) × (place_of places other ≢ 0) × (node_at (heap ++ node ∷ []) (place_of places other) ≡ other) = h.held other key w (free_apart keys root other gone (key, w)) in
-        let n : place_of places other ≢ 0 = old.1 in
-        absurd (omega (arith, old.0, more heap node));
-  }
-
   module _ (some : 0 < length heap) where
     grown : (place : ℕ) → place < length heap → place < length (heap ++ node ∷ [])
     grown place l = omega (arith, more heap node)

@@ -3,12 +3,10 @@ use Rattle.decl.specs.Declaration.{follows_of}
 use Rattle.std.proofs.Common.{List, [], map, Contains, inl}
 use Rattle.problem_model.specs.declared.items.Message.{Message}
 use Rattle.sync_graph.specs.Graph.{GraphLists}
-use Rattle.engine.specs.Solver.{SolverLists}
 use Rattle.roster.specs.Roster.{RosterLists}
 use Rattle.growth.specs.Entered.{all_events}
 use Rattle.growth.specs.Rosters.{named_event}
 use Rattle.kept_graph.specs.Kept.{IsGrownBy}
-use Rattle.kept_graph.specs.UnderWay.{IsUnderWay}
 use Rattle.kept_graph.proofs.Messages.{with_messages}
 
 -- two lists have the same messages
@@ -26,6 +24,3 @@ grown_alike r some others g alike is = record {
     only = λ v e p at partner. (let (m, has, send, receive) = is.tells.only v e p at partner in (m, alike.forth m has, send, receive));
   };
 }
-
-pub way_alike : (r : RosterLists) (some others : List Message) (s : SolverLists) → AreAlike some others → IsUnderWay some r s → IsUnderWay others r s
-way_alike r some others s alike way = record { current = way.current; grown = grown_alike r some others s.graph alike way.grown; nodes = way.nodes }

@@ -1,5 +1,5 @@
 -- Events come at once, and the messages change: what is kept behind it.
-use Rattle.std.proofs.Common.{◌≡◌, ◌≢◌, ◌⊎◌, ◌<◌, ◌≤◌, ◌+◌, ◌*◌, ◌^◌, ℕ, zero, suc, List, [], ◌∷◌, ◌++◌, length, map, set, Contains, All, AllPairs, inl, inr, refl, sym, ◌∙◌, ap, subst, arith}
+use Rattle.std.proofs.Common.{◌≡◌, ◌≢◌, ◌⊎◌, ◌<◌, ◌≤◌, ◌+◌, ◌*◌, ◌^◌, ℕ, Bool, zero, suc, List, [], ◌∷◌, ◌++◌, length, map, set, Contains, All, AllPairs, inl, inr, refl, sym, ◌∙◌, ap, subst, arith}
 use Rattle.std.specs.List.{range_with_len}
 use Rattle.std.specs.List.Sorted.{IsPermutation}
 use Rattle.std.proofs.lemmas.Bool.{cases_eq, cases_lt}
@@ -12,6 +12,7 @@ use Rattle.problem_model.specs.declared.items.Message.{Message}
 use Rattle.problem_model.specs.declared.items.Node.TheVariants as nodes
 use Rattle.sync_graph.specs.Standing.{HasNode}
 use Rattle.engine.specs.Solver.{SolverLists}
+use Rattle.engine.specs.Current.{IsCurrent}
 use Rattle.trace_event.specs.declared.event.Event.{Event}
 use Rattle.trace_event.specs.Seen.{Seen, seen_event, seen_events}
 use Rattle.traces.specs.declared.event.EventId.{EventId}
@@ -21,7 +22,8 @@ use Rattle.traces.proofs.Members.{here, there}
 use Rattle.traces.specs.Messages.{messages_of}
 use Rattle.traces.specs.Making.{StampsFit}
 use Rattle.msg_match.specs.declared.change.Change.{Change}
-use Rattle.event_match.specs.Ends.{AreNewMessages, AreChanges, AreCouplesWithin, ids_from, named}
+use Rattle.msg_match.specs.declared.change.Couple as numbers
+use Rattle.event_match.specs.Ends.{AreNewMessages, AreChanges, AreCouplesBelow, ids_from, named}
 use Rattle.roster.specs.Groups.{group_at}
 use Rattle.roster.specs.Readings.{stamps_of}
 use Rattle.roster.specs.Roster.{RosterLists, IsRoster, IsGrown, Holds, id_of}
@@ -35,14 +37,14 @@ use Rattle.kept_graph.specs.UnderWay.{IsUnderWay, IsEntering}
 use Rattle.kept_graph.specs.Growing.{Gains, Retells, KeepsNodesThere}
 use Rattle.kept_graph.specs.Withdrawing.{AreLeft}
 use Rattle.kept_graph.specs.Planning.{numbers_of, messages_in}
-use Rattle.kept_graph.specs.Numbering.{AreInside, message_by, names_then}
+use Rattle.kept_graph.specs.Numbering.{message_by, names_then}
 use Rattle.kept_graph.specs.Coming.{HaveOwnSends, HaveCome}
 use Rattle.kept_graph.proofs.Alike.{AreAlike}
 use Rattle.kept_graph.proofs.Both.{AreInBoth, in_both, differ_permuted}
 use Rattle.kept_graph.proofs.Gaining.{gains_behind, same_numbered}
 use Rattle.kept_graph.proofs.Held.{labels_many}
 use Rattle.kept_graph.proofs.InARow.{keeps_none}
-use Rattle.kept_graph.proofs.Naming.{messages_are, inside_names, same_names, names_pushed, names_of_same}
+use Rattle.kept_graph.proofs.Naming.{messages_are, same_names, names_pushed, names_of_same}
 use Rattle.kept_graph.proofs.NewEnds.{few_added}
 use Rattle.kept_graph.proofs.Pushed.{pushed_gains, came_count, begins, before_there, ends_way}
 use Rattle.kept_graph.proofs.Staying.{gone_differ, are_left, own_sends, come_sends, come_receives, all_there}
@@ -120,6 +122,46 @@ alike_permuted some others rest all permuted alike = record {
   ];
 }
 
+-- ---- what the calls of an addition are asked and what they leave
+-- messages by number are those that are handed on
+pub are_by_number : (r : RosterLists) {couples all : List numbers.Couple} {messages listed : List Message} → couples ≡ all → listed ≡ map (message_by r) couples → messages ≡ listed → messages ≡ map (message_by r) all
+are_by_number r same are handed = handed ∙ are ∙ ap (map (message_by r)) same
+
+pub in_turn : (many : ℕ) {turns sorted : List Turn} {first from : ℕ} → turns ≡ sorted → from ≡ first → IsPermutation (range_with_len from many) (numbers_of sorted) → IsPermutation (range_with_len first many) (numbers_of turns)
+in_turn many {turns} {sorted} {first} {from} same begin permuted =
+    subst (λ (l : List Turn). IsPermutation (range_with_len first many) (numbers_of l)) (sym same)
+    (subst (λ (n : ℕ). IsPermutation (range_with_len n many) (numbers_of sorted)) begin permuted)
+
+pub in_queue : {messages all : List Message} {dues sorted : List Due} → messages ≡ all → dues ≡ sorted → IsPermutation messages (messages_in sorted) → IsPermutation all (messages_in dues)
+in_queue {messages} {all} {dues} {sorted} are same permuted =
+    subst (λ (l : List Message). IsPermutation l (messages_in dues)) are
+    (subst (λ (l : List Due). IsPermutation messages (messages_in l)) (sym same) permuted)
+
+-- these messages may be withdrawn
+pub record MayGo (r : RosterLists) (s : SolverLists) (some : List Message) : Type 0 where
+  pub differ : AllPairs (λ (a b : Message). a ≢ b) some
+  pub ready : (all left : List Message) × IsUnderWay all r s × AreLeft all some left
+
+-- events may enter in these turns, and messages join in theirs; with them there are so many events
+pub record MayCome (r : RosterLists) (s : SolverLists) (turns : List Turn) (dues : List Due) (count : ℕ) : Type 0 where
+  pub inside : All (λ v. v < length r.came) (numbers_of turns)
+  pub sends : All (λ (m : Message). m.send < length r.came) (messages_in dues)
+  pub receives : All (λ (m : Message). m.receive < length r.came) (messages_in dues)
+  pub ready : (entered : ℕ → Bool) × (messages : List Message) × IsEntering entered messages r s × HaveOwnSends (messages_in dues) messages
+  pub all : (v : ℕ) → v < length r.came → HasNode s.graph (nodes.Event v) ⊎ Contains (numbers_of turns) v
+  pub nodes : length s.graph.nodes + 2 * length turns ≤ 2 * count
+  pub arcs : length s.graph.arcs + 6 * length turns + 2 * length dues ≤ 8 * count
+
+-- events of a label have come to a roster and a solver, by way of another one that messages had left
+pub record HaveAllCome (before : List (List Seen)) (label : ℕ) (events : List Event) (r new : RosterLists) (s mid last : SolverLists) : Type 0 where
+  pub kept : All (λ stamp. stamp < 2 ^ 62) (stamps_of events) → IsKeptFor (with_more before label (seen_events events)) new last
+  pub gains : Gains label (stamps_of events) r new
+  pub names : map id_of new.came ≡ names_then r label (seen_events events)
+  pub count : length new.came ≡ length r.came + length events
+  pub left : IsCurrent mid
+  pub current : IsCurrent last
+  pub arcs : length last.graph.arcs ≤ length s.graph.arcs + 8 * length events
+
 -- ---- an addition
 module _ (before : List (List Seen)) (label : ℕ) (events : List Event) (c : Change) (r : RosterLists) (s : SolverLists) (is : IsRoster r) (inside : label < length r.declaration.labels) (kept : IsKeptFor before r s)
     (changes : AreChanges (names_then r label (seen_events events)) before (with_more before label (seen_events events)) c) where
@@ -133,28 +175,28 @@ module _ (before : List (List Seen)) (label : ℕ) (events : List Event) (c : Ch
   abbrev gone : List Couple
   gone = map (named (names_then r label (seen_events events))) c.withdrawn.items
 
-  pub staying : (both : List Couple) × AreInBoth (messages_of (events_of before)) (messages_of (events_of after)) both
+  staying : (both : List Couple) × AreInBoth (messages_of (events_of before)) (messages_of (events_of after)) both
   staying = in_both (messages_of (events_of before)) (messages_of (events_of after))
 
   abbrev stay : List Message
   stay = map (numbered_message r) staying.0
 
   -- before anything comes
-  pub gone_there : AreCouplesWithin (map id_of r.came) c.withdrawn.items → AreInside r c.withdrawn.items
-  gone_there within = inside_names r (map id_of r.came) c.withdrawn.items (length-map r.came id_of) within
-
-  pub way_there : IsUnderWay (messages_by_number r before) r s
+  way_there : IsUnderWay (messages_by_number r before) r s
   way_there = kept_way r is before s kept
 
-  module _ (within : AreCouplesWithin (map id_of r.came) c.withdrawn.items) (some : List Message) (by_number : some ≡ map (message_by r) c.withdrawn.items) where
+  module _ (within : AreCouplesBelow (length r.came) c.withdrawn.items) (some : List Message) (by_number : some ≡ map (message_by r) c.withdrawn.items) where
     by_name : some ≡ map (numbered_message r) gone
-    by_name = by_number ∙ messages_are r is (ids_from label (length (group_at r.under label) + 1) (seen_events events)) c.withdrawn.items (gone_there within)
+    by_name = by_number ∙ messages_are r is (ids_from label (length (group_at r.under label) + 1) (seen_events events)) c.withdrawn.items within
 
-    pub differ_there : AllPairs (λ (a b : Message). a ≢ b) some
+    differ_there : AllPairs (λ (a b : Message). a ≢ b) some
     differ_there = subst (AllPairs (λ (a b : Message). a ≢ b)) (sym by_name) (gone_differ r is before after kept.holds gone staying.0 changes.withdrawn staying.1)
 
-    pub left_there : AreLeft (messages_by_number r before) some (map (numbered_message r) staying.0)
+    left_there : AreLeft (messages_by_number r before) some (map (numbered_message r) staying.0)
     left_there = subst (λ (ms : List Message). AreLeft (messages_by_number r before) ms stay) (sym by_name) (are_left r is before after kept.holds gone staying.0 changes.withdrawn staying.1)
+
+    pub may_go : MayGo r s some
+    may_go = record { differ = differ_there; ready = (messages_by_number r before, stay, way_there, left_there) }
 
     pub none_gone : events ≡ [] → some ≡ []
     none_gone none = by_name ∙ ap (map (numbered_message r)) (no_named before label events gone none changes.withdrawn)
@@ -162,7 +204,7 @@ module _ (before : List (List Seen)) (label : ℕ) (events : List Event) (c : Ch
     -- messages are withdrawn
     module _ (r1 : RosterLists) (s1 : SolverLists) (retells : Retells r r1) (arcs : s1.graph.arcs ≡ s.graph.arcs)
         (left : (all left : List Message) → IsUnderWay all r s → AreLeft all some left → IsUnderWay left r1 s1) where
-      pub way_left : IsUnderWay (map (numbered_message r) staying.0) r1 s1
+      way_left : IsUnderWay (map (numbered_message r) staying.0) r1 s1
       way_left = left (messages_by_number r before) stay way_there left_there
 
       -- events are pushed
@@ -170,10 +212,7 @@ module _ (before : List (List Seen)) (label : ℕ) (events : List Event) (c : Ch
         names_there : map id_of r2.came ≡ names_then r label (seen_events events)
         names_there = names_pushed r1 r2 label events pushed ∙ names_of_same r r1 label (seen_events events) (same_names r is r1 is1 retells.under retells.count) retells.under
 
-        pub added_there : AreCouplesWithin (names_then r label (seen_events events)) c.added.items → AreInside r2 c.added.items
-        added_there among = inside_names r2 (names_then r label (seen_events events)) c.added.items (ap length (sym names_there) ∙ length-map r2.came id_of) among
-
-        pub begins_there : IsEntering (events_below (length r1.came)) (map (numbered_message r) staying.0) r2 s1
+        begins_there : IsEntering (events_below (length r1.came)) (map (numbered_message r) staying.0) r2 s1
         begins_there = begins r1 r2 is1 is2 label (stamps_of events) pushed stay s1 way_left
 
         count_there : length r2.came ≡ length r.came + length events
@@ -181,6 +220,9 @@ module _ (before : List (List Seen)) (label : ℕ) (events : List Event) (c : Ch
             let many = came_count r1 r2 is1 is2 label (stamps_of events) pushed in
             let same = retells.count in
             omega (arith, many, same, length-map events (λ (e : Event). e.stamp)))
+
+        pub added_there : AreCouplesBelow (length r.came + length events) c.added.items → AreCouplesBelow (length r2.came) c.added.items
+        added_there among = subst (λ (n : ℕ). AreCouplesBelow n c.added.items) (sym count_there) among
 
         gains_when : (last : RosterLists) → KeepsNodesThere s1.graph r2 last → Gains label (stamps_of events) r last
         gains_when last keeps = gains_behind label (stamps_of events) r r1 last retells (pushed_gains r1 r2 is1 is2 label (stamps_of events) pushed s1.graph last way_left.grown.knows keeps)
@@ -194,7 +236,7 @@ module _ (before : List (List Seen)) (label : ℕ) (events : List Event) (c : Ch
             gains.holds before (group_at before label) (seen_events events) kept.holds (slice_get-get_or before label [] within') (map-map (λ (x : Seen). x.stamp) seen_event events)
 
         -- turns are taken
-        module _ (turns : List Turn) (dues : List Due) (order : IsPermutation (range_with_len (length r1.came) (length events)) (numbers_of turns)) (among : AreCouplesWithin (names_then r label (seen_events events)) c.added.items)
+        module _ (turns : List Turn) (dues : List Due) (order : IsPermutation (range_with_len (length r1.came) (length events)) (numbers_of turns)) (among : AreCouplesBelow (length r.came + length events) c.added.items)
             (queue : IsPermutation (map (message_by r2) c.added.items) (messages_in dues)) where
           named_queue : IsPermutation (map (numbered_message r2) added) (messages_in dues)
           named_queue =
@@ -203,17 +245,17 @@ module _ (before : List (List Seen)) (label : ℕ) (events : List Event) (c : Ch
               subst (λ (ms : List Message). IsPermutation ms (messages_in dues))
               (by_ids ∙ ap (λ (l : List EventId). map (numbered_message r2) (map (named l) c.added.items)) (append_nil ids ∙ names_there)) queue
 
-          pub sends_due : All (λ (m : Message). m.send < length r2.came) (messages_in dues)
+          sends_due : All (λ (m : Message). m.send < length r2.came) (messages_in dues)
           sends_due =
               All-permutation (λ (m : Message). m.send < length r2.came) (map (numbered_message r2) added) (messages_in dues) named_queue
               (come_sends r r2 is is2 before after kept.holds holds gains.declaration gains.under added staying.0 changes.added staying.1)
 
-          pub receives_due : All (λ (m : Message). m.receive < length r2.came) (messages_in dues)
+          receives_due : All (λ (m : Message). m.receive < length r2.came) (messages_in dues)
           receives_due =
               All-permutation (λ (m : Message). m.receive < length r2.came) (map (numbered_message r2) added) (messages_in dues) named_queue
               (come_receives r r2 is is2 before after kept.holds holds gains.declaration gains.under added staying.0 changes.added staying.1)
 
-          pub own_due : HaveOwnSends (messages_in dues) (map (numbered_message r) staying.0)
+          own_due : HaveOwnSends (messages_in dues) (map (numbered_message r) staying.0)
           own_due =
               own_permuted (map (numbered_message r2) added) (messages_in dues) stay named_queue
               (own_sends r r2 is is2 before after kept.holds holds gains.declaration gains.under added staying.0 changes.added staying.1)
@@ -229,12 +271,12 @@ module _ (before : List (List Seen)) (label : ℕ) (events : List Event) (c : Ch
               let many = length_permutation (range_with_len (length r1.came) (length events)) (numbers_of turns) order in
               omega (arith, many, length-map turns (λ (t : Turn). t.event), length-range_with_len (length r1.came) (length events))
 
-          pub inside_turns : All (λ v. v < length r2.came) (numbers_of turns)
+          inside_turns : All (λ v. v < length r2.came) (numbers_of turns)
           inside_turns =
               All-permutation (λ (v : ℕ). v < length r2.came) (range_with_len (length r1.came) (length events)) (numbers_of turns) order
               (range_below (length r1.came) (length events) (length r2.came) (let many = count_there in let same = retells.count in omega (arith, many, same)))
 
-          pub all_turns : (v : ℕ) → v < length r2.came → HasNode s1.graph (nodes.Event v) ⊎ Contains (numbers_of turns) v
+          all_turns : (v : ℕ) → v < length r2.came → HasNode s1.graph (nodes.Event v) ⊎ Contains (numbers_of turns) v
           all_turns v less = elim (cases_lt v (length r1.came)) [
             | inl old ↦ inl (before_there r1 r2 is1 is2 label (stamps_of events) pushed stay s1 way_left v old)
             | inr new ↦ inr (Contains-permutation (range_with_len (length r1.came) (length events)) (numbers_of turns) v order
@@ -247,28 +289,33 @@ module _ (before : List (List Seen)) (label : ℕ) (events : List Event) (c : Ch
               let few = kept.few in
               omega (arith, few, ap length arcs, few_due, many_turns)
 
-          pub few_nodes : length s1.graph.nodes + 2 * length turns ≤ 2 * (length r.came + length events)
+          few_nodes : length s1.graph.nodes + 2 * length turns ≤ 2 * (length r.came + length events)
           few_nodes = (let few = way_left.nodes in let same = retells.count in omega (arith, few, same, many_turns))
 
-          pub arcs_last : length r.came + length events ≤ 2 ^ 21 → length s1.graph.arcs + 6 * length turns + 2 * length dues ≤ 2 ^ 25
-          arcs_last all = let few = few_arcs in omega (arith, few, all)
-
-          pub nodes_last : length r.came + length events ≤ 2 ^ 21 → length s1.graph.nodes + 2 * length turns ≤ 2 ^ 22
-          nodes_last all = let few = few_nodes in omega (arith, few, all)
+          pub may_come : MayCome r2 s1 turns dues (length r.came + length events)
+          may_come = record {
+            inside = inside_turns;
+            sends = sends_due;
+            receives = receives_due;
+            ready = (events_below (length r1.came), stay, begins_there, own_due);
+            all = all_turns;
+            nodes = few_nodes;
+            arcs = few_arcs;
+          }
 
           -- all have come
           module _ (r3 : RosterLists) (s3 : SolverLists) (is3 : IsRoster r3) (have : HaveCome (messages_in dues) r2 r3 s1 s3) (all : (v : ℕ) → v < length r2.came → HasNode s3.graph (nodes.Event v))
               (nodes_few : length s3.graph.nodes ≤ length s1.graph.nodes + 2 * length turns) (arcs_few : length s3.graph.arcs ≤ length s1.graph.arcs + 6 * length turns + 2 * length dues) where
-            pub gains_all : Gains label (stamps_of events) r r3
+            gains_all : Gains label (stamps_of events) r r3
             gains_all = gains_when r3 have.keeps
 
-            pub names_all : map id_of r3.came ≡ names_then r label (seen_events events)
+            names_all : map id_of r3.came ≡ names_then r label (seen_events events)
             names_all = same_names r2 is2 r3 is3 have.keeps.under have.keeps.count ∙ names_there
 
-            pub count_all : length r3.came ≡ length r.came + length events
+            count_all : length r3.came ≡ length r.came + length events
             count_all = have.keeps.count ∙ count_there
 
-            pub way_all : IsUnderWay (messages_in dues ++ map (numbered_message r) staying.0) r3 s3
+            way_all : IsUnderWay (messages_in dues ++ map (numbered_message r) staying.0) r3 s3
             way_all =
                 let (now, way) = have.grown (events_below (length r1.came)) stay begins_there own_due in
                 let same = have.keeps.count in
@@ -276,7 +323,7 @@ module _ (before : List (List Seen)) (label : ℕ) (events : List Event) (c : Ch
                 (let few = few_nodes in let many = count_all in omega (arith, few, many, nodes_few))
 
             -- at most eight arcs an event that comes
-            pub arcs_all : length s3.graph.arcs ≤ length s.graph.arcs + 8 * length events
+            arcs_all : length s3.graph.arcs ≤ length s.graph.arcs + 8 * length events
             arcs_all = omega (arith, ap length arcs, arcs_few, few_due, many_turns)
 
             alike_all : AreAlike (messages_in dues ++ map (numbered_message r) staying.0) (messages_by_number r3 after)
@@ -286,7 +333,18 @@ module _ (before : List (List Seen)) (label : ℕ) (events : List Event) (c : Ch
                 (alike_permuted (map (numbered_message r2) added) (messages_in dues) stay (messages_by_number r2 after) named_queue
                 (all_there r r2 is is2 before after kept.holds holds gains.declaration gains.under added staying.0 changes.added staying.1))
 
-            pub kept_all : All (λ stamp. stamp < 2 ^ 62) (stamps_of events) → IsKeptFor (with_more before label (seen_events events)) r3 s3
+            kept_all : All (λ stamp. stamp < 2 ^ 62) (stamps_of events) → IsKeptFor (with_more before label (seen_events events)) r3 s3
             kept_all fit =
                 way_kept r3 is3 after s3 (messages_in dues ++ stay) (have.keeps.holds after holds) (more_fit before label (seen_events events) kept.stamps (seen_fit events fit)) alike_all way_all
                 (let few = few_arcs in omega (arith, few, arcs_few, count_all))
+
+            pub all_come : HaveAllCome before label events r r3 s s1 s3
+            all_come = record {
+              kept = kept_all;
+              gains = gains_all;
+              names = names_all;
+              count = count_all;
+              left = way_left.current;
+              current = way_all.current;
+              arcs = arcs_all;
+            }

@@ -68,12 +68,6 @@ module _ (readings : List Stamped) (g : GraphLists) (clock : ℕ) (shown : (t : 
         | inr other ↦ (let few = most t node in omega (arith, few, other))
       ]
 
-  pub up_found : (s : ℕ) → ComesUp readings g clock (Some s) → HasNode g (nodes.Reading clock s) → IsFirstNode g clock s
-  up_found s (has, least) node = (node, least)
-
-  pub down_found : (s : ℕ) → ComesDown readings g clock (Some s) → HasNode g (nodes.Reading clock s) → IsLastNode g clock s
-  down_found s (has, most) node = (node, most)
-
 -- ---- neighbouring clocks
 -- the follow from a clock is there exactly where both are of one host
 pub one_host : (d : Declaration) (k : ℕ) (o : Option Follow) → o ≡ follow_from d k → is_some o ≡ true → AreOfOneHost d k (k + 1)

@@ -15,8 +15,8 @@ use Rattle.traces.proofs.Members.{no_pairs, pairs_joined}
 use Rattle.msg_match.specs.declared.change.Change.{Change}
 use Rattle.msg_match.specs.Groups.{SeenItem}
 use Rattle.msg_match.specs.Changes.{HaveOwnNumbers, AreMessagesAnew}
-use Rattle.event_match.specs.Ends.{AreEndsBy, AreChanges, AreCouplesWithin, ids_from, items_from}
-use Rattle.event_match.proofs.Grown.{ends_none, ends_more, ends_few, added_within, gone_within, changes_are}
+use Rattle.event_match.specs.Ends.{AreEndsBy, AreChanges, AreCouplesBelow, ids_from, items_from}
+use Rattle.event_match.proofs.Grown.{ends_none, ends_more, ends_few, ids_many, added_within, gone_within, changes_are}
 use Rattle.roster.specs.declared.came.Came.{Came}
 use Rattle.roster.specs.Groups.{group_at}
 use Rattle.roster.specs.Roster.{RosterLists, IsRoster, Holds, id_of}
@@ -94,6 +94,13 @@ no_ends r none items empty =
     (subst (λ (cs : List Came). AreEndsBy (map id_of cs) [] seen) (sym none) (ends_none seen (none_each r.declaration.labels)))
 
 -- ---- events come
+-- with the ends among events of a label a matcher has these ends, and the messages change so
+pub record IsRematched (before : List (List Seen)) (label : ℕ) (events : List Event) (r : RosterLists) (after : List SeenItem) (c : Change) : Type 0 where
+  pub changes : AreChanges (names_then r label (seen_events events)) before (with_more before label (seen_events events)) c
+  pub added : AreCouplesBelow (length r.came + length events) c.added.items
+  pub withdrawn : AreCouplesBelow (length r.came) c.withdrawn.items
+  pub ends : AreEndsBy (names_then r label (seen_events events)) after (with_more before label (seen_events events))
+
 module _ (before : List (List Seen)) (label : ℕ) (events : List Event) (r : RosterLists) (is : IsRoster r) (inside : label < length r.declaration.labels) (holds : Holds r before) (items : List SeenItem) (are : AreEndsBy (map id_of r.came) items before) where
   abbrev more : List Seen
   more = seen_events events
@@ -104,31 +111,44 @@ module _ (before : List (List Seen)) (label : ℕ) (events : List Event) (r : Ro
   within : label < length before
   within = subst (λ (n : ℕ). label < n) (sym (labels_many r is before holds)) inside
 
-  pub ends_come : AreEndsBy (names_then r label (seen_events events)) (items ++ items_from (length r.came) (seen_events events)) (with_more before label (seen_events events))
+  ends_come : AreEndsBy (names_then r label (seen_events events)) (items ++ items_from (length r.came) (seen_events events)) (with_more before label (seen_events events))
   ends_come =
       subst (λ (n : ℕ). AreEndsBy (map id_of r.came ++ ids_from label (n + 1) more) (items ++ new) (with_more before label more)) (sym (group_many r is before holds label))
       (subst (λ (n : ℕ). AreEndsBy (map id_of r.came ++ ids_from label (length (group_at before label) + 1) more) (items ++ items_from n more) (with_more before label more)) (length-map r.came id_of)
       (ends_more before label (group_at before label) more (map id_of r.came) items (slice_get-get_or before label [] within) are))
 
-  pub own_come : HaveOwnNumbers (items ++ items_from (length r.came) (seen_events events))
-  own_come = ends_come.own
+  pub own_come : (first : ℕ) → first ≡ length r.came → HaveOwnNumbers (items ++ items_from first (seen_events events))
+  own_come first behind = subst (λ (n : ℕ). HaveOwnNumbers (items ++ items_from n more)) (sym behind) ends_come.own
 
-  pub few_come : length r.came + length events ≤ 2 ^ 21 → length items + length (items_from (length r.came) (seen_events events)) ≤ 2 ^ 22
-  few_come few =
+  pub few_come : (first : ℕ) → first ≡ length r.came → length r.came + length events ≤ 2 ^ 21 → length items + length (items_from first (seen_events events)) ≤ 2 ^ 22
+  few_come first behind few =
       let most = ends_few (with_more before label more) (names_then r label more) (items ++ new) ends_come in
       let count : event_count (with_more before label more) ≡ event_count before + length more = count_appended before label more within in
       let came : event_count before ≡ length r.came = events_many r is before holds in
-      omega (arith, few, most, count, came, length-append items new, length-map events seen_event)
+      subst (λ (n : ℕ). length items + length (items_from n more) ≤ 2 ^ 22) (sym behind) (omega (arith, few, most, count, came, length-append items new, length-map events seen_event))
 
-  module _ (c : Change) (added : AreMessagesAnew items (items ++ items_from (length r.came) (seen_events events)) c.added.items) (withdrawn : AreMessagesAnew (items ++ items_from (length r.came) (seen_events events)) items c.withdrawn.items) where
+  -- the matcher has got their ends
+  module _ (after : List SeenItem) (first : ℕ) (c : Change) (behind : first ≡ length r.came) (matched : after ≡ items ++ items_from first (seen_events events))
+      (added : AreMessagesAnew items after c.added.items) (withdrawn : AreMessagesAnew after items c.withdrawn.items) where
     abbrev come : List EventId
     come = ids_from label (length (group_at r.under label) + 1) more
 
-    pub changes_come : AreChanges (names_then r label (seen_events events)) before (with_more before label (seen_events events)) c
-    changes_come = changes_are (map id_of r.came) come items new before (with_more before label more) c are ends_come added withdrawn (all_differ r is label more)
+    all_items : after ≡ items ++ new
+    all_items = matched ∙ ap (λ (n : ℕ). items ++ items_from n more) behind
 
-    pub added_come : AreCouplesWithin (names_then r label (seen_events events)) c.added.items
-    added_come = added_within (map id_of r.came) come items new before (with_more before label more) c are ends_come added withdrawn
+    anew : AreMessagesAnew items (items ++ new) c.added.items
+    anew = subst (λ (l : List SeenItem). AreMessagesAnew items l c.added.items) all_items added
 
-    pub gone_come : AreCouplesWithin (map id_of r.came) c.withdrawn.items
-    gone_come = gone_within (map id_of r.came) come items new before (with_more before label more) c are ends_come added withdrawn
+    gone : AreMessagesAnew (items ++ new) items c.withdrawn.items
+    gone = subst (λ (l : List SeenItem). AreMessagesAnew l items c.withdrawn.items) all_items withdrawn
+
+    all_names : length (names_then r label more) ≡ length r.came + length events
+    all_names = omega (arith, length-append (map id_of r.came) come, length-map r.came id_of, ids_many label (length (group_at r.under label) + 1) more, length-map events seen_event)
+
+    pub ends_rematched : IsRematched before label events r after c
+    ends_rematched = record {
+      changes = changes_are (map id_of r.came) come items new before (with_more before label more) c are ends_come anew gone (all_differ r is label more);
+      added = subst (λ (n : ℕ). AreCouplesBelow n c.added.items) all_names (added_within (map id_of r.came) come items new before (with_more before label more) c are ends_come anew gone);
+      withdrawn = subst (λ (n : ℕ). AreCouplesBelow n c.withdrawn.items) (length-map r.came id_of) (gone_within (map id_of r.came) come items new before (with_more before label more) c are ends_come anew gone);
+      ends = subst (λ (l : List SeenItem). AreEndsBy (names_then r label more) l (with_more before label more)) (sym all_items) ends_come;
+    }

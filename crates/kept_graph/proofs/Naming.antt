@@ -1,5 +1,5 @@
 -- The names of a roster's events by number, and messages by the numbers of their ends and by their names.
-use Rattle.std.proofs.Common.{◌≡◌, ◌<◌, ◌+◌, ℕ, List, [], ◌∷◌, ◌++◌, length, map, slice_get, Some, All, refl, sym, ◌∙◌, ap, subst, arith}
+use Rattle.std.proofs.Common.{◌≡◌, ◌<◌, ◌+◌, ℕ, List, [], ◌∷◌, ◌++◌, length, map, slice_get, Some, refl, sym, ◌∙◌, ap, subst, arith}
 use Rattle.std.proofs.lemmas.List.{ext_get_or, get_or-map, get_or_append_left, length-map, map-append}
 use Rattle.std.proofs.lemmas.List.Elements.{All-head, All-tail}
 use Rattle.std.proofs.lemmas.Option.{slice_get-get_or}
@@ -10,14 +10,14 @@ use Rattle.trace_event.specs.Seen.{Seen, seen_events}
 use Rattle.traces.specs.declared.event.EventId.{EventId}
 use Rattle.traces.specs.Traces.{host_of}
 use Rattle.msg_match.specs.declared.change.Couple.{Couple}
-use Rattle.event_match.specs.Ends.{no_name, name_at, named, ids_from, AreCouplesWithin}
+use Rattle.event_match.specs.Ends.{no_name, name_at, named, ids_from, AreCouplesBelow}
 use Rattle.roster.specs.declared.came.Came.{Came}
 use Rattle.roster.specs.Groups.{group_at}
 use Rattle.roster.specs.Readings.{stamps_of}
 use Rattle.roster.proofs.Beside.{group_inside}
 use Rattle.roster.specs.Roster.{RosterLists, IsRoster, IsUnder, IsGrown, id_of, no_event, event_at, came_from}
 use Rattle.growth.specs.Told.{number_of, numbered_message}
-use Rattle.kept_graph.specs.Numbering.{AreInside, message_by, names_then}
+use Rattle.kept_graph.specs.Numbering.{message_by, names_then}
 use Rattle.kept_graph.proofs.Held.{number_is, one_id}
 
 -- ---- names
@@ -86,7 +86,7 @@ module _ (r : RosterLists) (is : IsRoster r) (more : List EventId) where
       ∙ ap (λ (v : ℕ). by (name_at ids c.send) (name_at ids c.receive) v c.receive) (sym sender)
       ∙ ap (λ (v : ℕ). by (name_at ids c.send) (name_at ids c.receive) (number_of r.under (name_at ids c.send)) v) (sym receiver)
 
-  pub messages_are : (couples : List Couple) → AreInside r couples → map (message_by r) couples ≡ map (numbered_message r) (map (named (map id_of r.came ++ more)) couples)
+  pub messages_are : (couples : List Couple) → AreCouplesBelow (length r.came) couples → map (message_by r) couples ≡ map (numbered_message r) (map (named (map id_of r.came ++ more)) couples)
   messages_are [] inside = refl
   messages_are (c ∷ couples) inside =
       let P : Couple → Type 0 = λ x. (x.send < length r.came) × (x.receive < length r.came) in
@@ -94,7 +94,3 @@ module _ (r : RosterLists) (is : IsRoster r) (more : List EventId) where
       let ids : List EventId = map id_of r.came ++ more in
       ap (λ (m : Message). m ∷ map (message_by r) couples) (message_is c first.0 first.1)
       ∙ ap (λ (l : List Message). numbered_message r (named ids c) ∷ l) (messages_are couples (All-tail P c couples inside))
-
--- numbers of names are numbers of events
-pub inside_names : (r : RosterLists) (ids : List EventId) (couples : List Couple) → length ids ≡ length r.came → AreCouplesWithin ids couples → AreInside r couples
-inside_names r ids couples many within = subst (λ (n : ℕ). All (λ (c : Couple). (c.send < n) × (c.receive < n)) couples) many within

@@ -1,15 +1,13 @@
 -- The nearest nodes of a reading, sought from stamp to stamp of its clock.
-use Rattle.std.proofs.Common.{◌≡◌, ◌<◌, ◌≤◌, ◌-◌, ◌^◌, ℕ, suc, Bool, true, false, List, Option, Some, None, slice_get, sym, ◌∙◌, subst, arith, inl, inr}
+use Rattle.std.proofs.Common.{◌≡◌, ◌<◌, ◌≤◌, ◌-◌, ◌^◌, ℕ, suc, Bool, true, false, List, Option, Some, None, sym, subst, arith, inl, inr}
 use Rattle.std.specs.Prelude.{IfSome}
 use Rattle.std.proofs.lemmas.Bool.{cases_Bool, cases_eq}
-use Rattle.std.proofs.lemmas.Option.{same_Some}
 use Rattle.problem_model.specs.declared.items.Event.{Event}
 use Rattle.problem_model.specs.declared.items.Node.{Node}
 use Rattle.problem_model.specs.declared.items.Node.TheVariants as nodes
 use Rattle.problem_model.specs.Problem.{ProblemLists}
 use Rattle.problem_model.specs.Bounds.{ComesAfter}
 use Rattle.sync_graph.specs.Graph.{GraphLists}
-use Rattle.sync_graph.specs.Neighbours.{IsNearestAbove}
 use Rattle.sync_graph.specs.Standing.{HasNode}
 use Rattle.roster.specs.Readings.{Stamped, HasStamp, IsLastUnder, IsFirstOver}
 use Rattle.growth.specs.Entering.{IsStampBelow, IsStampAbove, IsEarlierEnd, IsLaterEnd, AreNearest}
@@ -69,30 +67,6 @@ module _ (readings : List Stamped) (g : GraphLists) (clock stamp : ℕ) (shown :
       | inr other ↦ least' t (shown t node) (let few = least t node over in omega (arith, few, other))
     ],
   )
-
-  pub down_ends : (s : ℕ) → GoesDown readings g clock stamp (Some s) → HasNode g (nodes.Reading clock s) → IsStampBelow g clock stamp (Some s)
-  down_ends s (has, less, most) node = (node, less, most)
-
-  pub up_ends : (s : ℕ) → GoesUp readings g clock stamp (Some s) → HasNode g (nodes.Reading clock s) → IsStampAbove g clock stamp (Some s)
-  up_ends s (has, more, least) node = (node, more, least)
-
-pub down_less : (s : ℕ) (o : Option ℕ) (readings : List Stamped) → IsLastUnder readings s o → left_below o < suc s
-down_less s None readings none = omega arith
-down_less s (Some u) readings (has, less, most) = omega (arith, less)
-
-pub up_less : (s : ℕ) (o : Option ℕ) (readings : List Stamped) → s < 2 ^ 62 → IsFirstOver readings s o → left_above o < 2 ^ 62 - s
-up_less s None readings fits none = omega (arith, fits)
-up_less s (Some u) readings fits (has, more, least) = omega (arith, fits, more)
-
--- the stamp of the nearest node above
-pub above_at : (g : GraphLists) (clock stamp k t : ℕ) → IsNearestAbove g.nodes clock stamp (Some k) → slice_get g.nodes k ≡ Some (nodes.Reading clock t) → IsStampAbove g clock stamp (Some t)
-above_at g clock stamp k t (s, at, more, least) at' =
-    let one : nodes.Reading clock s ≡ nodes.Reading clock t = same_Some (nodes.Reading clock s) (nodes.Reading clock t) (sym at ∙ at') in
-    let same : s ≡ t = cc in
-    ((k, at'), subst (λ (n : ℕ). stamp < n) same more, λ u (j, at_u) over. subst (λ (n : ℕ). n ≤ u) same (least j u at_u over))
-
-pub above_none : (g : GraphLists) (clock stamp : ℕ) → IsNearestAbove g.nodes clock stamp None → IsStampAbove g clock stamp None
-above_none g clock stamp none = λ t (k, at) more. none k t at more
 
 -- ---- all that is nearest to a reading
 -- what is said of a new reading and of one that is there, together

@@ -1,5 +1,5 @@
 -- Messages by the numbers of their ends, and the names of the events by number.
-use Rattle.std.specs.Prelude.{◌+◌, ◌<◌, ℕ, List, ◌++◌, All, length, map}
+use Rattle.std.specs.Prelude.{◌+◌, ℕ, List, ◌++◌, length, map}
 use Rattle.problem_model.specs.declared.items.Message.{Message}
 use Rattle.decl.specs.Declaration.{link_bounds}
 use Rattle.trace_event.specs.Seen.{Seen}
@@ -20,10 +20,6 @@ abbrev pub message_by : RosterLists → Couple → Message
 message_by r c =
     let bounds = link_bounds r.declaration (host_at r c.send) (host_at r c.receive) in
     record { send = c.send; receive = c.receive; least = bounds.0; most = bounds.1 }
-
--- the ends of these messages are numbers of events
-abbrev pub AreInside : RosterLists → List Couple → Type 0
-AreInside r couples = All (λ (c : Couple). (c.send < length r.came) × (c.receive < length r.came)) couples
 
 -- ---- names
 -- the names of all events, with those of more events of a label behind them

@@ -3,7 +3,7 @@ ghost use Rattle.std.specs.Prelude.{◌≡◌, ◌<◌, ◌≤◌, ◌+◌, ◌*
 ghost use Rattle.sync_graph.specs.declared.arc.Arc.{Arc};
 ghost use Rattle.engine.specs.Solver.{SolverLists, HasRoom};
 ghost use Rattle.trace_event.specs.Seen.{Seen, seen_events};
-ghost use Rattle.event_match.specs.Ends.{AreChanges, AreCouplesWithin};
+ghost use Rattle.event_match.specs.Ends.{AreChanges, AreCouplesBelow};
 ghost use Rattle.roster.specs.Roster.{id_of};
 ghost use Rattle.kept_graph.specs.Kept.{IsKeptFor, KeepsEvents, KeepsReadings, KeepsRows, with_more};
 ghost use Rattle.kept_graph.specs.Numbering.{names_then};
@@ -34,8 +34,8 @@ pub(crate) fn change<L: Ledger>(
     steps: &mut Steps<L>,
 ) -> Result<(), AllocError>
     requires kept { (before : List (List Seen)) × IsKeptFor before roster.old solver.old × AreChanges (names_then roster.old label (seen_events events.now)) before (with_more before label (seen_events events.now)) change.now }
-    requires added { AreCouplesWithin (names_then roster.old label (seen_events events.now)) change.now.added.items }
-    requires withdrawn { AreCouplesWithin (map id_of roster.old.came) change.now.withdrawn.items }
+    requires added { AreCouplesBelow (length roster.old.came + length events.now) change.now.added.items }
+    requires withdrawn { AreCouplesBelow (length roster.old.came) change.now.withdrawn.items }
     requires label { label < length roster.old.declaration.labels }
     requires few { length roster.old.came + length events.now ≤ 2 ^ 21 }
     requires room { HasRoom (2 * (length roster.old.came + length events.now)) solver.old }

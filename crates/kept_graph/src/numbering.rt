@@ -1,7 +1,8 @@
 // Messages by the numbers of their ends.
 ghost use Rattle.std.specs.Prelude.{◌≡◌, ◌<◌, length, map, IfOk};
 ghost use Rattle.decl.specs.Declaration.{link_bounds};
-ghost use Rattle.kept_graph.specs.Numbering.{host_at, message_by, AreInside};
+ghost use Rattle.event_match.specs.Ends.{AreCouplesBelow};
+ghost use Rattle.kept_graph.specs.Numbering.{host_at, message_by};
 
 use atto::Nano;
 use msg_match::Couple;
@@ -36,7 +37,7 @@ pub(crate) fn messages_of(
     roster: &Roster,
     couples: &[Couple],
 ) -> Result<Vec<Message>, AllocError>
-    requires { AreInside roster.now couples.now }
+    requires { AreCouplesBelow (length roster.now.came) couples.now }
     ensures { IfOk result (λ messages. messages.items ≡ map (message_by roster.now) couples.now) }
 {
     let mut messages = Vec::new(alloc);

@@ -35,23 +35,6 @@ pub record IsAnswered (old new : Reader) (begun after : SourceTold) (line : List
   pub over : new.over ≡ is_final result
   pub progress : IfOk result (λ found. (found ≡ End) ⊎ (room new < room old))
 
-pub going_first : (old : Reader) (begun : SourceTold) (line : List ℕ) → old.ended ≡ false → old.over ≡ false → old.taken ≤ most_taken → line ≡ [] →
-    IsGoing old old begun begun line false
-going_first old begun line ended over few none = record {
-  front = [];
-  bytes = [];
-  parts = append-nil old.held;
-  no_feed = tt;
-  kept = (none, omega arith);
-  came = nothing_came begun;
-  counted = omega arith;
-  within = few;
-  began = ended;
-  going = ended;
-  more = over;
-  no_fall = omega arith;
-}
-
 -- the next bytes are held
 pub going_on : (old now mid next : Reader) (begun before after : SourceTold) (line line' : List ℕ) (long long' : Bool) (going : IsGoing old now begun before line long) →
     TakesPiece now mid going.front line' (Part long') → mid ≡ record now { held = mid.held } → Refills mid next before after (Ok true) →

@@ -1,9 +1,9 @@
 -- What the answers of a reader say of the lines of a script.
-use Rattle.std.proofs.Common.{◌≡◌, ◌≢◌, ℕ, ◌<◌, List, [], ◌∷◌, ◌++◌, length, Bool, true, false, cond, nat_eq, refl, sym, ◌∙◌, ap, arith, append-nil, append_assoc}
+use Rattle.std.proofs.Common.{◌≡◌, ◌≢◌, ℕ, ◌<◌, List, [], ◌∷◌, ◌++◌, length, Bool, true, false, cond, nat_eq, refl, ◌∙◌, ap, arith, append-nil, append_assoc}
 use Rattle.std.specs.List.{onto_first}
 use Rattle.ports.specs.Content.{SourceTold}
 use Rattle.line_reader.specs.Lines.{NoFeed, parts, before_last, with_last, last_line, whole_lines, lines_of}
-use Rattle.line_reader.specs.Reader.{Reader, IsFirst, Gives, BreaksOff}
+use Rattle.line_reader.specs.Reader.{Reader, IsFirst, Gives}
 
 not_feed : (x : ℕ) → x ≢ 10 → nat_eq x 10 ≡ false
 not_feed x ne = grind (arith, ne)
@@ -52,27 +52,6 @@ last_of (b ∷ bs) some = refl
 pub only_line : (line : List ℕ) → NoFeed line → 0 < length line → lines_of line ≡ line ∷ []
 only_line line none some = ap with_last (parts_last line none) ∙ last_of line some
 
--- the first line and what follows it, whether it has a line feed or not
-pub lines_first : (all line rest : List ℕ) (ended : Bool) → IsFirst all line rest ended → lines_of all ≡ line ∷ lines_of rest
-lines_first all line rest false first = ap lines_of first.1 ∙ first_line line rest first.0
-lines_first all line rest true first = ap lines_of first.2 ∙ only_line line first.0 first.1 ∙ ap (λ ls. line ∷ ls) (sym (ap lines_of first.3))
-
-same_head : (line line' : List ℕ) (rest rest' : List (List ℕ)) → line ∷ rest ≡ line' ∷ rest' → line ≡ line'
-same_head line line' rest rest' is = cc
-
--- some bytes have one first line
-pub one_first : (all line line' rest rest' : List ℕ) (ended ended' : Bool) → IsFirst all line rest ended → IsFirst all line' rest' ended' → line ≡ line'
-one_first all line line' rest rest' ended ended' first other =
-    same_head line line' _ _ (sym (lines_first all line rest ended first) ∙ lines_first all line' rest' ended' other)
-
--- a line with a line feed is the first whole line
-pub whole_lines_first : (all line rest : List ℕ) → IsFirst all line rest false → whole_lines all ≡ line ∷ whole_lines rest
-whole_lines_first all line rest first = ap whole_lines first.1 ∙ whole_line line rest first.0
-
--- a last line with no line feed leaves no whole line
-pub whole_lines_last : (all line rest : List ℕ) → IsFirst all line rest true → whole_lines all ≡ []
-whole_lines_last all line rest first = ap whole_lines first.2 ∙ no_whole_line line first.0
-
 -- the same with more bytes behind, where there is a line feed
 pub first_more : (all line rest more : List ℕ) (ended : Bool) → IsFirst all line rest ended → (ended ≡ true → more ≡ []) → IsFirst (all ++ more) line (rest ++ more) ended
 first_more all line rest more false first none = (first.0, ap (λ (l : List ℕ). l ++ more) first.1 ∙ append_assoc line (10 ∷ rest) more)
@@ -85,20 +64,3 @@ first_more all line rest more true first none =
 pub gives_first : (old new : Reader) (before after : SourceTold) (came line more : List ℕ) → Gives old new before after came line → (new.ended ≡ true → more ≡ []) →
     IsFirst (old.held ++ came ++ more) line (new.held ++ more) new.ended
 gives_first old new before after came line more gives none = first_more (old.held ++ came) line new.held more new.ended gives.first none
-
--- so it is taken off their lines
-pub gives_line : (old new : Reader) (before after : SourceTold) (came line more : List ℕ) → Gives old new before after came line → (new.ended ≡ true → more ≡ []) →
-    lines_of (old.held ++ came ++ more) ≡ line ∷ lines_of (new.held ++ more)
-gives_line old new before after came line more gives none = lines_first _ line _ new.ended (gives_first old new before after came line more gives none)
-
--- and off their whole lines, where it had a line feed
-pub gives_whole : (old new : Reader) (before after : SourceTold) (came line more : List ℕ) → Gives old new before after came line → new.ended ≡ false →
-    whole_lines (old.held ++ came ++ more) ≡ line ∷ whole_lines (new.held ++ more)
-gives_whole old new before after came line more gives ended =
-    let first = gives_first old new before after came line more gives (λ is. absurd (let e : true ≡ false = sym is ∙ ended in cc)) in
-    let whole : IsFirst (old.held ++ came ++ more) line (new.held ++ more) false = rw ended at first in
-    whole_lines_first _ line _ whole
-
--- at a fault no whole line is among the bytes held and those that came
-pub broken_lines : (old new : Reader) (came : List ℕ) → BreaksOff old new came → whole_lines (old.held ++ came) ≡ []
-broken_lines old new came broken = no_whole_line (old.held ++ came) broken.part

@@ -108,9 +108,6 @@ none_in before after = no_front before.left after.left
 pub nothing_came : (now : SourceTold) → Came now now []
 nothing_came now = none_off now.left
 
-pub came_same : (before after : SourceTold) → after.left ≡ before.left → Came before after []
-came_same before after same = let none : CameOff before.left after.left [] = rw same (none_off before.left) in none
-
 pub came_more : (begun before after : SourceTold) (a b : List ℕ) → Came begun before a → Came before after b → Came begun after (a ++ b)
 came_more begun before after = more_off begun.left before.left after.left
 
@@ -128,7 +125,3 @@ came_off before after left bytes is came = told_off before.left after.left left 
 -- such a source has nothing left
 pub nothing_left : (before after : SourceTold) (left : List ℕ) → before.left ≡ Some left → NoneLeft before after → after.left ≡ Some []
 nothing_left before after left is none = end_off before.left after.left left is none
-
--- a range of a block that has no bytes
-pub empty_range : (block : List ℕ) (start end : ℕ) → start ≡ end → slice_range block start end ≡ []
-empty_range block start end same = rw same (no_range block end)

@@ -15,19 +15,14 @@ use Rattle.mergecap.specs.declared.stored.Stored.{Stored}
 use Rattle.mergecap.specs.Packets.{timed, all_timed}
 use Rattle.mergecap.specs.MergedCapture.{Timed, IsArranged, IsShort, IsFault, HasOneLink, HasTwoLinks, keys_of}
 use Rattle.trace_event.specs.Seen.{Seen}
-use Rattle.traces.specs.Traces.{seen_by}
 use Rattle.traces.specs.Messages.{problem_of_seen}
 use Rattle.traces.proofs.Members.{here, there, head_or_tail, none_in}
 use Rattle.queries.specs.Consistent.{IsConsistent}
 use Rattle.session.specs.Settled.{HasEventOf, AreSettled, settled}
 use Rattle.session.specs.Stands.{Held, seen_held}
-use Rattle.script.specs.Script.{Devices, OfScript}
-use Rattle.script.proofs.Places.{of_script}
 use Rattle.merge_script.specs.declared.unmerged.Unmerged.{Unmerged}
-use Rattle.merge_script.specs.declared.unmerged.Unmerged.TheVariants as ends
-use Rattle.merge_script.specs.Gathered.{AddsScript}
-use Rattle.merge_script.specs.Turns.{AreKeptFor, GathersAll, GathersNone}
-use Rattle.merge_script.specs.Merged.{IsMergeOf, LacksMerge, OfAllAdded, MergesTo, MergesNot, IsUnarranged, unarranged}
+use Rattle.merge_script.specs.Turns.{AreKeptFor}
+use Rattle.merge_script.specs.Merged.{LacksMerge, IsUnarranged, unarranged}
 use Rattle.merge_script.proofs.AllPackets.{all_apart, all_events, all_short, in_any_order}
 
 -- ---- what is known of all packets of a session
@@ -110,38 +105,6 @@ module _ (d : Declaration) (seen : List (List Seen)) (all new : List Timed) (at_
   pub short_then : (ordered : List Timed) → All IsShort all → IsArranged new ordered → All IsShort ordered
   short_then ordered small arranged = settled_short seen at_times.times all ordered small (subst (λ (ts : List Timed). IsPermutation ts ordered) at_times.are arranged.same)
 
--- ---- of a whole script
-module _ (d : Declaration) (old new : Devices) (h : Held) (kept : List Timed) (g : GathersAll d old new h kept) where
-  all_added : (Says : Declaration → List (List Seen) → List Timed → Type 0) → Says h.declaration (seen_held h.under) kept → OfScript old.input.left (OfAllAdded d old new (Says d))
-  all_added Says says =
-      let x = g.are in
-      let by_state = subst (λ (seen : List (List Seen)). Says h.declaration seen kept) x.stands.events says in
-      let by_d = subst (λ (y : Declaration). Says y (seen_by y x.state.traces) kept) g.declared by_state in
-      of_script old.input.left (AddsScript d old new x.state) (OfAllAdded d old new (Says d)) (λ script adds. record { state = x.state; adds = adds; all = kept; are = x.all; says = by_d }) g.adds
-
-  pub merges_to : (ordered : List Timed) → IsMergeOf h.declaration (seen_held h.under) kept ordered → MergesTo d old new ordered
-  merges_to ordered merge = all_added (λ y seen all. IsMergeOf y seen all ordered) merge
-
-  pub merges_not : (why : Unmerged) → LacksMerge h.declaration (seen_held h.under) kept why → MergesNot d old new why
-  merges_not (ends.Refused said) lacks = absurd lacks
-  merges_not ends.Size lacks = absurd lacks
-  merges_not ends.Inconsistent lacks = all_added (λ y seen all. LacksMerge y seen all ends.Inconsistent) lacks
-  merges_not ends.Links lacks = all_added (λ y seen all. LacksMerge y seen all ends.Links) lacks
-  merges_not ends.Range lacks = all_added (λ y seen all. LacksMerge y seen all ends.Range) lacks
-  merges_not ends.ReadFault lacks = absurd lacks
-  merges_not ends.Limit lacks = absurd lacks
-  merges_not ends.Memory lacks = tt
-
-pub gathers_not : (d : Declaration) (old new : Devices) (why : Unmerged) → GathersNone d old new why → MergesNot d old new why
-gathers_not d old new (ends.Refused said) none = none
-gathers_not d old new ends.Size none = none
-gathers_not d old new ends.Inconsistent none = absurd none
-gathers_not d old new ends.Links none = absurd none
-gathers_not d old new ends.Range none = absurd none
-gathers_not d old new ends.ReadFault none = none
-gathers_not d old new ends.Limit none = none
-gathers_not d old new ends.Memory none = tt
-
 -- ---- errors that are handed on
 pub err_is : {A E : Type 0} (r : Result A E) (e : E) (P : E → Type 0) → IfErr r (λ (x : E). x ≡ e) → P e → IfErr r P
 err_is (Ok a) e P is p = tt
@@ -189,9 +152,6 @@ module _ (h : Held) (old lent new : List Stored) (n : ℕ) (so : IsConsistent (p
   pub given_short : AreKeptFor h (all_timed old) → (ordered : List Timed) → IsArranged (all_timed (take n (new ++ drop (length new) old))) ordered → All IsShort ordered
   given_short x ordered arranged =
       short_then h.declaration (seen_held h.under) (all_timed old) (all_timed new) settles_all so ordered (kept_short h (all_timed old) x) (subst (λ (xs : List Stored). IsArranged (all_timed xs) ordered) given_back arranged)
-
-  pub given_merged : (ordered : List Timed) → IsArranged (all_timed (take n (new ++ drop (length new) old))) ordered → IsMergeOf h.declaration (seen_held h.under) (all_timed old) ordered
-  given_merged ordered arranged = record { settled = all_timed new; at_times = settles_all; arranged = subst (λ (xs : List Stored). IsArranged (all_timed xs) ordered) given_back arranged }
 
   pub given_lacks : (why : Unmerged) → IsUnarranged (all_timed (take n (new ++ drop (length new) old))) why → LacksMerge h.declaration (seen_held h.under) (all_timed old) why
   given_lacks why un =

@@ -1,12 +1,12 @@
 -- What all groups count as is what is counted among all events.
-use Rattle.std.proofs.Common.{◌≡◌, ℕ, ◌<◌, ◌≤◌, ◌+◌, ◌^◌, List, [], ◌∷◌, ◌++◌, length, map, take, get_or, Bool, true, false, ◌&&◌, cond, inl, inr, refl, sym, ap, ◌∙◌, subst, arith, lit<}
+use Rattle.std.proofs.Common.{◌≡◌, ℕ, ◌<◌, ◌≤◌, ◌+◌, ◌^◌, List, [], ◌∷◌, length, map, take, get_or, Bool, true, false, ◌&&◌, cond, inl, inr, refl, sym, ap, ◌∙◌, subst, arith, lit<}
 use Rattle.std.specs.Prelude.{All, filter, sum_by}
 use Rattle.std.specs.List.{list_any}
 use Rattle.std.proofs.lemmas.Bool.{cases_Bool, false≢true, or_cases, or_parts}
-use Rattle.std.proofs.lemmas.List.{get_or-map, length-map, map_more, take-map}
+use Rattle.std.proofs.lemmas.List.{get_or-map, length-map, take-map}
 use Rattle.std.proofs.lemmas.List.Elements.{All-head, All-tail}
 use Rattle.std.proofs.lemmas.List.Folds.{fold-map}
-use Rattle.std.proofs.lemmas.List.Sums.{get_or-le-sum_by, sum_by-cons, sum_by_more_le_part, sum_by_push}
+use Rattle.std.proofs.lemmas.List.Sums.{get_or-le-sum_by, sum_by-cons, sum_by_more_le_part}
 use Rattle.trace_event.specs.declared.event.Side.{Side}
 use Rattle.trace_event.specs.declared.event.Side.TheVariants.{Send, Receive}
 use Rattle.trace_event.specs.Seen.{EventKey, is_same_key, is_same_side}
@@ -18,7 +18,6 @@ use Rattle.msg_match.specs.Held.{seen_group, seen_groups}
 use Rattle.msg_match.specs.Inside.{AreKept, item_by, items_by}
 use Rattle.msg_match.specs.Messages.{has_ambiguous_key, is_unmatched_event, sends_message, tallies}
 use Rattle.msg_match.specs.Parts.{sum_of, tallies_of, total_of}
-use Rattle.msg_match.specs.Sums.{plus}
 use Rattle.msg_match.proofs.Distinct.{AreApart, known_at}
 use Rattle.msg_match.proofs.Grouping.{exact_keys, size_cons, some_with}
 use Rattle.msg_match.proofs.Keeping.{any_of, key_known, keys_apart}
@@ -247,18 +246,6 @@ groups_few keys log groups kept =
     below_both (length groups) (length (keys_of items)) (total_of groups) (2 ^ 22) many few total
 
 -- ---- the loop over groups
-next_groups : (groups : List Group) (i : ℕ) (g : Group) → i < length groups → g ≡ get_or groups i g → seen_groups (take (i + 1) groups) ≡ seen_groups (take i groups) ++ seen_group g ∷ []
-next_groups groups i g inside is = map_more seen_group groups i g inside ∙ ap (λ (h : Group). seen_groups (take i groups) ++ seen_group h ∷ []) (sym is)
-
-pub sum_more : (groups : List Group) (i : ℕ) (g : Group) → i < length groups → g ≡ get_or groups i g → plus (sum_of (seen_groups (take i groups))) (tallies_of (seen_group g)) ≡ sum_of (seen_groups (take (i + 1) groups))
-sum_more groups i g inside is =
-    let gs = seen_groups (take i groups) in
-    same_tallies _ _ _ _ _ _
-    (sym (sum_by_push (λ (h : SeenGroup). cond (is_matched h) 1 0) gs (seen_group g)))
-    (sym (sum_by_push (λ (h : SeenGroup). cond (is_unmatched h) (size_of h) 0) gs (seen_group g)))
-    (sym (sum_by_push (λ (h : SeenGroup). cond (is_ambiguous h) (size_of h) 0) gs (seen_group g)))
-    ∙ ap (λ (l : List SeenGroup). sum_of l) (sym (next_groups groups i g inside is))
-
 matched_le : (sends receives : List ℕ) (key : EventKey) → let g : SeenGroup = record { key = key; sends = sends; receives = receives } in cond (is_matched g) 1 0 ≤ size_of g
 matched_le [] receives key = omega arith
 matched_le (s ∷ t ∷ more) receives key = omega arith

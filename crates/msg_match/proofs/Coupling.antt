@@ -1,5 +1,5 @@
 -- The messages of the keys of some events, one event after another.
-use Rattle.std.proofs.Common.{◌≡◌, ◌≢◌, ◌⊎◌, ℕ, List, [], ◌∷◌, ◌++◌, Bool, true, false, ◌==◌, cond, Option, None, Some, inl, inr, refl, sym, ap, ◌∙◌, subst, arith}
+use Rattle.std.proofs.Common.{◌≡◌, ◌≢◌, ◌⊎◌, ℕ, List, [], ◌∷◌, ◌++◌, Bool, true, false, ◌==◌, cond, Option, None, Some, inl, inr, refl, sym, ap, ◌∙◌, subst}
 use Rattle.std.specs.Prelude.{AllPairs, Contains}
 use Rattle.std.specs.List.{list_any, position}
 use Rattle.std.proofs.lemmas.Bool.{and_from, and_parts, cases_Bool, eq-eqb, eqb-true, false≢true}
@@ -70,13 +70,6 @@ noted_once found c once = elim (cases_Bool (list_any (is_same_couple c) found)) 
 ]
 
 -- ---- the loop
-pub none_noted : (items : List SeenItem) → AreCouplesOf items [] []
-none_noted items = record {
-  only = λ m held. absurd (omega (arith, held.1));
-  all = λ m couple. absurd (omega (arith, couple.1.1));
-  once = λ i j d below inside same. omega (arith, inside);
-}
-
 pub couples_more : (items some : List SeenItem) (x : SeenItem) (found : List Couple) (o : Option Couple) → o ≡ couple_of (group_of items x.key) → AreCouplesOf items some found → AreCouplesOf items (some ++ x ∷ []) (noted found o)
 couples_more items some x found None is so_far = record {
   only = λ m held. let c = so_far.only m held in (c.0, Contains-append_left some (x ∷ []) c.0 c.1, c.2);

@@ -7,5 +7,4 @@ pub mod TableLemmas
 pub mod Counting
 pub mod Coupling
 pub mod Changing
-pub mod Numbering
 pub mod MessageEnds

@@ -1,5 +1,5 @@
 -- How events that are added change the messages.
-use Rattle.std.specs.Prelude.{◌≡◌, ◌≢◌, ◌<◌, ◌+◌, ℕ, List, length, slice_index_or, AllPairs, Contains}
+use Rattle.std.specs.Prelude.{◌≢◌, List, AllPairs, Contains}
 use Rattle.msg_match.specs.declared.change.Couple.{Couple}
 use Rattle.msg_match.specs.Groups.{SeenItem}
 use Rattle.msg_match.specs.Messages.{IsMessage}
@@ -7,10 +7,6 @@ use Rattle.msg_match.specs.Messages.{IsMessage}
 -- no two events have the same number
 abbrev pub HaveOwnNumbers : List SeenItem → Type 0
 HaveOwnNumbers items = AllPairs (λ (a b : SeenItem). a.event ≢ b.event) items
-
--- events are numbered from n on, in their order
-abbrev pub AreNumberedFrom : ℕ → List SeenItem → Type 0
-AreNumberedFrom n items = (k : ℕ) (d : SeenItem) → k < length items → (slice_index_or items k d).event ≡ n + k
 
 -- the couple is a message among the second events, and not among the first
 abbrev pub IsMessageAnew : List SeenItem → List SeenItem → Couple → Type 0

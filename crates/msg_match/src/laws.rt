@@ -1,14 +1,9 @@
-// What is true of messages, and what helps a caller to number events.
-ghost use Rattle.std.specs.Prelude.{◌≡◌, ℕ, List, true, false, Contains};
+// What is true of messages.
+ghost use Rattle.std.specs.Prelude.{◌≡◌, List, true, false, Contains};
 ghost use Rattle.msg_match.specs.Groups.{SeenItem, group_of, is_matched};
 ghost use Rattle.msg_match.specs.Messages.{IsMessage, IsEnd};
 ghost use Rattle.msg_match.specs.declared.change.Couple.{Couple};
-ghost use Rattle.msg_match.specs.Changes.{AreNumberedFrom, HaveOwnNumbers};
-
-/// A law, which does nothing when it runs: events that are numbered in their order have numbers of their own.
-pub fn numbered_events_differ()
-    ensures { (n : ℕ) (items : List SeenItem) → AreNumberedFrom n items → HaveOwnNumbers items }
-{}
+ghost use Rattle.msg_match.specs.Changes.{HaveOwnNumbers};
 
 /// A law, which does nothing when it runs: an event whose key has one send and one receive is an end of a message, and
 /// every other event is an end of none.

@@ -15,6 +15,6 @@ mod tallying;
 pub use change::{Change, Couple, Tallies};
 pub use group::Group;
 pub use item::Item;
-pub use laws::{matched_events_are_ends, numbered_events_differ};
+pub use laws::matched_events_are_ends;
 pub use matcher::Matcher;
 pub use trace_event::{Key, Side};

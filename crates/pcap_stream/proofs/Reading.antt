@@ -1,8 +1,8 @@
 -- Reading records: what one more says of all.
-use Rattle.std.proofs.Common.{◌≡◌, ◌≤◌, ◌<◌, ◌+◌, ◌-◌, ◌*◌, ℕ, List, [], ◌∷◌, ◌++◌, length, take, drop, map, refl, sym, ap, subst, ◌∙◌, arith, append_assoc, length-append}
+use Rattle.std.proofs.Common.{◌≡◌, ◌≤◌, ◌<◌, ◌+◌, ◌-◌, ◌*◌, ℕ, List, [], ◌∷◌, ◌++◌, length, take, drop, map, sym, ap, subst, ◌∙◌, arith, append_assoc, length-append}
 use Rattle.std.specs.List.{flat_map}
 use Rattle.std.proofs.lemmas.List.{append-nil, take-append-drop, drop-take, length-take-le, length-drop, drop_at, map-append, take_rest}
-use Rattle.std.proofs.lemmas.List.Elements.{All-nil, All-push}
+use Rattle.std.proofs.lemmas.List.Elements.{All-push}
 use Rattle.std.proofs.lemmas.List.Concat.{flat_map-append}
 use Rattle.pcap_stream.specs.declared.header.Order.{Order}
 use Rattle.pcap_stream.specs.declared.header.Header.{Header}
@@ -70,16 +70,7 @@ next_left {h} {bytes} {packet} next =
     let size : length (bytes_of next.record) ≡ 16 + length packet.bytes = omega (arith, captured, next.lawful.size, length-append next.record.head next.record.captured) in
     ap (λ (l : List ℕ). drop (16 + length packet.bytes) l) next.whole ∙ drop_at (bytes_of next.record) next.after (16 + length packet.bytes) size
 
-pub next_long : {h : Header} {bytes : List ℕ} {packet : Seen} (next : IsNext h bytes packet) → 16 + length packet.bytes ≤ length bytes
-next_long {h} {bytes} {packet} next =
-    let captured : length packet.bytes ≡ length next.record.captured = ap (λ (s : Seen). length s.bytes) next.said in
-    let all : length bytes ≡ length (bytes_of next.record ++ next.after) = ap (λ (l : List ℕ). length l) next.whole in
-    omega (arith, captured, all, next.lawful.size, record_long next.record next.after)
-
 -- ---- all records
-pub none_read : (h : Header) (bytes : List ℕ) (old : List Seen) → HasRead h bytes bytes old old
-none_read h bytes old = record { records = []; first = record { lawful = All-nil (IsRecord h.order); whole = refl }; added = sym (append-nil old) }
-
 pub one_read : {h : Header} {bytes left : List ℕ} {old new : List Seen} {packet : Seen} → HasRead h bytes left old new → (next : IsNext h left packet) → HasRead h bytes next.after old (new ++ packet ∷ [])
 one_read {h} {bytes} {left} {old} {new} {packet} read next =
     let r = next.record in

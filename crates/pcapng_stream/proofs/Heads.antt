@@ -28,9 +28,6 @@ abbrev order_said : Option Head → Order
 order_said None = Big
 order_said (Some h) = h.order
 
-block_with : Order → List ℕ → Block
-block_with order bytes = record { order = order; bytes = bytes }
-
 block_same : (o p : Order) (xs ys : List ℕ) → o ≡ p → xs ≡ ys → ◌≡◌ {A = Block} (record { order = o; bytes = xs }) (record { order = p; bytes = ys })
 block_same o p xs ys e f = cc
 

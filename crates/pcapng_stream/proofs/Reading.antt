@@ -1,5 +1,5 @@
 -- Reading blocks: what one more says of all.
-use Rattle.std.proofs.Common.{◌≡◌, ◌≤◌, ◌+◌, ◌-◌, ℕ, false, List, [], ◌∷◌, ◌++◌, length, take, drop, Some, None, refl, sym, ap, subst, inl, inr, ◌∙◌, arith, append_assoc, length-append}
+use Rattle.std.proofs.Common.{◌≡◌, ◌≤◌, ◌+◌, ◌-◌, ℕ, false, List, [], ◌∷◌, ◌++◌, length, take, drop, Some, None, sym, ap, subst, inr, ◌∙◌, arith, append_assoc, length-append}
 use Rattle.std.specs.List.{flat_map}
 use Rattle.std.proofs.lemmas.List.{append-nil, drop_at, take_rest}
 use Rattle.std.proofs.lemmas.List.Concat.{flat_map-append}
@@ -12,19 +12,11 @@ use Rattle.pcapng_stream.specs.declared.flaw.Flaw.TheVariants.{Malformed, OtherV
 use Rattle.pcapng_stream.specs.Blocks.{Section, Block, bytes_of, section_behind, packets_in}
 use Rattle.pcapng_stream.specs.Flaws.{begins_wrong, flaw_in}
 use Rattle.pcapng_stream.specs.Pcapng.{IsBlock, HasFlaw, section_after, packets_after}
-use Rattle.pcapng_stream.specs.Inside.{IsWrong, IsFirst, IsFaultOf, IsTaken, IsNext, FindsNext, IsHereFault, HasRead, EndsBlocks, IsLater, IsBlocksFault, fault_at}
+use Rattle.pcapng_stream.specs.Inside.{IsFirst, IsFaultOf, IsNext, FindsNext, IsHereFault, HasRead, EndsBlocks, IsLater, IsBlocksFault}
 use Rattle.pcapng_stream.proofs.Heads.{wrong-append}
 use Rattle.pcapng_stream.proofs.Rows.{after-append, blocks-append, packets-append}
 
 -- ---- one block
-here_fault : (s : Section) (bytes : List ℕ) (place : ℕ) (flaw : Flaw) → HasFlaw s bytes flaw → IsHereFault s bytes place (fault_at place flaw)
-here_fault s bytes place Malformed f = (f, refl)
-here_fault s bytes place OtherVersion f = f
-here_fault s bytes place TooLong f = (f, refl)
-
-pub wrong_here : (s : Section) (bytes : List ℕ) (place : ℕ) (flaw : Flaw) → IsWrong s.order bytes flaw → IsHereFault s bytes place (fault_at place flaw)
-wrong_here s bytes place flaw is = here_fault s bytes place flaw (inl (record { wrong = is.wrong; malformed = is.malformed }))
-
 first_sound : (s : Section) (bytes : List ℕ) (b : Block) → IsFirst s.order bytes b → begins_wrong s.order bytes ≡ false
 first_sound s bytes b first = ap (λ (l : List ℕ). begins_wrong s.order l) first.joined ∙ wrong-append s.order b.bytes first.after first.whole.long ∙ first.sound
 
@@ -38,24 +30,9 @@ flaw_here s bytes place b (Length p) first f = (first_flaw_is s bytes b TooLong 
 flaw_here s bytes place b (errors.Block p) first f = (first_flaw_is s bytes b Malformed first f.0, f.1)
 flaw_here s bytes place b Memory first f = tt
 
-pub taken_next : (s : Section) (bytes : List ℕ) (b : Block) (size : ℕ) (next : Section) (old new : List Seen) → IsFirst s.order bytes b → flaw_in s b ≡ None → IsTaken s b next old new → size ≡ length b.bytes → IsNext s bytes size next old new
-taken_next s bytes b size next old new first none taken said = record {
-  block = b;
-  after = first.after;
-  lawful = record { whole = first.whole; sound = first.sound; flawless = none };
-  said = said;
-  joined = first.joined;
-  taken = taken;
-}
-
 -- ---- blocks in a row
 next_left : (s : Section) (bytes : List ℕ) (size : ℕ) (next : Section) (old new : List Seen) (n : IsNext s bytes size next old new) → drop size bytes ≡ n.after
 next_left s bytes size next old new n = ap (λ (l : List ℕ). drop size l) n.joined ∙ drop_at n.block.bytes n.after size (sym n.said)
-
-pub next_fits : (s : Section) (bytes : List ℕ) (size : ℕ) (next : Section) (old new : List Seen) → IsNext s bytes size next old new → (12 ≤ size) × (size ≤ length bytes)
-next_fits s bytes size next old new n =
-    let all : length bytes ≡ length n.block.bytes + length n.after = ap (λ (l : List ℕ). length l) n.joined ∙ length-append n.block.bytes n.after in
-    (omega (arith, n.said, n.lawful.whole.long), omega (arith, n.said, all))
 
 -- one block more is taken
 one_read : (s : Section) (bytes left : List ℕ) (size : ℕ) (mid next : Section) (old then new : List Seen) → HasRead s bytes left mid old then → (n : IsNext mid left size next then new) → HasRead s bytes n.after next old new

@@ -1,5 +1,5 @@
 -- The place of the first element that passes a test.
-use Rattle.std.proofs.Common.{◌≡◌, ◌+◌, ◌<◌, ℕ, zero, suc, List, [], ◌∷◌, ◌++◌, length, slice_get, Bool, true, false, cond, Some, None, refl, sym, ◌∙◌, ap, subst, arith, inl, inr, position}
+use Rattle.std.proofs.Common.{◌≡◌, ◌+◌, ◌<◌, ℕ, zero, suc, List, [], ◌∷◌, length, slice_get, Bool, true, false, cond, Some, None, refl, sym, ◌∙◌, ap, subst, arith, inl, inr, position}
 use Rattle.std.specs.List.{position_from}
 use Rattle.std.proofs.lemmas.Bool.{cases_Bool}
 use Rattle.std.proofs.lemmas.Iterator.Adapters.{position_from-zero}
@@ -71,45 +71,3 @@ module _ {T : Type 0} (p : T → Bool) where
   -- where there is no place, none passes
   pub none_passes : (xs : List T) → position p xs ≡ None → (j : ℕ) (y : T) → slice_get xs j ≡ Some y → p y ≡ false
   none_passes xs is = missed_from 0 xs (sym (position_from-zero p xs) ∙ is)
-
-  found_append : (i : ℕ) (xs ys : List T) (n : ℕ) → position_from p i xs ≡ Some n → position_from p i (xs ++ ys) ≡ Some n
-  found_append i [] ys n is = absurd cc
-  found_append i (x ∷ xs) ys n is = elim (cases_Bool (p x)) [
-    | inl t ↦ (let here : Some i ≡ Some n = subst (λ b. cond b (Some i) (position_from p (i + 1) xs) ≡ Some n) t is in ap (λ b. cond b (Some i) (position_from p (i + 1) (xs ++ ys))) t ∙ here)
-    | inr f ↦ (let here = subst (λ b. cond b (Some i) (position_from p (i + 1) xs) ≡ Some n) f is in ap (λ b. cond b (Some i) (position_from p (i + 1) (xs ++ ys))) f ∙ found_append (i + 1) xs ys n here)
-  ]
-
-  missed_append : (i : ℕ) (xs ys : List T) → position_from p i xs ≡ None → position_from p i (xs ++ ys) ≡ position_from p (i + length xs) ys
-  missed_append i [] ys is = ap (λ n. position_from p n ys) (omega arith)
-  missed_append i (x ∷ xs) ys is = elim (cases_Bool (p x)) [
-    | inl t ↦ absurd (let here : Some i ≡ None = subst (λ b. cond b (Some i) (position_from p (i + 1) xs) ≡ None) t is in let z : ⊥ = cc in z)
-    | inr f ↦ (
-        let here = subst (λ b. cond b (Some i) (position_from p (i + 1) xs) ≡ None) f is in
-        ap (λ b. cond b (Some i) (position_from p (i + 1) (xs ++ ys))) f ∙ missed_append (i + 1) xs ys here ∙ ap (λ n. position_from p n ys) (omega arith))
-  ]
-
-  -- a place stays where more is appended
-  pub position_stays : (xs ys : List T) (k : ℕ) → position p xs ≡ Some k → position p (xs ++ ys) ≡ Some k
-  position_stays xs ys k is = position_from-zero p (xs ++ ys) ∙ found_append 0 xs ys k (sym (position_from-zero p xs) ∙ is)
-
-  -- what is appended stands at the end, where none passed before
-  pub position_pushed : (xs : List T) (y : T) → position p xs ≡ None → position p (xs ++ y ∷ []) ≡ cond (p y) (Some (length xs)) None
-  position_pushed xs y is =
-      position_from-zero p (xs ++ y ∷ []) ∙ missed_append 0 xs (y ∷ []) (sym (position_from-zero p xs) ∙ is) ∙ ap (λ n. cond (p y) (Some n) None) (omega arith)
-
--- ---- where what a test finds equal is the same
-module _ {T : Type 0} (E : T → T → Bool) (xs : List T) (v : T) where
-  -- the value itself stands at its place
-  pub stands_at : ((x y : T) → E x y ≡ true → x ≡ y) → (k : ℕ) → position (E v) xs ≡ Some k → slice_get xs k ≡ Some v
-  stands_at exact k is = let found = first_at (E v) xs k is in found.1.0 ∙ ap Some (sym (exact v found.0 found.1.1))
-
-  -- a value that has no place stands nowhere
-  pub stands_nowhere : E v v ≡ true → position (E v) xs ≡ None → (k : ℕ) → slice_get xs k ≡ Some v → ⊥
-  stands_nowhere itself is k there = absurd (let off : E v v ≡ false = none_passes (E v) xs is k v there in let z : ⊥ = cc in z)
-
-  -- and the other way round
-  pub has_no_place : ((x y : T) → E x y ≡ true → x ≡ y) → ((k : ℕ) → slice_get xs k ≡ Some v → ⊥) → position (E v) xs ≡ None
-  has_no_place exact nowhere = position_none (E v) xs (λ j y there. elim (cases_Bool (E v y)) [
-    | inl t ↦ absurd (nowhere j (there ∙ ap Some (sym (exact v y t))))
-    | inr f ↦ f
-  ])

@@ -1,16 +1,15 @@
 -- A problem that grows towards that of events and messages under a declaration.
-use Rattle.std.proofs.Common.{◌≡◌, ◌≢◌, ◌<◌, ◌≤◌, ◌^◌, ◌+◌, ℕ, List, [], map, take, length, slice_get, Option, Some, refl, sym, ap, subst, arith}
-use Rattle.std.proofs.lemmas.List.{length-map, length-take}
+use Rattle.std.proofs.Common.{◌≡◌, ◌≢◌, ◌<◌, ◌+◌, ℕ, List, [], map, take, length, slice_get, Option, Some, refl, sym, ap, subst}
+use Rattle.std.proofs.lemmas.List.{length-map}
 use Rattle.std.proofs.lemmas.List.Elements.{All-map}
-use Rattle.std.proofs.lemmas.Option.{slice_get_within}
 use Rattle.problem_model.specs.declared.items.Clock.{Clock}
 use Rattle.problem_model.specs.declared.items.Event.{Event}
 use Rattle.problem_model.specs.declared.items.Message.{Message}
 use Rattle.problem_model.specs.Name.{IsClockName}
-use Rattle.problem_model.specs.Problem.{ProblemLists, most_clocks}
+use Rattle.problem_model.specs.Problem.{ProblemLists}
 use Rattle.problem.specs.Line.{HasEvent}
-use Rattle.problem.specs.Growing.{IsNewClock, IsNewEvent, IsNewMessage, HasRoomForClock, HasRoomForEvent, HasRoomForMessage, with_clock, with_event, with_message}
-use Rattle.decl.specs.Declaration.{Declaration, IsDeclaration, HasLawfulClocks, HasLawfulLabels, KeepsLimits, follows_of, link_bounds}
+use Rattle.problem.specs.Growing.{IsNewClock, IsNewEvent, IsNewMessage, with_event, with_message}
+use Rattle.decl.specs.Declaration.{Declaration, IsDeclaration, HasLawfulClocks, HasLawfulLabels, follows_of, link_bounds}
 use Rattle.traces.specs.declared.event.EventId.{EventId}
 use Rattle.traces.specs.declared.event.Couple.{Couple}
 use Rattle.traces.specs.Traces.{Placed, name_of, host_of}
@@ -19,10 +18,7 @@ use Rattle.traces.specs.Making.{problem_by, IsOneOf, AreEvents, AreMessages}
 use Rattle.traces.proofs.Lists.{all_at, place_in}
 use Rattle.traces.proofs.Whole.{clock_there, all_names_differ, apart, ends_apart}
 use Rattle.traces.proofs.Places.{name_there, place_within, the_place}
-use Rattle.plain_traces.proofs.Taken.{pairs_before, take_next, map_next}
-
-taken_less : {X : Type 0} (xs : List X) (k : ℕ) (x : X) (n : ℕ) → slice_get xs k ≡ Some x → length xs ≤ n → length (take k xs) < n
-taken_less xs k x n at most = omega (arith, length-take k xs, slice_get_within xs k x at, most)
+use Rattle.plain_traces.proofs.Taken.{pairs_before, map_next}
 
 -- ---- clocks
 -- the problem that has these clocks alone
@@ -35,12 +31,6 @@ clock_new d lawful k c at = record {
   new = pairs_before (λ (a b : Clock). a.name ≢ b.name) d.clocks k c lawful.clocks_differ at;
 }
 
-pub clock_room : (d : Declaration) → KeepsLimits d → (k : ℕ) (c : Clock) → slice_get d.clocks k ≡ Some c → HasRoomForClock (clocks_alone (take k d.clocks))
-clock_room d limits k c at = taken_less d.clocks k c most_clocks at limits.clock_limit
-
-pub clock_more : (clocks : List Clock) (k : ℕ) (c : Clock) → slice_get clocks k ≡ Some c → with_clock (clocks_alone (take k clocks)) c ≡ clocks_alone (take (k + 1) clocks)
-clock_more clocks k c at = ap clocks_alone (sym (take_next clocks k c at))
-
 -- ---- events
 module _ (d : Declaration) (lawful : IsDeclaration d) (events : List Placed) (are : AreEvents d events) where
   pub event_new : (k : ℕ) (e : Placed) → slice_get events k ≡ Some e → IsNewEvent (problem_by d (take k events) []) (event_with d e)
@@ -49,9 +39,6 @@ module _ (d : Declaration) (lawful : IsDeclaration d) (events : List Placed) (ar
         (pairs_before (λ (a b : Placed). name_of d a.id ≢ name_of d b.id) events k e (all_names_differ d lawful events are) at);
     clock = clock_there d e.id lawful.clocks lawful.labels (all_at (λ (x : Placed). x.id.label < length d.labels) events k e are.labels at);
   }
-
-  pub event_room : (k : ℕ) (e : Placed) → slice_get events k ≡ Some e → HasRoomForEvent (problem_by d (take k events) [])
-  event_room k e at = rw length-map (taken_less events k e (2 ^ 21) at are.limit)
 
 pub event_more : (d : Declaration) (events : List Placed) (k : ℕ) (e : Placed) → slice_get events k ≡ Some e →
     with_event (problem_by d (take k events) []) (event_with d e) ≡ problem_by d (take (k + 1) events) []
@@ -74,9 +61,6 @@ module _ (d : Declaration) (events : List Placed) (couples : List Couple) (are :
         (pairs_before (λ (a b : Couple). place_of events a.send ≡ place_of events b.send → place_of events a.receive ≡ place_of events b.receive → ⊥) couples k m
         (apart d events couples are messages) at);
   }
-
-  pub message_room : (k : ℕ) (m : Couple) → slice_get couples k ≡ Some m → HasRoomForMessage (problem_by d events (take k couples))
-  message_room k m at = rw length-map (taken_less couples k m (2 ^ 21) at messages.limit)
 
 pub message_more : (d : Declaration) (events : List Placed) (couples : List Couple) (k : ℕ) (m : Couple) → slice_get couples k ≡ Some m →
     with_message (problem_by d events (take k couples)) (linked d events m) ≡ problem_by d events (take (k + 1) couples)

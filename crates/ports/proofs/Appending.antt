@@ -1,15 +1,11 @@
 -- Pieces that are written one after another.
-use Rattle.std.proofs.Common.{◌≡◌, inl, inr, ℕ, ◌+◌, ◌-◌, ◌≤◌, List, ◌++◌, length, take, drop, Option, Some, None, refl, arith, append_assoc, append-nil, take-add}
+use Rattle.std.proofs.Common.{◌≡◌, inl, inr, ℕ, ◌+◌, ◌-◌, ◌≤◌, List, ◌++◌, length, take, drop, Option, Some, None, arith, append_assoc, take-add}
 use Rattle.std.proofs.lemmas.Grind.{common_steps}
 use Rattle.ports.specs.Content.{Rose, Appends}
 
 pub rose_later : (a b c : ℕ) → a ≤ b → Rose b c → Rose a c
 rose_later a b c le (inl lt) = inl (omega (arith, le, lt))
 rose_later a b c le (inr last) = inr last
-
-pub appends_nothing : (old : Option (List ℕ)) (piece : List ℕ) → Appends old old (take 0 piece)
-appends_nothing None piece = tt
-appends_nothing (Some old) piece = rw append-nil refl
 
 drop_whole : (d : ℕ) (piece : List ℕ) → take (length piece - d) (drop d piece) ≡ drop d piece
 drop_whole d piece = grind (arith, common_steps)

@@ -42,12 +42,6 @@ pub appends_none : (old : Option (List ℕ)) → Appends old old []
 appends_none None = tt
 appends_none (Some held) = ap Some (sym (append-nil held))
 
-pub appends_as : (old new : Option (List ℕ)) (x y : List ℕ) → x ≡ y → Appends old new x → Appends old new y
-appends_as old new x y is = subst (Appends old new) is
-
-pub prefix_as : (old new : Option (List ℕ)) (x y : List ℕ) → x ≡ y → AppendsPrefix old new x → AppendsPrefix old new y
-prefix_as old new x y is = subst (AppendsPrefix old new) is
-
 -- ---- a text that is written, or a front of it
 -- the same text in another spelling
 pub writes_as : {A E : Type 0} {r : Result A E} {old new : SinkTold} {x y : List ℕ} → x ≡ y → Writes x old new r → Writes y old new r

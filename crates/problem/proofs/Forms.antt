@@ -1,5 +1,5 @@
 -- The words of each form.
-use Rattle.std.proofs.Common.{◌≡◌, ◌<◌, ◌≤◌, ℕ, List, [], ◌∷◌, IsTrue, Option, Some, None, codes, refl, ◌∙◌, arith}
+use Rattle.std.proofs.Common.{◌≡◌, ◌<◌, ◌≤◌, ℕ, List, [], ◌∷◌, IsTrue, Option, Some, None, refl, ◌∙◌, arith}
 use Rattle.std.specs.Prelude.{IfSome, IfNone}
 use Rattle.std.proofs.lemmas.List.Elements.{recursion_from_All}
 use Rattle.atto.specs.Decimal.{decimal_of}
@@ -16,7 +16,6 @@ use Rattle.problem.specs.declared.words.FollowWords.{FollowWords}
 use Rattle.problem.specs.declared.words.EventWords.{EventWords}
 
 -- ---- what words lack
-
 pub decimal_lacks : (d n : ℕ) → d ≤ 32 → Lacks d (decimal_of n)
 decimal_lacks d n low = lacks_low d (decimal_of n) low (λ k inside. let h = decimal_of-digits n k inside in omega (arith, h.0))
 
@@ -41,7 +40,6 @@ none_through None f h = f h
 none_through (Some x) f h = tt
 
 -- ---- the words of a line are read back
-
 pub clock_fields : (rest name : List ℕ) (s l e t : ℕ) → IsClockName name → rest ≡ clock_rest name s l e t →
     fields 4 rest ≡ Some (name ∷ decimal_of s ∷ decimal_of l ∷ decimal_of e ∷ decimal_of t ∷ [])
 clock_fields rest name s l e t named is =
@@ -156,7 +154,3 @@ message_says rest a b c d w four parts = record {
 -- ---- a bound
 pub most_spelled : (text : List ℕ) (n : Option ℕ) → Spells text n → SpellsMost text (Some n)
 most_spelled text n spells = record { m = Some spells.m; is = spells.is; counts = (n, refl, spells.counts) }
-
-pub most_not_spelled : (text : List ℕ) → (text ≡ codes "none" → ⊥) → ((m : ℕ) → text ≡ decimal_of m → ⊥) → (m : Option ℕ) → text ≡ most_word m → ⊥
-most_not_spelled text other none None is = other is
-most_not_spelled text other none (Some m) is = none m is

@@ -289,18 +289,12 @@ module _ (clock : ℕ) (readings : List Reading) (rising : AllPairs ComesBefore 
 
 -- ---- the bound of the nearest reading and the first one
 module _ (p : ProblemLists) (chained : IsChained p) (readings : List Reading) (are : AreReadings p readings) (later : ℕ) where
-  pub none_line : (first : Option Reading) → None ≡ follow_to p.follows later → follow_bound (nearest_reading readings (clocks_before p.follows later later)) first ≡ []
-  none_line first line = ap (λ (o : Option Reading). follow_bound o first) (none_on p chained readings later (sym line))
-
   pub none_first : (last : Option Reading) → None ≡ first_reading readings later → follow_bound last (first_reading readings later) ≡ []
   none_first last none = ap (λ (o : Option Reading). follow_bound last o) (sym none) ∙ no_bound last
     where
       no_bound : (o : Option Reading) → follow_bound o None ≡ []
       no_bound None = refl
       no_bound (Some r) = refl
-
-  pub none_last : (first : Option Reading) → None ≡ nearest_reading readings (clocks_before p.follows later later) → follow_bound (nearest_reading readings (clocks_before p.follows later later)) first ≡ []
-  none_last first none = ap (λ (o : Option Reading). follow_bound o first) (sym none)
 
   module _ (f : Follow) (a b : Reading) (line : Some f ≡ follow_to p.follows later) (last : Some a ≡ nearest_reading readings (clocks_before p.follows later later)) (first : Some b ≡ first_reading readings later) where
     first_on : (b.0 ≡ later) × Among readings b

@@ -177,9 +177,6 @@ module _ (xs : List Reading) (at : ℕ) (r : Reading) (within : at ≤ length xs
         ];
   }
 
-pub kept_adds : (xs : List Reading) (at : ℕ) (r : Reading) → at < length xs → get_or xs at r ≡ r → AddsReading xs xs r
-kept_adds xs at r inside is = record { kept = λ x c. c; added = (at, inside, is); only = λ x c. inl c }
-
 -- ---- an event more
 stamp_in : (p : ProblemLists) (e : Event) (clock stamp : ℕ) → IsReading p clock stamp → IsReading (with_event p e) clock stamp
 stamp_in p e clock stamp is = (is.0, Contains-append_left p.events (e ∷ []) is.0 is.1, is.2, is.3)

@@ -1,17 +1,15 @@
 -- What taking a line makes of a problem, and why one is refused.
-use Rattle.std.proofs.Common.{◌≡◌, ◌≢◌, ◌<◌, ℕ, zero, suc, List, [], ◌∷◌, ◌++◌, length, map, slice_get, get_or, drop, Option, Some, None, Err, codes, refl, sym, ◌∙◌, ap, subst, arith, append_assoc, length-append, inl, inr}
+use Rattle.std.proofs.Common.{◌≡◌, ◌<◌, ℕ, zero, suc, List, [], ◌∷◌, ◌++◌, length, map, slice_get, get_or, drop, Option, Some, Err, sym, ◌∙◌, ap, subst, arith, append_assoc, length-append, inl, inr}
 use Rattle.std.specs.List.{flat_map}
 use Rattle.std.proofs.lemmas.Bool.{cases_lt}
 use Rattle.std.proofs.lemmas.List.{append-nil}
 use Rattle.std.proofs.lemmas.List.Concat.{flat_map-append, flat_map-cons}
 use Rattle.line_format.specs.Words.{words, line_of}
-use Rattle.line_format.specs.Cut.{cut}
 use Rattle.line_format.specs.Format.{Grows, Takes, TakesLine, FaultIn, Refuses}
 use Rattle.line_format.specs.declared.fault.FaultKind.{FaultKind}
 use Rattle.line_format.specs.declared.fault.FaultKind.TheVariants as kinds
 use Rattle.line_format.specs.declared.fault.LineError.{LineError}
 use Rattle.line_format.specs.declared.fault.LineError.TheVariants as errors
-use Rattle.line_format.proofs.Reading.{same_first}
 use Rattle.problem_model.specs.declared.items.Clock.{Clock}
 use Rattle.problem_model.specs.declared.items.Follow.{Follow}
 use Rattle.problem_model.specs.declared.items.Event.{Event}
@@ -30,7 +28,7 @@ use Rattle.problem.specs.declared.words.MessageWords.{MessageWords}
 use Rattle.problem.specs.Growing.{IsNewFollow, IsNewPair, HasRoomForMessage, Allows, with_clock, with_event, with_message}
 use Rattle.problem.specs.Line.{Line, line_words, IsSpelled, HasFollow, MayStand, NamesFit, NumbersFit, IsInOrder, HasClock, HasEvent, head_with, problem_format}
 use Rattle.problem.specs.Line.Line.{ClockLine, FollowLine, EventLine, MessageLine, EndLine}
-use Rattle.problem.specs.Written.{ClockIs, NanoIs, MostIs, clock_rest, follow_rest, event_rest, message_rest, ClockSays, FollowSays, EventSays, MessageSays, NoClock, NoFollow, NoEvent, NoMessage, clock_body, follow_body, event_body, message_body}
+use Rattle.problem.specs.Written.{NanoIs, MostIs, clock_rest, event_rest, message_rest, ClockSays, FollowSays, EventSays, MessageSays, clock_body, follow_body, event_body, message_body}
 use Rattle.problem.specs.Faults.{line_error}
 
 flat_map-one : {A : Type 0} (f : A → List ℕ) (a : A) → flat_map f (a ∷ []) ≡ f a
@@ -97,10 +95,6 @@ clock_grows version p c no_follows no_events no_messages = record {
   lines = rw length-append (omega arith);
 }
 
-pub clock_taken : (version : Version) (p : ProblemLists) (c : Clock) (name : List ℕ) (s l e t : ℕ) → p.follows ≡ [] → p.events ≡ [] → p.messages ≡ [] → ClockIs (Some c) name s l e t →
-    Grows (problem_format version) p (with_clock p c) (line_of (line_words (ClockLine name s l e t)))
-clock_taken version p c name s l e t no_follows no_events no_messages is = rw (← ap clock_line is.1) (clock_grows version p c no_follows no_events no_messages)
-
 follow_sides : (h a f l f' : List ℕ) → f' ≡ f ++ l → h ++ a ++ (f' ++ []) ++ [] ≡ (h ++ a ++ (f ++ []) ++ []) ++ l
 follow_sides h a f l f' is = rw is (simp (append-nil, append_assoc))
 
@@ -146,10 +140,6 @@ message_taken version p ms send receive s r least l most m at at' least_is most_
 pub clocks_in_order : (version : Version) (p : ProblemLists) → p.follows ≡ [] → p.events ≡ [] → p.messages ≡ [] → IsInOrder version p
 clocks_in_order First p no_follows no_events no_messages = no_follows
 clocks_in_order Second p no_follows no_events no_messages = λ none. (no_events, no_messages)
-
-pub follows_in_order : (version : Version) (p : ProblemLists) → version ≡ Second → p.follows ≢ [] → IsInOrder version p
-follows_in_order First p is some = absurd (let other : First ≡ Second = is in cc)
-follows_in_order Second p is some = λ none. absurd (some none)
 
 pub more_in_order : (version : Version) (p q : ProblemLists) → HasFollow version p → q.follows ≡ p.follows → IsInOrder version p → IsInOrder version q
 more_in_order First p q has same ordered = same ∙ ordered
@@ -240,9 +230,6 @@ no_clock version p rest none (EventLine name clock stamp) may spelled is = absur
 no_clock version p rest none (MessageLine send receive least most) may spelled is = absurd (let h = ap (λ xs. get_or xs 0 0) is in omega (arith, h))
 no_clock version p rest none EndLine may spelled is = absurd (let h = ap (λ xs. get_or xs 0 0) is in omega (arith, h))
 
-pub no_clock_words : (version : Version) (p : ProblemLists) (rest : List ℕ) → NoClock rest → FaultIn (problem_format version) p (clock_body rest) kinds.Syntax
-no_clock_words version p rest none = no_clock version p rest (λ name s l e t may spelled at. none name s l e t spelled at)
-
 pub clock_line_ok : (version : Version) (p q : ProblemLists) (rest : List ℕ) (w : ClockWords) (says : ClockSays rest w) → Grows (problem_format version) p q (line_of (line_words (ClockLine w.name says.short says.long says.early says.late))) → Grows (problem_format version) p q (clock_body rest ++ 10 ∷ [])
 clock_line_ok version p q rest w says grows = subst (λ (b : List ℕ). Grows (problem_format version) p q (b ++ 10 ∷ [])) (sym (ap clock_body says.is)) grows
 
@@ -251,17 +238,6 @@ clock_line_err version p q rest w says e may r =
     fault_of_line version p q (clock_body rest) (ClockLine w.name says.short says.long says.early says.late) e may says.named (ap clock_body says.is) r
 
 -- ---- follows
-pub no_follow : (version : Version) (p : ProblemLists) (rest : List ℕ) → ((earlier later : List ℕ) (gap : ℕ) → MayStand version p (FollowLine earlier later gap) → IsSpelled (FollowLine earlier later gap) → rest ≡ follow_rest earlier later gap → ⊥) →
-    FaultIn (problem_format version) p (follow_body rest) kinds.Syntax
-no_follow version p rest none (ClockLine name s l e t) may spelled is = absurd (let h = ap (λ xs. get_or xs 0 0) is in omega (arith, h))
-no_follow version p rest none (FollowLine earlier later gap) may spelled is = none earlier later gap may spelled (ap (drop 7) is)
-no_follow version p rest none (EventLine name clock stamp) may spelled is = absurd (let h = ap (λ xs. get_or xs 0 0) is in omega (arith, h))
-no_follow version p rest none (MessageLine send receive least most) may spelled is = absurd (let h = ap (λ xs. get_or xs 0 0) is in omega (arith, h))
-no_follow version p rest none EndLine may spelled is = absurd (let h = ap (λ xs. get_or xs 0 0) is in omega (arith, h))
-
-pub no_follow_words : (version : Version) (p : ProblemLists) (rest : List ℕ) → NoFollow rest → FaultIn (problem_format version) p (follow_body rest) kinds.Syntax
-no_follow_words version p rest none = no_follow version p rest (λ earlier later gap may spelled at. none earlier later gap spelled.0 spelled.1 at)
-
 pub follow_line_ok : (version : Version) (p q : ProblemLists) (rest : List ℕ) (w : FollowWords) (says : FollowSays rest w) → Grows (problem_format version) p q (line_of (line_words (FollowLine w.earlier w.later says.gap))) → Grows (problem_format version) p q (follow_body rest ++ 10 ∷ [])
 follow_line_ok version p q rest w says grows = subst (λ (b : List ℕ). Grows (problem_format version) p q (b ++ 10 ∷ [])) (sym (ap follow_body says.is)) grows
 
@@ -277,9 +253,6 @@ no_event version p rest none (FollowLine earlier later gap) may spelled is = abs
 no_event version p rest none (EventLine name clock stamp) may spelled is = none name clock stamp may spelled (ap (drop 6) is)
 no_event version p rest none (MessageLine send receive least most) may spelled is = absurd (let h = ap (λ xs. get_or xs 0 0) is in omega (arith, h))
 no_event version p rest none EndLine may spelled is = absurd (let h = ap (λ xs. get_or xs 1 0) is in omega (arith, h))
-
-pub no_event_words : (version : Version) (p : ProblemLists) (rest : List ℕ) → NoEvent rest → FaultIn (problem_format version) p (event_body rest) kinds.Syntax
-no_event_words version p rest none = no_event version p rest (λ name clock stamp may spelled at. none name clock stamp spelled.0 spelled.1 at)
 
 pub event_line_ok : (version : Version) (p q : ProblemLists) (rest : List ℕ) (w : EventWords) (says : EventSays rest w) → Grows (problem_format version) p q (line_of (line_words (EventLine w.name w.clock says.stamp))) → Grows (problem_format version) p q (event_body rest ++ 10 ∷ [])
 event_line_ok version p q rest w says grows = subst (λ (b : List ℕ). Grows (problem_format version) p q (b ++ 10 ∷ [])) (sym (ap event_body says.is)) grows
@@ -297,9 +270,6 @@ no_message version p rest none (EventLine name clock stamp) may spelled is = abs
 no_message version p rest none (MessageLine send receive least most) may spelled is = none send receive least most may spelled (ap (drop 8) is)
 no_message version p rest none EndLine may spelled is = absurd (let h = ap (λ xs. get_or xs 0 0) is in omega (arith, h))
 
-pub no_message_words : (version : Version) (p : ProblemLists) (rest : List ℕ) → NoMessage rest → FaultIn (problem_format version) p (message_body rest) kinds.Syntax
-no_message_words version p rest none = no_message version p rest (λ send receive l m may spelled at. none send receive l m spelled.0 spelled.1 at)
-
 pub message_line_ok : (version : Version) (p q : ProblemLists) (rest : List ℕ) (w : MessageWords) (says : MessageSays rest w) → Grows (problem_format version) p q (line_of (line_words (MessageLine w.send w.receive says.least says.most))) → Grows (problem_format version) p q (message_body rest ++ 10 ∷ [])
 message_line_ok version p q rest w says grows = subst (λ (b : List ℕ). Grows (problem_format version) p q (b ++ 10 ∷ [])) (sym (ap message_body says.is)) grows
 
@@ -307,27 +277,6 @@ pub message_line_err : (version : Version) (p q : ProblemLists) (rest : List ℕ
 message_line_err version p q rest w says e may r =
     fault_of_line version p q (message_body rest) (MessageLine w.send w.receive says.least says.most) e may (says.send_named, says.receive_named) (ap message_body says.is) r
 
--- where no follow may stand, none does
-pub no_follow_there : (version : Version) (p : ProblemLists) (rest : List ℕ) → ((version ≡ Second) × (p.events ≡ []) × (p.messages ≡ []) → ⊥) → FaultIn (problem_format version) p (follow_body rest) kinds.Syntax
-no_follow_there First p rest none = no_follow First p rest (λ earlier later gap may spelled at. may)
-no_follow_there Second p rest none = no_follow Second p rest (λ earlier later gap may spelled at. none (refl, may.0, may.1))
-
 pub follow_may : (version : Version) (p : ProblemLists) (x y : List ℕ) (g : ℕ) → version ≡ Second → p.events ≡ [] → p.messages ≡ [] → MayStand version p (FollowLine x y g)
 follow_may First p x y g is no_events no_messages = absurd (let other : First ≡ Second = is in cc)
 follow_may Second p x y g is no_events no_messages = (no_events, no_messages)
-
--- ---- lines of no form
-pub no_form : (version : Version) (p : ProblemLists) (body first rest : List ℕ) → cut 32 body ≡ Some (first, rest) →
-    (first ≡ codes "clock" → ⊥) → (first ≡ codes "follow" → ⊥) → (first ≡ codes "event" → ⊥) → (first ≡ codes "message" → ⊥) → FaultIn (problem_format version) p body kinds.Syntax
-no_form version p body first rest parts c f e m (ClockLine name s l y t) may spelled is = c (same_first 32 body _ first rest (codes "clock") _ parts is refl)
-no_form version p body first rest parts c f e m (FollowLine earlier later gap) may spelled is = f (same_first 32 body _ first rest (codes "follow") _ parts is refl)
-no_form version p body first rest parts c f e m (EventLine name clock stamp) may spelled is = e (same_first 32 body _ first rest (codes "event") _ parts is refl)
-no_form version p body first rest parts c f e m (MessageLine send receive least most) may spelled is = m (same_first 32 body _ first rest (codes "message") _ parts is refl)
-no_form version p body first rest parts c f e m EndLine may spelled is = absurd (let h : Some (first, rest) ≡ None = sym parts ∙ ap (cut 32) is in cc)
-
-pub no_words : (version : Version) (p : ProblemLists) (body : List ℕ) → cut 32 body ≡ None → (body ≡ codes "end" → HasFollow version p → ⊥) → FaultIn (problem_format version) p body kinds.Syntax
-no_words version p body parts none (ClockLine name s l y t) may spelled is = let h = ap (cut 32) is in absurd (cc)
-no_words version p body parts none (FollowLine earlier later gap) may spelled is = let h = ap (cut 32) is in absurd (cc)
-no_words version p body parts none (EventLine name clock stamp) may spelled is = let h = ap (cut 32) is in absurd (cc)
-no_words version p body parts none (MessageLine send receive least most) may spelled is = let h = ap (cut 32) is in absurd (cc)
-no_words version p body parts none EndLine may spelled is = none is may

@@ -57,13 +57,6 @@ one_before p chained (suc k) a b d below after after' =
     by e (inr x) (inl y) further = inr (inl (subst (λ (v : ℕ). ComesAfter p a v) (sym y) x))
     by e (inr x) (inr y) further = further x y
 
--- ---- no follow
-pub numbers_alone : (p : ProblemLists) → p.follows ≡ [] → AreChainNumbers p (λ k. k)
-numbers_alone p none c d below inside = (
-  λ same. absurd (omega (arith, below, same)),
-  λ after. let at : after.2.0.0 < length p.follows = after.2.0.1 in let empty : length p.follows ≡ 0 = ap length none in absurd (omega (arith, at, empty)),
-)
-
 -- ---- one follow more
 module _ (p : ProblemLists) (chained : IsChained p) (f : Follow) (leads_on : LeadsOn p.clocks f)
     (no_earlier : All (λ g. g.earlier ≢ f.earlier) p.follows) (no_later : All (λ g. g.later ≢ f.later) p.follows) where

@@ -1,5 +1,5 @@
 -- The lists of a problem are walked from front to back.
-use Rattle.std.proofs.Common.{◌≡◌, ◌<◌, ◌≤◌, ◌+◌, ◌-◌, ℕ, zero, suc, List, [], ◌∷◌, ◌++◌, length, drop, slice_get, get_or, Some, refl, sym, ◌∙◌, ap, subst, arith, length-drop, append_assoc, append-nil, true, nat_eq}
+use Rattle.std.proofs.Common.{◌≡◌, ◌<◌, ◌≤◌, ◌+◌, ◌-◌, ℕ, zero, suc, List, [], ◌∷◌, ◌++◌, length, drop, slice_get, get_or, Some, refl, sym, ◌∙◌, ap, subst, arith, length-drop, append_assoc, true, nat_eq}
 use Rattle.std.specs.Prelude.{Contains}
 use Rattle.std.specs.List.{flat_map}
 use Rattle.std.proofs.lemmas.List.Elements.{All-contains}
@@ -9,13 +9,12 @@ use Rattle.problem_model.specs.declared.items.Follow.{Follow}
 use Rattle.problem_model.specs.declared.items.Event.{Event}
 use Rattle.problem_model.specs.declared.items.Message.{Message}
 use Rattle.problem_model.specs.declared.items.Bound.{Bound}
-use Rattle.problem_model.specs.declared.items.Bound.TheVariants as bounds
 use Rattle.problem_model.specs.declared.items.Bound.TheVariants.{SpanMost, SpanLeast, Late, Early}
 use Rattle.problem_model.specs.declared.items.Node.TheVariants as nodes
 use Rattle.problem_model.specs.Problem.{ProblemLists, IsWellFormed}
-use Rattle.problem_model.specs.Bounds.{Constraint, Declares, IsReading}
+use Rattle.problem_model.specs.Bounds.{IsReading}
 use Rattle.problem_model.specs.Nodes.{Reading, AreReadings, event_nodes}
-use Rattle.problem_model.specs.ShortList.{neighbour_bounds, span_bounds, event_bounds, clocks_before, first_reading, nearest_reading, follow_bound, follow_bounds, message_bounds, short_list}
+use Rattle.problem_model.specs.ShortList.{neighbour_bounds, span_bounds, event_bounds, clocks_before, first_reading, nearest_reading, follow_bound, follow_bounds, message_bounds}
 
 -- ---- what is left of a list
 pub drop_more : {X : Type 0} (xs : List X) (k : ℕ) (x : X) → slice_get xs k ≡ Some x → drop k xs ≡ x ∷ drop (k + 1) xs
@@ -101,21 +100,6 @@ first_of_five a b c d e = ap (λ v. v ++ e) (first_of_four a b c d) ∙ append_a
 none_before : (k d : ℕ) → clocks_before [] k d ≡ []
 none_before zero d = refl
 none_before (suc k) d = refl
-
-no_follow_bounds : (readings : List Reading) (k : ℕ) (clocks : List Clock) → follow_bounds [] readings k clocks ≡ []
-no_follow_bounds readings k [] = refl
-no_follow_bounds readings k (c ∷ clocks) = rw (none_before k k) (no_follow_bounds readings (k + 1) clocks)
-
-pub short_without : (p : ProblemLists) (readings : List Reading) → p.follows ≡ [] → short_list p readings ≡ span_bounds readings ++ event_bounds 0 p.events ++ flat_map message_bounds p.messages
-short_without p readings none =
-    ap (λ (bounds : List Bound). span_bounds readings ++ event_bounds 0 p.events ++ bounds ++ flat_map message_bounds p.messages)
-    (ap (λ (follows : List Follow). follow_bounds follows readings 0 p.clocks) none ∙ no_follow_bounds readings 0 p.clocks)
-    ∙ ap (λ (bounds : List Bound). bounds ++ flat_map message_bounds p.messages) (append-nil (span_bounds readings ++ event_bounds 0 p.events))
-
-pub none_follows : (p : ProblemLists) (c s d t : ℕ) (a : Constraint) → p.follows ≡ [] → Declares p (bounds.Follow c s d t) a → ⊥
-none_follows p c s d t a none declared =
-    let inside : declared.1.0 < length p.follows = declared.1.1 in
-    let empty : length p.follows ≡ 0 = ap length none in omega (arith, inside, empty)
 
 -- ---- lines of a list, from a place on
 pub lines_more : {X : Type 0} (line : X → List ℕ) (xs : List X) (k : ℕ) (x : X) → slice_get xs k ≡ Some x → flat_map line (drop k xs) ≡ line x ++ flat_map line (drop (k + 1) xs)

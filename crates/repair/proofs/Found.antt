@@ -1,5 +1,5 @@
 -- Slots that are found among others.
-use Rattle.std.proofs.Common.{◌≡◌, ◌==◌, ℕ, zero, suc, ◌+◌, ◌<◌, ◌≤◌, Bool, true, false, List, [], ◌∷◌, ◌++◌, slice_get, length, drop, get_or, Option, Some, None, cond, All, refl, sym, ap, subst, ◌∙◌, inl, inr, arith}
+use Rattle.std.proofs.Common.{◌≡◌, ◌==◌, ℕ, zero, suc, ◌+◌, ◌<◌, ◌≤◌, Bool, true, List, [], ◌∷◌, ◌++◌, slice_get, length, drop, get_or, Option, Some, None, cond, All, refl, sym, ap, subst, ◌∙◌, inl, inr, arith}
 use Rattle.std.specs.Prelude.{find}
 use Rattle.std.proofs.lemmas.Bool.{cases_Bool, eqb-true}
 use Rattle.std.proofs.lemmas.List.{drop_more, drop_all}
@@ -43,13 +43,6 @@ pass_none i entries entry below e none = next_entry i entries entry below e ∙ 
 pub next_slot : (i : ℕ) (entries : List (Option Slot)) (entry : Option Slot) (slot : Slot) → i < length entries → entry ≡ get_or entries i entry → entry ≡ Some slot
     → slots_in (drop i entries) ≡ slot ∷ slots_in (drop (i + 1) entries)
 next_slot i entries entry slot below e some = next_entry i entries entry below e ∙ ap (λ (x : Option Slot). slots_in (x ∷ drop (i + 1) entries)) some
-
--- a slot of another node is passed
-pub pass_other : (p i : ℕ) (entries : List (Option Slot)) (entry : Option Slot) (slot : Slot) → i < length entries → entry ≡ get_or entries i entry → entry ≡ Some slot → (slot.node == p) ≡ false
-    → find (λ s. s.node == p) (slots_in (drop i entries)) ≡ find (λ s. s.node == p) (slots_in (drop (i + 1) entries))
-pass_other p i entries entry slot below e some other =
-    ap (find (λ s. s.node == p)) (next_slot i entries entry slot below e some)
-    ∙ ap (λ (b : Bool). cond b (Some slot) (find (λ s. s.node == p) (slots_in (drop (i + 1) entries)))) other
 
 -- the slot of the node is what is found
 pub take_hit : (p i : ℕ) (entries : List (Option Slot)) (entry : Option Slot) (slot : Slot) → i < length entries → entry ≡ get_or entries i entry → entry ≡ Some slot → (slot.node == p) ≡ true

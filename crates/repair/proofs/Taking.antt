@@ -1,11 +1,11 @@
 -- Rows of a pool that are taken, and free ones that are left.
-use Rattle.std.proofs.Common.{◌≡◌, ◌≢◌, ℕ, suc, ◌+◌, ◌<◌, ◌≤◌, Bool, true, false, not, cond, List, [], ◌∷◌, length, get_or, count_by, inl, inr, sym, subst, ◌∙◌, ap, arith, length-set, get_or-set_same, get_or-set_other}
+use Rattle.std.proofs.Common.{◌≡◌, ◌≢◌, ℕ, suc, ◌+◌, ◌<◌, ◌≤◌, Bool, true, false, not, cond, List, [], ◌∷◌, length, get_or, count_by, inl, inr, sym, ◌∙◌, ap, arith, length-set, get_or-set_same, get_or-set_other}
 use Rattle.std.proofs.lemmas.Bool.{cases_Bool}
-use Rattle.std.proofs.lemmas.List.Elements.{All-nil, All-cons, All-get_or, All-set}
+use Rattle.std.proofs.lemmas.List.Elements.{All-get_or, All-set}
 use Rattle.std.proofs.lemmas.List.Sums.{sum_by-cons, sum_by-set}
 use Rattle.row_pool.specs.Pool.{PoolRow, Pool, IsPool, row_at, row_of, IsFree, free_rows, marked}
 use Rattle.repair.specs.declared.slot.Slot.{Slot}
-use Rattle.repair.specs.Slots.{HasRows, ChangesRowsOf, AreApart}
+use Rattle.repair.specs.Slots.{HasRows, AreApart}
 use Rattle.repair.specs.Keeping.{TakesRows}
 
 abbrev none : PoolRow
@@ -52,32 +52,6 @@ free_among (row ∷ rows) some = elim (cases_Bool row.taken) [
 pub free_there : (pool : Pool) → 1 ≤ free_rows pool → (n : ℕ) × IsFree pool n
 free_there pool some = let row = free_among pool.rows some in (row.0, (row.1, row.2))
 
--- one free row that is taken after the other
-pub takes_two : (old mid new : Pool) (slot : Slot) → IsFree old slot.from → mid ≡ marked old slot.from true → IsFree mid slot.to → new ≡ marked mid slot.to true → TakesRows old new slot
-takes_two old mid new slot free first free' second =
-    let from : ℕ = slot.from in
-    let to : ℕ = slot.to in
-    let own : row_at mid from ≡ record { taken = true; cells = row_of old from } = ap (λ (x : Pool). row_at x from) first ∙ marked_own old from true free.0 in
-    let set : (row_at mid from).taken ≡ true = ap (λ (r : PoolRow). r.taken) own in
-    let differ : to ≢ from = λ same. absurd (let unset : (row_at mid from).taken ≡ false = ap (λ (j : ℕ). (row_at mid j).taken) (sym same) ∙ free'.1 in cc) in
-    let back : from ≢ to = λ same. differ (sym same) in
-    let count : length mid.rows ≡ length old.rows = ap (λ (x : Pool). length x.rows) first ∙ length-set old.rows from (record { taken = true; cells = row_of old from }) in
-    let count' : length new.rows ≡ length mid.rows = ap (λ (x : Pool). length x.rows) second ∙ length-set mid.rows to (record { taken = true; cells = row_of mid to }) in
-    let other : (k : ℕ) → k ≢ from → row_at mid k ≡ row_at old k = λ k h. ap (λ (x : Pool). row_at x k) first ∙ marked_other old from k true h in
-    let other' : (k : ℕ) → k ≢ to → row_at new k ≡ row_at mid k = λ k h. ap (λ (x : Pool). row_at x k) second ∙ marked_other mid to k true h in
-    record {
-      width = ap (λ (x : Pool). x.width) second ∙ ap (λ (x : Pool). x.width) first;
-      count = count' ∙ count;
-      was_free = (free, (subst (λ (n : ℕ). to < n) count free'.0, sym (ap (λ (r : PoolRow). r.taken) (other to differ)) ∙ free'.1));
-      has = record {
-        from = ap (λ (r : PoolRow). r.taken) (other' from back) ∙ set;
-        to = ap (λ (x : Pool). (row_at x to).taken) second ∙ ap (λ (r : PoolRow). r.taken) (marked_own mid to true free'.0);
-        two = back;
-      };
-      taken = λ k a b. ap (λ (r : PoolRow). r.taken) (other' k b ∙ other k a);
-      others = λ k a b. ap (λ (r : PoolRow). r.cells) (other' k b ∙ other k a);
-    }
-
 -- where two rows are free the first can be taken, and then a second one
 pub one_free : (pool : Pool) → 2 ≤ free_rows pool → ((n : ℕ) → IsFree pool n → ⊥) → ⊥
 one_free pool two nobody = let row = free_there pool (omega arith) in nobody row.0 row.1
@@ -87,17 +61,6 @@ two_free pool mid number two free is nobody =
     let less : free_rows (marked pool number true) + 1 ≡ free_rows pool = marked_free pool number free in
     let left : free_rows mid ≡ free_rows (marked pool number true) = ap free_rows is in
     let row = free_there mid (omega (arith, less, left)) in nobody row.0 row.1
-
--- a slot that took its rows, and then had them made
-pub takes_made : (old mid new : Pool) (slot : Slot) → TakesRows old mid slot → ChangesRowsOf (slot ∷ []) mid new → TakesRows old new slot
-takes_made old mid new slot takes changes = record {
-  width = changes.width ∙ takes.width;
-  count = changes.count ∙ takes.count;
-  was_free = takes.was_free;
-  has = record { from = changes.taken slot.from ∙ takes.has.from; to = changes.taken slot.to ∙ takes.has.to; two = takes.has.two };
-  taken = λ k a b. changes.taken k ∙ takes.taken k a b;
-  others = λ k a b. changes.others k (All-cons (λ (s : Slot). (s.from ≢ k) × (s.to ≢ k)) slot [] (λ e. a (sym e), λ e. b (sym e)) (All-nil (λ (s : Slot). (s.from ≢ k) × (s.to ≢ k)))) ∙ takes.others k a b;
-}
 
 -- a row that was free is none of those of slots
 misses_free : (old : Pool) (k : ℕ) (other : Slot) → HasRows old other → IsFree old k → (other.from ≢ k) × (other.to ≢ k)

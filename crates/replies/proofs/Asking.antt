@@ -1,5 +1,5 @@
 -- The command of a line, by its words.
-use Rattle.std.proofs.Common.{◌≡◌, ℕ, ◌<◌, List, [], ◌∷◌, length, Option, Some, None, All, true, nat_le, ◌&&◌, unwrap_or, codes, refl, sym, ◌∙◌, ap, subst, arith}
+use Rattle.std.proofs.Common.{◌≡◌, ℕ, List, [], ◌∷◌, Option, Some, None, All, true, nat_le, ◌&&◌, unwrap_or, codes, refl, sym, ◌∙◌, ap, subst, arith}
 use Rattle.std.specs.Int.{IsInRange}
 use Rattle.std.specs.Str.{IsUtf8}
 use Rattle.std.proofs.lemmas.List.Elements.{All-cons, All-nil, All-head, All-tail, recursion_from_All}
@@ -29,9 +29,6 @@ first_word a b c all = All-head IsWord a (b ∷ c ∷ []) all
 
 pub second_word : (a b c : List ℕ) → All IsWord (a ∷ b ∷ c ∷ []) → IsWord b
 second_word a b c all = All-head IsWord b (c ∷ []) (All-tail IsWord a (b ∷ c ∷ []) all)
-
-pub third_word : (a b c : List ℕ) → All IsWord (a ∷ b ∷ c ∷ []) → IsWord c
-third_word a b c all = All-head IsWord c [] (All-tail IsWord b (c ∷ []) (All-tail IsWord a (b ∷ c ∷ []) all))
 
 -- ---- the words of a line
 -- the words of a line, as commands have them: three where there are two spaces, else two where there is one
@@ -118,10 +115,6 @@ asks_one line o none is has = asks_by line (line ∷ []) o (told_by_one line non
 visible_test : (w : List ℕ) → list_all (λ b. nat_le 33 b && nat_le b 126) w ≡ true → All (λ b. IsInRange 33 126 b) w
 visible_test [] e = All-nil (λ b. IsInRange 33 126 b)
 visible_test (x ∷ xs) e = All-cons (λ b. IsInRange 33 126 b) x xs (grind (arith, e)) (visible_test xs (grind (arith, e)))
-
--- of a word that is written out: by refl
-pub word_test : (w : List ℕ) → 0 < length w → list_all (λ b. nat_le 33 b && nat_le b 126) w ≡ true → IsWord w
-word_test w some e = record { some = some; visible = visible_test w e }
 
 pub ascii : (w : List ℕ) → IsWord w → IsUtf8 w
 ascii w is = IsUtf8-from_ascii w (IsAscii-from_all w (λ k d inside. let v : IsInRange 33 126 (slice_index_or w k d) = is.visible k d inside in omega (arith, v)))

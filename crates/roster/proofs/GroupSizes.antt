@@ -25,20 +25,6 @@ list_at [] g d inside = absurd (omega (arith, inside))
 list_at (x ∷ lists) zero d inside = refl
 list_at (x ∷ lists) (suc g) d inside = list_at lists g d (omega (arith, inside))
 
--- no more than all before and what is put
-pub tail_few : {T : Type 0} (groups : List (List T)) (g k most : ℕ) (tail : List T) → g < length groups → total (sizes_of groups) + length tail < most → total (sizes_of (set groups g (take k (group_at groups g) ++ tail))) < most
-tail_few [] g k most tail inside few = absurd (omega (arith, inside))
-tail_few (x ∷ groups) zero k most tail inside few =
-    omega (arith, few, length-append (take k x) tail, length-take k x)
-tail_few (x ∷ groups) (suc g) k most tail inside few =
-    let more = tail_few groups g k (most - length x) tail (omega (arith, inside)) (omega (arith, few)) in
-    omega (arith, more, few)
-
-pub size_at : {T : Type 0} (lists : List (Vec T)) (g : ℕ) (v : Vec T) → g < length lists → v ≡ get_or lists g v → get_or (sizes_of (lists_of lists)) g 0 ≡ length v.items
-size_at [] g v inside is = absurd (omega (arith, inside))
-size_at {T} (x ∷ lists) zero v inside is = ap (λ (l : Vec T). length l.items) (sym is)
-size_at (x ∷ lists) (suc g) v inside is = size_at lists g v (omega (arith, inside)) is
-
 pub length-sizes : {T : Type 0} (lists : List (Vec T)) → length (sizes_of (lists_of lists)) ≡ length lists
 length-sizes [] = refl
 length-sizes (x ∷ lists) = ap suc (length-sizes lists)

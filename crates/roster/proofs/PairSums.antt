@@ -8,16 +8,6 @@ total_pairs [] = refl
 total_pairs (a ∷ []) = refl
 total_pairs (a ∷ b ∷ l) = let more = total_pairs l in omega (arith, more)
 
--- h is half of n, or of one more
-pub length-pairs : (l : List ℕ) (h : ℕ) → length l ≤ h + h → h + h ≤ length l + 1 → length (pair_sums l) ≡ h
-length-pairs [] zero le ge = refl
-length-pairs [] (suc h) le ge = absurd (omega (arith, ge))
-length-pairs (a ∷ []) zero le ge = absurd (omega (arith, le))
-length-pairs (a ∷ []) (suc zero) le ge = refl
-length-pairs (a ∷ []) (suc (suc h)) le ge = absurd (omega (arith, ge))
-length-pairs (a ∷ b ∷ l) zero le ge = absurd (omega (arith, le))
-length-pairs (a ∷ b ∷ l) (suc h) le ge = ap suc (length-pairs l h (omega (arith, le)) (omega (arith, ge)))
-
 pub pairs_of_zeros : (n h : ℕ) → n ≤ h + h → h + h ≤ n + 1 → pair_sums (replicate n 0) ≡ replicate h 0
 pairs_of_zeros zero zero le ge = refl
 pairs_of_zeros zero (suc h) le ge = absurd (omega (arith, ge))

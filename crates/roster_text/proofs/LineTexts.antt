@@ -1,6 +1,5 @@
 -- The lines of what a roster holds.
-use Rattle.std.proofs.Common.{◌≡◌, ◌<◌, ℕ, List, [], ◌∷◌, length, map, slice_get, Option, Some, codes, sym, ◌∙◌, ap, arith}
-use Rattle.std.proofs.lemmas.List.{length-map}
+use Rattle.std.proofs.Common.{◌≡◌, ℕ, List, [], ◌∷◌, map, slice_get, Option, Some, codes, sym, ◌∙◌, ap}
 use Rattle.std.proofs.lemmas.Option.{same_Some}
 use Rattle.atto.specs.Decimal.{decimal_of}
 use Rattle.line_format.specs.Words.{line_of}
@@ -19,9 +18,6 @@ use Rattle.roster_text.proofs.Ids.{event_is}
 -- the name that is listed for an event
 listed_name : (r : RosterLists) (v : ℕ) (e : Came) (name : List ℕ) → slice_get r.came v ≡ Some e → slice_get (listed r).event_names v ≡ Some name → name ≡ name_of r.declaration (id_of e)
 listed_name r v e name at named = same_Some name (name_of r.declaration (id_of e)) (sym named ∙ map_at (λ (x : Came). name_of r.declaration (id_of x)) r.came v e at)
-
-pub has_name : (r : RosterLists) (v : ℕ) → v < length r.came → v < length (listed r).event_names
-has_name r v inside = omega (arith, inside, length-map r.came (λ (e : Came). name_of r.declaration (id_of e)))
 
 module _ (r : RosterLists) (is : IsRoster r) where
   came_is : (v : ℕ) (e : Came) → slice_get r.came v ≡ Some e → event_at r.came v ≡ e

@@ -74,9 +74,6 @@ name_there : (d : Declaration) (events : List Event) (k : ℕ) (e : Event) → s
 name_there d events k e at = rw at refl
 
 module _ (d : Declaration) (events : List Placed) (differ : AllPairs (λ (a b : Placed). a.id ≢ b.id) events) where
-  line_by : Couple → List ℕ
-  line_by m = couple_line d m.send m.receive
-
   place_named : (e : Placed) (id : EventId) → Contains events e → id ≡ e.id → event_name (map (event_with d) events) (place_of events id) ≡ name_of d id
   place_named e id among' is =
       let (o, at, same) = stands events id differ (e, among', sym is) in

@@ -36,11 +36,7 @@ use Rattle.row_withdrawal.specs.Clearings.{IsRowBefore, IsMarkingOf}
 use Rattle.row_withdrawal.specs.Pulling.{onward}
 
 -- ---- the graph before
-
 module _ (before g : GraphLists) (removed : List Arc) (w : AreWithdrawn before removed g) where
-  pub was_in_force : ℕ → Bool
-  was_in_force j = get_or before.in_force j false
-
   gone_now : (j : ℕ) → get_or before.in_force j false ≡ true → (get_or g.in_force j false ≡ true) ⊎ IsRemoved g removed j
   gone_now j t = elim (w.gone j t) [ inl f ↦ inl f | inr c ↦ inr (subst (λ arcs. Contains removed (arc_at arcs j)) (sym w.arcs) c) ]
 
@@ -103,7 +99,6 @@ one_withdrawn before g h removed k w en ea ef = record {
         let z : ⊥ = cc in z
 
 -- ---- the cells that are left
-
 lt_le : (a b : ℤ) → a <ℤ b → a ≤ℤ b
 lt_le a b l = omega (arith, ints)
 
@@ -157,7 +152,6 @@ module _ (g : GraphLists) (is : IsGraph g) (outward : Bool) (values : List ℤ) 
         (open_marked_in (length g.nodes) (facing outward g) was (IsRemoved g removed) p (potential outward values) (cells_of row0) r.shrunk r.row x (cells_of row) marks are_marks m.cells j f ht hh)
 
     -- ---- what it costs
-
     module _ (row2 : List Cell) (front2 : List (Option ℤ)) (start marked last : ℕ) (affected : ℕ → Bool)
         (u : IsUnderWay (length g.nodes) (facing outward g) p (potential outward values) (2 ^ 117) (2 ^ 93) (cells_of row) (cells_of row2) (waits_of front2))
         (empty : IsEmpty front2)

@@ -19,16 +19,11 @@ use Rattle.replies.specs.Refusals.{refusal_line}
 use Rattle.replies.specs.Commands.{Command, Add, Interval, Order, Time, Merge, Prove, Keep, Problem, Report, Asks}
 use Rattle.replies.specs.Reply.{State, Found, Unread, OfTwo, OfOne, IsTimeReply, IsReport, KeepReply}
 use Rattle.replies.specs.Sessions.{CommandReply, LineReply, FoundAt, AreCounted}
-use Rattle.session.specs.Stands.{Held, StandsFor, Stepped, held_of, problem_held, seen_held}
+use Rattle.session.specs.Stands.{Held, StandsFor, Stepped, held_of}
 use Rattle.ready_answers.specs.Keeping.{IsReplyOfTwo}
 use Rattle.session.specs.Inside.{Answered, Asked, CommandAnswered}
 use Rattle.session.proofs.Telling.{Told}
 use Rattle.session.proofs.Holding.{seen_accepted}
-
--- ---- the problem of what a session stands for
-pub problem_stands : (held : Held) (d : Declaration) (s : State) → StandsFor held d s → problem_held held ≡ problem_of d s.traces
-problem_stands held d s stands =
-    ap (λ (x : Declaration). problem_of_seen x (seen_held held.under)) stands.declaration ∙ ap (λ (seen : List (List Seen)). problem_of_seen d seen) stands.events
 
 -- ---- questions
 -- whatever answers stand ready, the session stands for the same

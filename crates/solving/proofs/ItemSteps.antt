@@ -4,7 +4,7 @@ use Rattle.std.specs.Prelude.{Contains}
 use Rattle.std.specs.List.Sorted.{IsPermutation}
 use Rattle.std.proofs.lemmas.Bool.{cases_lt}
 use Rattle.std.proofs.lemmas.List.{map-append, get_or_default}
-use Rattle.std.proofs.lemmas.List.Elements.{All-nil, All-push, Contains-append_left, Contains-push}
+use Rattle.std.proofs.lemmas.List.Elements.{All-push, Contains-append_left, Contains-push}
 use Rattle.std.proofs.lemmas.List.Sorted.{IsPermutation-map, All-permutation, Contains-permutation, length_permutation}
 use Rattle.problem_model.specs.Problem.{ProblemLists}
 use Rattle.problem_model.specs.Nodes.{Reading}
@@ -14,16 +14,6 @@ use Rattle.solving.specs.declared.items.Ranked.{Ranked}
 use Rattle.solving.specs.Items.{IsItem, bounds_of, AreItems, items_of}
 
 module _ (p : ProblemLists) (readings : List Reading) where
-  pub none_yet : AreItems p readings 0 0 0 0 []
-  none_yet = record {
-    each = All-nil (IsItem p readings);
-    spans_in = λ k below item. absurd (omega (arith, below));
-    follows_in = λ k below some. absurd (omega (arith, below));
-    events_in = λ k below. absurd (omega (arith, below));
-    messages_in = λ k below. absurd (omega (arith, below));
-    few = omega arith;
-  }
-
   module _ (spans follows events messages : ℕ) (all : List Item) (are : AreItems p readings spans follows events messages all) where
     still : (item next : Item) → Contains all item → Contains (all ++ next ∷ []) item
     still item next has = Contains-append_left all (next ∷ []) item has
@@ -72,22 +62,6 @@ module _ (p : ProblemLists) (readings : List Reading) where
             subst (λ (n : ℕ). Contains (all ++ items.Message messages ∷ []) (items.Message n)) (sym same) (Contains-push all (items.Message messages)))
       ];
       few = omega (arith, length-append all (items.Message messages ∷ []), are.few);
-    }
-
-    -- the readings at the next place and behind it are of two clocks
-    pub span_none : (IsItem p readings (items.Span spans) → ⊥) → AreItems p readings (spans + 1) follows events messages all
-    span_none none = record {
-      each = are.each;
-      spans_in = λ k below item. elim (cases_lt k spans) [
-        | inl less ↦ are.spans_in k less item
-        | inr past ↦ absurd (
-            let same : k ≡ spans = omega (arith, below, past) in
-            none (subst (λ (n : ℕ). IsItem p readings (items.Span n)) same item))
-      ];
-      follows_in = are.follows_in;
-      events_in = are.events_in;
-      messages_in = are.messages_in;
-      few = omega (arith, are.few);
     }
 
     pub follow_more : follows < length p.clocks → AreItems p readings spans (follows + 1) events messages (all ++ items.Follow follows ∷ [])

@@ -221,9 +221,6 @@ module _ (spans : List Span) (table : List ℕ) (now : List (List ℕ)) (node : 
     shorter_within : (table' : List ℕ) → length table' ≡ length table → LiesWithin table' shorter
     shorter_within table' e = let w = span_within in let a : s.len ≤ s.room = w.len in let b : s.start + s.room ≤ length table = w.room in record { len = omega arith; room = omega arith }
 
-    pub popped_layout : IsLaidOut (set spans node shorter) table
-    popped_layout = changed_layout spans table table node s shorter is shorter_inside shorter_here (omega arith) (shorter_within table refl) (inl (refl, refl)) (λ p lp out. refl)
-
     pub popped_lists : map (entries_of table) (set spans node shorter) ≡ set now node (take (length (get_or now node []) - 1) (get_or now node []))
     popped_lists =
         changed_lists spans table table node s shorter is shorter_inside shorter_here (omega arith) (shorter_within table refl) (inl (refl, refl)) (λ p lp out. refl)

@@ -4,7 +4,6 @@ use Rattle.std.specs.Prelude.{ℤ, pos, All, AllPairs, Contains}
 use Rattle.std.proofs.lemmas.Int.{ints}
 use Rattle.std.proofs.lemmas.Bool.{cases_lt, cases_eq, eq-eqb, ne_eqb, cond-true, cond-false}
 use Rattle.std.proofs.lemmas.List.{length-map, get_or_past}
-use Rattle.std.proofs.lemmas.List.Elements.{Contains-get_or}
 use Rattle.std.proofs.lemmas.Option.{none-some, same_Some, slice_get_within, slice_get_read, slice_get-get_or, get_or_from_slice_get}
 use Rattle.problem_model.specs.declared.items.Event.{Event}
 use Rattle.problem_model.specs.declared.items.Node.{Node}
@@ -160,11 +159,6 @@ module _ (l : Listed) (p : ProblemLists) (readings : List Reading) (g : GraphLis
       let at : slice_get l.readings j ≡ Some r = slice_get_read l.readings (length l.readings) j r refl inside (sym is) in
       let same : length p.events + j ≡ length l.events + j = omega (arith, events_count) in
       (length p.events + j, reading_node l (length p.events + j) j r same at, reading_stands p readings j (stamp_of r) (stamps_at j r at))
-
-  pub readings_known : All (λ (r : ℕ × ℕ × ℕ). r.2 < length g.nodes) l.readings
-  readings_known i d inside =
-      let r : ℕ × ℕ × ℕ = get_or l.readings i d in
-      number_below r.2 (nodes.Reading r.0 r.1) (listed_by r (Contains-get_or l.readings i d inside))
 
   -- ---- real times
   -- real times by number are those of some nodes

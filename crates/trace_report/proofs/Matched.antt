@@ -1,5 +1,5 @@
 -- The messages among events are as many as those among their ends.
-use Rattle.std.proofs.Common.{◌≡◌, ℕ, ◌+◌, List, [], ◌∷◌, ◌++◌, length, map, Bool, cond, inl, inr, refl, sym, ap, ◌∙◌, arith, length-append}
+use Rattle.std.proofs.Common.{◌≡◌, ℕ, ◌+◌, List, [], ◌∷◌, ◌++◌, length, map, Bool, ◌&&◌, cond, inl, inr, refl, sym, ap, ◌∙◌, arith, length-append}
 use Rattle.std.proofs.lemmas.List.{length-map}
 use Rattle.std.specs.Prelude.{filter, is_some}
 use Rattle.std.specs.List.{flat_map}
@@ -16,6 +16,7 @@ use Rattle.msg_match.specs.Groups.{SeenItem, events_with, has_mark}
 use Rattle.msg_match.specs.Messages.{sends_message}
 use Rattle.event_match.specs.Ends.{End, end_of, ends_of}
 use Rattle.event_match.specs.Ambiguous.{tallies_of, unnumbered}
+use Rattle.event_match.proofs.ByNumber.{is_one, told_alone}
 
 -- ends as they are counted
 abbrev pub items_in : List End → List SeenItem
@@ -47,20 +48,19 @@ same_many key side events = marked key side events ∙ sym (counted (items_in (e
 
 -- ---- messages
 -- a send and a receive alone, told by how many there are
-two_alone : (ss rs : List Placed) (us vs : List ℕ) → length ss ≡ length us → length rs ≡ length vs → length (traces.only_two ss rs) ≡ cond (is_some (groups.only_two us vs)) 1 0
-two_alone [] rs [] vs e f = refl
-two_alone [] rs (u ∷ us) vs e f = absurd (omega (arith, e))
-two_alone (s ∷ ss) rs [] vs e f = absurd (omega (arith, e))
-two_alone (s ∷ p ∷ ss) rs (u ∷ []) vs e f = absurd (omega (arith, e))
-two_alone (s ∷ []) rs (u ∷ t ∷ us) vs e f = absurd (omega (arith, e))
-two_alone (s ∷ p ∷ ss) rs (u ∷ t ∷ us) vs e f = refl
-two_alone (s ∷ []) [] (u ∷ []) [] e f = refl
-two_alone (s ∷ []) [] (u ∷ []) (v ∷ vs) e f = absurd (omega (arith, f))
-two_alone (s ∷ []) (r ∷ rs) (u ∷ []) [] e f = absurd (omega (arith, f))
-two_alone (s ∷ []) (r ∷ []) (u ∷ []) (v ∷ []) e f = refl
-two_alone (s ∷ []) (r ∷ []) (u ∷ []) (v ∷ w ∷ vs) e f = absurd (omega (arith, f))
-two_alone (s ∷ []) (r ∷ q ∷ rs) (u ∷ []) (v ∷ []) e f = absurd (omega (arith, f))
-two_alone (s ∷ []) (r ∷ q ∷ rs) (u ∷ []) (v ∷ w ∷ vs) e f = refl
+two_alone : (ss rs : List Placed) → length (traces.only_two ss rs) ≡ cond (is_one (length ss) && is_one (length rs)) 1 0
+two_alone [] rs = refl
+two_alone (s ∷ p ∷ ss) rs = refl
+two_alone (s ∷ []) [] = refl
+two_alone (s ∷ []) (r ∷ []) = refl
+two_alone (s ∷ []) (r ∷ q ∷ rs) = refl
+
+as_alone : (ss rs : List Placed) (us vs : List ℕ) → length ss ≡ length us → length rs ≡ length vs → length (traces.only_two ss rs) ≡ cond (is_some (groups.only_two us vs)) 1 0
+as_alone ss rs us vs sends receives =
+    two_alone ss rs
+    ∙ ap (λ (n : ℕ). cond (is_one n && is_one (length rs)) 1 0) sends
+    ∙ ap (λ (n : ℕ). cond (is_one (length us) && is_one n) 1 0) receives
+    ∙ ap (λ (b : Bool). cond b 1 0) (sym (told_alone us vs))
 
 sent_first : (all : List Placed) (id : EventId) (m : SeenMark) (ends : List End)
     → length (filter (sends_message (items_in (ends_of all))) (items_in (end_of id m ++ ends))) ≡ length (sent_by all m) + length (filter (sends_message (items_in (ends_of all))) (items_in ends))
@@ -68,7 +68,7 @@ sent_first all id (Keyed key Send) ends =
     let items : List SeenItem = items_in (ends_of all) in
     count_first (sends_message items) (record { event = 0; side = Send; key = key }) (items_in ends)
     ∙ ap (λ (k : ℕ). k + length (filter (sends_message items) (items_in ends)))
-    (sym (two_alone (with_mark key Send all) (with_mark key Receive all) (events_with items key Send) (events_with items key Receive) (same_many key Send all) (same_many key Receive all)))
+    (sym (as_alone (with_mark key Send all) (with_mark key Receive all) (events_with items key Send) (events_with items key Receive) (same_many key Send all) (same_many key Receive all)))
 sent_first all id (Keyed key Receive) ends = omega arith
 sent_first all id (Unkeyed reason) ends = omega arith
 

@@ -1,5 +1,5 @@
 ghost use Rattle.std.specs.Prelude.{◌≡◌, ◌≤◌, ◌+◌, ◌^◌, length, IfOk, OnOk};
-ghost use Rattle.msg_match.specs.Changes.{AreNumberedFrom};
+ghost use Rattle.trace_tests.specs.Numbered.{AreNumberedFrom};
 ghost use Rattle.msg_match.specs.Held.{seen_items};
 
 use crate::fixtures::{RECEIVE, SEND, packet_key};

@@ -23,10 +23,6 @@ pub pair_at : {X : Type 0} (R : X → X → Type 0) (xs : List X) (i j : ℕ) (x
 pair_at R xs i j x y all less at there =
     subst (λ v. R v y) (get_or_from_slice_get xs i x y at) (subst (λ v. R (get_or xs i y) v) (get_or_from_slice_get xs j y y there) (all i j y less (slice_get_within xs j y there)))
 
--- in a list without elements no two are so
-pub pairs_none : {X : Type 0} (R : X → X → Type 0) → AllPairs {X = X} R []
-pairs_none R i j d less within = absurd (omega (arith, within))
-
 -- what holds of each two elements holds of what is made of them
 pub pairs_map : {X Y : Type 0} (R : Y → Y → Type 0) (f : X → Y) (xs : List X) → AllPairs (λ a b. R (f a) (f b)) xs → AllPairs R (map f xs)
 pairs_map R f [] all i j d less within = absurd (omega arith)

@@ -22,10 +22,6 @@ bytes_joined (f ∷ front) back path =
     ap (λ b. first_of_two b (if bytes_eq f.path path then Some f.bytes else None)) (bytes_joined front back path)
     ∙ first_assoc (bytes_of back path) (bytes_of front path) (if bytes_eq f.path path then Some f.bytes else None)
 
--- files behind others, of which the ones in front are the same
-pub files_behind : (puts files more : List PutFile) → HasFiles puts files → HasFiles (puts ++ more) (files ++ more)
-files_behind puts files more h path = bytes_joined puts more path ∙ ap (first_of_two (bytes_of more path)) (h path) ∙ sym (bytes_joined files more path)
-
 -- one file more
 module _ (old new files : List PutFile) (path bytes : List ℕ) (h : HasFiles old files) (there : bytes_of new path ≡ Some bytes) (others : (p : List ℕ) → (p ≡ path → ⊥) → bytes_of new p ≡ bytes_of old p) where
   abbrev file : PutFile

@@ -1,9 +1,8 @@
 -- Weights and greatest delays of arcs, counted one arc after another.
-use Rattle.std.proofs.Common.{◌≡◌, ◌<◌, ◌≤◌, ◌+◌, ◌-◌, ◌*◌, ◌/◌, ◌^◌, ℕ, zero, suc, List, [], ◌∷◌, length, drop, get_or, refl, sym, ◌∙◌, ap, subst, arith, to_z, of_z}
+use Rattle.std.proofs.Common.{◌≡◌, ◌<◌, ◌≤◌, ◌+◌, ◌*◌, ◌^◌, ℕ, zero, suc, List, [], ◌∷◌, length, drop, get_or, refl, sym, ◌∙◌, ap, subst, arith, to_z, of_z}
 use Rattle.std.specs.Prelude.{ℤ, pos, neg_ℤ, ◌+ℤ◌, ◌<ℤ◌, unsigned_abs}
 use mir.Syntax.{w128}
 use mir.Val.{SFits}
-use Rattle.std.proofs.Math.Nat.{div-mul-le_self, mul-le-mul_right}
 use Rattle.std.proofs.lemmas.Int.{ints, to_z-of_z}
 use Rattle.difference_bounds.specs.Numbers.{IsUpTo}
 use Rattle.difference_bounds.specs.Solutions.{weight_of}
@@ -80,11 +79,3 @@ module _ (k count : ℕ) (sum w : ℤ) (inside : k < count) (few : count ≤ 2 ^
 
 pub sum_grows : (k : ℕ) (sum w : ℤ) → unsigned_abs sum ≤ k * 2 ^ 93 → IsUpTo 93 w → unsigned_abs (sum +ℤ w) ≤ (k + 1) * 2 ^ 93
 sum_grows k sum w so_far (low, high) = omega (arith, ints, so_far, low, high)
-
--- ---- what a sum lacks
-pub still_lacks : (lacks delays rise : ℕ) → 0 < lacks → rise ≤ (lacks - 1) / (delays * 1000000000) → 0 < delays → delays * (rise * 1000000000) < lacks
-still_lacks lacks delays rise some low more =
-    let most : (lacks - 1) / (delays * 1000000000) * (delays * 1000000000) ≤ lacks - 1 = div-mul-le_self (lacks - 1) (delays * 1000000000) in
-    let below : rise * (delays * 1000000000) ≤ (lacks - 1) / (delays * 1000000000) * (delays * 1000000000) = mul-le-mul_right (delays * 1000000000) low in
-    let same : delays * (rise * 1000000000) ≡ rise * (delays * 1000000000) = grind arith in
-    omega (arith, most, below, same, some)

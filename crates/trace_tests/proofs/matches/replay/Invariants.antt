@@ -1,5 +1,5 @@
 use Rattle.std.proofs.Common.{◌≡◌, length}
-use Rattle.msg_match.specs.Changes.{AreNumberedFrom}
+use Rattle.trace_tests.specs.Numbered.{AreNumberedFrom}
 use Rattle.trace_tests.proofs.matches.replay.Given as goal
 
 abbrev pub invariant-loop-step : goal.invariant-loop-step

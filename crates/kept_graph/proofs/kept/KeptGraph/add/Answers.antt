@@ -1,14 +1,12 @@
-use Rattle.std.proofs.Common.{◌≡◌, ◌≤◌, ◌+◌, ◌^◌, ℕ, List, ◌∙◌, ◌++◌, ap, length, sym, subst}
+use Rattle.std.proofs.Common.{List, ◌∙◌, ◌++◌, ap, length, sym, subst}
 use Rattle.earliest.specs.Values.{Values}
 use Rattle.sync_graph.specs.Graph.{GraphLists}
-use Rattle.trace_event.specs.Seen.{Seen, seen_events}
+use Rattle.trace_event.specs.Seen.{seen_events}
 use Rattle.traces.specs.declared.event.EventId.{EventId}
-use Rattle.msg_match.specs.Groups.{SeenItem}
-use Rattle.msg_match.specs.Changes.{HaveOwnNumbers, AreMessagesAnew}
-use Rattle.event_match.specs.Ends.{AreEndsBy, items_from}
+use Rattle.event_match.specs.Ends.{AreEndsBy}
 use Rattle.kept_graph.specs.Kept.{with_more}
 use Rattle.kept_graph.specs.Numbering.{names_then}
-use Rattle.kept_graph.proofs.Matching.{ends_come, own_come, few_come, changes_come, added_come, gone_come}
+use Rattle.kept_graph.proofs.Matching.{own_come, few_come, ends_rematched}
 use Rattle.kept_graph.proofs.WholeGraph.{kept_still}
 use Rattle.kept_graph.proofs.Roomier.{roomier_between, roomier_add}
 use Rattle.kept_graph.proofs.kept.KeptGraph.add.Goals as goal
@@ -16,84 +14,52 @@ use Rattle.kept_graph.proofs.kept.KeptGraph.add.Goals as goal
 pub rematch-requires-clause-few : goal.rematch-requires-clause-few
 rematch-requires-clause-few g c =
     let (before, kept, ends) = c.requires.kept in
-    subst (λ (n : ℕ). length c.args.self.now.matcher + length (items_from n (seen_events c.args.events.now)) ≤ 2 ^ 22) (sym c.len.ensures.count)
-    (few_come before c.args.label c.args.events.now c.args.self.now.roster c.decl.ensures.lawful c.requires.label kept.holds c.args.self.now.matcher ends c.requires.few)
+    few_come before c.args.label c.args.events.now c.args.self.now.roster c.decl.ensures.lawful c.requires.label kept.holds _ ends _ c.len.ensures.count c.requires.few
 
 pub rematch-requires-clause-differ : goal.rematch-requires-clause-differ
 rematch-requires-clause-differ g c =
     let (before, kept, ends) = c.requires.kept in
-    subst (λ (n : ℕ). HaveOwnNumbers (c.args.self.now.matcher ++ items_from n (seen_events c.args.events.now))) (sym c.len.ensures.count)
-    (own_come before c.args.label c.args.events.now c.args.self.now.roster c.decl.ensures.lawful c.requires.label kept.holds c.args.self.now.matcher ends)
+    own_come before c.args.label c.args.events.now c.args.self.now.roster c.decl.ensures.lawful c.requires.label kept.holds _ ends _ c.len.ensures.count
 
 pub change-requires-clause-kept : goal.change-requires-clause-kept
 change-requires-clause-kept g c =
     let (before, kept, ends) = c.requires.kept in
-    let items : List SeenItem = c.args.self.now.matcher in
-    let more : List Seen = seen_events c.args.events.now in
-    let matched : c.rematch.new.matcher ≡ items ++ items_from (length c.args.self.now.roster.came) more =
-    c.in_ok-changes.ensures.ok ∙ ap (λ (n : ℕ). items ++ items_from n more) c.len.ensures.count in
-    let added = subst (λ (l : List SeenItem). AreMessagesAnew items l c.in_ok-changes.changes.added.items) matched c.in_ok-changes.ensures.added in
-    let withdrawn = subst (λ (l : List SeenItem). AreMessagesAnew l items c.in_ok-changes.changes.withdrawn.items) matched c.in_ok-changes.ensures.withdrawn in (
-      before,
-      kept_still c.args.self.now.roster before c.args.self.now.solver c.make_room.new.solver c.in_ok-make_room.ensures.graph c.in_ok-make_room.ensures.current kept,
-      changes_come before c.args.label c.args.events.now c.args.self.now.roster c.decl.ensures.lawful c.requires.label kept.holds items ends c.in_ok-changes.changes added withdrawn,
-    )
+    let now = ends_rematched before c.args.label c.args.events.now c.args.self.now.roster c.decl.ensures.lawful c.requires.label kept.holds _ ends
+    _ _ c.in_ok-changes.changes c.len.ensures.count c.in_ok-changes.ensures.ok c.in_ok-changes.ensures.added c.in_ok-changes.ensures.withdrawn in
+    (before, kept_still c.args.self.now.roster before c.args.self.now.solver c.make_room.new.solver c.in_ok-make_room.ensures.graph c.in_ok-make_room.ensures.current kept, now.changes)
 
 pub change-requires-clause-added : goal.change-requires-clause-added
 change-requires-clause-added g c =
     let (before, kept, ends) = c.requires.kept in
-    let items : List SeenItem = c.args.self.now.matcher in
-    let more : List Seen = seen_events c.args.events.now in
-    let matched : c.rematch.new.matcher ≡ items ++ items_from (length c.args.self.now.roster.came) more =
-    c.in_ok-changes.ensures.ok ∙ ap (λ (n : ℕ). items ++ items_from n more) c.len.ensures.count in
-    let added = subst (λ (l : List SeenItem). AreMessagesAnew items l c.in_ok-changes.changes.added.items) matched c.in_ok-changes.ensures.added in
-    let withdrawn = subst (λ (l : List SeenItem). AreMessagesAnew l items c.in_ok-changes.changes.withdrawn.items) matched c.in_ok-changes.ensures.withdrawn in
-    added_come before c.args.label c.args.events.now c.args.self.now.roster c.decl.ensures.lawful c.requires.label kept.holds items ends c.in_ok-changes.changes added withdrawn
+    let now = ends_rematched before c.args.label c.args.events.now c.args.self.now.roster c.decl.ensures.lawful c.requires.label kept.holds _ ends
+    _ _ c.in_ok-changes.changes c.len.ensures.count c.in_ok-changes.ensures.ok c.in_ok-changes.ensures.added c.in_ok-changes.ensures.withdrawn in
+    now.added
 
 pub change-requires-clause-withdrawn : goal.change-requires-clause-withdrawn
 change-requires-clause-withdrawn g c =
     let (before, kept, ends) = c.requires.kept in
-    let items : List SeenItem = c.args.self.now.matcher in
-    let more : List Seen = seen_events c.args.events.now in
-    let matched : c.rematch.new.matcher ≡ items ++ items_from (length c.args.self.now.roster.came) more =
-    c.in_ok-changes.ensures.ok ∙ ap (λ (n : ℕ). items ++ items_from n more) c.len.ensures.count in
-    let added = subst (λ (l : List SeenItem). AreMessagesAnew items l c.in_ok-changes.changes.added.items) matched c.in_ok-changes.ensures.added in
-    let withdrawn = subst (λ (l : List SeenItem). AreMessagesAnew l items c.in_ok-changes.changes.withdrawn.items) matched c.in_ok-changes.ensures.withdrawn in
-    gone_come before c.args.label c.args.events.now c.args.self.now.roster c.decl.ensures.lawful c.requires.label kept.holds items ends c.in_ok-changes.changes added withdrawn
+    let now = ends_rematched before c.args.label c.args.events.now c.args.self.now.roster c.decl.ensures.lawful c.requires.label kept.holds _ ends
+    _ _ c.in_ok-changes.changes c.len.ensures.count c.in_ok-changes.ensures.ok c.in_ok-changes.ensures.added c.in_ok-changes.ensures.withdrawn in
+    now.withdrawn
 
 pub returns-clause-kept : goal.returns-clause-kept
 returns-clause-kept g c = λ before kept ends.
-    let items : List SeenItem = c.args.self.now.matcher in
-    let more : List Seen = seen_events c.args.events.now in
-    let matched : c.rematch.new.matcher ≡ items ++ items_from (length c.args.self.now.roster.came) more =
-    c.in_ok-changes.ensures.ok ∙ ap (λ (n : ℕ). items ++ items_from n more) c.len.ensures.count in
-    let added = subst (λ (l : List SeenItem). AreMessagesAnew items l c.in_ok-changes.changes.added.items) matched c.in_ok-changes.ensures.added in
-    let withdrawn = subst (λ (l : List SeenItem). AreMessagesAnew l items c.in_ok-changes.changes.withdrawn.items) matched c.in_ok-changes.ensures.withdrawn in
+    let now = ends_rematched before c.args.label c.args.events.now c.args.self.now.roster c.decl.ensures.lawful c.requires.label kept.holds _ ends
+    _ _ c.in_ok-changes.changes c.len.ensures.count c.in_ok-changes.ensures.ok c.in_ok-changes.ensures.added c.in_ok-changes.ensures.withdrawn in
     c.in_ok-change.ensures.kept before
-    (kept_still c.args.self.now.roster before c.args.self.now.solver c.make_room.new.solver c.in_ok-make_room.ensures.graph c.in_ok-make_room.ensures.current kept)
-    (changes_come before c.args.label c.args.events.now c.args.self.now.roster c.decl.ensures.lawful c.requires.label kept.holds items ends c.in_ok-changes.changes added withdrawn)
+    (kept_still c.args.self.now.roster before c.args.self.now.solver c.make_room.new.solver c.in_ok-make_room.ensures.graph c.in_ok-make_room.ensures.current kept) now.changes
 
 pub returns-clause-ends : goal.returns-clause-ends
 returns-clause-ends g c = λ before kept ends.
-    let items : List SeenItem = c.args.self.now.matcher in
-    let more : List Seen = seen_events c.args.events.now in
-    let after : List (List Seen) = with_more before c.args.label more in
-    let matched : c.rematch.new.matcher ≡ items ++ items_from (length c.args.self.now.roster.came) more =
-    c.in_ok-changes.ensures.ok ∙ ap (λ (n : ℕ). items ++ items_from n more) c.len.ensures.count in
-    subst (λ (ids : List EventId). AreEndsBy ids c.rematch.new.matcher after) (sym c.in_ok-change.ensures.names)
-    (subst (λ (l : List SeenItem). AreEndsBy (names_then c.args.self.now.roster c.args.label more) l after) (sym matched)
-    (ends_come before c.args.label c.args.events.now c.args.self.now.roster c.decl.ensures.lawful c.requires.label kept.holds items ends))
+    let now = ends_rematched before c.args.label c.args.events.now c.args.self.now.roster c.decl.ensures.lawful c.requires.label kept.holds _ ends
+    _ _ c.in_ok-changes.changes c.len.ensures.count c.in_ok-changes.ensures.ok c.in_ok-changes.ensures.added c.in_ok-changes.ensures.withdrawn in
+    subst (λ (ids : List EventId). AreEndsBy ids c.rematch.new.matcher (with_more before c.args.label (seen_events c.args.events.now))) (sym c.in_ok-change.ensures.names) now.ends
 
 pub returns-clause-changed : goal.returns-clause-changed
 returns-clause-changed g c = λ before kept ends.
-    let items : List SeenItem = c.args.self.now.matcher in
-    let more : List Seen = seen_events c.args.events.now in
-    let matched : c.rematch.new.matcher ≡ items ++ items_from (length c.args.self.now.roster.came) more =
-    c.in_ok-changes.ensures.ok ∙ ap (λ (n : ℕ). items ++ items_from n more) c.len.ensures.count in
-    let added = subst (λ (l : List SeenItem). AreMessagesAnew items l c.in_ok-changes.changes.added.items) matched c.in_ok-changes.ensures.added in
-    let withdrawn = subst (λ (l : List SeenItem). AreMessagesAnew l items c.in_ok-changes.changes.withdrawn.items) matched c.in_ok-changes.ensures.withdrawn in
-    c.counts.ensures.change (names_then c.args.self.now.roster c.args.label more) before (with_more before c.args.label more)
-    (changes_come before c.args.label c.args.events.now c.args.self.now.roster c.decl.ensures.lawful c.requires.label kept.holds items ends c.in_ok-changes.changes added withdrawn)
+    let now = ends_rematched before c.args.label c.args.events.now c.args.self.now.roster c.decl.ensures.lawful c.requires.label kept.holds _ ends
+    _ _ c.in_ok-changes.changes c.len.ensures.count c.in_ok-changes.ensures.ok c.in_ok-changes.ensures.added c.in_ok-changes.ensures.withdrawn in
+    c.counts.ensures.change (names_then c.args.self.now.roster c.args.label (seen_events c.args.events.now)) before (with_more before c.args.label (seen_events c.args.events.now)) now.changes
 
 pub returns-clause-arcs : goal.returns-clause-arcs
 returns-clause-arcs g c =
