@@ -1,11 +1,11 @@
 #!/usr/bin/env python3
 """Tries the bugs of bench/planted, one wrong line each. It is no part of the gate, and takes half a minute and more an edit.
 
-    bench/run_planted.py [CRATE..]
+    bench/run_planted.py [CRATE[/BUG]..]
 
-With no crates it tries those of all. It works in a copy of the repository, and says of each crate how many bugs the proofs refuse.
-Each bug that they let through is then built, and the tests are run, those of its crate and of each crate of tests (its name ends in
-_tests) that stands on it: it prints whether a test fails.
+With no crates it tries those of all; with CRATE/BUG that one alone. It works in a copy of the repository, and says of each crate how
+many bugs the proofs refuse. Each bug that they let through is then built, and the tests are run, those of its crate and of each crate
+of tests (its name ends in _tests) that stands on it: it prints whether a test fails.
 """
 import os
 import shutil
@@ -86,11 +86,24 @@ def fails_a_test(copy, name, edit):
     return told or "no test fails"
 
 
-def try_crate(copy, name):
+def asked(words):
+    """Returns the crates that are asked for, in their order, each with its bugs that are asked for, or None for all of them."""
+    found = {}
+    for word in words:
+        name, _, bug = word.partition("/")
+        found.setdefault(name, [])
+        if bug and found[name] is not None:
+            found[name].append(f"{bug}.edit")
+        else:
+            found[name] = None
+    return found
+
+
+def try_crate(copy, name, bugs):
     crate, planted = f"{copy}/crates/{name}", f"{copy}/bench/planted/{name}"
     shutil.rmtree(f"{crate}/must-fail", ignore_errors=True)
     os.mkdir(f"{crate}/must-fail")
-    for edit in os.listdir(planted):
+    for edit in bugs or os.listdir(planted):
         shutil.copyfile(f"{planted}/{edit}", f"{crate}/must-fail/{edit}")
     told, _ = output(["rt", "must-fail", name], copy)
     lines = told.splitlines()
@@ -108,8 +121,8 @@ def main():
     with tempfile.TemporaryDirectory() as folder:
         copy = f"{folder}/repository"
         subprocess.run(["git", "clone", "-q", TOP, copy], check=True)
-        for name in names:
-            try_crate(copy, name)
+        for name, bugs in asked(names).items():
+            try_crate(copy, name, bugs)
 
 
 if __name__ == "__main__":
