@@ -25,13 +25,6 @@ pub struct Lent {
 }
 
 impl Solver {
-    /// How many rows are free.
-    pub fn free_rows(&self) -> u32
-        ensures { result ≡ free_rows self.now.pool }
-    {
-        self.pool.free()
-    }
-
     /// Lends two free rows, filled with the distances from a node and towards it. It takes no memory.
     pub fn lend<L: Ledger>(&mut self, p: u32, steps: &mut Steps<L>) -> Lent
         requires current { IsCurrent self.old }

@@ -24,7 +24,7 @@ use Rattle.traces.specs.Making.{StampsFit}
 use Rattle.msg_match.specs.declared.change.Change.{Change}
 use Rattle.msg_match.specs.declared.change.Couple as numbers
 use Rattle.event_match.specs.Ends.{AreNewMessages, AreChanges, AreCouplesBelow, ids_from, named}
-use Rattle.roster.specs.Groups.{group_at}
+use Rattle.roster.specs.Groups.{group_at, with_more}
 use Rattle.roster.specs.Readings.{stamps_of}
 use Rattle.roster.specs.Roster.{RosterLists, IsRoster, IsGrown, Holds, id_of}
 use Rattle.roster.proofs.Turns.{map-map}
@@ -32,7 +32,7 @@ use Rattle.growth.specs.Entered.{events_below}
 use Rattle.growth.specs.Told.{messages_by_number, numbered_message}
 use Rattle.kept_graph.specs.declared.planning.Due.{Due}
 use Rattle.kept_graph.specs.declared.planning.Turn.{Turn}
-use Rattle.kept_graph.specs.Kept.{IsKeptFor, with_more}
+use Rattle.kept_graph.specs.Kept.{IsKeptFor}
 use Rattle.kept_graph.specs.UnderWay.{IsUnderWay, IsEntering}
 use Rattle.kept_graph.specs.Growing.{Gains, Retells, KeepsNodesThere}
 use Rattle.kept_graph.specs.Withdrawing.{AreLeft}

@@ -18,11 +18,10 @@ use Rattle.msg_match.specs.Changes.{HaveOwnNumbers, AreMessagesAnew}
 use Rattle.event_match.specs.Ends.{AreEndsBy, AreChanges, AreCouplesBelow, ids_from, items_from}
 use Rattle.event_match.proofs.Grown.{ends_none, ends_more, ends_few, ids_many, added_within, gone_within, changes_are}
 use Rattle.roster.specs.declared.came.Came.{Came}
-use Rattle.roster.specs.Groups.{group_at}
+use Rattle.roster.specs.Groups.{group_at, with_more}
 use Rattle.roster.specs.Roster.{RosterLists, IsRoster, Holds, id_of}
 use Rattle.roster.proofs.Turns.{from_map}
 use Rattle.growth.specs.Told.{number_of}
-use Rattle.kept_graph.specs.Kept.{with_more}
 use Rattle.kept_graph.specs.Numbering.{names_then}
 use Rattle.kept_graph.proofs.Both.{each_in}
 use Rattle.kept_graph.proofs.Held.{number_is, labels_many, group_many, events_many}

@@ -12,9 +12,8 @@ use Rattle.traces.proofs.Members.{here, there, head_or_tail, none_in, no_pairs, 
 use Rattle.traces.proofs.MessageEnds.{pair_from, pairs_of}
 use Rattle.event_match.specs.Ends.{IsNewMessage, AreNewMessages}
 use Rattle.event_match.proofs.Growing.{numbered_joined}
-use Rattle.roster.specs.Groups.{group_at}
+use Rattle.roster.specs.Groups.{group_at, with_more}
 use Rattle.growth.proofs.Counting.{fits}
-use Rattle.kept_graph.specs.Kept.{with_more}
 
 -- ---- events with more of one label
 long : (label n : ℕ) (seen : List Seen) → length (numbered label n seen) ≡ length seen

@@ -1,5 +1,5 @@
 -- A graph that is kept for what was accepted.
-use Rattle.std.specs.Prelude.{◌≡◌, ℕ, ◌*◌, ◌≤◌, suc, List, [], ◌++◌, length, slice_get, slice_set, Some, Contains}
+use Rattle.std.specs.Prelude.{◌≡◌, ℕ, ◌*◌, ◌≤◌, suc, List, [], length, slice_get, Some, Contains}
 use Rattle.problem_model.specs.declared.items.Message.{Message}
 use Rattle.problem_model.specs.declared.items.Bound.TheVariants.{DelayMost, DelayLeast}
 use Rattle.sync_graph.specs.Graph.{GraphLists, arc_at}
@@ -55,10 +55,6 @@ pub record IsKeptFor (seen : List (List Seen)) (r : RosterLists) (s : SolverList
   pub few : length s.graph.arcs ≤ 8 * length r.came
 
 -- ---- what an addition leaves
--- the events of each label, with more behind those of one of them
-abbrev pub with_more : List (List Seen) → ℕ → List Seen → List (List Seen)
-with_more seen label more = slice_set seen label (group_at seen label ++ more)
-
 -- each event has its number, its stamp, its name and its node still
 abbrev pub KeepsEvents : RosterLists → RosterLists → Type 0
 KeepsEvents old new = (v : ℕ) (e : Came) → slice_get old.came v ≡ Some e

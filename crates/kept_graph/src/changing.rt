@@ -4,8 +4,9 @@ ghost use Rattle.sync_graph.specs.declared.arc.Arc.{Arc};
 ghost use Rattle.engine.specs.Solver.{SolverLists, HasRoom};
 ghost use Rattle.trace_event.specs.Seen.{Seen, seen_events};
 ghost use Rattle.event_match.specs.Ends.{AreChanges, AreCouplesBelow};
+ghost use Rattle.roster.specs.Groups.{with_more};
 ghost use Rattle.roster.specs.Roster.{id_of};
-ghost use Rattle.kept_graph.specs.Kept.{IsKeptFor, KeepsEvents, KeepsReadings, KeepsRows, with_more};
+ghost use Rattle.kept_graph.specs.Kept.{IsKeptFor, KeepsEvents, KeepsReadings, KeepsRows};
 ghost use Rattle.kept_graph.specs.Numbering.{names_then};
 ghost use Rattle.kept_graph.specs.Steps.{IsBetween, TakesFewToAdd};
 

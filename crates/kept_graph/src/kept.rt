@@ -7,8 +7,9 @@ ghost use Rattle.engine.specs.Solver.{SolverLists};
 ghost use Rattle.trace_event.specs.Seen.{Seen, seen_events};
 ghost use Rattle.msg_match.specs.Changes.{HaveOwnNumbers, AreMessagesAnew};
 ghost use Rattle.event_match.specs.Ends.{AreEndsBy, IsChange, items_from};
+ghost use Rattle.roster.specs.Groups.{with_more};
 ghost use Rattle.roster.specs.Roster.{id_of};
-ghost use Rattle.kept_graph.specs.Kept.{IsKeptFor, KeepsEvents, KeepsReadings, KeepsRows, with_more};
+ghost use Rattle.kept_graph.specs.Kept.{IsKeptFor, KeepsEvents, KeepsReadings, KeepsRows};
 ghost use Rattle.kept_graph.specs.Steps.{IsBetween, TakesFewToAdd};
 
 use crate::changing::change;

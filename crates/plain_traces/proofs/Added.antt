@@ -4,7 +4,7 @@ use Rattle.std.specs.Prelude.{All, slice_get, slice_set, Some}
 use Rattle.std.proofs.lemmas.List.{get_or-map, length-map, map-append, map-set}
 use Rattle.std.proofs.lemmas.List.Elements.{All-cons, All-nil}
 use Rattle.std.proofs.lemmas.List.Sums.{sum_by-cons}
-use Rattle.std.proofs.lemmas.Option.{none-some, same_Some, slice_get_read}
+use Rattle.std.proofs.lemmas.Option.{get_or_from_slice_get, none-some, same_Some, slice_get_read}
 use Rattle.decl.specs.declared.items.Label.{Label}
 use Rattle.trace_event.specs.declared.event.Event.{Event}
 use Rattle.trace_event.specs.Seen.{Seen, seen_event, seen_events}
@@ -17,7 +17,7 @@ use Rattle.msg_match.specs.Changes.{HaveOwnNumbers}
 use Rattle.event_match.specs.Ends.{AreEndsBy, ids_from, items_from}
 use Rattle.event_match.proofs.Grown.{ends_few, ends_more, ends_none, own_more}
 use Rattle.roster.specs.declared.came.Came.{Came}
-use Rattle.roster.specs.Groups.{group_at, sizes_of, total}
+use Rattle.roster.specs.Groups.{group_at, sizes_of, total, with_more}
 use Rattle.roster.specs.Readings.{stamps_of}
 use Rattle.roster.specs.Roster.{RosterLists, Holds, IsGrown, IsRoster, came_from, event_at, id_of}
 use Rattle.roster.proofs.Holding.{holds_more, holds_none}
@@ -76,6 +76,27 @@ ids_came label n (e ∷ more) =
     let id : EventId = record { label = label; number = n } in
     ap (λ (l : List EventId). id ∷ l) (ids_came label (n + 1) more)
 
+-- ---- the events of one label, where more come to it
+module _ (accepted : List Accepted) (more : List Event) (label : ℕ) (old after : Accepted) (inside : label < length accepted) (old_is : old ≡ get_or accepted label old)
+    (after_is : after.events.items ≡ old.events.items ++ more) where
+  abbrev under : Accepted → List Seen
+  under a = seen_events a.events.items
+
+  own_at : slice_get (seen_in accepted) label ≡ Some (under old)
+  own_at = (
+      let read : under old ≡ get_or (seen_in accepted) label (under old) = ap under old_is ∙ sym (get_or-map under accepted label old (under old) inside) in
+      slice_get_read (seen_in accepted) (length accepted) label (under old) (sym (length-map accepted under)) inside read)
+
+  seen_set : slice_set (seen_in accepted) label (under old ++ seen_events more) ≡ seen_in (slice_set accepted label after)
+  seen_set = (
+      let appended : under old ++ seen_events more ≡ under after = sym (ap seen_events after_is ∙ map-append seen_event old.events.items more) in
+      ap (λ (l : List Seen). slice_set (seen_in accepted) label l) appended ∙ sym (map-set under accepted label after))
+
+  pub seen_more : seen_in (slice_set accepted label after) ≡ with_more (seen_in accepted) label (seen_events more)
+  seen_more = (
+      let there : under old ≡ group_at (seen_in accepted) label = sym (get_or_from_slice_get (seen_in accepted) label (under old) [] own_at) in
+      sym seen_set ∙ ap (λ (l : List Seen). slice_set (seen_in accepted) label (l ++ seen_events more)) there)
+
 -- ---- more events
 module _ (r : RosterLists) (is : IsRoster r) (items : List SeenItem) (accepted : List Accepted) (are : AreAdded r items (seen_in accepted)) where
   abbrev stamp_by : ℕ → ℕ
@@ -111,13 +132,9 @@ module _ (r : RosterLists) (is : IsRoster r) (items : List SeenItem) (accepted :
         → AreAdded new (items ++ found) (seen_in (slice_set accepted label after))
     added_more new label old after inside old_is grown after_is =
         let seen = seen_in accepted in
-        let under : Accepted → List Seen = λ a. seen_events a.events.items in
-        let own = under old in
-        let read : own ≡ get_or seen label own = ap under old_is ∙ sym (get_or-map under accepted label old own inside) in
-        let at : slice_get seen label ≡ Some own = slice_get_read seen (length accepted) label own (sym (length-map accepted under)) inside read in
-        let appended : own ++ seen_events more ≡ under after = sym (ap seen_events after_is ∙ map-append seen_event old.events.items more) in
-        let there : slice_set seen label (own ++ seen_events more) ≡ seen_in (slice_set accepted label after) =
-        ap (λ (l : List Seen). slice_set seen label l) appended ∙ sym (map-set under accepted label after) in
+        let own : List Seen = seen_events old.events.items in
+        let at : slice_get seen label ≡ Some own = own_at accepted more label old after inside old_is after_is in
+        let there : slice_set seen label (own ++ seen_events more) ≡ seen_in (slice_set accepted label after) = seen_set accepted more label old after inside old_is after_is in
         let long : length (group_at r.under label) ≡ length own = group_long stamp_by r.under seen label own are.holds at in
         let ids : names ++ ids_from label (length own + 1) (seen_events more) ≡ map id_of new.came =
         sym (ap (map id_of) grown.came ∙ map-append id_of r.came (came_from label (length (group_at r.under label) + 1) (stamps_of more))

@@ -2,7 +2,9 @@
 ghost use Rattle.std.specs.Prelude.{◌≡◌, [], map, IfOk, OnOk};
 ghost use Rattle.decl.specs.declared.items.Label.{Label};
 ghost use Rattle.decl.specs.Declaration.{IsDeclaration, declaration_of};
+ghost use Rattle.trace_event.specs.Seen.{seen_events};
 ghost use Rattle.traces.specs.Held.{seen_in};
+ghost use Rattle.roster.specs.Groups.{with_more};
 ghost use Rattle.plain_traces.specs.Added.{AreAdded};
 
 use decl::{Decl, Label};
@@ -62,7 +64,8 @@ impl Additions {
     /// more then.
     pub fn add(&mut self, label: u32, mut events: Vec<Event>) -> Result<Change, AllocError>
         requires { AreAdded self.old.roster self.old.matcher (seen_in self.old.labels.items) }
-        ensures { OnOk result (AreAdded self.new.roster self.new.matcher (seen_in self.new.labels.items)) }
+        ensures added { OnOk result (AreAdded self.new.roster self.new.matcher (seen_in self.new.labels.items)) }
+        ensures events { OnOk result (seen_in self.new.labels.items ≡ with_more (seen_in self.old.labels.items) label (seen_events events.items)) }
     {
         let first = self.roster.len();
         if label as usize >= self.roster.decl().labels.len()

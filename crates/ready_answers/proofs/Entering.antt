@@ -15,10 +15,10 @@ use Rattle.traces.specs.Held.{seen_in}
 use Rattle.traces.specs.Messages.{problem_of_seen}
 use Rattle.traces.proofs.Ids.{count_appended}
 use Rattle.event_match.specs.Ends.{AreEndsBy}
-use Rattle.roster.specs.Groups.{group_at}
+use Rattle.roster.specs.Groups.{group_at, with_more}
 use Rattle.roster.specs.Roster.{IsRoster, id_of, listed}
 use Rattle.engine.specs.Solver.{SolverLists}
-use Rattle.kept_graph.specs.Kept.{IsKeptFor, KeepsEvents, KeepsRows, KeepsReadings, with_more}
+use Rattle.kept_graph.specs.Kept.{IsKeptFor, KeepsEvents, KeepsRows, KeepsReadings}
 use Rattle.ready_answers.specs.declared.answers.Answers.{Answers}
 use Rattle.ready_answers.specs.Ready.{AreAnswersOf, AreSlotsOf, KeepsSource, problem_by}
 use Rattle.queries.specs.Replies.{HasReading}

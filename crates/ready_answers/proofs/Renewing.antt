@@ -9,7 +9,7 @@ use Rattle.repair.specs.declared.slot.Slot.{Slot}
 use Rattle.engine.specs.Solver.{SolverLists}
 use Rattle.growth.specs.Once.{IsOn}
 use Rattle.event_match.specs.Ends.{AreEndsBy}
-use Rattle.kept_graph.specs.Kept.{IsKeptFor, KeepsEvents, KeepsReadings, KeepsRows, with_more}
+use Rattle.kept_graph.specs.Kept.{IsKeptFor, KeepsEvents, KeepsReadings, KeepsRows}
 use Rattle.kept_graph.specs.Steps.{IsBetween, TakesFewToAdd}
 use Rattle.solver.specs.Solution.{IsSolutionBy}
 use Rattle.trace_event.specs.Seen.{Seen, seen_events}
@@ -17,6 +17,7 @@ use Rattle.traces.specs.declared.accepted.Accepted.{Accepted}
 use Rattle.traces.specs.Held.{seen_in}
 use Rattle.traces.specs.declared.event.EventId.{EventId}
 use Rattle.traces.specs.Messages.{problem_of_seen}
+use Rattle.roster.specs.Groups.{with_more}
 use Rattle.roster.specs.Roster.{IsRoster, id_of, listed}
 use Rattle.ready_answers.specs.declared.answers.Answers.{Answers}
 use Rattle.ready_answers.specs.Ready.{AreAnswersOf, KeepsSource, IsAddition}

@@ -1,5 +1,5 @@
 -- Groups that are written anew in part.
-use Rattle.std.proofs.Common.{◌≡◌, ℕ, ◌+◌, ◌-◌, ◌<◌, ◌≤◌, List, [], ◌∷◌, ◌++◌, length, take, replicate, length-append, Result, Ok, Err, OnErr, get_or, zero, suc, refl, sym, ◌∙◌, ap, subst, arith, set}
+use Rattle.std.proofs.Common.{◌≡◌, ℕ, ◌+◌, ◌<◌, ◌≤◌, List, [], ◌∷◌, ◌++◌, length, take, replicate, length-append, Result, Ok, Err, OnErr, get_or, zero, suc, refl, sym, ◌∙◌, ap, subst, arith, set}
 use Rattle.std.specs.Global.{Vec}
 use Rattle.std.proofs.lemmas.List.{map-set, length-map, length-take, get_or-set_same}
 use Rattle.roster.specs.Groups.{total, sizes_of, group_at, lists_of}

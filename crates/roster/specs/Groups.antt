@@ -21,6 +21,10 @@ sizes_of groups = map length groups
 abbrev pub group_at : {T : Type 0} → List (List T) → ℕ → List T
 group_at groups g = slice_index_or groups g []
 
+-- the groups with these behind those of one of them
+abbrev pub with_more : {T : Type 0} → List (List T) → ℕ → List T → List (List T)
+with_more groups g more = slice_set groups g (group_at groups g ++ more)
+
 -- the groups with this in place of what stands in one of them from place k on
 abbrev pub with_tail : {T : Type 0} → List (List T) → ℕ → ℕ → List T → List (List T)
 with_tail groups g k tail = slice_set groups g (take k (group_at groups g) ++ tail)

@@ -8,7 +8,7 @@ use Rattle.trace_event.specs.Seen.{Seen}
 use Rattle.traces.specs.declared.event.EventId.{EventId}
 use Rattle.traces.specs.Traces.{name_of, clock_of}
 use Rattle.roster.specs.declared.came.Came.{Came}
-use Rattle.roster.specs.Groups.{total, sizes_of, group_at}
+use Rattle.roster.specs.Groups.{total, sizes_of, group_at, with_more}
 use Rattle.roster.specs.Readings.{Stamped, Rise, HasStamp}
 
 -- the declaration; the events by number, in the order in which they came; the numbers of the events of each label, in their
@@ -101,7 +101,7 @@ came_from label n (stamp ∷ stamps) = (record { stamp = stamp; label = label; n
 pub record IsGrown (old new : RosterLists) (label : ℕ) (stamps : List ℕ) : Type 0 where
   pub declaration : new.declaration ≡ old.declaration
   pub came : new.came ≡ old.came ++ came_from label (length (group_at old.under label) + 1) stamps
-  pub under : new.under ≡ slice_set old.under label (group_at old.under label ++ range_with_len (length old.came) (length stamps))
+  pub under : new.under ≡ with_more old.under label (range_with_len (length old.came) (length stamps))
   pub readings : (clock : ℕ) (s : Stamped) → Contains (group_at old.readings clock) s → Contains (group_at new.readings clock) s
   pub fresh : (clock : ℕ) (s : Stamped) → Contains (group_at new.readings clock) s → Contains (group_at old.readings clock) s ⊎ (s.1 ≡ 0)
 

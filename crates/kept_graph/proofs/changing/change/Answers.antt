@@ -4,7 +4,8 @@ use Rattle.engine.specs.Solver.{SolverLists}
 use Rattle.trace_event.specs.declared.event.Event.{Event}
 use Rattle.trace_event.specs.Seen.{Seen, seen_events}
 use Rattle.event_match.specs.Ends.{AreChanges, AreCouplesBelow}
-use Rattle.kept_graph.specs.Kept.{IsKeptFor, with_more}
+use Rattle.roster.specs.Groups.{with_more}
+use Rattle.kept_graph.specs.Kept.{IsKeptFor}
 use Rattle.kept_graph.specs.Numbering.{names_then}
 use Rattle.kept_graph.proofs.Bringing.{rows_then}
 use Rattle.kept_graph.proofs.Changed.{HaveAllCome, are_by_number, in_turn, in_queue, may_go, none_gone, added_there, may_come, all_come}

@@ -4,7 +4,7 @@ use Rattle.sync_graph.specs.Graph.{GraphLists}
 use Rattle.trace_event.specs.Seen.{seen_events}
 use Rattle.traces.specs.declared.event.EventId.{EventId}
 use Rattle.event_match.specs.Ends.{AreEndsBy}
-use Rattle.kept_graph.specs.Kept.{with_more}
+use Rattle.roster.specs.Groups.{with_more}
 use Rattle.kept_graph.specs.Numbering.{names_then}
 use Rattle.kept_graph.proofs.Matching.{own_come, few_come, ends_rematched}
 use Rattle.kept_graph.proofs.WholeGraph.{kept_still}

@@ -13,7 +13,7 @@ use Rattle.event_match.proofs.Grown.{few_more}
 use Rattle.roster.specs.Readings.{stamps_of}
 use Rattle.roster.specs.Roster.{RosterLists, IsGrown}
 use Rattle.plain_traces.specs.Added.{AreAdded}
-use Rattle.plain_traces.proofs.Added.{added_more, items_few, labels_many, own_numbers}
+use Rattle.plain_traces.proofs.Added.{added_more, items_few, labels_many, own_numbers, seen_more}
 use Rattle.plain_traces.proofs.additions.Additions.add.Goals as goal
 
 pub add-requires-clause-few : goal.add-requires-clause-few
@@ -32,8 +32,8 @@ add-requires-clause-differ c =
     ap seen_items c.deref-2.ensures.value ∙ c.in_ok-items.ensures ∙ ap (λ (l : List Event). items_from c.len-first.result (seen_events l)) c.deref.ensures.value in
     own_numbers c.args.self.now.roster c.decl.ensures.lawful c.args.self.now.matcher c.args.self.now.labels.items c.requires more c.len-first.result (seen_items c.deref-2.result.now) c.len-first.ensures.count found
 
-pub returns : goal.returns
-returns c =
+pub returns-clause-added : goal.returns-clause-added
+returns-clause-added c =
     let r : RosterLists = c.args.self.now.roster in
     let accepted : List Accepted = c.args.self.now.labels.items in
     let more : List Event = c.args.events.items in
@@ -49,3 +49,16 @@ returns c =
     subst (λ (l : List SeenItem). AreAdded c.push.new.self l (seen_in (slice_set accepted c.args.label after))) (sym c.in_ok-change.ensures.ok)
     (added_more r c.decl.ensures.lawful c.args.self.now.matcher accepted c.requires more c.len-first.result (seen_items c.deref-2.result.now) c.len-first.ensures.count found c.push.new.self c.args.label under after inside
     c.index_mut.ensures.value grown appended)
+
+pub returns-clause-events : goal.returns-clause-events
+returns-clause-events c =
+    let r : RosterLists = c.args.self.now.roster in
+    let accepted : List Accepted = c.args.self.now.labels.items in
+    let more : List Event = c.args.events.items in
+    let declared : c.len.result ≡ length c.decl.result.now.labels.items = search rules in
+    let labels = ap (λ (d : Declaration). length d.labels) c.decl.ensures.same in
+    let inside : c.args.label < length accepted = omega (arith, declared, labels, labels_many r c.decl.ensures.lawful c.args.self.now.matcher accepted c.requires, c.if-label-len.false) in
+    let under : Accepted = c.index_mut.result.now in
+    let after : Accepted = record { events = c.append.new.self; size = under.size; stream = under.stream } in
+    let appended : c.append.new.self.items ≡ under.events.items ++ more = search rules in
+    seen_more accepted more c.args.label under after inside c.index_mut.ensures.value appended
