@@ -1,12 +1,15 @@
 -- Events that are accepted under a label.
-use Rattle.std.proofs.Common.{◌≡◌, ◌≢◌, ◌⊎◌, inl, inr, ℕ, ◌+◌, ◌-◌, ◌*◌, ◌^◌, ◌<◌, ◌≤◌, List, ◌++◌, length, map, slice_get, slice_set, Option, Some, None, Bool, true, false, nat_le, option_map, refl, sym, ◌∙◌, ap, subst, arith, MatchBool, length-set}
+use Rattle.std.proofs.Common.{◌≡◌, ◌≢◌, ◌⊎◌, inl, inr, ℕ, ◌+◌, ◌-◌, ◌*◌, ◌^◌, ◌<◌, ◌≤◌, List, ◌++◌, length, map, slice_get, slice_set, Option, Some, None, Bool, true, false, nat_le, option_map, refl, sym, ◌∙◌, ap, subst, arith, MatchBool, length-set, Vec}
 use Rattle.std.specs.Prelude.{IsSome}
+use Rattle.std.specs.Vec.{with_items}
+use Rattle.std.proofs.lemmas.List.{length-map, with_items_is}
 use Rattle.std.proofs.lemmas.Option.{slice_get-map}
 use Rattle.std.proofs.Math.Seq.{map-set}
 use Rattle.problem_model.specs.Problem.{ProblemLists}
 use Rattle.decl.specs.declared.items.Label.{Label}
 use Rattle.decl.specs.Declaration.{Declaration}
-use Rattle.trace_event.specs.Seen.{Seen}
+use Rattle.trace_event.specs.declared.event.Event.{Event}
+use Rattle.trace_event.specs.Seen.{Seen, seen_event, seen_events}
 use Rattle.traces.specs.declared.accepted.Accepted.{Accepted}
 use Rattle.traces.specs.declared.event.EventId.{EventId}
 use Rattle.engine.specs.Solver.{SolverLists}
@@ -176,7 +179,7 @@ room_by_count d accepted kept answers held count n more r same counted n_is r_is
     r_is ∙ ap (λ (m : ℕ). nat_le (m + n) (2 ^ 21)) all ∙ ap (λ (m : ℕ). nat_le (event_count (seen_in accepted) + m) (2 ^ 21)) n_is
 
 -- there is room for so many more
-pub fits : (held n more : ℕ) → n ≡ more → held + more ≤ 2 ^ 21 → nat_le (held + n) (2 ^ 21) ≡ true
+fits : (held n more : ℕ) → n ≡ more → held + more ≤ 2 ^ 21 → nat_le (held + n) (2 ^ 21) ≡ true
 fits held n more n_is few = ap (λ (m : ℕ). nat_le (held + m) (2 ^ 21)) n_is ∙ le_true_back (held + more) few
   where
     le_true_back : (m : ℕ) → m ≤ 2 ^ 21 → nat_le m (2 ^ 21) ≡ true
@@ -200,7 +203,7 @@ pub record Extended (d : Declaration) (accepted new : List Accepted) (kept : Lis
   pub room : nat_le (event_count (seen_in accepted) + length events) (2 ^ 21) ≡ true
   pub grew : IsGrownAt (map under_of accepted) (map under_of new) k events size stream
 
-pub extended : (d : Declaration) (accepted taken new : List Accepted) (kept : List EventId) (answers : Option SolverLists) (held : Held) (k n count : ℕ) (events : List Seen) (size : ℕ) (stream : Stream) (r : Bool) →
+extended : (d : Declaration) (accepted taken new : List Accepted) (kept : List EventId) (answers : Option SolverLists) (held : Held) (k n count : ℕ) (events : List Seen) (size : ℕ) (stream : Stream) (r : Bool) →
     held_of d accepted kept answers ≡ held → k < length held.under →
     HasPlace held.under k size → IsStreamWithin held.under k size stream → n ≡ length events → count ≡ event_count (seen_held held.under) → r ≡ nat_le (count + n) (2 ^ 21) → r ≡ true → taken ≡ accepted →
     IsGrownAt (map under_of taken) (map under_of new) k events size stream → Extended d accepted new kept answers held k events size stream
@@ -320,12 +323,12 @@ whole_kept d accepted kept kept' before ready a declared held lawful answers = (
 )
 
 -- so there are no more events than a session has
-pub whole_few : (d : Declaration) (accepted new : List Accepted) (kept : List EventId) (before : Option SolverLists) (held : Held) (k : ℕ) (events : List Seen) (size : ℕ) (stream : Stream) →
+whole_few : (d : Declaration) (accepted new : List Accepted) (kept : List EventId) (before : Option SolverLists) (held : Held) (k : ℕ) (events : List Seen) (size : ℕ) (stream : Stream) →
     Extended d accepted new kept before held k events size stream → IsWithinLimits (held_of d accepted kept before) → event_count (seen_in new) ≤ 2 ^ 21
 whole_few d accepted new kept before held k events size stream e was = accepted_few d new kept None (held_extended d accepted new kept before held k events size stream e None was)
 
 -- ---- what the graph is brought
-pub brings : (accepted new : List Accepted) (k more : ℕ) (events : List Seen) (size : ℕ) (stream : Stream) → IsGrownAt (map under_of accepted) (map under_of new) k events size stream → more ≡ length events →
+brings : (accepted new : List Accepted) (k more : ℕ) (events : List Seen) (size : ℕ) (stream : Stream) → IsGrownAt (map under_of accepted) (map under_of new) k events size stream → more ≡ length events →
     Brings (seen_in accepted) (seen_in new) k more
 brings accepted new k more events size stream grew count =
     let before : seen_held (map under_of accepted) ≡ seen_in accepted = seen_accepted accepted in
@@ -335,4 +338,36 @@ brings accepted new k more events size stream grew count =
       count = sym count;
       was = subst (λ (x : List (List Seen)). slice_get x k ≡ Some grew.at.events) before (seen_then_at accepted new k events size stream grew);
       is = sym (seen_accepted new) ∙ seen_then_is accepted new k events size stream grew ∙ ap (λ (x : List (List Seen)). slice_set x k (grew.at.events ++ events)) before;
+    }
+
+-- ---- what is known once the label has the events
+-- the events stand behind those of the label, in the vector too, and the graph is to be brought them
+pub record HasExtended {Z : Type 0} (d : Declaration) (accepted : Vec Accepted Z) (new : List Accepted) (kept : List EventId) (before : Option SolverLists) (held : Held) (k n : ℕ) (events : List Seen) (size : ℕ)
+    (stream : Stream) : Type 0 where
+  pub is : Extended d accepted.items new kept before held k events size stream
+  pub back : (with_items accepted new).items ≡ new
+  pub count : n ≡ length events
+  pub inside : k < length (with_items accepted new).items
+  pub few : event_count (seen_in (with_items accepted new).items) ≤ 2 ^ 21
+  pub brought : Brings (seen_in accepted.items) (seen_in (with_items accepted new).items) k n
+
+pub has_extended : {Z : Type 0} (d : Declaration) (accepted : Vec Accepted Z) (taken new : List Accepted) (kept : List EventId) (before : Option SolverLists) (held : Held) (k n : ℕ) (events : List Event) (size : ℕ) (stream : Stream) →
+    held_of d accepted.items kept before ≡ held → k < length held.under → HasPlace held.under k size → IsStreamWithin held.under k size stream → n ≡ length events →
+    event_count (seen_held held.under) + length events ≤ 2 ^ 21 → taken ≡ accepted.items → IsGrownAt (map under_of taken) (map under_of new) k (seen_events events) size stream → length new ≡ length taken →
+    IsWithinLimits (held_of d accepted.items kept before) → HasExtended d accepted new kept before held k n (seen_events events) size stream
+has_extended d accepted taken new kept before held k n events size stream same inside place within n_is room taken_is grown long limits =
+    let more = seen_events events in
+    let held_count = event_count (seen_held held.under) in
+    let count : n ≡ length more = n_is ∙ sym (length-map events seen_event) in
+    let e : Extended d accepted.items new kept before held k more size stream =
+    extended d accepted.items taken new kept before held k n held_count more size stream (nat_le (held_count + n) (2 ^ 21)) same inside place within count refl refl (fits held_count n (length events) n_is room) taken_is grown in
+    let back = with_items_is accepted new (long ∙ ap length taken_is ∙ sym accepted.ok.0) in
+    let under : k < length (map under_of accepted.items) = subst (λ (h : Held). k < length h.under) (sym same) inside in
+    record {
+      is = e;
+      back = back;
+      count = count;
+      inside = omega (arith, under, length-map accepted.items under_of, ap length back, long, ap length taken_is);
+      few = subst (λ (l : List Accepted). event_count (seen_in l) ≤ 2 ^ 21) (sym back) (whole_few d accepted.items new kept before held k more size stream e limits);
+      brought = subst (λ (l : List Accepted). Brings (seen_in accepted.items) (seen_in l) k n) (sym back) (brings accepted.items new k n more size stream e.grew count);
     }

@@ -1,8 +1,8 @@
-use Rattle.std.proofs.Common.{◌≡◌, ◌∙◌, refl, ◌^◌, ◌≤◌, ◌<◌, sym, ap, subst, List, length, map, true, false, rules, arith}
+use Rattle.std.proofs.Common.{◌≡◌, ◌∙◌, refl, ◌^◌, ◌≤◌, ◌<◌, sym, ap, subst, List, length, map, true, false, rules}
 use Rattle.std.specs.Vec.{with_items}
-use Rattle.std.proofs.lemmas.List.{length-map, with_items_is}
+use Rattle.std.proofs.lemmas.List.{with_items_is}
 use Rattle.decl.specs.Declaration.{Declaration}
-use Rattle.trace_event.specs.Seen.{Seen, seen_event, seen_events}
+use Rattle.trace_event.specs.Seen.{Seen, seen_events}
 use Rattle.traces.specs.declared.accepted.Accepted.{Accepted}
 use Rattle.traces.specs.Traces.{event_count}
 use Rattle.traces.specs.Held.{seen_in}
@@ -10,7 +10,7 @@ use Rattle.traces.specs.Messages.{problem_of_seen}
 use Rattle.event_match.specs.Ends.{IsChange}
 use Rattle.queries.specs.Consistent.{IsConsistent}
 use Rattle.replies.specs.Outcomes.{IsLineOf, outcome_line}
-use Rattle.session.specs.Stands.{Held, held_of, problem_held, seen_held, solver_of, under_of}
+use Rattle.session.specs.Stands.{Held, held_of, problem_held, solver_of, under_of}
 use Rattle.ready_answers.specs.Ready.{AreAnswersOf}
 use Rattle.ready_answers.specs.Keeping.{Brings}
 use Rattle.session.specs.Inside.{AcceptAnswered, HasPlace}
@@ -18,7 +18,7 @@ use Rattle.session.proofs.AddedThere.{where_weaker}
 use Rattle.session.proofs.Holding.{limits, seen_accepted}
 use Rattle.session.proofs.Standby.{ready_of}
 use Rattle.session.proofs.Additions.{added_so}
-use Rattle.session.proofs.Accepting.{extended, fits, added_in, whole_same, whole_grown, whole_few, brings, never_ready}
+use Rattle.session.proofs.Accepting.{has_extended, added_in, whole_same, whole_grown, never_ready}
 use Rattle.session.proofs.session.Session.accept.Goals as goal
 
 pub extend-requires-clause-place : goal.extend-requires-clause-place
@@ -28,56 +28,27 @@ extend-requires-clause-place g c =
 
 pub renew-requires-clause-inside : goal.renew-requires-clause-inside
 renew-requires-clause-inside g c =
-    let len : c.len-more.result ≡ length c.args.events.items = search rules in
-    let count : c.len-more.result ≡ length (seen_events c.args.events.items) = len ∙ sym (length-map c.args.events.items seen_event) in
-    let fit = fits (event_count (seen_held c.args.self.now.under)) c.len-more.result (length c.args.events.items) len c.requires.room in
-    let d = c.self.inside.answers.graph.roster.declaration in
-    let before = solver_of c.self.inside.ready c.self.inside.answers in
-    let e = extended d c.self.inside.accepted.items _ c.extend.new.accepted c.self.inside.kept.items before c.args.self.now c.args.k _ _
-    (seen_events c.args.events.items) c.args.size c.args.stream _ c.self.view_is c.requires.inside c.requires.place c.requires.within count refl refl fit
-    c.deref_mut.ensures.value c.in_ok-extend.ensures.grown in
-    let long : length c.extend.new.accepted ≡ c.self.inside.accepted.len = c.in_ok-extend.ensures.len ∙ ap length c.deref_mut.ensures.value ∙ sym c.self.inside.accepted.ok.0 in
-    let back : (with_items c.self.inside.accepted c.extend.new.accepted).items ≡ c.extend.new.accepted = with_items_is c.self.inside.accepted c.extend.new.accepted long in
-    let under : c.args.k < length (map under_of c.self.inside.accepted.items) = subst (λ (h : Held). c.args.k < length h.under) (sym c.self.view_is) c.requires.inside in
-    let many = length-map c.self.inside.accepted.items under_of in
-    let all : length c.deref.result.now ≡ length c.self.inside.accepted.items = ap length (c.deref.ensures.value ∙ back) ∙ c.in_ok-extend.ensures.len ∙ ap length c.deref_mut.ensures.value in
-    omega (arith, under, many, all)
+    let h = has_extended c.self.inside.answers.graph.roster.declaration c.self.inside.accepted c.deref_mut.result.now c.extend.new.accepted c.self.inside.kept.items (solver_of c.self.inside.ready c.self.inside.answers)
+    c.args.self.now c.args.k c.len-more.result c.args.events.items c.args.size c.args.stream c.self.view_is c.requires.inside c.requires.place c.requires.within (search rules) c.requires.room
+    c.deref_mut.ensures.value c.in_ok-extend.ensures.grown c.in_ok-extend.ensures.len (limits c.self.invariant.0) in
+    subst (λ (l : List Accepted). c.args.k < length l) (sym c.deref.ensures.value) h.inside
 
 pub renew-requires-clause-few : goal.renew-requires-clause-few
 renew-requires-clause-few g c =
-    let len : c.len-more.result ≡ length c.args.events.items = search rules in
-    let count : c.len-more.result ≡ length (seen_events c.args.events.items) = len ∙ sym (length-map c.args.events.items seen_event) in
-    let fit = fits (event_count (seen_held c.args.self.now.under)) c.len-more.result (length c.args.events.items) len c.requires.room in
-    let d = c.self.inside.answers.graph.roster.declaration in
-    let before = solver_of c.self.inside.ready c.self.inside.answers in
-    let e = extended d c.self.inside.accepted.items _ c.extend.new.accepted c.self.inside.kept.items before c.args.self.now c.args.k _ _
-    (seen_events c.args.events.items) c.args.size c.args.stream _ c.self.view_is c.requires.inside c.requires.place c.requires.within count refl refl fit
-    c.deref_mut.ensures.value c.in_ok-extend.ensures.grown in
-    let long : length c.extend.new.accepted ≡ c.self.inside.accepted.len = c.in_ok-extend.ensures.len ∙ ap length c.deref_mut.ensures.value ∙ sym c.self.inside.accepted.ok.0 in
-    let back : (with_items c.self.inside.accepted c.extend.new.accepted).items ≡ c.extend.new.accepted = with_items_is c.self.inside.accepted c.extend.new.accepted long in
-    subst (λ (l : List Accepted). event_count (seen_in l) ≤ 2 ^ 21) (sym (c.deref.ensures.value ∙ back))
-    (whole_few d c.self.inside.accepted.items c.extend.new.accepted c.self.inside.kept.items before c.args.self.now c.args.k (seen_events c.args.events.items) c.args.size c.args.stream e (limits c.self.invariant.0))
+    let h = has_extended c.self.inside.answers.graph.roster.declaration c.self.inside.accepted c.deref_mut.result.now c.extend.new.accepted c.self.inside.kept.items (solver_of c.self.inside.ready c.self.inside.answers)
+    c.args.self.now c.args.k c.len-more.result c.args.events.items c.args.size c.args.stream c.self.view_is c.requires.inside c.requires.place c.requires.within (search rules) c.requires.room
+    c.deref_mut.ensures.value c.in_ok-extend.ensures.grown c.in_ok-extend.ensures.len (limits c.self.invariant.0) in
+    subst (λ (l : List Accepted). event_count (seen_in l) ≤ 2 ^ 21) (sym c.deref.ensures.value) h.few
 
 pub renew-requires-clause-brings : goal.renew-requires-clause-brings
 renew-requires-clause-brings g c =
-    let len : c.len-more.result ≡ length c.args.events.items = search rules in
-    let count : c.len-more.result ≡ length (seen_events c.args.events.items) = len ∙ sym (length-map c.args.events.items seen_event) in
-    let fit = fits (event_count (seen_held c.args.self.now.under)) c.len-more.result (length c.args.events.items) len c.requires.room in
-    let d = c.self.inside.answers.graph.roster.declaration in
-    let before = solver_of c.self.inside.ready c.self.inside.answers in
-    let e = extended d c.self.inside.accepted.items _ c.extend.new.accepted c.self.inside.kept.items before c.args.self.now c.args.k _ _
-    (seen_events c.args.events.items) c.args.size c.args.stream _ c.self.view_is c.requires.inside c.requires.place c.requires.within count refl refl fit
-    c.deref_mut.ensures.value c.in_ok-extend.ensures.grown in
-    let long : length c.extend.new.accepted ≡ c.self.inside.accepted.len = c.in_ok-extend.ensures.len ∙ ap length c.deref_mut.ensures.value ∙ sym c.self.inside.accepted.ok.0 in
-    let back : (with_items c.self.inside.accepted c.extend.new.accepted).items ≡ c.extend.new.accepted = with_items_is c.self.inside.accepted c.extend.new.accepted long in
-    let same : c.deref.result.now ≡ c.extend.new.accepted = c.deref.ensures.value ∙ back in
-    let more : Brings (seen_in c.self.inside.accepted.items) (seen_in c.extend.new.accepted) c.args.k c.len-more.result =
-    brings c.self.inside.accepted.items c.extend.new.accepted c.args.k c.len-more.result (seen_events c.args.events.items) c.args.size c.args.stream e.grew count in
+    let h = has_extended c.self.inside.answers.graph.roster.declaration c.self.inside.accepted c.deref_mut.result.now c.extend.new.accepted c.self.inside.kept.items (solver_of c.self.inside.ready c.self.inside.answers)
+    c.args.self.now c.args.k c.len-more.result c.args.events.items c.args.size c.args.stream c.self.view_is c.requires.inside c.requires.place c.requires.within (search rules) c.requires.room
+    c.deref_mut.ensures.value c.in_ok-extend.ensures.grown c.in_ok-extend.ensures.len (limits c.self.invariant.0) in
     let ready : c.self.inside.ready ≡ true = ready_of c.args.self.now c.self.inside.ready c.self.inside.answers (ap (λ (h : Held). h.answers) c.self.view_is) c.requires.ready in
-    let are = c.self.invariant.2 ready in
     let here : Brings (seen_in c.self.inside.accepted.items) (seen_in c.deref.result.now) c.args.k c.len-more.result =
-    subst (λ (l : List Accepted). Brings (seen_in c.self.inside.accepted.items) (seen_in l) c.args.k c.len-more.result) (sym same) more in
-    (seen_in c.self.inside.accepted.items, c.self.inside.kept.items, are, here)
+    subst (λ (l : List Accepted). Brings (seen_in c.self.inside.accepted.items) (seen_in l) c.args.k c.len-more.result) (sym c.deref.ensures.value) h.brought in
+    (seen_in c.self.inside.accepted.items, c.self.inside.kept.items, c.self.invariant.2 ready, here)
 
 pub invariant_of-self : goal.invariant_of-self
 invariant_of-self g c =
@@ -91,67 +62,45 @@ invariant_of-self g c =
 
 pub invariant_of-self-in_err-renewed : goal.invariant_of-self-in_err-renewed
 invariant_of-self-in_err-renewed g c =
-    let len : c.len-more.result ≡ length c.args.events.items = search rules in
-    let count : c.len-more.result ≡ length (seen_events c.args.events.items) = len ∙ sym (length-map c.args.events.items seen_event) in
-    let fit = fits (event_count (seen_held c.args.self.now.under)) c.len-more.result (length c.args.events.items) len c.requires.room in
     let d = c.self.inside.answers.graph.roster.declaration in
     let before = solver_of c.self.inside.ready c.self.inside.answers in
-    let e = extended d c.self.inside.accepted.items _ c.extend.new.accepted c.self.inside.kept.items before c.args.self.now c.args.k _ _
-    (seen_events c.args.events.items) c.args.size c.args.stream _ c.self.view_is c.requires.inside c.requires.place c.requires.within count refl refl fit
-    c.deref_mut.ensures.value c.in_ok-extend.ensures.grown in
-    let long : length c.extend.new.accepted ≡ c.self.inside.accepted.len = c.in_ok-extend.ensures.len ∙ ap length c.deref_mut.ensures.value ∙ sym c.self.inside.accepted.ok.0 in
-    let back : (with_items c.self.inside.accepted c.extend.new.accepted).items ≡ c.extend.new.accepted = with_items_is c.self.inside.accepted c.extend.new.accepted long in
+    let h = has_extended d c.self.inside.accepted c.deref_mut.result.now c.extend.new.accepted c.self.inside.kept.items before
+    c.args.self.now c.args.k c.len-more.result c.args.events.items c.args.size c.args.stream c.self.view_is c.requires.inside c.requires.place c.requires.within (search rules) c.requires.room
+    c.deref_mut.ensures.value c.in_ok-extend.ensures.grown c.in_ok-extend.ensures.len (limits c.self.invariant.0) in
     let then = (with_items c.self.inside.accepted c.extend.new.accepted).items in
     whole_grown d c.self.inside.accepted.items c.extend.new.accepted then c.self.inside.kept.items before false c.renew.new.answers c.args.self.now c.args.k (seen_events c.args.events.items) c.args.size c.args.stream
-    e c.renew.ensures.declaration back (limits c.self.invariant.0) c.self.invariant.1
+    h.is c.renew.ensures.declaration h.back (limits c.self.invariant.0) c.self.invariant.1
     (never_ready false (AreAnswersOf (seen_in then) c.self.inside.kept.items c.renew.new.answers) refl)
 
 pub invariant_of-self-2 : goal.invariant_of-self-2
 invariant_of-self-2 g c =
-    let len : c.len-more.result ≡ length c.args.events.items = search rules in
-    let count : c.len-more.result ≡ length (seen_events c.args.events.items) = len ∙ sym (length-map c.args.events.items seen_event) in
-    let fit = fits (event_count (seen_held c.args.self.now.under)) c.len-more.result (length c.args.events.items) len c.requires.room in
     let d = c.self.inside.answers.graph.roster.declaration in
     let before = solver_of c.self.inside.ready c.self.inside.answers in
-    let e = extended d c.self.inside.accepted.items _ c.extend.new.accepted c.self.inside.kept.items before c.args.self.now c.args.k _ _
-    (seen_events c.args.events.items) c.args.size c.args.stream _ c.self.view_is c.requires.inside c.requires.place c.requires.within count refl refl fit
-    c.deref_mut.ensures.value c.in_ok-extend.ensures.grown in
-    let long : length c.extend.new.accepted ≡ c.self.inside.accepted.len = c.in_ok-extend.ensures.len ∙ ap length c.deref_mut.ensures.value ∙ sym c.self.inside.accepted.ok.0 in
-    let back : (with_items c.self.inside.accepted c.extend.new.accepted).items ≡ c.extend.new.accepted = with_items_is c.self.inside.accepted c.extend.new.accepted long in
-    let same : c.deref.result.now ≡ c.extend.new.accepted = c.deref.ensures.value ∙ back in
-    let more : Brings (seen_in c.self.inside.accepted.items) (seen_in c.extend.new.accepted) c.args.k c.len-more.result =
-    brings c.self.inside.accepted.items c.extend.new.accepted c.args.k c.len-more.result (seen_events c.args.events.items) c.args.size c.args.stream e.grew count in
-    let ready : c.self.inside.ready ≡ true = ready_of c.args.self.now c.self.inside.ready c.self.inside.answers (ap (λ (h : Held). h.answers) c.self.view_is) c.requires.ready in
-    let are = c.self.invariant.2 ready in
-    let here : Brings (seen_in c.self.inside.accepted.items) (seen_in c.deref.result.now) c.args.k c.len-more.result =
-    subst (λ (l : List Accepted). Brings (seen_in c.self.inside.accepted.items) (seen_in l) c.args.k c.len-more.result) (sym same) more in
     let kept = c.self.inside.kept.items in
+    let h = has_extended d c.self.inside.accepted c.deref_mut.result.now c.extend.new.accepted kept before
+    c.args.self.now c.args.k c.len-more.result c.args.events.items c.args.size c.args.stream c.self.view_is c.requires.inside c.requires.place c.requires.within (search rules) c.requires.room
+    c.deref_mut.ensures.value c.in_ok-extend.ensures.grown c.in_ok-extend.ensures.len (limits c.self.invariant.0) in
     let then = (with_items c.self.inside.accepted c.extend.new.accepted).items in
+    let ready : c.self.inside.ready ≡ true = ready_of c.args.self.now c.self.inside.ready c.self.inside.answers (ap (λ (h : Held). h.answers) c.self.view_is) c.requires.ready in
+    let here : Brings (seen_in c.self.inside.accepted.items) (seen_in c.deref.result.now) c.args.k c.len-more.result =
+    subst (λ (l : List Accepted). Brings (seen_in c.self.inside.accepted.items) (seen_in l) c.args.k c.len-more.result) (sym c.deref.ensures.value) h.brought in
     let done : AreAnswersOf (seen_in then) kept c.renew.new.answers =
-    subst (λ (l : List Accepted). AreAnswersOf (seen_in l) kept c.renew.new.answers) c.deref.ensures.value (c.in_ok-renewed.ensures.ready (seen_in c.self.inside.accepted.items) kept are here) in
+    subst (λ (l : List Accepted). AreAnswersOf (seen_in l) kept c.renew.new.answers) c.deref.ensures.value (c.in_ok-renewed.ensures.ready (seen_in c.self.inside.accepted.items) kept (c.self.invariant.2 ready) here) in
     whole_grown d c.self.inside.accepted.items c.extend.new.accepted then kept before true c.renew.new.answers c.args.self.now c.args.k (seen_events c.args.events.items) c.args.size c.args.stream
-    e c.renew.ensures.declaration back (limits c.self.invariant.0) c.self.invariant.1 (λ is. done)
+    h.is c.renew.ensures.declaration h.back (limits c.self.invariant.0) c.self.invariant.1 (λ is. done)
 
 pub returns-clause-answers : goal.returns-clause-answers
 returns-clause-answers g c =
-    let len : c.len-more.result ≡ length c.args.events.items = search rules in
-    let count : c.len-more.result ≡ length (seen_events c.args.events.items) = len ∙ sym (length-map c.args.events.items seen_event) in
-    let fit = fits (event_count (seen_held c.args.self.now.under)) c.len-more.result (length c.args.events.items) len c.requires.room in
     let d = c.self.inside.answers.graph.roster.declaration in
     let before = solver_of c.self.inside.ready c.self.inside.answers in
-    let e = extended d c.self.inside.accepted.items _ c.extend.new.accepted c.self.inside.kept.items before c.args.self.now c.args.k _ _
-    (seen_events c.args.events.items) c.args.size c.args.stream _ c.self.view_is c.requires.inside c.requires.place c.requires.within count refl refl fit
-    c.deref_mut.ensures.value c.in_ok-extend.ensures.grown in
-    let long : length c.extend.new.accepted ≡ c.self.inside.accepted.len = c.in_ok-extend.ensures.len ∙ ap length c.deref_mut.ensures.value ∙ sym c.self.inside.accepted.ok.0 in
-    let back : (with_items c.self.inside.accepted c.extend.new.accepted).items ≡ c.extend.new.accepted = with_items_is c.self.inside.accepted c.extend.new.accepted long in
-    let same : c.deref.result.now ≡ c.extend.new.accepted = c.deref.ensures.value ∙ back in
-    let more : Brings (seen_in c.self.inside.accepted.items) (seen_in c.extend.new.accepted) c.args.k c.len-more.result =
-    brings c.self.inside.accepted.items c.extend.new.accepted c.args.k c.len-more.result (seen_events c.args.events.items) c.args.size c.args.stream e.grew count in
-    let ready : c.self.inside.ready ≡ true = ready_of c.args.self.now c.self.inside.ready c.self.inside.answers (ap (λ (h : Held). h.answers) c.self.view_is) c.requires.ready in
-    let are = c.self.invariant.2 ready in
-    let here : Brings (seen_in c.self.inside.accepted.items) (seen_in c.deref.result.now) c.args.k c.len-more.result =
-    subst (λ (l : List Accepted). Brings (seen_in c.self.inside.accepted.items) (seen_in l) c.args.k c.len-more.result) (sym same) more in
     let kept = c.self.inside.kept.items in
+    let h = has_extended d c.self.inside.accepted c.deref_mut.result.now c.extend.new.accepted kept before
+    c.args.self.now c.args.k c.len-more.result c.args.events.items c.args.size c.args.stream c.self.view_is c.requires.inside c.requires.place c.requires.within (search rules) c.requires.room
+    c.deref_mut.ensures.value c.in_ok-extend.ensures.grown c.in_ok-extend.ensures.len (limits c.self.invariant.0) in
+    let same : c.deref.result.now ≡ c.extend.new.accepted = c.deref.ensures.value ∙ h.back in
+    let ready : c.self.inside.ready ≡ true = ready_of c.args.self.now c.self.inside.ready c.self.inside.answers (ap (λ (h : Held). h.answers) c.self.view_is) c.requires.ready in
+    let here : Brings (seen_in c.self.inside.accepted.items) (seen_in c.deref.result.now) c.args.k c.len-more.result =
+    subst (λ (l : List Accepted). Brings (seen_in c.self.inside.accepted.items) (seen_in l) c.args.k c.len-more.result) (sym c.deref.ensures.value) h.brought in
     let after = solver_of true c.renew.new.answers in
     let p = problem_of_seen d (seen_in c.extend.new.accepted) in
     let problem : p ≡ problem_held (held_of d c.extend.new.accepted kept after) = ap (λ (x : List (List Seen)). problem_of_seen d x) (sym (seen_accepted c.extend.new.accepted)) in
@@ -159,26 +108,21 @@ returns-clause-answers g c =
     subst (λ (x : Declaration). IsConsistent (problem_of_seen x (seen_in c.extend.new.accepted)) c.in_ok-renewed.renewed.consistent) c.renew.ensures.declaration
     (subst (λ (l : List Accepted). IsConsistent (problem_of_seen c.renew.new.answers.graph.roster.declaration (seen_in l)) c.in_ok-renewed.renewed.consistent) same c.in_ok-renewed.ensures.consistent) in
     let change : IsChange (seen_in c.self.inside.accepted.items) (seen_in c.extend.new.accepted) c.in_ok-renewed.renewed.changed =
-    subst (λ (l : List Accepted). IsChange (seen_in c.self.inside.accepted.items) (seen_in l) c.in_ok-renewed.renewed.changed) same (c.in_ok-renewed.ensures.changed (seen_in c.self.inside.accepted.items) kept are here) in
+    subst (λ (l : List Accepted). IsChange (seen_in c.self.inside.accepted.items) (seen_in l) c.in_ok-renewed.renewed.changed) same
+    (c.in_ok-renewed.ensures.changed (seen_in c.self.inside.accepted.items) kept (c.self.invariant.2 ready) here) in
     subst (λ (x : Declaration). AcceptAnswered c.args.self.now (held_of x (with_items c.self.inside.accepted c.extend.new.accepted).items kept after) c.args.k (seen_events c.args.events.items) c.args.size c.args.stream (IsLineOf c.outcome_of.result)) (sym c.renew.ensures.declaration)
-    (subst (λ (l : List Accepted). AcceptAnswered c.args.self.now (held_of d l kept after) c.args.k (seen_events c.args.events.items) c.args.size c.args.stream (IsLineOf c.outcome_of.result)) (sym back)
-    (added_in d c.self.inside.accepted.items c.extend.new.accepted kept before c.args.self.now c.args.k (seen_events c.args.events.items) c.args.size c.args.stream e p c.in_ok-renewed.renewed.changed c.len-more.result c.waiting-pending.result after (IsLineOf c.outcome_of.result)
-    problem change count c.waiting-pending.ensures (outcome_line c.outcome_of.result, c.outcome_of.ensures.line p consistent, refl)))
+    (subst (λ (l : List Accepted). AcceptAnswered c.args.self.now (held_of d l kept after) c.args.k (seen_events c.args.events.items) c.args.size c.args.stream (IsLineOf c.outcome_of.result)) (sym h.back)
+    (added_in d c.self.inside.accepted.items c.extend.new.accepted kept before c.args.self.now c.args.k (seen_events c.args.events.items) c.args.size c.args.stream h.is p c.in_ok-renewed.renewed.changed c.len-more.result c.waiting-pending.result after (IsLineOf c.outcome_of.result)
+    problem change h.count c.waiting-pending.ensures (outcome_line c.outcome_of.result, c.outcome_of.ensures.line p consistent, refl)))
 
 pub returns-clause-room : goal.returns-clause-room
 returns-clause-room g c = where_weaker c.outcome_of.result (λ there. c.requires.room) c.outcome_of.ensures.added
 
 pub returns-clause-addition : goal.returns-clause-addition
 returns-clause-addition g c =
-    let len : c.len-more.result ≡ length c.args.events.items = search rules in
-    let count : c.len-more.result ≡ length (seen_events c.args.events.items) = len ∙ sym (length-map c.args.events.items seen_event) in
-    let fit = fits (event_count (seen_held c.args.self.now.under)) c.len-more.result (length c.args.events.items) len c.requires.room in
     let d = c.self.inside.answers.graph.roster.declaration in
-    let before = solver_of c.self.inside.ready c.self.inside.answers in
-    let e = extended d c.self.inside.accepted.items _ c.extend.new.accepted c.self.inside.kept.items before c.args.self.now c.args.k _ _
-    (seen_events c.args.events.items) c.args.size c.args.stream _ c.self.view_is c.requires.inside c.requires.place c.requires.within count refl refl fit
-    c.deref_mut.ensures.value c.in_ok-extend.ensures.grown in
-    let long : length c.extend.new.accepted ≡ c.self.inside.accepted.len = c.in_ok-extend.ensures.len ∙ ap length c.deref_mut.ensures.value ∙ sym c.self.inside.accepted.ok.0 in
-    let back : (with_items c.self.inside.accepted c.extend.new.accepted).items ≡ c.extend.new.accepted = with_items_is c.self.inside.accepted c.extend.new.accepted long in
+    let h = has_extended d c.self.inside.accepted c.deref_mut.result.now c.extend.new.accepted c.self.inside.kept.items (solver_of c.self.inside.ready c.self.inside.answers)
+    c.args.self.now c.args.k c.len-more.result c.args.events.items c.args.size c.args.stream c.self.view_is c.requires.inside c.requires.place c.requires.within (search rules) c.requires.room
+    c.deref_mut.ensures.value c.in_ok-extend.ensures.grown c.in_ok-extend.ensures.len (limits c.self.invariant.0) in
     added_so d c.renew.new.answers.graph.roster.declaration c.self.inside.accepted.items c.extend.new.accepted (with_items c.self.inside.accepted c.extend.new.accepted).items c.self.inside.kept.items c.self.inside.ready
-    c.self.inside.answers c.renew.new.answers c.args.self.now c.args.k c.len-more.result (seen_events c.args.events.items) c.args.size c.args.stream c.args.steps.now c.renew.new.steps e back count c.in_ok-renewed.ensures.addition
+    c.self.inside.answers c.renew.new.answers c.args.self.now c.args.k c.len-more.result (seen_events c.args.events.items) c.args.size c.args.stream c.args.steps.now c.renew.new.steps h.is h.back h.count c.in_ok-renewed.ensures.addition
