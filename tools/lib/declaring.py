@@ -180,8 +180,8 @@ class Declaring:
         """Returns a link for each two hosts, both ways."""
         if len(self.hosts) < 2:
             return []
-        lines = ["", "# Nothing arrives in the instant in which it was sent, so `least` is 1 ns. If you know the way, write more: light needs 5,000 ns",
-                 "# for each km of fibre. `most` is left out: a packet may take as long as it likes. One that is too small spoils every answer."]  # fmt: skip
+        lines = ["", "# Nothing arrives in the instant in which it was sent, so `least` is 1 ns. If you know the way, write more: light needs at least",
+                 "# 4,800 ns for each km of fibre. `most` is left out: a packet may take as long as it likes. One that is too small spoils every answer."]  # fmt: skip
         for one in self.hosts:
             for other in self.hosts:
                 if one != other:
