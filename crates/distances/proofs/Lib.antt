@@ -5,3 +5,4 @@ pub mod Popping
 pub mod Beginning
 pub mod Repairing
 pub mod Pushed
+pub mod Stopping

@@ -1,3 +1,4 @@
 pub mod Facing
 pub mod Relaxed
 pub mod Changes
+pub mod Reaches

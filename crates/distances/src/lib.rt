@@ -7,11 +7,13 @@
 //! shortens, and no other.
 #![tactic(auto)]
 
+mod reach;
 mod relax;
 mod repair;
 mod row;
 mod settle;
 
+pub use reach::{reach_from, reach_to};
 pub use relax::{far_end, next_arc, relax_arc, relax_arcs};
 pub use repair::{repair_from, repair_to};
 pub use row::{row_from, row_to};

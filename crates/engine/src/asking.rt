@@ -6,7 +6,6 @@ ghost use Rattle.frontier.specs.Keys.{IsEmpty};
 ghost use Rattle.sync_graph.specs.Graph.{table_of};
 ghost use Rattle.sync_graph.specs.InForce.{IsEarliestOf};
 ghost use Rattle.row_pool.specs.Row.{cells_of};
-ghost use Rattle.row_pool.specs.Reach.{reach_of};
 ghost use Rattle.row_pool.specs.Pool.{free_rows};
 ghost use Rattle.repair.specs.declared.slot.Slot as slots;
 ghost use Rattle.repair.specs.Slots.{slot_of};
@@ -16,10 +15,10 @@ ghost use Rattle.engine.specs.Current.{IsCurrent};
 
 use crate::solver::Solver;
 use atto::Steps;
-use distances::{row_from, row_to};
+use distances::{reach_from, reach_to};
 use earliest::Earliest;
 use frontier::Frontier;
-use row_pool::{Cell, Pair, Reach};
+use row_pool::{Cell, Pair};
 use std::sync::ledger::Ledger;
 use sync_graph::Graph;
 
@@ -106,7 +105,7 @@ impl Solver {
     }
 }
 
-// The greatest differences of two nodes, by rows that are made in this one.
+// The greatest differences of two nodes, by two searches in this row that end as soon as they know.
 fn pair_by<L: Ledger>(
     g: &Graph,
     e: &Earliest,
@@ -128,20 +127,9 @@ fn pair_by<L: Ledger>(
     ensures empty { IsEmpty front.new }
     ensures room { length front.new ≡ length front.old }
 {
-    g.exact();
-    row_from(g, e, p, row, front, steps);
-    let up = reach_in(row, q);
-    row_to(g, e, p, row, front, steps);
-    let down = reach_in(row, q);
+    let up = reach_from(g, e, p, q, row, front, steps);
+    let down = reach_to(g, e, p, q, row, front, steps);
     Pair { up, down }
-}
-
-// The greatest difference that a row tells of a node.
-fn reach_in(row: &[Cell], node: u32) -> Reach
-    requires { node < length row.now }
-    ensures { result ≡ reach_of (cells_of row.now) node }
-{
-    row[node as usize].reach()
 }
 
 // The same differences, of the nodes the other way round.

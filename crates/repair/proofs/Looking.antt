@@ -12,7 +12,8 @@ use Rattle.row_pool.specs.Reach.{known_reach}
 use Rattle.row_pool.specs.Pool.{Pool, row_of}
 use Rattle.repair.specs.declared.slot.Slot.{Slot}
 use Rattle.repair.specs.Slots.{IsRowsOf}
-use Rattle.repair.specs.Pairs.{IsReachIn, IsPairIn, pair_in}
+use Rattle.distances.specs.Reaches.{IsReachIn}
+use Rattle.repair.specs.Pairs.{IsPairIn, pair_in}
 
 module _ (g : GraphLists) (is : IsGraph g) (xs : List ℤ) (executes : IsExecution (length g.nodes) (arcs_of g) xs) (pool : Pool) (slot : Slot)
     (rows : IsRowsOf (length g.nodes) (table_of g) pool slot) where

@@ -22,7 +22,8 @@ use Rattle.sync_graph.specs.ListedStanding.{IsNodeBy, StandsForListed}
 use Rattle.sync_graph.proofs.InForce.{in_force_below, arcs_listed, arcs_within}
 use Rattle.sync_graph.proofs.NodeNumbers.{number_below}
 use Rattle.sync_graph.proofs.ListedExecutions.{greatest_of, unbounded_of}
-use Rattle.repair.specs.Pairs.{IsReachIn, IsPairIn}
+use Rattle.distances.specs.Reaches.{IsReachIn}
+use Rattle.repair.specs.Pairs.{IsPairIn}
 use Rattle.engine.specs.Solver.{SolverLists}
 use Rattle.engine.proofs.Staying.{solved_now}
 use Rattle.solver.specs.Solution.{IsSolutionBy}

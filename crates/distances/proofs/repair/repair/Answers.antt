@@ -1,12 +1,12 @@
-use Rattle.std.proofs.Common.{◌≡◌, ℕ, ◌+◌, ◌<◌, ◌≤◌, true, false, List, length, get_or, sym, subst, ap, ◌∙◌, arith, to_z, of_z}
-use Rattle.std.specs.Prelude.{ℤ, not, ◌+ℤ◌, All}
+use Rattle.std.proofs.Common.{◌≡◌, ◌<◌, true, length, get_or, sym, subst, ap, ◌∙◌, arith, to_z, of_z}
+use Rattle.std.specs.Prelude.{not, ◌+ℤ◌, All}
 use mir.Syntax.{w128}
 use Rattle.row_pool.specs.declared.cell.Cell.{Cell}
 use Rattle.difference_bounds.specs.Numbers.{IsUpTo}
 use Rattle.difference_bounds.specs.Tables.{ObeysAll}
 use Rattle.earliest.proofs.Bounds.{worth}
 use Rattle.sync_graph.specs.Graph.{arc_at}
-use Rattle.row_pool.specs.Row.{cell_at, cells_of}
+use Rattle.row_pool.specs.Row.{cell_at}
 use Rattle.distances.specs.Facing.{facing, end_of, potential}
 use Rattle.distances.proofs.Directions.{earliest_small, potential_obeyed, facing_within}
 use Rattle.distances.proofs.Puts.{no_cell, cell_read}

@@ -1,0 +1,23 @@
+-- The greatest difference of two nodes, as the executions of a graph have it and as what obeys a table has it.
+use Rattle.std.specs.Prelude.{◌≡◌, ℕ, ℤ, ◌-ℤ◌, ◌≤ℤ◌, ◌<ℤ◌, length}
+use Rattle.difference_bounds.specs.Differences.{IsGreatest, IsUnbounded}
+use Rattle.difference_bounds.specs.Tables.{ArcTable, ObeysAll}
+use Rattle.sync_graph.specs.Graph.{GraphLists}
+use Rattle.sync_graph.specs.InForce.{arcs_of}
+use Rattle.row_pool.specs.declared.cell.Reach.{Reach}
+use Rattle.row_pool.specs.declared.cell.Reach.TheVariants.{At, Never}
+
+-- the greatest difference from one node to the other over all executions of the graph, or that they pass every number
+abbrev pub IsReachIn : GraphLists → ℕ → ℕ → Reach → Type 0
+IsReachIn g p q (At h) = IsGreatest (length g.nodes) (arcs_of g) p q h
+IsReachIn g p q Never = IsUnbounded (length g.nodes) (arcs_of g) p q
+
+-- nothing that obeys the table has more between the nodes, and something has as much
+pub record IsMostOver (table : ArcTable) (p q : ℕ) (h : ℤ) : Type 0 where
+  pub most : (x : ℕ → ℤ) → ObeysAll table x → (x q -ℤ x p) ≤ℤ h
+  pub attained : (x : ℕ → ℤ) × ObeysAll table x × (x q -ℤ x p ≡ h)
+
+-- the greatest difference over all that obeys the table, or that it passes every number
+abbrev pub IsReachOver : ArcTable → ℕ → ℕ → Reach → Type 0
+IsReachOver table p q (At h) = IsMostOver table p q h
+IsReachOver table p q Never = (h : ℤ) → (x : ℕ → ℤ) × ObeysAll table x × (h <ℤ (x q -ℤ x p))
