@@ -1,3 +1,4 @@
+pub mod Moved2
 pub mod Run
 pub mod Printing
 pub mod Refusal

@@ -3,24 +3,6 @@ use Rattle.std.specs.Prelude.{◌≡◌, ◌<◌, ◌^◌, ◌∷◌, [], ℕ, L
 use Rattle.atto.specs.Decimal.{decimal_of}
 use Rattle.commands.specs.declared.form.Form.{Form}
 use Rattle.commands.specs.declared.form.Form.TheVariants.{Obey, Solve, Ends, Verify, Session, Trial, Widen, Judge, Mergecap, Unknown}
-use Rattle.commands.specs.declared.status.Status.{Status}
-use Rattle.commands.specs.declared.status.Status.TheVariants.{Done, No, Usage, BadDecl, BadProblem, BadExec, BadCert, ReadFault, WriteFault, Memory, ScriptLimit, UnknownEvent, NoMerge}
-
--- the exit status
-abbrev pub code_of : Status → ℕ
-code_of Done = 0
-code_of No = 1
-code_of Usage = 2
-code_of BadDecl = 3
-code_of BadProblem = 4
-code_of BadExec = 5
-code_of BadCert = 6
-code_of ReadFault = 7
-code_of WriteFault = 8
-code_of Memory = 9
-code_of ScriptLimit = 10
-code_of UnknownEvent = 11
-code_of NoMerge = 12
 
 -- ---- the words
 abbrev pub obey_words : List ℕ → List ℕ → List (List ℕ)

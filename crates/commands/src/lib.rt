@@ -10,6 +10,7 @@ mod judging;
 mod merged;
 mod obey;
 mod print;
+mod moved_1;
 mod program;
 mod refusal;
 mod sessions;

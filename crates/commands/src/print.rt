@@ -10,15 +10,12 @@ ghost use Rattle.cert.specs.Listed.{IsNamed};
 ghost use Rattle.commands.specs.Refusal.{refusal_line};
 ghost use Rattle.queries.specs.Words.{end_word, order_word};
 ghost use Rattle.commands.specs.Intervals.{interval_line};
-ghost use Rattle.commands.specs.Sessions.{section_word, declaration_line};
-ghost use Rattle.commands.specs.Trials.{counts_line};
 ghost use Rattle.commands.specs.Verify.{part_word, broken_words, reason_words, no_line, NamesReason};
 
 use crate::refusal::Refusal;
 use atto::{NsText, write_ns};
 use cert::push_bound;
 use cert_check::{Part, Reason};
-use decl::Section;
 use intervals::{End, Ends, Order};
 use line_words::line::{Line, first_word, push_decimal, push_ns, push_word};
 use problem::{Bound, Problem};
@@ -189,45 +186,6 @@ pub fn no_line(p: &Problem, part: Part, reason: &Reason) -> Line
     let mut line = first_word(b"no");
     push_word(&mut line, part_word(part));
     push_reason(&mut line, p, reason);
-    line.push(b'\n');
-    line
-}
-
-// The word of a section.
-fn section_word(section: Section) -> &'static [u8]
-    ensures word { result.now ≡ section_word section }
-    ensures short { length result.now ≤ 48 }
-{
-    match section {
-        Section::Top => b"top",
-        Section::Hosts => b"hosts",
-        Section::Labels => b"labels",
-        Section::Links => b"links",
-    }
-}
-
-/// The line that says what is wrong with a declaration: the number of its first fault, the section and the index there.
-pub fn declaration_line(number: u32, section: Section, index: u32) -> Line
-    ensures { result.items ≡ declaration_line number section index }
-{
-    let mut line = first_word(b"declaration");
-    push_decimal(&mut line, u64::from(number));
-    push_word(&mut line, section_word(section));
-    push_decimal(&mut line, u64::from(index));
-    line.push(b'\n');
-    line
-}
-
-/// The line that counts the events and the messages of the trial with this number.
-pub fn counts_line(number: u32, events: u64, messages: u64) -> Line
-    ensures { result.items ≡ counts_line number events messages }
-{
-    let mut line = first_word(b"trial");
-    push_decimal(&mut line, u64::from(number));
-    push_word(&mut line, b"events");
-    push_decimal(&mut line, events);
-    push_word(&mut line, b"messages");
-    push_decimal(&mut line, messages);
     line.push(b'\n');
     line
 }

@@ -6,7 +6,7 @@ ghost use Rattle.commands.specs.Sessions.{TellsUndeclared, ClosesScript, Conduct
 
 use crate::declaration::{Undeclared, decl_in};
 use crate::ending::finish;
-use crate::print::declaration_line;
+use crate::moved_1::declaration_line;
 use crate::status::Status;
 use atto::Steps;
 use ports::{Files, Sink, Source};

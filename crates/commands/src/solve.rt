@@ -2,7 +2,7 @@
 ghost use Rattle.std.specs.Prelude.{◌≡◌, [], List, ℕ};
 ghost use Rattle.ports.specs.Content.{Writes};
 ghost use Rattle.ports.specs.Files.{Keeps};
-ghost use Rattle.solver.specs.Solution.{IsSolution};
+ghost use Rattle.solver.specs.Moved0.{IsSolution};
 ghost use Rattle.commands.specs.Printing.{Prints};
 ghost use Rattle.commands.specs.Solve.{IsEarliestText, IsSolutionText, TellsSolution, Solved};
 

@@ -5,7 +5,7 @@ ghost use Rattle.trial_session.specs.Trial.{IsTrial};
 ghost use Rattle.commands.specs.Printing.{Prints};
 ghost use Rattle.commands.specs.Trials.{counts_line, Tried};
 
-use crate::print::counts_line;
+use crate::moved_1::counts_line;
 use crate::status::Status;
 use atto::Steps;
 use ports::{Failed, Sink, write_whole};

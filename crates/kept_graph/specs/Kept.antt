@@ -5,7 +5,7 @@ use Rattle.problem_model.specs.declared.items.Bound.TheVariants.{DelayMost, Dela
 use Rattle.sync_graph.specs.Graph.{GraphLists, arc_at}
 use Rattle.row_pool.specs.Pool.{free_rows}
 use Rattle.engine.specs.Solver.{SolverLists}
-use Rattle.solver.specs.Solution.{IsSolutionBy}
+use Rattle.solver.specs.Moved0.{IsSolutionBy}
 use Rattle.trace_event.specs.Seen.{Seen}
 use Rattle.traces.specs.Messages.{problem_of_seen}
 use Rattle.traces.specs.Making.{StampsFit}

@@ -21,7 +21,7 @@ use Rattle.report.specs.declared.merge.MergeKey.{MergeKey}
 use Rattle.report.specs.Merging.{IsMergeOrder}
 use Rattle.sync_graph.proofs.NodeNumbers.{events_count}
 use Rattle.engine.specs.Solver.{SolverLists}
-use Rattle.solver.specs.Solution.{IsSolutionBy}
+use Rattle.solver.specs.Moved0.{IsSolutionBy}
 use Rattle.queries.specs.Replies.{Replies}
 use Rattle.queries.proofs.Solutions.{stands}
 use Rattle.merging.specs.Merged.{keys_from, IsMergeText}

@@ -1,7 +1,7 @@
 // All events, merged.
 ghost use Rattle.std.specs.Prelude.{◌≡◌, ◌≤◌, ◌^◌, [], true, length, IsErrOf};
 ghost use Rattle.ports.specs.Content.{WritesSuch};
-ghost use Rattle.solver.specs.Solution.{IsSolutionBy};
+ghost use Rattle.solver.specs.Moved0.{IsSolutionBy};
 ghost use Rattle.decl.specs.Declaration.{IsDeclaration, declaration_of};
 ghost use Rattle.traces.specs.Traces.{event_count};
 ghost use Rattle.traces.specs.Held.{placed_in, seen_in};

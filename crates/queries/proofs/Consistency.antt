@@ -4,7 +4,8 @@ use Rattle.problem_model.specs.Problem.{ProblemLists}
 use Rattle.problem_model.specs.Bounds.{Times, IsExecution}
 use Rattle.problem.specs.Listing.{Listed}
 use Rattle.engine.specs.Solver.{SolverLists}
-use Rattle.solver.specs.Solution.{IsSolutionBy, HasContradictionBy}
+use Rattle.solver.specs.Solution.{HasContradictionBy}
+use Rattle.solver.specs.Moved0.{IsSolutionBy}
 use Rattle.queries.specs.Consistent.{IsConsistent}
 use Rattle.queries.proofs.Solutions.{none_held}
 

@@ -18,7 +18,7 @@ use Rattle.repair.specs.declared.slot.Slot.{Slot}
 use Rattle.engine.specs.Solver.{SolverLists}
 use Rattle.engine.specs.Changes.{KeepsAnswer, LeavesTaken}
 use Rattle.engine.specs.Current.{IsCurrent}
-use Rattle.solver.specs.Solution.{IsSolutionBy}
+use Rattle.solver.specs.Moved0.{IsSolutionBy}
 use Rattle.queries.specs.Asking.{IsReadingAt, IsSourceReading}
 use Rattle.problem.proofs.OwnReadings.{own_readings}
 

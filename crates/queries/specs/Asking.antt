@@ -6,7 +6,7 @@ use Rattle.sync_graph.specs.declared.arc.Arc.{Arc}
 use Rattle.repair.specs.declared.slot.Slot.{Slot}
 use Rattle.repair.specs.Slots.{slot_of}
 use Rattle.engine.specs.Solver.{SolverLists}
-use Rattle.solver.specs.Solution.{IsSolutionBy}
+use Rattle.solver.specs.Moved0.{IsSolutionBy}
 
 -- the rows of the node are kept
 abbrev pub IsKept : SolverLists → ℕ → Type 0

@@ -1,7 +1,7 @@
 // Whether a problem has an execution.
 ghost use Rattle.problem_model.specs.Problem.{ProblemLists};
 ghost use Rattle.problem.specs.Listing.{Listed};
-ghost use Rattle.solver.specs.Solution.{IsSolutionBy};
+ghost use Rattle.solver.specs.Moved0.{IsSolutionBy};
 ghost use Rattle.queries.specs.Consistent.{IsConsistent};
 
 use engine::Solver;

@@ -8,7 +8,7 @@ ghost use Rattle.attain.specs.Ends.{AreRowsOf, AreEventNodes};
 ghost use Rattle.row_pool.specs.Pool.{free_rows};
 ghost use Rattle.engine.specs.Changes.{KeepsAnswer, LeavesTaken};
 ghost use Rattle.engine.specs.Current.{IsCurrent};
-ghost use Rattle.solver.specs.Solution.{IsSolutionBy};
+ghost use Rattle.solver.specs.Moved0.{IsSolutionBy};
 ghost use Rattle.queries.specs.Asking.{IsAtHand};
 ghost use Rattle.queries.specs.Replies.{IsProofText, Replies};
 

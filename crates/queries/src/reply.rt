@@ -11,7 +11,7 @@ ghost use Rattle.intervals.specs.Ends.{FitsPair};
 ghost use Rattle.intervals.specs.Executions.{IsPairOf};
 ghost use Rattle.engine.specs.Changes.{KeepsAnswer, LeavesTaken};
 ghost use Rattle.engine.specs.Current.{IsCurrent};
-ghost use Rattle.solver.specs.Solution.{IsSolutionBy};
+ghost use Rattle.solver.specs.Moved0.{IsSolutionBy};
 ghost use Rattle.queries.specs.Asking.{IsPairAtHand};
 ghost use Rattle.queries.specs.Replies.{IsIntervalLine, IsOrderLine, IsLineOf, Replies};
 

@@ -7,7 +7,7 @@ ghost use Rattle.ports.specs.Content.{Writes};
 ghost use Rattle.sync_graph.specs.ListedStanding.{IsEventAt};
 ghost use Rattle.intervals.specs.Ends.{FitsPair};
 ghost use Rattle.intervals.specs.Executions.{IsPairOf};
-ghost use Rattle.solver.specs.Solution.{IsSolutionBy};
+ghost use Rattle.solver.specs.Moved0.{IsSolutionBy};
 ghost use Rattle.queries.specs.Asking.{IsSourceReading};
 ghost use Rattle.queries.specs.Clocks.{KeepsTime};
 ghost use Rattle.queries.specs.Replies.{IsTimeLine, Replies};

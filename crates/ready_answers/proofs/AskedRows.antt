@@ -17,7 +17,7 @@ use Rattle.roster.specs.Roster.{RosterLists, IsRoster, Finds, listed}
 use Rattle.engine.specs.Solver.{SolverLists}
 use Rattle.engine.specs.Changes.{LeavesTaken}
 use Rattle.engine.specs.Current.{IsCurrent}
-use Rattle.solver.specs.Solution.{IsSolutionBy}
+use Rattle.solver.specs.Moved0.{IsSolutionBy}
 use Rattle.queries.specs.Asking.{IsKept, IsAtHand, IsPairAtHand, IsReadingAt, IsSourceReading}
 use Rattle.queries.specs.Clocks.{KeepsTime}
 use Rattle.queries.specs.Replies.{HasReading, IsTimeLine, Replies}

@@ -22,7 +22,7 @@ use Rattle.sync_graph.specs.ListedStanding.{StandsForListed}
 use Rattle.engine.specs.Solver.{SolverLists}
 use Rattle.engine.specs.Changes.{KeepsAnswer}
 use Rattle.engine.specs.Current.{IsCurrent}
-use Rattle.solver.specs.Solution.{IsSolutionBy}
+use Rattle.solver.specs.Moved0.{IsSolutionBy}
 use Rattle.roster.specs.Groups.{group_at}
 use Rattle.roster.specs.Readings.{Stamped, HasStamp}
 use Rattle.roster.specs.Roster.{RosterLists, listed}

@@ -11,7 +11,7 @@ use Rattle.growth.specs.Once.{IsOn}
 use Rattle.event_match.specs.Ends.{AreEndsBy}
 use Rattle.kept_graph.specs.Kept.{IsKeptFor, KeepsEvents, KeepsReadings, KeepsRows}
 use Rattle.kept_graph.specs.Steps.{IsBetween, TakesFewToAdd}
-use Rattle.solver.specs.Solution.{IsSolutionBy}
+use Rattle.solver.specs.Moved0.{IsSolutionBy}
 use Rattle.trace_event.specs.Seen.{Seen, seen_events}
 use Rattle.traces.specs.declared.accepted.Accepted.{Accepted}
 use Rattle.traces.specs.Held.{seen_in}

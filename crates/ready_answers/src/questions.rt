@@ -4,7 +4,7 @@ ghost use Rattle.problem_model.specs.Problem.{ProblemLists};
 ghost use Rattle.ports.specs.Content.{Writes};
 ghost use Rattle.row_pool.specs.Pool.{free_rows};
 ghost use Rattle.roster.specs.Roster.{listed};
-ghost use Rattle.solver.specs.Solution.{IsSolutionBy};
+ghost use Rattle.solver.specs.Moved0.{IsSolutionBy};
 ghost use Rattle.queries.specs.Clocks.{KeepsTime};
 ghost use Rattle.queries.specs.Replies.{IsIntervalLine, IsOrderLine, IsProofText};
 ghost use Rattle.replies.specs.Reply.{IsTimeReply, OfOne};

@@ -5,7 +5,7 @@ ghost use Rattle.row_pool.specs.Pool.{free_rows};
 ghost use Rattle.repair.specs.Slots.{slot_of};
 ghost use Rattle.engine.specs.Current.{IsCurrent};
 ghost use Rattle.roster.specs.Roster.{listed};
-ghost use Rattle.solver.specs.Solution.{IsSolutionBy};
+ghost use Rattle.solver.specs.Moved0.{IsSolutionBy};
 ghost use Rattle.queries.specs.Asking.{IsReadingAt};
 ghost use Rattle.ready_answers.specs.Ready.{KeepsSource};
 ghost use Rattle.ready_answers.specs.Keeping.{TakesFree, TakesForSource, HasNextSlot};

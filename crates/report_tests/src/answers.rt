@@ -2,7 +2,7 @@ ghost use Rattle.std.specs.Prelude.{◌≡◌, ◌<◌, ◌≤◌, None, IfSome}
 ghost use Rattle.problem.specs.Listing.{listing_of};
 ghost use Rattle.sync_graph.specs.ListedStanding.{IsEventAt};
 ghost use Rattle.row_pool.specs.Pool.{free_rows};
-ghost use Rattle.solver.specs.Solution.{IsSolution};
+ghost use Rattle.solver.specs.Moved0.{IsSolution};
 ghost use Rattle.queries.specs.Asking.{IsReadingAt};
 
 use crate::fixtures::CYCLE;

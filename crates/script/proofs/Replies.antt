@@ -1,5 +1,5 @@
 -- Replies to lines, one after another.
-use Rattle.std.proofs.Common.{◌≡◌, ℕ, ◌+◌, ◌<◌, ◌≤◌, List, [], ◌∷◌, ◌++◌, length, Bool, false, nat_le, count_by, cond, refl, sym, ◌∙◌, subst, arith, append_assoc, append-nil}
+use Rattle.std.proofs.Common.{◌≡◌, ℕ, ◌+◌, ◌<◌, ◌≤◌, List, [], ◌∷◌, ◌++◌, length, Bool, false, nat_le, count_by, cond, refl, sym, subst, arith, append_assoc, append-nil}
 use Rattle.std.specs.List.{concat}
 use Rattle.std.proofs.lemmas.List.Sums.{sum_by-append}
 use Rattle.ports.specs.Files.{Content, FilesTold, Keeps}
@@ -61,17 +61,6 @@ counted_none now = record { failed = λ below. omega arith; absent = λ below. o
 
 pub counted_unread : (now : FilesTold) → AreCounted (Unread ∷ []) now now
 counted_unread now = record { failed = λ below. omega arith; absent = λ below. omega arith }
-
--- ---- files are kept
-pub keeps_none : (now : FilesTold) → Keeps now now
-keeps_none now = record { same = refl; faults = omega arith; absences = omega arith }
-
-pub keeps_then : (old mid new : FilesTold) → Keeps old mid → Keeps mid new → Keeps old new
-keeps_then old mid new first second = record {
-  same = second.same ∙ first.same;
-  faults = omega (arith, first.faults, second.faults);
-  absences = omega (arith, first.absences, second.absences);
-}
 
 -- ---- texts
 pub concat_more : (texts : List (List ℕ)) (text : List ℕ) → concat (texts ++ text ∷ []) ≡ concat texts ++ text

@@ -13,7 +13,7 @@ use Rattle.trace_event.specs.Seen.{Seen, seen_event, seen_events}
 use Rattle.traces.specs.declared.accepted.Accepted.{Accepted}
 use Rattle.traces.specs.declared.event.EventId.{EventId}
 use Rattle.engine.specs.Solver.{SolverLists}
-use Rattle.solver.specs.Solution.{IsSolutionBy}
+use Rattle.solver.specs.Moved0.{IsSolutionBy}
 use Rattle.roster.specs.Roster.{listed}
 use Rattle.traces.specs.declared.accepted.Stream.{Stream}
 use Rattle.traces.specs.Held.{seen_in}

@@ -18,7 +18,7 @@ use Rattle.traces.specs.Messages.{problem_of_seen}
 use Rattle.problem_model.specs.Problem.{ProblemLists}
 use Rattle.engine.specs.Solver.{SolverLists}
 use Rattle.roster.specs.Roster.{RosterLists, IsRoster, listed}
-use Rattle.solver.specs.Solution.{IsSolutionBy}
+use Rattle.solver.specs.Moved0.{IsSolutionBy}
 use Rattle.queries.specs.declared.stop.Stop.{Stop}
 use Rattle.queries.specs.declared.stop.Stop.TheVariants as stops
 use Rattle.ready_answers.specs.declared.answers.Answers.{Answers}

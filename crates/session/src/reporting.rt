@@ -8,7 +8,7 @@ ghost use Rattle.traces.specs.Messages.{problem_of_seen};
 ghost use Rattle.event_match.specs.Ends.{AreEndsBy};
 ghost use Rattle.problem.specs.Listing.{Listed};
 ghost use Rattle.roster.specs.Roster.{id_of};
-ghost use Rattle.solver.specs.Solution.{IsSolutionBy};
+ghost use Rattle.solver.specs.Moved0.{IsSolutionBy};
 ghost use Rattle.queries.specs.declared.stop.Stop.TheVariants as stops;
 ghost use Rattle.replies.specs.Reply.{IsReport};
 

@@ -29,7 +29,8 @@ use Rattle.sync_graph.proofs.ListedExecutions.{earliest_of}
 use Rattle.engine.specs.Solver.{SolverLists}
 use Rattle.engine.specs.Current.{IsSolvedNow, IsContradicted}
 use Rattle.engine.proofs.Staying.{solved_now, contradicted_now}
-use Rattle.solver.specs.Solution.{IsSolutionBy, steps_of, HasContradictionBy}
+use Rattle.solver.specs.Solution.{steps_of, HasContradictionBy}
+use Rattle.solver.specs.Moved0.{IsSolutionBy}
 
 -- ---- arcs in force as bounds of the problem
 module _ (l : Listed) (p : ProblemLists) (readings : List Reading) (g : GraphLists) (stands : StandsForListed l p readings g) where

@@ -26,7 +26,7 @@ use Rattle.distances.specs.Reaches.{IsReachIn}
 use Rattle.repair.specs.Pairs.{IsPairIn}
 use Rattle.engine.specs.Solver.{SolverLists}
 use Rattle.engine.proofs.Staying.{solved_now}
-use Rattle.solver.specs.Solution.{IsSolutionBy}
+use Rattle.solver.specs.Moved0.{IsSolutionBy}
 use Rattle.solver.proofs.GreatHeights.{greatest_height}
 
 -- ---- of the problem

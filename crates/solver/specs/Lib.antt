@@ -1,2 +1,3 @@
 pub mod Bounds
+pub mod Moved0
 pub mod Solution

@@ -4,24 +4,12 @@ use Rattle.problem_model.specs.Problem.{ProblemLists}
 use Rattle.problem_model.specs.Bounds.{Times, IsExecution}
 use Rattle.problem_model.specs.Nodes.{Reading, AreReadings, nodes_of}
 use Rattle.difference_bounds.specs.Solutions.{WeighedBound, IsContradictionOf}
-use Rattle.problem.specs.Listing.{Listed, listing_of}
+use Rattle.problem.specs.Listing.{Listed}
 use Rattle.cert.specs.Listed.{IsNamed}
 use Rattle.cert.specs.Shows.{weighed_bounds}
 use Rattle.cert.specs.declared.chain.Step.{Step}
 use Rattle.attain.specs.ListedProblem.{AreCarried}
 use Rattle.sync_graph.specs.declared.arc.Arc.{Arc}
-use Rattle.sync_graph.specs.ListedStanding.{StandsForListed}
-use Rattle.engine.specs.Solver.{SolverLists}
-use Rattle.engine.specs.Current.{IsCurrent}
-
--- what is held is of the present graph, and the graph stands for the problem that the listing lists
-pub record IsSolutionBy (l : Listed) (p : ProblemLists) (s : SolverLists) : Type 0 where
-  pub current : IsCurrent s
-  pub stands : (readings : List Reading) → AreReadings p readings → StandsForListed l p readings s.graph
-
--- the same of a problem in its own order
-abbrev pub IsSolution : ProblemLists → SolverLists → Type 0
-IsSolution p s = IsSolutionBy (listing_of p) p s
 
 -- the names and the weights of arcs
 abbrev pub steps_of : List Arc → List WeighedBound

@@ -20,7 +20,8 @@ ghost use Rattle.sync_graph.specs.ListedStanding.{IsNodeBy, StandsForListed};
 ghost use Rattle.repair.specs.Pairs.{IsPairIn};
 ghost use Rattle.engine.specs.Solver.{SolverLists};
 ghost use Rattle.solver.specs.Bounds.{HasShortList};
-ghost use Rattle.solver.specs.Solution.{IsSolutionBy, HasContradictionBy};
+ghost use Rattle.solver.specs.Solution.{HasContradictionBy};
+ghost use Rattle.solver.specs.Moved0.{IsSolutionBy};
 
 /// Where no contradiction is held, the values of the listed nodes are the earliest execution of the problem.
 pub fn executions()

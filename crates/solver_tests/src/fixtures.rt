@@ -2,7 +2,7 @@
 ghost use Rattle.std.specs.Prelude.{◌≡◌, ◌<◌, [], true, IfOk};
 ghost use Rattle.row_pool.specs.Pool.{free_rows};
 ghost use Rattle.engine.specs.Current.{IsCurrent};
-ghost use Rattle.solver.specs.Solution.{IsSolution};
+ghost use Rattle.solver.specs.Moved0.{IsSolution};
 
 use atto::Steps;
 use engine::Solver;

@@ -2,7 +2,7 @@
 ghost use Rattle.std.specs.Prelude.{◌≡◌, ◌<◌, ◌≤◌, [], length};
 ghost use Rattle.attain.specs.Ends.{AreRowsOf};
 ghost use Rattle.row_pool.specs.Pool.{free_rows};
-ghost use Rattle.solver.specs.Solution.{IsSolution};
+ghost use Rattle.solver.specs.Moved0.{IsSolution};
 
 use crate::fixtures::{ALONE_PROBLEM, TWO_LOGS_PROBLEM, UNLINKED_PROBLEM, is_solved, solve_alone};
 use attain::write_ends;

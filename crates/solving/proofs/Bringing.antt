@@ -28,7 +28,7 @@ use Rattle.engine.specs.Current.{IsCurrent}
 use Rattle.solver.specs.Bounds.{HasShortList, HoldsShortList}
 use Rattle.solving.specs.declared.items.Ranked.{Ranked}
 use Rattle.solving.specs.Items.{AreItems, items_of}
-use Rattle.solver.specs.Solution.{IsSolution}
+use Rattle.solver.specs.Moved0.{IsSolution}
 use Rattle.solving.specs.Pushing.{HasNodesOf, NodesCome, AddsBounds}
 use Rattle.solver.proofs.OwnStanding.{own_standing}
 

@@ -3,7 +3,7 @@ ghost use Rattle.std.specs.Prelude.{◌≡◌, ◌≤◌, [], List, None, length
 ghost use Rattle.problem_model.specs.Nodes.{Reading, AreReadings, nodes_of, most_nodes};
 ghost use Rattle.row_pool.specs.Pool.{free_rows};
 ghost use Rattle.solver.specs.Bounds.{HoldsShortList};
-ghost use Rattle.solver.specs.Solution.{IsSolution};
+ghost use Rattle.solver.specs.Moved0.{IsSolution};
 ghost use Rattle.solving.specs.Pushing.{NodesCome};
 
 use crate::items::ordered_items;

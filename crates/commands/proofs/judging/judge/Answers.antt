@@ -1,4 +1,4 @@
-use Rattle.script.proofs.Replies.{keeps_then}
+use Rattle.script.proofs.Moved3.{keeps_then}
 use Rattle.commands.proofs.Widenings.{judged_named, judge_stops, widening_stops, judged}
 use Rattle.commands.proofs.judging.judge.Goals as goal
 

@@ -1,7 +1,7 @@
 use Rattle.problem_model.proofs.OneList.{listed}
 use Rattle.commands.proofs.Naming.{verdict_named}
 use Rattle.commands.proofs.Obeying.{problem_stops, execution_stops, judged}
-use Rattle.script.proofs.Replies.{keeps_then}
+use Rattle.script.proofs.Moved3.{keeps_then}
 use Rattle.commands.proofs.obey.obey.Goals as goal
 
 pub answer-requires : goal.answer-requires

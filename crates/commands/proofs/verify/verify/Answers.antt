@@ -1,6 +1,6 @@
 use Rattle.commands.proofs.Naming.{answer_named}
 use Rattle.commands.proofs.Verifying.{problem_stops, certificate_stops, checked}
-use Rattle.script.proofs.Replies.{keeps_then}
+use Rattle.script.proofs.Moved3.{keeps_then}
 use Rattle.commands.proofs.verify.verify.Goals as goal
 
 pub answer-requires : goal.answer-requires

@@ -3,7 +3,7 @@ use Rattle.line_reader.specs.Reader.{Reader}
 use Rattle.mergecap.specs.declared.stored.Stored.{Stored}
 use Rattle.mergecap.specs.Packets.{all_timed}
 use Rattle.script.specs.Script.{Devices}
-use Rattle.script.proofs.Replies.{keeps_none, keeps_then}
+use Rattle.script.proofs.Moved3.{keeps_none, keeps_then}
 use Rattle.merge_script.specs.Gathered.{bytes_in, most_bytes}
 use Rattle.merge_script.specs.Turns.{reads}
 use Rattle.merge_script.proofs.Adding.{so_far_first, so_far_more, gathers_all, gathers_none}

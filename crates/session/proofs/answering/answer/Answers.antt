@@ -5,7 +5,7 @@ use Rattle.merging.specs.Merged.{IsMergeText}
 use Rattle.queries.specs.Replies.{Replies}
 use Rattle.queries.specs.declared.stop.Stop.TheVariants as stops
 use Rattle.roster.specs.Roster.{listed}
-use Rattle.solver.specs.Solution.{IsSolutionBy}
+use Rattle.solver.specs.Moved0.{IsSolutionBy}
 use Rattle.traces.specs.Held.{seen_in}
 use Rattle.traces.specs.Messages.{problem_of_seen}
 use Rattle.ready_answers.specs.Ready.{problem_by}
