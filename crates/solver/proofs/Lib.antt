@@ -1,4 +1,10 @@
-pub mod OwnStanding
-pub mod GreatHeights
-pub mod ListedAnswers
-pub mod ListedPairs
+pub mod Staying
+mod Longer
+mod Fewer
+mod Lending
+pub mod Returning
+mod Telling
+mod KeptSlots
+mod Asked
+mod Loans
+mod Cutting

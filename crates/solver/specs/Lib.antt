@@ -1,3 +1,7 @@
-pub mod Bounds
-pub mod Moved0
-pub mod Solution
+pub mod Solver
+pub mod Current
+pub mod Changes
+pub mod Costs
+pub mod Pushed
+pub mod Lending
+pub mod Withdrawn

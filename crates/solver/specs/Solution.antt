@@ -1,26 +1,17 @@
 -- What solving a problem answers.
-use Rattle.std.specs.Prelude.{◌≤◌, List, length, map, All}
+use Rattle.std.specs.Prelude.{List}
 use Rattle.problem_model.specs.Problem.{ProblemLists}
-use Rattle.problem_model.specs.Bounds.{Times, IsExecution}
-use Rattle.problem_model.specs.Nodes.{Reading, AreReadings, nodes_of}
-use Rattle.difference_bounds.specs.Solutions.{WeighedBound, IsContradictionOf}
-use Rattle.problem.specs.Listing.{Listed}
-use Rattle.cert.specs.Listed.{IsNamed}
-use Rattle.cert.specs.Shows.{weighed_bounds}
-use Rattle.cert.specs.declared.chain.Step.{Step}
-use Rattle.attain.specs.ListedProblem.{AreCarried}
-use Rattle.sync_graph.specs.declared.arc.Arc.{Arc}
+use Rattle.problem_model.specs.Nodes.{Reading, AreReadings}
+use Rattle.problem.specs.Listing.{Listed, listing_of}
+use Rattle.sync_graph.specs.ListedStanding.{StandsForListed}
+use Rattle.engine.specs.Solver.{SolverLists}
+use Rattle.engine.specs.Current.{IsCurrent}
 
--- the names and the weights of arcs
-abbrev pub steps_of : List Arc → List WeighedBound
-steps_of arcs = map (λ (a : Arc). (a.name, a.weight)) arcs
+-- what is held is of the present graph, and the graph stands for the problem that the listing lists
+pub record IsSolutionBy (l : Listed) (p : ProblemLists) (s : SolverLists) : Type 0 where
+  pub current : IsCurrent s
+  pub stands : (readings : List Reading) → AreReadings p readings → StandsForListed l p readings s.graph
 
--- the listing names the arcs, and with events by their places they are a contradiction of the problem, no longer than it
--- has nodes; so it has no execution
-pub record HasContradictionBy (l : Listed) (p : ProblemLists) (arcs : List Arc) : Type 0 where
-  pub named : All (λ (a : Arc). IsNamed l a.name) arcs
-  pub steps : List Step
-  pub carried : AreCarried l (steps_of arcs) steps
-  pub contradiction : IsContradictionOf p (weighed_bounds steps)
-  pub short : (readings : List Reading) → AreReadings p readings → length steps ≤ length (nodes_of p readings)
-  pub no_execution : (x : Times) → IsExecution p x → ⊥
+-- the same of a problem in its own order
+abbrev pub IsSolution : ProblemLists → SolverLists → Type 0
+IsSolution p s = IsSolutionBy (listing_of p) p s

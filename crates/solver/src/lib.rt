@@ -1,9 +1,19 @@
-//! What an engine holds of a problem: the earliest execution, or a contradiction where there is none.
+//! A graph of bounds with what is known of it, kept while arcs come and go: its earliest execution, or a contradiction
+//! where it has none, and the rows of kept nodes.
 //!
-//! `IsSolutionBy` says that the engine's graph stands for a problem, by whatever listing. The laws carry over what it holds:
-//! its values, its contradiction, greatest differences of its nodes. How a graph of the problem came about they do not ask.
+//! Between two calls all that is held is of the present graph. So the value of a node, and the greatest differences of a
+//! kept node, are read and not computed.
+//!
+//! A step is one call of `leaving`, `arriving` or `pop`. How many an arc more may take is promised; no number of steps is
+//! for the other calls, but that a kept node is asked for without any.
 #![tactic(auto)]
 
-mod laws;
+mod asking;
+mod keeping;
+mod loan;
+mod pushing;
+mod solver;
+mod withdrawing;
 
-pub use laws::{contradictions, executions, own_graphs, pairs};
+pub use loan::Lent;
+pub use solver::Solver;

@@ -1,23 +1,71 @@
-// The events of all labels, by their names.
-use trace_event::Event;
+// Events of all traces.
+use atto::Nano;
+use event_log::{LogText, WordKey};
+use ip_headers::PacketKey;
+use wide_headers::WideKey;
 
-/// An event: the place of its label, from 0 on, and its number there, from 1 on.
+/// An end of a message.
 #[derive(Clone, Copy, Debug, PartialEq, Eq)]
-pub struct EventId {
-    pub label: u32,
-    pub number: u32,
+pub enum Side {
+    /// Where it was sent.
+    Send,
+    /// Where it was received.
+    Receive,
 }
 
-/// A message, by the event that sends it and the one that receives it.
-#[derive(Clone, Copy, Debug, PartialEq, Eq)]
-pub struct Couple {
-    pub send: EventId,
-    pub receive: EventId,
+/// What a message is known by at both of its ends. Keys of different kinds are never equal.
+#[derive(Debug, PartialEq, Eq, PartialOrd, Ord, Drop)]
+pub enum Key {
+    /// A packet of IPv4, by its headers and the beginning of its payload.
+    Packet(PacketKey),
+    /// A message of event logs, by its word.
+    Word(WordKey),
+    /// A packet of IPv6, by its headers and the beginning of its payload.
+    Wide(WideKey),
 }
 
-/// An event with its name.
-#[derive(Clone, Copy)]
-pub struct PlacedEvent<'a> {
-    pub id: EventId,
-    pub event: &'a Event,
+/// Why an event is the end of no message.
+#[derive(Clone, Copy, Debug, PartialEq, Eq)]
+pub enum NoKey {
+    /// The packet's link type is neither Ethernet nor raw IP nor a Linux cooked one.
+    Link,
+    /// The packet is none of TCP or UDP right behind a header of IPv4 or IPv6.
+    Other,
+    /// Too little of the packet was captured.
+    Short,
+    /// A header of the packet can't be one.
+    Header,
+    /// The packet is a fragment.
+    Fragment,
+    /// A length in the packet does not fit the others.
+    Length,
+    /// The packet comes from its label's host and goes there, or neither.
+    Side,
+    /// The row of an event log says that no other host took part.
+    Local,
+}
+
+/// Which end of which message an event is, if of any.
+#[derive(Debug, Drop)]
+pub enum Mark {
+    /// The end of a message.
+    Keyed {
+        /// What the message is known by.
+        key: Key,
+        /// Which end it is.
+        side: Side,
+    },
+    /// The end of none.
+    Unkeyed(NoKey),
+}
+
+/// An event of a trace.
+#[derive(Debug, Drop)]
+pub struct Event {
+    /// When it happened, in ns of the clock that stamped it, below 2^62.
+    pub stamp: Nano,
+    /// Which end of which message it is.
+    pub mark: Mark,
+    /// What an event log says of it; None for a packet.
+    pub text: Option<LogText>,
 }

@@ -1,7 +1,0 @@
-pub mod Solver
-pub mod Current
-pub mod Changes
-pub mod Costs
-pub mod Pushed
-pub mod Lending
-pub mod Withdrawn

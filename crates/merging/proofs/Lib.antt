@@ -1,4 +1,0 @@
-mod OneOrder
-mod Agreeing
-mod Texts
-mod Stopping

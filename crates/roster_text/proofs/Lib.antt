@@ -1,5 +1,0 @@
-mod Lists
-mod Ids
-mod LineTexts
-mod Follows
-mod Told

@@ -1,9 +1,0 @@
-mod Composing
-mod Ascii
-mod Matched
-mod Counted
-mod Ended
-mod Whole
-mod Adding
-mod Worked
-mod Joined

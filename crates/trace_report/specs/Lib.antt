@@ -1,4 +1,0 @@
-pub mod KeyTexts
-pub mod Reports
-pub mod Counts
-pub mod Inside
