@@ -1,12 +1,12 @@
 -- Arcs have an earliest execution or a contradiction.
 use Rattle.std.proofs.Common.{◌⊎◌, List, [], ◌∷◌, inl, inr, ℕ}
 use Rattle.std.specs.Prelude.{ℤ}
-use Rattle.difference_bounds.specs.Executions.{Arc, AreWithin, values_by}
-use Rattle.difference_bounds.specs.Earliest.{IsEarliest}
-use Rattle.difference_bounds.specs.Paths.{IsContradiction}
-use Rattle.outcomes.proofs.Tables.{Table, IsClosed, own_table, own_closed}
-use Rattle.outcomes.proofs.Closing.{path_more, sound_or_not, with_arc, next_closed}
-use Rattle.outcomes.proofs.Values.{earliest_by, earliest_is}
+use Rattle.problem_model.specs.Executions.{Arc, AreWithin, values_by}
+use Rattle.problem_model.specs.Earliest.{IsEarliest}
+use Rattle.problem_model.specs.Paths.{IsContradiction}
+use Rattle.attain.proofs.Tables.{Table, IsClosed, own_table, own_closed}
+use Rattle.attain.proofs.Closing.{path_more, sound_or_not, with_arc, next_closed}
+use Rattle.attain.proofs.Values.{earliest_by, earliest_is}
 
 -- a contradiction of some arcs is one of more
 contradiction_more : (a : Arc) (arcs steps : List Arc) → IsContradiction arcs steps → IsContradiction (a ∷ arcs) steps

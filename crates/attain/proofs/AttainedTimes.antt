@@ -9,16 +9,16 @@ use Rattle.problem_model.specs.Problem.{ProblemLists}
 use Rattle.problem_model.specs.Bounds.{Times}
 use Rattle.problem_model.specs.Bounds as bounds
 use Rattle.problem_model.specs.Nodes.{Reading, nodes_of}
-use Rattle.difference_bounds.specs.Executions.{at, IsExecution, values_by}
-use Rattle.difference_bounds.specs.Problems.{IsGreatestOf, IsUnboundedOf}
-use Rattle.difference_bounds.proofs.Executions.{at-values_by}
+use Rattle.problem_model.specs.Executions.{at, IsExecution, values_by}
+use Rattle.problem_model.specs.ProblemArcs.{IsGreatestOf, IsUnboundedOf}
+use Rattle.problem_model.proofs.Executions.{at-values_by}
 use Rattle.sync_graph.specs.Graph.{GraphLists, IsGraph}
 use Rattle.sync_graph.specs.InForce.{arcs_of}
 use Rattle.cert.specs.CertificateText.{HasOneEach}
 use Rattle.problem.specs.Listing.{Listed, listed_nodes}
-use Rattle.sync_graph.specs.ListedStanding.{IsNodeBy, StandsForListed}
-use Rattle.sync_graph.proofs.ListedExecutions.{times_of}
-use Rattle.sync_graph.proofs.NodeNumbers.{number_below, nodes_listed, time_by}
+use Rattle.problem_graph.specs.ListedStanding.{IsNodeBy, StandsForListed}
+use Rattle.problem_graph.proofs.ListedExecutions.{times_of}
+use Rattle.problem_graph.proofs.NodeNumbers.{number_below, nodes_listed, time_by}
 
 -- ---- one number, or none
 pub one_greatest_of : (p : ProblemLists) (m n : Node) (g h : ℤ) → IsGreatestOf p m n g → IsGreatestOf p m n h → g ≡ h

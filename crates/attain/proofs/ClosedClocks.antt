@@ -15,18 +15,18 @@ use Rattle.problem_model.specs.declared.items.Bound.TheVariants.{SpanMost, SpanL
 use Rattle.problem_model.specs.Problem.{ProblemLists, IsProblem}
 use Rattle.problem_model.specs.Bounds.{Constraint, Declares, ClockAt, EventAt, IsReading}
 use Rattle.problem_model.specs.Nodes.{Reading}
-use Rattle.difference_bounds.specs.Executions.{Arc, IsExecution}
-use Rattle.difference_bounds.specs.Cuts.{IsCut}
-use Rattle.difference_bounds.specs.Problems.{IsUnboundedOf}
-use Rattle.difference_bounds.specs.Solutions.{IsNodeOf, WeighedBound, Leads}
-use Rattle.difference_bounds.proofs.Cuts.{cut_unbounded}
+use Rattle.problem_model.specs.Executions.{Arc, IsExecution}
+use Rattle.problem_model.specs.Cuts.{IsCut}
+use Rattle.problem_model.specs.ProblemArcs.{IsUnboundedOf}
+use Rattle.problem_model.specs.Solutions.{IsNodeOf, WeighedBound, Leads}
+use Rattle.problem_model.proofs.Cuts.{cut_unbounded}
 use Rattle.sync_graph.specs.Graph.{GraphLists, IsGraph, table_of}
 use Rattle.sync_graph.specs.InForce.{arcs_of}
-use Rattle.sync_graph.specs.ListedStanding.{IsNodeBy, StandsForListed}
-use Rattle.sync_graph.proofs.BoundEnds.{event_of, contains_at, reading_of, ends_are}
+use Rattle.problem_graph.specs.ListedStanding.{IsNodeBy, StandsForListed}
+use Rattle.problem_graph.proofs.BoundEnds.{event_of, contains_at, reading_of, ends_are}
 use Rattle.sync_graph.proofs.InForce.{arcs_listed, arcs_within}
-use Rattle.sync_graph.proofs.ListedExecutions.{unbounded_of}
-use Rattle.sync_graph.proofs.NodeNumbers.{number_below, is_node, number_of, one_number, stamps_at, listed_by, readings_count}
+use Rattle.problem_graph.proofs.ListedExecutions.{unbounded_of}
+use Rattle.problem_graph.proofs.NodeNumbers.{number_below, is_node, number_of, one_number, stamps_at, listed_by, readings_count}
 use Rattle.problem.proofs.ListedNodes.{stamp_of}
 use Rattle.problem.specs.Listing.{Listed}
 use Rattle.cert.specs.Shows.{IsOnClock, IsCutOf, Parts}

@@ -3,9 +3,9 @@ use Rattle.std.proofs.Common.{◌≡◌, ◌⊎◌, ℕ, suc, List, [], ◌∷�
 use Rattle.std.specs.Prelude.{ℤ, pos, ◌+ℤ◌, ◌≤ℤ◌, ◌<ℤ◌, Contains}
 use Rattle.std.proofs.lemmas.Int.{ints, by_lt_z}
 use Rattle.std.proofs.lemmas.List.Elements.{All-cons, All-append}
-use Rattle.difference_bounds.specs.Executions.{Arc}
-use Rattle.difference_bounds.specs.Paths.{Joins, sum_of, IsPath, IsContradiction}
-use Rattle.outcomes.proofs.Tables.{IsAtMost, Table, IsClosed, at_more, lesser, lesser_first, lesser_second, lesser_one, through, through_at, IsThrough, through_parts}
+use Rattle.problem_model.specs.Executions.{Arc}
+use Rattle.problem_model.specs.Paths.{Joins, sum_of, IsPath, IsContradiction}
+use Rattle.attain.proofs.Tables.{IsAtMost, Table, IsClosed, at_more, lesser, lesser_first, lesser_second, lesser_one, through, through_at, IsThrough, through_parts}
 
 -- ---- paths
 -- an arc of a list is one of a longer list

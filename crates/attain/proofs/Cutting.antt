@@ -4,7 +4,7 @@ use Rattle.std.specs.Prelude.{AllPairs, Contains, ◌==◌, not}
 use Rattle.std.specs.List.{flat_map}
 use Rattle.std.proofs.lemmas.List.Kept.{AllPairs-cons}
 use Rattle.problem_model.proofs.Walking.{drop_more, drop_all}
-use Rattle.difference_bounds.specs.Parents.{Cells}
+use Rattle.problem_model.specs.Parents.{Cells}
 use Rattle.problem.specs.Listing.{Listed}
 use Rattle.attain.specs.Written.{written_inside, AreClocksOf}
 use Rattle.attain.specs.Cuts.{is_another, is_first, clock_if, last_behind}

@@ -21,11 +21,11 @@ use Rattle.problem_model.specs.ShortList.{short_list, neighbour_bounds, span_bou
 use Rattle.problem_model.proofs.Following.{chained_by, by_last}
 use Rattle.problem_model.proofs.NearestFollows.{Joins, follows_are}
 use Rattle.problem_model.proofs.OneName.{declared_one}
-use Rattle.difference_bounds.specs.Executions.{Arc}
-use Rattle.difference_bounds.specs.Problems.{IsArcOf, StandsFor}
-use Rattle.difference_bounds.proofs.Solutions.{place_of}
+use Rattle.problem_model.specs.Executions.{Arc}
+use Rattle.problem_model.specs.ProblemArcs.{IsArcOf, StandsFor}
+use Rattle.problem_model.proofs.Solutions.{place_of}
 use Rattle.cert.proofs.Declaring.{reading_fits}
-use Rattle.sync_graph.proofs.BoundEnds.{ends_are}
+use Rattle.problem_graph.proofs.BoundEnds.{ends_are}
 use Rattle.attain.specs.Tight.{IsUnder}
 
 -- ---- weights

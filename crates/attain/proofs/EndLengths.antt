@@ -10,7 +10,7 @@ use Rattle.problem_model.specs.Problem.{ProblemLists, IsProblem}
 use Rattle.problem_model.specs.ProblemText.{event_name}
 use Rattle.problem_model.specs.ExecutionText.{value_lines}
 use Rattle.problem_model.specs.Nodes.{most_nodes, Reading, AreReadings, nodes_of}
-use Rattle.difference_bounds.specs.Numbers.{IsUpTo}
+use Rattle.problem_model.specs.Numbers.{IsUpTo}
 use Rattle.problem.proofs.ListedNodes.{few_nodes}
 use Rattle.cert.specs.EndLists.{EndLists, Limited, Unlimited}
 use Rattle.cert.specs.declared.chain.Step.{Step}

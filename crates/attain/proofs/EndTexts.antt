@@ -11,7 +11,7 @@ use Rattle.cert.specs.EndLists.{EndLists, Limited, Unlimited}
 use Rattle.problem.specs.Listing.{Listed, name_at, listed_nodes}
 use Rattle.cert.specs.Listed.{listed_values, certified}
 use Rattle.cert.specs.CertificateText.{step_line, inside_line, end_text, ends_lines}
-use Rattle.sync_graph.specs.ListedProblem.{IsListedBy, StandsAt}
+use Rattle.problem_graph.specs.ListedProblem.{IsListedBy, StandsAt}
 use Rattle.attain.specs.ListedProblem.{AreCarried}
 use Rattle.attain.specs.Written.{WrittenEnd, Limit, NoLimit, written_inside, written_end, written_ends}
 use Rattle.attain.proofs.ListedProblems.{clock_listed, event_listed, steps_carried, values_listed}

@@ -3,12 +3,12 @@ use Rattle.std.proofs.Common.{◌≡◌, ◌<◌, [], ◌∷◌, Some, None, ref
 use Rattle.std.specs.Prelude.{pos, neg_ℤ, ◌+ℤ◌, ◌≤ℤ◌, Contains}
 use Rattle.std.proofs.lemmas.Int.{ints}
 use Rattle.std.proofs.lemmas.List.Elements.{All-nil, All-cons, All-head}
-use Rattle.difference_bounds.specs.Executions.{Arc, values_by}
-use Rattle.difference_bounds.specs.Earliest.{IsEarliest}
-use Rattle.difference_bounds.specs.Paths.{IsContradiction}
-use Rattle.outcomes.proofs.Tables.{IsAtMost, Table, IsClosed, own_table, own_closed, IsThrough}
-use Rattle.outcomes.proofs.Closing.{IsSoundArc, with_arc, next_closed}
-use Rattle.outcomes.proofs.Values.{earliest_by, earliest_is}
+use Rattle.problem_model.specs.Executions.{Arc, values_by}
+use Rattle.problem_model.specs.Earliest.{IsEarliest}
+use Rattle.problem_model.specs.Paths.{IsContradiction}
+use Rattle.attain.proofs.Tables.{IsAtMost, Table, IsClosed, own_table, own_closed, IsThrough}
+use Rattle.attain.proofs.Closing.{IsSoundArc, with_arc, next_closed}
+use Rattle.attain.proofs.Values.{earliest_by, earliest_is}
 
 -- node 1 comes at least 2 after node 0
 abbrev apart : Arc

@@ -2,8 +2,8 @@
 use Rattle.std.proofs.Common.{◌≤◌, ◌∷◌, [], ◌++◌, ◌∙◌, ℕ, List, length, ap}
 use Rattle.std.specs.Prelude.{ℤ, AllPairs, codes}
 use Rattle.line_format.specs.Words.{line_of}
-use Rattle.difference_bounds.specs.Parents.{Cells, IsRow}
-use Rattle.difference_bounds.specs.Tables.{reversed_table}
+use Rattle.problem_model.specs.Parents.{Cells, IsRow}
+use Rattle.problem_model.specs.Tables.{reversed_table}
 use Rattle.sync_graph.specs.Graph.{GraphLists, table_of}
 use Rattle.problem.specs.Listing.{Listed, name_at}
 use Rattle.attain.specs.declared.side.Side.TheVariants.{Upper, Lower}

@@ -22,3 +22,10 @@ pub mod Accepted
 pub mod DeclaredBounds
 pub mod SolvedTexts
 mod PathSums
+pub mod Tables
+pub mod Closing
+pub mod Values
+pub mod Arcs
+pub mod Readings
+pub mod Problems
+mod Instances

@@ -20,7 +20,7 @@ use Rattle.problem.specs.Listing.{Listed, name_at, listed_nodes}
 use Rattle.cert.specs.Listed.{certified, timed_line, listed_bound, listed_step, listed_event, listed_reading, listed_words, listed_values, listed_cycle, listed_run}
 use Rattle.cert.specs.CertificateText.{step_line, certificate_text}
 use Rattle.cert.proofs.OwnListing.{clock_name_is, lines_are}
-use Rattle.sync_graph.specs.ListedProblem.{IsListedBy, StandsAt, IsCarried}
+use Rattle.problem_graph.specs.ListedProblem.{IsListedBy, StandsAt, IsCarried}
 use Rattle.attain.specs.ListedProblem.{AreCarried}
 use Rattle.problem.proofs.ListedNodes.{map_at}
 

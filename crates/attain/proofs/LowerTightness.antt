@@ -9,30 +9,30 @@ use Rattle.problem_model.specs.declared.items.Bound.{Bound}
 use Rattle.problem_model.specs.Problem.{ProblemLists}
 use Rattle.problem_model.specs.Bounds.{Times}
 use Rattle.problem_model.specs.Nodes.{Reading, nodes_of}
-use Rattle.difference_bounds.specs.Executions.{at}
-use Rattle.difference_bounds.specs.Parents.{Cells, IsRow}
-use Rattle.difference_bounds.specs.Problems.{IsGreatestOf, IsUnboundedOf}
-use Rattle.difference_bounds.specs.Rows.{IsLeastLead, attaining, least_differences}
-use Rattle.difference_bounds.specs.Solutions.{IsNodeOf}
-use Rattle.difference_bounds.proofs.Attaining.{attaining-known, attaining-other}
-use Rattle.difference_bounds.proofs.Parents.{towards_closed, towards_row_greatest, towards_row_unbounded}
-use Rattle.difference_bounds.proofs.Towards.{towards_execution}
-use Rattle.difference_bounds.specs.Tables.{reversed_table}
+use Rattle.problem_model.specs.Executions.{at}
+use Rattle.problem_model.specs.Parents.{Cells, IsRow}
+use Rattle.problem_model.specs.ProblemArcs.{IsGreatestOf, IsUnboundedOf}
+use Rattle.problem_model.specs.Rows.{IsLeastLead, attaining, least_differences}
+use Rattle.problem_model.specs.Solutions.{IsNodeOf}
+use Rattle.problem_model.proofs.Attaining.{attaining-known, attaining-other}
+use Rattle.problem_model.proofs.Parents.{towards_closed, towards_row_greatest, towards_row_unbounded}
+use Rattle.problem_model.proofs.Towards.{towards_execution}
+use Rattle.problem_model.specs.Tables.{reversed_table}
 use Rattle.sync_graph.specs.Graph.{GraphLists, IsGraph, table_of}
 use Rattle.sync_graph.specs.InForce.{arcs_of, IsEarliestOf}
 use Rattle.cert.specs.EndLists.{EndLists, Limited, Unlimited}
 use Rattle.cert.specs.CertificateText.{AreListsOf}
 use Rattle.problem.specs.Listing.{Listed, listed_nodes}
 use Rattle.cert.specs.Shows.{IsLowerEnd}
-use Rattle.sync_graph.specs.ListedStanding.{IsNodeBy, StandsForListed}
+use Rattle.problem_graph.specs.ListedStanding.{IsNodeBy, StandsForListed}
 use Rattle.attain.specs.Tight.{HasPath, IsLeastLeadOf, IsSoonest, IsLowerCut, IsLowerAs}
 use Rattle.attain.specs.Written.{WrittenEnd, Limit, NoLimit, IsLowerWritten}
 use Rattle.attain.proofs.AttainedTimes.{one_greatest_of, no_greatest_of, one_each, times_like}
 use Rattle.attain.proofs.ClosedClocks.{Holds, holds_by, closed_path, has_clock, clock_there, clocks_below, parts}
 use Rattle.attain.proofs.EndTexts.{IsListedEnd}
 use Rattle.sync_graph.proofs.InForce.{arcs_listed, arcs_within}
-use Rattle.sync_graph.proofs.ListedExecutions.{greatest_of, unbounded_of, earliest_of}
-use Rattle.sync_graph.proofs.NodeNumbers.{node_count, number_below, is_node, number_of, node_of, times_by, time_by}
+use Rattle.problem_graph.proofs.ListedExecutions.{greatest_of, unbounded_of, earliest_of}
+use Rattle.problem_graph.proofs.NodeNumbers.{node_count, number_below, is_node, number_of, node_of, times_by, time_by}
 use Rattle.attain.proofs.ParentWays.{lower_way, path_of_known}
 
 least_is : (v h : ℤ) → v ≡ h → (pos 0 -ℤ v) ≡ neg_ℤ h

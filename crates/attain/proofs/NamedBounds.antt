@@ -16,8 +16,8 @@ use Rattle.sync_graph.specs.Graph.{GraphLists, arc_at}
 use Rattle.problem.specs.Listing.{Listed, name_at}
 use Rattle.cert.specs.Listed.{IsNamed}
 use Rattle.attain.specs.Written.{NamesArcs}
-use Rattle.sync_graph.specs.ListedProblem.{IsListedBy, StandsAt, IsCarried}
-use Rattle.sync_graph.specs.ListedStanding.{StandsForListed}
+use Rattle.problem_graph.specs.ListedProblem.{IsListedBy, StandsAt, IsCarried}
+use Rattle.problem_graph.specs.ListedStanding.{StandsForListed}
 use Rattle.problem.proofs.ListedNodes.{map_at, stamp_of}
 
 -- ---- names

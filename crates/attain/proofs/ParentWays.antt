@@ -9,9 +9,9 @@ use Rattle.problem_model.specs.declared.items.Bound.{Bound}
 use Rattle.problem_model.specs.Problem.{ProblemLists}
 use Rattle.problem_model.specs.Bounds.{Constraint, Declares}
 use Rattle.problem_model.specs.Nodes.{Reading}
-use Rattle.difference_bounds.specs.Parents.{Cells, no_parent, IsTight, LeadsBack, IsRow}
-use Rattle.difference_bounds.specs.Solutions.{WeighedBound, Leads, weight_of}
-use Rattle.difference_bounds.specs.Tables.{ArcTable, reversed_table}
+use Rattle.problem_model.specs.Parents.{Cells, no_parent, IsTight, LeadsBack, IsRow}
+use Rattle.problem_model.specs.Solutions.{WeighedBound, Leads, weight_of}
+use Rattle.problem_model.specs.Tables.{ArcTable, reversed_table}
 use Rattle.sync_graph.specs.declared.arc.Arc.{Arc}
 use Rattle.sync_graph.specs.Graph.{GraphLists, IsGraph, most_arcs, arc_at, table_of}
 use Rattle.sync_graph.proofs.InForce.{in_force_below}
@@ -19,13 +19,13 @@ use Rattle.cert.specs.declared.chain.Step.{Step}
 use Rattle.cert.specs.CertificateText.{IsStepOf}
 use Rattle.problem.specs.Listing.{Listed}
 use Rattle.cert.specs.Shows.{weighed_bounds, LeadsAgainst}
-use Rattle.sync_graph.specs.ListedProblem.{IsCarried}
+use Rattle.problem_graph.specs.ListedProblem.{IsCarried}
 use Rattle.attain.specs.ListedProblem.{AreCarried}
-use Rattle.sync_graph.specs.ListedStanding.{IsNodeBy, StandsForListed}
+use Rattle.problem_graph.specs.ListedStanding.{IsNodeBy, StandsForListed}
 use Rattle.attain.specs.Tight.{HasPath}
 use Rattle.attain.specs.Written.{FollowsParents}
-use Rattle.sync_graph.proofs.ListedExecutions.{bound_of}
-use Rattle.sync_graph.proofs.NodeNumbers.{one_node}
+use Rattle.problem_graph.proofs.ListedExecutions.{bound_of}
+use Rattle.problem_graph.proofs.NodeNumbers.{one_node}
 
 -- ---- a path with one bound more
 leads_more : (p : ProblemLists) (m n : Node) (steps : List WeighedBound) (b : Bound) (c : Constraint) → Leads p m steps n → Declares p b c → c.from ≡ n → Leads p m (steps ++ (b, c.weight) ∷ []) c.to

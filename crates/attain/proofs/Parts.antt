@@ -8,9 +8,9 @@ use borrow.Author.Count.{below_more}
 use Rattle.atto.specs.NsText.{ns_text}
 use Rattle.line_format.specs.Words.{line_of}
 use Rattle.problem_model.specs.declared.items.Bound.{Bound}
-use Rattle.difference_bounds.specs.Executions.{at}
-use Rattle.difference_bounds.specs.Parents.{Cells, IsRow}
-use Rattle.difference_bounds.specs.Rows.{attaining}
+use Rattle.problem_model.specs.Executions.{at}
+use Rattle.problem_model.specs.Parents.{Cells, IsRow}
+use Rattle.problem_model.specs.Rows.{attaining}
 use Rattle.sync_graph.specs.Graph.{GraphLists}
 use Rattle.problem.specs.Listing.{Listed, listed_nodes}
 use Rattle.cert.specs.Listed.{listed_step, listed_values}

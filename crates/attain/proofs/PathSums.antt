@@ -6,7 +6,7 @@ use Rattle.std.proofs.lemmas.List.Elements.{All-nil, All-cons, All-head, All-tai
 use Rattle.problem_model.specs.declared.items.Node.{Node}
 use Rattle.problem_model.specs.Problem.{ProblemLists, IsProblem}
 use Rattle.problem_model.specs.Nodes.{most_nodes, Reading, AreReadings, nodes_of}
-use Rattle.difference_bounds.specs.Solutions.{WeighedBound, Leads, weight_of}
+use Rattle.problem_model.specs.Solutions.{WeighedBound, Leads, weight_of}
 use Rattle.problem.proofs.ListedNodes.{few_nodes}
 use Rattle.cert.specs.Shows.{LeadsAgainst}
 use Rattle.attain.specs.Tight.{IsUnder}

@@ -7,7 +7,7 @@ use Rattle.problem_model.specs.declared.items.Bound.{Bound}
 use Rattle.ports.specs.Content.{SinkTold, Writes}
 use Rattle.ports.specs.declared.failed.Failed.{Failed}
 use Rattle.ports.proofs.Writing.{Leaves, leaves_all, leaves_less, leaves_cut, leaves_none}
-use Rattle.difference_bounds.specs.Parents.{Cells, LeadsBack, IsRow}
+use Rattle.problem_model.specs.Parents.{Cells, LeadsBack, IsRow}
 use Rattle.sync_graph.specs.declared.arc.Arc.{Arc}
 use Rattle.sync_graph.specs.Graph.{GraphLists, arc_at}
 use Rattle.problem.specs.Listing.{Listed}

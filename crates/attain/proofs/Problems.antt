@@ -6,16 +6,16 @@ use Rattle.problem_model.specs.declared.items.Bound.{Bound}
 use Rattle.problem_model.specs.Problem.{ProblemLists, IsProblem}
 use Rattle.problem_model.specs.Bounds.{Constraint, Declares, Times}
 use Rattle.problem_model.specs.Nodes.{Reading, AreReadings, nodes_of}
-use Rattle.difference_bounds.specs.Executions.{Arc}
-use Rattle.difference_bounds.specs.Earliest.{IsEarliest}
-use Rattle.difference_bounds.specs.Paths.{IsContradiction}
-use Rattle.difference_bounds.specs.Problems.{IsArcOf, StandsFor}
-use Rattle.difference_bounds.specs.Solutions.{IsEarliestExecution, WeighedBound, IsContradictionOf, NamedArc, IsBoundArc, weighed}
-use Rattle.difference_bounds.proofs.Problems.{within, times}
-use Rattle.difference_bounds.proofs.Solutions.{same_earliest, named_contradiction}
+use Rattle.problem_model.specs.Executions.{Arc}
+use Rattle.problem_model.specs.Earliest.{IsEarliest}
+use Rattle.problem_model.specs.Paths.{IsContradiction}
+use Rattle.problem_model.specs.ProblemArcs.{IsArcOf, StandsFor}
+use Rattle.problem_model.specs.Solutions.{IsEarliestExecution, WeighedBound, IsContradictionOf, NamedArc, IsBoundArc, weighed}
+use Rattle.problem_model.proofs.Problems.{within, times}
+use Rattle.problem_model.proofs.Solutions.{same_earliest, named_contradiction}
 use Rattle.attain.proofs.DeclaredBounds.{arcs_stand}
-use Rattle.outcomes.proofs.Arcs.{outcome_of}
-use Rattle.outcomes.proofs.Readings.{readings_of}
+use Rattle.attain.proofs.Arcs.{outcome_of}
+use Rattle.attain.proofs.Readings.{readings_of}
 
 -- the arc of a named arc
 abbrev arc_of : NamedArc → Arc

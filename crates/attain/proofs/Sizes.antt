@@ -4,14 +4,14 @@ use Rattle.std.specs.Prelude.{ℤ, pos, neg_ℤ, ◌-ℤ◌, ◌≤ℤ◌, ◌<�
 use Rattle.std.proofs.lemmas.Int.{ints}
 use Rattle.std.proofs.lemmas.Bool.{cases_lt}
 use Rattle.std.proofs.lemmas.List.Elements.{Contains-get_or}
-use Rattle.difference_bounds.specs.Executions as bounds
-use Rattle.difference_bounds.specs.Executions.{at}
-use Rattle.difference_bounds.specs.Numbers.{IsUpTo}
-use Rattle.difference_bounds.specs.Parents.{Cells, IsRow}
-use Rattle.difference_bounds.specs.Tables.{ArcTable, ObeysAll, reversed_table}
-use Rattle.difference_bounds.proofs.Heights.{earliest_height, height_low}
-use Rattle.difference_bounds.proofs.Parents.{chain_bound, row_high}
-use Rattle.difference_bounds.proofs.Tables.{obeys_all}
+use Rattle.problem_model.specs.Executions as bounds
+use Rattle.problem_model.specs.Executions.{at}
+use Rattle.problem_model.specs.Numbers.{IsUpTo}
+use Rattle.problem_model.specs.Parents.{Cells, IsRow}
+use Rattle.problem_model.specs.Tables.{ArcTable, ObeysAll, reversed_table}
+use Rattle.problem_model.proofs.Heights.{earliest_height, height_low}
+use Rattle.problem_model.proofs.Parents.{chain_bound, row_high}
+use Rattle.problem_model.proofs.Tables.{obeys_all}
 use Rattle.sync_graph.specs.Graph.{GraphLists, IsGraph, most_nodes, arc_at, table_of}
 use Rattle.sync_graph.specs.InForce.{arcs_of, IsEarliestOf}
 use Rattle.attain.specs.Written.{AreMiddling}

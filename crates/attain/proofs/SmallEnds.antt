@@ -7,11 +7,11 @@ use Rattle.std.proofs.lemmas.List.Elements.{All-nil, All-cons, All-head, All-tai
 use Rattle.problem_model.specs.declared.items.Bound.{Bound}
 use Rattle.problem_model.specs.Problem.{ProblemLists}
 use Rattle.problem_model.specs.Nodes.{Reading}
-use Rattle.difference_bounds.specs.Executions.{at}
-use Rattle.difference_bounds.specs.Parents.{Cells}
-use Rattle.difference_bounds.specs.Rows.{attaining, least_differences}
-use Rattle.difference_bounds.proofs.Heights.{height_low}
-use Rattle.difference_bounds.proofs.Attaining.{attaining-known, attaining-other}
+use Rattle.problem_model.specs.Executions.{at}
+use Rattle.problem_model.specs.Parents.{Cells}
+use Rattle.problem_model.specs.Rows.{attaining, least_differences}
+use Rattle.problem_model.proofs.Heights.{height_low}
+use Rattle.problem_model.proofs.Attaining.{attaining-known, attaining-other}
 use Rattle.sync_graph.specs.declared.arc.Arc.{Arc}
 use Rattle.sync_graph.specs.Graph.{GraphLists, IsGraph, IsSound, arc_at}
 use Rattle.sync_graph.proofs.InForce.{no_arc, in_force_below}
@@ -19,7 +19,7 @@ use Rattle.cert.specs.EndLists.{EndLists}
 use Rattle.cert.specs.declared.chain.Step.{Step}
 use Rattle.problem.specs.Listing.{Listed, listed_nodes}
 use Rattle.attain.specs.ListedProblem.{AreCarried}
-use Rattle.sync_graph.specs.ListedStanding.{StandsForListed}
+use Rattle.problem_graph.specs.ListedStanding.{StandsForListed}
 use Rattle.attain.specs.Tight.{IsUnder, IsSmallEnd}
 use Rattle.attain.specs.Written.{WrittenEnd, Limit, NoLimit, FollowsParents, next_node, IsUpperWritten, IsLowerWritten}
 use Rattle.attain.proofs.Sizes.{IsWithin, AreWithinHeight}

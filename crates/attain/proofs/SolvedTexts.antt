@@ -12,13 +12,13 @@ use Rattle.problem_model.specs.Problem.{ProblemLists, IsProblem}
 use Rattle.problem_model.specs.Bounds.{Times}
 use Rattle.problem_model.specs.ExecutionText.{value_lines}
 use Rattle.problem_model.specs.Nodes.{most_nodes, Reading, AreReadings, nodes_of}
-use Rattle.difference_bounds.specs.Executions as bounds
-use Rattle.difference_bounds.specs.Executions.{at}
-use Rattle.difference_bounds.specs.Earliest.{IsEarliest}
-use Rattle.difference_bounds.specs.Solutions.{IsEarliestExecution, Leads, IsContradictionOf}
-use Rattle.difference_bounds.proofs.Heights.{earliest_height, height_low}
-use Rattle.difference_bounds.proofs.Problems.{within}
-use Rattle.difference_bounds.proofs.Solutions.{same_earliest}
+use Rattle.problem_model.specs.Executions as bounds
+use Rattle.problem_model.specs.Executions.{at}
+use Rattle.problem_model.specs.Earliest.{IsEarliest}
+use Rattle.problem_model.specs.Solutions.{IsEarliestExecution, Leads, IsContradictionOf}
+use Rattle.problem_model.proofs.Heights.{earliest_height, height_low}
+use Rattle.problem_model.proofs.Problems.{within}
+use Rattle.problem_model.proofs.Solutions.{same_earliest}
 use Rattle.problem.proofs.ListedNodes.{few_nodes}
 use Rattle.cert.specs.declared.chain.Step.{Step}
 use Rattle.cert.specs.declared.certificate.Cert.TheVariants.{Cycle, Run}

@@ -5,8 +5,8 @@ use Rattle.std.specs.Int.{int_min}
 use Rattle.std.proofs.lemmas.Int.{ints, clamps, by_lt_z}
 use Rattle.std.proofs.lemmas.Bool.{cases_eq, eq-eqb, ne_eqb, cond-true, cond-false}
 use Rattle.std.proofs.lemmas.List.Elements.{All-nil}
-use Rattle.difference_bounds.specs.Executions.{Arc}
-use Rattle.difference_bounds.specs.Paths.{sum_of, IsPath}
+use Rattle.problem_model.specs.Executions.{Arc}
+use Rattle.problem_model.specs.Paths.{sum_of, IsPath}
 
 -- what is there is at most s
 abbrev pub IsAtMost : Option ℤ → ℤ → Type 0

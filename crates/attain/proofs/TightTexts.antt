@@ -5,13 +5,13 @@ use Rattle.std.proofs.lemmas.Bool.{cases_lt, cases_eq}
 use Rattle.std.proofs.lemmas.Option.{slice_get_within, get_or_from_slice_get}
 use Rattle.problem_model.specs.Problem.{ProblemLists}
 use Rattle.problem_model.specs.Nodes.{Reading}
-use Rattle.difference_bounds.specs.Parents.{Cells, IsRow}
-use Rattle.difference_bounds.specs.Tables.{reversed_table}
+use Rattle.problem_model.specs.Parents.{Cells, IsRow}
+use Rattle.problem_model.specs.Tables.{reversed_table}
 use Rattle.sync_graph.specs.Graph.{GraphLists, IsGraph, table_of}
 use Rattle.sync_graph.specs.InForce.{IsEarliestOf}
 use Rattle.problem.specs.Listing.{Listed, listed_nodes}
 use Rattle.cert.specs.Listed.{certified}
-use Rattle.sync_graph.specs.ListedStanding.{StandsForListed, IsEventAt}
+use Rattle.problem_graph.specs.ListedStanding.{StandsForListed, IsEventAt}
 use Rattle.attain.specs.Tight.{IsTightText}
 use Rattle.attain.specs.Intervals.{IsEventOn, IsIntervalText}
 use Rattle.problem.proofs.ListedNodes.{event_node}

@@ -4,17 +4,17 @@ use Rattle.std.specs.Prelude.{ℤ}
 use Rattle.std.proofs.lemmas.Option.{slice_get_within}
 use Rattle.problem_model.specs.Problem.{ProblemLists}
 use Rattle.problem_model.specs.Nodes.{Reading}
-use Rattle.difference_bounds.specs.Parents.{Cells, IsRow}
-use Rattle.difference_bounds.specs.Tables.{reversed_table}
+use Rattle.problem_model.specs.Parents.{Cells, IsRow}
+use Rattle.problem_model.specs.Tables.{reversed_table}
 use Rattle.sync_graph.specs.Graph.{GraphLists, IsGraph, table_of}
 use Rattle.sync_graph.specs.InForce.{IsEarliestOf}
 use Rattle.problem.specs.Listing.{Listed}
-use Rattle.sync_graph.specs.ListedStanding.{StandsForListed}
+use Rattle.problem_graph.specs.ListedStanding.{StandsForListed}
 use Rattle.attain.specs.Tight.{IsTightText}
 use Rattle.attain.specs.Written.{WrittenEnd, written_ends, IsUpperWritten, IsLowerWritten}
 use Rattle.attain.proofs.EndTexts.{ends_listed}
 use Rattle.attain.proofs.LowerTightness.{lower_shown}
-use Rattle.sync_graph.proofs.NodeNumbers.{events_count, event_by}
+use Rattle.problem_graph.proofs.NodeNumbers.{events_count, event_by}
 use Rattle.attain.proofs.Sizes.{heights, heights_towards}
 use Rattle.attain.proofs.SmallEnds.{upper_small, lower_small}
 use Rattle.attain.proofs.UpperTightness.{upper_shown}

@@ -5,12 +5,12 @@ use Rattle.std.specs.Int.{int_max}
 use Rattle.std.proofs.lemmas.Int.{ints, clamps, by_lt_z}
 use Rattle.std.proofs.lemmas.Bool.{cases_lt, cases_eq}
 use Rattle.std.proofs.lemmas.List.{get_or_past}
-use Rattle.difference_bounds.specs.Executions.{Arc, at, difference, Obeys, IsExecution, AreWithin, values_by}
-use Rattle.difference_bounds.specs.Earliest.{IsNonNegative, IsEarliest}
-use Rattle.difference_bounds.specs.Paths.{sum_of}
-use Rattle.difference_bounds.proofs.Executions.{at-values_by, execution_by}
-use Rattle.difference_bounds.proofs.Paths.{path_bound}
-use Rattle.outcomes.proofs.Tables.{IsAtMost, Table, IsClosed}
+use Rattle.problem_model.specs.Executions.{Arc, at, difference, Obeys, IsExecution, AreWithin, values_by}
+use Rattle.problem_model.specs.Earliest.{IsNonNegative, IsEarliest}
+use Rattle.problem_model.specs.Paths.{sum_of}
+use Rattle.problem_model.proofs.Executions.{at-values_by, execution_by}
+use Rattle.problem_model.proofs.Paths.{path_bound}
+use Rattle.attain.proofs.Tables.{IsAtMost, Table, IsClosed}
 
 -- no less than before, nor than what is there is below 0
 abbrev pub raised : Option ℤ → ℤ → ℤ

@@ -2,11 +2,11 @@
 use Rattle.std.specs.Prelude.{ℕ, ◌≤◌, List, length}
 use Rattle.problem_model.specs.Problem.{ProblemLists}
 use Rattle.problem_model.specs.Nodes.{Reading}
-use Rattle.difference_bounds.specs.Parents.{IsRow}
-use Rattle.difference_bounds.specs.Tables.{reversed_table}
+use Rattle.problem_model.specs.Parents.{IsRow}
+use Rattle.problem_model.specs.Tables.{reversed_table}
 use Rattle.problem.specs.Listing.{Listed}
 use Rattle.sync_graph.specs.Graph.{GraphLists, table_of}
-use Rattle.sync_graph.specs.ListedStanding.{StandsForListed, IsEventAt}
+use Rattle.problem_graph.specs.ListedStanding.{StandsForListed, IsEventAt}
 use Rattle.row_pool.specs.declared.cell.Cell.{Cell}
 use Rattle.row_pool.specs.Row.{cells_of}
 use Rattle.attain.specs.Tight.{IsTightText}

@@ -1,7 +1,7 @@
 -- The certificate of the interval between two events, as it is written by the rows of the first one.
 use Rattle.std.specs.Prelude.{◌≡◌, ℕ, List, [], ◌∷◌, ◌++◌, slice_get, Some, codes, ℤ}
 use Rattle.line_format.specs.Words.{line_of}
-use Rattle.difference_bounds.specs.Parents.{Cells}
+use Rattle.problem_model.specs.Parents.{Cells}
 use Rattle.sync_graph.specs.Graph.{GraphLists}
 use Rattle.problem.specs.Listing.{Listed, name_at}
 use Rattle.cert.specs.Listed.{certified}

@@ -3,7 +3,7 @@ use Rattle.std.specs.Prelude.{◌≡◌, ℤ, List, [], ◌∷◌}
 use Rattle.problem_model.specs.declared.items.Bound.{Bound}
 use Rattle.cert.specs.declared.chain.Step.{Step}
 use Rattle.problem.specs.Listing.{Listed}
-use Rattle.sync_graph.specs.ListedProblem.{IsCarried}
+use Rattle.problem_graph.specs.ListedProblem.{IsCarried}
 
 -- step by step, the bounds with events by number are those of the problem with events by place, and the weights are the same
 abbrev pub AreCarried : Listed → List (Bound × ℤ) → List Step → Type 0

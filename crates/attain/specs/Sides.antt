@@ -1,9 +1,9 @@
 -- The two ends of an interval: what differs between them.
 use Rattle.std.specs.Prelude.{ℕ, Bool, true, false, List, codes, ℤ, pos, ◌-ℤ◌, ◌≤ℤ◌}
-use Rattle.difference_bounds.specs.Executions.{at}
-use Rattle.difference_bounds.specs.Rows.{IsGreatestLead, IsLeastLead, least_differences}
-use Rattle.difference_bounds.specs.Tables.{ArcTable, reversed_table}
-use Rattle.difference_bounds.specs.Parents.{Cells}
+use Rattle.problem_model.specs.Executions.{at}
+use Rattle.problem_model.specs.Rows.{IsGreatestLead, IsLeastLead, least_differences}
+use Rattle.problem_model.specs.Tables.{ArcTable, reversed_table}
+use Rattle.problem_model.specs.Parents.{Cells}
 use Rattle.sync_graph.specs.Graph.{GraphLists, table_of}
 use Rattle.problem.specs.Listing.{Listed}
 use Rattle.attain.specs.declared.side.Side.{Side}

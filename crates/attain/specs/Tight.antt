@@ -5,8 +5,8 @@ use Rattle.problem_model.specs.declared.items.Node.TheVariants as nodes
 use Rattle.problem_model.specs.Problem.{ProblemLists}
 use Rattle.problem_model.specs.Bounds.{Times}
 use Rattle.problem_model.specs.Nodes.{Reading, nodes_of}
-use Rattle.difference_bounds.specs.Problems.{IsGreatestOf, IsUnboundedOf}
-use Rattle.difference_bounds.specs.Solutions.{IsNodeOf, IsEarliestExecution, WeighedBound, Leads}
+use Rattle.problem_model.specs.ProblemArcs.{IsGreatestOf, IsUnboundedOf}
+use Rattle.problem_model.specs.Solutions.{IsNodeOf, IsEarliestExecution, WeighedBound, Leads}
 use Rattle.cert.specs.EndLists.{EndLists, Limited, Unlimited}
 use Rattle.cert.specs.Listed.{certified}
 use Rattle.cert.specs.CertificateText.{AreListsOf, ends_lines}

@@ -4,10 +4,10 @@ use Rattle.std.specs.List.{flat_map}
 use Rattle.atto.specs.NsText.{ns_text}
 use Rattle.line_format.specs.Words.{line_of}
 use Rattle.problem_model.specs.declared.items.Bound.{Bound}
-use Rattle.difference_bounds.specs.Executions.{at}
-use Rattle.difference_bounds.specs.Numbers.{IsUpTo}
-use Rattle.difference_bounds.specs.Rows.{IsGreatestLead, IsLeastLead, attaining, least_differences}
-use Rattle.difference_bounds.specs.Parents.{Cells}
+use Rattle.problem_model.specs.Executions.{at}
+use Rattle.problem_model.specs.Numbers.{IsUpTo}
+use Rattle.problem_model.specs.Rows.{IsGreatestLead, IsLeastLead, attaining, least_differences}
+use Rattle.problem_model.specs.Parents.{Cells}
 use Rattle.sync_graph.specs.declared.arc.Arc.{Arc}
 use Rattle.sync_graph.specs.Graph.{GraphLists, arc_at}
 use Rattle.problem.specs.Listing.{Listed, name_at}

@@ -9,7 +9,7 @@ ghost use Rattle.attain.specs.Cuts.{is_another, is_first, clock_if, last_behind}
 
 use crate::side::Side;
 use cert::push_clock;
-use line_words::line::{Line, first_word};
+use ports::fixed_line::{Line, first_word};
 use ports::{Failed, Sink, write_whole};
 use problem::Listing;
 use row_pool::Cell;

@@ -1,8 +1,8 @@
 // The certificate of the interval between two events, by the rows of the first one.
 ghost use Rattle.std.specs.Prelude.{◌≡◌, ◌<◌, ◌≤◌, ◌∷◌, [], ℕ, true, length, codes, All, AllPairs, List};
 ghost use Rattle.line_format.specs.Words.{line_of};
-ghost use Rattle.difference_bounds.specs.Parents.{IsRow};
-ghost use Rattle.difference_bounds.specs.Tables.{reversed_table};
+ghost use Rattle.problem_model.specs.Parents.{IsRow};
+ghost use Rattle.problem_model.specs.Tables.{reversed_table};
 ghost use Rattle.ports.specs.Content.{Writes};
 ghost use Rattle.sync_graph.specs.Graph.{table_of};
 ghost use Rattle.problem.specs.Listing.{name_at, listed_nodes};
@@ -14,7 +14,7 @@ use crate::part::write_end;
 use crate::side::Side;
 use cert::push_event;
 use earliest::Earliest;
-use line_words::line::{Line, first_word};
+use ports::fixed_line::{Line, first_word};
 use ports::{Failed, Sink, write_whole};
 use problem::Listing;
 use row_pool::Cell;

@@ -8,9 +8,9 @@ ghost use Rattle.problem_model.specs.Problem.{ProblemLists, IsProblem};
 ghost use Rattle.problem_model.specs.Bounds.{Times};
 ghost use Rattle.problem_model.specs.Nodes.{Reading, AreReadings, nodes_of};
 ghost use Rattle.problem_model.specs.ShortList.{short_list};
-ghost use Rattle.difference_bounds.specs.Solutions.{IsEarliestExecution, IsContradictionOf, WeighedBound, Leads, weight_of};
+ghost use Rattle.problem_model.specs.Solutions.{IsEarliestExecution, IsContradictionOf, WeighedBound, Leads, weight_of};
 ghost use Rattle.sync_graph.specs.Graph.{GraphLists, IsGraph};
-ghost use Rattle.sync_graph.specs.Standing.{HasBounds};
+ghost use Rattle.problem_graph.specs.Standing.{HasBounds};
 ghost use Rattle.cert.specs.declared.chain.Step.{Step};
 ghost use Rattle.cert.specs.declared.certificate.Cert.TheVariants.{Cycle, Run};
 ghost use Rattle.cert.specs.EndLists.{EndLists};
@@ -20,9 +20,9 @@ ghost use Rattle.cert.specs.CertificateText.{certificate_text};
 ghost use Rattle.cert.specs.ReadsCert.{FitsEndLists};
 ghost use Rattle.cert.specs.ReadAgain.{IsAccepted};
 ghost use Rattle.cert.specs.Shows.{LeadsAgainst, weighed_bounds};
-ghost use Rattle.sync_graph.specs.ListedProblem.{IsListedBy};
+ghost use Rattle.problem_graph.specs.ListedProblem.{IsListedBy};
 ghost use Rattle.attain.specs.ListedProblem.{AreCarried};
-ghost use Rattle.sync_graph.specs.ListedStanding.{StandsForListed};
+ghost use Rattle.problem_graph.specs.ListedStanding.{StandsForListed};
 ghost use Rattle.attain.specs.Tight.{IsUnder, AreTight, IsTightText};
 
 /// Where a problem is listed, what is written by the listing is the text of a certificate of the problem: that of the

@@ -1,7 +1,7 @@
 // The execution at a limit: known nodes at their differences, the others at their earliest values and one lead more.
 ghost use Rattle.std.specs.Prelude.{◌≡◌, ◌<◌, ◌≤◌, true, length, All};
-ghost use Rattle.difference_bounds.specs.Numbers.{IsUpTo};
-ghost use Rattle.difference_bounds.specs.Rows.{attaining};
+ghost use Rattle.problem_model.specs.Numbers.{IsUpTo};
+ghost use Rattle.problem_model.specs.Rows.{attaining};
 ghost use Rattle.ports.specs.Content.{Writes};
 ghost use Rattle.problem.specs.Listing.{listed_nodes};
 ghost use Rattle.cert.specs.Listed.{listed_values};

@@ -1,5 +1,10 @@
 //! Certificates, written as they are made: a contradiction bound by bound, an execution value by value, the ends of an
 //! interval path by path and cut by cut. No call takes memory.
+//!
+//! That arcs, and problems, have an outcome: an earliest execution or a contradiction.
+//!
+//! Arcs are taken one after the other, with a table of the least sums of paths. Where one more arc closes a cycle of negative
+//! sum, that is a contradiction; and where none does, the earliest execution is read off the table.
 #![tactic(auto)]
 
 mod cut;
@@ -8,6 +13,7 @@ mod ends;
 mod interval;
 pub mod laws;
 mod lead;
+pub mod outcomes;
 mod part;
 mod path;
 mod run;

@@ -3,10 +3,10 @@
 ghost use Rattle.std.specs.Prelude.{ℕ, ℤ, List, ◌⊎◌};
 ghost use Rattle.problem_model.specs.Problem.{ProblemLists, IsProblem};
 ghost use Rattle.problem_model.specs.Bounds.{Times};
-ghost use Rattle.difference_bounds.specs.Executions.{Arc, AreWithin};
-ghost use Rattle.difference_bounds.specs.Earliest.{IsEarliest};
-ghost use Rattle.difference_bounds.specs.Paths.{IsContradiction};
-ghost use Rattle.difference_bounds.specs.Solutions.{IsEarliestExecution, WeighedBound, IsContradictionOf};
+ghost use Rattle.problem_model.specs.Executions.{Arc, AreWithin};
+ghost use Rattle.problem_model.specs.Earliest.{IsEarliest};
+ghost use Rattle.problem_model.specs.Paths.{IsContradiction};
+ghost use Rattle.problem_model.specs.Solutions.{IsEarliestExecution, WeighedBound, IsContradictionOf};
 
 /// A law, which does nothing when it runs: arcs between nodes have an earliest execution or a contradiction, and so each
 /// problem has one or the other.

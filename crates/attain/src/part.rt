@@ -1,7 +1,7 @@
 // One part of the certificate of an interval: an end, and what shows it.
 ghost use Rattle.std.specs.Prelude.{◌≡◌, ◌<◌, ◌≤◌, ℕ, List, true, length, All, AllPairs};
-ghost use Rattle.difference_bounds.specs.Executions.{at};
-ghost use Rattle.difference_bounds.specs.Parents.{IsRow};
+ghost use Rattle.problem_model.specs.Executions.{at};
+ghost use Rattle.problem_model.specs.Parents.{IsRow};
 ghost use Rattle.ports.specs.Content.{Writes};
 ghost use Rattle.problem.specs.Listing.{listed_nodes};
 ghost use Rattle.row_pool.specs.Row.{cells_of};

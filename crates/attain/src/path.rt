@@ -2,7 +2,7 @@
 ghost use Rattle.std.specs.Prelude.{◌≡◌, ◌<◌, ◌≤◌, ℤ, List, true, length};
 ghost use Rattle.std.specs.List.{flat_map};
 ghost use Rattle.problem_model.specs.declared.items.Bound.{Bound};
-ghost use Rattle.difference_bounds.specs.Parents.{IsRow};
+ghost use Rattle.problem_model.specs.Parents.{IsRow};
 ghost use Rattle.ports.specs.Content.{Writes};
 ghost use Rattle.cert.specs.Listed.{listed_step};
 ghost use Rattle.row_pool.specs.Row.{cells_of};

@@ -1,7 +1,7 @@
 // The certificate of an execution.
 ghost use Rattle.std.specs.Prelude.{◌≡◌, ◌<◌, true, All, length, slice_get, Some};
 ghost use Rattle.ports.specs.Content.{Writes};
-ghost use Rattle.difference_bounds.specs.Executions.{at};
+ghost use Rattle.problem_model.specs.Executions.{at};
 ghost use Rattle.problem.specs.Listing.{listed_nodes};
 ghost use Rattle.cert.specs.Listed.{listed_values, listed_run};
 

@@ -2,11 +2,11 @@
 ghost use Rattle.std.specs.Prelude.{◌≡◌, ◌∷◌, [], true, false};
 ghost use Rattle.atto.specs.NsText.{ns_text};
 ghost use Rattle.line_format.specs.Words.{line_of};
-ghost use Rattle.difference_bounds.specs.Numbers.{IsUpTo};
+ghost use Rattle.problem_model.specs.Numbers.{IsUpTo};
 ghost use Rattle.attain.specs.Written.{next_node};
 ghost use Rattle.attain.specs.Sides.{is_upper, part, unlimited, signed, IsAsFar};
 
-use line_words::line::{Line, limit_line, unlimited_line};
+use ports::fixed_line::{Line, limit_line, unlimited_line};
 use row_pool::Cell;
 use sync_graph::Arc;
 

@@ -1,5 +1,5 @@
 use crate::fixtures::{text_of, write_pieces};
-use gathering::Gathering;
+use ports::Gathering;
 use ports::{Failed, MemSink};
 use std::alloc::Global;
 

@@ -1,5 +1,5 @@
 // Texts, and how they are written.
-use gathering::Gathering;
+use ports::Gathering;
 use ports::{MemSink, Sink};
 use std::alloc::{AllocError, Global};
 

@@ -1,6 +1,6 @@
 ghost use Rattle.std.specs.Prelude.{◌<◌};
 
-use line_reader::{Line, LineFault, LineReader, LineText};
+use ports::{Line, LineFault, LineReader, LineText};
 use ports::MemSource;
 use std::alloc::{AllocError, Global};
 use std::test::Fail;

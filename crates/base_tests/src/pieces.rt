@@ -1,5 +1,5 @@
 use crate::fixtures::comes_out;
-use gathering::Gathering;
+use ports::Gathering;
 use ports::{MemSink, write_whole};
 use std::alloc::Global;
 use std::test::Fail;

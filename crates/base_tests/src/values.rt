@@ -1,4 +1,4 @@
-use places::Places;
+use interner::Places;
 use std::test::Fail;
 
 #[test]

@@ -1,4 +1,4 @@
-use line_words::{push_decimal, push_ns, push_word};
+use ports::{push_decimal, push_ns, push_word};
 use std::test::Fail;
 
 #[test]

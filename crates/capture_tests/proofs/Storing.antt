@@ -8,7 +8,7 @@ use Rattle.report.specs.Merging.{AreApart}
 use Rattle.mergecap.specs.declared.stored.Stored.{Stored}
 use Rattle.mergecap.specs.MergedCapture.{IsShort, Timed, keys_of}
 use Rattle.mergecap.specs.Packets.{timed, all_timed}
-use Rattle.mergecap_tests.specs.Ready.{AreReady}
+use Rattle.capture_tests.specs.Ready.{AreReady}
 
 pub none_ready : AreReady []
 none_ready = record {

@@ -1,6 +1,6 @@
 // Packets that are stored, merged and read again.
 ghost use Rattle.std.specs.Prelude.{◌≤◌, ◌<◌, ◌≤ℤ◌, pos, length, IfSome, OnOk};
-ghost use Rattle.mergecap_tests.specs.Ready.{AreReady};
+ghost use Rattle.capture_tests.specs.Ready.{AreReady};
 
 use atto::Nano;
 use mergecap::{ArrangeError, Stored, arrange, write_capture};

@@ -1,5 +1,5 @@
 // Merged captures, byte for byte.
-use crate::fixtures::{Frame, Wanted, are_merged_so, is_read_so};
+use crate::merge_fixtures::{Frame, Wanted, are_merged_so, is_read_so};
 use mergecap::ArrangeError;
 use ports::Failed;
 use std::test::*;

@@ -4,7 +4,8 @@ ghost use Rattle.captures.specs.declared.errors.CaptureError.TheVariants as erro
 ghost use Rattle.captures.specs.Capture.{Capture, IsFault};
 ghost use Rattle.captures.specs.Feeding.{StandsFor, IsNew, Grows, Adds, IsSame, taken, rest_of, seen_packets};
 
-use crate::{CaptureError, FirstPackets, Packet};
+use crate::CaptureError;
+use pcap_stream::{FirstPackets, Packet};
 use std::alloc::Global;
 use std::marker::Model;
 

@@ -23,7 +23,7 @@ use Rattle.problem_model.specs.BoundText.{bound_words}
 use Rattle.problem_model.specs.Bounds.{Constraint, Declares, IsReading}
 use Rattle.problem_model.specs.Nodes.{Reading, AreReadings, nodes_of, event_nodes, reading_nodes}
 use Rattle.problem_model.specs.ExecutionText.{value_line, value_lines}
-use Rattle.difference_bounds.specs.Numbers.{IsUpTo}
+use Rattle.problem_model.specs.Numbers.{IsUpTo}
 use Rattle.cert.specs.declared.chain.Step.{Step}
 use Rattle.cert.specs.CertificateText.{IsStepOf, step_line, inside_line}
 use Rattle.cert.proofs.Declaring.{reading_fits}

@@ -7,7 +7,7 @@ use Rattle.problem_model.specs.declared.items.Bound.{Bound}
 use Rattle.problem_model.specs.Problem.{ProblemLists}
 use Rattle.problem_model.specs.Bounds.{Constraint, Declares, EventAt, Times, IsExecution}
 use Rattle.problem_model.specs.Nodes as lists
-use Rattle.difference_bounds.specs.Solutions.{WeighedBound, Leads, weight_of, IsContradictionOf}
+use Rattle.problem_model.specs.Solutions.{WeighedBound, Leads, weight_of, IsContradictionOf}
 use Rattle.cert.specs.declared.chain.Step.{Step}
 use Rattle.cert.specs.declared.certificate.EndProof.{EndProof}
 use Rattle.cert.specs.declared.certificate.Cert.{Cert}

@@ -13,7 +13,7 @@ use crate::certificate::{Cert, EndProof};
 use crate::chain::Step;
 use crate::execution::Execution;
 use crate::write::{push_clock, push_event, write_step, write_value};
-use line_words::line::{Line, first_word, limit_line, unlimited_line};
+use ports::fixed_line::{Line, first_word, limit_line, unlimited_line};
 use ports::{Failed, Sink, write_whole};
 use problem::Problem;
 

@@ -3,7 +3,7 @@ ghost use Rattle.std.specs.Prelude.{◌≡◌, ◌<◌, ◌≤◌, ◌^◌, ◌�
 ghost use Rattle.cert.specs.Sizes.{most_steps};
 
 use atto::Units;
-use problem::Bound;
+use problem_model::Bound;
 use std::alloc::{AllocError, Global};
 use std::marker::Model;
 

@@ -12,7 +12,7 @@ use crate::kinds::{Extreme, StampBound};
 use crate::words::{clock_name, number_of, value_of};
 use atto::Units;
 use line_format::{cut, five_words, four_words, three_words};
-use problem::Name;
+use problem_model::Name;
 
 /// A bound over a span with a weight. A stamp of 2^64 or more is None, and a weight out of range.
 #[derive(Clone, Copy)]

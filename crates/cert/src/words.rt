@@ -7,7 +7,7 @@ ghost use Rattle.cert.specs.Said.{SpellsValue, SpellsNumber, EventParts, SaysEve
 
 use atto::{NumFault, Units, read_decimal, read_ns};
 use line_format::{four_words, three_words};
-use problem::Name;
+use problem_model::Name;
 
 /// What an event's line says. A value out of range is None.
 #[derive(Clone, Copy)]

@@ -3,13 +3,14 @@ ghost use Rattle.std.specs.Prelude.{◌≡◌, ◌≤◌, ◌<◌, ◌+◌, ◌+
 ghost use Rattle.line_format.specs.Words.{words};
 ghost use Rattle.ports.specs.Content.{Writes};
 ghost use Rattle.cert.specs.Listed.{name_at, listed_bound, listed_step, listed_words, words_at, timed_line, IsNamed};
-ghost use Rattle.line_words.specs.Room.{HasRoom};
+ghost use Rattle.ports.specs.Room.{HasRoom};
 ghost use Rattle.problem_model.specs.BoundText.{span_words, stamp_words, follow_words, delay_words};
 
 use atto::Nano;
-use line_words::line::{Line, first_word, push_decimal, push_ns, push_word};
+use ports::fixed_line::{Line, first_word, push_decimal, push_ns, push_word};
 use ports::{Failed, Sink, write_whole};
-use problem::{Bound, Listing};
+use problem_model::Bound;
+use problem::Listing;
 
 /// Appends the name of an event behind a space.
 pub fn push_event<N: Listing>(line: &mut Line, names: &N, event: u32)

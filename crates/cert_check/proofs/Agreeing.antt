@@ -15,9 +15,9 @@ use Rattle.problem_model.specs.Bounds.{Constraint, Declares, EventAt, IsReading,
 use Rattle.problem_model.specs.Nodes.{Reading, AreReadings, nodes_of}
 use Rattle.problem_model.specs.Nodes as lists
 use Rattle.problem_model.proofs.OneList.{readings_one}
-use Rattle.difference_bounds.specs.Solutions.{IsNodeOf}
-use Rattle.difference_bounds.proofs.Problems.{time_at}
-use Rattle.difference_bounds.proofs.Solutions.{place_of}
+use Rattle.problem_model.specs.Solutions.{IsNodeOf}
+use Rattle.problem_model.proofs.Problems.{time_at}
+use Rattle.problem_model.proofs.Solutions.{place_of}
 use Rattle.cert.specs.Shows.{IsExecutionOf, Attains}
 use Rattle.cert_check.specs.declared.answer.Part.{Part}
 use Rattle.cert_check.specs.declared.answer.Reason.{Reason}

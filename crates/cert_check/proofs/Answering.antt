@@ -4,7 +4,7 @@ use Rattle.std.specs.Prelude.{ℤ}
 use Rattle.problem_model.specs.declared.items.Node.{Node}
 use Rattle.problem_model.specs.declared.items.Node.TheVariants as nodes
 use Rattle.problem_model.specs.Problem.{ProblemLists, IsWellFormed}
-use Rattle.difference_bounds.specs.Solutions.{WeighedBound, Leads, IsContradictionOf}
+use Rattle.problem_model.specs.Solutions.{WeighedBound, Leads, IsContradictionOf}
 use Rattle.cert.specs.declared.chain.Step.{Step}
 use Rattle.cert.specs.declared.certificate.EndProof.{EndProof}
 use Rattle.cert.specs.declared.certificate.EndProof.TheVariants.{At, Unbounded}

@@ -9,8 +9,8 @@ use Rattle.problem_model.specs.declared.items.Node.TheVariants as nodes
 use Rattle.problem_model.specs.Problem.{ProblemLists, IsWellFormed}
 use Rattle.problem_model.specs.Bounds.{Constraint, Times, IsExecution}
 use Rattle.problem_model.specs.Nodes as lists
-use Rattle.difference_bounds.specs.Solutions.{WeighedBound, Leads, weight_of}
-use Rattle.difference_bounds.specs.Problems.{IsUnboundedOf}
+use Rattle.problem_model.specs.Solutions.{WeighedBound, Leads, weight_of}
+use Rattle.problem_model.specs.ProblemArcs.{IsUnboundedOf}
 use Rattle.cert.specs.declared.certificate.EndProof.{EndProof}
 use Rattle.cert.specs.declared.certificate.EndProof.TheVariants.{At, Unbounded}
 use Rattle.cert.specs.Shows.{weighed_bounds, IsInside, IsCutOf, Parts, IsExecutionOf, LeadsAgainst, ShowsUpper, ShowsLower}

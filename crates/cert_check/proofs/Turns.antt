@@ -4,7 +4,7 @@ use Rattle.std.specs.Prelude.{ℤ, pos, ◌≤ℤ◌}
 use Rattle.problem_model.specs.declared.items.Bound.{Bound}
 use Rattle.problem_model.specs.declared.items.Node.TheVariants as nodes
 use Rattle.problem_model.specs.Problem.{ProblemLists}
-use Rattle.difference_bounds.specs.Solutions.{weight_of}
+use Rattle.problem_model.specs.Solutions.{weight_of}
 use Rattle.cert.specs.declared.chain.Step.{Step}
 use Rattle.cert.specs.Shows.{weighed_bounds, IsInside}
 use Rattle.cert_check.specs.declared.answer.Part.{Part}

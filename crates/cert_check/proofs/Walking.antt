@@ -6,7 +6,7 @@ use Rattle.std.proofs.lemmas.Option.{slice_get_read}
 use Rattle.problem_model.specs.declared.items.Node.{Node}
 use Rattle.problem_model.specs.Problem.{ProblemLists}
 use Rattle.problem_model.specs.Bounds.{Constraint, Declares}
-use Rattle.difference_bounds.specs.Solutions.{WeighedBound, weight_of}
+use Rattle.problem_model.specs.Solutions.{WeighedBound, weight_of}
 use Rattle.cert.specs.declared.chain.Step.{Step}
 use Rattle.cert.specs.CertificateText.{IsStepOf}
 use Rattle.cert.specs.Shows.{weighed_bounds}

@@ -2,7 +2,7 @@
 use Rattle.std.specs.Prelude.{ℕ, neg_ℤ}
 use Rattle.problem_model.specs.declared.items.Node.TheVariants as nodes
 use Rattle.problem_model.specs.Problem.{ProblemLists}
-use Rattle.difference_bounds.specs.Problems.{IsGreatestOf, IsUnboundedOf}
+use Rattle.problem_model.specs.ProblemArcs.{IsGreatestOf, IsUnboundedOf}
 use Rattle.cert.specs.declared.certificate.EndProof.{EndProof}
 use Rattle.cert.specs.declared.certificate.EndProof.TheVariants.{At, Unbounded}
 

@@ -9,7 +9,7 @@ use Rattle.problem_model.specs.Bounds.{Constraint, Declares, Times}
 use Rattle.problem_model.specs.Nodes as lists
 use Rattle.problem_model.specs.Nodes.{Reading, AreReadings}
 use Rattle.problem_model.specs.ShortList.{follow_bounds, message_bounds, IsFirstBroken}
-use Rattle.difference_bounds.specs.Solutions.{weight_of}
+use Rattle.problem_model.specs.Solutions.{weight_of}
 use Rattle.cert.specs.declared.chain.Step.{Step}
 use Rattle.cert.specs.declared.certificate.EndProof.{EndProof}
 use Rattle.cert.specs.declared.certificate.EndProof.TheVariants.{At, Unbounded}

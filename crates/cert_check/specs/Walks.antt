@@ -5,7 +5,7 @@ use Rattle.problem_model.specs.declared.items.Message.{Message}
 use Rattle.problem_model.specs.declared.items.Node.{Node}
 use Rattle.problem_model.specs.Problem.{ProblemLists}
 use Rattle.problem_model.specs.Bounds.{Constraint, Declares}
-use Rattle.difference_bounds.specs.Solutions.{WeighedBound, weight_of}
+use Rattle.problem_model.specs.Solutions.{WeighedBound, weight_of}
 use Rattle.cert.specs.declared.chain.Step.{Step}
 use Rattle.cert.specs.Shows.{weighed_bounds}
 use Rattle.cert_check.specs.declared.answer.Part.{Part}

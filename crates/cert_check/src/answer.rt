@@ -1,5 +1,5 @@
 // What checking a certificate answers.
-use problem::Bound;
+use problem_model::Bound;
 
 /// A part of a certificate.
 #[derive(Clone, Copy, Debug, PartialEq, Eq)]

@@ -2,7 +2,7 @@
 ghost use Rattle.std.specs.Prelude.{◌≡◌, ◌<◌, ◌^◌, unsigned_abs, List, All, length, slice_get, Some};
 ghost use Rattle.problem_model.specs.Problem.{ProblemLists, IsWellFormed};
 ghost use Rattle.problem_model.specs.Bounds.{Constraint, Declares};
-ghost use Rattle.difference_bounds.specs.Solutions.{IsContradictionOf};
+ghost use Rattle.problem_model.specs.Solutions.{IsContradictionOf};
 ghost use Rattle.cert.specs.declared.chain.Step.{Step};
 ghost use Rattle.cert.specs.CertificateText.{IsStepOf};
 ghost use Rattle.cert.specs.Shows.{weighed_bounds};
@@ -20,7 +20,8 @@ use crate::declared::declared;
 use crate::walk::{Held, Walk, walk_over};
 use atto::Nano;
 use cert::Chain;
-use problem::{Node, Problem};
+use problem_model::Node;
+use problem::Problem;
 
 // What is wrong with a cycle whose walk from where the first step comes from went over all so many steps.
 fn closing_fault(start: &Node, held: Held, count: u32) -> Option<Reason>

@@ -3,7 +3,7 @@
 
 mod answer;
 mod attained;
-mod checking;
+mod certificates;
 mod cut;
 mod cycle;
 mod declared;
@@ -14,7 +14,7 @@ mod verdict;
 mod walk;
 
 pub use answer::{Answer, Part, Reason};
-pub use checking::{check, check_cycle};
+pub use certificates::{check, check_cycle};
 pub use laws::{reasons, soundness};
 pub use text::check_text;
 pub use verdict::{Verdict, obeys, obeys_widened};

@@ -2,7 +2,7 @@
 ghost use Rattle.std.specs.Prelude.{◌≡◌, ◌≢◌, ◌≤◌, ◌<◌, ◌^◌, unsigned_abs, ℕ, List, All, length};
 ghost use Rattle.problem_model.specs.declared.items.Node.TheVariants as nodes;
 ghost use Rattle.problem_model.specs.Problem.{ProblemLists, IsWellFormed};
-ghost use Rattle.difference_bounds.specs.Solutions.{weight_of};
+ghost use Rattle.problem_model.specs.Solutions.{weight_of};
 ghost use Rattle.cert.specs.declared.chain.Step.{Step};
 ghost use Rattle.cert.specs.CertificateText.{IsStepOf};
 ghost use Rattle.cert.specs.Shows.{weighed_bounds};
@@ -20,7 +20,8 @@ use crate::declared::no_extra;
 use crate::walk::{Held, Walk, walk_over};
 use atto::Units;
 use cert::Chain;
-use problem::{Node, Problem};
+use problem_model::Node;
+use problem::Problem;
 
 // The sum that a path should have, in units of 1e-9 ns.
 fn sum_for(part: Part, value: Units) -> i128

@@ -10,7 +10,8 @@ use crate::answer::Part;
 use crate::declared::{Declaration, declared};
 use atto::Nano;
 use cert::Chain;
-use problem::{Node, Problem};
+use problem_model::Node;
+use problem::Problem;
 
 /// What became of a walk. Steps count from 1.
 #[derive(Clone, Copy, Debug, PartialEq, Eq)]

@@ -3,6 +3,9 @@
 //! `executions`, `certificates_read`, `certificates_written` and `follow_steps` have the texts of executions and certificates (`cert`);
 //! `verdicts` what is answered of certificates, and `clocks_that_follow` what is answered where clocks follow each other
 //! (`cert_check`); `parts` makes parts of certificates, and `fixtures` has problems, for several of them.
+//!
+//! Tests of widenings: worked texts, what judging them answers, and their faults; the least widenings of small problems; and in how
+//! many rounds that of a long one is found.
 #![tactic(auto)]
 
 #[cfg(test)]
@@ -18,6 +21,12 @@ mod fixtures;
 #[cfg(test)]
 mod follow_steps;
 #[cfg(test)]
+mod found;
+#[cfg(test)]
 mod parts;
 #[cfg(test)]
+mod rounds;
+#[cfg(test)]
 mod verdicts;
+#[cfg(test)]
+mod widenings;

@@ -3,32 +3,32 @@ use Rattle.std.proofs.Common.{◌≡◌, ◌⊎◌, ◌≤◌, ◌<◌, ◌++◌
 use Rattle.std.specs.Prelude.{IsSomeAnd}
 use Rattle.ports.specs.Content.{Rose, Appends, SinkTold, SourceTold}
 use Rattle.ports.specs.Files.{Content, FilesTold, HasBytes, IsAbsent, Keeps}
-use Rattle.line_reader.specs.Lines.{most_taken, whole_lines}
+use Rattle.ports.specs.Lines.{most_taken, whole_lines}
 use Rattle.problem_model.specs.Problem.{ProblemLists, IsProblem}
 use Rattle.problem.specs.Line.{HasEvent, IsUnknown}
 use Rattle.decl.specs.Declaration.{Declaration}
 use Rattle.decl.specs.Walk.{Declares, IsFirstFault}
 use Rattle.decl.specs.declared.errors.DeclError.TheVariants as faults
 use Rattle.decl.specs.declared.errors.Section.{Section}
-use Rattle.script.specs.Script.{Devices, OfScript, Replied}
+use Rattle.session.specs.Script.{Devices, OfScript, Replied}
 use Rattle.commands.specs.Complete.{Holds, HoldsProblem, IsExecutionText, IsCertText, IsWideningText, IsFaultless, IsAnswered}
-use Rattle.commands.specs.Intervals.{IntervalAnswered}
+use Rattle.problem_commands.specs.Intervals.{IntervalAnswered}
 use Rattle.merge_script.specs.Turns.{reads}
 use Rattle.merge_script.specs.Gathered as merging
 use Rattle.merge_script.specs.declared.unmerged.Unmerged.TheVariants as whys
 use Rattle.commands.specs.declared.declaration.Undeclared.TheVariants as undeclared
 use Rattle.commands.specs.MergedCapture.{MergedOver, MergedAt}
-use Rattle.commands.specs.Obey.{Obeyed}
-use Rattle.commands.specs.Printing.{Prints}
+use Rattle.problem_commands.specs.Obey.{Obeyed}
+use Rattle.problem_commands.specs.Printing.{Prints}
 use Rattle.commands.specs.Sessions.{IsFaultAt, TellsSession, Conducted}
-use Rattle.commands.specs.Solve.{Solved}
-use Rattle.commands.specs.Texts.{SpellsProblem, IsMissed, IsBadProblem, BothHave, MissesOne, RefusesProblem, RefusesExecution, RefusesCert}
+use Rattle.problem_commands.specs.Solve.{Solved}
+use Rattle.problem_commands.specs.Texts.{SpellsProblem, IsMissed, IsBadProblem, BothHave, MissesOne, RefusesProblem, RefusesExecution, RefusesCert}
 use Rattle.commands.specs.Trials.{Tried}
-use Rattle.commands.specs.Verify.{Verified}
-use Rattle.commands.specs.Widening.{RefusesWidening, WideningFound, WideningJudged}
-use Rattle.commands.specs.declared.refusal.Refusal.{Refusal}
-use Rattle.commands.specs.declared.status.Status.{Status}
-use Rattle.commands.specs.declared.status.Status.TheVariants as statuses
+use Rattle.problem_commands.specs.Verify.{Verified}
+use Rattle.problem_commands.specs.Widening.{RefusesWidening, WideningFound, WideningJudged}
+use Rattle.problem_commands.specs.declared.refusal.Refusal.{Refusal}
+use Rattle.problem_commands.specs.declared.status.Status.{Status}
+use Rattle.problem_commands.specs.declared.status.Status.TheVariants as statuses
 use Rattle.commands.proofs.OneText.{HaveOneAnswer, problems_one, no_bad_problem, no_bad_execution, no_bad_cert, no_bad_widening, no_bad_decl}
 
 -- ---- one file

@@ -6,19 +6,19 @@ use Rattle.ports.specs.Files.{Content, FilesTold, Keeps}
 use Rattle.ports.proofs.Appending.{rose_later}
 use Rattle.ports.proofs.Writing.{appends_then, prefix_then}
 use Rattle.decl.specs.Declaration.{Declaration}
-use Rattle.line_reader.specs.Lines.{whole_lines, lines_of, most_taken}
+use Rattle.ports.specs.Lines.{whole_lines, lines_of, most_taken}
 use Rattle.replies.specs.Sessions.{Session, start}
-use Rattle.script.specs.declared.ended.Ended.{Ended}
-use Rattle.script.specs.declared.ended.Ended.TheVariants as ended
-use Rattle.script.specs.Script.{Devices, devices, OfScript, Replied, IsTaken, IsBegun, IsInterrupted, IsDone, IsScriptFault, IsTooLong, IsOutOfMemory, ScriptAnswered}
-use Rattle.script.proofs.Replies.{counted_earlier}
-use Rattle.script.proofs.Places.{of_script}
-use Rattle.commands.specs.Printing.{Closes, Prints}
+use Rattle.session.specs.declared.ended.Ended.{Ended}
+use Rattle.session.specs.declared.ended.Ended.TheVariants as ended
+use Rattle.session.specs.Script.{Devices, devices, OfScript, Replied, IsTaken, IsBegun, IsInterrupted, IsDone, IsScriptFault, IsTooLong, IsOutOfMemory, ScriptAnswered}
+use Rattle.session.proofs.Replies.{counted_earlier}
+use Rattle.session.proofs.Places.{of_script}
+use Rattle.problem_commands.specs.Printing.{Closes, Prints}
 use Rattle.commands.specs.Sessions.{IsDeclaredAt, IsUndeclared, TellsUndeclared, ClosesScript, TellsSession, LacksMemory, Conducted}
 use Rattle.commands.specs.declared.declaration.Undeclared.{Undeclared}
 use Rattle.commands.specs.declared.declaration.Undeclared.TheVariants as causes
-use Rattle.commands.specs.declared.status.Status.{Status}
-use Rattle.commands.specs.declared.status.Status.TheVariants as statuses
+use Rattle.problem_commands.specs.declared.status.Status.{Status}
+use Rattle.problem_commands.specs.declared.status.Status.TheVariants as statuses
 
 -- ---- the replies since the declaration was read, and a last line behind them
 module _ (d : Declaration) (files begun after : FilesTold) (input input' : SourceTold) (out mid new : SinkTold) (keeps : Keeps files begun) (First Whole : List ℕ → Type 0)

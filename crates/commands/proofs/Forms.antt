@@ -7,18 +7,18 @@ use Rattle.atto.specs.declared.text.NumFault.TheVariants.{Spelling, Range}
 use Rattle.atto.proofs.OneSpelling.{decimal_of_injective}
 use Rattle.ports.specs.Content.{SinkTold}
 use Rattle.ports.specs.Files.{FilesTold}
-use Rattle.script.specs.Script.{Devices}
+use Rattle.session.specs.Script.{Devices}
 use Rattle.commands.specs.Run.{obey_words, solve_words, ends_words, verify_words, session_words, trial_words, widen_words, judge_words, mergecap_words, IsNoNumber, IsNoCommand}
-use Rattle.commands.specs.Printing.{Prints}
-use Rattle.commands.specs.Obey.{Obeyed}
-use Rattle.commands.specs.Solve.{Solved}
-use Rattle.commands.specs.Intervals.{IntervalAnswered}
-use Rattle.commands.specs.Verify.{Verified}
+use Rattle.problem_commands.specs.Printing.{Prints}
+use Rattle.problem_commands.specs.Obey.{Obeyed}
+use Rattle.problem_commands.specs.Solve.{Solved}
+use Rattle.problem_commands.specs.Intervals.{IntervalAnswered}
+use Rattle.problem_commands.specs.Verify.{Verified}
 use Rattle.commands.specs.MergedCapture.{MergedAt}
 use Rattle.commands.specs.Sessions.{Conducted}
-use Rattle.commands.specs.Widening.{WideningFound, WideningJudged}
+use Rattle.problem_commands.specs.Widening.{WideningFound, WideningJudged}
 use Rattle.commands.specs.Trials.{Tried}
-use Rattle.commands.specs.declared.status.Status.{Status}
+use Rattle.problem_commands.specs.declared.status.Status.{Status}
 
 -- three words, the first of which is `obey`
 pub is_obey : (ws : List (List ℕ)) (a : List ℕ) → length ws ≡ 3 → slice_get ws 0 ≡ Some a → a ≡ codes "obey" → (problem : List ℕ) × (exec : List ℕ) × (ws ≡ obey_words problem exec)

@@ -3,28 +3,28 @@ use Rattle.std.proofs.Common.{inl, inr, ℕ, List, [], ◌∷◌, ◌++◌, take
 use Rattle.ports.specs.Content.{SourceTold, SinkTold}
 use Rattle.ports.specs.Files.{Content, FilesTold, Keeps}
 use Rattle.decl.specs.Declaration.{Declaration}
-use Rattle.line_reader.specs.Lines.{lines_of, whole_lines, most_taken}
+use Rattle.ports.specs.Lines.{lines_of, whole_lines, most_taken}
 use Rattle.std.specs.Prelude.{All}
 use Rattle.mergecap.specs.MergedCapture.{Timed, AreWritable, IsShort, merged_capture}
 use Rattle.mergecap.specs.Reading.{IsReadBack}
-use Rattle.trace_event.specs.Seen.{Seen}
+use Rattle.traces.specs.Seen.{Seen}
 use Rattle.replies.specs.Reply.{State}
 use Rattle.replies.specs.Sessions.{start}
-use Rattle.script.specs.Script.{OfScript}
-use Rattle.script.proofs.Replies.{counted_earlier}
-use Rattle.script.proofs.Places.{of_script}
+use Rattle.session.specs.Script.{OfScript}
+use Rattle.session.proofs.Replies.{counted_earlier}
+use Rattle.session.proofs.Places.{of_script}
 use Rattle.merge_script.specs.declared.unmerged.Unmerged.{Unmerged}
 use Rattle.merge_script.specs.declared.unmerged.Unmerged.TheVariants as whys
 use Rattle.merge_script.specs.Gathered.{AreAdded, AddsAll, AddsScript, MergeReply, StopsAt, TakesPart, IsTooLong}
 use Rattle.merge_script.specs.Turns.{reads}
 use Rattle.merge_script.specs.Merged.{IsMergeOf, LacksMerge, OfAllAdded, MergesTo, MergesNot}
-use Rattle.commands.specs.Printing.{IsOnly, Prints}
+use Rattle.problem_commands.specs.Printing.{IsOnly, Prints}
 use Rattle.commands.specs.Sessions.{IsDeclaredAt, IsUndeclared, TellsUndeclared}
 use Rattle.commands.specs.MergedCapture.{MergedAt, TellsUnmerged}
 use Rattle.commands.specs.declared.declaration.Undeclared.{Undeclared}
-use Rattle.commands.specs.declared.status.Status.{Status}
-use Rattle.commands.specs.declared.status.Status.TheVariants as statuses
-use Rattle.commands.proofs.Printing.{prints_as}
+use Rattle.problem_commands.specs.declared.status.Status.{Status}
+use Rattle.problem_commands.specs.declared.status.Status.TheVariants as statuses
+use Rattle.problem_commands.proofs.Printing.{prints_as}
 
 module _ (d : Declaration) (files begun after : FilesTold) (input input' : SourceTold) (keeps : Keeps files begun) where
   adds_since : (lines : List (List ℕ)) (s : State) → AddsAll d (reads begun input) (reads after input') lines s → AddsAll d (reads files input) (reads after input') lines s

@@ -23,11 +23,11 @@ use Rattle.widen.specs.WideningFormat as widenings
 use Rattle.widen.proofs.Readable.{widening_one}
 use Rattle.widen.proofs.Reading as widened
 use Rattle.commands.specs.Complete.{IsExecutionText, IsCertText, IsWideningText}
-use Rattle.commands.specs.Refusal.{answer_of}
-use Rattle.commands.specs.Texts.{SpellsProblem, RefusesProblem, RefusesExecution, RefusesCert}
-use Rattle.commands.specs.Widening.{RefusesWidening}
-use Rattle.commands.specs.declared.refusal.Refusal.{Refusal}
-use Rattle.commands.specs.declared.refusal.Refusal.TheVariants as refusals
+use Rattle.problem_commands.specs.Refusal.{answer_of}
+use Rattle.problem_commands.specs.Texts.{SpellsProblem, RefusesProblem, RefusesExecution, RefusesCert}
+use Rattle.problem_commands.specs.Widening.{RefusesWidening}
+use Rattle.problem_commands.specs.declared.refusal.Refusal.{Refusal}
+use Rattle.problem_commands.specs.declared.refusal.Refusal.TheVariants as refusals
 
 -- what a text says is no refusal
 said_or_refused : {State : Type 0} (s : State) (refusal : Refusal) → Found s ≡ answer_of refusal → ⊥

@@ -2,7 +2,7 @@
 use Rattle.std.specs.Prelude.{◌≡◌, ◌⊎◌, ◌≤◌, ℕ, ℤ, List, length, Option, IsSomeAnd}
 use Rattle.ports.specs.Content.{Rose}
 use Rattle.ports.specs.Files.{Content}
-use Rattle.line_reader.specs.Lines.{most_taken}
+use Rattle.ports.specs.Lines.{most_taken}
 use Rattle.problem_model.specs.Problem.{ProblemLists}
 use Rattle.problem_model.specs.Nodes.{Reading, AreReadings}
 use Rattle.problem.specs.Line.{HasEvent}
@@ -11,12 +11,12 @@ use Rattle.cert.specs.ReadsExecution.{IsTextOf}
 use Rattle.decl.specs.Declaration.{Declaration}
 use Rattle.decl.specs.Walk.{Declares}
 use Rattle.widen.specs.declared.widening.Widening.{Widening}
-use Rattle.script.specs.Script.{Devices}
+use Rattle.session.specs.Script.{Devices}
 use Rattle.commands.specs.Run.{IsNoCommand, obey_words, solve_words, ends_words, verify_words, session_words, widen_words, judge_words, mergecap_words}
-use Rattle.commands.specs.Texts.{SpellsProblem, SpellsCert}
-use Rattle.commands.specs.Widening.{SpellsWidening}
-use Rattle.commands.specs.declared.status.Status.{Status}
-use Rattle.commands.specs.declared.status.Status.TheVariants.{Done, No, Memory, NoMerge}
+use Rattle.problem_commands.specs.Texts.{SpellsProblem, SpellsCert}
+use Rattle.problem_commands.specs.Widening.{SpellsWidening}
+use Rattle.problem_commands.specs.declared.status.Status.{Status}
+use Rattle.problem_commands.specs.declared.status.Status.TheVariants.{Done, No, Memory, NoMerge}
 
 -- ---- the files
 -- the files tell that something is at the path, and that its bytes are such

@@ -1,15 +1,5 @@
-pub mod Moved2
 pub mod Run
-pub mod Printing
-pub mod Refusal
-pub mod Texts
 pub mod Trials
-pub mod Unread
-pub mod Obey
-pub mod Solve
-pub mod Intervals
-pub mod Verify
 pub mod Sessions
-pub mod Widening
 pub mod Complete
 pub mod MergedCapture

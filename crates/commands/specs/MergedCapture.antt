@@ -3,15 +3,15 @@ use Rattle.std.specs.Prelude.{◌≡◌, ◌⊎◌, ℕ, List, [], ◌∷◌, �
 use Rattle.decl.specs.Declaration.{Declaration}
 use Rattle.mergecap.specs.MergedCapture.{Timed, AreWritable, IsShort, merged_capture}
 use Rattle.mergecap.specs.Reading.{IsReadBack}
-use Rattle.script.specs.Script.{Devices}
+use Rattle.session.specs.Script.{Devices}
 use Rattle.merge_script.specs.declared.unmerged.Unmerged.{Unmerged}
 use Rattle.merge_script.specs.declared.unmerged.Unmerged.TheVariants as causes
 use Rattle.merge_script.specs.Merged.{MergesTo, MergesNot}
-use Rattle.commands.specs.Printing.{IsOnly}
+use Rattle.problem_commands.specs.Printing.{IsOnly}
 use Rattle.commands.specs.Sessions.{IsDeclaredAt, IsUndeclared, TellsUndeclared}
 use Rattle.commands.specs.declared.declaration.Undeclared.{Undeclared}
-use Rattle.commands.specs.declared.status.Status.{Status}
-use Rattle.commands.specs.declared.status.Status.TheVariants.{Done, ReadFault, ScriptLimit, NoMerge}
+use Rattle.problem_commands.specs.declared.status.Status.{Status}
+use Rattle.problem_commands.specs.declared.status.Status.TheVariants.{Done, ReadFault, ScriptLimit, NoMerge}
 
 -- what is printed where packets are not merged, and with which status
 abbrev pub TellsUnmerged : Unmerged → Status → List ℕ → Type 0

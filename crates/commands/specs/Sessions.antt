@@ -9,15 +9,15 @@ use Rattle.decl.specs.declared.errors.Section.{Section}
 use Rattle.decl.specs.declared.errors.Section.TheVariants.{Top, Hosts, Labels, Links}
 use Rattle.decl.specs.Declaration.{Declaration}
 use Rattle.decl.specs.Walk.{Declares, IsFirstFault}
-use Rattle.script.specs.Script.{Devices, OfScript, IsDone, IsScriptFault, IsTooLong, IsCutOff, IsInterrupted}
-use Rattle.script.specs.declared.ended.Ended.{Ended}
-use Rattle.script.specs.declared.ended.Ended.TheVariants as ended
-use Rattle.commands.specs.Printing.{Closes, IsOnly}
-use Rattle.commands.specs.Texts.{IsMissed}
+use Rattle.session.specs.Script.{Devices, OfScript, IsDone, IsScriptFault, IsTooLong, IsCutOff, IsInterrupted}
+use Rattle.session.specs.declared.ended.Ended.{Ended}
+use Rattle.session.specs.declared.ended.Ended.TheVariants as ended
+use Rattle.problem_commands.specs.Printing.{Closes, IsOnly}
+use Rattle.problem_commands.specs.Texts.{IsMissed}
 use Rattle.commands.specs.declared.declaration.Undeclared.{Undeclared}
 use Rattle.commands.specs.declared.declaration.Undeclared.TheVariants as causes
-use Rattle.commands.specs.declared.status.Status.{Status}
-use Rattle.commands.specs.declared.status.Status.TheVariants.{Done, BadDecl, ReadFault, WriteFault, Memory, ScriptLimit}
+use Rattle.problem_commands.specs.declared.status.Status.{Status}
+use Rattle.problem_commands.specs.declared.status.Status.TheVariants.{Done, BadDecl, ReadFault, WriteFault, Memory, ScriptLimit}
 
 -- ---- the declaration
 -- the word of a section

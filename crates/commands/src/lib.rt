@@ -3,23 +3,11 @@
 #![tactic(auto)]
 
 mod declaration;
-mod ending;
-mod ends;
 mod form;
-mod judging;
+mod lines;
 mod merged;
-mod obey;
-mod print;
-mod moved_1;
 mod program;
-mod refusal;
 mod sessions;
-mod solve;
-mod status;
-mod texts;
 mod trials;
-mod verify;
-mod widening;
 
-pub use crate::program::run;
-pub use crate::status::Status;
+pub use program::run;

@@ -4,7 +4,7 @@ ghost use Rattle.commands.specs.Sessions.{section_word, declaration_line};
 ghost use Rattle.commands.specs.Trials.{counts_line};
 
 use decl::Section;
-use line_words::line::{Line, first_word, push_decimal, push_word};
+use ports::fixed_line::{Line, first_word, push_decimal, push_word};
 
 // The word of a section.
 fn section_word(section: Section) -> &'static [u8]

@@ -7,13 +7,13 @@ ghost use Rattle.mergecap.specs.Packets.{all_timed};
 ghost use Rattle.mergecap.specs.Reading.{IsReadBack};
 ghost use Rattle.merge_script.specs.Turns.{reads};
 ghost use Rattle.commands.specs.MergedCapture.{MergedAt, TellsUnmerged};
-ghost use Rattle.commands.specs.Printing.{Closes, IsOnly, Prints};
-ghost use Rattle.commands.specs.declared.status.Status.TheVariants as statuses;
+ghost use Rattle.problem_commands.specs.Printing.{Closes, IsOnly, Prints};
+ghost use Rattle.problem_commands.specs.declared.status.Status.TheVariants as statuses;
 
 use crate::declaration::decl_in;
-use crate::ending::finish;
+use problem_commands::last_line::finish;
 use crate::sessions::refuse;
-use crate::status::Status;
+use problem_commands::Status;
 use atto::Steps;
 use merge_script::{Unmerged, merge_script};
 use mergecap::{Stored, write_capture};

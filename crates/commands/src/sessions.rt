@@ -1,16 +1,16 @@
 // A session over a script.
 ghost use Rattle.ports.specs.Files.{Keeps};
-ghost use Rattle.script.specs.Script.{devices};
-ghost use Rattle.commands.specs.Printing.{Prints};
+ghost use Rattle.session.specs.Script.{devices};
+ghost use Rattle.problem_commands.specs.Printing.{Prints};
 ghost use Rattle.commands.specs.Sessions.{TellsUndeclared, ClosesScript, Conducted};
 
 use crate::declaration::{Undeclared, decl_in};
-use crate::ending::finish;
-use crate::moved_1::declaration_line;
-use crate::status::Status;
+use problem_commands::last_line::finish;
+use crate::lines::declaration_line;
+use problem_commands::Status;
 use atto::Steps;
 use ports::{Files, Sink, Source};
-use script::{Ended, answer_script};
+use session::{Ended, answer_script};
 use std::alloc::Global;
 use std::sync::ledger::Ledger;
 

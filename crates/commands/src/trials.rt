@@ -2,11 +2,11 @@
 ghost use Rattle.std.specs.Prelude.{◌++◌};
 ghost use Rattle.ports.specs.Content.{Writes};
 ghost use Rattle.trial_session.specs.Trial.{IsTrial};
-ghost use Rattle.commands.specs.Printing.{Prints};
+ghost use Rattle.problem_commands.specs.Printing.{Prints};
 ghost use Rattle.commands.specs.Trials.{counts_line, Tried};
 
-use crate::moved_1::counts_line;
-use crate::status::Status;
+use crate::lines::counts_line;
+use problem_commands::Status;
 use atto::Steps;
 use ports::{Failed, Sink, write_whole};
 use std::alloc::Global;

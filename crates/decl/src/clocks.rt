@@ -7,7 +7,7 @@ ghost use Rattle.decl.specs.Places.{clock_place};
 
 use crate::Owner;
 use crate::limits::MOST_ENTRIES;
-use places::Places;
+use interner::Places;
 use problem_model::{Clock, Name};
 use std::alloc::{AllocError, Global};
 use std::marker::Model;

@@ -4,14 +4,14 @@ use Rattle.std.specs.Prelude.{ℤ, pos, ◌-ℤ◌, ◌≤ℤ◌, ◌≢◌, Opt
 use Rattle.std.proofs.lemmas.Int.{ints}
 use Rattle.std.proofs.lemmas.Bool.{cases_lt}
 use Rattle.row_pool.specs.declared.cell.Cell.{Cell}
-use Rattle.difference_bounds.specs.Numbers.{IsUpTo}
-use Rattle.difference_bounds.specs.Parents.{Cells, LeadsBack, IsRow}
-use Rattle.difference_bounds.specs.RowPops.{IsRowStep, IsUnderWay}
-use Rattle.difference_bounds.specs.Sums.{done_sum, changed_sum}
-use Rattle.difference_bounds.specs.Tables.{ArcTable, ObeysAll}
-use Rattle.difference_bounds.proofs.RowsUnderWay.{under_way_step, under_way_cost, under_way_fewer, under_way_row, under_way_paid, under_way_bounds}
+use Rattle.problem_model.specs.Numbers.{IsUpTo}
+use Rattle.problem_model.specs.Parents.{Cells, LeadsBack, IsRow}
+use Rattle.problem_model.specs.RowPops.{IsRowStep, IsUnderWay}
+use Rattle.problem_model.specs.Sums.{done_sum, changed_sum}
+use Rattle.problem_model.specs.Tables.{ArcTable, ObeysAll}
+use Rattle.problem_model.proofs.RowsUnderWay.{under_way_step, under_way_cost, under_way_fewer, under_way_row, under_way_paid, under_way_bounds}
 use Rattle.frontier.specs.Keys.{IsEmpty, IsLeastEntry}
-use Rattle.difference_bounds.proofs.Heights.{height_low}
+use Rattle.problem_model.proofs.Heights.{height_low}
 use Rattle.sync_graph.specs.Graph.{GraphLists, IsGraph}
 use Rattle.row_pool.specs.Row.{cell_at, cells_of}
 use Rattle.distances.specs.Facing.{facing, potential}

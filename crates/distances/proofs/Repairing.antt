@@ -3,14 +3,14 @@ use Rattle.std.proofs.Common.{◌≡◌, ℕ, ◌*◌, ◌^◌, ◌<◌, ◌≤�
 use Rattle.std.specs.Prelude.{ℤ, pos, neg_ℤ, ◌+ℤ◌, ◌-ℤ◌, ◌≤ℤ◌, All, not}
 use Rattle.std.proofs.lemmas.Int.{ints}
 use Rattle.row_pool.specs.declared.cell.Cell.{Cell}
-use Rattle.difference_bounds.specs.Numbers.{IsUpTo}
-use Rattle.difference_bounds.specs.Parents.{LeadsBack, IsRow}
-use Rattle.difference_bounds.specs.RowPops.{IsCandidate}
-use Rattle.difference_bounds.specs.Tables.{ObeysAll, without}
-use Rattle.difference_bounds.proofs.Heights.{height_low}
-use Rattle.difference_bounds.proofs.Parents.{chain_bound, row_high}
-use Rattle.difference_bounds.proofs.RowStarts.{arc_candidate, arc_from_unknown}
-use Rattle.difference_bounds.proofs.Tables.{without_force, obeys_without}
+use Rattle.problem_model.specs.Numbers.{IsUpTo}
+use Rattle.problem_model.specs.Parents.{LeadsBack, IsRow}
+use Rattle.problem_model.specs.RowPops.{IsCandidate}
+use Rattle.problem_model.specs.Tables.{ObeysAll, without}
+use Rattle.problem_model.proofs.Heights.{height_low}
+use Rattle.problem_model.proofs.Parents.{chain_bound, row_high}
+use Rattle.problem_model.proofs.RowStarts.{arc_candidate, arc_from_unknown}
+use Rattle.problem_model.proofs.Tables.{without_force, obeys_without}
 use Rattle.sync_graph.specs.Graph.{GraphLists, IsGraph, arc_at}
 use Rattle.row_pool.specs.Row.{cell_at, cells_of}
 use Rattle.distances.specs.Facing.{facing, end_of, potential}

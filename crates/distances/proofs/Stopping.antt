@@ -3,13 +3,13 @@ use Rattle.std.proofs.Common.{◌≡◌, ℕ, ◌<◌, Bool, true, false, length
 use Rattle.std.specs.Prelude.{◌^◌, Option, ℤ, pos, neg_ℤ, ◌+ℤ◌, ◌-ℤ◌, ◌≤ℤ◌, ◌<ℤ◌, All}
 use Rattle.std.proofs.lemmas.Int.{ints, by_lt_z}
 use Rattle.std.proofs.lemmas.List.Elements.{Contains-get_or}
-use Rattle.difference_bounds.specs.Executions as bounds
-use Rattle.difference_bounds.specs.Executions.{at, difference, Obeys, IsExecution, AreWithin, values_by}
-use Rattle.difference_bounds.specs.Tables.{ArcTable, Lists, ObeysAll, reversed_table}
-use Rattle.difference_bounds.specs.Parents.{Cells, IsRelaxed}
-use Rattle.difference_bounds.specs.RowPops.{reduced, IsRelaxing, IsUnderWay}
-use Rattle.difference_bounds.proofs.Executions.{at-values_by, execution_by}
-use Rattle.difference_bounds.proofs.Tables.{obeys_all}
+use Rattle.problem_model.specs.Executions as bounds
+use Rattle.problem_model.specs.Executions.{at, difference, Obeys, IsExecution, AreWithin, values_by}
+use Rattle.problem_model.specs.Tables.{ArcTable, Lists, ObeysAll, reversed_table}
+use Rattle.problem_model.specs.Parents.{Cells, IsRelaxed}
+use Rattle.problem_model.specs.RowPops.{reduced, IsRelaxing, IsUnderWay}
+use Rattle.problem_model.proofs.Executions.{at-values_by, execution_by}
+use Rattle.problem_model.proofs.Tables.{obeys_all}
 use Rattle.sync_graph.specs.Graph.{GraphLists, IsGraph, table_of}
 use Rattle.sync_graph.specs.InForce.{arcs_of}
 use Rattle.sync_graph.proofs.InForce.{arcs_listed, arcs_within}

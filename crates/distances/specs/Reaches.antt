@@ -1,7 +1,7 @@
 -- The greatest difference of two nodes, as the executions of a graph have it and as what obeys a table has it.
 use Rattle.std.specs.Prelude.{◌≡◌, ℕ, ℤ, ◌-ℤ◌, ◌≤ℤ◌, ◌<ℤ◌, length}
-use Rattle.difference_bounds.specs.Differences.{IsGreatest, IsUnbounded}
-use Rattle.difference_bounds.specs.Tables.{ArcTable, ObeysAll}
+use Rattle.problem_model.specs.Differences.{IsGreatest, IsUnbounded}
+use Rattle.problem_model.specs.Tables.{ArcTable, ObeysAll}
 use Rattle.sync_graph.specs.Graph.{GraphLists}
 use Rattle.sync_graph.specs.InForce.{arcs_of}
 use Rattle.row_pool.specs.declared.cell.Reach.{Reach}

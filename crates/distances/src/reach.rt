@@ -1,7 +1,7 @@
 // The greatest difference of two nodes, by a search that ends as soon as it knows.
 ghost use Rattle.std.specs.Prelude.{◌≡◌, ℕ, ◌<◌, ◌≤◌, false, true, All, length};
-ghost use Rattle.difference_bounds.specs.Numbers.{IsUpTo};
-ghost use Rattle.difference_bounds.specs.Tables.{ObeysAll};
+ghost use Rattle.problem_model.specs.Numbers.{IsUpTo};
+ghost use Rattle.problem_model.specs.Tables.{ObeysAll};
 ghost use Rattle.frontier.specs.Keys.{IsEmpty};
 ghost use Rattle.earliest.specs.Values.{IsEarliestOf};
 ghost use Rattle.row_pool.specs.Row.{cell_at, cells_of};

@@ -1,8 +1,8 @@
 // The relaxing of the arcs that are followed from one node.
 ghost use Rattle.std.specs.Prelude.{◌≡◌, ◌+◌, ◌<◌, ◌≤◌, ℤ, ◌+ℤ◌, ◌-ℤ◌, ◌≤ℤ◌, false, true, All, length, slice_get, slice_set, Some};
-ghost use Rattle.difference_bounds.specs.Executions.{at};
-ghost use Rattle.difference_bounds.specs.Numbers.{IsUpTo};
-ghost use Rattle.difference_bounds.specs.RowPops.{IsRowStep};
+ghost use Rattle.problem_model.specs.Executions.{at};
+ghost use Rattle.problem_model.specs.Numbers.{IsUpTo};
+ghost use Rattle.problem_model.specs.RowPops.{IsRowStep};
 ghost use Rattle.frontier.specs.Keys.{Waits};
 ghost use Rattle.sync_graph.specs.Lists.{list_at};
 ghost use Rattle.row_pool.specs.Row.{cell_at, cells_of};
@@ -10,7 +10,7 @@ ghost use Rattle.distances.specs.Facing.{facing, followed, end_of, potential};
 ghost use Rattle.distances.specs.Relaxed.{waits_of, AreKeyed, IsShorter, IsEnough, IsOffered, IsRelaxedBy};
 
 use atto::Steps;
-use difference_bounds::numbers::{longer, reduced_distance};
+use problem_model::numbers::{longer, reduced_distance};
 use earliest::Earliest;
 use frontier::Frontier;
 use row_pool::Cell;

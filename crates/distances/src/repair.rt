@@ -1,7 +1,7 @@
 // Rows that are repaired after an arc more.
 ghost use Rattle.std.specs.Prelude.{◌≡◌, ◌+◌, ◌≤◌, false, true, length, slice_index_or};
-ghost use Rattle.difference_bounds.specs.Parents.{IsRow};
-ghost use Rattle.difference_bounds.specs.Tables.{without, reversed_table};
+ghost use Rattle.problem_model.specs.Parents.{IsRow};
+ghost use Rattle.problem_model.specs.Tables.{without, reversed_table};
 ghost use Rattle.frontier.specs.Keys.{IsEmpty};
 ghost use Rattle.sync_graph.specs.Graph.{table_of};
 ghost use Rattle.earliest.specs.Values.{IsEarliestOf};

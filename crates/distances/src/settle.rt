@@ -1,9 +1,9 @@
 // The taking of nodes by least reduced cost.
 ghost use Rattle.std.specs.Prelude.{◌≡◌, ℕ, ◌+◌, ◌<◌, ◌≤◌, ◌^◌, false, true, All, length, pos, ◌≤ℤ◌};
-ghost use Rattle.difference_bounds.specs.Numbers.{IsUpTo};
-ghost use Rattle.difference_bounds.specs.Parents.{IsRow};
-ghost use Rattle.difference_bounds.specs.RowPops.{IsCandidate};
-ghost use Rattle.difference_bounds.specs.Tables.{ObeysAll};
+ghost use Rattle.problem_model.specs.Numbers.{IsUpTo};
+ghost use Rattle.problem_model.specs.Parents.{IsRow};
+ghost use Rattle.problem_model.specs.RowPops.{IsCandidate};
+ghost use Rattle.problem_model.specs.Tables.{ObeysAll};
 ghost use Rattle.frontier.specs.Keys.{IsEmpty};
 ghost use Rattle.row_pool.specs.Row.{cell_at, cells_of};
 ghost use Rattle.distances.specs.Facing.{facing, followed, potential};

@@ -2,8 +2,8 @@
 use Rattle.std.proofs.Common.{◌≡◌, ℕ, zero, suc, ◌+◌, ◌*◌, ◌≤◌, List, length, subst, arith, inl, inr, refl}
 use Rattle.std.specs.Prelude.{ℤ, ◌||◌, if◌then◌else◌, int_lt}
 use Rattle.std.proofs.lemmas.Bool.{cases_Bool}
-use Rattle.difference_bounds.specs.Executions.{at}
-use Rattle.difference_bounds.specs.Sums.{sum_to}
+use Rattle.problem_model.specs.Executions.{at}
+use Rattle.problem_model.specs.Sums.{sum_to}
 use Rattle.sync_graph.specs.Graph.{GraphLists, reaching, arcs_in_force}
 use Rattle.earliest.specs.declared.inserted.Inserted.TheVariants.{Kept}
 use Rattle.earliest.specs.Steps.{differing_sum, most_steps}

@@ -6,13 +6,13 @@ use Rattle.std.proofs.lemmas.Int.{ints}
 use Rattle.std.proofs.lemmas.Bool.{cases_lt}
 use Rattle.std.proofs.lemmas.List.{get_or_default, get_or_past, get_or-set_same}
 use Rattle.std.proofs.lemmas.List.Elements.{Contains-get_or}
-use Rattle.difference_bounds.specs.Executions.{Arc, at, AreWithin}
-use Rattle.difference_bounds.specs.Numbers.{IsUpTo}
-use Rattle.difference_bounds.specs.Tables.{Lists, without}
-use Rattle.difference_bounds.specs.Insertions.{IsFirstRaise}
-use Rattle.difference_bounds.proofs.Heights.{earliest_height, height_low}
-use Rattle.difference_bounds.proofs.Insertions.{obeyed_elsewhere, kept_earliest, first_raising, first_chains}
-use Rattle.difference_bounds.proofs.Tables.{lists_listed, without_force}
+use Rattle.problem_model.specs.Executions.{Arc, at, AreWithin}
+use Rattle.problem_model.specs.Numbers.{IsUpTo}
+use Rattle.problem_model.specs.Tables.{Lists, without}
+use Rattle.problem_model.specs.Insertions.{IsFirstRaise}
+use Rattle.problem_model.proofs.Heights.{earliest_height, height_low}
+use Rattle.problem_model.proofs.Insertions.{obeyed_elsewhere, kept_earliest, first_raising, first_chains}
+use Rattle.problem_model.proofs.Tables.{lists_listed, without_force}
 use Rattle.frontier.specs.Keys.{IsEmpty}
 use Rattle.sync_graph.specs.Graph.{GraphLists, IsGraph, IsSound, arc_at, unnamed, table_of}
 use Rattle.earliest.specs.Values.{arcs_of, arcs_but, IsEarliestOf, IsEarliestBut}

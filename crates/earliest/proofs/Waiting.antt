@@ -4,11 +4,11 @@ use Rattle.std.specs.Prelude.{ℤ, pos, neg_ℤ, ◌+ℤ◌, ◌-ℤ◌, ◌≤�
 use Rattle.std.proofs.lemmas.Int.{ints}
 use Rattle.std.proofs.lemmas.Bool.{cases_lt}
 use Rattle.std.proofs.lemmas.List.{get_or-set_same, get_or-set_other, get_or_past}
-use Rattle.difference_bounds.specs.Executions.{at}
-use Rattle.difference_bounds.specs.Tables.{ArcTable}
-use Rattle.difference_bounds.specs.Insertions.{Raises, IsAsking, IsRaiseStep, IsRaisedTo}
-use Rattle.difference_bounds.proofs.Asking.{asking_start, asking_kept, asking_raised, asking_done}
-use Rattle.difference_bounds.proofs.SimplePaths.{pigeons}
+use Rattle.problem_model.specs.Executions.{at}
+use Rattle.problem_model.specs.Tables.{ArcTable}
+use Rattle.problem_model.specs.Insertions.{Raises, IsAsking, IsRaiseStep, IsRaisedTo}
+use Rattle.problem_model.proofs.Asking.{asking_start, asking_kept, asking_raised, asking_done}
+use Rattle.problem_model.proofs.SimplePaths.{pigeons}
 use Rattle.frontier.specs.Keys.{Waits, IsFree, IsEmpty}
 use Rattle.sync_graph.specs.Graph.{GraphLists, IsGraph, table_of}
 use Rattle.sync_graph.specs.Lists.{list_at, entry_at}

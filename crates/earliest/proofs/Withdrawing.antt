@@ -4,18 +4,18 @@ use Rattle.std.specs.Prelude.{ℤ, pos, neg_ℤ, ◌≤ℤ◌, Option, Some, Non
 use Rattle.std.proofs.lemmas.Bool.{cases_lt}
 use Rattle.std.proofs.lemmas.List.{get_or_default, get_or_past}
 use Rattle.std.proofs.lemmas.List.Elements.{All-append, All-map, All-contains, Contains-get_or, Contains-append_left}
-use Rattle.difference_bounds.specs.Executions as bounds
-use Rattle.difference_bounds.specs.Executions.{at, Obeys, AreWithin}
-use Rattle.difference_bounds.specs.Numbers.{IsUpTo}
-use Rattle.difference_bounds.specs.Sums.{sum_to}
-use Rattle.difference_bounds.specs.Tables.{Lists}
-use Rattle.difference_bounds.proofs.Heights.{earliest_height, height_low}
-use Rattle.difference_bounds.proofs.Sums.{sum-same}
-use Rattle.difference_bounds.proofs.Tables.{lists_listed}
-use Rattle.falls.specs.Withdrawals.{IsExact, flagged_sum}
-use Rattle.falls.proofs.Falling.{first_poised, first_falling}
-use Rattle.falls.proofs.Marking.{are_marks, few_found}
-use Rattle.falls.proofs.Sums.{flagged_below, flagged_both}
+use Rattle.problem_model.specs.Executions as bounds
+use Rattle.problem_model.specs.Executions.{at, Obeys, AreWithin}
+use Rattle.problem_model.specs.Numbers.{IsUpTo}
+use Rattle.problem_model.specs.Sums.{sum_to}
+use Rattle.problem_model.specs.Tables.{Lists}
+use Rattle.problem_model.proofs.Heights.{earliest_height, height_low}
+use Rattle.problem_model.proofs.Sums.{sum-same}
+use Rattle.problem_model.proofs.Tables.{lists_listed}
+use Rattle.withdrawals.specs.Withdrawals.{IsExact, flagged_sum}
+use Rattle.withdrawals.proofs.Falling.{first_poised, first_falling}
+use Rattle.withdrawals.proofs.Marking.{are_marks, few_found}
+use Rattle.withdrawals.proofs.Sums.{flagged_below, flagged_both}
 use Rattle.sync_graph.specs.declared.arc.Arc.{Arc}
 use Rattle.sync_graph.specs.Graph.{GraphLists, IsGraph, IsSound, table_of, unnamed, arc_at, reaching, departing}
 use Rattle.earliest.specs.Values.{arcs_of}

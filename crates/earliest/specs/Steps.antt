@@ -1,7 +1,7 @@
 -- How many steps an insertion takes.
 use Rattle.std.specs.Prelude.{ℕ, ◌+◌, ◌*◌, ◌||◌, ℤ, List, if◌then◌else◌, int_lt, length}
-use Rattle.difference_bounds.specs.Executions.{at}
-use Rattle.difference_bounds.specs.Sums.{sum_to}
+use Rattle.problem_model.specs.Executions.{at}
+use Rattle.problem_model.specs.Sums.{sum_to}
 use Rattle.sync_graph.specs.Graph.{GraphLists, reaching, arcs_in_force}
 use Rattle.earliest.specs.declared.inserted.Inserted.{Inserted}
 use Rattle.earliest.specs.declared.inserted.Inserted.TheVariants.{Kept, Negative}

@@ -1,12 +1,12 @@
 -- A withdrawal that is under way.
 use Rattle.std.specs.Prelude.{◌≡◌, ℕ, ◌+◌, ◌^◌, ◌<◌, ◌≤◌, ◌⊎◌, Bool, true, false, ℤ, pos, ◌≤ℤ◌, ◌<ℤ◌, List, ◌++◌, length, map, slice_index_or, slice_set, Option, Some, None, Contains}
-use Rattle.difference_bounds.specs.Executions as bounds
-use Rattle.difference_bounds.specs.Executions.{at}
-use Rattle.difference_bounds.specs.Earliest.{IsEarliest, IsNonNegative}
+use Rattle.problem_model.specs.Executions as bounds
+use Rattle.problem_model.specs.Executions.{at}
+use Rattle.problem_model.specs.Earliest.{IsEarliest, IsNonNegative}
 use Rattle.sync_graph.specs.declared.arc.Arc.{Arc}
 use Rattle.sync_graph.specs.Graph.{GraphLists, table_of, unnamed}
-use Rattle.falls.specs.Withdrawals.{IsExact, IsAffected}
-use Rattle.falls.specs.Falls.{Falls, IsMarking, IsPoised, IsHeld, IsFalling}
+use Rattle.withdrawals.specs.Withdrawals.{IsExact, IsAffected}
+use Rattle.withdrawals.specs.Falls.{Falls, IsMarking, IsPoised, IsHeld, IsFalling}
 use Rattle.earliest.specs.Values.{arcs_of}
 
 -- the arcs in force and those removed, without their names

@@ -1,16 +1,16 @@
 // The marking of the nodes that a withdrawal affects: they wait in the frontier, and a list has them in the order in
 // which they were found.
 ghost use Rattle.std.specs.Prelude.{◌≡◌, ℕ, ◌+◌, ◌<◌, ◌≤◌, false, true, All, List, length, map};
-ghost use Rattle.difference_bounds.specs.Executions as bounds;
-ghost use Rattle.difference_bounds.specs.Executions.{at};
-ghost use Rattle.difference_bounds.specs.Numbers.{IsUpTo};
-ghost use Rattle.difference_bounds.specs.Sums.{sum_to};
+ghost use Rattle.problem_model.specs.Executions as bounds;
+ghost use Rattle.problem_model.specs.Executions.{at};
+ghost use Rattle.problem_model.specs.Numbers.{IsUpTo};
+ghost use Rattle.problem_model.specs.Sums.{sum_to};
 ghost use Rattle.sync_graph.specs.Graph.{IsSound, most_nodes, unnamed, reaching};
-ghost use Rattle.falls.specs.Withdrawals.{IsExact};
+ghost use Rattle.withdrawals.specs.Withdrawals.{IsExact};
 ghost use Rattle.earliest.specs.Withdrawn.{waits_at, found_at, arcs_before, IsMarkedBy, IsMarkingIn};
 
 use atto::Steps;
-use difference_bounds::numbers::shortfall;
+use problem_model::numbers::shortfall;
 use frontier::Frontier;
 use std::sync::ledger::Ledger;
 use sync_graph::{Arc, Graph};

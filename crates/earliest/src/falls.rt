@@ -1,13 +1,13 @@
 // The falls of marked nodes: each falls only as far as arcs to nodes that do not wait allow, the least fall first.
 ghost use Rattle.std.specs.Prelude.{◌≡◌, ℕ, ◌+◌, ◌<◌, ◌≤◌, neg_ℤ, ◌≤ℤ◌, false, true, All, length, Some, None};
-ghost use Rattle.difference_bounds.specs.Executions.{at, Obeys};
-ghost use Rattle.difference_bounds.specs.Numbers.{IsUpTo};
-ghost use Rattle.difference_bounds.specs.Sums.{sum_to};
+ghost use Rattle.problem_model.specs.Executions.{at, Obeys};
+ghost use Rattle.problem_model.specs.Numbers.{IsUpTo};
+ghost use Rattle.problem_model.specs.Sums.{sum_to};
 ghost use Rattle.frontier.specs.Keys.{IsEmpty};
 ghost use Rattle.sync_graph.specs.Graph.{table_of, reaching, departing};
 ghost use Rattle.sync_graph.specs.Lists.{list_at};
-ghost use Rattle.falls.specs.Withdrawals.{flagged_sum};
-ghost use Rattle.falls.specs.Falls.{IsHolding, IsHeldBy};
+ghost use Rattle.withdrawals.specs.Withdrawals.{flagged_sum};
+ghost use Rattle.withdrawals.specs.Falls.{IsHolding, IsHeldBy};
 ghost use Rattle.earliest.specs.Values.{IsEarliestOf};
 ghost use Rattle.earliest.specs.Withdrawn.{waits_at, fall_at, falls_of, found_at, AreLow, IsLoweredTo, IsPulledIn, IsFallingIn};
 

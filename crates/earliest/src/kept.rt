@@ -1,7 +1,7 @@
 // The earliest execution, as it is kept.
 ghost use Rattle.std.specs.Prelude.{◌≡◌, ℕ, Bool, ◌+◌, ◌*◌, ◌<◌, ◌≤◌, ◌++◌, ◌∷◌, [], false, true, IfOk, OnOk, OnErr, All, length, pos, replicate, slice_index_or};
-ghost use Rattle.difference_bounds.specs.Executions.{at};
-ghost use Rattle.falls.specs.Withdrawals.{flagged_sum};
+ghost use Rattle.problem_model.specs.Executions.{at};
+ghost use Rattle.withdrawals.specs.Withdrawals.{flagged_sum};
 ghost use Rattle.frontier.specs.Keys.{IsEmpty};
 ghost use Rattle.sync_graph.specs.Graph.{IsSound, reaching, departing};
 ghost use Rattle.earliest.specs.Values.{IsEarliestOf, IsEarliestBut};

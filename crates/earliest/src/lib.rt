@@ -12,7 +12,7 @@
 
 mod affected;
 mod cycle;
-mod falling;
+mod falls;
 mod in_force;
 mod inserted;
 mod kept;

@@ -2,12 +2,12 @@
 ghost use Rattle.std.specs.Prelude.{◌≡◌, ℕ, ◌+◌, ◌*◌, ◌<◌, ◌≤◌, true, Bool, All, length};
 ghost use Rattle.frontier.specs.Keys.{IsEmpty};
 ghost use Rattle.sync_graph.specs.Graph.{IsSound, reaching, departing};
-ghost use Rattle.falls.specs.Withdrawals.{flagged_sum};
+ghost use Rattle.withdrawals.specs.Withdrawals.{flagged_sum};
 ghost use Rattle.earliest.specs.Values.{IsEarliestOf};
 ghost use Rattle.earliest.specs.Withdrawn.{IsEarliestWith, IsAffectedBy};
 
 use crate::affected::{mark_all, mark_removed};
-use crate::falling::{pull_all, settle_falls};
+use crate::falls::{pull_all, settle_falls};
 use atto::Steps;
 use frontier::Frontier;
 use std::sync::ledger::Ledger;

@@ -8,7 +8,7 @@ ghost use Rattle.std.specs.Prelude.{◌≡◌, ◌+◌, ◌-◌, ◌<◌, ◌≤
 ghost use Rattle.frontier.specs.Keys.{Waits, IsFree, IsEmpty, IsLeastEntry};
 
 use atto::Steps;
-use heap::{remove_root, sift_up};
+use crate::heap::{remove_root, sift_up};
 use std::alloc::{AllocError, Global};
 use std::marker::Model;
 use std::sync::ledger::Ledger;

@@ -11,8 +11,8 @@ use Rattle.std.proofs.lemmas.List.Sums.{sum_by-cons}
 use Rattle.std.proofs.lemmas.Map.Entries.{place_from_lookup, lookup_from_place, sum_by-insert_entry, sum_by-remove_entry}
 use Rattle.std.proofs.lemmas.Map.Keys.{IsDistinct-from_sorted}
 use Rattle.std.proofs.lemmas.Option.{slice_get_past}
-use Rattle.places.specs.Numbers.{value_at, by_number, AreNumbered, IsLast}
-use Rattle.places.proofs.Positions.{IsFirstAt, position_is, position_none}
+use Rattle.interner.specs.Numbers.{value_at, by_number, AreNumbered, IsLast}
+use Rattle.interner.proofs.Positions.{IsFirstAt, position_is, position_none}
 
 same_some : {X : Type 0} (a b : X) → Some a ≡ Some b → a ≡ b
 same_some a b e = cc

@@ -1,8 +1,9 @@
 //! Different values, each with its place: for names and keys that are looked up, whoever chose them.
 #![tactic(auto)]
 
+
 ghost use Rattle.std.specs.Prelude.{◌≡◌, ◌-◌, ◌<◌, ◌++◌, ◌∷◌, [], length, take, position, Some, None, IfSome, IfErr, OnOk, OnErr};
-ghost use Rattle.places.specs.Numbers.{IsLast};
+ghost use Rattle.interner.specs.Numbers.{IsLast};
 
 use std::alloc::{AllocFailed, Global};
 use std::collections::BTreeMap;
@@ -20,7 +21,7 @@ pub struct Places<T: Ord> {
 impl<T: Ord> Model for Places<T> {
     ghost use Rattle.std.specs.Prelude.{List};
     ghost use Rattle.std.specs.BTreeMap.{IsOrdered};
-    ghost use Rattle.places.specs.Numbers.{by_number, AreNumbered};
+    ghost use Rattle.interner.specs.Numbers.{by_number, AreNumbered};
 
     ghost Value = { List T };
 

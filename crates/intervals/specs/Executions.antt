@@ -4,7 +4,7 @@ use Rattle.problem_model.specs.declared.items.Node.{Node}
 use Rattle.problem_model.specs.declared.items.Node.TheVariants.{Reading}
 use Rattle.problem_model.specs.Problem.{ProblemLists}
 use Rattle.problem_model.specs.Bounds.{Times, IsExecution}
-use Rattle.difference_bounds.specs.Problems.{IsGreatestOf, IsUnboundedOf}
+use Rattle.problem_model.specs.ProblemArcs.{IsGreatestOf, IsUnboundedOf}
 use Rattle.row_pool.specs.declared.cell.Reach.{Reach}
 use Rattle.row_pool.specs.declared.cell.Reach.TheVariants as reaches
 use Rattle.row_pool.specs.declared.cell.Pair.{Pair}

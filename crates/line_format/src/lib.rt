@@ -10,8 +10,8 @@
 mod fault;
 mod parts;
 
-/// The most bytes of a text that is read: 2^31, so that lines are counted in 32 bits and a text is held in memory.
-pub const MOST_BYTES: usize = 1 << 31;
-
 pub use fault::{FaultKind, LineError, Taken};
 pub use parts::{cut, five_words, four_words, three_words};
+
+/// The most bytes of a text that is read: 2^31, so that lines are counted in 32 bits and a text is held in memory.
+pub const MOST_BYTES: usize = 1 << 31;

@@ -5,14 +5,14 @@ use Rattle.std.proofs.lemmas.List.Sums.{sum_by-append}
 use Rattle.ports.specs.Files.{Content, FilesTold, Keeps}
 use Rattle.ports.proofs.Appending.{rose_later}
 use Rattle.decl.specs.Declaration.{Declaration}
-use Rattle.line_reader.specs.Lines.{whole_lines, lines_of, most_taken}
-use Rattle.line_reader.specs.Reader.{Reader, fresh}
-use Rattle.line_reader.proofs.Pieces.{came_off}
+use Rattle.ports.specs.Lines.{whole_lines, lines_of, most_taken}
+use Rattle.ports.specs.Reader.{Reader, fresh}
+use Rattle.ports.proofs.Pieces.{came_off}
 use Rattle.mergecap.specs.declared.stored.Stored.{Stored}
 use Rattle.mergecap.specs.MergedCapture.{Timed}
 use Rattle.mergecap.specs.Packets.{timed, all_timed}
-use Rattle.session.specs.declared.taking.AddAnswer.{AddAnswer}
-use Rattle.session.specs.declared.taking.AddAnswer.TheVariants as answers
+use Rattle.session.specs.declared.kept_packets.AddAnswer.{AddAnswer}
+use Rattle.session.specs.declared.kept_packets.AddAnswer.TheVariants as answers
 use Rattle.replies.specs.declared.refusal.Refusal.TheVariants.{NoCommand}
 use Rattle.replies.specs.Refusals.{refusal_line}
 use Rattle.replies.specs.Reply.{State, Found, Unread}
@@ -21,12 +21,12 @@ use Rattle.session.specs.Stands.{Held, StandsFor}
 use Rattle.session.specs.Taken.{packets_behind}
 use Rattle.session.specs.Taking.{AddLineReply, IsAddedLine, IsAnswerOf, Takes}
 use Rattle.traces.specs.Traces.{Traces}
-use Rattle.script.specs.Script.{Devices, OfScript, lines_within}
-use Rattle.script.specs.Turns.{TakesOff, HasNoLine, FailsInLine, IsPastMost}
-use Rattle.script.proofs.Scripts.{feeds, whole_broken, tail_none}
-use Rattle.script.proofs.Replies.{counted_more, counted_later, counted_none, counted_unread}
-use Rattle.script.proofs.Places.{IsPlace, of_script, of_told, place_more, within_behind, given_first, count_on}
-use Rattle.script.proofs.Endings.{none_left, lines_done, few, open_place, cut_at, length_taken, one_more, past}
+use Rattle.session.specs.Script.{Devices, OfScript, lines_within}
+use Rattle.session.specs.Turns.{TakesOff, HasNoLine, FailsInLine, IsPastMost}
+use Rattle.session.proofs.Scripts.{feeds, whole_broken, tail_none}
+use Rattle.session.proofs.Replies.{counted_more, counted_later, counted_none, counted_unread}
+use Rattle.session.proofs.Places.{IsPlace, of_script, of_told, place_more, within_behind, given_first, count_on}
+use Rattle.session.proofs.Endings.{none_left, lines_done, few, open_place, cut_at, length_taken, one_more, past}
 use Rattle.merge_script.specs.declared.unmerged.Unmerged.{Unmerged}
 use Rattle.merge_script.specs.declared.unmerged.Unmerged.TheVariants as ends
 use Rattle.merge_script.specs.Gathered.{AreAllOf, MergeReply, AreAdded, AddsAll, IsLastBy, StopsAt, TakesPart, IsTooLong, AddsScript, bytes_in, most_bytes}

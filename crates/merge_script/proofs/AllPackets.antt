@@ -16,7 +16,7 @@ use Rattle.report.specs.declared.merge.MergeKey.{MergeKey}
 use Rattle.report.specs.Merging.{AreApart}
 use Rattle.mergecap.specs.MergedCapture.{Timed, IsShort, keys_of}
 use Rattle.mergecap.proofs.Orders.{apart_still}
-use Rattle.trace_event.specs.Seen.{Seen, event_of_packet}
+use Rattle.traces.specs.Seen.{Seen, event_of_packet}
 use Rattle.traces.specs.Traces.{Trace, Captured, Logged, Traces, IsOfKind, nothing_for, seen_of, seen_under, seen_by}
 use Rattle.traces.proofs.Members.{no_pairs, pairs_joined}
 use Rattle.session.specs.Settled.{HasEventOf}

@@ -14,7 +14,7 @@ use Rattle.mergecap.specs.declared.errors.ArrangeError.TheVariants as errors
 use Rattle.mergecap.specs.declared.stored.Stored.{Stored}
 use Rattle.mergecap.specs.Packets.{timed, all_timed}
 use Rattle.mergecap.specs.MergedCapture.{Timed, IsArranged, IsShort, IsFault, HasOneLink, HasTwoLinks, keys_of}
-use Rattle.trace_event.specs.Seen.{Seen}
+use Rattle.traces.specs.Seen.{Seen}
 use Rattle.traces.specs.Messages.{problem_of_seen}
 use Rattle.traces.proofs.Members.{here, there, head_or_tail, none_in}
 use Rattle.queries.specs.Consistent.{IsConsistent}

@@ -3,7 +3,7 @@ use Rattle.std.specs.Prelude.{◌≡◌, ℕ, ◌^◌, ◌<◌, ◌≤◌, List,
 use Rattle.std.specs.List.Sorted.{IsPermutation}
 use Rattle.ports.specs.Files.{Content}
 use Rattle.decl.specs.Declaration.{Declaration}
-use Rattle.line_reader.specs.Lines.{whole_lines, lines_of, most_taken}
+use Rattle.ports.specs.Lines.{whole_lines, lines_of, most_taken}
 use Rattle.mergecap.specs.MergedCapture.{Timed}
 use Rattle.traces.specs.Traces.{Traces}
 use Rattle.replies.specs.declared.refusal.Refusal.TheVariants.{NoCommand}
@@ -11,7 +11,7 @@ use Rattle.replies.specs.Reply.{State, Found, Unread, Refuses}
 use Rattle.replies.specs.Sessions.{AreCounted, start}
 use Rattle.session.specs.Taken.{packets_behind}
 use Rattle.session.specs.Taking.{AddLineReply, IsAddedLine, IsRefusalLine}
-use Rattle.script.specs.Script.{Devices, lines_within}
+use Rattle.session.specs.Script.{Devices, lines_within}
 use Rattle.merge_script.specs.declared.unmerged.Unmerged.{Unmerged}
 use Rattle.merge_script.specs.declared.unmerged.Unmerged.TheVariants.{Refused, Size, Inconsistent, Links, Range, ReadFault, Limit, Memory}
 

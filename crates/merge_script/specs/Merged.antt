@@ -4,13 +4,13 @@ use Rattle.decl.specs.Declaration.{Declaration}
 use Rattle.mergecap.specs.declared.errors.ArrangeError.{ArrangeError}
 use Rattle.mergecap.specs.declared.errors.ArrangeError.TheVariants as errors
 use Rattle.mergecap.specs.MergedCapture.{Timed, IsArranged, IsFault, HasOneLink, HasTwoLinks, time_limit}
-use Rattle.trace_event.specs.Seen.{Seen}
+use Rattle.traces.specs.Seen.{Seen}
 use Rattle.traces.specs.Traces.{seen_by}
 use Rattle.traces.specs.Messages.{problem_of_seen}
 use Rattle.queries.specs.Consistent.{IsConsistent}
 use Rattle.replies.specs.Reply.{State}
 use Rattle.session.specs.Settled.{AreSettled}
-use Rattle.script.specs.Script.{Devices, OfScript}
+use Rattle.session.specs.Script.{Devices, OfScript}
 use Rattle.merge_script.specs.declared.unmerged.Unmerged.{Unmerged}
 use Rattle.merge_script.specs.declared.unmerged.Unmerged.TheVariants as ends
 use Rattle.merge_script.specs.Gathered.{AreAllOf, AddsScript}

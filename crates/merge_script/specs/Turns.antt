@@ -3,14 +3,14 @@ use Rattle.std.specs.Prelude.{◌≡◌, ◌⊎◌, ℕ, List, [], ◌∷◌, No
 use Rattle.ports.specs.Content.{Rose, SourceTold}
 use Rattle.ports.specs.Files.{FilesTold}
 use Rattle.decl.specs.Declaration.{Declaration}
-use Rattle.line_reader.specs.Reader.{Reader}
+use Rattle.ports.specs.Reader.{Reader}
 use Rattle.mergecap.specs.MergedCapture.{Timed}
 use Rattle.replies.specs.Reply.{State, Found}
 use Rattle.replies.specs.Sessions.{AreCounted}
 use Rattle.session.specs.Stands.{Held, StandsFor}
 use Rattle.session.specs.Taking.{IsAddedLine}
-use Rattle.script.specs.Script.{Devices, devices, OfScript}
-use Rattle.script.specs.Turns.{TakesOff, FailsInLine, IsPastMost}
+use Rattle.session.specs.Script.{Devices, devices, OfScript}
+use Rattle.session.specs.Turns.{TakesOff, FailsInLine, IsPastMost}
 use Rattle.merge_script.specs.declared.unmerged.Unmerged.{Unmerged}
 use Rattle.merge_script.specs.declared.unmerged.Unmerged.TheVariants as ends
 use Rattle.merge_script.specs.Gathered.{AreAllOf, MergeReply, IsLastBy, AddsScript, StopsAt, TakesPart, IsTooLong}

@@ -1,21 +1,22 @@
 // The packets that the lines of a script add.
 ghost use Rattle.std.specs.Prelude.{◌≡◌, ◌<◌, ◌≤◌, [], false, true, drop, length, IfOk, IfErr, OnOk, MatchBool};
 ghost use Rattle.ports.specs.Files.{Keeps};
-ghost use Rattle.line_reader.specs.Reader.{fresh, room};
+ghost use Rattle.ports.specs.Reader.{fresh, room};
 ghost use Rattle.mergecap.specs.Packets.{all_timed};
 ghost use Rattle.replies.specs.Sessions.{start};
 ghost use Rattle.session.specs.Stands.{StandsFor, IsReady};
-ghost use Rattle.script.specs.Turns.{HasNoLine};
+ghost use Rattle.session.specs.Turns.{HasNoLine};
 ghost use Rattle.merge_script.specs.Gathered.{bytes_in, most_bytes};
 ghost use Rattle.merge_script.specs.Turns.{AreKeptFor, AddsLine, EndsOrLacks, EndsSo, GathersAll, GathersNone, TakesLine, reads};
 
 use crate::Unmerged;
 use crate::sizes::with_all;
 use atto::Steps;
-use line_reader::{Line, LineFault, LineReader, LineText};
+use ports::{Line, LineFault, LineReader, LineText};
 use mergecap::Stored;
 use ports::{Files, Source};
-use session::{AddAnswer, Session, too_long_text};
+use session::{AddAnswer, Session};
+use replies::too_long_text;
 use std::sync::ledger::Ledger;
 
 // The packets behind so many.

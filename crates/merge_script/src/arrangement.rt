@@ -11,10 +11,10 @@ ghost use Rattle.merge_script.specs.Turns.{AreKeptFor, reads};
 ghost use Rattle.merge_script.specs.Merged.{IsMergeOf, LacksMerge, MergesTo, MergesNot, IsUnarranged, unarranged};
 
 use crate::Unmerged;
-use crate::gathering::gather;
+use crate::added_packets::gather;
 use atto::Steps;
 use decl::Decl;
-use line_reader::LineReader;
+use ports::LineReader;
 use mergecap::{ArrangeError, Stored, arrange};
 use ports::{Files, Source};
 use session::Session;

@@ -2,10 +2,10 @@
 //! put in the order of their events' times.
 #![tactic(auto)]
 
-mod arranging;
-mod gathering;
+mod added_packets;
+mod arrangement;
 mod sizes;
 mod unmerged;
 
-pub use arranging::merge_script;
+pub use arrangement::merge_script;
 pub use unmerged::Unmerged;

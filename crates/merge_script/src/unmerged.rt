@@ -2,7 +2,7 @@
 ghost use Rattle.std.specs.Prelude.{◌≡◌};
 ghost use Rattle.merge_script.specs.declared.unmerged.Unmerged.TheVariants.{Memory};
 
-use session::RefusedText;
+use replies::RefusedText;
 use std::alloc::AllocError;
 
 /// Why the packets of a script are not merged.

@@ -4,17 +4,17 @@ use Rattle.std.specs.Prelude.{filter, is_some}
 use Rattle.std.specs.List.Sorted.{IsPermutation}
 use Rattle.std.proofs.lemmas.List.{length-map}
 use Rattle.std.proofs.lemmas.List.Sorted.{IsPermutation-map}
-use Rattle.trace_event.specs.declared.event.Side.{Side}
-use Rattle.trace_event.specs.declared.event.Side.TheVariants.{Send, Receive}
-use Rattle.trace_event.specs.Seen.{EventKey, is_same_side}
+use Rattle.traces.specs.declared.event.Side.{Side}
+use Rattle.traces.specs.declared.event.Side.TheVariants.{Send, Receive}
+use Rattle.traces.specs.Seen.{EventKey, is_same_side}
 use Rattle.msg_match.specs.declared.change.Tallies.{Tallies}
 use Rattle.msg_match.specs.Groups.{SeenItem, are_ambiguous, events_with, group_of, has_mark, is_ambiguous, is_matched, is_unmatched, only_two}
 use Rattle.msg_match.specs.Messages.{has_ambiguous_key, is_unmatched_event, sends_message, tallies}
-use Rattle.traces.specs.declared.event.EventId.{EventId}
-use Rattle.event_match.specs.Ends.{End}
-use Rattle.event_match.specs.Ambiguous.{tallies_of, unnumbered}
-use Rattle.event_match.proofs.Lists.{alike_filter}
-use Rattle.event_match.proofs.Names.{end_by}
+use Rattle.traces.specs.declared.event_id.EventId.{EventId}
+use Rattle.msg_match.specs.Ends.{End}
+use Rattle.msg_match.specs.Ambiguous.{tallies_of, unnumbered}
+use Rattle.msg_match.proofs.Lists.{alike_filter}
+use Rattle.msg_match.proofs.Names.{end_by}
 
 -- ---- counts
 -- what is counted goes by how many events of each key there are

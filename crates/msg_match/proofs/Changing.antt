@@ -6,9 +6,9 @@ use Rattle.std.proofs.lemmas.Bool.{and_parts, cases_Bool, cases_order, or_cases,
 use Rattle.std.proofs.lemmas.List.{append-nil, get_or_default, map-append}
 use Rattle.std.proofs.lemmas.List.Elements.{All-contains, All-contains_itself, All-filter, Contains-append_left, filter-append, filter_passes}
 use Rattle.std.proofs.lemmas.Option.{none-some, same_Some}
-use Rattle.trace_event.specs.declared.event.Side.{Side}
-use Rattle.trace_event.specs.declared.event.Side.TheVariants.{Send, Receive}
-use Rattle.trace_event.specs.Seen.{EventKey, is_same_key, is_same_side}
+use Rattle.traces.specs.declared.event.Side.{Side}
+use Rattle.traces.specs.declared.event.Side.TheVariants.{Send, Receive}
+use Rattle.traces.specs.Seen.{EventKey, is_same_key, is_same_side}
 use Rattle.msg_match.specs.declared.change.Couple.{Couple}
 use Rattle.msg_match.specs.Groups.{SeenItem, couple_of, events_with, group_of, has_mark, only_two}
 use Rattle.msg_match.specs.Messages.{IsMessage}

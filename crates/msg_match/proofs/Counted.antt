@@ -6,20 +6,20 @@ use Rattle.std.proofs.lemmas.Bool.{and_from, and_parts, cases_Bool, false≢true
 use Rattle.std.proofs.lemmas.List.Folds.{list_any_at}
 use Rattle.std.proofs.lemmas.List.Kept.{AllPairs-filter}
 use Rattle.std.proofs.lemmas.Map.Views.{Contains-from_any}
-use Rattle.trace_event.specs.Seen.{Seen}
+use Rattle.traces.specs.Seen.{Seen}
 use Rattle.std.proofs.lemmas.List.{length-map}
 use Rattle.msg_match.specs.declared.change.Change.{Change}
-use Rattle.traces.specs.declared.event.EventId.{EventId}
-use Rattle.traces.specs.declared.event.Couple.{Couple}
+use Rattle.traces.specs.declared.event_id.EventId.{EventId}
+use Rattle.traces.specs.declared.event_id.Couple.{Couple}
 use Rattle.traces.specs.Traces.{events_of, is_same}
 use Rattle.traces.specs.Messages.{is_same_couple, messages_of, missing}
 use Rattle.traces.proofs.Ids.{ids_rise}
 use Rattle.traces.proofs.Members.{has_passed, kept, was_in}
 use Rattle.traces.proofs.MessageEnds.{sends_differ}
-use Rattle.event_match.specs.declared.changes.Changed.{Changed}
-use Rattle.event_match.specs.Ends.{AreChanges, AreNewMessages, IsChange, named}
-use Rattle.event_match.proofs.Lists.{same_many}
-use Rattle.event_match.proofs.Names.{own_id, same_id}
+use Rattle.msg_match.specs.declared.changes.Changed.{Changed}
+use Rattle.msg_match.specs.Ends.{AreChanges, AreNewMessages, IsChange, named}
+use Rattle.msg_match.proofs.Lists.{same_many}
+use Rattle.msg_match.proofs.Names.{own_id, same_id}
 
 -- ---- couples
 abbrev made : EventId → EventId → Couple

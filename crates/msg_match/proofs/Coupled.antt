@@ -3,22 +3,22 @@ use Rattle.std.proofs.Common.{◌≡◌, ◌≢◌, ℕ, List, [], ◌∷◌, ma
 use Rattle.std.specs.Prelude.{AllPairs, Contains}
 use Rattle.std.specs.List.Sorted.{IsPermutation}
 use Rattle.std.proofs.lemmas.List.Sorted.{IsPermutation-sym}
-use Rattle.trace_event.specs.declared.event.Side.{Side}
-use Rattle.trace_event.specs.declared.event.Side.TheVariants.{Send, Receive}
-use Rattle.trace_event.specs.Seen.{EventKey}
+use Rattle.traces.specs.declared.event.Side.{Side}
+use Rattle.traces.specs.declared.event.Side.TheVariants.{Send, Receive}
+use Rattle.traces.specs.Seen.{EventKey}
 use Rattle.msg_match.specs.declared.change.Couple as numbers
 use Rattle.msg_match.specs.Groups.{SeenItem, events_with}
 use Rattle.msg_match.specs.Messages.{IsMessage}
-use Rattle.traces.specs.declared.event.EventId.{EventId}
-use Rattle.traces.specs.declared.event.Couple.{Couple}
+use Rattle.traces.specs.declared.event_id.EventId.{EventId}
+use Rattle.traces.specs.declared.event_id.Couple.{Couple}
 use Rattle.traces.specs.Traces.{Placed}
 use Rattle.traces.specs.Messages.{messages_of, with_mark}
 use Rattle.traces.proofs.Marks.{only_from, only_to}
 use Rattle.traces.proofs.MessageEnds.{pair_from, pair_to}
-use Rattle.event_match.specs.Ends.{End, end_at, ends_of, name_at, named}
-use Rattle.event_match.specs.Ambiguous.{is_end, names_with}
-use Rattle.event_match.proofs.Lists.{AreAlike, alike_filter, alike_map, alike_one, map_one}
-use Rattle.event_match.proofs.Names.{names_by, names_of}
+use Rattle.msg_match.specs.Ends.{End, end_at, ends_of, name_at, named}
+use Rattle.msg_match.specs.Ambiguous.{is_end, names_with}
+use Rattle.msg_match.proofs.Lists.{AreAlike, alike_filter, alike_map, alike_one, map_one}
+use Rattle.msg_match.proofs.Names.{names_by, names_of}
 
 -- of all ends with some key, the couple has the only send and the only receive
 pub record IsCouple (ends : List End) (m : Couple) : Type 0 where

@@ -8,20 +8,20 @@ use Rattle.std.proofs.lemmas.List.Elements.{All-contains}
 use Rattle.std.proofs.lemmas.List.Kept.{AllPairs-cons, AllPairs-filter}
 use Rattle.std.proofs.lemmas.List.Sorted.{Contains-permutation, IsPermutation-sym}
 use Rattle.std.proofs.lemmas.Map.Views.{Contains-from_any}
-use Rattle.trace_event.specs.declared.event.Side.{Side}
-use Rattle.trace_event.specs.declared.event.Side.TheVariants.{Send, Receive}
-use Rattle.trace_event.specs.Seen.{EventKey, is_same_key, is_same_side}
+use Rattle.traces.specs.declared.event.Side.{Side}
+use Rattle.traces.specs.declared.event.Side.TheVariants.{Send, Receive}
+use Rattle.traces.specs.Seen.{EventKey, is_same_key, is_same_side}
 use Rattle.msg_match.specs.Groups.{each_once}
 use Rattle.msg_match.proofs.Distinct.{any_once, known_at, once_apart, turned}
 use Rattle.msg_match.proofs.Grouping.{exact_keys}
-use Rattle.traces.specs.declared.event.EventId.{EventId}
+use Rattle.traces.specs.declared.event_id.EventId.{EventId}
 use Rattle.traces.specs.Pairs.{ComesBefore}
 use Rattle.traces.proofs.Members.{first_of_pairs, has_passed, here, kept, rest_of_pairs, there, was_in}
-use Rattle.event_match.specs.Ends.{End}
-use Rattle.event_match.specs.Ambiguous.{is_end, names_with}
-use Rattle.event_match.specs.Inside.{AreRising, comes_first, earlier, first_with}
-use Rattle.event_match.proofs.Lists.{each_in, from_map, in_map}
-use Rattle.event_match.proofs.Rising.{differ_apart, pairs_weaker, same_elements}
+use Rattle.msg_match.specs.Ends.{End}
+use Rattle.msg_match.specs.Ambiguous.{is_end, names_with}
+use Rattle.msg_match.specs.EndsInside.{AreRising, comes_first, earlier, first_with}
+use Rattle.msg_match.proofs.Lists.{each_in, from_map, in_map}
+use Rattle.msg_match.proofs.Rising.{differ_apart, pairs_weaker, same_elements}
 
 abbrev pub keys_among : List End → List EventKey
 keys_among ends = each_once is_same_key (map (λ (e : End). e.key) ends)

@@ -7,26 +7,26 @@ use Rattle.std.proofs.lemmas.List.{append-nil, get_or-map, length-map, map-appen
 use Rattle.std.proofs.lemmas.List.Elements.{All-contains, All-filter, All-map, filter-append}
 use Rattle.std.proofs.lemmas.List.Kept.{AllPairs-cons, AllPairs-filter}
 use Rattle.std.proofs.lemmas.List.Sorted.{IsPermutation-map, IsPermutation-sym, length_permutation}
-use Rattle.trace_event.specs.declared.event.Side.{Side}
-use Rattle.trace_event.specs.declared.event.Side.TheVariants.{Send, Receive}
-use Rattle.trace_event.specs.Seen.{EventKey, Seen, SeenMark, Keyed, Unkeyed}
+use Rattle.traces.specs.declared.event.Side.{Side}
+use Rattle.traces.specs.declared.event.Side.TheVariants.{Send, Receive}
+use Rattle.traces.specs.Seen.{EventKey, Seen, SeenMark, Keyed, Unkeyed}
 use Rattle.msg_match.specs.Groups.{SeenGroup, SeenItem, are_ambiguous, events_with, group_of, groups_of, has_mark, is_ambiguous, keys_of}
 use Rattle.msg_match.specs.declared.group.Group.{Group}
 use Rattle.msg_match.specs.Held.{seen_group, seen_groups}
 use Rattle.msg_match.specs.Parts.{keys_in}
-use Rattle.traces.specs.declared.event.EventId.{EventId}
+use Rattle.traces.specs.declared.event_id.EventId.{EventId}
 use Rattle.traces.specs.Traces.{Placed, events_of, is_same}
 use Rattle.traces.specs.Pairs.{ComesBefore}
 use Rattle.traces.proofs.Ids.{ids_rise}
 use Rattle.traces.proofs.Members.{first_of_pairs, giver, no_pairs, rest_of_pairs}
-use Rattle.event_match.specs.Ends.{End, end_at, end_of, ends_of, name_at}
-use Rattle.event_match.specs.Ambiguous.{EndGroup, ambiguous_ends, ambiguous_keys, end_group, is_end, is_ambiguous_key, names_with}
-use Rattle.event_match.specs.Inside.{AreInOrder, AreRising, HasEventsOf, IsWithin, earlier, first_with, led_group, led_groups}
-use Rattle.event_match.proofs.Lists.{alike_filter, alike_map, each_in}
-use Rattle.event_match.proofs.Names.{keys_by, names_by, own_end}
-use Rattle.event_match.proofs.Rising.{differ_still, pairs_map, pairs_unmap, same_elements}
-use Rattle.event_match.proofs.Sorting.{exact_ids, rising_differ}
-use Rattle.event_match.proofs.Firsts.{first_is, firsts_rise, keys_among, keys_moved}
+use Rattle.msg_match.specs.Ends.{End, end_at, end_of, ends_of, name_at}
+use Rattle.msg_match.specs.Ambiguous.{EndGroup, ambiguous_ends, ambiguous_keys, end_group, is_end, is_ambiguous_key, names_with}
+use Rattle.msg_match.specs.EndsInside.{AreInOrder, AreRising, HasEventsOf, IsWithin, earlier, first_with, led_group, led_groups}
+use Rattle.msg_match.proofs.Lists.{alike_filter, alike_map, each_in}
+use Rattle.msg_match.proofs.Names.{keys_by, names_by, own_end}
+use Rattle.msg_match.proofs.Rising.{differ_still, pairs_map, pairs_unmap, same_elements}
+use Rattle.msg_match.proofs.Sorting.{exact_ids, rising_differ}
+use Rattle.msg_match.proofs.Firsts.{first_is, firsts_rise, keys_among, keys_moved}
 
 -- ---- the ends of events rise
 one_rises : (id : EventId) (mark : SeenMark) (ends : List End) → All (λ (b : End). ComesBefore id b.id) ends → AreRising ends → AreRising (end_of id mark ++ ends)

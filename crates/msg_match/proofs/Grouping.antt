@@ -5,10 +5,10 @@ use Rattle.std.specs.List.{list_any}
 use Rattle.std.proofs.lemmas.Bool.{and_from, and_left, and_right, cases_Bool, false≢true, or_cases, or_parts}
 use Rattle.std.proofs.lemmas.List.{append-nil, map_push}
 use Rattle.std.proofs.lemmas.List.Elements.{filter-append}
-use Rattle.trace_event.specs.declared.event.Side.{Side}
-use Rattle.trace_event.specs.declared.event.Side.TheVariants.{Send, Receive}
-use Rattle.trace_event.specs.Seen.{EventKey, is_same_key, is_same_side}
-use Rattle.trace_event.proofs.Keys.{keys_tell}
+use Rattle.traces.specs.declared.event.Side.{Side}
+use Rattle.traces.specs.declared.event.Side.TheVariants.{Send, Receive}
+use Rattle.traces.specs.Seen.{EventKey, is_same_key, is_same_side}
+use Rattle.traces.proofs.Keys.{keys_tell}
 use Rattle.msg_match.specs.Groups.{SeenItem, SeenGroup, events_with, group_of, has_mark, size_of}
 use Rattle.msg_match.specs.Parts.{with_event}
 use Rattle.msg_match.proofs.Distinct.{AreApart, IsExact, last_place, turned}

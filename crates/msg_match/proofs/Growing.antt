@@ -7,11 +7,11 @@ use Rattle.std.proofs.lemmas.List.{append_assoc}
 use Rattle.std.proofs.lemmas.List.Elements.{All-head, All-tail}
 use Rattle.std.proofs.lemmas.List.Sorted.{IsPermutation-append_comm, IsPermutation-append_left, IsPermutation-append_right, IsPermutation-refl, IsPermutation-sym, IsPermutation-trans, length_permutation}
 use Rattle.std.proofs.lemmas.Option.{none-some, same_Some}
-use Rattle.trace_event.specs.Seen.{Seen, SeenMark, Keyed, Unkeyed}
-use Rattle.traces.specs.declared.event.EventId.{EventId}
+use Rattle.traces.specs.Seen.{Seen, SeenMark, Keyed, Unkeyed}
+use Rattle.traces.specs.declared.event_id.EventId.{EventId}
 use Rattle.traces.specs.Traces.{Placed, event_count, events_from, events_of, numbered}
 use Rattle.traces.proofs.Ids.{length_events}
-use Rattle.event_match.specs.Ends.{AreEndsOf, End, end_of, ends_of}
+use Rattle.msg_match.specs.Ends.{AreEndsOf, End, end_of, ends_of}
 
 -- ends of events in a row
 pub ends_joined : (xs ys : List Placed) → ends_of (xs ++ ys) ≡ ends_of xs ++ ends_of ys

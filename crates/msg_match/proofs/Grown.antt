@@ -5,16 +5,16 @@ use Rattle.std.proofs.lemmas.Bool.{cases_lt}
 use Rattle.std.proofs.lemmas.List.{append-nil, append_assoc, get_or_append_left, get_or-append_right, get_or_at, length-map, length_push, map-append, map_more}
 use Rattle.std.proofs.lemmas.List.Elements.{All-append, All-cons, All-head, All-nil, All-tail}
 use Rattle.traces.proofs.Members.{no_pairs}
-use Rattle.trace_event.specs.declared.event.Event.{Event}
-use Rattle.trace_event.specs.Seen.{Seen, SeenMark, Keyed, Unkeyed, mark_of, seen_event, seen_events}
+use Rattle.traces.specs.declared.event.Event.{Event}
+use Rattle.traces.specs.Seen.{Seen, SeenMark, Keyed, Unkeyed, mark_of, seen_event, seen_events}
 use Rattle.msg_match.specs.declared.change.Change.{Change}
 use Rattle.msg_match.specs.Groups.{SeenItem}
 use Rattle.msg_match.specs.Changes.{AreMessagesAnew, HaveOwnNumbers}
-use Rattle.traces.specs.declared.event.EventId.{EventId}
+use Rattle.traces.specs.declared.event_id.EventId.{EventId}
 use Rattle.traces.specs.Traces.{Placed, event_count, numbered}
-use Rattle.event_match.specs.Ends.{AreChanges, AreCouplesBelow, AreEndsBy, AreEndsOf, End, end_at, end_of, ends_of, ids_from, item_of, items_from, name_at, no_name}
-use Rattle.event_match.proofs.Growing.{ends_few as few_ends_of, length_numbered, more_ends, no_ends}
-use Rattle.event_match.proofs.Renamed.{AreWithin, anew_within, named_anew}
+use Rattle.msg_match.specs.Ends.{AreChanges, AreCouplesBelow, AreEndsBy, AreEndsOf, End, end_at, end_of, ends_of, ids_from, item_of, items_from, name_at, no_name}
+use Rattle.msg_match.proofs.Growing.{ends_few as few_ends_of, length_numbered, more_ends, no_ends}
+use Rattle.msg_match.proofs.Renamed.{AreWithin, anew_within, named_anew}
 
 -- ---- numbers
 abbrev Own : SeenItem → SeenItem → Type 0

@@ -6,11 +6,11 @@ use Rattle.std.specs.Str.{bytes_eq}
 use Rattle.std.proofs.lemmas.List.{get_or_at, get_or-map, length-map, length_push, take_all, take_more, take-map}
 use Rattle.std.proofs.lemmas.List.Quantifiers.{position-Some}
 use Rattle.std.proofs.lemmas.Option.{slice_get-get_or, slice_get-map}
-use Rattle.trace_event.specs.declared.event.Key.{Key}
-use Rattle.trace_event.specs.declared.event.Key.TheVariants as code
-use Rattle.trace_event.specs.contracts.event.KeyPartialEq.TheImpl as eq
-use Rattle.places.specs.Numbers.{IsLast}
-use Rattle.trace_event.specs.Seen.{EventKey, is_same_key, key_of}
+use Rattle.traces.specs.declared.event.Key.{Key}
+use Rattle.traces.specs.declared.event.Key.TheVariants as code
+use Rattle.traces.specs.contracts.event.KeyPartialEq.TheImpl as eq
+use Rattle.interner.specs.Numbers.{IsLast}
+use Rattle.traces.specs.Seen.{EventKey, is_same_key, key_of}
 use Rattle.msg_match.proofs.Grouping.{exact_keys}
 use Rattle.msg_match.proofs.Placing.{no_place, none_any}
 

@@ -2,15 +2,15 @@
 use Rattle.std.proofs.Common.{◌≡◌, ℕ, List, [], ◌∷◌, ◌++◌, map, Bool, true, false, cond, ◌&&◌, ◌==◌, inl, inr, refl, sym, ap, ◌∙◌}
 use Rattle.std.specs.Prelude.{Contains}
 use Rattle.std.proofs.lemmas.Bool.{and_from, and_parts, cases_Bool, eq-eqb, eqb-true}
-use Rattle.trace_event.specs.declared.event.Side.{Side}
-use Rattle.trace_event.specs.Seen.{EventKey, SeenMark, Keyed, Unkeyed, is_mark, is_same_key, is_same_side}
+use Rattle.traces.specs.declared.event.Side.{Side}
+use Rattle.traces.specs.Seen.{EventKey, SeenMark, Keyed, Unkeyed, is_mark, is_same_key, is_same_side}
 use Rattle.msg_match.specs.Groups.{SeenItem, events_with}
-use Rattle.traces.specs.declared.event.EventId.{EventId}
+use Rattle.traces.specs.declared.event_id.EventId.{EventId}
 use Rattle.traces.specs.Traces.{Placed, is_same}
 use Rattle.traces.specs.Messages.{with_mark}
 use Rattle.traces.proofs.Members.{head_or_tail, none_in}
-use Rattle.event_match.specs.Ends.{End, end_of, ends_of}
-use Rattle.event_match.specs.Ambiguous.{names_with}
+use Rattle.msg_match.specs.Ends.{End, end_of, ends_of}
+use Rattle.msg_match.specs.Ambiguous.{names_with}
 
 -- ---- names
 abbrev pub made_id : ℕ → ℕ → EventId

@@ -3,22 +3,22 @@ use Rattle.std.proofs.Common.{◌≡◌, ◌≢◌, ◌<◌, ℕ, List, [], ◌�
 use Rattle.std.specs.Prelude.{All, AllPairs, Contains}
 use Rattle.std.proofs.lemmas.Bool.{cases_order}
 use Rattle.std.proofs.lemmas.List.Elements.{All-contains}
-use Rattle.trace_event.specs.declared.event.Side.{Side}
-use Rattle.trace_event.specs.declared.event.Side.TheVariants.{Send, Receive}
-use Rattle.trace_event.specs.Seen.{EventKey, Seen}
+use Rattle.traces.specs.declared.event.Side.{Side}
+use Rattle.traces.specs.declared.event.Side.TheVariants.{Send, Receive}
+use Rattle.traces.specs.Seen.{EventKey, Seen}
 use Rattle.msg_match.specs.declared.change.Couple as numbers
 use Rattle.msg_match.specs.Groups.{SeenItem, events_with}
 use Rattle.msg_match.specs.Messages.{IsMessage}
 use Rattle.msg_match.specs.Changes.{AreMessagesAnew}
 use Rattle.msg_match.proofs.Changing as changing
-use Rattle.traces.specs.declared.event.EventId.{EventId}
-use Rattle.traces.specs.declared.event.Couple.{Couple}
+use Rattle.traces.specs.declared.event_id.EventId.{EventId}
+use Rattle.traces.specs.declared.event_id.Couple.{Couple}
 use Rattle.traces.specs.Traces.{events_of}
 use Rattle.traces.specs.Messages.{messages_of}
 use Rattle.traces.proofs.Ids.{ids_differ}
-use Rattle.event_match.specs.Ends.{AreCouplesBelow, AreEndsOf, AreNewMessages, IsNewMessage, end_at, name_at, named, no_name}
-use Rattle.event_match.proofs.Lists.{each_in, from_map, in_map, map_differs, told_apart}
-use Rattle.event_match.proofs.Coupled.{couple_item, couple_message, item_couple, message_couple}
+use Rattle.msg_match.specs.Ends.{AreCouplesBelow, AreEndsOf, AreNewMessages, IsNewMessage, end_at, name_at, named, no_name}
+use Rattle.msg_match.proofs.Lists.{each_in, from_map, in_map, map_differs, told_apart}
+use Rattle.msg_match.proofs.Coupled.{couple_item, couple_message, item_couple, message_couple}
 
 -- ---- numbers of messages
 -- all numbers are those of names

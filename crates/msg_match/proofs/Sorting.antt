@@ -10,13 +10,13 @@ use Rattle.std.proofs.lemmas.Cmp.{ranked, nat_cmp_total, on_total, then_total}
 use Rattle.std.proofs.lemmas.List.{get_or-map, length-map}
 use Rattle.std.proofs.lemmas.List.Sorted.{Contains-permutation, IsPermutation-map, IsPermutation-sym, ranks_by, sorted_far}
 use Rattle.msg_match.proofs.Distinct.{IsExact}
-use Rattle.traces.specs.declared.event.EventId.{EventId}
+use Rattle.traces.specs.declared.event_id.EventId.{EventId}
 use Rattle.traces.specs.Traces.{is_same}
 use Rattle.traces.specs.Pairs.{ComesBefore}
 use Rattle.traces.proofs.Ids.{before_differs}
 use Rattle.traces.proofs.Members.{no_pairs}
-use Rattle.event_match.proofs.Names.{made_id, own_id, same_id}
-use Rattle.event_match.proofs.Rising.{differ_still, lists_one, pairs_map, pairs_unmap}
+use Rattle.msg_match.proofs.Names.{made_id, own_id, same_id}
+use Rattle.msg_match.proofs.Rising.{differ_still, lists_one, pairs_map, pairs_unmap}
 
 -- ---- two names
 pub exact_ids : IsExact is_same

@@ -2,10 +2,10 @@
 use Rattle.std.proofs.Common.{◌≡◌, ℕ, ◌<◌, ◌-◌, List, [], ◌∷◌, ◌++◌, length, set, take, get_or, Bool, true, false, ◌==◌, cond, refl, sym, ap, subst, ◌∙◌}
 use Rattle.std.specs.Prelude.{Result, Ok, Err, OnOk, OnErr}
 use Rattle.std.proofs.lemmas.List.{get_or-map, length-map, map_push, map-set, set-get_or, take-map}
-use Rattle.places.specs.Numbers.{IsLast}
-use Rattle.trace_event.specs.declared.event.Side.{Side}
-use Rattle.trace_event.specs.declared.event.Side.TheVariants.{Send, Receive}
-use Rattle.trace_event.specs.Seen.{EventKey, Word, is_same_key, key_of}
+use Rattle.interner.specs.Numbers.{IsLast}
+use Rattle.traces.specs.declared.event.Side.{Side}
+use Rattle.traces.specs.declared.event.Side.TheVariants.{Send, Receive}
+use Rattle.traces.specs.Seen.{EventKey, Word, is_same_key, key_of}
 use Rattle.msg_match.specs.declared.entry.Entry.{Entry}
 use Rattle.msg_match.specs.declared.group.Group.{Group}
 use Rattle.msg_match.specs.Groups.{SeenGroup, size_of}

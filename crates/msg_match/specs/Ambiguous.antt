@@ -1,13 +1,13 @@
 -- The ambiguous keys among ends of messages, and how many messages and events they are.
 use Rattle.std.specs.Prelude.{List, length, map, filter, Bool, ◌&&◌}
-use Rattle.trace_event.specs.declared.event.Side.{Side}
-use Rattle.trace_event.specs.declared.event.Side.TheVariants.{Send, Receive}
-use Rattle.trace_event.specs.Seen.{EventKey, is_same_key, is_same_side}
+use Rattle.traces.specs.declared.event.Side.{Side}
+use Rattle.traces.specs.declared.event.Side.TheVariants.{Send, Receive}
+use Rattle.traces.specs.Seen.{EventKey, is_same_key, is_same_side}
 use Rattle.msg_match.specs.declared.change.Tallies.{Tallies}
 use Rattle.msg_match.specs.Groups.{SeenItem, are_ambiguous, each_once}
 use Rattle.msg_match.specs.Messages.{tallies}
-use Rattle.traces.specs.declared.event.EventId.{EventId}
-use Rattle.event_match.specs.Ends.{End}
+use Rattle.traces.specs.declared.event_id.EventId.{EventId}
+use Rattle.msg_match.specs.Ends.{End}
 
 -- ---- the events of one key
 -- whether an end has this key and this side

@@ -2,17 +2,17 @@
 use Rattle.std.specs.Prelude.{◌≡◌, ◌≢◌, ◌<◌, ◌+◌, ℕ, List, [], ◌∷◌, ◌++◌, length, map, slice_index_or, All, AllPairs, Contains}
 use Rattle.std.specs.List.{flat_map}
 use Rattle.std.specs.List.Sorted.{IsPermutation}
-use Rattle.trace_event.specs.declared.event.Side.{Side}
-use Rattle.trace_event.specs.Seen.{EventKey, SeenMark, Keyed, Unkeyed, Seen}
+use Rattle.traces.specs.declared.event.Side.{Side}
+use Rattle.traces.specs.Seen.{EventKey, SeenMark, Keyed, Unkeyed, Seen}
 use Rattle.msg_match.specs.declared.change.Couple as numbers
 use Rattle.msg_match.specs.declared.change.Change.{Change}
 use Rattle.msg_match.specs.Groups.{SeenItem}
 use Rattle.msg_match.specs.Changes.{HaveOwnNumbers}
-use Rattle.traces.specs.declared.event.EventId.{EventId}
-use Rattle.traces.specs.declared.event.Couple.{Couple}
+use Rattle.traces.specs.declared.event_id.EventId.{EventId}
+use Rattle.traces.specs.declared.event_id.Couple.{Couple}
 use Rattle.traces.specs.Traces.{Placed, events_of, numbered}
 use Rattle.traces.specs.Messages.{messages_of, missing}
-use Rattle.event_match.specs.declared.changes.Changed.{Changed}
+use Rattle.msg_match.specs.declared.changes.Changed.{Changed}
 
 -- an end of a message: which event it is, what the message is known by, and whether the event sends or receives it
 pub record End : Type 0 where

@@ -1,13 +1,13 @@
 -- The events of ambiguous keys in their order.
 use Rattle.std.specs.Prelude.{◌<◌, ℕ, List, All, AllPairs, [], ◌∷◌, length, map, filter, Bool, ◌&&◌, ◌||◌, ◌==◌, nat_lt, if◌then◌else◌}
 use Rattle.std.specs.List.Sorted.{IsPermutation}
-use Rattle.trace_event.specs.declared.event.Side.TheVariants.{Send, Receive}
-use Rattle.trace_event.specs.Seen.{EventKey, is_same_key}
+use Rattle.traces.specs.declared.event.Side.TheVariants.{Send, Receive}
+use Rattle.traces.specs.Seen.{EventKey, is_same_key}
 use Rattle.msg_match.specs.Groups.{SeenGroup}
-use Rattle.traces.specs.declared.event.EventId.{EventId}
+use Rattle.traces.specs.declared.event_id.EventId.{EventId}
 use Rattle.traces.specs.Pairs.{ComesBefore}
-use Rattle.event_match.specs.Ends.{End, name_at, no_name}
-use Rattle.event_match.specs.Ambiguous.{EndGroup, end_group, is_ambiguous_key, names_with}
+use Rattle.msg_match.specs.Ends.{End, name_at, no_name}
+use Rattle.msg_match.specs.Ambiguous.{EndGroup, end_group, is_ambiguous_key, names_with}
 
 -- names stand in the order of their labels, and of their numbers under one label
 abbrev pub AreInOrder : List EventId → Type 0

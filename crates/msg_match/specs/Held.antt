@@ -1,7 +1,7 @@
 -- What is seen of events and groups.
 use Rattle.std.specs.Prelude.{List, map, Option, option_map}
 use Rattle.std.specs.Borrow.{Bor}
-use Rattle.trace_event.specs.Seen.{key_of}
+use Rattle.traces.specs.Seen.{key_of}
 use Rattle.msg_match.specs.declared.item.Item.{Item}
 use Rattle.msg_match.specs.declared.group.Group.{Group}
 use Rattle.msg_match.specs.Groups.{SeenItem, SeenGroup}

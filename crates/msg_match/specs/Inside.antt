@@ -1,6 +1,6 @@
 -- What a matcher's tables say.
 use Rattle.std.specs.Prelude.{◌≡◌, ◌<◌, ◌≤◌, ◌^◌, List, [], length, map, slice_index_or, All}
-use Rattle.trace_event.specs.Seen.{EventKey, Word}
+use Rattle.traces.specs.Seen.{EventKey, Word}
 use Rattle.msg_match.specs.declared.entry.Entry.{Entry}
 use Rattle.msg_match.specs.Groups.{SeenItem, SeenGroup, keys_of, group_of}
 

@@ -5,3 +5,6 @@ pub mod Changes
 pub mod Parts
 pub mod Inside
 pub mod Sums
+pub mod Ends
+pub mod Ambiguous
+pub mod EndsInside

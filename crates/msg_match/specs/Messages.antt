@@ -1,7 +1,7 @@
 -- The messages among events, and how many there are.
 use Rattle.std.specs.Prelude.{◌≡◌, ◌⊎◌, List, [], ◌∷◌, length, filter, Bool, ◌&&◌}
-use Rattle.trace_event.specs.declared.event.Side.TheVariants.{Send, Receive}
-use Rattle.trace_event.specs.Seen.{EventKey, is_same_side}
+use Rattle.traces.specs.declared.event.Side.TheVariants.{Send, Receive}
+use Rattle.traces.specs.Seen.{EventKey, is_same_side}
 use Rattle.msg_match.specs.declared.change.Couple.{Couple}
 use Rattle.msg_match.specs.declared.change.Tallies.{Tallies}
 use Rattle.msg_match.specs.Groups.{SeenItem, events_with, group_of, is_matched, is_ambiguous, is_unmatched}

@@ -1,9 +1,9 @@
 -- What the parts of a matcher promise each other.
 use Rattle.std.specs.Prelude.{◌≡◌, ℕ, ◌-◌, ◌==◌, List, [], ◌∷◌, ◌++◌, length, map, take, slice_set, slice_index_or, sum_by, Some, Option, None, Bool, ◌&&◌, if◌then◌else◌, Contains, AllPairs, ◌≢◌}
 use Rattle.std.specs.List.{list_any}
-use Rattle.trace_event.specs.declared.event.Side.{Side}
-use Rattle.trace_event.specs.declared.event.Side.TheVariants.{Send, Receive}
-use Rattle.trace_event.specs.Seen.{EventKey, Word}
+use Rattle.traces.specs.declared.event.Side.{Side}
+use Rattle.traces.specs.declared.event.Side.TheVariants.{Send, Receive}
+use Rattle.traces.specs.Seen.{EventKey, Word}
 use Rattle.msg_match.specs.declared.change.Couple.{Couple}
 use Rattle.msg_match.specs.declared.change.Tallies.{Tallies}
 use Rattle.msg_match.specs.declared.entry.Entry.{Entry}

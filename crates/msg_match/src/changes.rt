@@ -1,10 +1,10 @@
 // How many messages a change brings and takes.
 ghost use Rattle.std.specs.Prelude.{◌≡◌, List, length};
-ghost use Rattle.trace_event.specs.Seen.{Seen};
-ghost use Rattle.traces.specs.declared.event.EventId.{EventId};
-ghost use Rattle.event_match.specs.Ends.{AreChanges, IsChange};
+ghost use Rattle.traces.specs.Seen.{Seen};
+ghost use Rattle.traces.specs.declared.event_id.EventId.{EventId};
+ghost use Rattle.msg_match.specs.Ends.{AreChanges, IsChange};
 
-use msg_match::Change;
+use crate::Change;
 
 /// How many messages come by an addition, and how many go.
 #[derive(Clone, Copy, Debug, PartialEq, Eq)]

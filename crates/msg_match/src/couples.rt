@@ -3,7 +3,7 @@ ghost use Rattle.std.specs.Prelude.{◌≡◌, ◌++◌, ◌∷◌, [], None, On
 ghost use Rattle.msg_match.specs.Parts.{is_same_couple, noted};
 
 use crate::Couple;
-use places::Places;
+use interner::Places;
 use std::alloc::{AllocError, Global};
 use std::marker::Model;
 

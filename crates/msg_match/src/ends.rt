@@ -1,12 +1,12 @@
 // What is true of the ends of messages while events are added.
 ghost use Rattle.std.specs.Prelude.{◌≡◌, ◌≢◌, ◌≤◌, ◌+◌, ◌++◌, ℕ, List, [], All, AllPairs, length, slice_get, slice_set, Some};
-ghost use Rattle.trace_event.specs.Seen.{Seen};
+ghost use Rattle.traces.specs.Seen.{Seen};
 ghost use Rattle.msg_match.specs.declared.change.Change.{Change};
 ghost use Rattle.msg_match.specs.Groups.{SeenItem};
 ghost use Rattle.msg_match.specs.Changes.{AreMessagesAnew};
-ghost use Rattle.traces.specs.declared.event.EventId.{EventId};
+ghost use Rattle.traces.specs.declared.event_id.EventId.{EventId};
 ghost use Rattle.traces.specs.Traces.{event_count};
-ghost use Rattle.event_match.specs.Ends.{AreChanges, AreEndsBy, ids_from, items_from};
+ghost use Rattle.msg_match.specs.Ends.{AreChanges, AreEndsBy, ids_from, items_from};
 
 /// A law, which does nothing when it runs: where there are no events there are no ends of messages; with events that are
 /// added to those of a label, and numbered behind all, their ends are added; there are no more ends than events; and what changes

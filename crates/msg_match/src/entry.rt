@@ -1,5 +1,5 @@
 // Events that were added.
-use trace_event::Side;
+use traces::Side;
 
 // An event: its number, its side, and the place of its key.
 #[derive(Clone, Copy)]

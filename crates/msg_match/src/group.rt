@@ -1,13 +1,13 @@
 // The events of one key.
 ghost use Rattle.std.specs.Prelude.{◌≡◌, ◌≤◌, ◌^◌, ◌==◌, [], OnOk, OnErr};
-ghost use Rattle.trace_event.specs.Seen.{key_of};
+ghost use Rattle.traces.specs.Seen.{key_of};
 ghost use Rattle.msg_match.specs.Groups.{size_of, couple_of, is_ambiguous};
 ghost use Rattle.msg_match.specs.Held.{seen_group};
 ghost use Rattle.msg_match.specs.Parts.{with_event, without_last, tallies_of};
 
 use crate::{Couple, Tallies};
 use std::alloc::{AllocError, Global};
-use trace_event::{Key, Side};
+use traces::{Key, Side};
 
 /// The events of one key.
 #[derive(Debug, Drop)]

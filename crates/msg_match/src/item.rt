@@ -1,11 +1,11 @@
 // Events that are added.
 ghost use Rattle.std.specs.Prelude.{◌≡◌, IfOk};
-ghost use Rattle.trace_event.specs.Seen.{key_of};
+ghost use Rattle.traces.specs.Seen.{key_of};
 ghost use Rattle.msg_match.specs.Held.{seen_item};
 
 use crate::tables::copy_key;
 use std::alloc::AllocError;
-use trace_event::{Key, Side};
+use traces::{Key, Side};
 
 /// An event that is an end of a message.
 #[derive(Debug, Drop)]

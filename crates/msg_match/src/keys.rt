@@ -1,13 +1,13 @@
 // Keys by their places.
 ghost use Rattle.std.specs.Prelude.{◌≡◌, ◌<◌, ◌-◌, ◌++◌, ◌∷◌, [], length, take, slice_get, Some, false, IfSome, IfNone, OnOk, OnErr};
 ghost use Rattle.std.specs.List.{list_any};
-ghost use Rattle.places.specs.Numbers.{IsLast};
-ghost use Rattle.trace_event.specs.Seen.{key_of, is_same_key};
+ghost use Rattle.interner.specs.Numbers.{IsLast};
+ghost use Rattle.traces.specs.Seen.{key_of, is_same_key};
 
-use places::Places;
+use interner::Places;
 use std::alloc::{AllocError, Global};
 use std::marker::Model;
-use trace_event::Key;
+use traces::Key;
 
 /// Different keys, by their places from 0 on.
 #[derive(Drop)]
@@ -17,7 +17,7 @@ pub(crate) struct Keys {
 
 impl Model for Keys {
     ghost use Rattle.std.specs.Prelude.{List, map};
-    ghost use Rattle.trace_event.specs.Seen.{EventKey, key_of};
+    ghost use Rattle.traces.specs.Seen.{EventKey, key_of};
 
     ghost Value = { List EventKey };
 

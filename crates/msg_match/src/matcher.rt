@@ -1,6 +1,6 @@
 // Messages among all events that were added.
 ghost use Rattle.std.specs.Prelude.{◌≡◌, ◌<◌, ◌≤◌, ◌-◌, ◌+◌, ◌^◌, ◌++◌, ◌∷◌, [], List, length, take, slice_get, OnOk, OnErr, IfOk};
-ghost use Rattle.trace_event.specs.Seen.{key_of};
+ghost use Rattle.traces.specs.Seen.{key_of};
 ghost use Rattle.msg_match.specs.Groups.{SeenItem, couple_of, group_of, groups_of, ambiguous_groups};
 ghost use Rattle.msg_match.specs.Messages.{tallies};
 ghost use Rattle.msg_match.specs.Held.{seen_item, seen_items, seen_found, seen_groups};
@@ -11,11 +11,11 @@ use crate::couples::Couples;
 use crate::entry::Entry;
 use crate::keys::Keys;
 use crate::tables::{push_at, push_first, take_back};
-use crate::tallying::{ambiguous_count, ambiguous_group, sum};
+use crate::tallies::{ambiguous_count, ambiguous_group, sum};
 use crate::{Change, Couple, Group, Item, Tallies};
 use std::alloc::{AllocError, Global};
 use std::marker::Model;
-use trace_event::Key;
+use traces::Key;
 
 /// The events that are ends of messages, and which of them are a message. It is seen as the list of all events that were
 /// added, at most 2^22.

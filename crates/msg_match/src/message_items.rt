@@ -1,12 +1,12 @@
 // The ends of messages among events.
 ghost use Rattle.std.specs.Prelude.{◌≡◌, ◌+◌, ◌<◌, ◌^◌, ◌++◌, length, OnOk, IfOk};
-ghost use Rattle.trace_event.specs.Seen.{mark_of, seen_events};
+ghost use Rattle.traces.specs.Seen.{mark_of, seen_events};
 ghost use Rattle.msg_match.specs.Held.{seen_items};
-ghost use Rattle.event_match.specs.Ends.{item_of, items_from};
+ghost use Rattle.msg_match.specs.Ends.{item_of, items_from};
 
-use msg_match::Item;
+use crate::Item;
 use std::alloc::{AllocError, Global};
-use trace_event::{Event, Mark};
+use traces::{Event, Mark};
 
 // Appends the event of a number, where its mark says that it is an end of a message; an error where memory runs out.
 fn push_end(items: &mut Vec<Item>, number: u32, mark: &Mark) -> Result<(), AllocError>

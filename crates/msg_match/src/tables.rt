@@ -1,7 +1,7 @@
 // The tables of a matcher, changed by one event.
 ghost use Rattle.std.specs.Prelude.{◌≡◌, ◌<◌, ◌≤◌, ◌^◌, ◌++◌, ◌∷◌, [], length, slice_set, false, OnOk, OnErr, IfOk};
 ghost use Rattle.std.specs.List.{list_any};
-ghost use Rattle.trace_event.specs.Seen.{key_of, is_same_key};
+ghost use Rattle.traces.specs.Seen.{key_of, is_same_key};
 ghost use Rattle.msg_match.specs.Held.{seen_groups};
 ghost use Rattle.msg_match.specs.Parts.{group_at, with_event, empty_group, entry_at, groups_before, keys_before, keys_in};
 
@@ -9,7 +9,7 @@ use crate::entry::Entry;
 use crate::keys::Keys;
 use crate::{Group, Item};
 use std::alloc::AllocError;
-use trace_event::Key;
+use traces::Key;
 
 /// A key once more; an error where memory runs out.
 pub(crate) fn copy_key(key: &Key) -> Result<Key, AllocError>

@@ -2,7 +2,7 @@
 use Rattle.std.proofs.Common.{◌≡◌, ◌≢◌, ℕ, zero, suc, ◌+◌, ◌<◌, ◌≤◌, List, [], ◌∷◌, ◌++◌, length, take, drop, position, ◌==◌, not, cond, nat_eq, nat_lt, Bool, true, false, Some, None, refl, ap, arith, get_or, Contains}
 use Rattle.std.specs.List.{position_or_len}
 use Rattle.std.proofs.lemmas.List.{take_all}
-use Rattle.line_reader.specs.Lines.{NoFeed}
+use Rattle.ports.specs.Lines.{NoFeed}
 
 pub none_append : (xs ys : List ℕ) → NoFeed xs → NoFeed ys → NoFeed (xs ++ ys)
 none_append [] ys nx ny = ny

@@ -2,16 +2,16 @@
 use Rattle.std.proofs.Common.{◌≡◌, ℕ, ◌+◌, ◌-◌, ◌<◌, ◌≤◌, ◌⊎◌, ◌↔◌, inl, inr, List, [], ◌∷◌, ◌++◌, length, Bool, true, false, Result, Ok, Err, IfOk, IsErrOf, refl, sym, ◌∙◌, ap, arith, length-append, append_assoc, append-nil}
 use Rattle.ports.specs.Content.{SourceTold}
 use Rattle.ports.proofs.Appending.{rose_later}
-use Rattle.line_reader.specs.declared.line.Line.{Line}
-use Rattle.line_reader.specs.declared.line.Line.TheVariants.{Text, TooLong, End}
-use Rattle.line_reader.specs.declared.line.LineFault.{LineFault}
-use Rattle.line_reader.specs.declared.line.LineFault.TheVariants.{Read, Limit}
-use Rattle.line_reader.specs.declared.reader.Piece.TheVariants.{Whole, Part}
-use Rattle.line_reader.specs.Lines.{NoFeed, most_taken}
-use Rattle.line_reader.specs.Reader.{Reader, Came, IsFirst, Gives, IsNext, Answers, NeedsNoRead, is_final, room}
-use Rattle.line_reader.specs.Block.{IsKept, IsTold, TakesPiece, Refills, EndsLine}
-use Rattle.line_reader.proofs.Feeds.{none_append, none_front, none_contained}
-use Rattle.line_reader.proofs.Pieces.{nothing_came, came_more, none_later}
+use Rattle.ports.specs.declared.line.Line.{Line}
+use Rattle.ports.specs.declared.line.Line.TheVariants.{Text, TooLong, End}
+use Rattle.ports.specs.declared.line.LineFault.{LineFault}
+use Rattle.ports.specs.declared.line.LineFault.TheVariants.{Read, Limit}
+use Rattle.ports.specs.declared.reader.Piece.TheVariants.{Whole, Part}
+use Rattle.ports.specs.Lines.{NoFeed, most_taken}
+use Rattle.ports.specs.Reader.{Reader, Came, IsFirst, Gives, IsNext, Answers, NeedsNoRead, is_final, room}
+use Rattle.ports.specs.Block.{IsKept, IsTold, TakesPiece, Refills, EndsLine}
+use Rattle.ports.proofs.Feeds.{none_append, none_front, none_contained}
+use Rattle.ports.proofs.Pieces.{nothing_came, came_more, none_later}
 
 -- the bytes that were held and those that came are the front of a line, and those held now
 pub record IsGoing (old now : Reader) (begun before : SourceTold) (line : List ℕ) (long : Bool) : Type 0 where

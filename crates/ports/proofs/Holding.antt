@@ -1,7 +1,7 @@
 -- What is held, and what becomes of it.
 use Rattle.std.proofs.Common.{◌≡◌, ◌≤◌, ◌<◌, ◌+◌, ℕ, suc, List, [], ◌∷◌, ◌++◌, length, take, drop, Option, Some, None, Result, Ok, Err, sym, ◌∙◌, ap, arith, append_assoc, length-append, take-append-drop}
 use Rattle.ports.specs.Content.{Appends, AppendsPrefix, SinkTold, Writes, WritesSome}
-use Rattle.gathering.specs.Gathered.{Finishes, HasWhole, HasFront, behind, with_held}
+use Rattle.ports.specs.Gathered.{Finishes, HasWhole, HasFront, behind, with_held}
 
 -- ---- a piece that is held behind what is left
 regroup : (w held x : List ℕ) (n : ℕ) → (w ++ take n held) ++ (drop n held ++ x) ≡ (w ++ held) ++ x

@@ -1,6 +1,6 @@
 -- Lines of a few bytes.
 use Rattle.std.proofs.Common.{◌≡◌, [], ◌∷◌, refl}
-use Rattle.line_reader.specs.Lines.{lines_of, whole_lines}
+use Rattle.ports.specs.Lines.{lines_of, whole_lines}
 
 no_lines : lines_of [] ≡ []
 no_lines = refl

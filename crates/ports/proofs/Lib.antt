@@ -2,3 +2,11 @@ pub mod Appending
 pub mod Fronts
 pub mod Puts
 pub mod Writing
+pub mod Feeds
+pub mod Going
+pub mod Instances
+pub mod LinesOf
+pub mod Pieces
+pub mod Composing
+pub mod Holding
+pub mod Keeping

@@ -2,8 +2,8 @@
 use Rattle.std.proofs.Common.{◌≡◌, ◌≢◌, ℕ, ◌<◌, List, [], ◌∷◌, ◌++◌, length, Bool, true, false, cond, nat_eq, refl, ◌∙◌, ap, arith, append-nil, append_assoc}
 use Rattle.std.specs.List.{onto_first}
 use Rattle.ports.specs.Content.{SourceTold}
-use Rattle.line_reader.specs.Lines.{NoFeed, parts, before_last, with_last, last_line, whole_lines, lines_of}
-use Rattle.line_reader.specs.Reader.{Reader, IsFirst, Gives}
+use Rattle.ports.specs.Lines.{NoFeed, parts, before_last, with_last, last_line, whole_lines, lines_of}
+use Rattle.ports.specs.Reader.{Reader, IsFirst, Gives}
 
 not_feed : (x : ℕ) → x ≢ 10 → nat_eq x 10 ≡ false
 not_feed x ne = grind (arith, ne)

@@ -4,11 +4,11 @@ use Rattle.std.proofs.lemmas.List.{take-take, drop-drop, length-take-le, length-
 use Rattle.std.proofs.lemmas.Grind.{common_steps}
 use Rattle.std.specs.Prelude.{IfSome}
 use Rattle.ports.specs.Content.{SourceTold, Takes}
-use Rattle.line_reader.specs.declared.line.Line.{Line}
-use Rattle.line_reader.specs.Lines.{NoFeed}
-use Rattle.line_reader.specs.Reader.{Came, NoneLeft}
-use Rattle.line_reader.specs.Block.{IsKept, IsTold, found_as}
-use Rattle.line_reader.proofs.Feeds.{feed_found}
+use Rattle.ports.specs.declared.line.Line.{Line}
+use Rattle.ports.specs.Lines.{NoFeed}
+use Rattle.ports.specs.Reader.{Came, NoneLeft}
+use Rattle.ports.specs.Block.{IsKept, IsTold, found_as}
+use Rattle.ports.proofs.Feeds.{feed_found}
 
 pub told_as : (whole line : List ℕ) (long : Bool) → IsKept whole line long → IsTold whole line (found_as long)
 told_as whole line true kept = kept

@@ -1,14 +1,14 @@
 -- The steps of a call: a piece is taken from the bytes held, and others are read.
 use Rattle.std.specs.Prelude.{◌≡◌, ℕ, ◌+◌, ◌<◌, ◌≤◌, List, [], ◌∷◌, ◌++◌, length, Bool, true, false, Result, Ok, Err, IsErrOf}
 use Rattle.ports.specs.Content.{SourceTold, Rose}
-use Rattle.line_reader.specs.declared.line.Line.{Line}
-use Rattle.line_reader.specs.declared.line.Line.TheVariants.{Text, TooLong, End}
-use Rattle.line_reader.specs.declared.line.LineFault.{LineFault}
-use Rattle.line_reader.specs.declared.line.LineFault.TheVariants.{Read, Limit}
-use Rattle.line_reader.specs.declared.reader.Piece.{Piece}
-use Rattle.line_reader.specs.declared.reader.Piece.TheVariants.{Whole, Part}
-use Rattle.line_reader.specs.Lines.{NoFeed, most_line, most_taken}
-use Rattle.line_reader.specs.Reader.{Reader, Came, NoneLeft}
+use Rattle.ports.specs.declared.line.Line.{Line}
+use Rattle.ports.specs.declared.line.Line.TheVariants.{Text, TooLong, End}
+use Rattle.ports.specs.declared.line.LineFault.{LineFault}
+use Rattle.ports.specs.declared.line.LineFault.TheVariants.{Read, Limit}
+use Rattle.ports.specs.declared.reader.Piece.{Piece}
+use Rattle.ports.specs.declared.reader.Piece.TheVariants.{Whole, Part}
+use Rattle.ports.specs.Lines.{NoFeed, most_line, most_taken}
+use Rattle.ports.specs.Reader.{Reader, Came, NoneLeft}
 
 -- what is kept of the front of a line: its bytes, or that they are too many
 abbrev pub IsKept : List ℕ → List ℕ → Bool → Type 0

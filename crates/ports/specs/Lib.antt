@@ -2,3 +2,8 @@ pub mod Content
 pub mod Files
 pub mod Memory
 pub mod Put
+pub mod Lines
+pub mod Reader
+pub mod Block
+pub mod Room
+pub mod Gathered

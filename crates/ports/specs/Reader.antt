@@ -1,11 +1,11 @@
 -- A reader of lines, and what a call of it answers.
 use Rattle.std.specs.Prelude.{◌≡◌, ℕ, ◌+◌, ◌-◌, ◌<◌, ◌≤◌, ◌⊎◌, List, [], ◌∷◌, ◌++◌, length, Some, Bool, true, false, Contains, Result, Ok, Err, IfSome, IsErrOf}
 use Rattle.ports.specs.Content.{SourceTold, Rose}
-use Rattle.line_reader.specs.declared.line.Line.{Line}
-use Rattle.line_reader.specs.declared.line.Line.TheVariants.{Text, TooLong, End}
-use Rattle.line_reader.specs.declared.line.LineFault.{LineFault}
-use Rattle.line_reader.specs.declared.line.LineFault.TheVariants.{Read, Limit}
-use Rattle.line_reader.specs.Lines.{NoFeed, most_line, most_taken}
+use Rattle.ports.specs.declared.line.Line.{Line}
+use Rattle.ports.specs.declared.line.Line.TheVariants.{Text, TooLong, End}
+use Rattle.ports.specs.declared.line.LineFault.{LineFault}
+use Rattle.ports.specs.declared.line.LineFault.TheVariants.{Read, Limit}
+use Rattle.ports.specs.Lines.{NoFeed, most_line, most_taken}
 
 -- the bytes read ahead, how many bytes were taken from sources, whether the end of a source was found, and whether a
 -- call answered the end or a fault

@@ -1,10 +1,10 @@
 // Blocks of bytes: where a line feed is, what is kept of a line, and a read from a source.
 ghost use Rattle.std.specs.Prelude.{◌≡◌, ◌≤◌, ◌<◌, ◌++◌, ◌==◌, ℕ, List, length, position, take};
 ghost use Rattle.ports.specs.Content.{TakesSome};
-ghost use Rattle.line_reader.specs.Block.{IsKept};
+ghost use Rattle.ports.specs.Block.{IsKept};
 
 use crate::LineText;
-use ports::{Failed, Source};
+use crate::{Failed, Source};
 
 // The place of the first line feed.
 pub fn feed_place(bytes: &[u8]) -> Option<usize>

@@ -1,9 +1,9 @@
 // A sink that holds what is written, and passes it on in large pieces.
 ghost use Rattle.std.specs.Prelude.{◌≡◌, ◌⊎◌, ◌++◌, ◌+◌, ◌-◌, ◌≤◌, ◌<◌, [], Ok, IfOk, OnErr, min, length, take, drop, vec_len, vec_capacity};
 ghost use Rattle.ports.specs.Content.{WritesSome};
-ghost use Rattle.gathering.specs.Gathered.{Finishes, Holds, with_held};
+ghost use Rattle.ports.specs.Gathered.{Finishes, Holds, with_held};
 
-use ports::{Failed, Sink, write_whole};
+use crate::{Failed, Sink, write_whole};
 use std::alloc::{AllocError, Global};
 use std::marker::Model;
 
@@ -22,7 +22,7 @@ pub struct Gathering<O: Sink + Drop> {
 
 impl<O: Sink + Drop> Model for Gathering<O> {
     ghost use Rattle.std.specs.Prelude.{◌≤◌, vec_len, vec_capacity};
-    ghost use Rattle.gathering.specs.Gathered.{Gathered};
+    ghost use Rattle.ports.specs.Gathered.{Gathered};
 
     ghost Value = { Gathered O };
 

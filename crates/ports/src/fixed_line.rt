@@ -3,7 +3,7 @@ ghost use Rattle.std.specs.Prelude.{◌≡◌, ◌≤◌, ◌+◌, ◌++◌, ◌
 ghost use Rattle.atto.specs.Decimal.{decimal_of};
 ghost use Rattle.atto.specs.NsText.{ns_text};
 ghost use Rattle.line_format.specs.Words.{words, line_of};
-ghost use Rattle.line_words.specs.Room.{HasRoom};
+ghost use Rattle.ports.specs.Room.{HasRoom};
 
 use arrayvec::ArrayVec;
 use atto::{NsText, write_decimal, write_ns};

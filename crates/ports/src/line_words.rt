@@ -1,9 +1,6 @@
-//! Lines that are composed word by word: here in memory of their own, and in `line` in a buffer of a fixed size.
-//!
-//! A line is words with one space between any two. Each call says what it makes of any line of words.
-#![tactic(auto)]
-
-pub mod line;
+// Lines that are composed word by word: here in memory of their own, and in `line` in a buffer of a fixed size.
+//
+// A line is words with one space between any two. Each call says what it makes of any line of words.
 
 ghost use Rattle.std.specs.Prelude.{◌≡◌, ◌∷◌, [], ◌++◌, ℕ, List, OnOk};
 ghost use Rattle.atto.specs.Decimal.{decimal_of};

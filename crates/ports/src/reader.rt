@@ -1,12 +1,12 @@
 // A reader of lines.
 ghost use Rattle.std.specs.Prelude.{◌≡◌, ◌<◌, ◌≤◌, ◌^◌, ◌⊎◌, ◌↔◌, ℕ, List, [], true, false, IfOk, IsErrOf};
-ghost use Rattle.line_reader.specs.Reader.{Answers, NeedsNoRead, fresh, is_final, room};
-ghost use Rattle.line_reader.specs.Block.{EndsLine, IsKept, Refills, TakesPiece, found_as};
-ghost use Rattle.line_reader.specs.Lines.{most_taken};
+ghost use Rattle.ports.specs.Reader.{Answers, NeedsNoRead, fresh, is_final, room};
+ghost use Rattle.ports.specs.Block.{EndsLine, IsKept, Refills, TakesPiece, found_as};
+ghost use Rattle.ports.specs.Lines.{most_taken};
 
 use crate::block::{feed_place, keep, read_block};
 use crate::{Line, LineFault, LineText};
-use ports::Source;
+use crate::Source;
 use std::marker::Model;
 
 // How many bytes are read at a time, at most.
@@ -30,8 +30,8 @@ pub struct LineReader {
 
 impl Model for LineReader {
     ghost use Rattle.std.specs.Prelude.{◌≡◌, ◌+◌, ◌^◌, ◌≤◌, false, slice_range, true};
-    ghost use Rattle.line_reader.specs.Lines.{most_taken};
-    ghost use Rattle.line_reader.specs.Reader.{Reader};
+    ghost use Rattle.ports.specs.Lines.{most_taken};
+    ghost use Rattle.ports.specs.Reader.{Reader};
 
     ghost Value = { Reader };
 

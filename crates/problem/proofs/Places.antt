@@ -6,7 +6,7 @@ use Rattle.std.specs.Str.{bytes_eq}
 use Rattle.std.proofs.lemmas.Bool.{cases_Bool}
 use Rattle.std.proofs.lemmas.Slice.Eq.{bytes_eq-Decides}
 use Rattle.std.proofs.lemmas.List.Quantifiers.{position-Some}
-use Rattle.places.proofs.Positions.{position_none, none_passes}
+use Rattle.interner.proofs.Positions.{position_none, none_passes}
 
 -- the test tells keys apart
 pub record IsExact {K : Type 0} (eq : K → K → Bool) : Type 0 where

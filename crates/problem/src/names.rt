@@ -1,7 +1,7 @@
 // Names and pairs by their places.
 ghost use Rattle.std.specs.Prelude.{◌≡◌, ◌<◌, ◌+◌, ◌++◌, ◌∷◌, [], ℕ, length, slice_get, Some, IfSome, IfNone, OnOk, OnErr};
 
-use places::Places;
+use interner::Places;
 use problem_model::Name;
 use std::alloc::{AllocFailed, Global};
 use std::marker::Model;

@@ -15,11 +15,11 @@ use Rattle.intervals.specs.Orders.{IsOrder}
 use Rattle.intervals.specs.Executions.{IsPairOf}
 use Rattle.intervals.proofs.NodeOrders.{orders}
 use Rattle.intervals.proofs.Times.{ends_are}
-use Rattle.commands.specs.Printing.{Closes, Prints}
-use Rattle.commands.specs.Intervals.{IsIntervalLine, interval_line, TellsInterval}
-use Rattle.commands.specs.declared.status.Status.{Status}
-use Rattle.commands.specs.declared.status.Status.TheVariants as statuses
-use Rattle.commands.proofs.Printing.{closes_prints}
+use Rattle.problem_commands.specs.Printing.{Closes, Prints}
+use Rattle.problem_commands.specs.Intervals.{IsIntervalLine, interval_line, TellsInterval}
+use Rattle.problem_commands.specs.declared.status.Status.{Status}
+use Rattle.problem_commands.specs.declared.status.Status.TheVariants as statuses
+use Rattle.problem_commands.proofs.Printing.{closes_prints}
 
 module _ (p : ProblemLists) (from to : ℕ) (pair : Pair) (is : IsPairOf p (nodes.Event from) (nodes.Event to) pair) (order : Order) (ordered : IsOrder (ends_of pair) order) where
   line_shows : IsIntervalLine p from to (interval_line (ends_of pair) order)

@@ -22,8 +22,8 @@ use Rattle.cert_check.specs.declared.answer.Reason.{Reason}
 use Rattle.cert_check.specs.declared.answer.Reason.TheVariants.{Empty, Weight, Join, Sum, Broken, Difference, Home, Away, Leaves}
 use Rattle.cert_check.specs.declared.verdict.Verdict.{Verdict}
 use Rattle.cert_check.specs.declared.verdict.Verdict.TheVariants as verdicts
-use Rattle.commands.specs.Obey.{NamesVerdict}
-use Rattle.commands.specs.Verify.{NamesReason, NamesAnswer}
+use Rattle.problem_commands.specs.Obey.{NamesVerdict}
+use Rattle.problem_commands.specs.Verify.{NamesReason, NamesAnswer}
 
 module _ (p : ProblemLists) (lawful : IsProblem p) where
   first_named : (x : Times) (b : Bound) (weight difference : ℤ) → IsFirstBroken p x b weight difference → IsNamed (listing_of p) b

@@ -9,15 +9,15 @@ use Rattle.problem_model.specs.BoundText.{broken_line}
 use Rattle.cert_check.specs.Verdict.{IsVerdict}
 use Rattle.cert_check.specs.declared.verdict.Verdict.{Verdict}
 use Rattle.cert_check.specs.declared.verdict.Verdict.TheVariants as verdicts
-use Rattle.commands.specs.Printing.{Prints}
-use Rattle.commands.specs.Texts.{SpellsProblem, SpellsExecution, RefusesProblem, RefusesExecution}
-use Rattle.commands.specs.Unread.{IsUnread, TellsUnread}
-use Rattle.commands.specs.Obey.{TellsVerdict, Obeyed}
-use Rattle.commands.specs.declared.status.Status.{Status}
-use Rattle.commands.specs.declared.status.Status.TheVariants as statuses
-use Rattle.commands.specs.declared.texts.Unread.{Unread}
-use Rattle.commands.proofs.Printing.{only_goes, prints_as, unread_prints}
-use Rattle.commands.proofs.Reading.{has_since, both_have}
+use Rattle.problem_commands.specs.Printing.{Prints}
+use Rattle.problem_commands.specs.Texts.{SpellsProblem, SpellsExecution, RefusesProblem, RefusesExecution}
+use Rattle.problem_commands.specs.Unread.{IsUnread, TellsUnread}
+use Rattle.problem_commands.specs.Obey.{TellsVerdict, Obeyed}
+use Rattle.problem_commands.specs.declared.status.Status.{Status}
+use Rattle.problem_commands.specs.declared.status.Status.TheVariants as statuses
+use Rattle.problem_commands.specs.declared.texts.Unread.{Unread}
+use Rattle.problem_commands.proofs.Printing.{only_goes, prints_as, unread_prints}
+use Rattle.problem_commands.proofs.Reading.{has_since, both_have}
 
 module _ (problem exec : List ℕ) (out out' : SinkTold) (result : Status) where
   -- the problem was not read

@@ -2,15 +2,15 @@
 use Rattle.std.proofs.Common.{◌≡◌, inl, inr, ℕ, List, Ok, Err, refl, sym, subst, codes}
 use Rattle.ports.specs.Content.{SinkTold, Writes}
 use Rattle.ports.specs.Files.{FilesTold, HasBytes}
-use Rattle.commands.specs.Printing.{Closes, IsOnly, Prints}
-use Rattle.commands.specs.Refusal.{refusal_line}
-use Rattle.commands.specs.Texts.{IsMissed}
-use Rattle.commands.specs.Unread.{IsUnread, TellsUnread}
-use Rattle.commands.specs.declared.refusal.Refusal.{Refusal}
-use Rattle.commands.specs.declared.status.Status.{Status}
-use Rattle.commands.specs.declared.status.Status.TheVariants as statuses
-use Rattle.commands.specs.declared.texts.Unread.{Unread}
-use Rattle.commands.specs.declared.texts.Unread.TheVariants as unread
+use Rattle.problem_commands.specs.Printing.{Closes, IsOnly, Prints}
+use Rattle.problem_commands.specs.Refusal.{refusal_line}
+use Rattle.problem_commands.specs.Texts.{IsMissed}
+use Rattle.problem_commands.specs.Unread.{IsUnread, TellsUnread}
+use Rattle.problem_commands.specs.declared.refusal.Refusal.{Refusal}
+use Rattle.problem_commands.specs.declared.status.Status.{Status}
+use Rattle.problem_commands.specs.declared.status.Status.TheVariants as statuses
+use Rattle.problem_commands.specs.declared.texts.Unread.{Unread}
+use Rattle.problem_commands.specs.declared.texts.Unread.TheVariants as unread
 
 module _ (Goes : Status → List ℕ → Type 0) where
   pub at_status : (only status : Status) (text : List ℕ) → status ≡ only → Goes only text → Goes status text

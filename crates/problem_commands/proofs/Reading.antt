@@ -14,12 +14,12 @@ use Rattle.cert.specs.CertificateFormat.{certificate_format}
 use Rattle.cert.specs.ExecutionFormat.{execution_format}
 use Rattle.cert.specs.ReadsCert.{ReadsCert}
 use Rattle.cert.specs.ReadsExecution.{Reads}
-use Rattle.commands.specs.Refusal.{answer_of}
-use Rattle.commands.specs.Texts.{SpellsExecution, SpellsCert, RefusesExecution, RefusesCert, BothHave}
-use Rattle.commands.specs.Unread.{IsUnread, IsRefusedFor, IsLong, unread_cert}
-use Rattle.commands.specs.declared.refusal.Refusal.{Refusal}
-use Rattle.commands.specs.declared.texts.Unread.{Unread}
-use Rattle.commands.specs.declared.texts.Unread.TheVariants as unread
+use Rattle.problem_commands.specs.Refusal.{answer_of}
+use Rattle.problem_commands.specs.Texts.{SpellsExecution, SpellsCert, RefusesExecution, RefusesCert, BothHave}
+use Rattle.problem_commands.specs.Unread.{IsUnread, IsRefusedFor, IsLong, unread_cert}
+use Rattle.problem_commands.specs.declared.refusal.Refusal.{Refusal}
+use Rattle.problem_commands.specs.declared.texts.Unread.{Unread}
+use Rattle.problem_commands.specs.declared.texts.Unread.TheVariants as unread
 
 -- ---- the whole of a file
 whole : (most : ℕ) (front bytes : List ℕ) (more : Bool) → more ≡ false → IsFront most front more bytes → (length bytes ≤ most) × (front ≡ bytes)

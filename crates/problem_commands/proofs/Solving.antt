@@ -4,15 +4,15 @@ use Rattle.ports.specs.Content.{SinkTold}
 use Rattle.ports.specs.Files.{FilesTold, HasBytes}
 use Rattle.problem_model.specs.Problem.{ProblemLists}
 use Rattle.problem.specs.Line.{HasEvent, IsUnknown}
-use Rattle.commands.specs.Printing.{IsOnly, Prints}
-use Rattle.commands.specs.Texts.{SpellsProblem, RefusesProblem}
-use Rattle.commands.specs.Unread.{IsUnread, TellsUnread}
-use Rattle.commands.specs.Solve.{TellsSolution, Solved}
-use Rattle.commands.specs.Intervals.{TellsInterval, TellsNamed, IntervalAnswered}
-use Rattle.commands.specs.declared.status.Status.{Status}
-use Rattle.commands.specs.declared.status.Status.TheVariants as statuses
-use Rattle.commands.specs.declared.texts.Unread.{Unread}
-use Rattle.commands.proofs.Printing.{at_status, only_goes, prints_as, unread_prints}
+use Rattle.problem_commands.specs.Printing.{IsOnly, Prints}
+use Rattle.problem_commands.specs.Texts.{SpellsProblem, RefusesProblem}
+use Rattle.problem_commands.specs.Unread.{IsUnread, TellsUnread}
+use Rattle.problem_commands.specs.Solve.{TellsSolution, Solved}
+use Rattle.problem_commands.specs.Intervals.{TellsInterval, TellsNamed, IntervalAnswered}
+use Rattle.problem_commands.specs.declared.status.Status.{Status}
+use Rattle.problem_commands.specs.declared.status.Status.TheVariants as statuses
+use Rattle.problem_commands.specs.declared.texts.Unread.{Unread}
+use Rattle.problem_commands.proofs.Printing.{at_status, only_goes, prints_as, unread_prints}
 
 module _ (problem : List ℕ) (old new : FilesTold) (out out' : SinkTold) (result : Status) where
   -- ---- solve

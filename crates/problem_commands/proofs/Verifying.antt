@@ -6,21 +6,21 @@ use Rattle.problem_model.specs.Problem.{ProblemLists, IsProblem}
 use Rattle.cert.specs.declared.certificate.Cert.{Cert}
 use Rattle.cert.specs.declared.certificate.Cert.TheVariants as kinds
 use Rattle.cert.specs.Shows.{Shows, weighed_bounds}
-use Rattle.difference_bounds.proofs.Solutions.{no_execution}
+use Rattle.problem_model.proofs.Solutions.{no_execution}
 use Rattle.cert_check.proofs.Showing.{run_is, upper_is, lower_is}
 use Rattle.cert_check.specs.CheckedText.{IsCheckOf}
 use Rattle.cert_check.specs.Reasons.{IsFirstReason}
 use Rattle.cert_check.specs.declared.answer.Answer.{Answer}
 use Rattle.cert_check.specs.declared.answer.Answer.TheVariants as answers
-use Rattle.commands.specs.Printing.{Prints}
-use Rattle.commands.specs.Texts.{SpellsProblem, SpellsCert, RefusesProblem, RefusesCert}
-use Rattle.commands.specs.Unread.{IsUnread, TellsUnread}
-use Rattle.commands.specs.Verify.{HoldsForAll, TellsAnswer, Verified, no_line}
-use Rattle.commands.specs.declared.status.Status.{Status}
-use Rattle.commands.specs.declared.status.Status.TheVariants as statuses
-use Rattle.commands.specs.declared.texts.Unread.{Unread}
-use Rattle.commands.proofs.Printing.{only_goes, prints_as, unread_prints}
-use Rattle.commands.proofs.Reading.{has_since, both_have}
+use Rattle.problem_commands.specs.Printing.{Prints}
+use Rattle.problem_commands.specs.Texts.{SpellsProblem, SpellsCert, RefusesProblem, RefusesCert}
+use Rattle.problem_commands.specs.Unread.{IsUnread, TellsUnread}
+use Rattle.problem_commands.specs.Verify.{HoldsForAll, TellsAnswer, Verified, no_line}
+use Rattle.problem_commands.specs.declared.status.Status.{Status}
+use Rattle.problem_commands.specs.declared.status.Status.TheVariants as statuses
+use Rattle.problem_commands.specs.declared.texts.Unread.{Unread}
+use Rattle.problem_commands.proofs.Printing.{only_goes, prints_as, unread_prints}
+use Rattle.problem_commands.proofs.Reading.{has_since, both_have}
 
 -- ---- what is shown holds of all executions
 holds_for_all : (p : ProblemLists) (c : Cert) → IsProblem p → Shows p c → HoldsForAll p c

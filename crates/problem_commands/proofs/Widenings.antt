@@ -33,18 +33,18 @@ use Rattle.widen.specs.JudgedText.{IsJudgedAs}
 use Rattle.widen.specs.Found.{FindsWidening}
 use Rattle.widen.proofs.Rising.{shown_least, shown_never}
 use Rattle.widen.proofs.FoundTexts.{declared_back, least_found, never_found, text_of}
-use Rattle.commands.specs.Printing.{Prints}
-use Rattle.commands.specs.Refusal.{answer_of}
-use Rattle.commands.specs.Texts.{SpellsProblem, RefusesProblem}
-use Rattle.commands.specs.Unread.{IsUnread, IsRefusedFor, IsLong, TellsUnread, unread_cert}
-use Rattle.commands.specs.Verify.{NamesReason, NamesAnswer, TellsAnswer, no_line}
-use Rattle.commands.specs.Widening.{SpellsWidening, RefusesWidening, IsTrueOf, IsLeastText, TellsLeast, WideningFound, WideningJudged}
-use Rattle.commands.specs.declared.refusal.Refusal.{Refusal}
-use Rattle.commands.specs.declared.status.Status.{Status}
-use Rattle.commands.specs.declared.status.Status.TheVariants as statuses
-use Rattle.commands.specs.declared.texts.Unread.{Unread}
-use Rattle.commands.proofs.Printing.{at_status, only_goes, prints_as, unread_prints}
-use Rattle.commands.proofs.Reading.{IsWhole, spelled_in, unread_as, has_since, both_have}
+use Rattle.problem_commands.specs.Printing.{Prints}
+use Rattle.problem_commands.specs.Refusal.{answer_of}
+use Rattle.problem_commands.specs.Texts.{SpellsProblem, RefusesProblem}
+use Rattle.problem_commands.specs.Unread.{IsUnread, IsRefusedFor, IsLong, TellsUnread, unread_cert}
+use Rattle.problem_commands.specs.Verify.{NamesReason, NamesAnswer, TellsAnswer, no_line}
+use Rattle.problem_commands.specs.Widening.{SpellsWidening, RefusesWidening, IsTrueOf, IsLeastText, TellsLeast, WideningFound, WideningJudged}
+use Rattle.problem_commands.specs.declared.refusal.Refusal.{Refusal}
+use Rattle.problem_commands.specs.declared.status.Status.{Status}
+use Rattle.problem_commands.specs.declared.status.Status.TheVariants as statuses
+use Rattle.problem_commands.specs.declared.texts.Unread.{Unread}
+use Rattle.problem_commands.proofs.Printing.{at_status, only_goes, prints_as, unread_prints}
+use Rattle.problem_commands.proofs.Reading.{IsWhole, spelled_in, unread_as, has_since, both_have}
 
 -- ---- what is found
 true_found : (p : ProblemLists) (w : Widening) → FindsWidening p w → IsTrueOf p w

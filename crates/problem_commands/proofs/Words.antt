@@ -8,7 +8,7 @@ use Rattle.problem_model.specs.BoundText.{bound_words}
 use Rattle.problem.specs.Listing.{listing_of}
 use Rattle.cert.specs.Listed.{listed_bound}
 use Rattle.cert.proofs.OwnListing.{bound_is}
-use Rattle.commands.specs.Verify.{broken_words}
+use Rattle.problem_commands.specs.Verify.{broken_words}
 
 -- words, then those of a bound by its names, then two numbers
 four_pieces : (ws word named : List (List ℕ)) (a b : List ℕ) → (((ws ++ word) ++ named) ++ a ∷ []) ++ b ∷ [] ≡ ws ++ (word ++ (named ++ (a ∷ b ∷ [])))

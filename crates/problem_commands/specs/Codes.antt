@@ -1,7 +1,7 @@
 -- The words of a run and the statuses that it ends with.
 use Rattle.std.specs.Prelude.{ℕ}
-use Rattle.commands.specs.declared.status.Status.{Status}
-use Rattle.commands.specs.declared.status.Status.TheVariants.{Done, No, Usage, BadDecl, BadProblem, BadExec, BadCert, ReadFault, WriteFault, Memory, ScriptLimit, UnknownEvent, NoMerge}
+use Rattle.problem_commands.specs.declared.status.Status.{Status}
+use Rattle.problem_commands.specs.declared.status.Status.TheVariants.{Done, No, Usage, BadDecl, BadProblem, BadExec, BadCert, ReadFault, WriteFault, Memory, ScriptLimit, UnknownEvent, NoMerge}
 
 -- the exit status
 abbrev pub code_of : Status → ℕ

@@ -10,10 +10,10 @@ use Rattle.intervals.specs.declared.order.Order.{Order}
 use Rattle.intervals.specs.Executions.{difference, AreEndsOf, IsOrderOf}
 use Rattle.queries.specs.Words.{end_word, order_word}
 use Rattle.queries.specs.Replies.{IsContradictionText}
-use Rattle.commands.specs.Printing.{IsOnly}
-use Rattle.commands.specs.Texts.{SpellsProblem, IsMissed, IsBadProblem}
-use Rattle.commands.specs.declared.status.Status.{Status}
-use Rattle.commands.specs.declared.status.Status.TheVariants.{Done, BadProblem, ReadFault, UnknownEvent}
+use Rattle.problem_commands.specs.Printing.{IsOnly}
+use Rattle.problem_commands.specs.Texts.{SpellsProblem, IsMissed, IsBadProblem}
+use Rattle.problem_commands.specs.declared.status.Status.{Status}
+use Rattle.problem_commands.specs.declared.status.Status.TheVariants.{Done, BadProblem, ReadFault, UnknownEvent}
 
 -- ---- the text
 -- the line of an interval and an order

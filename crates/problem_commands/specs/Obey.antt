@@ -10,12 +10,12 @@ use Rattle.cert_check.specs.declared.verdict.Verdict.{Verdict}
 use Rattle.problem.specs.Listing.{listing_of}
 use Rattle.cert.specs.Listed.{IsNamed}
 use Rattle.cert_check.specs.declared.verdict.Verdict.TheVariants.{Obeys, Broken}
-use Rattle.commands.specs.Printing.{IsOnly}
-use Rattle.commands.specs.Refusal.{refusal_line}
-use Rattle.commands.specs.Texts.{SpellsProblem, SpellsExecution, RefusesExecution, IsBadProblem, BothHave, MissesOne}
-use Rattle.commands.specs.declared.refusal.Refusal.{Refusal}
-use Rattle.commands.specs.declared.status.Status.{Status}
-use Rattle.commands.specs.declared.status.Status.TheVariants.{Done, No, BadProblem, BadExec, ReadFault}
+use Rattle.problem_commands.specs.Printing.{IsOnly}
+use Rattle.problem_commands.specs.Refusal.{refusal_line}
+use Rattle.problem_commands.specs.Texts.{SpellsProblem, SpellsExecution, RefusesExecution, IsBadProblem, BothHave, MissesOne}
+use Rattle.problem_commands.specs.declared.refusal.Refusal.{Refusal}
+use Rattle.problem_commands.specs.declared.status.Status.{Status}
+use Rattle.problem_commands.specs.declared.status.Status.TheVariants.{Done, No, BadProblem, BadExec, ReadFault}
 
 -- the clocks or the events of the bound that a verdict tells of have names
 abbrev pub NamesVerdict : ProblemLists → Verdict → Type 0

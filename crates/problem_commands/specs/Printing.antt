@@ -1,8 +1,8 @@
 -- What a run prints, and with which status.
 use Rattle.std.specs.Prelude.{◌≡◌, ◌⊎◌, List, ℕ}
 use Rattle.ports.specs.Content.{Rose, Appends, AppendsPrefix, SinkTold}
-use Rattle.commands.specs.declared.status.Status.{Status}
-use Rattle.commands.specs.declared.status.Status.TheVariants.{WriteFault, Memory}
+use Rattle.problem_commands.specs.declared.status.Status.{Status}
+use Rattle.problem_commands.specs.declared.status.Status.TheVariants.{WriteFault, Memory}
 
 -- a write failed, behind a front of the text
 abbrev pub FailsIn : List ℕ → SinkTold → SinkTold → Type 0

@@ -6,8 +6,8 @@ use Rattle.line_format.specs.Format.{Answer}
 use Rattle.line_format.specs.Format.Answer.{Faulty as FaultyAnswer, Long as LongAnswer}
 use Rattle.line_format.specs.declared.fault.FaultKind.{FaultKind}
 use Rattle.line_format.specs.declared.fault.FaultKind.TheVariants.{Syntax, Name, Range, Limit}
-use Rattle.commands.specs.declared.refusal.Refusal.{Refusal}
-use Rattle.commands.specs.declared.refusal.Refusal.TheVariants.{Faulty, Long}
+use Rattle.problem_commands.specs.declared.refusal.Refusal.{Refusal}
+use Rattle.problem_commands.specs.declared.refusal.Refusal.TheVariants.{Faulty, Long}
 
 -- the number of a kind of fault
 abbrev pub kind_number : FaultKind → ℕ

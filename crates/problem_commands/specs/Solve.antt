@@ -4,13 +4,13 @@ use Rattle.ports.specs.Files.{FilesTold, HasBytes}
 use Rattle.problem_model.specs.Problem.{ProblemLists}
 use Rattle.problem_model.specs.Bounds.{Times}
 use Rattle.problem_model.specs.Nodes.{Reading, AreReadings, nodes_of}
-use Rattle.difference_bounds.specs.Solutions.{IsEarliestExecution}
+use Rattle.problem_model.specs.Solutions.{IsEarliestExecution}
 use Rattle.cert.specs.declared.certificate.Cert.TheVariants.{Run}
 use Rattle.cert.specs.CertificateText.{certificate_text}
 use Rattle.queries.specs.Replies.{IsContradictionText}
-use Rattle.commands.specs.Texts.{SpellsProblem, IsMissed, IsBadProblem}
-use Rattle.commands.specs.declared.status.Status.{Status}
-use Rattle.commands.specs.declared.status.Status.TheVariants.{Done, BadProblem, ReadFault}
+use Rattle.problem_commands.specs.Texts.{SpellsProblem, IsMissed, IsBadProblem}
+use Rattle.problem_commands.specs.declared.status.Status.{Status}
+use Rattle.problem_commands.specs.declared.status.Status.TheVariants.{Done, BadProblem, ReadFault}
 
 -- the text is the certificate of the earliest execution
 abbrev pub IsEarliestText : ProblemLists → List ℕ → Type 0

@@ -14,8 +14,8 @@ use Rattle.cert.specs.declared.certificate.Cert.{Cert}
 use Rattle.cert.specs.CertificateFormat.{certificate_format}
 use Rattle.cert.specs.ExecutionFormat.{execution_format}
 use Rattle.cert.specs.ReadsCert.{IsCertTextOf}
-use Rattle.commands.specs.Refusal.{answer_of, refusal_line}
-use Rattle.commands.specs.declared.refusal.Refusal.{Refusal}
+use Rattle.problem_commands.specs.Refusal.{answer_of, refusal_line}
+use Rattle.problem_commands.specs.declared.refusal.Refusal.{Refusal}
 
 -- ---- texts
 -- the text is that of the problem p

@@ -7,15 +7,15 @@ use Rattle.problem.specs.declared.errors.ProblemError.{ProblemError}
 use Rattle.problem.specs.declared.errors.ProblemError.TheVariants as problems
 use Rattle.cert.specs.declared.error.CertError.{CertError}
 use Rattle.cert.specs.declared.error.CertError.TheVariants as certs
-use Rattle.commands.specs.Printing.{IsOnly}
-use Rattle.commands.specs.Refusal.{refusal_line}
-use Rattle.commands.specs.Texts.{IsMissed}
-use Rattle.commands.specs.declared.refusal.Refusal.{Refusal}
-use Rattle.commands.specs.declared.refusal.Refusal.TheVariants as refusals
-use Rattle.commands.specs.declared.status.Status.{Status}
-use Rattle.commands.specs.declared.status.Status.TheVariants.{ReadFault}
-use Rattle.commands.specs.declared.texts.Unread.{Unread}
-use Rattle.commands.specs.declared.texts.Unread.TheVariants.{Refused, Fault, Memory}
+use Rattle.problem_commands.specs.Printing.{IsOnly}
+use Rattle.problem_commands.specs.Refusal.{refusal_line}
+use Rattle.problem_commands.specs.Texts.{IsMissed}
+use Rattle.problem_commands.specs.declared.refusal.Refusal.{Refusal}
+use Rattle.problem_commands.specs.declared.refusal.Refusal.TheVariants as refusals
+use Rattle.problem_commands.specs.declared.status.Status.{Status}
+use Rattle.problem_commands.specs.declared.status.Status.TheVariants.{ReadFault}
+use Rattle.problem_commands.specs.declared.texts.Unread.{Unread}
+use Rattle.problem_commands.specs.declared.texts.Unread.TheVariants.{Refused, Fault, Memory}
 
 -- the text is too long
 abbrev pub IsLong : List ℕ → Refusal → Type 0

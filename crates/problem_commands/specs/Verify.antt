@@ -22,12 +22,12 @@ use Rattle.cert_check.specs.declared.answer.Reason.{Reason}
 use Rattle.cert_check.specs.declared.answer.Reason.TheVariants.{Empty, Weight, Join, Sum, Broken, Difference, Home, Away, Leaves}
 use Rattle.cert_check.specs.declared.answer.Answer.{Answer}
 use Rattle.cert_check.specs.declared.answer.Answer.TheVariants as answers
-use Rattle.commands.specs.Printing.{IsOnly}
-use Rattle.commands.specs.Refusal.{refusal_line}
-use Rattle.commands.specs.Texts.{SpellsProblem, SpellsCert, RefusesCert, IsBadProblem, BothHave, MissesOne}
-use Rattle.commands.specs.declared.refusal.Refusal.{Refusal}
-use Rattle.commands.specs.declared.status.Status.{Status}
-use Rattle.commands.specs.declared.status.Status.TheVariants.{Done, No, BadProblem, BadCert, ReadFault}
+use Rattle.problem_commands.specs.Printing.{IsOnly}
+use Rattle.problem_commands.specs.Refusal.{refusal_line}
+use Rattle.problem_commands.specs.Texts.{SpellsProblem, SpellsCert, RefusesCert, IsBadProblem, BothHave, MissesOne}
+use Rattle.problem_commands.specs.declared.refusal.Refusal.{Refusal}
+use Rattle.problem_commands.specs.declared.status.Status.{Status}
+use Rattle.problem_commands.specs.declared.status.Status.TheVariants.{Done, No, BadProblem, BadCert, ReadFault}
 
 -- ---- the line
 -- the word of a part

@@ -14,12 +14,12 @@ use Rattle.widen.specs.Widening.{ShowsWidening, IsJudged}
 use Rattle.widen.specs.WideningFormat.{widening_format}
 use Rattle.widen.specs.ReadsWidening.{IsWideningTextOf}
 use Rattle.widen.specs.Found.{FindsWidening}
-use Rattle.commands.specs.Refusal.{answer_of, refusal_line}
-use Rattle.commands.specs.Texts.{SpellsProblem, IsMissed, IsBadProblem, BothHave, MissesOne}
-use Rattle.commands.specs.Verify.{no_line}
-use Rattle.commands.specs.declared.refusal.Refusal.{Refusal}
-use Rattle.commands.specs.declared.status.Status.{Status}
-use Rattle.commands.specs.declared.status.Status.TheVariants.{Done, No, BadProblem, BadCert, ReadFault}
+use Rattle.problem_commands.specs.Refusal.{answer_of, refusal_line}
+use Rattle.problem_commands.specs.Texts.{SpellsProblem, IsMissed, IsBadProblem, BothHave, MissesOne}
+use Rattle.problem_commands.specs.Verify.{no_line}
+use Rattle.problem_commands.specs.declared.refusal.Refusal.{Refusal}
+use Rattle.problem_commands.specs.declared.status.Status.{Status}
+use Rattle.problem_commands.specs.declared.status.Status.TheVariants.{Done, No, BadProblem, BadCert, ReadFault}
 
 -- ---- texts
 -- the text is that of this widening of the problem

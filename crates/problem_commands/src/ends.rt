@@ -7,22 +7,23 @@ ghost use Rattle.problem.specs.Line.{HasEvent, IsUnknown};
 ghost use Rattle.intervals.specs.Ends.{FitsPair};
 ghost use Rattle.intervals.specs.Executions.{IsPairOf};
 ghost use Rattle.row_pool.specs.Pool.{free_rows};
-ghost use Rattle.solver.specs.Moved0.{IsSolution};
-ghost use Rattle.commands.specs.Printing.{Prints};
-ghost use Rattle.commands.specs.Intervals.{TellsInterval, TellsNamed, IntervalAnswered};
+ghost use Rattle.solver.specs.Solution.{IsSolution};
+ghost use Rattle.problem_commands.specs.Printing.{Prints};
+ghost use Rattle.problem_commands.specs.Intervals.{TellsInterval, TellsNamed, IntervalAnswered};
 
-use crate::ending::{finish, stop};
+use crate::last_line::{finish, stop};
 use crate::print::interval_line;
 use crate::status::Status;
 use crate::texts::problem_in;
 use atto::Steps;
-use engine::Solver;
+use solver::Solver;
 use intervals::{ends_from, order_of};
 use ports::{Failed, Files, Sink};
-use problem::{Name, Problem};
+use problem_model::Name;
+use problem::Problem;
 use queries::write_contradiction;
 use row_pool::Pair;
-use solver::pairs;
+use queries::pairs;
 use std::alloc::Global;
 use std::sync::ledger::Ledger;
 
@@ -130,7 +131,7 @@ fn solve_for<O: Sink, L: Ledger>(
     requires to { to < length p.now.events }
     ensures { Prints (TellsInterval p.now from to) (O.told out.old) (O.told out.new) result }
 {
-    match solving::solve(alloc, p, 1, steps) {
+    match problem_solver::solve(alloc, p, 1, steps) {
         Ok(mut solver) => conclude(p, &mut solver, from, to, out, steps),
         Err(_) => Status::Memory,
     }

@@ -3,11 +3,11 @@ ghost use Rattle.std.specs.Prelude.{IfOk, IfErr};
 ghost use Rattle.ports.specs.Files.{HasBytes, Keeps};
 ghost use Rattle.widen.specs.declared.widening.Widening.{Widening};
 ghost use Rattle.widen.specs.JudgedText.{IsJudgedAs};
-ghost use Rattle.commands.specs.Printing.{Prints};
-ghost use Rattle.commands.specs.Unread.{IsUnread, IsRefusedFor};
-ghost use Rattle.commands.specs.Widening.{SpellsWidening, RefusesWidening, WideningJudged};
+ghost use Rattle.problem_commands.specs.Printing.{Prints};
+ghost use Rattle.problem_commands.specs.Unread.{IsUnread, IsRefusedFor};
+ghost use Rattle.problem_commands.specs.Widening.{SpellsWidening, RefusesWidening, WideningJudged};
 
-use crate::ending::stop;
+use crate::last_line::stop;
 use crate::status::Status;
 use crate::texts::{Unread, problem_in, text_in, unread_cert};
 use crate::verify::answer;

@@ -1,7 +1,7 @@
 // How a run ends: its last line and its status.
 ghost use Rattle.std.specs.Prelude.{◌≤◌, length};
-ghost use Rattle.commands.specs.Printing.{Closes, Prints};
-ghost use Rattle.commands.specs.Unread.{TellsUnread};
+ghost use Rattle.problem_commands.specs.Printing.{Closes, Prints};
+ghost use Rattle.problem_commands.specs.Unread.{TellsUnread};
 
 use crate::print::refusal_line;
 use crate::status::Status;

@@ -1,9 +1,9 @@
 // Judges an execution by the bounds of a problem.
 ghost use Rattle.ports.specs.Files.{Keeps};
-ghost use Rattle.commands.specs.Printing.{Prints};
-ghost use Rattle.commands.specs.Obey.{NamesVerdict, TellsVerdict, Obeyed};
+ghost use Rattle.problem_commands.specs.Printing.{Prints};
+ghost use Rattle.problem_commands.specs.Obey.{NamesVerdict, TellsVerdict, Obeyed};
 
-use crate::ending::{finish, stop};
+use crate::last_line::{finish, stop};
 use crate::print::broken_line;
 use crate::status::Status;
 use crate::texts::{execution_in, problem_in};

@@ -3,22 +3,23 @@ ghost use Rattle.std.specs.Prelude.{◌≡◌, ◌≤◌, ◌+◌, ◌∷◌, []
 ghost use Rattle.atto.specs.Decimal.{decimal_of};
 ghost use Rattle.atto.specs.NsText.{ns_text};
 ghost use Rattle.line_format.specs.Words.{words};
-ghost use Rattle.line_words.specs.Room.{HasRoom};
+ghost use Rattle.ports.specs.Room.{HasRoom};
 ghost use Rattle.problem_model.specs.BoundText.{bound_words, broken_line};
 ghost use Rattle.problem.specs.Listing.{listing_of};
 ghost use Rattle.cert.specs.Listed.{IsNamed};
-ghost use Rattle.commands.specs.Refusal.{refusal_line};
+ghost use Rattle.problem_commands.specs.Refusal.{refusal_line};
 ghost use Rattle.queries.specs.Words.{end_word, order_word};
-ghost use Rattle.commands.specs.Intervals.{interval_line};
-ghost use Rattle.commands.specs.Verify.{part_word, broken_words, reason_words, no_line, NamesReason};
+ghost use Rattle.problem_commands.specs.Intervals.{interval_line};
+ghost use Rattle.problem_commands.specs.Verify.{part_word, broken_words, reason_words, no_line, NamesReason};
 
 use crate::refusal::Refusal;
 use atto::{NsText, write_ns};
 use cert::push_bound;
 use cert_check::{Part, Reason};
 use intervals::{End, Ends, Order};
-use line_words::line::{Line, first_word, push_decimal, push_ns, push_word};
-use problem::{Bound, Problem};
+use ports::fixed_line::{Line, first_word, push_decimal, push_ns, push_word};
+use problem_model::Bound;
+use problem::Problem;
 use queries::order_word;
 
 /// The line that names a broken bound, its weight and the difference found, which are given in units of 1e-9 ns and

@@ -1,6 +1,6 @@
 // Why a text is refused.
 ghost use Rattle.std.specs.Prelude.{◌≡◌};
-ghost use Rattle.commands.specs.Refusal.{number_of, place_of};
+ghost use Rattle.problem_commands.specs.Refusal.{number_of, place_of};
 
 use line_format::FaultKind;
 

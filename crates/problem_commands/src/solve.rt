@@ -2,20 +2,20 @@
 ghost use Rattle.std.specs.Prelude.{◌≡◌, [], List, ℕ};
 ghost use Rattle.ports.specs.Content.{Writes};
 ghost use Rattle.ports.specs.Files.{Keeps};
-ghost use Rattle.solver.specs.Moved0.{IsSolution};
-ghost use Rattle.commands.specs.Printing.{Prints};
-ghost use Rattle.commands.specs.Solve.{IsEarliestText, IsSolutionText, TellsSolution, Solved};
+ghost use Rattle.solver.specs.Solution.{IsSolution};
+ghost use Rattle.problem_commands.specs.Printing.{Prints};
+ghost use Rattle.problem_commands.specs.Solve.{IsEarliestText, IsSolutionText, TellsSolution, Solved};
 
-use crate::ending::stop;
+use crate::last_line::stop;
 use crate::status::Status;
 use crate::texts::problem_in;
 use attain::write_run;
 use atto::Steps;
-use engine::Solver;
+use solver::Solver;
 use ports::{Failed, Files, Sink};
 use problem::Problem;
 use queries::write_contradiction;
-use solver::executions;
+use queries::executions;
 use std::alloc::Global;
 use std::sync::ledger::Ledger;
 
@@ -63,7 +63,7 @@ fn answer<O: Sink, L: Ledger>(
 ) -> Status
     ensures { Prints (TellsSolution p.now) (O.told out.old) (O.told out.new) result }
 {
-    match solving::solve(alloc, p, 0, steps) {
+    match problem_solver::solve(alloc, p, 0, steps) {
         Ok(solver) => certify(p, &solver, out),
         Err(_) => Status::Memory,
     }

@@ -1,6 +1,6 @@
 // How a run of the program ended.
 ghost use Rattle.std.specs.Prelude.{◌≡◌};
-ghost use Rattle.commands.specs.Moved2.{code_of};
+ghost use Rattle.problem_commands.specs.Codes.{code_of};
 
 /// How a run ended.
 #[derive(Clone, Copy, Debug)]

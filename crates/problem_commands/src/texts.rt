@@ -7,8 +7,8 @@ ghost use Rattle.problem_model.specs.Nodes.{Lists};
 ghost use Rattle.cert.specs.CertificateText.{HasOneEach};
 ghost use Rattle.cert.specs.declared.certificate.Cert.{Cert};
 ghost use Rattle.cert_check.specs.CheckedText.{IsCheckOf};
-ghost use Rattle.commands.specs.Texts.{SpellsProblem, SpellsExecution, SpellsCert, RefusesProblem, RefusesExecution, RefusesCert};
-ghost use Rattle.commands.specs.Unread.{IsUnread, IsRefusedFor, IsLong, unread_problem, unread_cert};
+ghost use Rattle.problem_commands.specs.Texts.{SpellsProblem, SpellsExecution, SpellsCert, RefusesProblem, RefusesExecution, RefusesCert};
+ghost use Rattle.problem_commands.specs.Unread.{IsUnread, IsRefusedFor, IsLong, unread_problem, unread_cert};
 
 use crate::refusal::Refusal;
 use cert::{CertError, Execution, read_execution};

@@ -1,9 +1,9 @@
 // Checks a certificate of a problem.
 ghost use Rattle.ports.specs.Files.{Keeps};
-ghost use Rattle.commands.specs.Printing.{Prints};
-ghost use Rattle.commands.specs.Verify.{NamesAnswer, TellsAnswer, Verified};
+ghost use Rattle.problem_commands.specs.Printing.{Prints};
+ghost use Rattle.problem_commands.specs.Verify.{NamesAnswer, TellsAnswer, Verified};
 
-use crate::ending::{finish, stop};
+use crate::last_line::{finish, stop};
 use crate::print::no_line;
 use crate::status::Status;
 use crate::texts::{answer_in, problem_in};

@@ -1,10 +1,10 @@
 // Finds the least widening of a problem.
 ghost use Rattle.ports.specs.Files.{Keeps};
 ghost use Rattle.widen.specs.Found.{FindsWidening};
-ghost use Rattle.commands.specs.Printing.{Prints};
-ghost use Rattle.commands.specs.Widening.{TellsLeast, WideningFound};
+ghost use Rattle.problem_commands.specs.Printing.{Prints};
+ghost use Rattle.problem_commands.specs.Widening.{TellsLeast, WideningFound};
 
-use crate::ending::stop;
+use crate::last_line::stop;
 use crate::status::Status;
 use crate::texts::problem_in;
 use atto::Steps;

@@ -9,7 +9,7 @@ use Rattle.problem_model.specs.declared.items.Bound.{Bound}
 use Rattle.problem_model.specs.declared.items.Bound.TheVariants.{SpanMost, SpanLeast, Late, Early, Follow, DelayMost, DelayLeast}
 use Rattle.problem_model.specs.Problem.{ProblemLists, IsProblem}
 use Rattle.problem_model.specs.Bounds.{Constraint, Declares, EventAt, IsReading}
-use Rattle.difference_bounds.specs.Solutions.{IsNodeOf}
+use Rattle.problem_model.specs.Solutions.{IsNodeOf}
 
 pub event_of : (p : ProblemLists) (k : ℕ) → k < length p.events → (v : Event) × EventAt p k v
 event_of p k inside = (get_or p.events k (record { name = []; clock = 0; stamp = 0 }), slice_get-get_or p.events k (record { name = []; clock = 0; stamp = 0 }) inside)

@@ -13,8 +13,8 @@ use Rattle.problem_model.specs.ShortList.{clocks_before, first_reading, nearest_
 use Rattle.problem.specs.declared.nearest.NearestFollow.{NearestFollow}
 use Rattle.problem.specs.Nearest.{listed_follow, gap_between}
 use Rattle.sync_graph.specs.Graph.{GraphLists}
-use Rattle.sync_graph.specs.Standing.{IsLeft, HasNode}
-use Rattle.sync_graph.proofs.Numbering.{has_reading}
+use Rattle.problem_graph.specs.Standing.{IsLeft, HasNode}
+use Rattle.problem_graph.proofs.Numbering.{has_reading}
 
 -- the follow that leads to a clock, where there is one
 abbrev pub follow_at : List Follow → List Reading → ℕ → List Bound

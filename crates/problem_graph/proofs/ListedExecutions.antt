@@ -15,23 +15,23 @@ use Rattle.problem_model.specs.Nodes.{Reading, nodes_of}
 use Rattle.problem_model.proofs.OneName.{declared_one}
 use Rattle.problem_model.proofs.Following.{chained_by}
 use Rattle.problem_model.proofs.Sufficing.{suffices}
-use Rattle.difference_bounds.specs.Executions.{at, difference, IsExecution, Obeys, values_by}
-use Rattle.difference_bounds.specs.Differences.{IsGreatest, IsUnbounded}
-use Rattle.difference_bounds.specs.Earliest.{IsNonNegative}
-use Rattle.difference_bounds.specs.Problems.{IsNodeAt, IsGreatestOf, IsUnboundedOf}
-use Rattle.difference_bounds.specs.Solutions.{IsFromZero, IsEarliestExecution}
-use Rattle.difference_bounds.specs.Tables.{ObeysAll}
-use Rattle.difference_bounds.proofs.Executions.{at-values_by}
-use Rattle.difference_bounds.proofs.Problems.{time_at}
-use Rattle.difference_bounds.proofs.Tables.{obeys_all, execution_of_table, earliest_below}
+use Rattle.problem_model.specs.Executions.{at, difference, IsExecution, Obeys, values_by}
+use Rattle.problem_model.specs.Differences.{IsGreatest, IsUnbounded}
+use Rattle.problem_model.specs.Earliest.{IsNonNegative}
+use Rattle.problem_model.specs.ProblemArcs.{IsNodeAt, IsGreatestOf, IsUnboundedOf}
+use Rattle.problem_model.specs.Solutions.{IsFromZero, IsEarliestExecution}
+use Rattle.problem_model.specs.Tables.{ObeysAll}
+use Rattle.problem_model.proofs.Executions.{at-values_by}
+use Rattle.problem_model.proofs.Problems.{time_at}
+use Rattle.problem_model.proofs.Tables.{obeys_all, execution_of_table, earliest_below}
 use Rattle.std.proofs.lemmas.List.FromFn.{length-map-range_with_len}
 use Rattle.sync_graph.specs.declared.arc.Arc.{Arc}
 use Rattle.sync_graph.specs.Graph.{GraphLists, IsGraph, arc_at, unnamed, table_of}
 use Rattle.sync_graph.specs.InForce.{arcs_of, IsEarliestOf}
 use Rattle.sync_graph.proofs.InForce.{arcs_listed, arcs_within}
 use Rattle.problem.specs.Listing.{Listed, listed_nodes}
-use Rattle.sync_graph.specs.ListedStanding.{IsNodeBy, IsBoundBy, StandsForListed}
-use Rattle.sync_graph.proofs.NodeNumbers.{number_below, node_at, number_of, times_by, time_by, time_of_number, time_of_number_is}
+use Rattle.problem_graph.specs.ListedStanding.{IsNodeBy, IsBoundBy, StandsForListed}
+use Rattle.problem_graph.proofs.NodeNumbers.{number_below, node_at, number_of, times_by, time_by, time_of_number, time_of_number_is}
 
 module _ (l : Listed) (p : ProblemLists) (readings : List Reading) (g : GraphLists) (stands : StandsForListed l p readings g) where
   -- an arc in force is a bound of the problem

@@ -13,16 +13,16 @@ use Rattle.problem_model.specs.Bounds.{Times}
 use Rattle.problem_model.specs.Nodes.{Reading, nodes_of}
 use Rattle.problem_model.proofs.OneList.{listed, readings_one}
 use Rattle.problem_model.proofs.Places.{event_stands, reading_stands, stands_there}
-use Rattle.difference_bounds.specs.Executions.{at}
-use Rattle.difference_bounds.specs.Problems.{IsNodeAt}
-use Rattle.difference_bounds.specs.Solutions.{IsNodeOf}
-use Rattle.difference_bounds.proofs.Problems.{time_at}
-use Rattle.difference_bounds.proofs.SimplePaths.{pigeons}
-use Rattle.difference_bounds.proofs.Solutions.{place_of}
+use Rattle.problem_model.specs.Executions.{at}
+use Rattle.problem_model.specs.ProblemArcs.{IsNodeAt}
+use Rattle.problem_model.specs.Solutions.{IsNodeOf}
+use Rattle.problem_model.proofs.Problems.{time_at}
+use Rattle.problem_model.proofs.SimplePaths.{pigeons}
+use Rattle.problem_model.proofs.Solutions.{place_of}
 use Rattle.sync_graph.specs.Graph.{GraphLists}
 use Rattle.problem.specs.Listing.{Listed, name_at, listed_nodes}
 use Rattle.problem.proofs.ListedNodes.{length-nodes_of, map_at, nodes_count, event_node, reading_node, stamp_of}
-use Rattle.sync_graph.specs.ListedStanding.{IsNodeBy, StandsForListed}
+use Rattle.problem_graph.specs.ListedStanding.{IsNodeBy, StandsForListed}
 
 -- ---- places in a list of different numbers
 -- the first place of a number

@@ -13,19 +13,19 @@ use Rattle.problem_model.specs.Problem.{ProblemLists, IsProblem}
 use Rattle.problem_model.specs.Bounds.{Constraint, Declares}
 use Rattle.problem_model.specs.Nodes.{Reading, AreReadings, nodes_of}
 use Rattle.problem_model.specs.ShortList.{short_list}
-use Rattle.difference_bounds.specs.Problems.{IsNodeAt}
-use Rattle.difference_bounds.specs.Solutions.{IsNodeOf}
+use Rattle.problem_model.specs.ProblemArcs.{IsNodeAt}
+use Rattle.problem_model.specs.Solutions.{IsNodeOf}
 use Rattle.problem.specs.Listing.{listing_of, listed_nodes, name_at, event_places, reading_places, all_readings}
 use Rattle.problem.proofs.AllReadings.{readings_are}
 use Rattle.sync_graph.specs.declared.arc.Arc.{Arc}
 use Rattle.sync_graph.specs.Graph.{GraphLists, IsGraph, arc_at}
-use Rattle.sync_graph.specs.Standing.{HasBounds, IsDeclared}
+use Rattle.problem_graph.specs.Standing.{HasBounds, IsDeclared}
 use Rattle.problem.proofs.ListedNodes.{length-nodes_of, length-numbers, map_at, event_node, reading_node, stamp_of}
 use Rattle.sync_graph.specs.InForce.{IsInForce}
 use Rattle.sync_graph.proofs.InForce.{no_arc, in_force_below}
-use Rattle.sync_graph.specs.ListedProblem.{IsListedBy, IsCarried}
-use Rattle.sync_graph.specs.ListedStanding.{IsNodeBy, IsBoundBy, StandsForListed}
-use Rattle.sync_graph.proofs.BoundEnds.{ends_are}
+use Rattle.problem_graph.specs.ListedProblem.{IsListedBy, IsCarried}
+use Rattle.problem_graph.specs.ListedStanding.{IsNodeBy, IsBoundBy, StandsForListed}
+use Rattle.problem_graph.proofs.BoundEnds.{ends_are}
 
 -- ---- places
 event_place : (j k : ℕ) (es : List Event) → k < length es → slice_get (event_places j es) k ≡ Some (j + k, j + k)

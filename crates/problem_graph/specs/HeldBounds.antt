@@ -5,7 +5,7 @@ use Rattle.problem_model.specs.Problem.{ProblemLists}
 use Rattle.problem_model.specs.Nodes.{Reading, AreReadings}
 use Rattle.problem_model.specs.ShortList.{short_list}
 use Rattle.sync_graph.specs.Graph.{GraphLists}
-use Rattle.sync_graph.specs.Standing.{HasBounds}
+use Rattle.problem_graph.specs.Standing.{HasBounds}
 
 -- each bound of the short list is one of them
 abbrev pub HasShortList : ProblemLists → List Reading → List Bound → Type 0

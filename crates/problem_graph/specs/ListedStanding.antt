@@ -6,12 +6,12 @@ use Rattle.problem_model.specs.Problem.{ProblemLists, IsProblem}
 use Rattle.problem_model.specs.Bounds.{Constraint, Declares}
 use Rattle.problem_model.specs.Nodes.{Reading, AreReadings}
 use Rattle.problem_model.specs.ShortList.{short_list}
-use Rattle.difference_bounds.specs.Problems.{IsNodeAt}
+use Rattle.problem_model.specs.ProblemArcs.{IsNodeAt}
 use Rattle.sync_graph.specs.declared.arc.Arc.{Arc}
 use Rattle.sync_graph.specs.Graph.{GraphLists}
 use Rattle.problem.specs.Listing.{Listed, listed_nodes}
 use Rattle.sync_graph.specs.InForce.{IsInForce}
-use Rattle.sync_graph.specs.ListedProblem.{IsListedBy, IsCarried}
+use Rattle.problem_graph.specs.ListedProblem.{IsListedBy, IsCarried}
 
 -- the node of the graph with this number is this node of the problem: both have the same place
 abbrev pub IsNodeBy : Listed → ProblemLists → List Reading → ℕ → Node → Type 0

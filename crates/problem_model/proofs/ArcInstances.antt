@@ -3,12 +3,12 @@ use Rattle.std.proofs.Common.{ℕ, zero, suc, Bool, true, false, List, [], ◌�
 use Rattle.std.specs.Prelude.{pos, neg_ℤ, ◌-ℤ◌, ◌≤ℤ◌, ◌<ℤ◌, slice_index_or}
 use Rattle.std.proofs.lemmas.Int.{ints}
 use Rattle.std.proofs.lemmas.List.Elements.{All-contains}
-use Rattle.difference_bounds.specs.Executions.{at, Obeys}
-use Rattle.difference_bounds.specs.Paths.{Joins}
-use Rattle.difference_bounds.specs.Differences.{IsAfter}
-use Rattle.difference_bounds.specs.Tables.{ArcTable, ObeysAll}
-use Rattle.difference_bounds.specs.Numbers.{IsUpTo}
-use Rattle.difference_bounds.proofs.Instances.{most_five, least_two, least_one, most_two, three, four, low, low-execution, has_one, less_not_equal}
+use Rattle.problem_model.specs.Executions.{at, Obeys}
+use Rattle.problem_model.specs.Paths.{Joins}
+use Rattle.problem_model.specs.Differences.{IsAfter}
+use Rattle.problem_model.specs.Tables.{ArcTable, ObeysAll}
+use Rattle.problem_model.specs.Numbers.{IsUpTo}
+use Rattle.problem_model.proofs.Instances.{most_five, least_two, least_one, most_two, three, four, low, low-execution, has_one, less_not_equal}
 
 pub false_not_true : false ≡ true → ⊥
 false_not_true e = cc

@@ -3,8 +3,8 @@ use Rattle.std.proofs.Common.{◌≡◌, ℕ, ◌+◌, ◌<◌, ◌≤◌, true,
 use Rattle.std.specs.Prelude.{ℤ, pos, ◌+ℤ◌, ◌-ℤ◌, ◌≤ℤ◌, ◌<ℤ◌, ◌≢◌}
 use Rattle.std.proofs.lemmas.Int.{ints}
 use Rattle.std.proofs.lemmas.Bool.{cases_eq}
-use Rattle.difference_bounds.specs.Tables.{ArcTable}
-use Rattle.difference_bounds.specs.Insertions.{Raises, IsMet, IsAsked, IsRaiseStep, IsAsking, IsRaisedTo}
+use Rattle.problem_model.specs.Tables.{ArcTable}
+use Rattle.problem_model.specs.Insertions.{Raises, IsMet, IsAsked, IsRaiseStep, IsAsking, IsRaisedTo}
 
 -- the popped node has its raise, and none waits there any more
 pub asking_start : (table : ArcTable) (node : ℕ) (entries : List ℕ) (s s' : Raises)

@@ -4,13 +4,13 @@ use Rattle.std.specs.Prelude.{ℤ, pos, neg_ℤ, ◌*◌, ◌+ℤ◌, ◌-ℤ◌
 use Rattle.std.proofs.lemmas.Int.{ints, by_lt_z}
 use Rattle.std.proofs.lemmas.Bool.{cases_Bool, cases_eq, cond-true, cond-false}
 use Rattle.std.proofs.lemmas.List.Elements.{All-head, All-tail, All-contains}
-use Rattle.difference_bounds.specs.Executions.{Arc, at, difference, Obeys, IsExecution, AreWithin, values_by}
-use Rattle.difference_bounds.specs.Paths.{Joins, sum_of, IsPath}
-use Rattle.difference_bounds.specs.Differences.{IsGreatest, IsUnbounded}
-use Rattle.difference_bounds.specs.Rows.{IsClosedRow, IsGreatestLead, attaining}
-use Rattle.difference_bounds.proofs.Executions.{at-values_by, execution_by}
-use Rattle.difference_bounds.proofs.Paths.{greatest_from}
-use Rattle.difference_bounds.proofs.Cuts.{cut_unbounded}
+use Rattle.problem_model.specs.Executions.{Arc, at, difference, Obeys, IsExecution, AreWithin, values_by}
+use Rattle.problem_model.specs.Paths.{Joins, sum_of, IsPath}
+use Rattle.problem_model.specs.Differences.{IsGreatest, IsUnbounded}
+use Rattle.problem_model.specs.Rows.{IsClosedRow, IsGreatestLead, attaining}
+use Rattle.problem_model.proofs.Executions.{at-values_by, execution_by}
+use Rattle.problem_model.proofs.Paths.{greatest_from}
+use Rattle.problem_model.proofs.Cuts.{cut_unbounded}
 
 pub attaining-known : (known : ℕ → Bool) (d : ℕ → ℤ) (xs : List ℤ) (K : ℤ) (k : ℕ) → known k ≡ true → attaining known d xs K k ≡ d k
 attaining-known known d xs K k h = cond-true (known k) (d k) (at xs k +ℤ K) h

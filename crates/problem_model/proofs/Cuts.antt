@@ -3,10 +3,10 @@ use Rattle.std.proofs.Common.{◌≡◌, ℕ, ◌+◌, ◌<◌, List, get_or, re
 use Rattle.std.specs.Prelude.{ℤ, pos, negsuc, ◌+ℤ◌, ◌-ℤ◌, ◌<ℤ◌}
 use Rattle.std.proofs.lemmas.Int.{ints}
 use Rattle.std.proofs.lemmas.Bool.{cases_Bool, cond-true, cond-false}
-use Rattle.difference_bounds.specs.Executions.{Arc, at, difference, Obeys, IsExecution, AreWithin, values_by}
-use Rattle.difference_bounds.specs.Differences.{IsUnbounded}
-use Rattle.difference_bounds.specs.Cuts.{IsCut, raised_outside}
-use Rattle.difference_bounds.proofs.Executions.{at-values_by, execution_by}
+use Rattle.problem_model.specs.Executions.{Arc, at, difference, Obeys, IsExecution, AreWithin, values_by}
+use Rattle.problem_model.specs.Differences.{IsUnbounded}
+use Rattle.problem_model.specs.Cuts.{IsCut, raised_outside}
+use Rattle.problem_model.proofs.Executions.{at-values_by, execution_by}
 
 -- inside a cut nothing is added, outside so much
 raised-inside : (inside : ℕ → Bool) (by : ℕ) (xs : List ℤ) (k : ℕ) → inside k ≡ true → raised_outside inside by xs k ≡ at xs k

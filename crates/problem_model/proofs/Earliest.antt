@@ -6,9 +6,9 @@ use Rattle.std.proofs.lemmas.Bool.{cases_lt}
 use Rattle.std.proofs.lemmas.List.{get_or_past}
 use Rattle.std.proofs.lemmas.List.Elements.{All-nil}
 use Rattle.std.proofs.lemmas.List.FromFn.{fill_by_all, length-map-range_with_len}
-use Rattle.difference_bounds.specs.Executions.{Arc, at, Obeys, AreWithin, values_by}
-use Rattle.difference_bounds.specs.Earliest.{IsNonNegative, IsEarliest}
-use Rattle.difference_bounds.proofs.Executions.{at-values_by, execution_by}
+use Rattle.problem_model.specs.Executions.{Arc, at, Obeys, AreWithin, values_by}
+use Rattle.problem_model.specs.Earliest.{IsNonNegative, IsEarliest}
+use Rattle.problem_model.proofs.Executions.{at-values_by, execution_by}
 
 -- there is one earliest execution at most
 pub earliest_one : (nodes : ℕ) (arcs : List Arc) (xs ys : List ℤ) → IsEarliest nodes arcs xs → IsEarliest nodes arcs ys → xs ≡ ys

@@ -3,7 +3,7 @@ use Rattle.std.proofs.Common.{◌≡◌, ℕ, ◌<◌, List, get_or, arith}
 use Rattle.std.specs.Prelude.{ℤ, pos, ◌-ℤ◌, ◌≤ℤ◌, All}
 use Rattle.std.proofs.lemmas.Int.{ints}
 use Rattle.std.proofs.lemmas.List.FromFn.{get_or-map-range_with_len, length-map-range_with_len}
-use Rattle.difference_bounds.specs.Executions.{Arc, at, Obeys, IsExecution, AreWithin, values_by}
+use Rattle.problem_model.specs.Executions.{Arc, at, Obeys, IsExecution, AreWithin, values_by}
 
 -- the list of a function's values has these values
 pub at-values_by : (x : ℕ → ℤ) (nodes k : ℕ) → k < nodes → at (values_by x nodes) k ≡ x k

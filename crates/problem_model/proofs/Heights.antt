@@ -5,9 +5,9 @@ use Rattle.std.proofs.lemmas.Int.{ints}
 use Rattle.std.proofs.lemmas.Bool.{cases_Bool, cond-true, cond-false, cases_lt}
 use Rattle.std.proofs.lemmas.List.{get_or_past}
 use Rattle.problem_model.specs.Nodes.{most_nodes}
-use Rattle.difference_bounds.specs.Executions.{Arc, at, Obeys, IsExecution, AreWithin, values_by}
-use Rattle.difference_bounds.specs.Earliest.{IsNonNegative, IsEarliest}
-use Rattle.difference_bounds.proofs.Executions.{at-values_by, execution_by}
+use Rattle.problem_model.specs.Executions.{Arc, at, Obeys, IsExecution, AreWithin, values_by}
+use Rattle.problem_model.specs.Earliest.{IsNonNegative, IsEarliest}
+use Rattle.problem_model.proofs.Executions.{at-values_by, execution_by}
 
 -- how many values are above t
 above : ℤ → List ℤ → ℕ

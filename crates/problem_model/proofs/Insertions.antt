@@ -4,14 +4,14 @@ use Rattle.std.specs.Prelude.{ℤ, pos, ◌+ℤ◌, ◌-ℤ◌, ◌≤ℤ◌, �
 use Rattle.std.proofs.lemmas.Int.{ints}
 use Rattle.std.proofs.lemmas.Bool.{cases_eq}
 use Rattle.std.proofs.lemmas.List.Elements.{All-nil, All-cons}
-use Rattle.difference_bounds.specs.Executions.{Arc, at, Obeys, AreWithin}
-use Rattle.difference_bounds.specs.Paths.{Joins, sum_of, IsContradiction}
-use Rattle.difference_bounds.specs.Earliest.{IsNonNegative, IsEarliest}
-use Rattle.difference_bounds.specs.Tables.{ArcTable, Lists, ObeysAll, without}
-use Rattle.difference_bounds.specs.Sums.{risen_sum}
-use Rattle.difference_bounds.specs.Insertions.{Raises, IsMet, IsLifted, IsRaising, IsAsked, IsRaiseStep, FollowsParents, HasChain, HaveChains, IsFirstRaise}
-use Rattle.difference_bounds.proofs.Tables.{obeys_all, execution_of_table, earliest_below, without-other, obeys_without}
-use Rattle.difference_bounds.proofs.Sums.{risen-more, risen_fewer}
+use Rattle.problem_model.specs.Executions.{Arc, at, Obeys, AreWithin}
+use Rattle.problem_model.specs.Paths.{Joins, sum_of, IsContradiction}
+use Rattle.problem_model.specs.Earliest.{IsNonNegative, IsEarliest}
+use Rattle.problem_model.specs.Tables.{ArcTable, Lists, ObeysAll, without}
+use Rattle.problem_model.specs.Sums.{risen_sum}
+use Rattle.problem_model.specs.Insertions.{Raises, IsMet, IsLifted, IsRaising, IsAsked, IsRaiseStep, FollowsParents, HasChain, HaveChains, IsFirstRaise}
+use Rattle.problem_model.proofs.Tables.{obeys_all, execution_of_table, earliest_below, without-other, obeys_without}
+use Rattle.problem_model.proofs.Sums.{risen-more, risen_fewer}
 
 -- a chain stays where the parents of its first node and of all risen nodes stay, and risen nodes stay risen
 follows_kept : (table : ArcTable) (old : ℕ → ℤ) (s s' : Raises) (head : ℕ)

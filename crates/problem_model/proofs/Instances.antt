@@ -3,17 +3,17 @@ use Rattle.std.proofs.Common.{◌≡◌, ℕ, zero, suc, ◌<◌, Bool, true, fa
 use Rattle.std.specs.Prelude.{ℤ, pos, neg_ℤ, ◌+ℤ◌, ◌-ℤ◌, ◌≤ℤ◌, ◌<ℤ◌, Contains}
 use Rattle.std.proofs.lemmas.Int.{ints}
 use Rattle.std.proofs.lemmas.List.Elements.{All-from_recursion, All-contains}
-use Rattle.difference_bounds.specs.Executions.{Arc, at, Obeys, IsExecution, AreWithin, values_by}
-use Rattle.difference_bounds.specs.Paths.{sum_of, IsPath, IsContradiction, IsSimple}
-use Rattle.difference_bounds.specs.Differences.{IsGreatest, IsUnbounded, IsLeast, IsBefore, IsAfter, IsSame, IsOpen}
-use Rattle.difference_bounds.specs.Earliest.{IsNonNegative, IsEarliest, AreUpTo}
-use Rattle.difference_bounds.specs.Cuts.{IsCut, raised_outside}
-use Rattle.difference_bounds.specs.Rows.{IsClosedRow, IsGreatestLead, IsLeastLead, attaining, least_differences}
-use Rattle.difference_bounds.specs.Reversal.{reversed, all_reversed, walked_back}
-use Rattle.difference_bounds.proofs.Paths.{no_execution, greatest_from, greatest_one, unbounded_not_greatest}
-use Rattle.difference_bounds.proofs.Cuts.{cut_unbounded}
-use Rattle.difference_bounds.proofs.Attaining.{greatest_lead_one, attaining_execution}
-use Rattle.difference_bounds.proofs.Towards.{least_lead_one, towards_execution, towards_least}
+use Rattle.problem_model.specs.Executions.{Arc, at, Obeys, IsExecution, AreWithin, values_by}
+use Rattle.problem_model.specs.Paths.{sum_of, IsPath, IsContradiction, IsSimple}
+use Rattle.problem_model.specs.Differences.{IsGreatest, IsUnbounded, IsLeast, IsBefore, IsAfter, IsSame, IsOpen}
+use Rattle.problem_model.specs.Earliest.{IsNonNegative, IsEarliest, AreUpTo}
+use Rattle.problem_model.specs.Cuts.{IsCut, raised_outside}
+use Rattle.problem_model.specs.Rows.{IsClosedRow, IsGreatestLead, IsLeastLead, attaining, least_differences}
+use Rattle.problem_model.specs.Reversal.{reversed, all_reversed, walked_back}
+use Rattle.problem_model.proofs.Paths.{no_execution, greatest_from, greatest_one, unbounded_not_greatest}
+use Rattle.problem_model.proofs.Cuts.{cut_unbounded}
+use Rattle.problem_model.proofs.Attaining.{greatest_lead_one, attaining_execution}
+use Rattle.problem_model.proofs.Towards.{least_lead_one, towards_execution, towards_least}
 
 -- x1 - x0 ≤ 5, x0 - x1 ≤ -2, x1 - x2 ≤ -1: node 1 comes 2 to 5 after node 0, and node 2 at least 1 after node 1
 abbrev pub most_five : Arc

@@ -2,8 +2,8 @@
 use Rattle.std.proofs.Common.{◌≡◌, ℕ, List, arith}
 use Rattle.std.specs.Prelude.{ℤ, pos, ◌≤ℤ◌, ◌<ℤ◌, ◌↔◌}
 use Rattle.std.proofs.lemmas.Int.{ints}
-use Rattle.difference_bounds.specs.Executions.{Arc, at, difference}
-use Rattle.difference_bounds.specs.Differences.{IsGreatest, IsUnbounded, IsBefore, IsSame}
+use Rattle.problem_model.specs.Executions.{Arc, at, difference}
+use Rattle.problem_model.specs.Differences.{IsGreatest, IsUnbounded, IsBefore, IsSame}
 
 -- p comes before q exactly where the greatest x_p - x_q is below 0
 pub before_greatest : (nodes : ℕ) (arcs : List Arc) (p q : ℕ) (h : ℤ) → IsGreatest nodes arcs q p h → IsBefore nodes arcs p q ↔ (h <ℤ pos 0)

@@ -4,19 +4,19 @@ use Rattle.std.specs.Prelude.{ℤ, pos, ◌+ℤ◌, ◌-ℤ◌, ◌≤ℤ◌, Co
 use Rattle.std.proofs.lemmas.Int.{ints}
 use Rattle.std.proofs.lemmas.Bool.{cases_Bool, cases_lt}
 use Rattle.std.proofs.lemmas.List.Elements.{All-nil, Contains-get_or}
-use Rattle.difference_bounds.specs.Executions.{Arc, IsExecution, AreWithin}
-use Rattle.difference_bounds.specs.Paths.{IsPath, sum_of}
-use Rattle.difference_bounds.specs.Differences.{IsGreatest, IsUnbounded}
-use Rattle.difference_bounds.specs.Rows.{IsClosedRow}
-use Rattle.difference_bounds.specs.Reversal.{all_reversed, reversed, walked_back}
-use Rattle.difference_bounds.specs.Tables.{ArcTable, Lists, ObeysAll, reversed_table}
-use Rattle.difference_bounds.specs.Parents.{Cells, IsTight, LeadsBack, IsRow}
-use Rattle.difference_bounds.proofs.Paths.{greatest_one, unbounded_not_greatest, path_push, sum_of-push}
-use Rattle.difference_bounds.proofs.Reversal.{path_of_reversed, sum_of-walked_back}
-use Rattle.difference_bounds.proofs.Tables.{lists_reversed}
-use Rattle.difference_bounds.proofs.SimplePaths.{pigeons}
-use Rattle.difference_bounds.proofs.Attaining.{known_greatest, unknown_unbounded}
-use Rattle.difference_bounds.proofs.Towards.{towards_greatest, towards_unbounded}
+use Rattle.problem_model.specs.Executions.{Arc, IsExecution, AreWithin}
+use Rattle.problem_model.specs.Paths.{IsPath, sum_of}
+use Rattle.problem_model.specs.Differences.{IsGreatest, IsUnbounded}
+use Rattle.problem_model.specs.Rows.{IsClosedRow}
+use Rattle.problem_model.specs.Reversal.{all_reversed, reversed, walked_back}
+use Rattle.problem_model.specs.Tables.{ArcTable, Lists, ObeysAll, reversed_table}
+use Rattle.problem_model.specs.Parents.{Cells, IsTight, LeadsBack, IsRow}
+use Rattle.problem_model.proofs.Paths.{greatest_one, unbounded_not_greatest, path_push, sum_of-push}
+use Rattle.problem_model.proofs.Reversal.{path_of_reversed, sum_of-walked_back}
+use Rattle.problem_model.proofs.Tables.{lists_reversed}
+use Rattle.problem_model.proofs.SimplePaths.{pigeons}
+use Rattle.problem_model.proofs.Attaining.{known_greatest, unknown_unbounded}
+use Rattle.problem_model.proofs.Towards.{towards_greatest, towards_unbounded}
 
 -- a tight cell keeps so where its own cell and that of its tail stay
 pub tight_kept : (table : ArcTable) (c c' : Cells) (k : ℕ) → IsTight table c k → c'.parent k ≡ c.parent k → c'.value k ≡ c.value k

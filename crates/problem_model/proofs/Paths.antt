@@ -3,9 +3,9 @@ use Rattle.std.proofs.Common.{◌≡◌, ℕ, List, [], ◌∷◌, ◌++◌, ref
 use Rattle.std.specs.Prelude.{ℤ, pos, ◌+ℤ◌, ◌≤ℤ◌, ◌<ℤ◌, All, Contains}
 use Rattle.std.proofs.lemmas.Int.{ints}
 use Rattle.std.proofs.lemmas.List.Elements.{All-head, All-tail, All-push, All-contains}
-use Rattle.difference_bounds.specs.Executions.{Arc, at, difference, Obeys, IsExecution}
-use Rattle.difference_bounds.specs.Paths.{Joins, sum_of, IsPath, IsContradiction}
-use Rattle.difference_bounds.specs.Differences.{IsGreatest, IsUnbounded}
+use Rattle.problem_model.specs.Executions.{Arc, at, difference, Obeys, IsExecution}
+use Rattle.problem_model.specs.Paths.{Joins, sum_of, IsPath, IsContradiction}
+use Rattle.problem_model.specs.Differences.{IsGreatest, IsUnbounded}
 
 -- along a chain of obeyed arcs the difference is at most the sum
 joins_bound : (x : ℕ → ℤ) (p q : ℕ) (steps : List Arc) → All (Obeys x) steps → Joins p steps q → difference x p q ≤ℤ sum_of steps

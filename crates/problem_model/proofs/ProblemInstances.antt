@@ -12,8 +12,8 @@ use Rattle.problem_model.specs.declared.items.Bound.TheVariants.{SpanMost, SpanL
 use Rattle.problem_model.specs.Problem.{ProblemLists, empty_problem}
 use Rattle.problem_model.specs.Bounds.{Constraint, Declares, Times, IsExecution}
 use Rattle.problem_model.specs.Nodes.{Reading}
-use Rattle.difference_bounds.specs.Executions.{Arc}
-use Rattle.difference_bounds.specs.Problems.{IsNodeAt, IsArcOf, StandsFor, IsGreatestOf, IsUnboundedOf}
+use Rattle.problem_model.specs.Executions.{Arc}
+use Rattle.problem_model.specs.ProblemArcs.{IsNodeAt, IsArcOf, StandsFor, IsGreatestOf, IsUnboundedOf}
 
 -- one event, at most 7 ns behind the reading of its stamp and not before it
 abbrev pub one_clock : Clock

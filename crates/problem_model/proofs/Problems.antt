@@ -11,9 +11,9 @@ use Rattle.problem_model.specs.Bounds as bounds
 use Rattle.problem_model.specs.Nodes.{Reading, AreReadings, nodes_of}
 use Rattle.problem_model.proofs.Sufficing.{suffices}
 use Rattle.problem_model.proofs.OneList.{listed, readings_one}
-use Rattle.difference_bounds.specs.Executions.{Arc, at, difference, Obeys, IsExecution, AreWithin}
-use Rattle.difference_bounds.specs.Differences.{IsGreatest, IsUnbounded}
-use Rattle.difference_bounds.specs.Problems.{IsNodeAt, IsArcOf, StandsFor, IsGreatestOf, IsUnboundedOf}
+use Rattle.problem_model.specs.Executions.{Arc, at, difference, Obeys, IsExecution, AreWithin}
+use Rattle.problem_model.specs.Differences.{IsGreatest, IsUnbounded}
+use Rattle.problem_model.specs.ProblemArcs.{IsNodeAt, IsArcOf, StandsFor, IsGreatestOf, IsUnboundedOf}
 
 -- the value at the number of a node is its real time
 some_same : {X : Type 0} (a b : X) → Some a ≡ Some b → a ≡ b

@@ -2,10 +2,10 @@
 use Rattle.std.proofs.Common.{ℕ, zero, suc, ◌<◌, ◌≤◌, List, [], ◌∷◌, ◌≡◌, refl, ap, sym, arith, inl, inr, ◌⊎◌}
 use Rattle.std.specs.Prelude.{ℤ, pos, neg_ℤ, ◌+ℤ◌, ◌-ℤ◌, ◌≤ℤ◌, ◌<ℤ◌, ◌≢◌, slice_index_or}
 use Rattle.std.proofs.lemmas.Int.{ints}
-use Rattle.difference_bounds.specs.Executions.{Arc, at}
-use Rattle.difference_bounds.specs.Insertions.{Raises, IsMet, IsLifted, IsKeptRaise, IsAsked, GoesOn, FollowsParents, HasChain, HaveChains, IsAsking, IsRaisedTo}
-use Rattle.difference_bounds.proofs.Instances.{most_five, least_two, least_one, most_two, low, less_not_equal}
-use Rattle.difference_bounds.proofs.ArcInstances.{three_numbered, four_numbered}
+use Rattle.problem_model.specs.Executions.{Arc, at}
+use Rattle.problem_model.specs.Insertions.{Raises, IsMet, IsLifted, IsKeptRaise, IsAsked, GoesOn, FollowsParents, HasChain, HaveChains, IsAsking, IsRaisedTo}
+use Rattle.problem_model.proofs.Instances.{most_five, least_two, least_one, most_two, low, less_not_equal}
+use Rattle.problem_model.proofs.ArcInstances.{three_numbered, four_numbered}
 
 -- values, raises and parents by node
 abbrev raises : List ℤ → List ℤ → List ℕ → Raises

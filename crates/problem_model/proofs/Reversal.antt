@@ -4,11 +4,11 @@ use Rattle.std.specs.Prelude.{ℤ, pos, ◌+ℤ◌, ◌-ℤ◌, ◌≤ℤ◌, �
 use Rattle.std.proofs.lemmas.Int.{ints}
 use Rattle.std.proofs.lemmas.List.{length-map}
 use Rattle.std.proofs.lemmas.List.Elements.{All-map, All-cons, All-nil, All-head, All-tail, All-contains, All-contains_itself}
-use Rattle.difference_bounds.specs.Executions.{Arc, at, difference, Obeys, IsExecution, AreWithin}
-use Rattle.difference_bounds.specs.Paths.{sum_of, IsPath}
-use Rattle.difference_bounds.specs.Differences.{IsGreatest, IsUnbounded}
-use Rattle.difference_bounds.specs.Reversal.{reversed, all_reversed, negated, walked_back}
-use Rattle.difference_bounds.proofs.Paths.{path_push, sum_of-push}
+use Rattle.problem_model.specs.Executions.{Arc, at, difference, Obeys, IsExecution, AreWithin}
+use Rattle.problem_model.specs.Paths.{sum_of, IsPath}
+use Rattle.problem_model.specs.Differences.{IsGreatest, IsUnbounded}
+use Rattle.problem_model.specs.Reversal.{reversed, all_reversed, negated, walked_back}
+use Rattle.problem_model.proofs.Paths.{path_push, sum_of-push}
 
 -- twice reversed is as before
 pub all_reversed-twice : (arcs : List Arc) → all_reversed (all_reversed arcs) ≡ arcs

@@ -3,10 +3,10 @@ use Rattle.std.proofs.Common.{◌≡◌, ℕ, zero, suc, ◌<◌, ◌≤◌, Boo
 use Rattle.std.specs.Prelude.{ℤ, ◌+ℤ◌, ◌≤ℤ◌, ◌<ℤ◌}
 use Rattle.std.proofs.lemmas.Int.{ints}
 use Rattle.std.proofs.lemmas.Bool.{cases_lt}
-use Rattle.difference_bounds.specs.Tables.{ArcTable}
-use Rattle.difference_bounds.specs.Parents.{Cells, IsTight, LeadsBack, IsRow, IsRelaxed}
-use Rattle.difference_bounds.specs.RowPops.{IsUntouched, IsTouched, IsRelaxing}
-use Rattle.difference_bounds.proofs.Parents.{tight_kept, chain_short}
+use Rattle.problem_model.specs.Tables.{ArcTable}
+use Rattle.problem_model.specs.Parents.{Cells, IsTight, LeadsBack, IsRow, IsRelaxed}
+use Rattle.problem_model.specs.RowPops.{IsUntouched, IsTouched, IsRelaxing}
+use Rattle.problem_model.proofs.Parents.{tight_kept, chain_short}
 
 module _ (table : ArcTable) (p : ℕ) (e : ℕ → ℤ) (top : ℤ) (rank : ℕ → ℕ) (old c : Cells) (waits : ℕ → Bool)
     (b : IsRelaxing table p e top rank old c waits)

@@ -2,12 +2,12 @@
 use Rattle.std.proofs.Common.{ℕ, zero, suc, ◌+◌, ◌*◌, ◌<◌, ◌≤◌, Bool, true, false, List, [], ◌∷◌, ◌≡◌, refl, sym, arith, inl, inr, ◌⊎◌}
 use Rattle.std.specs.Prelude.{ℤ, pos, neg_ℤ, ◌+ℤ◌, ◌-ℤ◌, ◌≤ℤ◌, ◌<ℤ◌, ◌≢◌, slice_index_or}
 use Rattle.std.proofs.lemmas.Int.{ints}
-use Rattle.difference_bounds.specs.Executions.{at, Obeys}
-use Rattle.difference_bounds.specs.Tables.{ObeysAll}
-use Rattle.difference_bounds.specs.Parents.{Cells, no_parent, IsReached, IsRelaxed, IsTight, LeadsBack}
-use Rattle.difference_bounds.specs.RowPops.{reduced, IsFresh, IsFinal, IsUntouched, IsGiven, IsTouched, IsRelaxing, IsSameCell, IsNearer, IsSpread, IsAsBefore, IsPut, IsArcCandidate, IsCandidate, IsHigh, IsUnderWay}
-use Rattle.difference_bounds.proofs.Instances.{most_five, low, less_not_equal}
-use Rattle.difference_bounds.proofs.ArcInstances.{marked, three_numbered, four_numbered, false_not_true}
+use Rattle.problem_model.specs.Executions.{at, Obeys}
+use Rattle.problem_model.specs.Tables.{ObeysAll}
+use Rattle.problem_model.specs.Parents.{Cells, no_parent, IsReached, IsRelaxed, IsTight, LeadsBack}
+use Rattle.problem_model.specs.RowPops.{reduced, IsFresh, IsFinal, IsUntouched, IsGiven, IsTouched, IsRelaxing, IsSameCell, IsNearer, IsSpread, IsAsBefore, IsPut, IsArcCandidate, IsCandidate, IsHigh, IsUnderWay}
+use Rattle.problem_model.proofs.Instances.{most_five, low, less_not_equal}
+use Rattle.problem_model.proofs.ArcInstances.{marked, three_numbered, four_numbered, false_not_true}
 
 -- which nodes are known, their distances and their parents
 abbrev cells : List Bool → List ℤ → List ℕ → Cells

@@ -2,10 +2,10 @@
 use Rattle.std.proofs.Common.{◌≡◌, ℕ, ◌+◌, ◌*◌, ◌<◌, ◌≤◌, Bool, true, false, refl, ap, sym, ◌∙◌, subst, arith, inl, inr, ◌⊎◌}
 use Rattle.std.specs.Prelude.{ℤ, pos, ◌+ℤ◌, ◌-ℤ◌, ◌≤ℤ◌, ◌<ℤ◌, ◌≢◌}
 use Rattle.std.proofs.lemmas.Int.{ints}
-use Rattle.difference_bounds.specs.Tables.{ArcTable, ObeysAll}
-use Rattle.difference_bounds.specs.Parents.{Cells, IsRelaxed, IsReached}
-use Rattle.difference_bounds.proofs.Parents.{tight_kept}
-use Rattle.difference_bounds.specs.RowPops.{reduced, IsFresh, IsFinal, IsUntouched, IsGiven, IsTouched, IsRelaxing, IsSameCell, IsNearer, IsRowStep, IsHigh}
+use Rattle.problem_model.specs.Tables.{ArcTable, ObeysAll}
+use Rattle.problem_model.specs.Parents.{Cells, IsRelaxed, IsReached}
+use Rattle.problem_model.proofs.Parents.{tight_kept}
+use Rattle.problem_model.specs.RowPops.{reduced, IsFresh, IsFinal, IsUntouched, IsGiven, IsTouched, IsRelaxing, IsSameCell, IsNearer, IsRowStep, IsHigh}
 
 -- the rank of a node after one more pop
 abbrev rank_by : {A B : Type 0} → ℕ → ℕ → A ⊎ B → ℕ

@@ -3,11 +3,11 @@ use Rattle.std.proofs.Common.{◌≡◌, ℕ, zero, suc, ◌<◌, Bool, true, fa
 use Rattle.std.specs.Prelude.{ℤ, pos, ◌+ℤ◌, ◌-ℤ◌, ◌≤ℤ◌, ◌<ℤ◌, ◌≢◌}
 use Rattle.std.proofs.lemmas.Int.{ints}
 use Rattle.std.proofs.lemmas.Bool.{cases_eq}
-use Rattle.difference_bounds.specs.Tables.{ArcTable, ObeysAll, without}
-use Rattle.difference_bounds.specs.Parents.{Cells, no_parent, IsTight, LeadsBack, IsRow, IsRelaxed}
-use Rattle.difference_bounds.specs.RowPops.{reduced, IsFresh, IsFinal, IsGiven, IsTouched, IsRelaxing, IsArcCandidate, IsCandidate, IsAsBefore}
-use Rattle.difference_bounds.proofs.Tables.{without-other, without_force, obeys_without}
-use Rattle.difference_bounds.proofs.Parents.{chain_bound}
+use Rattle.problem_model.specs.Tables.{ArcTable, ObeysAll, without}
+use Rattle.problem_model.specs.Parents.{Cells, no_parent, IsTight, LeadsBack, IsRow, IsRelaxed}
+use Rattle.problem_model.specs.RowPops.{reduced, IsFresh, IsFinal, IsGiven, IsTouched, IsRelaxing, IsArcCandidate, IsCandidate, IsAsBefore}
+use Rattle.problem_model.proofs.Tables.{without-other, without_force, obeys_without}
+use Rattle.problem_model.proofs.Parents.{chain_bound}
 
 leads_back_more : (table : ArcTable) (arc p : ℕ) (c : Cells) (n k : ℕ) → LeadsBack (without table arc) p c n k → LeadsBack table p c n k
 leads_back_more table arc p c zero k r = r

@@ -3,12 +3,12 @@ use Rattle.std.proofs.Common.{◌≡◌, ℕ, ◌+◌, ◌<◌, ◌≤◌, Bool,
 use Rattle.std.specs.Prelude.{ℤ, ◌≤ℤ◌, ◌<ℤ◌, ◌≢◌, ◌||◌, ◌&&◌, not, if◌then◌else◌, int_lt}
 use Rattle.std.proofs.lemmas.Int.{ints}
 use Rattle.std.proofs.lemmas.Bool.{cases_Bool}
-use Rattle.difference_bounds.specs.Tables.{ArcTable, ObeysAll}
-use Rattle.difference_bounds.specs.Parents.{Cells}
-use Rattle.difference_bounds.specs.RowPops.{reduced, IsFresh, IsRelaxing, IsNearer, IsRowStep}
-use Rattle.difference_bounds.specs.Sums.{is_changed, changed_sum, done_sum}
-use Rattle.difference_bounds.proofs.Sums.{sum-same, sum-more, sum_few, sum_zero, lt_true, lt_false}
-use Rattle.difference_bounds.proofs.RowPops.{nearer_not_final, popped_rests, popped_fresh}
+use Rattle.problem_model.specs.Tables.{ArcTable, ObeysAll}
+use Rattle.problem_model.specs.Parents.{Cells}
+use Rattle.problem_model.specs.RowPops.{reduced, IsFresh, IsRelaxing, IsNearer, IsRowStep}
+use Rattle.problem_model.specs.Sums.{is_changed, changed_sum, done_sum}
+use Rattle.problem_model.proofs.Sums.{sum-same, sum-more, sum_few, sum_zero, lt_true, lt_false}
+use Rattle.problem_model.proofs.RowPops.{nearer_not_final, popped_rests, popped_fresh}
 
 changed_fresh : (a b : ℤ) (h k : Bool) → h ≡ true → (k ≡ false) ⊎ (a <ℤ b) → ((int_lt a b || int_lt b a) || (if h then not k else k)) ≡ true
 changed_fresh a b h k e f = elim f [

@@ -3,14 +3,14 @@ use Rattle.std.proofs.Common.{◌≡◌, ℕ, ◌+◌, ◌-◌, ◌*◌, ◌<◌
 use Rattle.std.specs.Prelude.{ℤ, pos, ◌+ℤ◌, ◌-ℤ◌, ◌≤ℤ◌, ◌<ℤ◌, ◌≢◌}
 use Rattle.std.proofs.lemmas.Int.{ints}
 use Rattle.std.proofs.lemmas.Bool.{cases_eq}
-use Rattle.difference_bounds.specs.Tables.{ArcTable, ObeysAll}
-use Rattle.difference_bounds.specs.Parents.{Cells, LeadsBack, IsRow, IsReached}
-use Rattle.difference_bounds.specs.RowPops.{reduced, IsNearer, IsRowStep, IsSpread, IsPut, IsUnderWay, IsCandidate, IsAsBefore}
-use Rattle.difference_bounds.specs.Sums.{done_sum, changed_sum}
-use Rattle.difference_bounds.proofs.RowPops.{IsPopped, relaxing_step}
-use Rattle.difference_bounds.proofs.RowSums.{cost_step, done_few, done_all, done_none}
-use Rattle.difference_bounds.proofs.RowEnds.{relaxed_row}
-use Rattle.difference_bounds.proofs.RowStarts.{idle_relaxing, put_relaxing}
+use Rattle.problem_model.specs.Tables.{ArcTable, ObeysAll}
+use Rattle.problem_model.specs.Parents.{Cells, LeadsBack, IsRow, IsReached}
+use Rattle.problem_model.specs.RowPops.{reduced, IsNearer, IsRowStep, IsSpread, IsPut, IsUnderWay, IsCandidate, IsAsBefore}
+use Rattle.problem_model.specs.Sums.{done_sum, changed_sum}
+use Rattle.problem_model.proofs.RowPops.{IsPopped, relaxing_step}
+use Rattle.problem_model.proofs.RowSums.{cost_step, done_few, done_all, done_none}
+use Rattle.problem_model.proofs.RowEnds.{relaxed_row}
+use Rattle.problem_model.proofs.RowStarts.{idle_relaxing, put_relaxing}
 
 -- an arc that brings nothing nearer
 pub spread_kept : (table : ArcTable) (node : ℕ) (entries : List ℕ) (count : ℕ) (c c' : Cells) (waits waits' : ℕ → Bool) (j : ℕ)

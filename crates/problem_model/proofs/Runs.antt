@@ -4,18 +4,18 @@ use Rattle.std.specs.Prelude.{ℤ, pos, ◌+ℤ◌, ◌≤ℤ◌, ◌≢◌, Con
 use Rattle.std.proofs.lemmas.Int.{ints}
 use Rattle.std.proofs.lemmas.Bool.{cases_eq}
 use Rattle.std.proofs.lemmas.List.Elements.{All-from_recursion, All-contains}
-use Rattle.difference_bounds.specs.Executions.{Arc, at, Obeys, IsExecution, AreWithin}
-use Rattle.difference_bounds.specs.Paths.{IsContradiction}
-use Rattle.difference_bounds.specs.Earliest.{IsNonNegative, IsEarliest}
-use Rattle.difference_bounds.specs.Tables.{ArcTable, Lists, ObeysAll, without, reversed_table}
-use Rattle.difference_bounds.specs.Parents.{Cells, no_parent, LeadsBack, IsRow}
-use Rattle.difference_bounds.specs.Insertions.{Raises, IsMet, IsRaising, IsKeptRaise, IsAsked, IsRaiseStep, HasChain, HaveChains, IsFirstRaise}
-use Rattle.difference_bounds.specs.RowPops.{reduced, IsRelaxing, IsSameCell, IsNearer, IsRowStep, IsUnderWay}
-use Rattle.difference_bounds.proofs.Instances.{most_five, least_two, least_one, most_two, three, four, low, three-within, low-execution, low-earliest, first_two, only_first, all_three, from_zero, towards_one, less_not_equal}
-use Rattle.difference_bounds.proofs.Tables.{lists_listed, obeys_all, without-same, without_force}
-use Rattle.difference_bounds.proofs.Insertions.{settled_earliest, stuck_contradiction, raising_step, chains_step, obeyed_elsewhere, first_raising, first_chains}
-use Rattle.difference_bounds.proofs.RowStarts.{own_candidate}
-use Rattle.difference_bounds.proofs.RowsUnderWay.{start_put, under_way_step, under_way_row}
+use Rattle.problem_model.specs.Executions.{Arc, at, Obeys, IsExecution, AreWithin}
+use Rattle.problem_model.specs.Paths.{IsContradiction}
+use Rattle.problem_model.specs.Earliest.{IsNonNegative, IsEarliest}
+use Rattle.problem_model.specs.Tables.{ArcTable, Lists, ObeysAll, without, reversed_table}
+use Rattle.problem_model.specs.Parents.{Cells, no_parent, LeadsBack, IsRow}
+use Rattle.problem_model.specs.Insertions.{Raises, IsMet, IsRaising, IsKeptRaise, IsAsked, IsRaiseStep, HasChain, HaveChains, IsFirstRaise}
+use Rattle.problem_model.specs.RowPops.{reduced, IsRelaxing, IsSameCell, IsNearer, IsRowStep, IsUnderWay}
+use Rattle.problem_model.proofs.Instances.{most_five, least_two, least_one, most_two, three, four, low, three-within, low-execution, low-earliest, first_two, only_first, all_three, from_zero, towards_one, less_not_equal}
+use Rattle.problem_model.proofs.Tables.{lists_listed, obeys_all, without-same, without_force}
+use Rattle.problem_model.proofs.Insertions.{settled_earliest, stuck_contradiction, raising_step, chains_step, obeyed_elsewhere, first_raising, first_chains}
+use Rattle.problem_model.proofs.RowStarts.{own_candidate}
+use Rattle.problem_model.proofs.RowsUnderWay.{start_put, under_way_step, under_way_row}
 
 abbrev arc_of : ℕ → Arc
 arc_of zero = most_five

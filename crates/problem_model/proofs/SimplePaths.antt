@@ -4,9 +4,9 @@ use Rattle.std.specs.Prelude.{pos, neg_ℤ, ◌≤ℤ◌, ◌≢◌, ◌==◌, i
 use Rattle.std.proofs.lemmas.Int.{ints}
 use Rattle.std.proofs.lemmas.Bool.{cases_eq, eq-eqb, ne_eqb, cond-true, cond-false}
 use Rattle.std.proofs.lemmas.List.Elements.{All-head, All-tail, All-contains}
-use Rattle.difference_bounds.specs.Executions.{Arc, AreWithin}
-use Rattle.difference_bounds.specs.Paths.{IsPath, sum_of, stops, IsSimple}
-use Rattle.difference_bounds.specs.Earliest.{AreUpTo}
+use Rattle.problem_model.specs.Executions.{Arc, AreWithin}
+use Rattle.problem_model.specs.Paths.{IsPath, sum_of, stops, IsSimple}
+use Rattle.problem_model.specs.Earliest.{AreUpTo}
 
 -- v in place of the top, and every other number as it is
 swapped : ℕ → ℕ → ℕ → ℕ

@@ -9,9 +9,9 @@ use Rattle.problem_model.specs.declared.items.Bound.TheVariants as bounds
 use Rattle.problem_model.specs.declared.items.Bound.TheVariants.{SpanMost, SpanLeast, Late, Early, DelayMost, DelayLeast}
 use Rattle.problem_model.specs.Problem.{ProblemLists}
 use Rattle.problem_model.specs.Bounds.{Constraint, Declares, IsReading, IsExecution, Obeys, Times}
-use Rattle.difference_bounds.specs.Problems.{IsArcOf}
-use Rattle.difference_bounds.specs.Solutions.{IsNodeOf, IsFromZero, IsEarliestExecution, WeighedBound, Leads, weight_of, IsContradictionOf, IsBoundArc}
-use Rattle.difference_bounds.proofs.ProblemInstances.{one, one_clock, one_event, one_reading, late_arc, early_arc, late_bound, late_arc_of, not_arc, late_is}
+use Rattle.problem_model.specs.ProblemArcs.{IsArcOf}
+use Rattle.problem_model.specs.Solutions.{IsNodeOf, IsFromZero, IsEarliestExecution, WeighedBound, Leads, weight_of, IsContradictionOf, IsBoundArc}
+use Rattle.problem_model.proofs.ProblemInstances.{one, one_clock, one_event, one_reading, late_arc, early_arc, late_bound, late_arc_of, not_arc, late_is}
 
 -- ---- one event on one clock: all at 0 is the earliest execution
 abbrev all_zero : Times

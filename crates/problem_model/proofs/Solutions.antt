@@ -12,12 +12,12 @@ use Rattle.problem_model.specs.Bounds.{Times}
 use Rattle.problem_model.specs.Bounds as bounds
 use Rattle.problem_model.specs.Nodes.{Reading, AreReadings, nodes_of}
 use Rattle.problem_model.proofs.Places.{event_stands, has_place, stands_there}
-use Rattle.difference_bounds.specs.Executions.{Arc, at, IsExecution}
-use Rattle.difference_bounds.specs.Earliest.{IsNonNegative, IsEarliest}
-use Rattle.difference_bounds.specs.Paths.{Joins, sum_of, IsContradiction}
-use Rattle.difference_bounds.specs.Problems.{IsNodeAt, StandsFor}
-use Rattle.difference_bounds.specs.Solutions.{IsNodeOf, IsFromZero, IsEarliestExecution, WeighedBound, Leads, weight_of, IsContradictionOf, NamedArc, IsBoundArc, weighed}
-use Rattle.difference_bounds.proofs.Problems.{time_at, same_executions, times, values}
+use Rattle.problem_model.specs.Executions.{Arc, at, IsExecution}
+use Rattle.problem_model.specs.Earliest.{IsNonNegative, IsEarliest}
+use Rattle.problem_model.specs.Paths.{Joins, sum_of, IsContradiction}
+use Rattle.problem_model.specs.ProblemArcs.{IsNodeAt, StandsFor}
+use Rattle.problem_model.specs.Solutions.{IsNodeOf, IsFromZero, IsEarliestExecution, WeighedBound, Leads, weight_of, IsContradictionOf, NamedArc, IsBoundArc, weighed}
+use Rattle.problem_model.proofs.Problems.{time_at, same_executions, times, values}
 
 -- ---- nodes and their places
 module _ (p : ProblemLists) (readings : List Reading) (are : AreReadings p readings) where

@@ -3,11 +3,11 @@ use Rattle.std.proofs.Common.{◌≡◌, ℕ, zero, suc, ◌<◌, true, false, L
 use Rattle.std.specs.Prelude.{ℤ, ◌≤ℤ◌, ◌≢◌, ◌==◌, if◌then◌else◌, All, Contains}
 use Rattle.std.proofs.lemmas.Bool.{cases_Bool, cases_eq, eq-eqb, ne_eqb, cond-true, cond-false}
 use Rattle.std.proofs.lemmas.List.Elements.{All-contains, Contains-get_or, Contains-append_left, Contains-append_right, Contains-append_cases, Contains-push, Contains-push_cases, All-map}
-use Rattle.difference_bounds.specs.Executions.{Arc, at, Obeys, IsExecution, AreWithin}
-use Rattle.difference_bounds.specs.Earliest.{IsNonNegative, IsEarliest}
-use Rattle.difference_bounds.specs.Reversal.{reversed, all_reversed}
-use Rattle.difference_bounds.specs.Tables.{ArcTable, Lists, listed, ObeysAll, without, reversed_table}
-use Rattle.difference_bounds.proofs.Earliest.{earliest_least}
+use Rattle.problem_model.specs.Executions.{Arc, at, Obeys, IsExecution, AreWithin}
+use Rattle.problem_model.specs.Earliest.{IsNonNegative, IsEarliest}
+use Rattle.problem_model.specs.Reversal.{reversed, all_reversed}
+use Rattle.problem_model.specs.Tables.{ArcTable, Lists, listed, ObeysAll, without, reversed_table}
+use Rattle.problem_model.proofs.Earliest.{earliest_least}
 
 nothing_in : {X : Type 0} (x : X) → Contains [] x → ⊥
 nothing_in x c = let l : c.0 < 0 = c.1 in omega arith

@@ -3,13 +3,13 @@ use Rattle.std.proofs.Common.{◌≡◌, ℕ, ◌<◌, List, get_or, subst, arit
 use Rattle.std.specs.Prelude.{ℤ, pos, neg_ℤ, ◌+ℤ◌, ◌-ℤ◌, ◌≤ℤ◌}
 use Rattle.std.proofs.lemmas.Int.{ints}
 use Rattle.std.proofs.lemmas.Bool.{cases_Bool}
-use Rattle.difference_bounds.specs.Executions.{Arc, at, difference, Obeys, IsExecution, AreWithin, values_by}
-use Rattle.difference_bounds.specs.Differences.{IsGreatest, IsLeast, IsUnbounded}
-use Rattle.difference_bounds.specs.Rows.{IsClosedRow, IsGreatestLead, IsLeastLead, attaining, least_differences}
-use Rattle.difference_bounds.specs.Reversal.{all_reversed, negated}
-use Rattle.difference_bounds.proofs.Executions.{at-values_by, execution_by}
-use Rattle.difference_bounds.proofs.Attaining.{attaining-known, attaining-other, greatest_lead, known_greatest, unknown_unbounded}
-use Rattle.difference_bounds.proofs.Reversal.{All-of_reversed, at-negated, within_reversed, execution_reversed, greatest_of_reversed, unbounded_of_reversed}
+use Rattle.problem_model.specs.Executions.{Arc, at, difference, Obeys, IsExecution, AreWithin, values_by}
+use Rattle.problem_model.specs.Differences.{IsGreatest, IsLeast, IsUnbounded}
+use Rattle.problem_model.specs.Rows.{IsClosedRow, IsGreatestLead, IsLeastLead, attaining, least_differences}
+use Rattle.problem_model.specs.Reversal.{all_reversed, negated}
+use Rattle.problem_model.proofs.Executions.{at-values_by, execution_by}
+use Rattle.problem_model.proofs.Attaining.{attaining-known, attaining-other, greatest_lead, known_greatest, unknown_unbounded}
+use Rattle.problem_model.proofs.Reversal.{All-of_reversed, at-negated, within_reversed, execution_reversed, greatest_of_reversed, unbounded_of_reversed}
 
 -- where a node is known there is a least lead
 pub least_lead : (nodes p : ℕ) (known : ℕ → Bool) (least : ℕ → ℤ) (xs : List ℤ)

@@ -1,6 +1,6 @@
 -- Cuts: sets of nodes that no arc leaves.
 use Rattle.std.specs.Prelude.{◌≡◌, ℕ, Bool, true, if◌then◌else◌, ℤ, pos, ◌+ℤ◌, List, All}
-use Rattle.difference_bounds.specs.Executions.{Arc, at}
+use Rattle.problem_model.specs.Executions.{Arc, at}
 
 -- no arc goes from a node inside to a node outside
 abbrev pub IsCut : List Arc → (ℕ → Bool) → Type 0

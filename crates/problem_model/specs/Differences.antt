@@ -1,6 +1,6 @@
 -- The greatest and least difference of two nodes over all executions, and their order.
 use Rattle.std.specs.Prelude.{◌≡◌, ℕ, ℤ, neg_ℤ, ◌≤ℤ◌, ◌<ℤ◌, List}
-use Rattle.difference_bounds.specs.Executions.{Arc, at, difference, IsExecution}
+use Rattle.problem_model.specs.Executions.{Arc, at, difference, IsExecution}
 
 -- h is the maximum of x_q - x_p, and an execution has it
 pub record IsGreatest (nodes : ℕ) (arcs : List Arc) (p q : ℕ) (h : ℤ) : Type 0 where

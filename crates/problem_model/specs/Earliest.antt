@@ -1,6 +1,6 @@
 -- The earliest execution of those with no value below 0.
 use Rattle.std.specs.Prelude.{ℕ, ℤ, pos, neg_ℤ, ◌≤ℤ◌, List, All}
-use Rattle.difference_bounds.specs.Executions.{Arc, at, IsExecution}
+use Rattle.problem_model.specs.Executions.{Arc, at, IsExecution}
 
 -- no value is below 0
 abbrev pub IsNonNegative : (ℕ → ℤ) → Type 0

@@ -1,10 +1,10 @@
 -- The insertion of an arc into the earliest execution: the arc asks its tail to rise, and raises are given out, the greatest first.
 use Rattle.std.specs.Prelude.{◌≡◌, ◌≢◌, ℕ, ◌<◌, ◌≤◌, ◌⊎◌, true, ℤ, pos, ◌+ℤ◌, ◌-ℤ◌, ◌≤ℤ◌, ◌<ℤ◌, List, [], ◌∷◌, length, slice_index_or}
-use Rattle.difference_bounds.specs.Executions.{Arc}
-use Rattle.difference_bounds.specs.Paths.{sum_of}
-use Rattle.difference_bounds.specs.Earliest.{IsNonNegative}
-use Rattle.difference_bounds.specs.Tables.{ArcTable, ObeysAll}
-use Rattle.difference_bounds.specs.Sums.{risen_sum}
+use Rattle.problem_model.specs.Executions.{Arc}
+use Rattle.problem_model.specs.Paths.{sum_of}
+use Rattle.problem_model.specs.Earliest.{IsNonNegative}
+use Rattle.problem_model.specs.Tables.{ArcTable, ObeysAll}
+use Rattle.problem_model.specs.Sums.{risen_sum}
 
 -- the values, the raises that wait (0 for none), and the number of the arc that asked for each raise
 pub record Raises : Type 0 where

@@ -1,6 +1,6 @@
 -- Rows whose cells name the last arc of a path that has their value.
 use Rattle.std.specs.Prelude.{◌≡◌, ◌≢◌, ℕ, zero, suc, ◌<◌, ◌≤◌, Bool, true, false, ℤ, pos, ◌+ℤ◌, ◌≤ℤ◌}
-use Rattle.difference_bounds.specs.Tables.{ArcTable}
+use Rattle.problem_model.specs.Tables.{ArcTable}
 
 -- what a row says of each node: whether it has a distance, the distance, and the number of its parent arc
 pub record Cells : Type 0 where

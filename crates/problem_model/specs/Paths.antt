@@ -1,6 +1,6 @@
 -- Paths along arcs, their sums, and negative cycles.
 use Rattle.std.specs.Prelude.{◌≡◌, ℕ, ◌<◌, ℤ, pos, ◌+ℤ◌, ◌<ℤ◌, List, [], ◌∷◌, length, slice_index_or, All, Contains}
-use Rattle.difference_bounds.specs.Executions.{Arc}
+use Rattle.problem_model.specs.Executions.{Arc}
 
 -- each step begins where the one before it ended, from p to q
 abbrev pub Joins : ℕ → List Arc → ℕ → Type 0

@@ -6,7 +6,7 @@ use Rattle.problem_model.specs.Problem.{ProblemLists, IsChained}
 use Rattle.problem_model.specs.Bounds.{Constraint, Declares, Times, IsExecution}
 use Rattle.problem_model.specs.Nodes.{Reading, nodes_of}
 use Rattle.problem_model.specs.ShortList.{short_list}
-use Rattle.difference_bounds.specs.Executions.{Arc}
+use Rattle.problem_model.specs.Executions.{Arc}
 
 -- a node has the number of its place
 abbrev pub IsNodeAt : ProblemLists → List Reading → ℕ → Node → Type 0

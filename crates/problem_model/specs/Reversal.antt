@@ -1,6 +1,6 @@
 -- Arcs with head and tail exchanged.
 use Rattle.std.specs.Prelude.{ℤ, pos, ◌-ℤ◌, List, [], ◌∷◌, ◌++◌, map}
-use Rattle.difference_bounds.specs.Executions.{Arc}
+use Rattle.problem_model.specs.Executions.{Arc}
 
 -- the arc the other way round
 abbrev pub reversed : Arc → Arc

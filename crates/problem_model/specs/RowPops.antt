@@ -1,8 +1,8 @@
 -- The making and the repair of a row: waiting nodes are popped by least reduced cost, and their arcs relaxed.
 use Rattle.std.specs.Prelude.{◌≡◌, ◌≢◌, ℕ, ◌+◌, ◌*◌, ◌<◌, ◌≤◌, ◌⊎◌, Bool, true, false, ℤ, pos, ◌+ℤ◌, ◌-ℤ◌, ◌≤ℤ◌, ◌<ℤ◌, List, length, slice_index_or}
-use Rattle.difference_bounds.specs.Tables.{ArcTable, ObeysAll}
-use Rattle.difference_bounds.specs.Parents.{Cells, no_parent, IsTight, LeadsBack, IsRelaxed, IsReached}
-use Rattle.difference_bounds.specs.Sums.{done_sum}
+use Rattle.problem_model.specs.Tables.{ArcTable, ObeysAll}
+use Rattle.problem_model.specs.Parents.{Cells, no_parent, IsTight, LeadsBack, IsRelaxed, IsReached}
+use Rattle.problem_model.specs.Sums.{done_sum}
 
 -- a distance less the potential of the node
 abbrev pub reduced : (ℕ → ℤ) → Cells → ℕ → ℤ

@@ -1,7 +1,7 @@
 -- Rows of distances from one node, and the executions that attain them.
 use Rattle.std.specs.Prelude.{◌≡◌, ℕ, ◌<◌, Bool, true, if◌then◌else◌, ℤ, pos, ◌+ℤ◌, ◌-ℤ◌, ◌≤ℤ◌, List, All}
-use Rattle.difference_bounds.specs.Executions.{Arc, at}
-use Rattle.difference_bounds.specs.Paths.{IsPath, sum_of}
+use Rattle.problem_model.specs.Executions.{Arc, at}
+use Rattle.problem_model.specs.Paths.{IsPath, sum_of}
 
 -- distances from p that no arc shortens, each the sum of a path; no arc goes from a known node to an unknown one
 pub record IsClosedRow (arcs : List Arc) (p : ℕ) (known : ℕ → Bool) (distance : ℕ → ℤ) : Type 0 where

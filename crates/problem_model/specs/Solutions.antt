@@ -6,8 +6,8 @@ use Rattle.problem_model.specs.declared.items.Bound.{Bound}
 use Rattle.problem_model.specs.Problem.{ProblemLists}
 use Rattle.problem_model.specs.Bounds.{Constraint, Declares, IsReading, Times, IsExecution}
 use Rattle.problem_model.specs.Nodes.{Reading}
-use Rattle.difference_bounds.specs.Executions.{Arc}
-use Rattle.difference_bounds.specs.Problems.{IsArcOf}
+use Rattle.problem_model.specs.Executions.{Arc}
+use Rattle.problem_model.specs.ProblemArcs.{IsArcOf}
 
 -- an event or a reading of the problem
 abbrev pub IsNodeOf : ProblemLists → Node → Type 0

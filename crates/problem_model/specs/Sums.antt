@@ -1,6 +1,6 @@
 -- Sums over the nodes, as counts of nodes and of the steps that they cost.
 use Rattle.std.specs.Prelude.{ℕ, zero, suc, ◌+◌, Bool, ◌||◌, ◌&&◌, not, ℤ, if◌then◌else◌, int_lt}
-use Rattle.difference_bounds.specs.Parents.{Cells}
+use Rattle.problem_model.specs.Parents.{Cells}
 
 -- f 0 + .. + f (n - 1)
 abbrev pub sum_to : ℕ → (ℕ → ℕ) → ℕ

@@ -1,7 +1,7 @@
 -- Arcs by their numbers, of which some are in force.
 use Rattle.std.specs.Prelude.{◌≡◌, ◌==◌, ℕ, zero, suc, Bool, true, false, if◌then◌else◌, ℤ, List, [], ◌∷◌, ◌++◌, Contains}
-use Rattle.difference_bounds.specs.Executions.{Arc, Obeys}
-use Rattle.difference_bounds.specs.Reversal.{reversed}
+use Rattle.problem_model.specs.Executions.{Arc, Obeys}
+use Rattle.problem_model.specs.Reversal.{reversed}
 
 -- the arc of each number, and whether it is in force
 pub record ArcTable : Type 0 where

@@ -1,17 +1,17 @@
 //! What is proved of difference constraints, one function for each subject. None of them does anything.
 
 ghost use Rattle.std.specs.Prelude.{◌≡◌, ℕ, ◌+◌, ◌*◌, ◌<◌, ◌≤◌, ◌↔◌, List, [], ◌∷◌, ◌++◌, length, map, ℤ, pos, neg_ℤ, ◌-ℤ◌, ◌≤ℤ◌, ◌<ℤ◌, Bool, true, false, All};
-ghost use Rattle.difference_bounds.specs.Executions.{Arc, at, difference, IsExecution, AreWithin, values_by};
-ghost use Rattle.difference_bounds.specs.Paths.{sum_of, IsPath, IsContradiction, IsSimple};
-ghost use Rattle.difference_bounds.specs.Differences.{IsGreatest, IsLeast, IsUnbounded, IsBefore, IsSame};
-ghost use Rattle.difference_bounds.specs.Earliest.{IsEarliest, AreUpTo};
-ghost use Rattle.difference_bounds.specs.Rows.{IsClosedRow, IsGreatestLead, IsLeastLead, attaining, least_differences};
-ghost use Rattle.difference_bounds.specs.Tables.{ArcTable, Lists, listed, ObeysAll, reversed_table};
-ghost use Rattle.difference_bounds.specs.Parents.{Cells, IsRow};
-ghost use Rattle.difference_bounds.specs.Reversal.{all_reversed, negated, walked_back};
-ghost use Rattle.difference_bounds.specs.Cuts.{IsCut, raised_outside};
-ghost use Rattle.difference_bounds.specs.Problems.{StandsFor, IsNodeAt, IsGreatestOf, IsUnboundedOf};
-ghost use Rattle.difference_bounds.specs.Solutions.{IsEarliestExecution, WeighedBound, IsContradictionOf, NamedArc, IsBoundArc, weighed};
+ghost use Rattle.problem_model.specs.Executions.{Arc, at, difference, IsExecution, AreWithin, values_by};
+ghost use Rattle.problem_model.specs.Paths.{sum_of, IsPath, IsContradiction, IsSimple};
+ghost use Rattle.problem_model.specs.Differences.{IsGreatest, IsLeast, IsUnbounded, IsBefore, IsSame};
+ghost use Rattle.problem_model.specs.Earliest.{IsEarliest, AreUpTo};
+ghost use Rattle.problem_model.specs.Rows.{IsClosedRow, IsGreatestLead, IsLeastLead, attaining, least_differences};
+ghost use Rattle.problem_model.specs.Tables.{ArcTable, Lists, listed, ObeysAll, reversed_table};
+ghost use Rattle.problem_model.specs.Parents.{Cells, IsRow};
+ghost use Rattle.problem_model.specs.Reversal.{all_reversed, negated, walked_back};
+ghost use Rattle.problem_model.specs.Cuts.{IsCut, raised_outside};
+ghost use Rattle.problem_model.specs.ProblemArcs.{StandsFor, IsNodeAt, IsGreatestOf, IsUnboundedOf};
+ghost use Rattle.problem_model.specs.Solutions.{IsEarliestExecution, WeighedBound, IsContradictionOf, NamedArc, IsBoundArc, weighed};
 ghost use Rattle.problem_model.specs.declared.items.Node.{Node};
 ghost use Rattle.problem_model.specs.Problem.{ProblemLists};
 ghost use Rattle.problem_model.specs.Bounds.{Times};

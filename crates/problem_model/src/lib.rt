@@ -2,12 +2,20 @@
 //!
 //! Declared bounds are difference constraints on real times, as in B. Patt-Shamir and S. Rajsbaum, "A Theory of Clock
 //! Synchronization", STOC 1994.
+//!
+//! Difference constraints `x_to - x_from <= weight` between numbered nodes.
+//!
+//! Their executions, paths and contradictions, greatest differences, cuts, the earliest execution and rows of distances
+//! are defined in `specs/`. `laws` says what is proved of them, and `numbers` has the few sums that solvers make.
+//! See B. Patt-Shamir and S. Rajsbaum, "A Theory of Clock Synchronization", STOC 1994.
 #![tactic(auto)]
 
+mod bounds;
+pub mod differences;
 mod items;
-mod law;
 mod name;
+pub mod numbers;
 
+pub use bounds::{follows_join_neighbours, nodes_are_one_list, short_list_suffices};
 pub use items::{Bound, Clock, Event, Follow, Message, Node};
-pub use law::{follows_join_neighbours, nodes_are_one_list, short_list_suffices};
 pub use name::Name;

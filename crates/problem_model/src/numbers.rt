@@ -1,7 +1,7 @@
 //! The sums and differences by which arcs are judged and nodes are ordered, in units or any other whole number.
 
 ghost use Rattle.std.specs.Prelude.{◌≡◌, ◌+ℤ◌, ◌-ℤ◌};
-ghost use Rattle.difference_bounds.specs.Numbers.{IsUpTo};
+ghost use Rattle.problem_model.specs.Numbers.{IsUpTo};
 
 /// How far the value at an arc's tail must rise for the arc to be obeyed: `to - weight - from`, at most 0 where it is.
 /// All three are at most 2^120 in absolute value.

@@ -18,19 +18,19 @@ use Rattle.attain.proofs.DeclaredBounds.{declared_small}
 use Rattle.sync_graph.specs.declared.arc.Arc.{Arc}
 use Rattle.sync_graph.specs.Graph.{GraphLists, IsSound, with_arc, no_graph, most_arcs}
 use Rattle.sync_graph.specs.Names.{Joins, IsNamed}
-use Rattle.sync_graph.specs.Standing.{HasBounds, IsDeclared, NodesLeft}
-use Rattle.sync_graph.proofs.Numbering.{next_less}
+use Rattle.problem_graph.specs.Standing.{HasBounds, IsDeclared, NodesLeft}
+use Rattle.problem_graph.proofs.Numbering.{next_less}
 use Rattle.row_pool.specs.Pool.{PoolRow, Pool, free_rows, free_row, grown}
-use Rattle.engine.specs.Solver.{SolverLists, HasRoom, with_new_node}
+use Rattle.solver.specs.Solver.{SolverLists, HasRoom, with_new_node}
 use Rattle.repair.specs.Slots.{KeptRows, with_room}
-use Rattle.engine.specs.Changes.{KeepsSlots, KeepsAnswer}
-use Rattle.engine.specs.Current.{IsCurrent}
-use Rattle.solver.specs.Bounds.{HasShortList, HoldsShortList}
-use Rattle.solving.specs.declared.items.Ranked.{Ranked}
-use Rattle.solving.specs.Items.{AreItems, items_of}
-use Rattle.solver.specs.Moved0.{IsSolution}
-use Rattle.solving.specs.Pushing.{HasNodesOf, NodesCome, AddsBounds}
-use Rattle.solver.proofs.OwnStanding.{own_standing}
+use Rattle.solver.specs.Changes.{KeepsSlots, KeepsAnswer}
+use Rattle.solver.specs.Current.{IsCurrent}
+use Rattle.problem_graph.specs.HeldBounds.{HasShortList, HoldsShortList}
+use Rattle.problem_solver.specs.declared.items.Ranked.{Ranked}
+use Rattle.problem_solver.specs.Items.{AreItems, items_of}
+use Rattle.solver.specs.Solution.{IsSolution}
+use Rattle.problem_solver.specs.Pushing.{HasNodesOf, NodesCome, AddsBounds}
+use Rattle.problem_graph.proofs.HeldStanding.{own_standing}
 
 -- ---- a declared arc
 joins_of : (p : ProblemLists) (b : Bound) (c : Constraint) → Declares p b c → Joins b c.from c.to

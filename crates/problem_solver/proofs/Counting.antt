@@ -5,9 +5,9 @@ use Rattle.std.proofs.lemmas.List.Sums.{sum_by-set}
 use Rattle.std.proofs.lemmas.List.Folds.{sum_by-replicate}
 use Rattle.std.proofs.lemmas.Option.{slice_get_within, slice_get-get_or, get_or_from_slice_get}
 use Rattle.frontier.specs.Keys.{Waits, IsFree, IsEmpty}
-use Rattle.event_order.specs.Offsets.{unset, count_unset}
-use Rattle.event_order.specs.Turns.{Turns}
-use Rattle.event_order.specs.Queues.{one_ready, are_ready, not_queued, IsQueue}
+use Rattle.problem_solver.specs.Offsets.{unset, count_unset}
+use Rattle.problem_solver.specs.Turns.{Turns}
+use Rattle.problem_solver.specs.Queues.{one_ready, are_ready, not_queued, IsQueue}
 
 -- one more flag is set
 count_set : (flags : List Bool) (k : ℕ) → k < length flags → get_or flags k false ≡ false → count_unset (set flags k true) + 1 ≡ count_unset flags

@@ -13,10 +13,10 @@ use Rattle.problem_model.specs.declared.items.Bound.TheVariants.{SpanMost, SpanL
 use Rattle.problem_model.specs.Problem.{ProblemLists}
 use Rattle.problem_model.specs.Nodes.{Reading}
 use Rattle.problem_model.specs.ShortList.{neighbour_bounds, span_bounds, event_bounds, clocks_before, first_reading, nearest_reading, follow_bound, follow_bounds, most_bound, message_bounds}
-use Rattle.solving.specs.declared.items.Item.{Item}
-use Rattle.solving.specs.declared.items.Item.TheVariants as items
-use Rattle.solver.specs.Bounds.{HasShortList}
-use Rattle.solving.specs.Items.{reading_at, message_at, bounds_of, AreItems}
+use Rattle.problem_solver.specs.declared.items.Item.{Item}
+use Rattle.problem_solver.specs.declared.items.Item.TheVariants as items
+use Rattle.problem_graph.specs.HeldBounds.{HasShortList}
+use Rattle.problem_solver.specs.Items.{reading_at, message_at, bounds_of, AreItems}
 
 -- ---- pieces of the short list
 spans_all : (P : Bound → Type 0) (rs : List Reading) → ((k : ℕ) → suc k < length rs → All P (neighbour_bounds (reading_at rs k) (reading_at rs (suc k)))) → All P (span_bounds rs)

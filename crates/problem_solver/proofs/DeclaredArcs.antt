@@ -19,10 +19,10 @@ use Rattle.problem_model.proofs.OneList.{readings_one}
 use Rattle.problem_model.proofs.Places.{event_stands, reading_stands}
 use Rattle.problem_model.proofs.Walking.{clock_there, neighbours_are}
 use Rattle.sync_graph.specs.declared.arc.Arc.{Arc}
-use Rattle.sync_graph.specs.Standing.{IsDeclared}
-use Rattle.solving.specs.declared.items.Item.TheVariants as items
-use Rattle.solving.specs.Items.{reading_at, IsItem, bounds_of, most_span, least_span}
-use Rattle.solving.specs.Pushing.{arc_of, IsDeclaredArc}
+use Rattle.problem_graph.specs.Standing.{IsDeclared}
+use Rattle.problem_solver.specs.declared.items.Item.TheVariants as items
+use Rattle.problem_solver.specs.Items.{reading_at, IsItem, bounds_of, most_span, least_span}
+use Rattle.problem_solver.specs.Pushing.{arc_of, IsDeclaredArc}
 
 module _ (p : ProblemLists) (readings : List Reading) (are : AreReadings p readings) where
   -- over the problem's own readings, so over every such list

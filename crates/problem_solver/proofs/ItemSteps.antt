@@ -8,10 +8,10 @@ use Rattle.std.proofs.lemmas.List.Elements.{All-push, Contains-append_left, Cont
 use Rattle.std.proofs.lemmas.List.Sorted.{IsPermutation-map, All-permutation, Contains-permutation, length_permutation}
 use Rattle.problem_model.specs.Problem.{ProblemLists}
 use Rattle.problem_model.specs.Nodes.{Reading}
-use Rattle.solving.specs.declared.items.Item.{Item}
-use Rattle.solving.specs.declared.items.Item.TheVariants as items
-use Rattle.solving.specs.declared.items.Ranked.{Ranked}
-use Rattle.solving.specs.Items.{IsItem, bounds_of, AreItems, items_of}
+use Rattle.problem_solver.specs.declared.items.Item.{Item}
+use Rattle.problem_solver.specs.declared.items.Item.TheVariants as items
+use Rattle.problem_solver.specs.declared.items.Ranked.{Ranked}
+use Rattle.problem_solver.specs.Items.{IsItem, bounds_of, AreItems, items_of}
 
 module _ (p : ProblemLists) (readings : List Reading) where
   module _ (spans follows events messages : ℕ) (all : List Item) (are : AreItems p readings spans follows events messages all) where

@@ -4,3 +4,4 @@ pub mod Covering
 pub mod Bringing
 pub mod DeclaredArcs
 pub mod PushedItems
+pub mod Counting

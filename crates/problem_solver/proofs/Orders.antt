@@ -10,7 +10,7 @@ use Rattle.std.proofs.lemmas.List.Sorted.{IsPermutation-map, All-permutation, Co
 use Rattle.sync_graph.specs.declared.arc.Arc.{Arc}
 use Rattle.sync_graph.specs.Graph.{GraphLists}
 use Rattle.earliest.proofs.Bounds.{no_arc}
-use Rattle.solving.specs.Order.{AreAllArcs}
+use Rattle.problem_solver.specs.Order.{AreAllArcs}
 
 module _ (g : GraphLists) (order : List ℕ) (all : AreAllArcs g order) where
   pub order_long : length order ≡ length g.arcs

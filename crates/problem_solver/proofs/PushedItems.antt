@@ -7,12 +7,12 @@ use Rattle.std.proofs.lemmas.List.Concat.{flat_map-append}
 use Rattle.problem_model.specs.declared.items.Bound.{Bound}
 use Rattle.problem_model.specs.Problem.{ProblemLists}
 use Rattle.problem_model.specs.Nodes.{Reading}
-use Rattle.engine.specs.Solver.{SolverLists}
-use Rattle.solving.specs.declared.items.Ranked.{Ranked}
-use Rattle.solving.specs.Items.{IsItem, bounds_of, items_of}
-use Rattle.solving.specs.Pushing.{AddsBounds}
-use Rattle.solving.proofs.Covering.{two_each}
-use Rattle.solving.proofs.Bringing.{adds_then}
+use Rattle.solver.specs.Solver.{SolverLists}
+use Rattle.problem_solver.specs.declared.items.Ranked.{Ranked}
+use Rattle.problem_solver.specs.Items.{IsItem, bounds_of, items_of}
+use Rattle.problem_solver.specs.Pushing.{AddsBounds}
+use Rattle.problem_solver.proofs.Covering.{two_each}
+use Rattle.problem_solver.proofs.Bringing.{adds_then}
 
 length_front : {X : Type 0} (k : ℕ) (xs : List X) → k ≤ length xs → length (take k xs) ≡ k
 length_front zero xs inside = refl

@@ -6,9 +6,9 @@ use Rattle.problem_model.specs.declared.items.Bound.TheVariants.{SpanMost, SpanL
 use Rattle.problem_model.specs.Problem.{ProblemLists}
 use Rattle.problem_model.specs.Nodes.{Reading}
 use Rattle.problem_model.specs.ShortList.{neighbour_bounds, clocks_before, first_reading, nearest_reading, follow_bound, message_bounds}
-use Rattle.solving.specs.declared.items.Item.{Item}
-use Rattle.solving.specs.declared.items.Item.TheVariants as items
-use Rattle.solving.specs.declared.items.Ranked.{Ranked}
+use Rattle.problem_solver.specs.declared.items.Item.{Item}
+use Rattle.problem_solver.specs.declared.items.Item.TheVariants as items
+use Rattle.problem_solver.specs.declared.items.Ranked.{Ranked}
 
 -- the reading and the message at a place
 abbrev pub reading_at : List Reading → ℕ → Reading

@@ -1,7 +1,7 @@
 -- Clocks that reach each other by messages.
 use Rattle.std.specs.Prelude.{◌≡◌, ℕ, ◌+◌, ◌<◌, ℤ, List, length, All, Bool, true, false}
 use Rattle.std.specs.List.{sum_by}
-use Rattle.event_order.specs.declared.offsets.Link.{Link}
+use Rattle.problem_solver.specs.declared.offsets.Link.{Link}
 
 -- links lead to clocks
 abbrev pub AreLinks : ℕ → List Link → Type 0

@@ -5,10 +5,10 @@ use Rattle.problem_model.specs.declared.items.Bound.{Bound}
 use Rattle.problem_model.specs.Problem.{ProblemLists}
 use Rattle.problem_model.specs.Nodes.{Reading, AreReadings, nodes_of}
 use Rattle.sync_graph.specs.declared.arc.Arc.{Arc}
-use Rattle.sync_graph.specs.Standing.{HasBounds, IsDeclared, NodesLeft}
+use Rattle.problem_graph.specs.Standing.{HasBounds, IsDeclared, NodesLeft}
 use Rattle.row_pool.specs.Pool.{free_rows}
-use Rattle.engine.specs.Solver.{SolverLists, HasRoom}
-use Rattle.engine.specs.Current.{IsCurrent}
+use Rattle.solver.specs.Solver.{SolverLists, HasRoom}
+use Rattle.solver.specs.Current.{IsCurrent}
 
 -- the nodes are those of the problem in their order
 abbrev pub HasNodesOf : ProblemLists → SolverLists → Type 0

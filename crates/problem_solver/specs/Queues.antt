@@ -2,8 +2,8 @@
 use Rattle.std.specs.Prelude.{◌≡◌, ℕ, ◌<◌, ℤ, List, length, All, Bool, false, slice_get, Option, Some, None}
 use Rattle.std.specs.List.{sum_by}
 use Rattle.frontier.specs.Keys.{IsFree}
-use Rattle.event_order.specs.declared.queue.Succession.{Succession}
-use Rattle.event_order.specs.Offsets.{count_unset}
+use Rattle.problem_solver.specs.declared.queue.Succession.{Succession}
+use Rattle.problem_solver.specs.Offsets.{count_unset}
 
 -- what comes next behind another is one of so many events
 abbrev pub AreSuccessions : ℕ → List Succession → Type 0

@@ -2,8 +2,8 @@
 ghost use Rattle.std.specs.Prelude.{◌≡◌, ◌+◌, length, IfOk, OnOk};
 ghost use Rattle.sync_graph.specs.Graph.{GraphLists};
 ghost use Rattle.earliest.specs.Inserted.{IsInserted};
-ghost use Rattle.solving.specs.Order.{AreAllArcs, AreAllInForce};
-ghost use Rattle.solving.specs.GraphSolution.{IsGraphSolution};
+ghost use Rattle.problem_solver.specs.Order.{AreAllArcs, AreAllInForce};
+ghost use Rattle.problem_solver.specs.GraphSolution.{IsGraphSolution};
 
 use crate::solution::GraphSolution;
 use atto::Steps;

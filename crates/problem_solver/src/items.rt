@@ -3,10 +3,10 @@ ghost use Rattle.std.specs.Prelude.{◌≡◌, ◌+◌, ◌<◌, ◌-◌, ◌^�
 ghost use Rattle.problem_model.specs.Problem.{ProblemLists};
 ghost use Rattle.problem_model.specs.Bounds.{IsReading};
 ghost use Rattle.problem_model.specs.Nodes.{Reading, AreReadings};
-ghost use Rattle.solving.specs.Items.{AreItems, items_of};
+ghost use Rattle.problem_solver.specs.Items.{AreItems, items_of};
 
 use atto::{Nano, Steps};
-use event_order::event_ranks;
+use crate::event_ranks;
 use problem::{NearestFollow, Problem};
 use problem_model::{Event, Message};
 use std::alloc::{AllocError, Global};

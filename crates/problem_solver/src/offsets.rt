@@ -1,6 +1,6 @@
 // How far the clocks of a problem are apart, by the stamps of messages.
 ghost use Rattle.std.specs.Prelude.{◌≡◌, ◌+◌, ◌<◌, ℕ, length, IfOk, IfSome, OnOk};
-ghost use Rattle.event_order.specs.Offsets.{AreLinks};
+ghost use Rattle.problem_solver.specs.Offsets.{AreLinks};
 
 use problem::Problem;
 use problem_model::Event;
@@ -63,8 +63,8 @@ struct Reached {
 
 impl Model for Reached {
     ghost use Rattle.std.specs.Prelude.{◌-◌, length};
-    ghost use Rattle.event_order.specs.Turns.{Turns};
-    ghost use Rattle.event_order.specs.Offsets.{AreReached};
+    ghost use Rattle.problem_solver.specs.Turns.{Turns};
+    ghost use Rattle.problem_solver.specs.Offsets.{AreReached};
 
     ghost Value = { Turns };
 

@@ -2,14 +2,14 @@
 ghost use Rattle.std.specs.Prelude.{◌≡◌, ◌≤◌, [], List, None, length, IfOk};
 ghost use Rattle.problem_model.specs.Nodes.{Reading, AreReadings, nodes_of, most_nodes};
 ghost use Rattle.row_pool.specs.Pool.{free_rows};
-ghost use Rattle.solver.specs.Bounds.{HoldsShortList};
-ghost use Rattle.solver.specs.Moved0.{IsSolution};
-ghost use Rattle.solving.specs.Pushing.{NodesCome};
+ghost use Rattle.problem_graph.specs.HeldBounds.{HoldsShortList};
+ghost use Rattle.solver.specs.Solution.{IsSolution};
+ghost use Rattle.problem_solver.specs.Pushing.{NodesCome};
 
 use crate::items::ordered_items;
-use crate::pushing::{push_items, push_nodes};
+use crate::pushes::{push_items, push_nodes};
 use atto::{Nano, Steps};
-use engine::Solver;
+use solver::Solver;
 use problem::Problem;
 use std::alloc::{AllocError, Global};
 use std::sync::ledger::Ledger;

@@ -1,6 +1,6 @@
 // Events that are brought in one after another.
 ghost use Rattle.std.specs.Prelude.{◌≡◌, ◌+◌, ◌<◌, ◌^◌, length, IfOk, IfSome, IfNone};
-ghost use Rattle.event_order.specs.Queues.{AreSuccessions};
+ghost use Rattle.problem_solver.specs.Queues.{AreSuccessions};
 
 use atto::Steps;
 use frontier::Frontier;
@@ -33,8 +33,8 @@ pub struct Queue {
 
 impl Model for Queue {
     ghost use Rattle.std.specs.Prelude.{◌+◌, length};
-    ghost use Rattle.event_order.specs.Turns.{Turns};
-    ghost use Rattle.event_order.specs.Queues.{IsQueue, not_queued, are_ready};
+    ghost use Rattle.problem_solver.specs.Turns.{Turns};
+    ghost use Rattle.problem_solver.specs.Queues.{IsQueue, not_queued, are_ready};
 
     ghost Value = { Turns };
 

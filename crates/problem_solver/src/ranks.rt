@@ -1,6 +1,6 @@
 // When events come.
 ghost use Rattle.std.specs.Prelude.{◌≡◌, ◌+◌, ◌<◌, ◌^◌, ◌≤◌, ℕ, length, All, IfOk, OnOk};
-ghost use Rattle.event_order.specs.Queues.{AreSuccessions, AreEvents};
+ghost use Rattle.problem_solver.specs.Queues.{AreSuccessions, AreEvents};
 
 use crate::offsets::clock_offsets;
 use crate::queue::{Queue, Succession};

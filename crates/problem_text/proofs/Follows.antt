@@ -16,8 +16,8 @@ use Rattle.decl.proofs.Following.{follow_listed, follows_lead}
 use Rattle.traces.proofs.Members.{none_in}
 use Rattle.traces.proofs.Follows.{before_more, follows_before}
 use Rattle.roster.specs.Roster.{RosterLists, IsRoster, listed}
-use Rattle.roster_text.specs.RosterText.{next_line}
-use Rattle.roster_text.proofs.Lists.{given_twice}
+use Rattle.problem_text.specs.RosterText.{next_line}
+use Rattle.problem_text.proofs.Lists.{given_twice}
 
 -- ---- the follow from one place
 -- there are no more owners than clocks

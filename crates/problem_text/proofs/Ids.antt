@@ -3,8 +3,8 @@ use Rattle.std.proofs.Common.{◌≡◌, ◌<◌, ℕ, ◌+◌, ◌-◌, suc, Li
 use Rattle.std.proofs.lemmas.List.{length-map, map-append}
 use Rattle.std.proofs.lemmas.Option.{get_or_from_slice_get, same_Some, slice_get_within}
 use Rattle.problem.proofs.ListedNodes.{map_at}
-use Rattle.trace_event.specs.Seen.{Seen}
-use Rattle.traces.specs.declared.event.EventId.{EventId}
+use Rattle.traces.specs.Seen.{Seen}
+use Rattle.traces.specs.declared.event_id.EventId.{EventId}
 use Rattle.traces.specs.Traces.{Placed, numbered, events_from, events_of, name_of}
 use Rattle.traces.proofs.Lists.{got, place_in}
 use Rattle.roster.specs.declared.came.Came.{Came}
@@ -12,7 +12,7 @@ use Rattle.roster.specs.Groups.{group_at}
 use Rattle.roster.specs.Roster.{RosterLists, id_of, no_event, event_at, IsRoster, Holds, in_turn, listed}
 use Rattle.roster.proofs.Telling.{among}
 use Rattle.roster.proofs.Turns.{from_turn, map-in_turn}
-use Rattle.growth.specs.Told.{number_of}
+use Rattle.roster.specs.Told.{number_of}
 
 -- ---- ids in their turn
 abbrev made : ℕ → ℕ → EventId

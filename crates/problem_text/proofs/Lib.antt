@@ -2,3 +2,8 @@ pub mod FewFollows
 pub mod Lengths
 pub mod ListedLines
 pub mod OneProblem
+mod Lists
+mod Ids
+mod LineTexts
+mod Follows
+mod Told

@@ -12,8 +12,8 @@ use Rattle.decl.specs.Declaration.{link_bounds}
 use Rattle.traces.specs.Traces.{clock_by, clock_of, host_of, name_of}
 use Rattle.roster.specs.declared.came.Came.{Came}
 use Rattle.roster.specs.Roster.{RosterLists, id_of, event_at, IsRoster, listed}
-use Rattle.roster_text.specs.RosterText.{came_line, couple_line}
-use Rattle.roster_text.proofs.Ids.{event_is}
+use Rattle.problem_text.specs.RosterText.{came_line, couple_line}
+use Rattle.problem_text.proofs.Ids.{event_is}
 
 -- the name that is listed for an event
 listed_name : (r : RosterLists) (v : ℕ) (e : Came) (name : List ℕ) → slice_get r.came v ≡ Some e → slice_get (listed r).event_names v ≡ Some name → name ≡ name_of r.declaration (id_of e)

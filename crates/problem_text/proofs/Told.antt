@@ -10,11 +10,11 @@ use Rattle.problem_model.specs.declared.items.Message.{Message}
 use Rattle.problem_model.specs.ProblemText.{clock_line, event_line, event_name, follow_line, head_of, message_line, most_word, problem_text}
 use Rattle.problem.proofs.ListedNodes.{map_at}
 use Rattle.decl.specs.Declaration.{Declaration, follows_of, link_bounds}
-use Rattle.trace_event.specs.declared.event.Side.{Side}
-use Rattle.trace_event.specs.declared.event.Side.TheVariants.{Send, Receive}
-use Rattle.trace_event.specs.Seen.{EventKey, SeenMark, Keyed, Unkeyed, Seen}
-use Rattle.traces.specs.declared.event.EventId.{EventId}
-use Rattle.traces.specs.declared.event.Couple.{Couple}
+use Rattle.traces.specs.declared.event.Side.{Side}
+use Rattle.traces.specs.declared.event.Side.TheVariants.{Send, Receive}
+use Rattle.traces.specs.Seen.{EventKey, SeenMark, Keyed, Unkeyed, Seen}
+use Rattle.traces.specs.declared.event_id.EventId.{EventId}
+use Rattle.traces.specs.declared.event_id.Couple.{Couple}
 use Rattle.traces.specs.Traces.{Placed, events_of, host_of, name_of}
 use Rattle.traces.specs.Messages.{event_with, linked, messages_of, only_two, place_of, problem_of_seen, sent_by, with_mark}
 use Rattle.traces.proofs.Ids.{ids_differ}
@@ -28,12 +28,12 @@ use Rattle.roster.specs.declared.came.Partner.{Partner}
 use Rattle.roster.specs.Roster.{RosterLists, event_at, IsRoster, Holds, listed}
 use Rattle.roster.proofs.Telling.{among}
 use Rattle.roster.proofs.Turns.{from_map, into_map}
-use Rattle.growth.specs.Rosters.{named_event}
-use Rattle.growth.specs.Told.{TellsMessages, messages_by_number, number_of, numbered_message}
-use Rattle.growth.proofs.Rosters.{events_are}
-use Rattle.roster_text.specs.RosterText.{HasPartners, came_lines, couple_line, partner_line, roster_text, sent_line, sent_lines}
-use Rattle.roster_text.proofs.Lists.{given_alike, given_map, given_same, given_twice, none_of}
-use Rattle.roster_text.proofs.Ids.{event_is, held_came, held_id, id_by, as_many, listed_at, own_number, same_id}
+use Rattle.roster.specs.Rosters.{named_event}
+use Rattle.roster.specs.Told.{TellsMessages, messages_by_number, number_of, numbered_message}
+use Rattle.roster.proofs.Rosters.{events_are}
+use Rattle.problem_text.specs.RosterText.{HasPartners, came_lines, couple_line, partner_line, roster_text, sent_line, sent_lines}
+use Rattle.problem_text.proofs.Lists.{given_alike, given_map, given_same, given_twice, none_of}
+use Rattle.problem_text.proofs.Ids.{event_is, held_came, held_id, id_by, as_many, listed_at, own_number, same_id}
 
 -- ---- what an event sends
 -- it is sent by the event itself

@@ -5,12 +5,12 @@ use Rattle.atto.specs.Decimal.{decimal_of}
 use Rattle.line_format.specs.Words.{line_of}
 use Rattle.problem_model.specs.ProblemText.{clock_line, follow_line, event_line, most_word, head_of}
 use Rattle.decl.specs.Declaration.{Declaration, link_bounds, follow_from, follows_of}
-use Rattle.traces.specs.declared.event.EventId.{EventId}
+use Rattle.traces.specs.declared.event_id.EventId.{EventId}
 use Rattle.traces.specs.Traces.{name_of, host_of}
 use Rattle.roster.specs.declared.came.Came.{Came}
 use Rattle.roster.specs.declared.came.Partner.{Partner}
 use Rattle.roster.specs.Roster.{RosterLists, id_of, event_at, listed}
-use Rattle.growth.specs.Rosters.{named_event}
+use Rattle.roster.specs.Rosters.{named_event}
 
 -- the other end of each message is an event
 abbrev pub HasPartners : RosterLists → Type 0

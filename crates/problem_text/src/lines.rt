@@ -10,7 +10,7 @@ ghost use Rattle.problem.specs.Line.Line.{FollowLine, EventLine, MessageLine, En
 use crate::words::{clock_line, event_line, follow_line, message_line};
 use atto::Nano;
 use ports::{Failed, Sink, write_whole};
-use problem::{Clock, Name};
+use problem_model::{Clock, Name};
 
 /// Writes the first line of the text of a problem, which names its version: `problem 1` where no clock follows another, or
 /// `problem 2` where there are follows. The version is 1 or 2. It takes no memory. After `Failed`, which comes only where the sink's count of

@@ -5,13 +5,13 @@ ghost use Rattle.problem_model.specs.ProblemText.{follow_line};
 ghost use Rattle.decl.specs.Declaration.{declaration_of};
 ghost use Rattle.traces.specs.Traces.{host_of};
 ghost use Rattle.roster.specs.Roster.{id_of, event_at};
-ghost use Rattle.roster_text.specs.RosterText.{HasPartners, came_line, couple_line, next_line, sent_line};
+ghost use Rattle.problem_text.specs.RosterText.{HasPartners, came_line, couple_line, next_line, sent_line};
 
 use decl::Decl;
 use ports::{Failed, Sink};
 use problem::Listing;
 use problem_model::Follow;
-use problem_text::{write_event, write_follow, write_message};
+use crate::{write_event, write_follow, write_message};
 use roster::{Came, Roster};
 
 // Writes the line of a follow.

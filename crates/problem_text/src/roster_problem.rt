@@ -6,17 +6,17 @@ ghost use Rattle.ports.specs.Content.{Writes};
 ghost use Rattle.problem_model.specs.Problem.{most_clocks};
 ghost use Rattle.problem_model.specs.ProblemText.{clock_line, follow_line, head_of, problem_text};
 ghost use Rattle.decl.specs.Declaration.{declaration_of, follows_of};
-ghost use Rattle.trace_event.specs.Seen.{Seen};
+ghost use Rattle.traces.specs.Seen.{Seen};
 ghost use Rattle.traces.specs.Messages.{problem_of_seen};
 ghost use Rattle.roster.specs.Roster.{Holds};
-ghost use Rattle.growth.specs.Told.{TellsMessages, messages_by_number};
-ghost use Rattle.roster_text.specs.RosterText.{HasPartners, came_lines, roster_text, sent_lines};
+ghost use Rattle.roster.specs.Told.{TellsMessages, messages_by_number};
+ghost use Rattle.problem_text.specs.RosterText.{HasPartners, came_lines, roster_text, sent_lines};
 
-use crate::lines::{write_came, write_next, write_sent};
+use crate::roster_lines::{write_came, write_next, write_sent};
 use decl::Decl;
 use ports::{Failed, Sink};
 use problem::Listing;
-use problem_text::{write_clock, write_end, write_head};
+use crate::{write_clock, write_end, write_head};
 use roster::Roster;
 
 // The version of the text: 2 where one clock follows another, and 1 elsewhere.

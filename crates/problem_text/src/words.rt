@@ -6,8 +6,8 @@ ghost use Rattle.problem.specs.Line.{line_words};
 ghost use Rattle.problem.specs.Line.Line.{FollowLine, EventLine, MessageLine};
 
 use atto::Nano;
-use line_words::line::{Line, first_word, push_decimal, push_word};
-use problem::{Clock, Name};
+use ports::fixed_line::{Line, first_word, push_decimal, push_word};
+use problem_model::{Clock, Name};
 
 // Appends a name behind a space.
 fn push_name(line: &mut Line, name: &Name)

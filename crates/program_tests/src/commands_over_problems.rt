@@ -1,9 +1,9 @@
 use crate::fixtures::{
     CONTRADICTING_PROBLEM, ONE_WAY_PROBLEM, OPEN_PROBLEM, TWO_LOGS_PROBLEM, TWO_LOGS_RUN, USAGE,
 };
-use crate::running::{Wanted, prints};
+use crate::runs::{Wanted, prints};
 use atto::{NsText, write_decimal};
-use commands::Status;
+use problem_commands::Status;
 use ports::MemFiles;
 use std::alloc::{AllocError, Global};
 use std::test::Fail;

@@ -1,7 +1,7 @@
 // Each call of a device fails in turn, in a session over two logs.
 use crate::fixtures::TWO_LOGS_DECLARATION;
-use crate::running::run_over;
-use commands::Status;
+use crate::runs::run_over;
+use problem_commands::Status;
 use ports::{MemFiles, MemSink};
 use std::alloc::{AllocError, Global};
 use std::test::Fail;

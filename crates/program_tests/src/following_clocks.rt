@@ -1,8 +1,8 @@
 // Clocks that follow each other: their texts are read or refused, and their gaps count in every answer over a problem.
-use crate::problem_commands::{rows_ended, rows_obeyed, rows_refused};
-use crate::running::{Wanted, prints};
-use crate::verifying::{rows_verified, solve_into};
-use commands::Status;
+use crate::commands_over_problems::{rows_ended, rows_obeyed, rows_refused};
+use crate::runs::{Wanted, prints};
+use crate::verified_certificates::{rows_verified, solve_into};
+use problem_commands::Status;
 use ports::{MemFiles, MemSink};
 use std::alloc::{AllocError, Global};
 use std::test::Fail;

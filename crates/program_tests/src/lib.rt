@@ -7,6 +7,8 @@
 #![tactic(auto)]
 
 #[cfg(test)]
+mod commands_over_problems;
+#[cfg(test)]
 mod failing_in_turn;
 #[cfg(test)]
 mod fixtures;
@@ -17,16 +19,14 @@ mod long_sessions;
 #[cfg(test)]
 mod merged_captures;
 #[cfg(test)]
-mod problem_commands;
-#[cfg(test)]
-mod running;
+mod runs;
 #[cfg(test)]
 mod sessions;
 #[cfg(test)]
 mod trials;
 #[cfg(test)]
-mod verify_cases;
+mod verified_certificates;
 #[cfg(test)]
-mod verifying;
+mod verify_cases;
 #[cfg(test)]
 mod widenings;

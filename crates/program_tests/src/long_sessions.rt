@@ -1,7 +1,7 @@
 // A session over a log of some thousand rows.
-use crate::running::{Wanted, answers};
+use crate::runs::{Wanted, answers};
 use atto::{NsText, write_decimal};
-use commands::Status;
+use problem_commands::Status;
 use ports::{MemFiles, MemSink};
 use std::alloc::{AllocError, Global};
 use std::test::Fail;

@@ -1,6 +1,6 @@
 // Captures that are merged into one, and why some are not.
-use crate::running::run_over;
-use commands::Status;
+use crate::runs::run_over;
+use problem_commands::Status;
 use ports::{MemFiles, MemSink};
 use std::alloc::{AllocError, Global};
 use std::test::Fail;

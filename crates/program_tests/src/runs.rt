@@ -1,5 +1,6 @@
 // Runs of the program over objects in memory. Each function makes one of them, and gives it to the next.
-use commands::{Status, run};
+use problem_commands::Status;
+use commands::run;
 use ports::{MemFiles, MemSink, MemSource, Words};
 use std::alloc::{AllocError, Global};
 

@@ -1,6 +1,6 @@
 use crate::fixtures::{TWO_LOGS_DECLARATION, USAGE};
-use crate::running::{Wanted, answers, prints, run_over};
-use commands::Status;
+use crate::runs::{Wanted, answers, prints, run_over};
+use problem_commands::Status;
 use ports::{MemFiles, MemSink};
 use std::alloc::{AllocError, Global};
 use std::test::Fail;

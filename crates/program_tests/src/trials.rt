@@ -1,7 +1,7 @@
 // Trials, over workloads that the program makes.
 use crate::fixtures::USAGE;
-use crate::running::{Wanted, prints};
-use commands::Status;
+use crate::runs::{Wanted, prints};
+use problem_commands::Status;
 use ports::MemFiles;
 use std::alloc::{AllocError, Global};
 use std::test::Fail;

@@ -2,11 +2,11 @@
 use crate::fixtures::{
     APART_PROBLEM, CONTRADICTING_PROBLEM, ONE_WAY_PROBLEM, OPEN_PROBLEM, TWO_LOGS_PROBLEM,
 };
-use crate::running::{Wanted, prints, run_over};
+use crate::runs::{Wanted, prints, run_over};
 use crate::verify_cases::{
     ACCEPTED, CHANGED_INTERVALS, CHANGED_RUNS_AND_CYCLES, CHANGED_UNBOUNDED, ILL_FORMED, REFUSED,
 };
-use commands::Status;
+use problem_commands::Status;
 use ports::{MemFiles, MemSink};
 use std::alloc::{AllocError, Global};
 use std::test::Fail;

@@ -1,7 +1,7 @@
 // The least widening of a problem is printed, and judged.
 use crate::fixtures::{CONTRADICTING_PROBLEM, TWO_LOGS_PROBLEM};
-use crate::running::{Wanted, answers, prints, run_over};
-use commands::Status;
+use crate::runs::{Wanted, answers, prints, run_over};
+use problem_commands::Status;
 use ports::{MemFiles, MemSink};
 use std::alloc::{AllocError, Global};
 use std::test::Fail;

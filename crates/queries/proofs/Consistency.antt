@@ -3,9 +3,9 @@ use Rattle.std.proofs.Common.{◌≡◌, Bool, true, false, []}
 use Rattle.problem_model.specs.Problem.{ProblemLists}
 use Rattle.problem_model.specs.Bounds.{Times, IsExecution}
 use Rattle.problem.specs.Listing.{Listed}
-use Rattle.engine.specs.Solver.{SolverLists}
-use Rattle.solver.specs.Solution.{HasContradictionBy}
-use Rattle.solver.specs.Moved0.{IsSolutionBy}
+use Rattle.solver.specs.Solver.{SolverLists}
+use Rattle.queries.specs.Contradiction.{HasContradictionBy}
+use Rattle.solver.specs.Solution.{IsSolutionBy}
 use Rattle.queries.specs.Consistent.{IsConsistent}
 use Rattle.queries.proofs.Solutions.{none_held}
 

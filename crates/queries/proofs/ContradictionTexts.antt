@@ -8,8 +8,8 @@ use Rattle.cert.specs.declared.certificate.Cert.TheVariants.{Cycle}
 use Rattle.cert.specs.CertificateText.{certificate_text}
 use Rattle.cert.specs.Listed.{IsNamed, listed_cycle}
 use Rattle.problem.specs.Listing.{Listed, all_readings}
-use Rattle.engine.specs.Solver.{SolverLists}
-use Rattle.solver.specs.Solution.{steps_of, HasContradictionBy}
+use Rattle.solver.specs.Solver.{SolverLists}
+use Rattle.queries.specs.Contradiction.{steps_of, HasContradictionBy}
 use Rattle.queries.specs.Replies.{IsContradictionText}
 use Rattle.problem.proofs.OwnReadings.{own_readings}
 

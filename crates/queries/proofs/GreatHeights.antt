@@ -3,9 +3,9 @@ use Rattle.std.proofs.Common.{◌≡◌, ℕ, zero, suc, ◌+◌, ◌*◌, ◌<�
 use Rattle.std.specs.Prelude.{ℤ, pos, ◌+ℤ◌, ◌-ℤ◌, ◌≤ℤ◌, ◌<ℤ◌, All, int_lt, if◌then◌else◌}
 use Rattle.std.proofs.lemmas.Int.{ints}
 use Rattle.std.proofs.lemmas.Bool.{cases_Bool, cond-true, cond-false}
-use Rattle.difference_bounds.specs.Executions.{Arc, at, Obeys, IsExecution, AreWithin, values_by}
-use Rattle.difference_bounds.specs.Differences.{IsGreatest}
-use Rattle.difference_bounds.proofs.Executions.{at-values_by, execution_by}
+use Rattle.problem_model.specs.Executions.{Arc, at, Obeys, IsExecution, AreWithin, values_by}
+use Rattle.problem_model.specs.Differences.{IsGreatest}
+use Rattle.problem_model.proofs.Executions.{at-values_by, execution_by}
 
 -- how many values are above t
 above : ℤ → List ℤ → ℕ

@@ -1,7 +1,7 @@
 -- What is at hand takes no step.
 use Rattle.std.proofs.Common.{◌≡◌, ◌==◌, ℕ, false, List, [], length, inl, inr, ◌∙◌, subst}
 use Rattle.sync_graph.specs.declared.arc.Arc.{Arc}
-use Rattle.engine.specs.Solver.{SolverLists}
+use Rattle.solver.specs.Solver.{SolverLists}
 use Rattle.queries.specs.Asking.{IsKept, HoldsContradiction, IsAtHand, IsPairAtHand}
 
 -- what is not empty is a contradiction that is held

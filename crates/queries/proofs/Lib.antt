@@ -1,7 +1,10 @@
 pub mod Showing
 pub mod Solutions
-pub mod Contradictions
+pub mod ContradictionTexts
 pub mod Hands
 pub mod Consistency
 mod OneReply
 mod KeptTimes
+pub mod GreatHeights
+pub mod ListedAnswers
+pub mod ListedPairs

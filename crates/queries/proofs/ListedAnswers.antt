@@ -7,10 +7,10 @@ use Rattle.problem_model.specs.declared.items.Node.{Node}
 use Rattle.problem_model.specs.Problem.{ProblemLists}
 use Rattle.problem_model.specs.Bounds.{Times}
 use Rattle.problem_model.specs.Nodes.{Reading, AreReadings, nodes_of}
-use Rattle.difference_bounds.specs.Executions.{at}
-use Rattle.difference_bounds.specs.Paths.{Joins, sum_of}
-use Rattle.difference_bounds.specs.Solutions.{IsEarliestExecution, Leads, weight_of, IsContradictionOf}
-use Rattle.difference_bounds.proofs.Solutions.{no_execution}
+use Rattle.problem_model.specs.Executions.{at}
+use Rattle.problem_model.specs.Paths.{Joins, sum_of}
+use Rattle.problem_model.specs.Solutions.{IsEarliestExecution, Leads, weight_of, IsContradictionOf}
+use Rattle.problem_model.proofs.Solutions.{no_execution}
 use Rattle.problem.specs.Listing.{Listed, listed_nodes}
 use Rattle.cert.specs.declared.chain.Step.{Step}
 use Rattle.cert.specs.declared.certificate.Cert.TheVariants.{Cycle, Run}
@@ -23,14 +23,14 @@ use Rattle.attain.proofs.NamedBounds.{named}
 use Rattle.sync_graph.specs.declared.arc.Arc.{Arc}
 use Rattle.sync_graph.specs.Graph.{GraphLists, unnamed}
 use Rattle.sync_graph.specs.InForce.{IsInForce}
-use Rattle.sync_graph.specs.ListedStanding.{IsNodeBy, StandsForListed}
-use Rattle.sync_graph.proofs.NodeNumbers.{node_count, one_node, times_by}
-use Rattle.sync_graph.proofs.ListedExecutions.{earliest_of}
-use Rattle.engine.specs.Solver.{SolverLists}
-use Rattle.engine.specs.Current.{IsSolvedNow, IsContradicted}
-use Rattle.engine.proofs.Staying.{solved_now, contradicted_now}
-use Rattle.solver.specs.Solution.{steps_of, HasContradictionBy}
-use Rattle.solver.specs.Moved0.{IsSolutionBy}
+use Rattle.problem_graph.specs.ListedStanding.{IsNodeBy, StandsForListed}
+use Rattle.problem_graph.proofs.NodeNumbers.{node_count, one_node, times_by}
+use Rattle.problem_graph.proofs.ListedExecutions.{earliest_of}
+use Rattle.solver.specs.Solver.{SolverLists}
+use Rattle.solver.specs.Current.{IsSolvedNow, IsContradicted}
+use Rattle.solver.proofs.Staying.{solved_now, contradicted_now}
+use Rattle.queries.specs.Contradiction.{steps_of, HasContradictionBy}
+use Rattle.solver.specs.Solution.{IsSolutionBy}
 
 -- ---- arcs in force as bounds of the problem
 module _ (l : Listed) (p : ProblemLists) (readings : List Reading) (g : GraphLists) (stands : StandsForListed l p readings g) where

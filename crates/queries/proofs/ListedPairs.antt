@@ -6,9 +6,9 @@ use Rattle.std.proofs.lemmas.List.Elements.{Contains-get_or}
 use Rattle.problem_model.specs.declared.items.Node.{Node}
 use Rattle.problem_model.specs.Problem.{ProblemLists}
 use Rattle.problem_model.specs.Nodes.{Reading, AreReadings}
-use Rattle.difference_bounds.specs.Executions.{Arc, at}
-use Rattle.difference_bounds.specs.Differences.{IsGreatest}
-use Rattle.difference_bounds.proofs.Heights.{earliest_height, height_low}
+use Rattle.problem_model.specs.Executions.{Arc, at}
+use Rattle.problem_model.specs.Differences.{IsGreatest}
+use Rattle.problem_model.proofs.Heights.{earliest_height, height_low}
 use Rattle.problem.specs.Listing.{Listed}
 use Rattle.row_pool.specs.declared.cell.Reach.{Reach}
 use Rattle.row_pool.specs.declared.cell.Reach.TheVariants as reaches
@@ -18,16 +18,16 @@ use Rattle.intervals.specs.Executions.{IsReachOf, IsPairOf}
 use Rattle.sync_graph.specs.declared.arc.Arc as graphs
 use Rattle.sync_graph.specs.Graph.{GraphLists, IsGraph, IsSound, arc_at, unnamed}
 use Rattle.sync_graph.specs.InForce.{arcs_of, IsEarliestOf}
-use Rattle.sync_graph.specs.ListedStanding.{IsNodeBy, StandsForListed}
+use Rattle.problem_graph.specs.ListedStanding.{IsNodeBy, StandsForListed}
 use Rattle.sync_graph.proofs.InForce.{in_force_below, arcs_listed, arcs_within}
-use Rattle.sync_graph.proofs.NodeNumbers.{number_below}
-use Rattle.sync_graph.proofs.ListedExecutions.{greatest_of, unbounded_of}
+use Rattle.problem_graph.proofs.NodeNumbers.{number_below}
+use Rattle.problem_graph.proofs.ListedExecutions.{greatest_of, unbounded_of}
 use Rattle.distances.specs.Reaches.{IsReachIn}
 use Rattle.repair.specs.Pairs.{IsPairIn}
-use Rattle.engine.specs.Solver.{SolverLists}
-use Rattle.engine.proofs.Staying.{solved_now}
-use Rattle.solver.specs.Moved0.{IsSolutionBy}
-use Rattle.solver.proofs.GreatHeights.{greatest_height}
+use Rattle.solver.specs.Solver.{SolverLists}
+use Rattle.solver.proofs.Staying.{solved_now}
+use Rattle.solver.specs.Solution.{IsSolutionBy}
+use Rattle.queries.proofs.GreatHeights.{greatest_height}
 
 -- ---- of the problem
 module _ (l : Listed) (p : ProblemLists) (readings : List Reading) (g : GraphLists) (stands : StandsForListed l p readings g) (is : IsGraph g)

@@ -11,14 +11,14 @@ use Rattle.problem_model.proofs.Places.{event_stands, reading_stands}
 use Rattle.problem.specs.Listing.{Listed, all_readings}
 use Rattle.problem.proofs.ListedNodes.{event_node, reading_node, map_at, stamp_of}
 use Rattle.sync_graph.specs.InForce.{IsEarliestOf}
-use Rattle.sync_graph.specs.ListedStanding.{IsNodeBy, IsEventAt, StandsForListed}
-use Rattle.sync_graph.proofs.NodeNumbers.{events_count, number_below}
+use Rattle.problem_graph.specs.ListedStanding.{IsNodeBy, IsEventAt, StandsForListed}
+use Rattle.problem_graph.proofs.NodeNumbers.{events_count, number_below}
 use Rattle.row_pool.specs.Pool.{Pool}
 use Rattle.repair.specs.declared.slot.Slot.{Slot}
-use Rattle.engine.specs.Solver.{SolverLists}
-use Rattle.engine.specs.Changes.{KeepsAnswer, LeavesTaken}
-use Rattle.engine.specs.Current.{IsCurrent}
-use Rattle.solver.specs.Moved0.{IsSolutionBy}
+use Rattle.solver.specs.Solver.{SolverLists}
+use Rattle.solver.specs.Changes.{KeepsAnswer, LeavesTaken}
+use Rattle.solver.specs.Current.{IsCurrent}
+use Rattle.solver.specs.Solution.{IsSolutionBy}
 use Rattle.queries.specs.Asking.{IsReadingAt, IsSourceReading}
 use Rattle.problem.proofs.OwnReadings.{own_readings}
 

@@ -5,8 +5,8 @@ use Rattle.problem.specs.Listing.{Listed}
 use Rattle.sync_graph.specs.declared.arc.Arc.{Arc}
 use Rattle.repair.specs.declared.slot.Slot.{Slot}
 use Rattle.repair.specs.Slots.{slot_of}
-use Rattle.engine.specs.Solver.{SolverLists}
-use Rattle.solver.specs.Moved0.{IsSolutionBy}
+use Rattle.solver.specs.Solver.{SolverLists}
+use Rattle.solver.specs.Solution.{IsSolutionBy}
 
 -- the rows of the node are kept
 abbrev pub IsKept : SolverLists → ℕ → Type 0

@@ -3,7 +3,7 @@ use Rattle.std.specs.Prelude.{◌≤◌, List, length, map, All}
 use Rattle.problem_model.specs.Problem.{ProblemLists}
 use Rattle.problem_model.specs.Bounds.{Times, IsExecution}
 use Rattle.problem_model.specs.Nodes.{Reading, AreReadings, nodes_of}
-use Rattle.difference_bounds.specs.Solutions.{WeighedBound, IsContradictionOf}
+use Rattle.problem_model.specs.Solutions.{WeighedBound, IsContradictionOf}
 use Rattle.problem.specs.Listing.{Listed}
 use Rattle.cert.specs.Listed.{IsNamed}
 use Rattle.cert.specs.Shows.{weighed_bounds}

@@ -3,3 +3,4 @@ pub mod Replies
 pub mod Consistent
 pub mod Clocks
 pub mod Asking
+pub mod Contradiction

@@ -5,7 +5,7 @@ use Rattle.problem_model.specs.declared.items.Node.TheVariants as nodes
 use Rattle.problem_model.specs.Problem.{ProblemLists}
 use Rattle.problem_model.specs.Bounds.{Times, IsExecution, IsReading}
 use Rattle.problem_model.specs.Nodes.{Reading, AreReadings, nodes_of}
-use Rattle.difference_bounds.specs.Solutions.{IsContradictionOf}
+use Rattle.problem_model.specs.Solutions.{IsContradictionOf}
 use Rattle.cert.specs.declared.chain.Step.{Step}
 use Rattle.cert.specs.declared.certificate.Cert.TheVariants.{Cycle}
 use Rattle.cert.specs.CertificateText.{certificate_text}

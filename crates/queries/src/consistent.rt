@@ -1,11 +1,11 @@
 // Whether a problem has an execution.
 ghost use Rattle.problem_model.specs.Problem.{ProblemLists};
 ghost use Rattle.problem.specs.Listing.{Listed};
-ghost use Rattle.solver.specs.Moved0.{IsSolutionBy};
+ghost use Rattle.solver.specs.Solution.{IsSolutionBy};
 ghost use Rattle.queries.specs.Consistent.{IsConsistent};
 
-use engine::Solver;
-use solver::{contradictions, executions};
+use solver::Solver;
+use crate::{contradictions, executions};
 
 /// Whether some execution obeys all bounds of the problem of which the engine holds the answer.
 pub fn is_consistent(solver: &Solver) -> bool

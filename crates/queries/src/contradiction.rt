@@ -8,7 +8,7 @@ ghost use Rattle.queries.specs.Replies.{IsContradictionText};
 use attain::write_cycle;
 use ports::{Failed, Sink};
 use problem::Listing;
-use solver::contradictions;
+use crate::contradictions;
 use sync_graph::Arc;
 
 /// Writes the certificate of a contradiction that an engine holds of a listed problem: a closed chain of bounds whose

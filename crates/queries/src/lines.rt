@@ -10,7 +10,7 @@ ghost use Rattle.queries.specs.Replies.{IsLineOf};
 
 use crate::question::Asked;
 use intervals::{End, Ends, Order, ends_from, order_of};
-use line_words::line::{Line, first_word, push_ns, push_word};
+use ports::fixed_line::{Line, first_word, push_ns, push_word};
 use row_pool::Pair;
 
 // Appends the word of an end.

@@ -3,23 +3,23 @@ ghost use Rattle.std.specs.Prelude.{◌≡◌, ◌≤◌, ℕ, List, [], length}
 ghost use Rattle.problem_model.specs.Problem.{ProblemLists};
 ghost use Rattle.ports.specs.Content.{Writes};
 ghost use Rattle.problem.specs.Listing.{Listed};
-ghost use Rattle.sync_graph.specs.ListedStanding.{IsEventAt};
+ghost use Rattle.problem_graph.specs.ListedStanding.{IsEventAt};
 ghost use Rattle.attain.specs.Ends.{AreRowsOf, AreEventNodes};
 ghost use Rattle.row_pool.specs.Pool.{free_rows};
-ghost use Rattle.engine.specs.Changes.{KeepsAnswer, LeavesTaken};
-ghost use Rattle.engine.specs.Current.{IsCurrent};
-ghost use Rattle.solver.specs.Moved0.{IsSolutionBy};
+ghost use Rattle.solver.specs.Changes.{KeepsAnswer, LeavesTaken};
+ghost use Rattle.solver.specs.Current.{IsCurrent};
+ghost use Rattle.solver.specs.Solution.{IsSolutionBy};
 ghost use Rattle.queries.specs.Asking.{IsAtHand};
 ghost use Rattle.queries.specs.Replies.{IsProofText, Replies};
 
 use crate::contradiction::write_contradiction;
 use attain::write_ends;
 use atto::Steps;
-use engine::Solver;
+use solver::Solver;
 use ports::{Failed, Sink};
 use problem::Listing;
 use row_pool::Cell;
-use solver::executions;
+use crate::executions;
 use std::sync::ledger::Ledger;
 
 // Writes the certificate by the rows of the first node.

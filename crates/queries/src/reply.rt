@@ -4,14 +4,14 @@ ghost use Rattle.problem_model.specs.declared.items.Node.TheVariants as nodes;
 ghost use Rattle.problem_model.specs.Problem.{ProblemLists};
 ghost use Rattle.ports.specs.Content.{Writes};
 ghost use Rattle.problem.specs.Listing.{Listed};
-ghost use Rattle.sync_graph.specs.ListedStanding.{IsEventAt};
+ghost use Rattle.problem_graph.specs.ListedStanding.{IsEventAt};
 ghost use Rattle.attain.specs.Ends.{AreEventNodes};
 ghost use Rattle.row_pool.specs.Pool.{free_rows};
 ghost use Rattle.intervals.specs.Ends.{FitsPair};
 ghost use Rattle.intervals.specs.Executions.{IsPairOf};
-ghost use Rattle.engine.specs.Changes.{KeepsAnswer, LeavesTaken};
-ghost use Rattle.engine.specs.Current.{IsCurrent};
-ghost use Rattle.solver.specs.Moved0.{IsSolutionBy};
+ghost use Rattle.solver.specs.Changes.{KeepsAnswer, LeavesTaken};
+ghost use Rattle.solver.specs.Current.{IsCurrent};
+ghost use Rattle.solver.specs.Solution.{IsSolutionBy};
 ghost use Rattle.queries.specs.Asking.{IsPairAtHand};
 ghost use Rattle.queries.specs.Replies.{IsIntervalLine, IsOrderLine, IsLineOf, Replies};
 
@@ -19,11 +19,11 @@ use crate::contradiction::write_contradiction;
 use crate::lines::line_for;
 use crate::question::{Asked, Question};
 use atto::Steps;
-use engine::Solver;
+use solver::Solver;
 use ports::{Failed, Sink, write_whole};
 use problem::Listing;
 use row_pool::Pair;
-use solver::{executions, pairs};
+use crate::{executions, pairs};
 use std::sync::ledger::Ledger;
 
 // Writes the line that answers what is asked of two events, by their greatest differences in both directions.

@@ -5,8 +5,8 @@ ghost use Rattle.problem_model.specs.declared.items.Bound.{Bound};
 ghost use Rattle.problem_model.specs.Problem.{ProblemLists, IsProblem};
 ghost use Rattle.problem_model.specs.Bounds.{Times};
 ghost use Rattle.problem_model.specs.Nodes.{Reading, AreReadings, nodes_of};
-ghost use Rattle.difference_bounds.specs.Executions.{at};
-ghost use Rattle.difference_bounds.specs.Solutions.{IsEarliestExecution};
+ghost use Rattle.problem_model.specs.Executions.{at};
+ghost use Rattle.problem_model.specs.Solutions.{IsEarliestExecution};
 ghost use Rattle.problem.specs.Listing.{Listed, listing_of, listed_nodes};
 ghost use Rattle.cert.specs.declared.certificate.Cert.TheVariants.{Cycle, Run};
 ghost use Rattle.cert.specs.Listed.{listed_cycle, listed_run};
@@ -15,13 +15,13 @@ ghost use Rattle.row_pool.specs.declared.cell.Pair.{Pair};
 ghost use Rattle.intervals.specs.Ends.{FitsPair};
 ghost use Rattle.intervals.specs.Executions.{IsPairOf};
 ghost use Rattle.sync_graph.specs.Graph.{GraphLists, IsGraph};
-ghost use Rattle.sync_graph.specs.Standing.{HasBounds};
-ghost use Rattle.sync_graph.specs.ListedStanding.{IsNodeBy, StandsForListed};
+ghost use Rattle.problem_graph.specs.Standing.{HasBounds};
+ghost use Rattle.problem_graph.specs.ListedStanding.{IsNodeBy, StandsForListed};
 ghost use Rattle.repair.specs.Pairs.{IsPairIn};
-ghost use Rattle.engine.specs.Solver.{SolverLists};
-ghost use Rattle.solver.specs.Bounds.{HasShortList};
-ghost use Rattle.solver.specs.Solution.{HasContradictionBy};
-ghost use Rattle.solver.specs.Moved0.{IsSolutionBy};
+ghost use Rattle.solver.specs.Solver.{SolverLists};
+ghost use Rattle.problem_graph.specs.HeldBounds.{HasShortList};
+ghost use Rattle.queries.specs.Contradiction.{HasContradictionBy};
+ghost use Rattle.solver.specs.Solution.{IsSolutionBy};
 
 /// Where no contradiction is held, the values of the listed nodes are the earliest execution of the problem.
 pub fn executions()

@@ -4,10 +4,10 @@ ghost use Rattle.problem_model.specs.declared.items.Node.TheVariants as nodes;
 ghost use Rattle.problem_model.specs.Problem.{ProblemLists};
 ghost use Rattle.problem_model.specs.Bounds.{IsReading};
 ghost use Rattle.ports.specs.Content.{Writes};
-ghost use Rattle.sync_graph.specs.ListedStanding.{IsEventAt};
+ghost use Rattle.problem_graph.specs.ListedStanding.{IsEventAt};
 ghost use Rattle.intervals.specs.Ends.{FitsPair};
 ghost use Rattle.intervals.specs.Executions.{IsPairOf};
-ghost use Rattle.solver.specs.Moved0.{IsSolutionBy};
+ghost use Rattle.solver.specs.Solution.{IsSolutionBy};
 ghost use Rattle.queries.specs.Asking.{IsSourceReading};
 ghost use Rattle.queries.specs.Clocks.{KeepsTime};
 ghost use Rattle.queries.specs.Replies.{IsTimeLine, Replies};
@@ -15,12 +15,12 @@ ghost use Rattle.queries.specs.Replies.{IsTimeLine, Replies};
 use crate::contradiction::write_contradiction;
 use crate::lines::time_line;
 use atto::Nano;
-use engine::Solver;
+use solver::Solver;
 use intervals::source_time;
 use ports::{Failed, Sink, write_whole};
 use problem::Listing;
 use row_pool::Pair;
-use solver::{executions, pairs};
+use crate::{executions, pairs};
 
 // Writes the line of an event's time, by the greatest differences of a reading of this stamp and the event.
 fn write_line<O: Sink>(stamp: Nano, pair: Pair, out: &mut O) -> Result<(), Failed>

@@ -6,23 +6,23 @@ use Rattle.std.proofs.lemmas.List.Elements.{All-cons, All-nil}
 use Rattle.std.proofs.lemmas.List.Sums.{sum_by-cons}
 use Rattle.std.proofs.lemmas.Option.{get_or_from_slice_get, none-some, same_Some, slice_get_read}
 use Rattle.decl.specs.declared.items.Label.{Label}
-use Rattle.trace_event.specs.declared.event.Event.{Event}
-use Rattle.trace_event.specs.Seen.{Seen, seen_event, seen_events}
+use Rattle.traces.specs.declared.event.Event.{Event}
+use Rattle.traces.specs.Seen.{Seen, seen_event, seen_events}
 use Rattle.traces.specs.declared.accepted.Accepted.{Accepted}
-use Rattle.traces.specs.declared.event.EventId.{EventId}
+use Rattle.traces.specs.declared.event_id.EventId.{EventId}
 use Rattle.traces.specs.Traces.{event_count}
 use Rattle.traces.specs.Held.{seen_in}
 use Rattle.msg_match.specs.Groups.{SeenItem}
 use Rattle.msg_match.specs.Changes.{HaveOwnNumbers}
-use Rattle.event_match.specs.Ends.{AreEndsBy, ids_from, items_from}
-use Rattle.event_match.proofs.Grown.{ends_few, ends_more, ends_none, own_more}
+use Rattle.msg_match.specs.Ends.{AreEndsBy, ids_from, items_from}
+use Rattle.msg_match.proofs.Grown.{ends_few, ends_more, ends_none, own_more}
 use Rattle.roster.specs.declared.came.Came.{Came}
 use Rattle.roster.specs.Groups.{group_at, sizes_of, total, with_more}
 use Rattle.roster.specs.Readings.{stamps_of}
 use Rattle.roster.specs.Roster.{RosterLists, Holds, IsGrown, IsRoster, came_from, event_at, id_of}
 use Rattle.roster.proofs.Holding.{holds_more, holds_none}
 use Rattle.roster.proofs.Turns.{map-map}
-use Rattle.plain_traces.specs.Added.{AreAdded}
+use Rattle.reference_traces.specs.Added.{AreAdded}
 
 -- ---- no events
 abbrev IsNone : List Seen → Type 0

@@ -10,15 +10,15 @@ use Rattle.problem_model.specs.Problem.{ProblemLists}
 use Rattle.problem.specs.Line.{HasEvent}
 use Rattle.problem.specs.Growing.{IsNewClock, IsNewEvent, IsNewMessage, with_event, with_message}
 use Rattle.decl.specs.Declaration.{Declaration, IsDeclaration, HasLawfulClocks, HasLawfulLabels, follows_of, link_bounds}
-use Rattle.traces.specs.declared.event.EventId.{EventId}
-use Rattle.traces.specs.declared.event.Couple.{Couple}
+use Rattle.traces.specs.declared.event_id.EventId.{EventId}
+use Rattle.traces.specs.declared.event_id.Couple.{Couple}
 use Rattle.traces.specs.Traces.{Placed, name_of, host_of}
 use Rattle.traces.specs.Messages.{event_with, linked, place_of}
 use Rattle.traces.specs.Making.{problem_by, IsOneOf, AreEvents, AreMessages}
 use Rattle.traces.proofs.Lists.{all_at, place_in}
 use Rattle.traces.proofs.Whole.{clock_there, all_names_differ, apart, ends_apart}
 use Rattle.traces.proofs.Places.{name_there, place_within, the_place}
-use Rattle.plain_traces.proofs.Taken.{pairs_before, map_next}
+use Rattle.reference_traces.proofs.Taken.{pairs_before, map_next}
 
 -- ---- clocks
 -- the problem that has these clocks alone

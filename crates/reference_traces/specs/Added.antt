@@ -1,9 +1,9 @@
 -- Events that came to labels, by number and by label.
 use Rattle.std.specs.Prelude.{List, map}
-use Rattle.trace_event.specs.Seen.{Seen}
+use Rattle.traces.specs.Seen.{Seen}
 use Rattle.msg_match.specs.Groups.{SeenItem}
 use Rattle.roster.specs.Roster.{RosterLists, Holds, id_of}
-use Rattle.event_match.specs.Ends.{AreEndsBy}
+use Rattle.msg_match.specs.Ends.{AreEndsBy}
 
 -- a roster holds these events of each label, and these are the ends of messages among them by the numbers of the roster
 pub record AreAdded (r : RosterLists) (items : List SeenItem) (seen : List (List Seen)) : Type 0 where

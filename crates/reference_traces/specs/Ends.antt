@@ -1,6 +1,6 @@
 -- Ends of messages, as the code looks for them.
 use Rattle.std.specs.Prelude.{List, [], ◌∷◌, Option, Some, None}
-use Rattle.traces.specs.declared.event.EventId.{EventId}
+use Rattle.traces.specs.declared.event_id.EventId.{EventId}
 use Rattle.traces.specs.Traces.{Placed}
 
 -- the one of these events, if it is the only one

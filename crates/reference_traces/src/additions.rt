@@ -2,17 +2,17 @@
 ghost use Rattle.std.specs.Prelude.{◌≡◌, [], map, IfOk, OnOk};
 ghost use Rattle.decl.specs.declared.items.Label.{Label};
 ghost use Rattle.decl.specs.Declaration.{IsDeclaration, declaration_of};
-ghost use Rattle.trace_event.specs.Seen.{seen_events};
+ghost use Rattle.traces.specs.Seen.{seen_events};
 ghost use Rattle.traces.specs.Held.{seen_in};
 ghost use Rattle.roster.specs.Groups.{with_more};
-ghost use Rattle.plain_traces.specs.Added.{AreAdded};
+ghost use Rattle.reference_traces.specs.Added.{AreAdded};
 
 use decl::{Decl, Label};
-use event_match::items_of;
+use msg_match::items_of;
 use msg_match::{Change, Matcher};
 use roster::Roster;
 use std::alloc::{AllocError, Global};
-use trace_event::Event;
+use traces::Event;
 use traces::{Accepted, Stream};
 
 // How many events there are at most.

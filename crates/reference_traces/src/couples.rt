@@ -1,14 +1,14 @@
 // The messages among events.
 ghost use Rattle.std.specs.Prelude.{◌≡◌, ◌≤◌, ◌^◌, length, IfOk, option_to_list};
-ghost use Rattle.trace_event.specs.declared.event.Side.TheVariants.{Send, Receive};
-ghost use Rattle.trace_event.specs.Seen.{is_mark, key_of, mark_of};
+ghost use Rattle.traces.specs.declared.event.Side.TheVariants.{Send, Receive};
+ghost use Rattle.traces.specs.Seen.{is_mark, key_of, mark_of};
 ghost use Rattle.traces.specs.Traces.{event_count, events_of};
 ghost use Rattle.traces.specs.Messages.{messages_of, only_two, sent_by, with_mark};
 ghost use Rattle.traces.specs.Held.{placed_in, seen_in};
-ghost use Rattle.plain_traces.specs.Ends.{only_event};
+ghost use Rattle.reference_traces.specs.Ends.{only_event};
 
 use std::alloc::{AllocError, Global};
-use trace_event::{Key, Mark, Side};
+use traces::{Key, Mark, Side};
 use traces::{Accepted, Couple, EventId, PlacedEvent, events};
 
 // Whether a mark is such an end of a message of this key.

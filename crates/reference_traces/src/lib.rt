@@ -3,14 +3,14 @@
 //! messages, as a session keeps them, with the events of each label beside.
 #![tactic(auto)]
 
-mod adding;
 mod additions;
-mod making;
-mod pairing;
+mod couples;
+mod items;
 mod parts;
+mod problems;
 mod withdrawn;
 
 pub use additions::Additions;
-pub use making::problem_of;
-pub use pairing::{messages, messages_in};
+pub use couples::{messages, messages_in};
+pub use problems::problem_of;
 pub use withdrawn::missing;

@@ -2,7 +2,7 @@
 ghost use Rattle.std.specs.Prelude.{◌≡◌, ◌<◌, length};
 ghost use Rattle.decl.specs.Declaration.{HasLawfulLabels, declaration_of, link_bounds};
 ghost use Rattle.problem.specs.Line.{HasEvent};
-ghost use Rattle.plain_traces.specs.Known.{IsKnown};
+ghost use Rattle.reference_traces.specs.Known.{IsKnown};
 ghost use Rattle.traces.specs.Traces.{name_of, host_of, clock_of};
 ghost use Rattle.traces.specs.Messages.{event_with};
 ghost use Rattle.traces.specs.Held.{placed_of};

@@ -6,7 +6,7 @@ ghost use Rattle.traces.specs.Messages.{messages_of, problem_of_seen};
 ghost use Rattle.traces.specs.Held.{placed_in, seen_in};
 ghost use Rattle.traces.specs.Making.{AreEvents, AreMessages, problem_by};
 
-use crate::adding::{add_clock, add_event, add_follow, add_message};
+use crate::items::{add_clock, add_event, add_follow, add_message};
 use crate::parts::{event_of, message_of};
 use decl::Decl;
 use problem::Problem;

@@ -5,19 +5,19 @@ use Rattle.std.proofs.lemmas.Bool.{cases_Bool, cases_eq, cases_lt, eq-eqb, ne_eq
 use Rattle.std.proofs.lemmas.List.{get_or-set_same, get_or-set_other, get_or_default, get_or_past}
 use Rattle.row_pool.specs.declared.cell.Cell.{Cell}
 use Rattle.row_pool.specs.Row.{unknown, cell_at, cells_of}
-use Rattle.difference_bounds.specs.Parents.{Cells, no_parent, IsTight}
+use Rattle.problem_model.specs.Parents.{Cells, no_parent, IsTight}
 use Rattle.sync_graph.specs.declared.arc.Arc.{Arc}
 use Rattle.sync_graph.specs.Graph.{GraphLists, IsGraph, arc_at}
 use Rattle.sync_graph.specs.Lists.{list_at}
 use Rattle.earliest.specs.Withdrawn.{found_at}
 use Rattle.earliest.proofs.Bounds.{no_arc}
-use Rattle.regrowths.specs.Regrowths.{earlier, IsSameAs, IsAffectedIn, IsFoundIn}
-use Rattle.regrowths.proofs.Marks.{parent_of, affected_seed, affected_child, none_marked_in, found_marking_in, done_marking_in, room_in, few_found_in}
+use Rattle.withdrawals.specs.Regrowths.{earlier, IsSameAs, IsAffectedIn, IsFoundIn}
+use Rattle.withdrawals.proofs.Marks.{parent_of, affected_seed, affected_child, none_marked_in, found_marking_in, done_marking_in, room_in, few_found_in}
 use Rattle.distances.specs.Changes.{AreBlank}
 use Rattle.distances.specs.Facing.{facing, followed, end_of}
 use Rattle.distances.proofs.Directions.{facing_to, facing_below, facing_within, followed_arc, followed_all}
-use Rattle.row_withdrawal.specs.Withdrawals.{IsRemoved}
-use Rattle.row_withdrawal.specs.Clearings.{IsRowBefore, IsMarkingOf, IsChildBy, IsChildOf, IsClearedAt, IsLeft, IsClearedIf, AreSeeded, IsSeenOf}
+use Rattle.repair.specs.RowWithdrawals.{IsRemoved}
+use Rattle.repair.specs.Clearings.{IsRowBefore, IsMarkingOf, IsChildBy, IsChildOf, IsClearedAt, IsLeft, IsClearedIf, AreSeeded, IsSeenOf}
 
 -- the marks with one more
 marked_too : (ℕ → Bool) → ℕ → ℕ → Bool

@@ -4,9 +4,9 @@ use Rattle.std.proofs.lemmas.Bool.{cases_lt}
 use Rattle.std.proofs.lemmas.List.{length_push, get_or_append_left, get_or_past, get_or-append_right, get_or-replicate, length-replicate}
 use Rattle.std.proofs.lemmas.List.Elements.{All-weaker}
 use Rattle.problem_model.specs.declared.items.Node.{Node}
-use Rattle.difference_bounds.specs.Parents.{Cells, IsRow}
-use Rattle.difference_bounds.specs.Tables.{ArcTable, reversed_table, without}
-use Rattle.difference_bounds.proofs.Parents.{row_grown}
+use Rattle.problem_model.specs.Parents.{Cells, IsRow}
+use Rattle.problem_model.specs.Tables.{ArcTable, reversed_table, without}
+use Rattle.problem_model.proofs.Parents.{row_grown}
 use Rattle.sync_graph.specs.declared.arc.Arc.{Arc}
 use Rattle.sync_graph.specs.Graph.{GraphLists, IsGraph, table_of, with_node, with_arc}
 use Rattle.row_pool.specs.declared.cell.Cell.{Cell}

@@ -6,3 +6,7 @@ pub mod Slotting
 pub mod Taking
 pub mod Withdrawing
 pub mod Writing
+pub mod Clearing
+pub mod Pulls
+pub mod Repairs
+pub mod Sameness

@@ -1,9 +1,9 @@
 -- What the rows of a slot tell of a node are its greatest differences.
 use Rattle.std.proofs.Common.{◌≡◌, ℕ, ◌<◌, Bool, true, false, List, length, refl, ap}
 use Rattle.std.specs.Prelude.{ℤ}
-use Rattle.difference_bounds.specs.Executions.{IsExecution}
-use Rattle.difference_bounds.specs.Parents.{Cells}
-use Rattle.difference_bounds.proofs.Parents.{row_greatest, row_unbounded, towards_row_greatest, towards_row_unbounded}
+use Rattle.problem_model.specs.Executions.{IsExecution}
+use Rattle.problem_model.specs.Parents.{Cells}
+use Rattle.problem_model.proofs.Parents.{row_greatest, row_unbounded, towards_row_greatest, towards_row_unbounded}
 use Rattle.sync_graph.specs.Graph.{GraphLists, IsGraph, table_of}
 use Rattle.sync_graph.specs.InForce.{arcs_of}
 use Rattle.sync_graph.proofs.InForce.{arcs_listed, arcs_within}

@@ -6,22 +6,22 @@ use Rattle.std.proofs.lemmas.Int.{ints}
 use Rattle.std.proofs.lemmas.Bool.{cases_Bool, cases_eq}
 use Rattle.row_pool.specs.declared.cell.Cell.{Cell}
 use Rattle.row_pool.specs.Row.{cell_at, cells_of}
-use Rattle.difference_bounds.specs.Numbers.{IsUpTo}
-use Rattle.difference_bounds.specs.RowPops.{IsPut, IsAsBefore, IsUnderWay}
-use Rattle.difference_bounds.specs.Sums.{done_sum}
+use Rattle.problem_model.specs.Numbers.{IsUpTo}
+use Rattle.problem_model.specs.RowPops.{IsPut, IsAsBefore, IsUnderWay}
+use Rattle.problem_model.specs.Sums.{done_sum}
 use Rattle.frontier.specs.Keys.{IsEmpty}
 use Rattle.sync_graph.specs.Graph.{GraphLists, IsGraph}
 use Rattle.sync_graph.specs.Lists.{list_at}
 use Rattle.earliest.specs.Withdrawn.{found_at}
 use Rattle.earliest.proofs.Bounds.{worth}
-use Rattle.regrowths.specs.Regrowths.{IsRemnant, IsRegrown}
-use Rattle.regrowths.proofs.Pulls.{trying_kept, trying_put, pulling_none, cleared_waits, pulling_more, pulling_done}
-use Rattle.regrowths.proofs.Regrown.{regrown_past, regrown_high, regrown_under_way, regrown_free}
+use Rattle.withdrawals.specs.Regrowths.{IsRemnant, IsRegrown}
+use Rattle.withdrawals.proofs.Pulls.{trying_kept, trying_put, pulling_none, cleared_waits, pulling_more, pulling_done}
+use Rattle.withdrawals.proofs.Regrown.{regrown_past, regrown_high, regrown_under_way, regrown_free}
 use Rattle.distances.specs.Facing.{facing, followed, potential}
 use Rattle.distances.specs.Relaxed.{has_key, waits_of, IsOffered, IsRelaxedBy}
 use Rattle.distances.proofs.Directions.{facing_within, facing_light, followed_arc, followed_all, followed_short}
 use Rattle.distances.proofs.Puts.{no_cell, cell_read, none_waits}
-use Rattle.row_withdrawal.specs.Pulling.{onward, AreSmallAtRest, IsIdle, IsPulledBy, IsTryingIn, IsPullingIn}
+use Rattle.repair.specs.Pulling.{onward, AreSmallAtRest, IsIdle, IsPulledBy, IsTryingIn, IsPullingIn}
 
 -- ---- the arcs to a node
 

@@ -2,8 +2,8 @@
 use Rattle.std.proofs.Common.{◌≡◌, ◌≢◌, ℕ, Option, Some, None, suc, ◌+◌, ◌<◌, ◌≤◌, List, [], ◌∷◌, length, get_or, All, AllPairs, sum_by, refl, sym, ap, subst, ◌∙◌, arith}
 use Rattle.std.proofs.lemmas.List.Elements.{All-nil, All-cons, All-head, All-tail, All-weaker}
 use Rattle.std.proofs.lemmas.List.Sums.{sum_by-cons}
-use Rattle.difference_bounds.specs.Parents.{IsRow}
-use Rattle.difference_bounds.specs.Tables.{ArcTable, reversed_table}
+use Rattle.problem_model.specs.Parents.{IsRow}
+use Rattle.problem_model.specs.Tables.{ArcTable, reversed_table}
 use Rattle.sync_graph.specs.Graph.{GraphLists, table_of}
 use Rattle.row_pool.specs.declared.cell.Cell.{Cell}
 use Rattle.row_pool.specs.Row.{cells_of}

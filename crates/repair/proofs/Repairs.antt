@@ -7,33 +7,33 @@ use Rattle.std.proofs.lemmas.List.{get_or-set_same, get_or-set_other, get_or_pas
 use Rattle.std.proofs.lemmas.List.Elements.{Contains-append_left, Contains-push}
 use Rattle.row_pool.specs.declared.cell.Cell.{Cell}
 use Rattle.row_pool.specs.Row.{cell_at, cells_of}
-use Rattle.difference_bounds.specs.Numbers.{IsUpTo}
-use Rattle.difference_bounds.specs.Parents.{Cells, IsRow}
-use Rattle.difference_bounds.specs.Reversal.{reversed}
-use Rattle.difference_bounds.specs.RowPops.{IsUnderWay}
-use Rattle.difference_bounds.specs.Sums.{changed_sum, sum_to}
-use Rattle.difference_bounds.specs.Tables.{ObeysAll, reversed_table}
-use Rattle.difference_bounds.proofs.Heights.{height_low}
-use Rattle.difference_bounds.proofs.Parents.{row_high}
-use Rattle.falls.specs.Withdrawals.{flagged_sum}
-use Rattle.falls.proofs.Sums.{flagged_below}
+use Rattle.problem_model.specs.Numbers.{IsUpTo}
+use Rattle.problem_model.specs.Parents.{Cells, IsRow}
+use Rattle.problem_model.specs.Reversal.{reversed}
+use Rattle.problem_model.specs.RowPops.{IsUnderWay}
+use Rattle.problem_model.specs.Sums.{changed_sum, sum_to}
+use Rattle.problem_model.specs.Tables.{ObeysAll, reversed_table}
+use Rattle.problem_model.proofs.Heights.{height_low}
+use Rattle.problem_model.proofs.Parents.{row_high}
+use Rattle.withdrawals.specs.Withdrawals.{flagged_sum}
+use Rattle.withdrawals.proofs.Sums.{flagged_below}
 use Rattle.frontier.specs.Keys.{IsEmpty}
 use Rattle.sync_graph.specs.declared.arc.Arc.{Arc}
 use Rattle.sync_graph.specs.Graph.{GraphLists, IsGraph, IsSound, arc_at, unnamed, table_of, reaching, departing}
 use Rattle.earliest.specs.Withdrawn.{found_at}
 use Rattle.earliest.proofs.Bounds.{no_arc}
-use Rattle.regrowths.specs.Regrowths.{earlier, IsSameAs, IsAffectedIn, AreMarksIn, IsRemnant}
-use Rattle.regrowths.proofs.Marks.{are_marks_in}
-use Rattle.regrowths.proofs.Remnants.{remnant, open_marked_in, unmarked_in}
-use Rattle.regrowths.proofs.Bounds.{changed_within, regrowth_cost}
+use Rattle.withdrawals.specs.Regrowths.{earlier, IsSameAs, IsAffectedIn, AreMarksIn, IsRemnant}
+use Rattle.withdrawals.proofs.Marks.{are_marks_in}
+use Rattle.withdrawals.proofs.Remnants.{remnant, open_marked_in, unmarked_in}
+use Rattle.withdrawals.proofs.Bounds.{changed_within, regrowth_cost}
 use Rattle.distances.specs.Changes.{steps_at, steps_of_changes}
 use Rattle.distances.specs.Facing.{facing, followed, potential}
 use Rattle.distances.specs.Relaxed.{waits_of}
 use Rattle.distances.proofs.Directions.{facing_weight, facing_listed, potential_small}
 use Rattle.distances.proofs.Puts.{none_waits}
-use Rattle.row_withdrawal.specs.Withdrawals.{AreWithdrawn, IsRemoved}
-use Rattle.row_withdrawal.specs.Clearings.{IsRowBefore, IsMarkingOf}
-use Rattle.row_withdrawal.specs.Pulling.{onward}
+use Rattle.repair.specs.RowWithdrawals.{AreWithdrawn, IsRemoved}
+use Rattle.repair.specs.Clearings.{IsRowBefore, IsMarkingOf}
+use Rattle.repair.specs.Pulling.{onward}
 
 -- ---- the graph before
 module _ (before g : GraphLists) (removed : List Arc) (w : AreWithdrawn before removed g) where

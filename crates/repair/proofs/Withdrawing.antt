@@ -6,7 +6,7 @@ use Rattle.sync_graph.specs.declared.arc.Arc.{Arc}
 use Rattle.sync_graph.specs.Graph.{GraphLists, table_of}
 use Rattle.row_pool.specs.declared.cell.Cell.{Cell}
 use Rattle.row_pool.specs.Pool.{Pool}
-use Rattle.row_withdrawal.specs.Withdrawals.{IsAffectedFrom, IsAffectedTo}
+use Rattle.repair.specs.RowWithdrawals.{IsAffectedFrom, IsAffectedTo}
 use Rattle.repair.specs.declared.slot.Slot.{Slot}
 use Rattle.repair.specs.Slots.{behind, AreOwn, IsRowsOf, ChangesRowsOf}
 use Rattle.repair.specs.Renewals.{Renews}

@@ -7,8 +7,8 @@ use Rattle.row_pool.proofs.Pools.{written_row, with_cells_lawful, own_cells, oth
 use Rattle.repair.specs.declared.slot.Slot.{Slot}
 use Rattle.repair.specs.Slots.{HasRows, IsRowsOf, ChangesRowsOf}
 use Rattle.repair.specs.Renewals.{insertion_steps}
-use Rattle.difference_bounds.specs.Parents.{IsRow}
-use Rattle.difference_bounds.specs.Tables.{ArcTable, reversed_table}
+use Rattle.problem_model.specs.Parents.{IsRow}
+use Rattle.problem_model.specs.Tables.{ArcTable, reversed_table}
 use Rattle.sync_graph.specs.Graph.{GraphLists}
 use Rattle.row_pool.specs.Row.{cells_of}
 use Rattle.distances.specs.Changes.{AreBlank, steps_of_changes}

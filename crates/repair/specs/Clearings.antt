@@ -1,15 +1,15 @@
 -- The clearing of the cells that a withdrawal affects.
 use Rattle.std.specs.Prelude.{◌≡◌, ◌≢◌, ℕ, ◌+◌, ◌<◌, ◌⊎◌, Bool, true, List, length, slice_index_or, slice_set}
-use Rattle.difference_bounds.specs.Parents.{Cells, IsRow}
+use Rattle.problem_model.specs.Parents.{Cells, IsRow}
 use Rattle.row_pool.specs.declared.cell.Cell.{Cell}
 use Rattle.row_pool.specs.Row.{unknown, cell_at, cells_of}
 use Rattle.sync_graph.specs.declared.arc.Arc.{Arc}
 use Rattle.sync_graph.specs.Graph.{GraphLists, arc_at}
 use Rattle.sync_graph.specs.Lists.{list_at}
-use Rattle.regrowths.specs.Regrowths.{earlier, IsShrunk, IsMarkingIn}
+use Rattle.withdrawals.specs.Regrowths.{earlier, IsShrunk, IsMarkingIn}
 use Rattle.earliest.specs.Withdrawn.{found_at}
 use Rattle.distances.specs.Facing.{facing, followed}
-use Rattle.row_withdrawal.specs.Withdrawals.{IsRemoved}
+use Rattle.repair.specs.RowWithdrawals.{IsRemoved}
 
 -- the row before, of the arcs in force and those removed
 pub record IsRowBefore (g : GraphLists) (outward : Bool) (was : ℕ → Bool) (removed : List Arc) (p : ℕ) (old : Cells) : Type 0 where

@@ -3,3 +3,6 @@ pub mod Pairs
 pub mod Renewals
 pub mod Slots
 pub mod Withdrawals
+pub mod RowWithdrawals
+pub mod Clearings
+pub mod Pulling

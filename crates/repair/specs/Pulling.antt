@@ -2,10 +2,10 @@
 use Rattle.std.specs.Prelude.{◌≡◌, ℕ, Bool, not, true, false, List, length, ℤ, Option}
 use Rattle.row_pool.specs.declared.cell.Cell.{Cell}
 use Rattle.row_pool.specs.Row.{cell_at, cells_of}
-use Rattle.difference_bounds.specs.Numbers.{IsUpTo}
+use Rattle.problem_model.specs.Numbers.{IsUpTo}
 use Rattle.sync_graph.specs.Graph.{GraphLists}
 use Rattle.sync_graph.specs.Lists.{list_at}
-use Rattle.regrowths.specs.Regrowths.{IsPulling, IsTrying}
+use Rattle.withdrawals.specs.Regrowths.{IsPulling, IsTrying}
 use Rattle.earliest.specs.Withdrawn.{found_at}
 use Rattle.distances.specs.Facing.{facing, followed}
 use Rattle.distances.specs.Relaxed.{waits_of, IsRelaxedBy}

@@ -4,7 +4,7 @@ use Rattle.row_pool.specs.declared.cell.Cell.{Cell}
 use Rattle.row_pool.specs.Row.{cells_of}
 use Rattle.sync_graph.specs.declared.arc.Arc.{Arc}
 use Rattle.sync_graph.specs.Graph.{GraphLists, arc_at}
-use Rattle.regrowths.specs.Regrowths.{IsAffectedIn}
+use Rattle.withdrawals.specs.Regrowths.{IsAffectedIn}
 use Rattle.distances.specs.Facing.{facing}
 
 -- the graph before had the same nodes and arcs; what is in force was so, and whatever else was equals one of the removed arcs

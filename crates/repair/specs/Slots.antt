@@ -1,7 +1,7 @@
 -- Nodes of which the rows are kept.
 use Rattle.std.specs.Prelude.{◌≡◌, ◌≢◌, ℕ, ◌<◌, ◌==◌, ◌∷◌, [], Bool, true, List, length, Option, Some, None, find, All, AllPairs}
-use Rattle.difference_bounds.specs.Parents.{IsRow}
-use Rattle.difference_bounds.specs.Tables.{ArcTable, reversed_table, without}
+use Rattle.problem_model.specs.Parents.{IsRow}
+use Rattle.problem_model.specs.Tables.{ArcTable, reversed_table, without}
 use Rattle.sync_graph.specs.Graph.{GraphLists, table_of}
 use Rattle.row_pool.specs.Row.{cells_of}
 use Rattle.row_pool.specs.Pool.{Pool, row_at, row_of, IsTaken}

@@ -1,10 +1,10 @@
 -- Kept rows once arcs are withdrawn, and the steps that it takes.
 use Rattle.std.specs.Prelude.{◌≡◌, ℕ, ◌+◌, ◌*◌, ◌≤◌, Bool, true, List, length, sum_by, All}
-use Rattle.falls.specs.Withdrawals.{flagged_sum}
+use Rattle.withdrawals.specs.Withdrawals.{flagged_sum}
 use Rattle.sync_graph.specs.declared.arc.Arc.{Arc}
 use Rattle.sync_graph.specs.Graph.{GraphLists, table_of, reaching, departing}
 use Rattle.row_pool.specs.Pool.{Pool, row_of}
-use Rattle.row_withdrawal.specs.Withdrawals.{AreWithdrawn, IsAffectedFrom, IsAffectedTo}
+use Rattle.repair.specs.RowWithdrawals.{AreWithdrawn, IsAffectedFrom, IsAffectedTo}
 use Rattle.repair.specs.declared.slot.Slot.{Slot}
 use Rattle.repair.specs.Slots.{IsRowsOf}
 use Rattle.repair.specs.Renewals.{Renews}

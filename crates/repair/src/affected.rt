@@ -1,15 +1,15 @@
 // The clearing of the cells whose paths had a removed arc: a list has their nodes in the order in which they were found.
 ghost use Rattle.std.specs.Prelude.{◌≡◌, ◌≢◌, ℕ, ◌+◌, ◌<◌, ◌≤◌, Bool, true, false, length};
-ghost use Rattle.difference_bounds.specs.Parents.{Cells};
-ghost use Rattle.difference_bounds.specs.Sums.{sum_to};
+ghost use Rattle.problem_model.specs.Parents.{Cells};
+ghost use Rattle.problem_model.specs.Sums.{sum_to};
 ghost use Rattle.row_pool.specs.Row.{cell_at, cells_of};
 ghost use Rattle.sync_graph.specs.Graph.{arc_at, most_nodes};
 ghost use Rattle.earliest.specs.Withdrawn.{found_at};
 ghost use Rattle.distances.specs.Changes.{AreBlank};
 ghost use Rattle.distances.specs.Facing.{end_of};
-ghost use Rattle.row_withdrawal.specs.Withdrawals.{IsRemoved};
-ghost use Rattle.row_withdrawal.specs.Clearings.{IsRowBefore, IsMarkingOf, IsChildBy, IsChildOf, IsClearedAt, IsClearedIf};
-ghost use Rattle.row_withdrawal.specs.Pulling.{onward};
+ghost use Rattle.repair.specs.RowWithdrawals.{IsRemoved};
+ghost use Rattle.repair.specs.Clearings.{IsRowBefore, IsMarkingOf, IsChildBy, IsChildOf, IsClearedAt, IsClearedIf};
+ghost use Rattle.repair.specs.Pulling.{onward};
 
 use atto::Steps;
 use distances::{far_end, next_arc};

@@ -1,7 +1,7 @@
 // The rows that are kept.
 ghost use Rattle.std.specs.Prelude.{◌≡◌, ◌+◌, ◌<◌, ◌≤◌, ℤ, List, length, max, true, false, Some, None, slice_index_or, MatchOption, OnOk, OnErr, IfOk, IfErr};
 ghost use Rattle.problem_model.specs.Nodes.{most_nodes};
-ghost use Rattle.difference_bounds.specs.Executions.{IsExecution};
+ghost use Rattle.problem_model.specs.Executions.{IsExecution};
 ghost use Rattle.sync_graph.specs.Graph.{GraphLists, IsGraph};
 ghost use Rattle.sync_graph.specs.InForce.{arcs_of};
 ghost use Rattle.repair.specs.declared.slot.Slot as slots;

@@ -1,18 +1,18 @@
 // Cleared cells are pulled from the neighbours that are left, and those that are reached are settled.
 ghost use Rattle.std.specs.Prelude.{◌≡◌, ℕ, ◌+◌, ◌<◌, ◌≤◌, ◌^◌, ◌⊎◌, false, true, not, All, length};
-ghost use Rattle.difference_bounds.specs.Numbers.{IsUpTo};
-ghost use Rattle.difference_bounds.specs.Parents.{IsRow};
-ghost use Rattle.difference_bounds.specs.RowPops.{IsUnderWay};
-ghost use Rattle.difference_bounds.specs.Sums.{sum_to};
-ghost use Rattle.difference_bounds.specs.Tables.{ObeysAll};
+ghost use Rattle.problem_model.specs.Numbers.{IsUpTo};
+ghost use Rattle.problem_model.specs.Parents.{IsRow};
+ghost use Rattle.problem_model.specs.RowPops.{IsUnderWay};
+ghost use Rattle.problem_model.specs.Sums.{sum_to};
+ghost use Rattle.problem_model.specs.Tables.{ObeysAll};
 ghost use Rattle.frontier.specs.Keys.{IsEmpty};
 ghost use Rattle.row_pool.specs.Row.{cell_at, cells_of};
-ghost use Rattle.regrowths.specs.Regrowths.{IsRemnant};
+ghost use Rattle.withdrawals.specs.Regrowths.{IsRemnant};
 ghost use Rattle.earliest.specs.Withdrawn.{found_at};
 ghost use Rattle.distances.specs.Facing.{facing, followed, potential};
 ghost use Rattle.distances.specs.Relaxed.{waits_of, AreKeyed};
 ghost use Rattle.distances.specs.Changes.{AreBlank, steps_of_changes};
-ghost use Rattle.row_withdrawal.specs.Pulling.{onward, AreSmallAtRest, IsIdle, IsPulledBy, IsTryingIn, IsPullingIn};
+ghost use Rattle.repair.specs.Pulling.{onward, AreSmallAtRest, IsIdle, IsPulledBy, IsTryingIn, IsPullingIn};
 
 use atto::Steps;
 use distances::{far_end, next_arc, relax_arc, relax_arcs};

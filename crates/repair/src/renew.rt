@@ -1,6 +1,6 @@
 // Rows that are made, and rows that are repaired.
 ghost use Rattle.std.specs.Prelude.{◌≡◌, ◌+◌, ◌<◌, ◌≤◌, ◌∷◌, [], true, false, length, slice_index_or, All};
-ghost use Rattle.difference_bounds.specs.Tables.{without};
+ghost use Rattle.problem_model.specs.Tables.{without};
 ghost use Rattle.frontier.specs.Keys.{IsEmpty};
 ghost use Rattle.sync_graph.specs.Graph.{table_of};
 ghost use Rattle.earliest.specs.Values.{IsEarliestOf};

@@ -1,17 +1,17 @@
 // Rows that are repaired once arcs are withdrawn.
 ghost use Rattle.std.specs.Prelude.{◌≡◌, ℕ, ◌+◌, ◌*◌, ◌≤◌, Bool, true, length};
-ghost use Rattle.difference_bounds.specs.Parents.{IsRow};
-ghost use Rattle.difference_bounds.specs.Tables.{reversed_table};
-ghost use Rattle.falls.specs.Withdrawals.{flagged_sum};
+ghost use Rattle.problem_model.specs.Parents.{IsRow};
+ghost use Rattle.problem_model.specs.Tables.{reversed_table};
+ghost use Rattle.withdrawals.specs.Withdrawals.{flagged_sum};
 ghost use Rattle.frontier.specs.Keys.{IsEmpty};
 ghost use Rattle.sync_graph.specs.Graph.{GraphLists, table_of, reaching, departing};
 ghost use Rattle.earliest.specs.Values.{IsEarliestOf};
-ghost use Rattle.regrowths.specs.Regrowths.{IsAffectedIn};
+ghost use Rattle.withdrawals.specs.Regrowths.{IsAffectedIn};
 ghost use Rattle.row_pool.specs.Row.{cells_of};
 ghost use Rattle.distances.specs.Facing.{facing};
 ghost use Rattle.distances.specs.Changes.{AreBlank};
-ghost use Rattle.row_withdrawal.specs.Withdrawals.{AreWithdrawn, IsRemoved, IsAffectedFrom, IsAffectedTo};
-ghost use Rattle.row_withdrawal.specs.Clearings.{IsRowBefore};
+ghost use Rattle.repair.specs.RowWithdrawals.{AreWithdrawn, IsRemoved, IsAffectedFrom, IsAffectedTo};
+ghost use Rattle.repair.specs.Clearings.{IsRowBefore};
 
 use crate::affected::{clear_all, clear_heads};
 use crate::regrow::regrow;

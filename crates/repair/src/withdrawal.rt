@@ -11,7 +11,7 @@ use atto::Steps;
 use earliest::Earliest;
 use frontier::Frontier;
 use row_pool::RowPool;
-use row_withdrawal::{withdraw_from, withdraw_to};
+use crate::{withdraw_from, withdraw_to};
 use std::sync::ledger::Ledger;
 use sync_graph::{Arc, Graph};
 

@@ -12,8 +12,8 @@ use Rattle.traces.proofs.Members.{no_pairs}
 use Rattle.traces.proofs.Names.{id_same}
 use Rattle.report.specs.declared.merge.MergeKey.{MergeKey}
 use Rattle.report.specs.Merging.{AreApart, merge_line}
-use Rattle.merging.specs.Merged.{keys_from, line_at, line_if}
-use Rattle.merging.specs.Writing.{lines_of}
+use Rattle.replies.specs.Merged.{keys_from, line_at, line_if}
+use Rattle.replies.specs.Writing.{lines_of}
 
 -- ---- keys
 abbrev key_of : Times → ℕ → Placed → MergeKey

@@ -11,10 +11,10 @@ use Rattle.problem_model.specs.declared.items.Bound.{Bound}
 use Rattle.problem_model.specs.Problem.{ProblemLists, IsProblem}
 use Rattle.problem_model.specs.Bounds.{Constraint, Declares, Times, IsExecution}
 use Rattle.problem_model.specs.Nodes.{Reading, AreReadings, nodes_of}
-use Rattle.difference_bounds.specs.Problems.{IsGreatestOf, IsUnboundedOf}
-use Rattle.difference_bounds.specs.Solutions.{IsNodeOf, WeighedBound, Leads, weight_of}
-use Rattle.difference_bounds.proofs.Solutions.{place_of}
-use Rattle.sync_graph.proofs.BoundEnds.{ends_are}
+use Rattle.problem_model.specs.ProblemArcs.{IsGreatestOf, IsUnboundedOf}
+use Rattle.problem_model.specs.Solutions.{IsNodeOf, WeighedBound, Leads, weight_of}
+use Rattle.problem_model.proofs.Solutions.{place_of}
+use Rattle.problem_graph.proofs.BoundEnds.{ends_are}
 use Rattle.attain.specs.Tight.{HasPath}
 
 -- it cannot be

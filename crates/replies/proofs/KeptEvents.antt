@@ -1,7 +1,7 @@
 -- Events that are kept.
 use Rattle.std.proofs.Common.{◌≡◌, ◌⊎◌, inl, inr, ℕ, ◌<◌, List, [], ◌∷◌, ◌++◌, length, slice_get, slice_set, Some, sym, ◌∙◌, ap, subst, arith}
-use Rattle.trace_event.specs.Seen.{Seen}
-use Rattle.traces.specs.declared.event.EventId.{EventId}
+use Rattle.traces.specs.Seen.{Seen}
+use Rattle.traces.specs.declared.event_id.EventId.{EventId}
 use Rattle.replies.specs.Reply.{AreKept, IsPlacedAt, IsAmong, most_kept}
 use Rattle.replies.proofs.Elements.{snoc_parts, snoc_long}
 use Rattle.replies.proofs.Placing.{within, more_within, placed}

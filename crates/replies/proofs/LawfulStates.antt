@@ -14,8 +14,8 @@ use Rattle.decl.specs.declared.items.Label.{Label}
 use Rattle.decl.specs.declared.items.TraceKind.{TraceKind}
 use Rattle.decl.specs.declared.items.TraceKind.TheVariants.{Capture, Log}
 use Rattle.decl.specs.Declaration.{Declaration}
-use Rattle.trace_event.specs.Seen.{Seen, seen_row, event_of_packet}
-use Rattle.traces.specs.declared.event.EventId.{EventId}
+use Rattle.traces.specs.Seen.{Seen, seen_row, event_of_packet}
+use Rattle.traces.specs.declared.event_id.EventId.{EventId}
 use Rattle.traces.specs.Traces.{Trace, Captured, Logged, Traces, IsOfKind, event_count, nothing_for, seen_by, seen_of}
 use Rattle.traces.specs.Messages.{problem_of}
 use Rattle.traces.specs.Making.{StampsFit}

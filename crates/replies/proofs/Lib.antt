@@ -12,3 +12,7 @@ mod LawfulStates
 mod FoundReads
 mod WholeScripts
 pub mod OneReply
+mod OneOrder
+mod Agreeing
+mod Texts
+mod Stopping

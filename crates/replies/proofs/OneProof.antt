@@ -10,8 +10,8 @@ use Rattle.problem_model.specs.Nodes.{Reading, AreReadings, nodes_of}
 use Rattle.problem_model.proofs.Chains.{Among, among}
 use Rattle.problem_model.proofs.OneList.{contained, readings_one}
 use Rattle.problem_model.proofs.Places.{stands_there}
-use Rattle.difference_bounds.specs.Problems.{IsGreatestOf, IsUnboundedOf}
-use Rattle.difference_bounds.specs.Solutions.{IsNodeOf, IsEarliestExecution, WeighedBound, Leads, weight_of}
+use Rattle.problem_model.specs.ProblemArcs.{IsGreatestOf, IsUnboundedOf}
+use Rattle.problem_model.specs.Solutions.{IsNodeOf, IsEarliestExecution, WeighedBound, Leads, weight_of}
 use Rattle.cert.specs.EndLists.{EndLists, Limited, Unlimited}
 use Rattle.cert.specs.CertificateText.{AreListsOf}
 use Rattle.cert.specs.Shows.{IsCutOf, IsInside, IsLowerEnd, IsUpperEnd, LeadsAgainst, weighed_bounds}

@@ -20,15 +20,15 @@ use Rattle.decl.specs.declared.items.Label.{Label}
 use Rattle.decl.specs.declared.items.TraceKind.{TraceKind}
 use Rattle.decl.specs.declared.items.TraceKind.TheVariants.{Capture, Log}
 use Rattle.decl.specs.Declaration.{Declaration, IsDeclaration}
-use Rattle.trace_event.specs.Seen.{Seen}
-use Rattle.traces.specs.declared.event.EventId.{EventId}
+use Rattle.traces.specs.Seen.{Seen}
+use Rattle.traces.specs.declared.event_id.EventId.{EventId}
 use Rattle.traces.specs.Traces.{Trace, Captured, Traces, seen_under, seen_by}
 use Rattle.traces.specs.Messages.{missing, problem_of, problem_of_seen}
 use Rattle.traces.proofs.Seen.{problem_lawful}
 use Rattle.queries.specs.Consistent.{IsConsistent}
 use Rattle.queries.specs.Replies.{HasReading, IsIntervalLine, IsOrderLine, IsProofText, IsTimeLine, Replies}
-use Rattle.merging.specs.Merged.{IsMergeText}
-use Rattle.trace_report.specs.Reports.{report_text}
+use Rattle.replies.specs.Merged.{IsMergeText}
+use Rattle.report.specs.Reports.{report_text}
 use Rattle.replies.specs.declared.refusal.Refusal.{Refusal}
 use Rattle.replies.specs.declared.refusal.Refusal.TheVariants.{NoCommand, UnknownLabel, UnreadFile, TooManyBytes, TooManyEvents, UnknownEvent}
 use Rattle.replies.specs.Refusals.{log_refusal, capture_refusal}

@@ -8,26 +8,26 @@ use Rattle.problem_model.specs.Problem.{ProblemLists}
 use Rattle.problem_model.specs.Bounds.{Times}
 use Rattle.problem_model.specs.Nodes.{Reading, nodes_of}
 use Rattle.problem_model.proofs.Places.{event_stands}
-use Rattle.difference_bounds.specs.Executions.{at}
-use Rattle.difference_bounds.specs.Solutions.{IsEarliestExecution}
+use Rattle.problem_model.specs.Executions.{at}
+use Rattle.problem_model.specs.Solutions.{IsEarliestExecution}
 use Rattle.problem.specs.Listing.{Listed, all_readings, listed_nodes}
 use Rattle.problem.proofs.ListedNodes.{event_node, map_at}
 use Rattle.traces.proofs.Lists.{all_at}
 use Rattle.decl.specs.Declaration.{Declaration}
-use Rattle.trace_event.specs.Seen.{Seen}
+use Rattle.traces.specs.Seen.{Seen}
 use Rattle.traces.specs.Traces.{Placed, events_of}
 use Rattle.traces.specs.Messages.{event_with, problem_of_seen}
 use Rattle.report.specs.declared.merge.MergeKey.{MergeKey}
 use Rattle.report.specs.Merging.{IsMergeOrder}
-use Rattle.sync_graph.proofs.NodeNumbers.{events_count}
-use Rattle.engine.specs.Solver.{SolverLists}
-use Rattle.solver.specs.Moved0.{IsSolutionBy}
+use Rattle.problem_graph.proofs.NodeNumbers.{events_count}
+use Rattle.solver.specs.Solver.{SolverLists}
+use Rattle.solver.specs.Solution.{IsSolutionBy}
 use Rattle.queries.specs.Replies.{Replies}
 use Rattle.queries.proofs.Solutions.{stands}
-use Rattle.merging.specs.Merged.{keys_from, IsMergeText}
-use Rattle.merging.specs.Writing.{AreValued, IsTextBy, count_line, lines_of, node_at, times_by}
-use Rattle.merging.proofs.Agreeing.{Agree, keys_agree, lines_agree}
-use Rattle.merging.proofs.OneOrder.{order_one}
+use Rattle.replies.specs.Merged.{keys_from, IsMergeText}
+use Rattle.replies.specs.Writing.{AreValued, IsTextBy, count_line, lines_of, node_at, times_by}
+use Rattle.replies.proofs.Agreeing.{Agree, keys_agree, lines_agree}
+use Rattle.replies.proofs.OneOrder.{order_one}
 
 -- ---- one merge
 same_by_order : (a b : ℤ) → a ≤ℤ b → b ≤ℤ a → a ≡ b

@@ -7,3 +7,5 @@ pub mod Sessions
 pub mod OneProof
 pub mod OneReply
 pub mod Lawful
+pub mod Merged
+pub mod Writing

@@ -5,9 +5,9 @@ use Rattle.atto.specs.Decimal.{decimal_of}
 use Rattle.line_format.specs.Words.{line_of}
 use Rattle.problem_model.specs.declared.items.Node.TheVariants as nodes
 use Rattle.problem_model.specs.Bounds.{Times}
-use Rattle.difference_bounds.specs.Solutions.{IsEarliestExecution}
+use Rattle.problem_model.specs.Solutions.{IsEarliestExecution}
 use Rattle.decl.specs.Declaration.{Declaration}
-use Rattle.trace_event.specs.Seen.{Seen}
+use Rattle.traces.specs.Seen.{Seen}
 use Rattle.traces.specs.Traces.{Placed, events_of, name_of}
 use Rattle.traces.specs.Messages.{problem_of_seen}
 use Rattle.report.specs.declared.merge.MergeKey.{MergeKey}

@@ -16,15 +16,15 @@ use Rattle.decl.specs.declared.items.Label.{Label}
 use Rattle.decl.specs.declared.items.TraceKind.{TraceKind}
 use Rattle.decl.specs.declared.items.TraceKind.TheVariants.{Capture, Log}
 use Rattle.decl.specs.Declaration.{Declaration}
-use Rattle.trace_event.specs.Seen.{Seen}
-use Rattle.traces.specs.declared.event.EventId.{EventId}
-use Rattle.traces.specs.declared.event.Couple.{Couple}
+use Rattle.traces.specs.Seen.{Seen}
+use Rattle.traces.specs.declared.event_id.EventId.{EventId}
+use Rattle.traces.specs.declared.event_id.Couple.{Couple}
 use Rattle.traces.specs.Traces.{Trace, Captured, Logged, Traces, Placed, seen_by, size_of, events_of, event_count}
 use Rattle.traces.specs.Messages.{messages_of, missing, problem_of, problem_of_seen}
 use Rattle.queries.specs.Consistent.{IsConsistent}
 use Rattle.queries.specs.Replies.{HasReading, IsIntervalLine, IsOrderLine, IsProofText, IsTimeLine, Replies}
-use Rattle.merging.specs.Merged.{IsMergeText}
-use Rattle.trace_report.specs.Reports.{report_text}
+use Rattle.replies.specs.Merged.{IsMergeText}
+use Rattle.report.specs.Reports.{report_text}
 use Rattle.replies.specs.declared.refusal.Refusal.{Refusal}
 use Rattle.replies.specs.declared.refusal.Refusal.TheVariants.{UnknownLabel, UnreadFile, TooManyBytes, TooManyEvents, UnknownEvent, NoSourceTime, EightAreKept}
 use Rattle.replies.specs.Refusals.{refusal_line, log_refusal, capture_refusal}

@@ -6,11 +6,11 @@ use Rattle.line_format.specs.Words.{line_of}
 use Rattle.problem_model.specs.declared.items.Node.TheVariants as nodes
 use Rattle.problem_model.specs.Bounds.{Times}
 use Rattle.problem.specs.Listing.{Listed}
-use Rattle.difference_bounds.specs.Executions.{at}
+use Rattle.problem_model.specs.Executions.{at}
 use Rattle.decl.specs.Declaration.{Declaration}
 use Rattle.traces.specs.Traces.{Placed}
 use Rattle.report.specs.Merging.{IsMergeOrder}
-use Rattle.merging.specs.Merged.{keys_from, line_at}
+use Rattle.replies.specs.Merged.{keys_from, line_at}
 
 -- the node that a listing gives for the event at a place
 abbrev pub node_at : Listed → ℕ → ℕ

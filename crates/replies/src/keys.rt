@@ -1,9 +1,9 @@
 // What events are merged by.
 ghost use Rattle.std.specs.Prelude.{◌≡◌, ◌<◌, ◌≤◌, ◌^◌, true, length, IfOk};
-ghost use Rattle.difference_bounds.specs.Executions.{at};
+ghost use Rattle.problem_model.specs.Executions.{at};
 ghost use Rattle.traces.specs.Held.{placed_in};
-ghost use Rattle.merging.specs.Merged.{keys_from};
-ghost use Rattle.merging.specs.Writing.{AreValued, node_at, times_by};
+ghost use Rattle.replies.specs.Merged.{keys_from};
+ghost use Rattle.replies.specs.Writing.{AreValued, node_at, times_by};
 
 use earliest::Earliest;
 use problem::Listing;

@@ -6,19 +6,24 @@
 //! one reply but for which contradiction or path is printed, and that what a session has stays lawful.
 //!
 //! It knows no session: who keeps the graph, and who answers questions of it, cite what a reply is from here.
+//!
+//! The events of all labels in one order: by their times in the earliest execution of their problem, as an engine holds it.
 #![tactic(auto)]
 
 mod command;
+mod keys;
 mod laws;
+mod lines;
+mod merge;
+mod merge_laws;
 mod outcome;
 mod refusal;
 mod refused;
 
 pub use command::{Command, Question, read_command};
-pub use laws::{
-    commands_are_one, outputs_are_one, proofs_are_one, reads_are_one, replies_are_one,
-    sessions_are_lawful,
-};
+pub use laws::{commands_are_one, outputs_are_one, proofs_are_one, reads_are_one, replies_are_one, sessions_are_lawful};
+pub use merge::write_merge;
+pub use merge_laws::merges_are_one;
 pub use outcome::{Added, Outcome};
 pub use refusal::{Refusal, capture_refusal, log_refusal, write_refusal};
 pub use refused::{RefusedText, refused_text, too_long_text};

@@ -2,22 +2,22 @@
 ghost use Rattle.std.specs.Prelude.{◌≡◌, ◌<◌, ◌++◌, true, All, length};
 ghost use Rattle.ports.specs.Content.{Writes};
 ghost use Rattle.decl.specs.Declaration.{HasLawfulLabels, declaration_of};
-ghost use Rattle.trace_event.specs.Seen.{seen_event};
+ghost use Rattle.traces.specs.Seen.{seen_event};
 ghost use Rattle.traces.specs.Traces.{name_of};
 ghost use Rattle.traces.specs.Held.{placed_in};
 ghost use Rattle.report.specs.Merging.{merge_line};
 ghost use Rattle.traces.specs.Making.{AreEvents};
-ghost use Rattle.merging.specs.Merged.{line_at};
-ghost use Rattle.merging.specs.Writing.{AreValued, count_line, lines_of, times_by};
+ghost use Rattle.replies.specs.Merged.{line_at};
+ghost use Rattle.replies.specs.Writing.{AreValued, count_line, lines_of, times_by};
 
 use crate::keys::value_at;
 use decl::Decl;
 use earliest::Earliest;
-use line_words::line::{Line, first_word, push_decimal};
+use ports::fixed_line::{Line, first_word, push_decimal};
 use ports::{Failed, Sink, write_whole};
 use problem::Listing;
 use report::write_merge_line;
-use trace_event::Event;
+use traces::Event;
 use traces::{PlacedEvent, name_of};
 
 // What an event log says of an event; nothing of a packet.

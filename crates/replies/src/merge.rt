@@ -1,7 +1,7 @@
 // All events, merged.
 ghost use Rattle.std.specs.Prelude.{◌≡◌, ◌≤◌, ◌^◌, [], true, length, IsErrOf};
 ghost use Rattle.ports.specs.Content.{WritesSuch};
-ghost use Rattle.solver.specs.Moved0.{IsSolutionBy};
+ghost use Rattle.solver.specs.Solution.{IsSolutionBy};
 ghost use Rattle.decl.specs.Declaration.{IsDeclaration, declaration_of};
 ghost use Rattle.traces.specs.Traces.{event_count};
 ghost use Rattle.traces.specs.Held.{placed_in, seen_in};
@@ -9,19 +9,19 @@ ghost use Rattle.traces.specs.Messages.{problem_of_seen};
 ghost use Rattle.traces.specs.Making.{AreEvents};
 ghost use Rattle.queries.specs.declared.stop.Stop.TheVariants as stops;
 ghost use Rattle.queries.specs.Replies.{Replies};
-ghost use Rattle.merging.specs.Merged.{IsMergeText};
-ghost use Rattle.merging.specs.Writing.{AreValued, IsTextBy, times_by};
+ghost use Rattle.replies.specs.Merged.{IsMergeText};
+ghost use Rattle.replies.specs.Writing.{AreValued, IsTextBy, times_by};
 
 use crate::keys::keys_of;
 use crate::lines::write_ordered;
 use decl::Decl;
 use earliest::Earliest;
-use engine::Solver;
+use solver::Solver;
 use ports::Sink;
 use problem::Listing;
 use queries::{Stop, write_contradiction};
 use report::merge_order;
-use solver::executions;
+use queries::executions;
 use std::alloc::Global;
 use traces::{Accepted, PlacedEvent, events};
 

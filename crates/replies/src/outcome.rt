@@ -2,12 +2,12 @@
 ghost use Rattle.std.specs.Prelude.{◌≡◌, ◌≤◌, ◌+◌, ◌∷◌, [], ◌++◌, ℕ, List, length};
 ghost use Rattle.atto.specs.Decimal.{decimal_of};
 ghost use Rattle.line_format.specs.Words.{words};
-ghost use Rattle.line_words.specs.Room.{HasRoom};
+ghost use Rattle.ports.specs.Room.{HasRoom};
 ghost use Rattle.replies.specs.Reply.{added_line, kept_line, state_word};
 ghost use Rattle.replies.specs.Outcomes.{outcome_line};
 
 use crate::refusal::Refusal;
-use line_words::line::{Line, first_word, push_decimal, push_word};
+use ports::fixed_line::{Line, first_word, push_decimal, push_word};
 
 /// What an addition changed.
 #[derive(Clone, Copy, Debug)]

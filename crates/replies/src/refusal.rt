@@ -2,13 +2,13 @@
 ghost use Rattle.std.specs.Prelude.{◌≡◌, ◌≤◌, ◌+◌, ◌++◌, ◌∷◌, [], ℕ, List, length};
 ghost use Rattle.atto.specs.Decimal.{decimal_of};
 ghost use Rattle.line_format.specs.Words.{words};
-ghost use Rattle.line_words.specs.Room.{HasRoom};
+ghost use Rattle.ports.specs.Room.{HasRoom};
 ghost use Rattle.ports.specs.Content.{Writes};
 ghost use Rattle.replies.specs.Refusals.{number_of, details, refusal_line, log_refusal, capture_refusal};
 
 use captures::CaptureError;
 use event_log::LogError;
-use line_words::line::{Line, first_word, push_decimal};
+use ports::fixed_line::{Line, first_word, push_decimal};
 use ports::{Failed, Sink, write_whole};
 
 /// Why a line changes nothing, in the order in which the causes are looked for.

@@ -5,22 +5,22 @@ use Rattle.std.proofs.lemmas.Bool.{cases_Bool, false≢true}
 use Rattle.std.proofs.lemmas.List.{length-map}
 use Rattle.std.proofs.lemmas.List.Sums.{sum_by-cons}
 use Rattle.decl.specs.Declaration.{Declaration}
-use Rattle.trace_event.specs.declared.event.NoKey.{NoKey}
-use Rattle.trace_event.specs.declared.event.NoKey.TheVariants as without
-use Rattle.trace_event.specs.declared.event.Side.{Side}
-use Rattle.trace_event.specs.declared.event.Side.TheVariants.{Send, Receive}
-use Rattle.trace_event.specs.Seen.{EventKey, Seen, SeenMark, Keyed, Unkeyed, is_same_key, is_same_side}
-use Rattle.traces.specs.declared.event.EventId.{EventId}
+use Rattle.traces.specs.declared.event.NoKey.{NoKey}
+use Rattle.traces.specs.declared.event.NoKey.TheVariants as without
+use Rattle.traces.specs.declared.event.Side.{Side}
+use Rattle.traces.specs.declared.event.Side.TheVariants.{Send, Receive}
+use Rattle.traces.specs.Seen.{EventKey, Seen, SeenMark, Keyed, Unkeyed, is_same_key, is_same_side}
+use Rattle.traces.specs.declared.event_id.EventId.{EventId}
 use Rattle.traces.specs.Traces.{Placed, events_of, name_of}
 use Rattle.msg_match.specs.declared.change.Tallies.{Tallies}
 use Rattle.msg_match.specs.Groups.{SeenGroup, SeenItem, are_ambiguous, each_once, events_with, group_of, groups_of, is_ambiguous, is_matched, is_unmatched, size_of}
 use Rattle.msg_match.specs.Parts.{total_of}
 use Rattle.msg_match.proofs.Counting.{sums_are, totals_are}
-use Rattle.event_match.specs.Ends.{End, end_of, ends_of}
-use Rattle.event_match.specs.Ambiguous.{ambiguous_ends, end_group, is_ambiguous_key, names_with, tallies_of, unnumbered}
-use Rattle.trace_report.specs.Reports.{count_without, lacks_key, named_key, nokeys_of, report_of}
-use Rattle.trace_report.specs.Counts.{AddUp, all_without, listed}
-use Rattle.trace_report.proofs.Matched.{items_in, messages_many}
+use Rattle.msg_match.specs.Ends.{End, end_of, ends_of}
+use Rattle.msg_match.specs.Ambiguous.{ambiguous_ends, end_group, is_ambiguous_key, names_with, tallies_of, unnumbered}
+use Rattle.report.specs.Reports.{count_without, lacks_key, named_key, nokeys_of, report_of}
+use Rattle.report.specs.Counts.{AddUp, all_without, listed}
+use Rattle.report.proofs.Matched.{items_in, messages_many}
 
 -- ---- events with and without keys
 abbrev lacks : NoKey → SeenMark → ℕ

@@ -16,7 +16,7 @@ use Rattle.line_format.specs.Words.{words}
 use Rattle.ip_headers.specs.Keys.{KeyFields}
 use Rattle.wide_headers.specs.Keys.{WideFields}
 use Rattle.event_log.specs.Texts.{IsWordKey}
-use Rattle.trace_report.specs.KeyTexts.{dotted, endpoint, four_groups, groups, hex_digit, payload_word, quad, tcp_words, udp_words, wide_endpoint, wide_tcp_words, wide_udp_words}
+use Rattle.report.specs.KeyTexts.{dotted, endpoint, four_groups, groups, hex_digit, payload_word, quad, tcp_words, udp_words, wide_endpoint, wide_tcp_words, wide_udp_words}
 
 -- ---- by a test
 abbrev all_low : List ℕ → Bool

@@ -5,7 +5,7 @@ use Rattle.atto.specs.Decimal.{decimal_of}
 use Rattle.line_format.specs.Words.{words}
 use Rattle.ip_headers.specs.Keys.{KeyFields}
 use Rattle.wide_headers.specs.Keys.{WideFields}
-use Rattle.trace_report.specs.KeyTexts.{endpoint, payload_word, tcp_words, udp_words, wide_endpoint, wide_tcp_words, wide_udp_words}
+use Rattle.report.specs.KeyTexts.{endpoint, payload_word, tcp_words, udp_words, wide_endpoint, wide_tcp_words, wide_udp_words}
 
 -- the words of packets
 pub udp_is : (k : KeyFields) (text payload : List ℕ) (id size : ℕ) → id ≡ k.id → size ≡ k.length → payload ≡ k.payload

@@ -4,14 +4,14 @@ use Rattle.std.specs.Prelude.{sum_by}
 use Rattle.std.proofs.lemmas.Bool.{cases_Bool}
 use Rattle.std.proofs.lemmas.List.{get_or-map, length-map}
 use Rattle.std.proofs.lemmas.List.Sums.{count_by-le-length, count_by_more_no, count_by_more_yes, get_or-le-sum_by, sum_by-append, sum_by-cons, sum_by_more, sum_by_more_le_part}
-use Rattle.trace_event.specs.declared.event.Event.{Event}
-use Rattle.trace_event.specs.declared.event.NoKey.{NoKey}
-use Rattle.trace_event.specs.Seen.{Seen, mark_of, seen_event, seen_events}
+use Rattle.traces.specs.declared.event.Event.{Event}
+use Rattle.traces.specs.declared.event.NoKey.{NoKey}
+use Rattle.traces.specs.Seen.{Seen, mark_of, seen_event, seen_events}
 use Rattle.traces.specs.declared.accepted.Accepted.{Accepted}
 use Rattle.traces.specs.Traces.{Placed, event_count, events_from, events_of, numbered}
 use Rattle.traces.specs.Held.{seen_in}
-use Rattle.trace_report.specs.Reports.{count_without, lacks_key}
-use Rattle.trace_report.specs.Inside.{lacking}
+use Rattle.report.specs.Reports.{count_without, lacks_key}
+use Rattle.report.specs.Inside.{lacking}
 
 -- ---- one label
 -- the count with the event at a place is one more where it lacks a key for this reason

@@ -3,18 +3,18 @@ use Rattle.std.proofs.Common.{◌≡◌, ◌<◌, ℕ, List, [], ◌∷◌, leng
 use Rattle.std.specs.Prelude.{filter}
 use Rattle.std.proofs.lemmas.List.Elements.{All-append, All-cons, All-filter, All-head, All-map, All-nil, All-tail}
 use Rattle.decl.specs.Declaration.{Declaration}
-use Rattle.trace_event.specs.declared.event.Side.{Side}
-use Rattle.trace_event.specs.declared.event.Side.TheVariants.{Send, Receive}
-use Rattle.trace_event.specs.Seen.{EventKey, Seen, SeenMark, Keyed, Unkeyed}
-use Rattle.traces.specs.declared.event.EventId.{EventId}
+use Rattle.traces.specs.declared.event.Side.{Side}
+use Rattle.traces.specs.declared.event.Side.TheVariants.{Send, Receive}
+use Rattle.traces.specs.Seen.{EventKey, Seen, SeenMark, Keyed, Unkeyed}
+use Rattle.traces.specs.declared.event_id.EventId.{EventId}
 use Rattle.traces.specs.Traces.{Placed, events_of}
 use Rattle.traces.proofs.Ids.{ids_within}
 use Rattle.msg_match.specs.Groups.{SeenItem}
 use Rattle.msg_match.specs.Messages.{tallies}
-use Rattle.event_match.specs.Ends.{AreEndsBy, End, end_at, end_of, ends_of, name_at}
-use Rattle.event_match.specs.Ambiguous.{ambiguous_ends, ambiguous_keys, end_group, is_end, tallies_of}
-use Rattle.event_match.proofs.ByNumber.{tallies_by, tallies_of_moved}
-use Rattle.trace_report.specs.Inside.{AreLabelled, HasLabels}
+use Rattle.msg_match.specs.Ends.{AreEndsBy, End, end_at, end_of, ends_of, name_at}
+use Rattle.msg_match.specs.Ambiguous.{ambiguous_ends, ambiguous_keys, end_group, is_end, tallies_of}
+use Rattle.msg_match.proofs.ByNumber.{tallies_by, tallies_of_moved}
+use Rattle.report.specs.Inside.{AreLabelled, HasLabels}
 
 -- ---- counts
 -- those of the events by number, in whatever order they came

@@ -4,19 +4,19 @@ use Rattle.std.proofs.lemmas.List.{length-map}
 use Rattle.std.specs.Prelude.{filter, is_some}
 use Rattle.std.specs.List.{flat_map}
 use Rattle.std.proofs.lemmas.Bool.{cases_Bool}
-use Rattle.trace_event.specs.declared.event.Side.{Side}
-use Rattle.trace_event.specs.declared.event.Side.TheVariants.{Send, Receive}
-use Rattle.trace_event.specs.Seen.{EventKey, SeenMark, Keyed, Unkeyed, is_mark}
-use Rattle.traces.specs.declared.event.EventId.{EventId}
+use Rattle.traces.specs.declared.event.Side.{Side}
+use Rattle.traces.specs.declared.event.Side.TheVariants.{Send, Receive}
+use Rattle.traces.specs.Seen.{EventKey, SeenMark, Keyed, Unkeyed, is_mark}
+use Rattle.traces.specs.declared.event_id.EventId.{EventId}
 use Rattle.traces.specs.Traces.{Placed}
 use Rattle.traces.specs.Messages as traces
 use Rattle.traces.specs.Messages.{messages_of, sent_by, with_mark}
 use Rattle.msg_match.specs.Groups as groups
 use Rattle.msg_match.specs.Groups.{SeenItem, events_with, has_mark}
 use Rattle.msg_match.specs.Messages.{sends_message}
-use Rattle.event_match.specs.Ends.{End, end_of, ends_of}
-use Rattle.event_match.specs.Ambiguous.{tallies_of, unnumbered}
-use Rattle.event_match.proofs.ByNumber.{is_one, told_alone}
+use Rattle.msg_match.specs.Ends.{End, end_of, ends_of}
+use Rattle.msg_match.specs.Ambiguous.{tallies_of, unnumbered}
+use Rattle.msg_match.proofs.ByNumber.{is_one, told_alone}
 
 -- ends as they are counted
 abbrev pub items_in : List End → List SeenItem

@@ -2,15 +2,15 @@
 use Rattle.std.proofs.Common.{◌-◌, ◌≡◌, ◌≤◌, ◌^◌, ℕ, List, length, map, Bool, refl, arith}
 use Rattle.std.specs.Prelude.{min}
 use Rattle.decl.specs.Declaration.{Declaration}
-use Rattle.trace_event.specs.Seen.{Seen}
+use Rattle.traces.specs.Seen.{Seen}
 use Rattle.traces.specs.Traces.{events_of, event_count}
 use Rattle.traces.specs.Messages.{messages_of}
 use Rattle.traces.proofs.Ids.{length_events}
-use Rattle.event_match.specs.Ends.{ends_of}
-use Rattle.event_match.specs.Ambiguous.{ambiguous_ends, tallies_of}
+use Rattle.msg_match.specs.Ends.{ends_of}
+use Rattle.msg_match.specs.Ambiguous.{ambiguous_ends, tallies_of}
 use Rattle.report.specs.declared.view.NoKeys.{NoKeys}
 use Rattle.report.specs.Report.{Reported, ReportedKey}
-use Rattle.trace_report.specs.Reports.{named_key, nokeys_of, report_of}
+use Rattle.report.specs.Reports.{named_key, nokeys_of, report_of}
 
 -- a report of these parts
 abbrev pub made : ℕ → ℕ → ℕ → Bool → NoKeys → List ReportedKey → Reported

@@ -1,7 +1,7 @@
 -- The texts of four keys, worked out.
 use Rattle.std.proofs.Common.{◌≡◌, [], ◌∷◌, codes, refl}
-use Rattle.trace_event.specs.Seen.{Packet, Wide, Word}
-use Rattle.trace_report.specs.KeyTexts.{key_text}
+use Rattle.traces.specs.Seen.{Packet, Wide, Word}
+use Rattle.report.specs.KeyTexts.{key_text}
 
 worked_log : key_text (Word (codes "m1")) ≡ codes "log m1"
 worked_log = refl

@@ -1,13 +1,13 @@
 -- What the parts of a report promise each other.
 use Rattle.std.specs.Prelude.{ℕ, ◌<◌, List, length, map, count_by, All}
 use Rattle.decl.specs.Declaration.{Declaration}
-use Rattle.trace_event.specs.declared.event.NoKey.{NoKey}
-use Rattle.trace_event.specs.Seen.{Seen, key_of}
-use Rattle.traces.specs.declared.event.EventId.{EventId}
+use Rattle.traces.specs.declared.event.NoKey.{NoKey}
+use Rattle.traces.specs.Seen.{Seen, key_of}
+use Rattle.traces.specs.declared.event_id.EventId.{EventId}
 use Rattle.roster.specs.Roster.{RosterLists, id_of}
-use Rattle.event_match.specs.Ambiguous.{EndGroup}
-use Rattle.trace_report.specs.declared.ambiguous.Ambiguous.{Ambiguous}
-use Rattle.trace_report.specs.Reports.{lacks_key}
+use Rattle.msg_match.specs.Ambiguous.{EndGroup}
+use Rattle.report.specs.declared.ambiguous.Ambiguous.{Ambiguous}
+use Rattle.report.specs.Reports.{lacks_key}
 
 -- the names of all events, as they came
 abbrev pub ids_in : RosterLists → List EventId

@@ -5,7 +5,7 @@ use Rattle.atto.specs.Decimal.{decimal_of}
 use Rattle.line_format.specs.Words.{words}
 use Rattle.ip_headers.specs.Keys.{KeyFields}
 use Rattle.wide_headers.specs.Keys.{WideFields}
-use Rattle.trace_event.specs.Seen.{EventKey, Packet, Wide, Word}
+use Rattle.traces.specs.Seen.{EventKey, Packet, Wide, Word}
 
 -- an IPv4 address of 32 bits: its four bytes as decimals, with dots between
 abbrev pub dotted : ℕ → List ℕ

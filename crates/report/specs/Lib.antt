@@ -1,2 +1,6 @@
 pub mod Report
 pub mod Merging
+pub mod KeyTexts
+pub mod Reports
+pub mod Counts
+pub mod Inside

@@ -1,16 +1,16 @@
 -- What is reported of the events of all labels.
 use Rattle.std.specs.Prelude.{ℕ, List, length, map, count_by, Bool, true, false}
 use Rattle.decl.specs.Declaration.{Declaration}
-use Rattle.trace_event.specs.declared.event.NoKey.{NoKey}
-use Rattle.trace_event.specs.declared.event.NoKey.TheVariants as without
-use Rattle.trace_event.specs.Seen.{SeenMark, Keyed, Unkeyed, Seen}
+use Rattle.traces.specs.declared.event.NoKey.{NoKey}
+use Rattle.traces.specs.declared.event.NoKey.TheVariants as without
+use Rattle.traces.specs.Seen.{SeenMark, Keyed, Unkeyed, Seen}
 use Rattle.traces.specs.Traces.{Placed, events_of, name_of}
 use Rattle.traces.specs.Messages.{messages_of}
-use Rattle.event_match.specs.Ends.{ends_of}
-use Rattle.event_match.specs.Ambiguous.{EndGroup, ambiguous_ends, tallies_of}
+use Rattle.msg_match.specs.Ends.{ends_of}
+use Rattle.msg_match.specs.Ambiguous.{EndGroup, ambiguous_ends, tallies_of}
 use Rattle.report.specs.declared.view.NoKeys.{NoKeys}
 use Rattle.report.specs.Report.{Reported, ReportedKey, report_line}
-use Rattle.trace_report.specs.KeyTexts.{key_text}
+use Rattle.report.specs.KeyTexts.{key_text}
 
 -- ---- events with keys
 -- a key by its text, and the names of its events

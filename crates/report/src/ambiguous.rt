@@ -1,22 +1,22 @@
 // The ambiguous keys, with the names of their events.
 ghost use Rattle.std.specs.Prelude.{◌≡◌, ◌<◌, ◌++◌, ◌∷◌, [], List, All, AllPairs, length, map, true, IfOk, OnOk};
 ghost use Rattle.std.specs.List.Sorted.{IsPermutation};
-ghost use Rattle.trace_event.specs.Seen.{Seen};
+ghost use Rattle.traces.specs.Seen.{Seen};
 ghost use Rattle.msg_match.specs.Groups.{SeenItem, is_ambiguous};
 ghost use Rattle.msg_match.specs.Held.{seen_group, seen_groups};
 ghost use Rattle.msg_match.specs.Parts.{keys_in};
-ghost use Rattle.traces.specs.declared.event.EventId as names;
+ghost use Rattle.traces.specs.declared.event_id.EventId as names;
 ghost use Rattle.traces.specs.Pairs.{ComesBefore};
 ghost use Rattle.traces.specs.Traces.{events_of};
-ghost use Rattle.event_match.specs.Ends.{AreEndsBy, End, ends_of, name_at};
-ghost use Rattle.event_match.specs.Ambiguous.{EndGroup, ambiguous_ends};
-ghost use Rattle.event_match.specs.Inside.{AreInOrder, AreRising, HasEventsOf, IsWithin, earlier, led_group, led_groups};
-ghost use Rattle.trace_report.specs.Inside.{ids_in, led, seen_ambiguous};
+ghost use Rattle.msg_match.specs.Ends.{AreEndsBy, End, ends_of, name_at};
+ghost use Rattle.msg_match.specs.Ambiguous.{EndGroup, ambiguous_ends};
+ghost use Rattle.msg_match.specs.EndsInside.{AreInOrder, AreRising, HasEventsOf, IsWithin, earlier, led_group, led_groups};
+ghost use Rattle.report.specs.Inside.{ids_in, led, seen_ambiguous};
 
 use msg_match::{Group, Matcher};
 use roster::Roster;
 use std::alloc::{AllocError, Global};
-use trace_event::Key;
+use traces::Key;
 use traces::EventId;
 
 /// An ambiguous key, with its events: it has sends and receives, and two of the ones or the others at least.

@@ -3,14 +3,14 @@ ghost use Rattle.std.specs.Prelude.{◌≡◌, map, All, IfOk};
 ghost use Rattle.decl.specs.Declaration.{HasLawfulLabels, declaration_of};
 ghost use Rattle.traces.specs.Traces.{name_of};
 ghost use Rattle.report.specs.Report.{HasAsciiKey, reported_key};
-ghost use Rattle.trace_report.specs.Reports.{named_key};
-ghost use Rattle.trace_report.specs.Inside.{AreLabelled, HasLabels, seen_ambiguous};
+ghost use Rattle.report.specs.Reports.{named_key};
+ghost use Rattle.report.specs.Inside.{AreLabelled, HasLabels, seen_ambiguous};
 
 use crate::ambiguous::Ambiguous;
 use crate::texts::key_text;
 use decl::Decl;
 use problem_model::Name;
-use report::NamedGroup;
+use crate::NamedGroup;
 use std::alloc::{AllocError, Global};
 use traces::{EventId, name_of};
 

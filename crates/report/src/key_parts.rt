@@ -2,7 +2,7 @@
 ghost use Rattle.std.specs.Prelude.{◌≡◌, ◌<◌, ◌/◌, ◌%◌, ◌++◌, ◌∷◌, [], OnOk};
 ghost use Rattle.std.specs.Str.{IsAscii};
 ghost use Rattle.atto.specs.Decimal.{decimal_of};
-ghost use Rattle.trace_report.specs.KeyTexts.{dotted, endpoint, four_groups, groups, hex, hex_digit, payload_word, quad, wide_endpoint};
+ghost use Rattle.report.specs.KeyTexts.{dotted, endpoint, four_groups, groups, hex, hex_digit, payload_word, quad, wide_endpoint};
 
 use atto::{NsText, write_decimal};
 use std::alloc::AllocError;

@@ -1,9 +1,9 @@
 // What is true of all reports.
 ghost use Rattle.std.specs.Prelude.{List, Bool};
 ghost use Rattle.decl.specs.Declaration.{Declaration};
-ghost use Rattle.trace_event.specs.Seen.{Seen};
-ghost use Rattle.trace_report.specs.Reports.{report_of};
-ghost use Rattle.trace_report.specs.Counts.{AddUp};
+ghost use Rattle.traces.specs.Seen.{Seen};
+ghost use Rattle.report.specs.Reports.{report_of};
+ghost use Rattle.report.specs.Counts.{AddUp};
 
 /// A law, which does nothing when it runs: each event is counted once. It is one of the two ends of a message, or it is
 /// unmatched, or it is listed with an ambiguous key, or it has no key for one of the reasons.

@@ -3,13 +3,27 @@
 //!
 //! A report has no space between its parts, and an object's keys stand in byte order. What it is made of comes in as a
 //! `View`, so nothing here knows of sessions or of how messages are found.
+//!
+//! Reports on the events of all labels: how many have no key, and which keys are ambiguous, with the texts of keys and the
+//! names of events.
 #![tactic(auto)]
 
+mod ambiguous;
+mod key_names;
+mod key_parts;
+mod laws;
 mod line;
 mod merge;
+mod nokey_counts;
+mod texts;
+mod trace_view;
 mod values;
 mod view;
+mod wide_texts;
 
+pub use laws::counts_add_up;
 pub use line::report_line;
 pub use merge::{MergeKey, merge_order, write_merge_line};
+pub use texts::key_text;
+pub use trace_view::view_of;
 pub use view::{NamedGroup, NoKeys, View};

@@ -7,7 +7,7 @@ ghost use Rattle.ports.specs.Content.{Writes};
 ghost use Rattle.report.specs.Merging.{AreApart, IsMergeOrder, merge_line};
 
 use atto::{NsText, write_ns};
-use line_words::line::{Line, first_word, push_word};
+use ports::fixed_line::{Line, first_word, push_word};
 use ports::{Failed, Sink, write_whole};
 use problem_model::Name;
 use std::alloc::{AllocError, Global};

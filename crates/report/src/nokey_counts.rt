@@ -1,13 +1,13 @@
 // How many events have no key.
 ghost use Rattle.std.specs.Prelude.{◌≡◌, ◌≤◌, ◌^◌, length};
-ghost use Rattle.trace_event.specs.Seen.{mark_of, seen_events};
+ghost use Rattle.traces.specs.Seen.{mark_of, seen_events};
 ghost use Rattle.traces.specs.Traces.{event_count, events_of};
 ghost use Rattle.traces.specs.Held.{seen_in};
-ghost use Rattle.trace_report.specs.Reports.{count_without, is_reason, lacks_key, nokeys_of};
-ghost use Rattle.trace_report.specs.Inside.{lacking};
+ghost use Rattle.report.specs.Reports.{count_without, is_reason, lacks_key, nokeys_of};
+ghost use Rattle.report.specs.Inside.{lacking};
 
-use report::NoKeys;
-use trace_event::{Event, Mark, NoKey};
+use crate::NoKeys;
+use traces::{Event, Mark, NoKey};
 use traces::Accepted;
 
 // Whether it is the same reason.

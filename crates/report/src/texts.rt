@@ -4,16 +4,16 @@ ghost use Rattle.std.specs.Str.{IsAscii};
 ghost use Rattle.atto.specs.Decimal.{decimal_of};
 ghost use Rattle.line_format.specs.Words.{words};
 ghost use Rattle.ip_headers.specs.Keys.{fields_of};
-ghost use Rattle.trace_event.specs.Seen.{key_of, Packet, Word};
-ghost use Rattle.trace_report.specs.KeyTexts.{endpoint, key_text, payload_word, tcp_words, udp_words};
+ghost use Rattle.traces.specs.Seen.{key_of, Packet, Word};
+ghost use Rattle.report.specs.KeyTexts.{endpoint, key_text, payload_word, tcp_words, udp_words};
 
-use crate::spelling::{push_decimal, push_endpoint, push_payload};
+use crate::key_parts::{push_decimal, push_endpoint, push_payload};
 use crate::wide_texts::wide_text;
 use event_log::WordKey;
 use ip_headers::PacketKey;
-use line_words::push_word;
+use ports::push_word;
 use std::alloc::{AllocError, Global};
-use trace_event::Key;
+use traces::Key;
 
 // The number of TCP among the protocols over IP (RFC 9293).
 pub(crate) const TCP: u8 = 6;

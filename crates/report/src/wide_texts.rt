@@ -2,11 +2,11 @@
 ghost use Rattle.std.specs.Prelude.{◌≡◌, ◌∷◌, [], ◌++◌, ℕ, List, OnOk, IfOk};
 ghost use Rattle.std.specs.Str.{IsAscii};
 ghost use Rattle.line_format.specs.Words.{words};
-ghost use Rattle.trace_event.specs.Seen.{Wide};
-ghost use Rattle.trace_report.specs.KeyTexts.{key_text, wide_endpoint, wide_tcp_words, wide_udp_words};
+ghost use Rattle.traces.specs.Seen.{Wide};
+ghost use Rattle.report.specs.KeyTexts.{key_text, wide_endpoint, wide_tcp_words, wide_udp_words};
 ghost use Rattle.wide_headers.specs.Keys.{fields_of};
 
-use crate::spelling::push_wide_endpoint;
+use crate::key_parts::push_wide_endpoint;
 use crate::texts::{TCP, push_bytes, push_field};
 use std::alloc::{AllocError, Global};
 use wide_headers::WideKey;

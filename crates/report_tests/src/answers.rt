@@ -1,17 +1,17 @@
 ghost use Rattle.std.specs.Prelude.{◌≡◌, ◌<◌, ◌≤◌, None, IfSome};
 ghost use Rattle.problem.specs.Listing.{listing_of};
-ghost use Rattle.sync_graph.specs.ListedStanding.{IsEventAt};
+ghost use Rattle.problem_graph.specs.ListedStanding.{IsEventAt};
 ghost use Rattle.row_pool.specs.Pool.{free_rows};
-ghost use Rattle.solver.specs.Moved0.{IsSolution};
+ghost use Rattle.solver.specs.Solution.{IsSolution};
 ghost use Rattle.queries.specs.Asking.{IsReadingAt};
 
 use crate::fixtures::CYCLE;
 use atto::{Nano, Steps};
-use engine::Solver;
+use solver::Solver;
 use ports::{Failed, MemSink};
 use problem::{Listing, Problem, read_problem};
 use queries::{is_consistent, write_interval, write_order, write_proof, write_time};
-use solving::solve;
+use problem_solver::solve;
 use std::alloc::Global;
 use std::marker::Brand;
 use std::sync::ledger::{Blank, Ledger};

@@ -2,7 +2,7 @@
 ghost use Rattle.std.specs.Prelude.{◌≤◌, IfOk};
 ghost use Rattle.decl.specs.Declaration.{IsDeclaration, declaration_of};
 ghost use Rattle.traces.specs.Held.{seen_in};
-ghost use Rattle.plain_traces.specs.Added.{AreAdded};
+ghost use Rattle.reference_traces.specs.Added.{AreAdded};
 
 use crate::fixtures::{EMPTY_REPORT, declared, events_of_log};
 use arrayvec::ArrayVec;
@@ -11,12 +11,12 @@ use captures::Packet;
 use decl::Decl;
 use event_log::WordKey;
 use ip_headers::PacketKey;
-use plain_traces::Additions;
+use reference_traces::Additions;
 use report::report_line;
 use std::alloc::{AllocError, Global};
 use std::test::*;
-use trace_event::{Event, Key, packet_events};
-use trace_report::{key_text, view_of};
+use traces::{Event, Key, packet_events};
+use report::{key_text, view_of};
 use traces::event_count;
 use wide_headers::WideKey;
 

@@ -6,7 +6,7 @@ use Rattle.std.proofs.lemmas.List.{get_or_past}
 use Rattle.std.proofs.lemmas.Option.{none-some, slice_get_within, get_or_from_slice_get}
 use Rattle.traces.proofs.Lists.{place_in}
 use Rattle.roster.specs.Readings.{Stamped, Rise, IsLastUnder, IsFirstOver, IsFirstStamp, IsLastStamp}
-use Rattle.traces.specs.declared.event.EventId.{EventId}
+use Rattle.traces.specs.declared.event_id.EventId.{EventId}
 use Rattle.roster.specs.Groups.{group_at}
 use Rattle.roster.specs.Roster.{IsUnder}
 use Rattle.roster.proofs.Telling.{among}

@@ -16,13 +16,13 @@ use Rattle.problem_model.specs.Bounds.{Constraint, Declares, EventAt, ClockAt, I
 use Rattle.problem_model.specs.Nodes.{Reading}
 use Rattle.problem.specs.Listing.{Listed, name_at}
 use Rattle.problem.proofs.ListedNodes.{map_at}
-use Rattle.sync_graph.specs.ListedProblem.{IsListedBy, StandsAt, IsCarried}
+use Rattle.problem_graph.specs.ListedProblem.{IsListedBy, StandsAt, IsCarried}
 use Rattle.traces.proofs.Lists.{got}
-use Rattle.growth.specs.Entered.{IsReadingOf, AreNeighbours, AreLinked, IsDue, all_events}
-use Rattle.growth.specs.ByNumber.{IsByNumber, IsCarriedMessage}
-use Rattle.growth.proofs.Leading.{follow_over, after_over}
-use Rattle.growth.proofs.DueShort.{read_all, all_read}
-use Rattle.growth.proofs.Counting.{one_place}
+use Rattle.roster.specs.Entered.{IsReadingOf, AreNeighbours, AreLinked, IsDue, all_events}
+use Rattle.roster.specs.ByNumber.{IsByNumber, IsCarriedMessage}
+use Rattle.roster.proofs.Leading.{follow_over, after_over}
+use Rattle.roster.proofs.DueShort.{read_all, all_read}
+use Rattle.roster.proofs.Counting.{one_place}
 
 -- the same node, with events by number and by place
 abbrev pub SameNode : Listed → Node → Node → Type 0

@@ -16,7 +16,7 @@ use Rattle.problem_model.specs.Nodes.{Reading, AreReadings, ComesBefore}
 use Rattle.problem_model.specs.ShortList.{short_list, neighbour_bounds, span_bounds, event_bounds, clocks_before, first_reading, nearest_reading, follow_bound, follow_bounds, most_bound, message_bounds}
 use Rattle.problem_model.proofs.NearestFollows.{Joins, follows_are}
 use Rattle.traces.proofs.Members.{here, there, head_or_tail, first_of_pairs, rest_of_pairs}
-use Rattle.growth.specs.Entered.{IsReadingOf, AreNeighbours, AreLinked, IsDue, all_events}
+use Rattle.roster.specs.Entered.{IsReadingOf, AreNeighbours, AreLinked, IsDue, all_events}
 
 pub read_all : (q : ProblemLists) (clock stamp : ℕ) → IsReading q clock stamp → IsReadingOf q all_events clock stamp
 read_all q clock stamp (e, (k, inside, is), on, same) = (k, e, (slice_get_read q.events (length q.events) k e refl inside (sym is), refl), on, same)

@@ -18,12 +18,12 @@ use Rattle.problem_model.proofs.NearestFollows.{rises_after}
 use Rattle.sync_graph.specs.declared.arc.Arc.{Arc}
 use Rattle.sync_graph.specs.Graph.{GraphLists, arc_at}
 use Rattle.sync_graph.specs.InForce.{IsInForce}
-use Rattle.sync_graph.specs.Standing.{HasNode}
+use Rattle.problem_graph.specs.Standing.{HasNode}
 use Rattle.traces.proofs.Members.{here, there, none_in, given_by}
-use Rattle.growth.specs.Entered.{IsReadingOf, IsNodeOf, AreNeighbours, AreLinked, IsMessageOf, IsDue, and_event}
-use Rattle.growth.specs.Growing.{IsGrowing, IsGrownTo}
-use Rattle.growth.specs.Entering.{Enters, AreMessagesOf, AreNearest, IsStampBelow, IsStampAbove, span_below, span_above, follow_before, follow_after, reading_bounds, entry_bounds}
-use Rattle.growth.proofs.Linked.{linked_were, earlier_is, later_is}
+use Rattle.roster.specs.Entered.{IsReadingOf, IsNodeOf, AreNeighbours, AreLinked, IsMessageOf, IsDue, and_event}
+use Rattle.roster.specs.Growing.{IsGrowing, IsGrownTo}
+use Rattle.roster.specs.Entering.{Enters, AreMessagesOf, AreNearest, IsStampBelow, IsStampAbove, span_below, span_above, follow_before, follow_after, reading_bounds, entry_bounds}
+use Rattle.roster.proofs.Linked.{linked_were, earlier_is, later_is}
 
 -- ---- what has entered
 or_right : (a b : Bool) → b ≡ true → (a || b) ≡ true

@@ -12,7 +12,7 @@ use Rattle.atto.proofs.OneSpelling.{decimal_of_injective}
 use Rattle.problem_model.specs.Name.{is_clock_byte, IsClockName}
 use Rattle.decl.specs.declared.items.Label.{Label}
 use Rattle.decl.specs.Declaration.{Declaration, IsDeclaration}
-use Rattle.traces.specs.declared.event.EventId.{EventId}
+use Rattle.traces.specs.declared.event_id.EventId.{EventId}
 use Rattle.traces.specs.Traces.{name_of}
 use Rattle.traces.proofs.Lists.{got, all_at}
 use Rattle.traces.proofs.Names.{one_place, name_at}

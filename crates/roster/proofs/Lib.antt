@@ -14,3 +14,15 @@ pub mod Telling
 pub mod Beside
 pub mod Starting
 pub mod ListedPlaces
+pub mod PushedBounds
+pub mod Leading
+pub mod Withdrawn
+pub mod Linked
+pub mod Entry
+pub mod DueShort
+pub mod Counting
+pub mod Carrying
+pub mod Whole
+pub mod Rosters
+pub mod Once
+pub mod Loop

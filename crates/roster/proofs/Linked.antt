@@ -5,9 +5,9 @@ use Rattle.problem_model.specs.Problem.{ProblemLists, IsChained}
 use Rattle.problem_model.specs.Bounds.{ComesAfter}
 use Rattle.problem_model.proofs.NearestFollows.{rises_after}
 use Rattle.sync_graph.specs.Graph.{GraphLists}
-use Rattle.sync_graph.specs.Standing.{HasNode}
-use Rattle.growth.specs.Entered.{IsReadingOf, AreLinked}
-use Rattle.growth.specs.Entering.{IsStampBelow, IsStampAbove, IsFirstNode, IsLastNode, IsReadingBefore, IsReadingAfter, IsEarlierEnd, IsLaterEnd}
+use Rattle.problem_graph.specs.Standing.{HasNode}
+use Rattle.roster.specs.Entered.{IsReadingOf, AreLinked}
+use Rattle.roster.specs.Entering.{IsStampBelow, IsStampAbove, IsFirstNode, IsLastNode, IsReadingBefore, IsReadingAfter, IsEarlierEnd, IsLaterEnd}
 
 -- a clock does not come before one that it comes after, nor is it that one
 one_way : (p : ProblemLists) → IsChained p → (b c : ℕ) → ComesAfter p b c → (c ≡ b) ⊎ ComesAfter p c b → ⊥

@@ -13,13 +13,13 @@ use Rattle.problem_model.specs.declared.items.Bound.TheVariants.{SpanMost, SpanL
 use Rattle.problem_model.specs.Problem.{ProblemLists}
 use Rattle.problem_model.specs.Bounds.{EventAt}
 use Rattle.sync_graph.specs.Graph.{GraphLists, no_graph, with_node}
-use Rattle.sync_graph.specs.Standing.{HasNode}
+use Rattle.problem_graph.specs.Standing.{HasNode}
 use Rattle.traces.proofs.Members.{none_in, no_pairs}
 use Rattle.roster.proofs.Pushing.{get_left, get_right, get_cases}
-use Rattle.growth.specs.Entered.{HasEntered, IsReadingOf, IsNodeOf, AreNeighbours, AreLinked, IsMessageOf, IsDue, all_events}
-use Rattle.growth.specs.Growing.{IsGrowing, IsGrownTo}
-use Rattle.growth.specs.Entering.{Enters}
-use Rattle.growth.specs.Once.{IsOn, HasEachOnce}
+use Rattle.roster.specs.Entered.{HasEntered, IsReadingOf, IsNodeOf, AreNeighbours, AreLinked, IsMessageOf, IsDue, all_events}
+use Rattle.roster.specs.Growing.{IsGrowing, IsGrownTo}
+use Rattle.roster.specs.Entering.{Enters}
+use Rattle.roster.specs.Once.{IsOn, HasEachOnce}
 
 -- ---- nothing yet
 none_on : (k : ℕ) → IsOn no_graph k → ⊥

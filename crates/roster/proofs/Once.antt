@@ -20,15 +20,15 @@ use Rattle.problem_model.proofs.NearestFollows.{rises_after}
 use Rattle.sync_graph.specs.declared.arc.Arc.{Arc}
 use Rattle.sync_graph.specs.Graph.{GraphLists, arc_at, with_arc}
 use Rattle.sync_graph.specs.InForce.{IsInForce}
-use Rattle.sync_graph.specs.Standing.{HasNode}
+use Rattle.problem_graph.specs.Standing.{HasNode}
 use Rattle.sync_graph.proofs.InForce.{no_arc}
 use Rattle.traces.proofs.Members.{here, there, none_in, first_of_pairs, rest_of_pairs, no_pairs, pairs_joined}
-use Rattle.growth.specs.Growing.{HasBound, IsGrownTo}
-use Rattle.growth.specs.Withdrawing.{Withdraws, IsDelayOf}
-use Rattle.growth.specs.Entering.{Enters, AreNearest, IsStampAbove, IsLaterEnd, span_below, span_above, follow_before, follow_after, reading_bounds, entry_bounds}
-use Rattle.growth.specs.Once.{IsOn, HasEachOnce, AreApart, TakesOut}
-use Rattle.growth.proofs.Pushed.{was}
-use Rattle.growth.proofs.Linked.{later_comes}
+use Rattle.roster.specs.Growing.{HasBound, IsGrownTo}
+use Rattle.roster.specs.Withdrawing.{Withdraws, IsDelayOf}
+use Rattle.roster.specs.Entering.{Enters, AreNearest, IsStampAbove, IsLaterEnd, span_below, span_above, follow_before, follow_after, reading_bounds, entry_bounds}
+use Rattle.roster.specs.Once.{IsOn, HasEachOnce, AreApart, TakesOut}
+use Rattle.roster.proofs.PushedBounds.{was}
+use Rattle.roster.proofs.Linked.{later_comes}
 
 -- ---- numbers that are taken out
 module _ (messages : List Message) (numbers : List ℕ) (g h : GraphLists) (takes : TakesOut messages numbers g h) (each : HasEachOnce [] g) where

@@ -10,13 +10,13 @@ use Rattle.problem_model.specs.Nodes.{Reading, AreReadings}
 use Rattle.problem_model.proofs.OneList.{readings_one}
 use Rattle.problem.specs.Listing.{name_at}
 use Rattle.decl.specs.Declaration.{Declaration}
-use Rattle.trace_event.specs.Seen.{Seen}
-use Rattle.traces.specs.declared.event.EventId.{EventId}
+use Rattle.traces.specs.Seen.{Seen}
+use Rattle.traces.specs.declared.event_id.EventId.{EventId}
 use Rattle.traces.specs.Traces.{Placed, numbered, events_from, events_of, name_of, clock_by, clock_of}
 use Rattle.traces.specs.Messages.{event_with, problem_of_seen}
 use Rattle.traces.proofs.Members.{here, there, head_or_tail, none_in}
 use Rattle.traces.proofs.Lists.{place_in}
-use Rattle.sync_graph.specs.ListedProblem.{IsListedBy}
+use Rattle.problem_graph.specs.ListedProblem.{IsListedBy}
 use Rattle.roster.specs.declared.came.Came.{Came}
 use Rattle.roster.specs.Groups.{group_at}
 use Rattle.roster.specs.Readings.{Stamped}

@@ -10,7 +10,7 @@ use Rattle.sync_graph.specs.Graph.{GraphLists, IsGraph, arc_at, with_arc}
 use Rattle.sync_graph.specs.InForce.{IsInForce}
 use Rattle.sync_graph.proofs.InForce.{no_arc}
 use Rattle.traces.proofs.Members.{head_or_tail}
-use Rattle.growth.specs.Growing.{IsGrowing, IsBoundOf}
+use Rattle.roster.specs.Growing.{IsGrowing, IsBoundOf}
 
 module _ (g : GraphLists) (a : Arc) (flags : length g.in_force ≡ length g.arcs) where
   in_force_inside : (j : ℕ) → get_or g.in_force j false ≡ true → j < length g.in_force

@@ -9,8 +9,8 @@ use Rattle.problem_model.specs.Bounds.{EventAt}
 use Rattle.problem.proofs.ListedNodes.{map_at}
 use Rattle.decl.specs.Declaration.{Declaration, follows_of}
 use Rattle.sync_graph.specs.Graph.{GraphLists}
-use Rattle.trace_event.specs.Seen.{Seen}
-use Rattle.traces.specs.declared.event.EventId.{EventId}
+use Rattle.traces.specs.Seen.{Seen}
+use Rattle.traces.specs.declared.event_id.EventId.{EventId}
 use Rattle.traces.specs.Traces.{numbered, events_from, name_of, clock_of}
 use Rattle.traces.specs.Messages.{event_with, problem_of_seen}
 use Rattle.traces.proofs.Members.{no_pairs, pairs_joined}
@@ -21,9 +21,9 @@ use Rattle.roster.specs.Readings.{Stamped}
 use Rattle.roster.specs.Roster.{RosterLists, id_of, no_event, event_at, IsRoster, IsGrown, Holds, came_from, in_turn, listed}
 use Rattle.roster.proofs.Turns.{map-in_turn, from_map, from_turn, into_turn}
 use Rattle.roster.proofs.Telling.{among}
-use Rattle.growth.specs.Withdrawing.{IsMore, AreMore}
-use Rattle.growth.specs.ByNumber.{IsByNumber, AreCarriedMessages, TellsNodes}
-use Rattle.growth.specs.Rosters.{named_event, problem_by_number, KnowsNodes}
+use Rattle.roster.specs.Withdrawing.{IsMore, AreMore}
+use Rattle.roster.specs.ByNumber.{IsByNumber, AreCarriedMessages, TellsNodes}
+use Rattle.roster.specs.Rosters.{named_event, problem_by_number, KnowsNodes}
 
 -- ---- numbers in their turn differ
 abbrev plain : ℕ → ℕ → ℕ

@@ -4,8 +4,8 @@ use Rattle.std.proofs.lemmas.Bool.{cases_eq}
 use Rattle.std.proofs.lemmas.List.{length-set, get_or-set_same, get_or-set_other}
 use Rattle.std.proofs.lemmas.Option.{none-some, same_Some, slice_get_within, get_or_from_slice_get}
 use Rattle.decl.specs.Declaration.{Declaration}
-use Rattle.trace_event.specs.Seen.{Seen}
-use Rattle.traces.specs.declared.event.EventId.{EventId}
+use Rattle.traces.specs.Seen.{Seen}
+use Rattle.traces.specs.declared.event_id.EventId.{EventId}
 use Rattle.traces.specs.Traces.{clock_of}
 use Rattle.traces.proofs.Lists.{place_in}
 use Rattle.roster.specs.declared.came.Came.{Came}

@@ -15,18 +15,18 @@ use Rattle.problem.proofs.ListedNodes.{event_node, reading_node, map_at, stamp_o
 use Rattle.sync_graph.specs.declared.arc.Arc.{Arc}
 use Rattle.sync_graph.specs.Graph.{GraphLists, IsGraph}
 use Rattle.sync_graph.specs.InForce.{IsInForce}
-use Rattle.sync_graph.specs.ListedProblem.{IsListedBy, IsCarried}
-use Rattle.sync_graph.specs.ListedStanding.{IsNodeBy, IsBoundBy, StandsForListed}
+use Rattle.problem_graph.specs.ListedProblem.{IsListedBy, IsCarried}
+use Rattle.problem_graph.specs.ListedStanding.{IsNodeBy, IsBoundBy, StandsForListed}
 use Rattle.traces.proofs.Lists.{got, place_in, pairs_map}
 use Rattle.traces.proofs.Members.{pairs_joined}
 use Rattle.roster.proofs.Turns.{into_map, from_map}
 use Rattle.roster.proofs.Telling.{among}
-use Rattle.growth.specs.Entered.{IsReadingOf, IsDue, all_events}
-use Rattle.growth.specs.Growing.{IsGrownTo, IsBoundOf}
-use Rattle.growth.specs.ByNumber.{IsByNumber, TellsNodes}
-use Rattle.growth.proofs.DueShort.{short_due, all_read}
-use Rattle.growth.proofs.Counting.{one_place, Tell, tell_append, tell_map, told_below, told_differ, told_many}
-use Rattle.growth.proofs.Carrying.{SameNode, events_many, read_by_place, due_by_number, carried, declares_there}
+use Rattle.roster.specs.Entered.{IsReadingOf, IsDue, all_events}
+use Rattle.roster.specs.Growing.{IsGrownTo, IsBoundOf}
+use Rattle.roster.specs.ByNumber.{IsByNumber, TellsNodes}
+use Rattle.roster.proofs.DueShort.{short_due, all_read}
+use Rattle.roster.proofs.Counting.{one_place, Tell, tell_append, tell_map, told_below, told_differ, told_many}
+use Rattle.roster.proofs.Carrying.{SameNode, events_many, read_by_place, due_by_number, carried, declares_there}
 
 -- the nodes that a listing lists, with events by number
 abbrev pub numbered_nodes : Listed → List Node

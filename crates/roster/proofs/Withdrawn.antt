@@ -16,10 +16,10 @@ use Rattle.problem_model.specs.Problem.{ProblemLists}
 use Rattle.problem_model.specs.Bounds.{Constraint, Declares, EventAt, ClockAt, IsReading}
 use Rattle.sync_graph.specs.Graph.{GraphLists}
 use Rattle.traces.proofs.Members.{none_in}
-use Rattle.growth.specs.Entered.{HasEntered, IsReadingOf, IsNodeOf, AreNeighbours, AreLinked, IsMessageOf, IsDue, all_events, events_below}
-use Rattle.growth.specs.Growing.{IsGrownTo}
-use Rattle.growth.specs.Withdrawing.{IsMore, IsDelayOf, Withdraws}
-use Rattle.growth.proofs.Leading.{follow_over, after_over}
+use Rattle.roster.specs.Entered.{HasEntered, IsReadingOf, IsNodeOf, AreNeighbours, AreLinked, IsMessageOf, IsDue, all_events, events_below}
+use Rattle.roster.specs.Growing.{IsGrownTo}
+use Rattle.roster.specs.Withdrawing.{IsMore, IsDelayOf, Withdraws}
+use Rattle.roster.proofs.Leading.{follow_over, after_over}
 
 front : {X : Type 0} (xs ys : List X) (k : ℕ) (x : X) → slice_get xs k ≡ Some x → slice_get (xs ++ ys) k ≡ Some x
 front [] ys k x at = absurd (none-some x at)

@@ -7,7 +7,7 @@ use Rattle.problem_model.specs.Problem.{ProblemLists}
 use Rattle.problem_model.specs.Bounds.{EventAt}
 use Rattle.problem.specs.Listing.{Listed}
 use Rattle.sync_graph.specs.Graph.{GraphLists}
-use Rattle.sync_graph.specs.ListedProblem.{StandsAt}
+use Rattle.problem_graph.specs.ListedProblem.{StandsAt}
 
 -- the first message, with its ends by number, is the second one, with its ends by place
 pub record IsCarriedMessage (l : Listed) (m n : Message) : Type 0 where

@@ -12,8 +12,8 @@ use Rattle.problem_model.specs.Problem.{ProblemLists}
 use Rattle.problem_model.specs.Bounds.{ComesAfter}
 use Rattle.problem_model.specs.ShortList.{message_bounds}
 use Rattle.sync_graph.specs.Graph.{GraphLists}
-use Rattle.sync_graph.specs.Standing.{HasNode}
-use Rattle.growth.specs.Entered.{IsMessageOf, and_event}
+use Rattle.problem_graph.specs.Standing.{HasNode}
+use Rattle.roster.specs.Entered.{IsMessageOf, and_event}
 
 -- the nodes of an event come, its own and that of its reading, where it is not there; arcs stay
 pub record Enters (v : ℕ) (e : Event) (g h : GraphLists) : Type 0 where

@@ -7,8 +7,8 @@ use Rattle.problem_model.specs.Bounds.{Constraint, Declares}
 use Rattle.sync_graph.specs.declared.arc.Arc.{Arc}
 use Rattle.sync_graph.specs.Graph.{GraphLists}
 use Rattle.sync_graph.specs.InForce.{IsInForce}
-use Rattle.sync_graph.specs.Standing.{HasNode}
-use Rattle.growth.specs.Entered.{IsNodeOf, IsDue}
+use Rattle.problem_graph.specs.Standing.{HasNode}
+use Rattle.roster.specs.Entered.{IsNodeOf, IsDue}
 
 -- the arc is the bound of its name: it joins the same nodes and weighs the same
 abbrev pub IsBoundOf : ProblemLists → GraphLists → Arc → Type 0

@@ -3,3 +3,11 @@ pub mod Sums
 pub mod Readings
 pub mod Roster
 pub mod Names
+pub mod Entered
+pub mod Growing
+pub mod Withdrawing
+pub mod Entering
+pub mod ByNumber
+pub mod Rosters
+pub mod Once
+pub mod Told

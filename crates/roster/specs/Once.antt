@@ -3,8 +3,8 @@ use Rattle.std.specs.Prelude.{◌≡◌, ◌≢◌, ℕ, true, false, ◌⊎◌,
 use Rattle.problem_model.specs.declared.items.Message.{Message}
 use Rattle.problem_model.specs.declared.items.Bound.{Bound}
 use Rattle.sync_graph.specs.Graph.{GraphLists, arc_at}
-use Rattle.growth.specs.Growing.{HasBound}
-use Rattle.growth.specs.Withdrawing.{IsDelayOf}
+use Rattle.roster.specs.Growing.{HasBound}
+use Rattle.roster.specs.Withdrawing.{IsDelayOf}
 
 -- this arc is in force
 abbrev pub IsOn : GraphLists → ℕ → Type 0

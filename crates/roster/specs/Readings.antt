@@ -1,7 +1,7 @@
 -- The readings of one clock: its stamps, each with the number of its node.
 use Rattle.std.specs.Prelude.{◌≡◌, ℕ, ◌+◌, ◌<◌, ◌≤◌, ◌⊎◌, List, Option, Some, None, map, length, All, AllPairs, Contains}
 use Rattle.problem_model.specs.Nodes.{ComesBefore}
-use Rattle.trace_event.specs.declared.event.Event.{Event}
+use Rattle.traces.specs.declared.event.Event.{Event}
 
 -- a stamp and the number of its node
 abbrev pub Stamped : Type 0

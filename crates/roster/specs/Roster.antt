@@ -4,8 +4,8 @@ use Rattle.std.specs.List.{range_with_len}
 use Rattle.problem_model.specs.declared.items.Clock.{Clock}
 use Rattle.problem.specs.Listing.{Listed}
 use Rattle.decl.specs.Declaration.{Declaration, IsDeclaration}
-use Rattle.trace_event.specs.Seen.{Seen}
-use Rattle.traces.specs.declared.event.EventId.{EventId}
+use Rattle.traces.specs.Seen.{Seen}
+use Rattle.traces.specs.declared.event_id.EventId.{EventId}
 use Rattle.traces.specs.Traces.{name_of, clock_of}
 use Rattle.roster.specs.declared.came.Came.{Came}
 use Rattle.roster.specs.Groups.{total, sizes_of, group_at, with_more}

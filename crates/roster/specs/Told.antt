@@ -2,16 +2,16 @@
 use Rattle.std.specs.Prelude.{◌≡◌, ℕ, ◌-◌, List, map, slice_get, slice_index_or, Some, Contains}
 use Rattle.problem_model.specs.declared.items.Message.{Message}
 use Rattle.decl.specs.Declaration.{link_bounds}
-use Rattle.trace_event.specs.Seen.{Seen}
-use Rattle.traces.specs.declared.event.EventId.{EventId}
-use Rattle.traces.specs.declared.event.Couple.{Couple}
+use Rattle.traces.specs.Seen.{Seen}
+use Rattle.traces.specs.declared.event_id.EventId.{EventId}
+use Rattle.traces.specs.declared.event_id.Couple.{Couple}
 use Rattle.traces.specs.Traces.{events_of, host_of}
 use Rattle.traces.specs.Messages.{messages_of}
 use Rattle.roster.specs.declared.came.Came.{Came}
 use Rattle.roster.specs.declared.came.Partner.{Partner}
 use Rattle.roster.specs.Groups.{group_at}
 use Rattle.roster.specs.Roster.{RosterLists}
-use Rattle.growth.specs.Withdrawing.{HasMessage}
+use Rattle.roster.specs.Withdrawing.{HasMessage}
 
 -- the number of the event that its label numbers so
 abbrev pub number_of : List (List ℕ) → EventId → ℕ

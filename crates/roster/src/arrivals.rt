@@ -11,7 +11,7 @@ use crate::groups::Groups;
 use crate::readings::Change;
 use atto::Nano;
 use std::alloc::{AllocError, Global};
-use trace_event::Event;
+use traces::Event;
 
 /// So many numbers from the first one on.
 pub(crate) fn numbers_from(alloc: Global, first: u32, count: usize) -> Result<Vec<u32>, AllocError>

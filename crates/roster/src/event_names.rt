@@ -3,7 +3,7 @@ ghost use Rattle.std.specs.Prelude.{◌≡◌, ◌≢◌, ◌<◌, ◌≤◌, �
 ghost use Rattle.atto.specs.Decimal.{decimal_of};
 ghost use Rattle.decl.specs.Declaration.{IsDeclaration, declaration_of};
 ghost use Rattle.traces.specs.Traces.{name_of};
-ghost use Rattle.traces.specs.declared.event.EventId.{EventId};
+ghost use Rattle.traces.specs.declared.event_id.EventId.{EventId};
 ghost use Rattle.roster.specs.Groups.{total, sizes_of};
 ghost use Rattle.roster.specs.Roster.{IsUnder};
 ghost use Rattle.roster.specs.Names.{IsCutAt};

@@ -2,8 +2,8 @@
 ghost use Rattle.std.specs.Prelude.{◌≡◌, ◌++◌, ℕ, List, [], map, slice_get, slice_set, Option, Some};
 ghost use Rattle.decl.specs.declared.items.Label.{Label};
 ghost use Rattle.problem_model.specs.Nodes.{Reading, AreReadings};
-ghost use Rattle.sync_graph.specs.ListedProblem.{IsListedBy};
-ghost use Rattle.trace_event.specs.Seen.{Seen};
+ghost use Rattle.problem_graph.specs.ListedProblem.{IsListedBy};
+ghost use Rattle.traces.specs.Seen.{Seen};
 ghost use Rattle.traces.specs.Messages.{problem_of_seen};
 ghost use Rattle.roster.specs.declared.came.Partner.{Partner};
 ghost use Rattle.roster.specs.Roster.{RosterLists, IsRoster, Holds, IsGrown, SetsReading, event_at, listed};

@@ -4,7 +4,7 @@ ghost use Rattle.roster.specs.Readings.{Stamped, Rise, HasStamp, IsLastUnder, Is
 
 use atto::Nano;
 use std::alloc::{AllocError, Global};
-use trace_event::Event;
+use traces::Event;
 
 /// The place of a stamp among readings, where one has it.
 pub(crate) fn place_of(readings: &[(Nano, u32)], stamp: Nano) -> Option<usize>

@@ -7,14 +7,14 @@ ghost use Rattle.roster.specs.Roster.{IsRoster, IsUnder, Finds, IsGrown, SetsRea
 
 use crate::came::{Came, Partner};
 use crate::groups::Groups;
-use crate::growing::{append_came, numbers_from, put_both};
-use crate::naming::{event_numbered, find_event};
+use crate::arrivals::{append_came, numbers_from, put_both};
+use crate::event_names::{event_numbered, find_event};
 use crate::readings::{change_of, first_stamp, last_stamp, place_of, stamp_above, stamp_below};
 use atto::Nano;
 use decl::Decl;
 use std::alloc::{AllocError, Global};
 use std::marker::Model;
-use trace_event::Event;
+use traces::Event;
 use traces::EventId;
 
 /// The events of a session by their numbers, by label and by name, and the readings of its clocks. It keeps its declaration.

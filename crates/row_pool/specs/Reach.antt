@@ -1,6 +1,6 @@
 -- What a row tells of a node.
 use Rattle.std.specs.Prelude.{ℕ, Bool, true, false, ℤ}
-use Rattle.difference_bounds.specs.Parents.{Cells}
+use Rattle.problem_model.specs.Parents.{Cells}
 use Rattle.row_pool.specs.declared.cell.Reach.{Reach}
 use Rattle.row_pool.specs.declared.cell.Reach.TheVariants.{At, Never}
 

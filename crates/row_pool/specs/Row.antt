@@ -1,7 +1,7 @@
 -- Rows as lists of cells.
 use Rattle.std.specs.Prelude.{ℕ, false, List, [], pos, slice_index_or}
 use Rattle.row_pool.specs.declared.cell.Cell.{Cell}
-use Rattle.difference_bounds.specs.Parents.{Cells, no_parent}
+use Rattle.problem_model.specs.Parents.{Cells, no_parent}
 
 -- the cell of a node that has no distance
 abbrev pub unknown : Cell

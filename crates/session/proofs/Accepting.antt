@@ -8,29 +8,29 @@ use Rattle.std.proofs.Math.Seq.{map-set}
 use Rattle.problem_model.specs.Problem.{ProblemLists}
 use Rattle.decl.specs.declared.items.Label.{Label}
 use Rattle.decl.specs.Declaration.{Declaration}
-use Rattle.trace_event.specs.declared.event.Event.{Event}
-use Rattle.trace_event.specs.Seen.{Seen, seen_event, seen_events}
+use Rattle.traces.specs.declared.event.Event.{Event}
+use Rattle.traces.specs.Seen.{Seen, seen_event, seen_events}
 use Rattle.traces.specs.declared.accepted.Accepted.{Accepted}
-use Rattle.traces.specs.declared.event.EventId.{EventId}
-use Rattle.engine.specs.Solver.{SolverLists}
-use Rattle.solver.specs.Moved0.{IsSolutionBy}
+use Rattle.traces.specs.declared.event_id.EventId.{EventId}
+use Rattle.solver.specs.Solver.{SolverLists}
+use Rattle.solver.specs.Solution.{IsSolutionBy}
 use Rattle.roster.specs.Roster.{listed}
 use Rattle.traces.specs.declared.accepted.Stream.{Stream}
 use Rattle.traces.specs.Held.{seen_in}
 use Rattle.traces.specs.Traces.{Trace, size_of, seen_of, seen_by, IsOfKind, event_count, events_of}
 use Rattle.traces.specs.Messages.{messages_of, missing, problem_of, problem_of_seen}
-use Rattle.event_match.specs.declared.changes.Changed.{Changed}
-use Rattle.ready_answers.specs.declared.answers.Answers.{Answers}
-use Rattle.event_match.specs.Ends.{IsChange}
+use Rattle.msg_match.specs.declared.changes.Changed.{Changed}
+use Rattle.session_answers.specs.declared.answers.Answers.{Answers}
+use Rattle.msg_match.specs.Ends.{IsChange}
 use Rattle.queries.specs.Consistent.{IsConsistent}
 use Rattle.replies.specs.declared.refusal.Refusal.TheVariants.{TooManyEvents}
 use Rattle.replies.specs.Refusals.{refusal_line}
 use Rattle.replies.specs.Reply.{State, IsAdded, added_line, count_by, messages_by, pending_of, AreKept}
 use Rattle.session.specs.Stands.{Held, Under, IsHeld, IsKeptUp, StandsFor, held_of, under_of, problem_held, seen_held, solver_of, waiting, IsStreamOf}
-use Rattle.ready_answers.specs.Ready.{KeepsSource, AreAnswersOf}
+use Rattle.session_answers.specs.Ready.{KeepsSource, AreAnswersOf}
 use Rattle.session.specs.Inside.{AcceptAnswered, HasPlace, IsStreamWithin, IsAddedTo, IsGrownAt, IsGrownTrace, grown}
-use Rattle.ready_answers.specs.Keeping.{Brings}
-use Rattle.ready_answers.proofs.RosterEvents.{came_count}
+use Rattle.session_answers.specs.Keeping.{Brings}
+use Rattle.session_answers.proofs.RosterEvents.{came_count}
 use Rattle.replies.proofs.KeptEvents.{kept_grown}
 use Rattle.session.proofs.Telling.{Told}
 use Rattle.session.proofs.Standby.{ready_of}

@@ -1,17 +1,17 @@
 -- What additions make of what stood ready, and their steps.
 use Rattle.std.proofs.Common.{◌≡◌, ◌⊎◌, inl, inr, ℕ, ◌+◌, ◌*◌, ◌≤◌, List, length, map, Option, Some, None, IfSome, Bool, true, false, refl, sym, ◌∙◌, ap, subst, arith}
 use Rattle.decl.specs.Declaration.{Declaration}
-use Rattle.engine.specs.Solver.{SolverLists}
-use Rattle.engine.specs.Current.{IsCurrent, IsSolvedNow, IsContradicted}
-use Rattle.kept_graph.specs.Steps.{inserting_steps}
-use Rattle.trace_event.specs.Seen.{Seen}
+use Rattle.solver.specs.Solver.{SolverLists}
+use Rattle.solver.specs.Current.{IsCurrent, IsSolvedNow, IsContradicted}
+use Rattle.session_graph.specs.Steps.{inserting_steps}
+use Rattle.traces.specs.Seen.{Seen}
 use Rattle.traces.specs.declared.accepted.Accepted.{Accepted}
 use Rattle.traces.specs.declared.accepted.Stream.{Stream}
-use Rattle.traces.specs.declared.event.EventId.{EventId}
+use Rattle.traces.specs.declared.event_id.EventId.{EventId}
 use Rattle.traces.specs.Traces.{event_count}
-use Rattle.ready_answers.specs.declared.answers.Answers.{Answers}
+use Rattle.session_answers.specs.declared.answers.Answers.{Answers}
 use Rattle.session.specs.Stands.{Held, Under, IsHeld, IsKeptUp, AddsSo, held_of, seen_held, solver_of, under_of}
-use Rattle.ready_answers.specs.Ready.{IsAddition}
+use Rattle.session_answers.specs.Ready.{IsAddition}
 use Rattle.session.proofs.Holding.{count_grown}
 use Rattle.session.proofs.Accepting.{Extended}
 

@@ -13,7 +13,7 @@ use Rattle.decl.specs.Declaration.{Declaration}
 use Rattle.mergecap.specs.declared.stored.Stored.{Stored}
 use Rattle.mergecap.specs.MergedCapture.{Timed}
 use Rattle.mergecap.specs.Packets.{timed, all_timed}
-use Rattle.trace_event.specs.Seen.{Seen, event_of_packet}
+use Rattle.traces.specs.Seen.{Seen, event_of_packet}
 use Rattle.traces.specs.declared.accepted.Stream.{Stream}
 use Rattle.traces.specs.declared.accepted.Stream.TheVariants as streams
 use Rattle.traces.specs.Traces.{Trace, Captured, Logged, IsOfKind, seen_of}

@@ -5,20 +5,20 @@ use Rattle.ports.specs.Content.{SourceTold, Rose, Appends, AppendsPrefix}
 use Rattle.ports.specs.Files.{Keeps}
 use Rattle.ports.proofs.Appending.{rose_later}
 use Rattle.decl.specs.Declaration.{Declaration}
-use Rattle.line_reader.specs.Lines.{whole_lines, lines_of, most_taken}
-use Rattle.line_reader.specs.Reader.{Reader, Ends}
-use Rattle.line_reader.proofs.Pieces.{came_off, nothing_left}
+use Rattle.ports.specs.Lines.{whole_lines, lines_of, most_taken}
+use Rattle.ports.specs.Reader.{Reader, Ends}
+use Rattle.ports.proofs.Pieces.{came_off, nothing_left}
 use Rattle.session.specs.Stands.{Held}
 use Rattle.queries.specs.declared.stop.Stop.{Stop}
 use Rattle.queries.specs.declared.stop.Stop.TheVariants as stops
-use Rattle.script.specs.declared.ended.Ended.{Ended}
-use Rattle.script.specs.declared.ended.Ended.TheVariants.{Done, ReadFault, Limit, WriteFault, Memory}
-use Rattle.script.specs.Script.{Devices, OfScript, Replied, IsTaken, IsInterrupted, ScriptAnswered}
-use Rattle.script.specs.Stopping.{ended_of}
-use Rattle.script.specs.Turns.{AnswersLine, RunsOut, HasNoLine, FailsInLine, IsPastMost, HasNoReply}
-use Rattle.script.proofs.Scripts.{feeds, NoFeeds, whole_broken, lines_end, feeds_cut, tail_none, take_front}
-use Rattle.script.proofs.Replies.{counted_later}
-use Rattle.script.proofs.Places.{IsPlace, IsAt, of_script, cut_at_line, lines_from}
+use Rattle.session.specs.declared.ended.Ended.{Ended}
+use Rattle.session.specs.declared.ended.Ended.TheVariants.{Done, ReadFault, Limit, WriteFault, Memory}
+use Rattle.session.specs.Script.{Devices, OfScript, Replied, IsTaken, IsInterrupted, ScriptAnswered}
+use Rattle.session.specs.Stopping.{ended_of}
+use Rattle.session.specs.Turns.{AnswersLine, RunsOut, HasNoLine, FailsInLine, IsPastMost, HasNoReply}
+use Rattle.session.proofs.Scripts.{feeds, NoFeeds, whole_broken, lines_end, feeds_cut, tail_none, take_front}
+use Rattle.session.proofs.Replies.{counted_later}
+use Rattle.session.proofs.Places.{IsPlace, IsAt, of_script, cut_at_line, lines_from}
 
 -- what is written so far is the replies to the lines that are done
 replied : (d : Declaration) (old now now' : Devices) (held : Held) (r : Reader) (script : List ℕ) (lines : List (List ℕ)) (here : IsAt d old now held r script) → lines ≡ here.done →

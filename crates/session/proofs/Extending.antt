@@ -7,12 +7,12 @@ use Rattle.std.proofs.lemmas.List.Elements.{All-head, All-tail}
 use Rattle.std.proofs.lemmas.Option.{slice_get-map, slice_get-get_or, slice_get_within, get_or_from_slice_get}
 use Rattle.std.proofs.Math.Seq.{map-set}
 use Rattle.captures.specs.Feeding.{taken}
-use Rattle.trace_event.specs.Seen.{Seen, seen_event, seen_events}
+use Rattle.traces.specs.Seen.{Seen, seen_event, seen_events}
 use Rattle.traces.specs.Traces.{event_count}
 use Rattle.traces.specs.Held.{seen_in}
 use Rattle.traces.specs.declared.accepted.Accepted.{Accepted}
-use Rattle.traces.specs.declared.event.EventId.{EventId}
-use Rattle.engine.specs.Solver.{SolverLists}
+use Rattle.traces.specs.declared.event_id.EventId.{EventId}
+use Rattle.solver.specs.Solver.{SolverLists}
 use Rattle.traces.specs.declared.accepted.Stream.{Stream}
 use Rattle.traces.specs.declared.accepted.Stream.TheVariants as streams
 use Rattle.decl.specs.Declaration.{Declaration}
@@ -21,7 +21,7 @@ use Rattle.session.specs.Inside.{HasPlace, IsGrownAt, IsStreamWithin, grown}
 use Rattle.session.specs.Pieces.{HasPlaceFor, SaysEvents}
 use Rattle.session.proofs.Holding.{IsWithinLimits}
 use Rattle.replies.proofs.Elements.{some_same}
-use Rattle.ready_answers.proofs.Entering.{seen_there}
+use Rattle.session_answers.proofs.Entering.{seen_there}
 
 pub in_err : {V E : Type 0} (r : Result V E) (P : Type 0) → P → OnErr r P
 in_err (Ok v) P p = tt

@@ -2,15 +2,15 @@
 use Rattle.std.proofs.Common.{◌≡◌, ◌⊎◌, inl, inr, ℕ, ◌<◌, List, length, slice_get, Some, sym, ◌∙◌, ap, arith}
 use Rattle.std.proofs.lemmas.Option.{slice_get_within}
 use Rattle.decl.specs.Declaration.{Declaration}
-use Rattle.trace_event.specs.Seen.{Seen}
-use Rattle.traces.specs.declared.event.EventId.{EventId}
+use Rattle.traces.specs.Seen.{Seen}
+use Rattle.traces.specs.declared.event_id.EventId.{EventId}
 use Rattle.traces.specs.Traces.{name_of}
 use Rattle.replies.specs.Commands.{Command, Add, Interval, Order, Time, Merge, Prove, Keep, Problem, Report}
 use Rattle.replies.proofs.Elements.{there_some}
-use Rattle.ready_answers.specs.declared.answers.Answers.{Answers}
-use Rattle.ready_answers.specs.Ready.{HasNodeOf, AreAnswersOf}
-use Rattle.ready_answers.specs.Keeping.{HasSlotBy, IsAnsweredFromSlots}
-use Rattle.ready_answers.proofs.Slotting.{slot_found}
+use Rattle.session_answers.specs.declared.answers.Answers.{Answers}
+use Rattle.session_answers.specs.Ready.{HasNodeOf, AreAnswersOf}
+use Rattle.session_answers.specs.Keeping.{HasSlotBy, IsAnsweredFromSlots}
+use Rattle.session_answers.proofs.Slotting.{slot_found}
 use Rattle.session.specs.Stands.{Held, KeepsEvent, IsAnsweredFromRows}
 
 module _ (seen : List (List Seen)) (kept : List EventId) (a : Answers) (are : AreAnswersOf seen kept a) (h : Held) (declared : h.declaration ≡ a.graph.roster.declaration) (same : h.kept ≡ kept) where

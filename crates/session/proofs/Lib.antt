@@ -19,3 +19,7 @@ mod TakenUnder
 mod TakingOver
 mod Settles
 pub mod FromSlots
+pub mod Scripts
+pub mod Replies
+pub mod Places
+pub mod Endings

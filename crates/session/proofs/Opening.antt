@@ -2,17 +2,17 @@
 use Rattle.std.proofs.Common.{◌≡◌, List, [], map, true, sym, ◌∙◌, subst}
 use Rattle.std.proofs.lemmas.List.{length-map}
 use Rattle.decl.specs.declared.items.Label.{Label}
-use Rattle.trace_event.specs.Seen.{Seen, seen_events}
+use Rattle.traces.specs.Seen.{Seen, seen_events}
 use Rattle.traces.specs.declared.accepted.Accepted.{Accepted}
-use Rattle.traces.specs.declared.event.EventId.{EventId}
+use Rattle.traces.specs.declared.event_id.EventId.{EventId}
 use Rattle.traces.specs.Held.{seen_in}
-use Rattle.ready_answers.specs.declared.answers.Answers.{Answers}
+use Rattle.session_answers.specs.declared.answers.Answers.{Answers}
 use Rattle.replies.specs.Reply.{AreKept}
-use Rattle.ready_answers.specs.Ready.{AreAnswersOf}
+use Rattle.session_answers.specs.Ready.{AreAnswersOf}
 use Rattle.session.specs.Stands.{held_of, solver_of, under_of}
 use Rattle.session.specs.Inside.{AreEmpty}
 use Rattle.session.proofs.Accepting.{IsWhole, held_ready}
-use Rattle.ready_answers.proofs.Beginning.{all_nothing, nothing_for}
+use Rattle.session_answers.proofs.Beginning.{all_nothing, nothing_for}
 use Rattle.replies.proofs.KeptEvents.{none_kept}
 use Rattle.session.proofs.Starting.{held_start, nothing_seen, each_empty}
 

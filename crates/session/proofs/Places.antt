@@ -6,17 +6,17 @@ use Rattle.ports.specs.Content.{SourceTold, Appends, AppendsPrefix}
 use Rattle.ports.specs.Files.{Content, Keeps}
 use Rattle.ports.proofs.Writing.{appends_then, appends_none, prefix_then}
 use Rattle.decl.specs.Declaration.{Declaration}
-use Rattle.line_reader.specs.Lines.{lines_of, whole_lines, most_taken}
-use Rattle.line_reader.specs.Reader.{Reader, IsFirst, Gives, fresh}
-use Rattle.line_reader.proofs.Pieces.{came_off, nothing_left}
-use Rattle.line_reader.proofs.LinesOf.{gives_first}
+use Rattle.ports.specs.Lines.{lines_of, whole_lines, most_taken}
+use Rattle.ports.specs.Reader.{Reader, IsFirst, Gives, fresh}
+use Rattle.ports.proofs.Pieces.{came_off, nothing_left}
+use Rattle.ports.proofs.LinesOf.{gives_first}
 use Rattle.replies.specs.Reply.{State, Found}
 use Rattle.replies.specs.Sessions.{Session, LineReply, AreCounted, start}
 use Rattle.session.specs.Stands.{Held, StandsFor}
-use Rattle.script.specs.Script.{Devices, OfScript, IsBegun, lines_within}
-use Rattle.script.specs.Turns.{TakesOff, AnswersLine}
-use Rattle.script.proofs.Scripts.{feeds, NoFeeds, whole_feeds, lines_feeds, lines_last, feeds_more, feeds_cut, none_more, tail_none, take_feeds}
-use Rattle.script.proofs.Replies.{session_more, counted_more, counted_none, concat_more}
+use Rattle.session.specs.Script.{Devices, OfScript, IsBegun, lines_within}
+use Rattle.session.specs.Turns.{TakesOff, AnswersLine}
+use Rattle.session.proofs.Scripts.{feeds, NoFeeds, whole_feeds, lines_feeds, lines_last, feeds_more, feeds_cut, none_more, tail_none, take_feeds}
+use Rattle.session.proofs.Replies.{session_more, counted_more, counted_none, concat_more}
 
 -- the lines that are done, and the rest of the script; or all lines are done
 abbrev pub IsPlace : List ℕ → List (List ℕ) → List ℕ → Bool → Type 0

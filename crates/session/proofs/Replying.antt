@@ -4,23 +4,23 @@ use Rattle.problem_model.specs.Problem.{ProblemLists}
 use Rattle.problem_model.specs.ProblemText.{problem_text}
 use Rattle.ports.specs.Files.{Content, FilesTold, Keeps}
 use Rattle.decl.specs.Declaration.{Declaration, IsDeclaration}
-use Rattle.trace_event.specs.Seen.{Seen}
+use Rattle.traces.specs.Seen.{Seen}
 use Rattle.traces.specs.declared.accepted.Accepted.{Accepted}
-use Rattle.traces.specs.declared.event.EventId.{EventId}
-use Rattle.engine.specs.Solver.{SolverLists}
+use Rattle.traces.specs.declared.event_id.EventId.{EventId}
+use Rattle.solver.specs.Solver.{SolverLists}
 use Rattle.traces.specs.Traces.{seen_by}
 use Rattle.traces.specs.Held.{seen_in}
 use Rattle.traces.specs.Messages.{problem_of, problem_of_seen}
 use Rattle.queries.specs.Clocks.{KeepsTime}
 use Rattle.queries.specs.Replies.{IsIntervalLine, IsOrderLine, IsProofText, Replies}
-use Rattle.merging.specs.Merged.{IsMergeText}
+use Rattle.replies.specs.Merged.{IsMergeText}
 use Rattle.replies.specs.declared.refusal.Refusal.TheVariants.{NoCommand}
 use Rattle.replies.specs.Refusals.{refusal_line}
 use Rattle.replies.specs.Commands.{Command, Add, Interval, Order, Time, Merge, Prove, Keep, Problem, Report, Asks}
 use Rattle.replies.specs.Reply.{State, Found, Unread, OfTwo, OfOne, IsTimeReply, IsReport, KeepReply}
 use Rattle.replies.specs.Sessions.{CommandReply, LineReply, FoundAt, AreCounted}
 use Rattle.session.specs.Stands.{Held, StandsFor, Stepped, held_of}
-use Rattle.ready_answers.specs.Keeping.{IsReplyOfTwo}
+use Rattle.session_answers.specs.Keeping.{IsReplyOfTwo}
 use Rattle.session.specs.Inside.{Answered, Asked, CommandAnswered}
 use Rattle.session.proofs.Telling.{Told}
 use Rattle.session.proofs.Holding.{seen_accepted}

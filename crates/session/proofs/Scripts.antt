@@ -1,8 +1,8 @@
 -- Lines that were taken off a script, and the bytes that follow them.
 use Rattle.std.proofs.Common.{◌≡◌, ℕ, zero, suc, ◌-◌, ◌<◌, ◌≤◌, List, [], ◌∷◌, ◌++◌, length, take, refl, sym, ◌∙◌, ap, arith, append_assoc, append-nil}
 use Rattle.std.proofs.lemmas.Grind.{common_steps}
-use Rattle.line_reader.specs.Lines.{NoFeed, whole_lines, lines_of}
-use Rattle.line_reader.proofs.LinesOf.{whole_line, first_line, no_whole_line, only_line}
+use Rattle.ports.specs.Lines.{NoFeed, whole_lines, lines_of}
+use Rattle.ports.proofs.LinesOf.{whole_line, first_line, no_whole_line, only_line}
 
 -- lines with their line feeds, and then other bytes
 abbrev pub feeds : List (List ℕ) → List ℕ → List ℕ

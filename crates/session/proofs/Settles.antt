@@ -10,31 +10,31 @@ use Rattle.problem_model.specs.declared.items.Node.TheVariants as nodes
 use Rattle.problem_model.specs.Problem.{ProblemLists}
 use Rattle.problem_model.specs.Bounds.{Times, IsExecution}
 use Rattle.problem_model.specs.Nodes.{Reading, nodes_of, event_nodes, reading_nodes}
-use Rattle.difference_bounds.specs.Executions.{at}
-use Rattle.difference_bounds.specs.Solutions.{IsFromZero}
+use Rattle.problem_model.specs.Executions.{at}
+use Rattle.problem_model.specs.Solutions.{IsFromZero}
 use Rattle.problem.specs.Listing.{Listed, listed_nodes}
 use Rattle.problem.proofs.ListedNodes.{event_node, map_at}
 use Rattle.mergecap.specs.declared.stored.Stored.{Stored}
 use Rattle.mergecap.specs.MergedCapture.{Timed}
 use Rattle.mergecap.specs.Packets.{timed, all_timed}
 use Rattle.std.proofs.Math.Seq.{map-set}
-use Rattle.trace_event.specs.Seen.{Seen}
-use Rattle.traces.specs.declared.event.EventId.{EventId}
+use Rattle.traces.specs.Seen.{Seen}
+use Rattle.traces.specs.declared.event_id.EventId.{EventId}
 use Rattle.traces.specs.Traces.{Placed, events_of}
 use Rattle.traces.specs.Messages.{place_of, event_with}
 use Rattle.traces.proofs.Ids.{ids_differ}
 use Rattle.traces.proofs.Places.{place_is}
 use Rattle.sync_graph.specs.declared.arc.Arc.{Arc}
-use Rattle.engine.specs.Solver.{SolverLists}
-use Rattle.solver.specs.Solution.{HasContradictionBy}
+use Rattle.solver.specs.Solver.{SolverLists}
+use Rattle.queries.specs.Contradiction.{HasContradictionBy}
 use Rattle.roster.specs.declared.came.Came.{Came}
 use Rattle.roster.specs.Groups.{group_at, sizes_of}
 use Rattle.roster.specs.Roster.{RosterLists, IsRoster, Holds, IsUnder, id_of, event_at, no_event, listed}
 use Rattle.replies.specs.Reply.{IsPlacedAt}
-use Rattle.ready_answers.specs.Ready.{HasNodeOf}
+use Rattle.session_answers.specs.Ready.{HasNodeOf}
 use Rattle.session.specs.Settled.{HasEventOf, event_of, node_of, settled, valued, at_time}
 use Rattle.replies.proofs.Elements.{some_same, there_some}
-use Rattle.ready_answers.proofs.RosterEvents.{event_place, placed_at, sizes_are}
+use Rattle.session_answers.proofs.RosterEvents.{event_place, placed_at, sizes_are}
 use Rattle.session.proofs.Standing.{map_there}
 
 -- ---- none is held where there is an execution

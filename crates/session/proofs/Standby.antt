@@ -2,7 +2,7 @@
 use Rattle.std.proofs.Common.{◌≡◌, Bool, true, false, Result, Ok, Err, OnOk, refl, subst, sym}
 use Rattle.std.specs.Prelude.{IsSome}
 use Rattle.std.specs.Result.{is_err}
-use Rattle.ready_answers.specs.declared.answers.Answers.{Answers}
+use Rattle.session_answers.specs.declared.answers.Answers.{Answers}
 use Rattle.session.specs.Stands.{Held, solver_of}
 
 -- whether they stand ready

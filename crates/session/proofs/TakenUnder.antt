@@ -4,12 +4,12 @@ use Rattle.std.specs.List.{slice_index_or}
 use Rattle.std.proofs.lemmas.List.{length-map}
 use Rattle.std.proofs.lemmas.Option.{slice_get-get_or}
 use Rattle.decl.specs.Declaration.{Declaration}
-use Rattle.trace_event.specs.Seen.{Seen, seen_event, seen_events}
+use Rattle.traces.specs.Seen.{Seen, seen_event, seen_events}
 use Rattle.traces.specs.declared.accepted.Accepted.{Accepted}
-use Rattle.traces.specs.declared.event.EventId.{EventId}
+use Rattle.traces.specs.declared.event_id.EventId.{EventId}
 use Rattle.traces.specs.Traces.{event_count}
 use Rattle.traces.specs.Held.{seen_in}
-use Rattle.engine.specs.Solver.{SolverLists}
+use Rattle.solver.specs.Solver.{SolverLists}
 use Rattle.session.specs.Stands.{Held, held_of, seen_held, under_of}
 use Rattle.session.proofs.Extending.{label_few, under_at, inside_under}
 use Rattle.session.proofs.Holding.{IsWithinLimits, seen_accepted}

@@ -9,8 +9,8 @@ use Rattle.replies.specs.declared.outcome.Outcome.{Outcome}
 use Rattle.replies.specs.declared.outcome.Outcome.TheVariants.{Added, Kept, Refused}
 use Rattle.replies.specs.declared.refusal.Refusal.{Refusal}
 use Rattle.replies.specs.declared.refusal.Refusal.TheVariants.{NoCommand, UnknownLabel}
-use Rattle.session.specs.declared.taking.AddAnswer.{AddAnswer}
-use Rattle.session.specs.declared.taking.AddAnswer.TheVariants as answers
+use Rattle.session.specs.declared.kept_packets.AddAnswer.{AddAnswer}
+use Rattle.session.specs.declared.kept_packets.AddAnswer.TheVariants as answers
 use Rattle.replies.specs.Refusals.{refusal_line}
 use Rattle.replies.specs.Outcomes.{IsLineOf}
 use Rattle.replies.specs.declared.command.Question.{Question}

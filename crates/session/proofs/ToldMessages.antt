@@ -4,8 +4,8 @@ use Rattle.std.specs.Prelude.{is_some, filter, cond}
 use Rattle.std.proofs.lemmas.List.Elements.{All-contains, Contains-get_or}
 use Rattle.std.proofs.lemmas.Option.{slice_get-map}
 use Rattle.problem_model.specs.declared.items.Message.{Message}
-use Rattle.trace_event.specs.Seen.{Seen}
-use Rattle.traces.specs.declared.event.Couple.{Couple}
+use Rattle.traces.specs.Seen.{Seen}
+use Rattle.traces.specs.declared.event_id.Couple.{Couple}
 use Rattle.traces.specs.Traces.{events_of}
 use Rattle.traces.specs.Messages.{messages_of}
 use Rattle.traces.proofs.Ids.{ids_rise}
@@ -15,11 +15,11 @@ use Rattle.roster.specs.declared.came.Came.{Came}
 use Rattle.roster.specs.declared.came.Partner.{Partner}
 use Rattle.roster.specs.Roster.{RosterLists, IsRoster, IsUnder}
 use Rattle.roster.proofs.Turns.{from_map, into_map}
-use Rattle.growth.specs.Told.{number_of, numbered_message}
-use Rattle.engine.specs.Solver.{SolverLists}
-use Rattle.kept_graph.specs.Kept.{IsKeptFor}
-use Rattle.kept_graph.proofs.Held.{id_under, number_is, one_id}
-use Rattle.kept_graph.proofs.Staying.{send_known}
+use Rattle.roster.specs.Told.{number_of, numbered_message}
+use Rattle.solver.specs.Solver.{SolverLists}
+use Rattle.session_graph.specs.Kept.{IsKeptFor}
+use Rattle.session_graph.proofs.Held.{id_under, number_is, one_id}
+use Rattle.session_graph.proofs.Staying.{send_known}
 use Rattle.replies.proofs.Elements.{set_or_same, some_same}
 use Rattle.session.proofs.Standing.{map_there}
 

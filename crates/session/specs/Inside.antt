@@ -5,11 +5,11 @@ use Rattle.captures.specs.Feeding.{IsNew}
 use Rattle.decl.specs.declared.items.Label.{Label}
 use Rattle.decl.specs.declared.items.TraceKind.{TraceKind}
 use Rattle.decl.specs.Declaration.{Declaration}
-use Rattle.trace_event.specs.Seen.{Seen}
+use Rattle.traces.specs.Seen.{Seen}
 use Rattle.traces.specs.declared.accepted.Stream.{Stream}
 use Rattle.traces.specs.declared.accepted.Stream.TheVariants as streams
 use Rattle.traces.specs.Traces.{Trace, IsOfKind, seen_of, size_of}
-use Rattle.event_match.specs.declared.changes.Changed.{Changed}
+use Rattle.msg_match.specs.declared.changes.Changed.{Changed}
 use Rattle.queries.specs.Consistent.{IsConsistent}
 use Rattle.replies.specs.Commands.{Command}
 use Rattle.problem_model.specs.Problem.{ProblemLists}

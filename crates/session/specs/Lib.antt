@@ -5,3 +5,6 @@ pub mod Taken
 pub mod Taking
 pub mod Settled
 pub mod TakingInside
+pub mod Script
+pub mod Stopping
+pub mod Turns

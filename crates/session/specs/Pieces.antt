@@ -6,12 +6,12 @@ use Rattle.captures.specs.Capture as captures
 use Rattle.captures.specs.Feeding as feeding
 use Rattle.captures.specs.Feeding.{Tail, Grows, taken}
 use Rattle.decl.specs.Declaration.{Declaration}
-use Rattle.trace_event.specs.Seen.{Seen, seen_row, seen_events, event_of_packet}
+use Rattle.traces.specs.Seen.{Seen, seen_row, seen_events, event_of_packet}
 use Rattle.traces.specs.declared.accepted.Stream.{Stream}
 use Rattle.traces.specs.declared.accepted.Stream.TheVariants as streams
 use Rattle.replies.specs.declared.refusal.Refusal.{Refusal}
-use Rattle.session.specs.declared.reading.Piece.{Piece}
-use Rattle.session.specs.declared.reading.Piece.TheVariants as pieces
+use Rattle.session.specs.declared.pieces.Piece.{Piece}
+use Rattle.session.specs.declared.pieces.Piece.TheVariants as pieces
 use Rattle.replies.specs.Reply.{IsLogRefusal, IsCaptureRefusal}
 
 -- so many bytes more may be read

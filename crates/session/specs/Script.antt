@@ -4,12 +4,12 @@ use Rattle.std.specs.List.{concat}
 use Rattle.ports.specs.Content.{Rose, Appends, AppendsPrefix, SourceTold, SinkTold}
 use Rattle.ports.specs.Files.{FilesTold}
 use Rattle.decl.specs.Declaration.{Declaration}
-use Rattle.line_reader.specs.Lines.{whole_lines, lines_of, most_taken}
+use Rattle.ports.specs.Lines.{whole_lines, lines_of, most_taken}
 use Rattle.replies.specs.Commands.{AsksForMemory}
 use Rattle.replies.specs.Reply.{State, Found}
 use Rattle.replies.specs.Sessions.{Session, AreCounted, start}
-use Rattle.script.specs.declared.ended.Ended.{Ended}
-use Rattle.script.specs.declared.ended.Ended.TheVariants.{Done, ReadFault, Limit, WriteFault, Memory}
+use Rattle.session.specs.declared.ended.Ended.{Ended}
+use Rattle.session.specs.declared.ended.Ended.TheVariants.{Done, ReadFault, Limit, WriteFault, Memory}
 
 -- what files, input and output tell at one moment
 pub record Devices : Type 0 where

@@ -2,15 +2,15 @@
 use Rattle.std.specs.Prelude.{◌≡◌, ℕ, suc, ◌-◌, ◌<◌, List, length, map, slice_get, slice_index_or, Some, ℤ}
 use Rattle.problem_model.specs.declared.items.Node.TheVariants as nodes
 use Rattle.problem_model.specs.Bounds.{Times}
-use Rattle.difference_bounds.specs.Executions.{at}
-use Rattle.difference_bounds.specs.Solutions.{IsEarliestExecution}
+use Rattle.problem_model.specs.Executions.{at}
+use Rattle.problem_model.specs.Solutions.{IsEarliestExecution}
 use Rattle.decl.specs.Declaration.{Declaration}
 use Rattle.mergecap.specs.MergedCapture.{Timed}
-use Rattle.trace_event.specs.Seen.{Seen}
-use Rattle.traces.specs.declared.event.EventId.{EventId}
+use Rattle.traces.specs.Seen.{Seen}
+use Rattle.traces.specs.declared.event_id.EventId.{EventId}
 use Rattle.traces.specs.Traces.{events_of}
 use Rattle.traces.specs.Messages.{place_of, problem_of_seen}
-use Rattle.engine.specs.Solver.{SolverLists}
+use Rattle.solver.specs.Solver.{SolverLists}
 use Rattle.roster.specs.Groups.{group_at}
 use Rattle.roster.specs.Roster.{RosterLists, event_at}
 

@@ -8,21 +8,21 @@ use Rattle.decl.specs.declared.items.Label.{Label}
 use Rattle.decl.specs.declared.items.TraceKind.{TraceKind}
 use Rattle.decl.specs.declared.items.TraceKind.TheVariants.{Capture, Log}
 use Rattle.decl.specs.Declaration.{Declaration, IsDeclaration}
-use Rattle.trace_event.specs.Seen.{Seen, seen_events}
+use Rattle.traces.specs.Seen.{Seen, seen_events}
 use Rattle.traces.specs.declared.accepted.Accepted.{Accepted}
-use Rattle.traces.specs.declared.event.EventId.{EventId}
+use Rattle.traces.specs.declared.event_id.EventId.{EventId}
 use Rattle.traces.specs.declared.accepted.Stream.{Stream}
 use Rattle.traces.specs.declared.accepted.Stream.TheVariants as streams
 use Rattle.traces.specs.Traces.{Trace, Captured, Logged, size_of, seen_by, name_of, IsOfKind, event_count}
 use Rattle.traces.specs.Messages.{problem_of_seen}
 use Rattle.problem_model.specs.Problem.{ProblemLists}
-use Rattle.engine.specs.Solver.{SolverLists}
+use Rattle.solver.specs.Solver.{SolverLists}
 use Rattle.roster.specs.Roster.{RosterLists, IsRoster, listed}
-use Rattle.solver.specs.Moved0.{IsSolutionBy}
+use Rattle.solver.specs.Solution.{IsSolutionBy}
 use Rattle.queries.specs.declared.stop.Stop.{Stop}
 use Rattle.queries.specs.declared.stop.Stop.TheVariants as stops
-use Rattle.ready_answers.specs.declared.answers.Answers.{Answers}
-use Rattle.ready_answers.specs.Ready.{AreSlotsOf, KeepsSource, IsAddition}
+use Rattle.session_answers.specs.declared.answers.Answers.{Answers}
+use Rattle.session_answers.specs.Ready.{AreSlotsOf, KeepsSource, IsAddition}
 use Rattle.replies.specs.Commands.{Command, Add, Interval, Order, Time, Merge, Prove, Keep, Problem, Report, Asks}
 use Rattle.replies.specs.Reply.{State, Found}
 use Rattle.replies.specs.Sessions.{LineReply, AreCounted}

@@ -5,8 +5,8 @@ use Rattle.decl.specs.Declaration.{Declaration}
 use Rattle.mergecap.specs.MergedCapture.{Timed}
 use Rattle.traces.specs.Traces.{Traces}
 use Rattle.replies.specs.declared.refusal.Refusal.{Refusal}
-use Rattle.session.specs.declared.taking.AddAnswer.{AddAnswer}
-use Rattle.session.specs.declared.taking.AddAnswer.TheVariants.{Accepted, Refused}
+use Rattle.session.specs.declared.kept_packets.AddAnswer.{AddAnswer}
+use Rattle.session.specs.declared.kept_packets.AddAnswer.TheVariants.{Accepted, Refused}
 use Rattle.replies.specs.Refusals.{refusal_line}
 use Rattle.replies.specs.Commands.{Command, Add, Interval, Order, Time, Merge, Prove, Keep, Problem, Report, Asks}
 use Rattle.replies.specs.Reply.{State, Found, added_line}

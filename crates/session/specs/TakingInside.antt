@@ -10,9 +10,9 @@ use Rattle.traces.specs.declared.accepted.Stream.TheVariants as streams
 use Rattle.traces.specs.Traces.{event_count}
 use Rattle.replies.specs.declared.outcome.Outcome.{Outcome}
 use Rattle.replies.specs.declared.outcome.Outcome.TheVariants.{Added, Kept, Refused}
-use Rattle.session.specs.declared.reading.Piece.{Piece}
-use Rattle.session.specs.declared.reading.Piece.TheVariants as pieces
-use Rattle.session.specs.declared.taking.AddAnswer.{AddAnswer}
+use Rattle.session.specs.declared.pieces.Piece.{Piece}
+use Rattle.session.specs.declared.pieces.Piece.TheVariants as pieces
+use Rattle.session.specs.declared.kept_packets.AddAnswer.{AddAnswer}
 use Rattle.replies.specs.Commands.{Add}
 use Rattle.replies.specs.Reply.{State, Found, Unread, Bytes, Absent, Failed, AddReply}
 use Rattle.replies.specs.Sessions.{CommandReply, FoundAt, AreCounted}

@@ -1,13 +1,13 @@
 -- One turn of a session over a script: a line is taken off and answered, or none is.
 use Rattle.std.specs.Prelude.{◌≡◌, ℕ, ◌+◌, ◌≤◌, List, length}
 use Rattle.ports.specs.Content.{Rose, AppendsPrefix}
-use Rattle.line_reader.specs.Lines.{most_taken}
-use Rattle.line_reader.specs.Reader.{Reader, Came, Gives, Ends, BreaksOff, GoesPast}
+use Rattle.ports.specs.Lines.{most_taken}
+use Rattle.ports.specs.Reader.{Reader, Came, Gives, Ends, BreaksOff, GoesPast}
 use Rattle.replies.specs.Commands.{AsksForMemory}
 use Rattle.session.specs.Stands.{Held, Stepped}
-use Rattle.script.specs.Script.{Devices}
-use Rattle.script.specs.declared.ended.Ended.{Ended}
-use Rattle.script.specs.declared.ended.Ended.TheVariants.{Done, ReadFault, Limit, WriteFault, Memory}
+use Rattle.session.specs.Script.{Devices}
+use Rattle.session.specs.declared.ended.Ended.{Ended}
+use Rattle.session.specs.declared.ended.Ended.TheVariants.{Done, ReadFault, Limit, WriteFault, Memory}
 
 -- these bytes came off the script and were counted, and no more than the most were taken in all
 pub record Counts (r r' : Reader) (old new : Devices) (bytes : List ℕ) : Type 0 where

@@ -1,6 +1,6 @@
 // What was accepted under the labels.
 ghost use Rattle.std.specs.Prelude.{◌≡◌, ◌<◌, ◌≤◌, ◌+◌, ◌-◌, ◌^◌, ◌++◌, ◌&&◌, length, map, nat_le, OnOk, OnErr, IfOk};
-ghost use Rattle.trace_event.specs.Seen.{seen_events};
+ghost use Rattle.traces.specs.Seen.{seen_events};
 ghost use Rattle.session.specs.Stands.{under_of, waiting, kind_of};
 ghost use Rattle.session.specs.Inside.{AreEmpty, IsNewStream, HasPlace, IsGrownAt};
 
@@ -8,7 +8,7 @@ use crate::limits::{MOST_EVENTS, MOST_OF_LABEL, MOST_PIECE};
 use captures::CaptureStream;
 use decl::{Label, TraceKind};
 use std::alloc::{AllocError, Global};
-use trace_event::Event;
+use traces::Event;
 use traces::{Accepted, Stream};
 
 // What is kept under a label of this kind of which nothing came yet.

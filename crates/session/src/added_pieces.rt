@@ -2,7 +2,7 @@
 ghost use Rattle.std.specs.Prelude.{◌≡◌, ◌<◌, ◌≤◌, ◌+◌, ◌^◌, [], length, Some, true, IfOk, OnOk};
 ghost use Rattle.ports.specs.Files.{Keeps};
 ghost use Rattle.captures.specs.Feeding.{seen_packets};
-ghost use Rattle.trace_event.specs.Seen.{seen_events};
+ghost use Rattle.traces.specs.Seen.{seen_events};
 ghost use Rattle.traces.specs.Traces.{event_count};
 ghost use Rattle.replies.specs.Commands as asked;
 ghost use Rattle.replies.specs.Outcomes.{IsLineOf};
@@ -15,15 +15,15 @@ use crate::accepted::{extend, has_place, room_left, waiting};
 use crate::addition::outcome_of;
 use crate::labels::host_of;
 use crate::limits::MOST_PIECE;
-use crate::reading::{Piece, read_piece};
+use crate::pieces::{Piece, read_piece};
 use atto::Steps;
-use captures::Packet;
+use pcap_stream::Packet;
 use ports::{FileFault, Files, read_file};
-use ready_answers::{decl_of, renew};
+use session_answers::{decl_of, renew};
 use replies::{Outcome, Refusal};
 use std::alloc::AllocError;
 use std::sync::ledger::Ledger;
-use trace_event::Event;
+use traces::Event;
 use traces::Stream;
 
 // Lets packets go that are not to be kept.

@@ -6,7 +6,7 @@ ghost use Rattle.session.specs.Inside.{IsAddedTo};
 ghost use Rattle.replies.specs.Outcomes.{outcome_line};
 ghost use Rattle.session.specs.TakingInside.{WhereAdded};
 
-use event_match::Changed;
+use msg_match::Changed;
 use replies::{Added, Outcome};
 
 /// What is told of an addition of so many events, behind which so many bytes wait, by whether some execution obeys all

@@ -1,26 +1,26 @@
 // What answers a question about all that was added.
 ghost use Rattle.std.specs.Prelude.{◌≡◌, ◌≤◌, ◌^◌, List, Option, length, IsErrOf};
-ghost use Rattle.traces.specs.declared.event.EventId.{EventId};
+ghost use Rattle.traces.specs.declared.event_id.EventId.{EventId};
 ghost use Rattle.traces.specs.Traces.{event_count};
 ghost use Rattle.traces.specs.Held.{seen_in};
-ghost use Rattle.engine.specs.Solver.{SolverLists};
+ghost use Rattle.solver.specs.Solver.{SolverLists};
 ghost use Rattle.queries.specs.declared.stop.Stop.TheVariants as stops;
 ghost use Rattle.replies.specs.Commands.{TakesMemory};
 ghost use Rattle.replies.specs.CommandSeen.{question_seen};
 ghost use Rattle.session.specs.Stands.{WritesReply, held_of};
-ghost use Rattle.ready_answers.specs.Ready.{AreAnswersOf};
-ghost use Rattle.ready_answers.specs.Keeping.{IsAnsweredFromSlots};
+ghost use Rattle.session_answers.specs.Ready.{AreAnswersOf};
+ghost use Rattle.session_answers.specs.Keeping.{IsAnsweredFromSlots};
 ghost use Rattle.session.specs.Inside.{Asked};
 
 use crate::lines::written;
-use crate::reporting::write_report;
+use crate::reports::write_report;
 use atto::Steps;
-use merging::write_merge;
+use replies::write_merge;
 use ports::Sink;
 use queries::Stop;
-use ready_answers::{Answers, ask_interval, ask_order, ask_proof, ask_time};
+use session_answers::{Answers, ask_interval, ask_order, ask_proof, ask_time};
 use replies::Question;
-use roster_text::write_roster;
+use problem_text::write_roster;
 use std::alloc::Global;
 use std::sync::ledger::Ledger;
 use traces::Accepted;

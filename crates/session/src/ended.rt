@@ -1,8 +1,8 @@
 // How the lines of a script ended.
 ghost use Rattle.std.specs.Prelude.{◌≡◌};
-ghost use Rattle.script.specs.Stopping.{ended_of};
+ghost use Rattle.session.specs.Stopping.{ended_of};
 
-use session::Stop;
+use queries::Stop;
 
 /// How a session over a script ended.
 #[derive(Clone, Copy, Debug, PartialEq, Eq)]

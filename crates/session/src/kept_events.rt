@@ -7,7 +7,7 @@ ghost use Rattle.session.specs.Inside.{Asked};
 
 use crate::Session;
 use atto::Steps;
-use ready_answers::keep_event;
+use session_answers::keep_event;
 use replies::Outcome;
 use std::alloc::AllocError;
 use std::sync::ledger::Ledger;

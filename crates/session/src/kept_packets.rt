@@ -10,10 +10,11 @@ ghost use Rattle.session.specs.TakingInside.{TakesFile, TakesUnder};
 
 use crate::Session;
 use atto::Steps;
-use captures::{Packet, captures_are_one};
+use pcap_stream::Packet;
+use captures::captures_are_one;
 use mergecap::Stored;
 use ports::Files;
-use ready_answers::decl_of;
+use session_answers::decl_of;
 use replies::{Command, Outcome, Refusal, RefusedText, read_command, refused_text};
 use std::alloc::AllocError;
 use std::sync::ledger::Ledger;

@@ -9,27 +9,30 @@
 //! it. An addition brings its events and its messages into that graph, and only what they change of values and rows is
 //! worked out. Where a contradiction that was held goes, all values and rows are made anew, and so are the rows of the
 //! source when its first reading comes. `keep EVENT` has the distances of an event made ready too.
+//!
+//! A session over the lines of a script: each line gets its reply, up to the end of the script or the first fault.
 #![tactic(auto)]
 
 mod accepted;
-mod adding;
+mod added_pieces;
 mod addition;
-mod answering;
+mod answers;
 mod counts;
-mod keeping;
+mod ended;
+mod kept_events;
+mod kept_packets;
 mod labels;
 mod limits;
 mod lines;
-mod reading;
-mod reporting;
+mod packet_times;
+mod pieces;
+mod reports;
+mod script;
 mod session;
-mod settling;
-mod taking;
 
+pub use ended::Ended;
+pub use kept_packets::AddAnswer;
 pub use queries::Stop;
-pub use replies::{
-    RefusedText, commands_are_one, outputs_are_one, proofs_are_one, reads_are_one, replies_are_one,
-    sessions_are_lawful, too_long_text,
-};
+pub use replies::{RefusedText, commands_are_one, outputs_are_one, proofs_are_one, reads_are_one, replies_are_one, sessions_are_lawful, too_long_text};
+pub use script::answer_script;
 pub use session::Session;
-pub use taking::AddAnswer;

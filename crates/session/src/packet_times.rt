@@ -1,20 +1,20 @@
 // Packets at the times of their events.
 ghost use Rattle.std.specs.Prelude.{◌≡◌, ◌≤ℤ◌, ℕ, [], map, pos, true, All};
-ghost use Rattle.difference_bounds.specs.Executions.{at};
+ghost use Rattle.problem_model.specs.Executions.{at};
 ghost use Rattle.mergecap.specs.Packets.{timed, all_timed};
-ghost use Rattle.engine.specs.Current.{IsCurrent};
+ghost use Rattle.solver.specs.Current.{IsCurrent};
 ghost use Rattle.queries.specs.Consistent.{IsConsistent};
 ghost use Rattle.roster.specs.Roster.{IsUnder};
-ghost use Rattle.growth.specs.Rosters.{KnowsNodes};
+ghost use Rattle.roster.specs.Rosters.{KnowsNodes};
 ghost use Rattle.session.specs.Stands.{IsReady, problem_held, seen_held};
 ghost use Rattle.session.specs.Settled.{AreSettled, HasEventOf, event_of, node_of, valued};
 
 use crate::Session;
-use engine::Solver;
+use solver::Solver;
 use mergecap::Stored;
 use queries::is_consistent;
 use roster::Roster;
-use solver::{contradictions, executions};
+use queries::{contradictions, executions};
 use traces::EventId;
 
 // The value of an event's node in the earliest execution.

@@ -6,12 +6,13 @@ ghost use Rattle.traces.specs.declared.accepted.Stream.TheVariants as streams;
 ghost use Rattle.session.specs.Pieces.{IsRead, HasPlaceFor, HasRoomFor};
 ghost use Rattle.session.specs.TakingInside.{HasPackets};
 
-use captures::{CaptureStream, FirstPackets, Packet};
+use captures::CaptureStream;
+use pcap_stream::{FirstPackets, Packet};
 use decl::Decl;
 use event_log::read_first_rows;
 use replies::{Refusal, capture_refusal, log_refusal};
 use std::alloc::{AllocError, Global};
-use trace_event::{Event, packet_events, row_events};
+use traces::{Event, packet_events, row_events};
 use traces::Stream;
 
 /// What a piece says.

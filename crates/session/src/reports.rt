@@ -5,23 +5,23 @@ ghost use Rattle.decl.specs.Declaration.{IsDeclaration, declaration_of};
 ghost use Rattle.traces.specs.Traces.{event_count};
 ghost use Rattle.traces.specs.Held.{seen_in};
 ghost use Rattle.traces.specs.Messages.{problem_of_seen};
-ghost use Rattle.event_match.specs.Ends.{AreEndsBy};
+ghost use Rattle.msg_match.specs.Ends.{AreEndsBy};
 ghost use Rattle.problem.specs.Listing.{Listed};
 ghost use Rattle.roster.specs.Roster.{id_of};
-ghost use Rattle.solver.specs.Moved0.{IsSolutionBy};
+ghost use Rattle.solver.specs.Solution.{IsSolutionBy};
 ghost use Rattle.queries.specs.declared.stop.Stop.TheVariants as stops;
 ghost use Rattle.replies.specs.Reply.{IsReport};
 
 use crate::lines::write_line;
 use decl::Decl;
-use engine::Solver;
+use solver::Solver;
 use msg_match::Matcher;
 use ports::Sink;
 use queries::{Stop, is_consistent};
 use report::report_line;
 use roster::Roster;
 use std::alloc::Global;
-use trace_report::view_of;
+use report::view_of;
 use traces::Accepted;
 
 /// Writes the report on all events, of which the roster has the names by number and the matcher the ends of messages, and the engine

@@ -3,18 +3,18 @@ ghost use Rattle.std.specs.Prelude.{◌≡◌, ◌<◌, ◌≤◌, IfErr, OnOk, 
 ghost use Rattle.ports.specs.Content.{Appends};
 ghost use Rattle.ports.specs.Files.{Keeps};
 ghost use Rattle.decl.specs.Declaration.{Declaration, IsDeclaration, declaration_of};
-ghost use Rattle.line_reader.specs.Reader.{fresh, room};
+ghost use Rattle.ports.specs.Reader.{fresh, room};
 ghost use Rattle.replies.specs.Sessions.{start};
 ghost use Rattle.session.specs.Stands.{StandsFor, IsReady};
-ghost use Rattle.script.specs.Script.{ScriptAnswered, devices};
-ghost use Rattle.script.specs.Turns.{AnswersLine, HasNoReply};
+ghost use Rattle.session.specs.Script.{ScriptAnswered, devices};
+ghost use Rattle.session.specs.Turns.{AnswersLine, HasNoReply};
 
 use crate::Ended;
 use atto::Steps;
 use decl::Decl;
-use line_reader::{Line, LineFault, LineReader, LineText};
+use ports::{Line, LineFault, LineReader, LineText};
 use ports::{Files, Sink, Source};
-use session::Session;
+use crate::Session;
 use std::alloc::Global;
 use std::sync::ledger::Ledger;
 

@@ -13,14 +13,14 @@ ghost use Rattle.session.specs.Stands.{WritesReply, StandsFor, Stepped, IsReady,
 ghost use Rattle.session.specs.Inside.{Asked};
 
 use crate::accepted::nothing_under;
-use crate::answering::answer;
+use crate::answers::answer;
 use crate::lines::{write_line, written};
 use atto::Steps;
 use captures::{new_stands, nothing_reads};
 use decl::Decl;
 use ports::{Files, Sink};
 use queries::Stop;
-use ready_answers::{Answers, decl_of, first_answers};
+use session_answers::{Answers, decl_of, first_answers};
 use replies::{Command, Question, Refusal, read_command, write_refusal};
 use std::alloc::{AllocError, Global};
 use std::marker::Model;
@@ -44,7 +44,7 @@ impl Model for Session {
     ghost use Rattle.traces.specs.Held.{seen_in};
     ghost use Rattle.session.specs.Stands.{Held, IsHeld, held_of, solver_of};
     ghost use Rattle.replies.specs.Reply.{AreKept};
-    ghost use Rattle.ready_answers.specs.Ready.{AreAnswersOf};
+    ghost use Rattle.session_answers.specs.Ready.{AreAnswersOf};
 
     ghost Value = { Held };
 

@@ -6,31 +6,31 @@ use Rattle.problem_model.specs.Bounds.{IsReading}
 use Rattle.problem_model.specs.Nodes.{Reading}
 use Rattle.problem.specs.Line.{HasEvent, IsUnknown}
 use Rattle.problem.specs.Listing.{Listed, all_readings}
-use Rattle.trace_event.specs.Seen.{Seen}
-use Rattle.traces.specs.declared.event.EventId.{EventId}
+use Rattle.traces.specs.Seen.{Seen}
+use Rattle.traces.specs.declared.event_id.EventId.{EventId}
 use Rattle.traces.proofs.Members.{here, there}
 use Rattle.row_pool.specs.Pool.{free_rows}
 use Rattle.repair.specs.Slots.{KeptRows, all_slots}
-use Rattle.sync_graph.specs.ListedStanding.{StandsForListed, IsEventAt}
+use Rattle.problem_graph.specs.ListedStanding.{StandsForListed, IsEventAt}
 use Rattle.attain.specs.Ends.{AreEventNodes}
 use Rattle.roster.specs.Roster.{RosterLists, IsRoster, Finds, listed}
-use Rattle.engine.specs.Solver.{SolverLists}
-use Rattle.engine.specs.Changes.{LeavesTaken}
-use Rattle.engine.specs.Current.{IsCurrent}
-use Rattle.solver.specs.Moved0.{IsSolutionBy}
+use Rattle.solver.specs.Solver.{SolverLists}
+use Rattle.solver.specs.Changes.{LeavesTaken}
+use Rattle.solver.specs.Current.{IsCurrent}
+use Rattle.solver.specs.Solution.{IsSolutionBy}
 use Rattle.queries.specs.Asking.{IsKept, IsAtHand, IsPairAtHand, IsReadingAt, IsSourceReading}
 use Rattle.queries.specs.Clocks.{KeepsTime}
 use Rattle.queries.specs.Replies.{HasReading, IsTimeLine, Replies}
 use Rattle.problem.proofs.OwnReadings.{own_readings}
-use Rattle.ready_answers.specs.declared.answers.Answers.{Answers}
+use Rattle.session_answers.specs.declared.answers.Answers.{Answers}
 use Rattle.replies.specs.declared.refusal.Refusal.TheVariants.{NoSourceTime}
 use Rattle.replies.specs.Refusals.{refusal_line}
 use Rattle.replies.specs.Reply.{OfOne, IsTimeReply}
-use Rattle.ready_answers.specs.Ready.{AreSlotsOf, AreAnswersOf, KeepsSource, HasSpareRows, problem_by}
-use Rattle.ready_answers.specs.Keeping.{LeavesAnswer, IsCalled, HasSlotBy, IsReplyOfTwo}
-use Rattle.ready_answers.proofs.Engines.{kept_stays}
+use Rattle.session_answers.specs.Ready.{AreSlotsOf, AreAnswersOf, KeepsSource, HasSpareRows, problem_by}
+use Rattle.session_answers.specs.Keeping.{LeavesAnswer, IsCalled, HasSlotBy, IsReplyOfTwo}
+use Rattle.session_answers.proofs.Engines.{kept_stays}
 use Rattle.replies.proofs.Elements.{some_same}
-use Rattle.ready_answers.proofs.RosterEvents.{event_place, called, unknown, one_node}
+use Rattle.session_answers.proofs.RosterEvents.{event_place, called, unknown, one_node}
 
 -- ---- what a question leaves
 pub leaves_all : (s : SolverLists) → IsCurrent s → LeavesAnswer s s

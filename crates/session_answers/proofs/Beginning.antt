@@ -5,7 +5,7 @@ use Rattle.std.specs.Prelude.{Contains}
 use Rattle.problem_model.specs.declared.items.Event.{Event}
 use Rattle.decl.specs.declared.items.Label.{Label}
 use Rattle.decl.specs.Declaration.{Declaration}
-use Rattle.trace_event.specs.Seen.{Seen}
+use Rattle.traces.specs.Seen.{Seen}
 use Rattle.traces.specs.Traces.{Placed, events_from, numbered}
 use Rattle.traces.specs.Messages.{event_with, problem_of_seen}
 use Rattle.traces.proofs.Members.{none_in}
@@ -13,15 +13,15 @@ use Rattle.row_pool.specs.Pool.{grown}
 use Rattle.repair.specs.declared.slot.Slot.{Slot}
 use Rattle.repair.specs.Slots.{all_slots, behind}
 use Rattle.roster.specs.Roster.{IsRoster, id_of, listed}
-use Rattle.engine.specs.Solver.{SolverLists}
-use Rattle.event_match.specs.Ends.{AreEndsBy}
-use Rattle.kept_graph.specs.Kept.{IsKeptFor}
+use Rattle.solver.specs.Solver.{SolverLists}
+use Rattle.msg_match.specs.Ends.{AreEndsBy}
+use Rattle.session_graph.specs.Kept.{IsKeptFor}
 use Rattle.problem.specs.Listing.{Listed}
 use Rattle.queries.specs.Replies.{HasReading}
-use Rattle.ready_answers.specs.declared.answers.Answers.{Answers}
-use Rattle.ready_answers.specs.Ready.{AreAnswersOf, HasSpareRows, KeepsSource, problem_by}
-use Rattle.ready_answers.proofs.KeptNext.{grown_free, grown_long}
-use Rattle.ready_answers.proofs.Slotting.{no_slots}
+use Rattle.session_answers.specs.declared.answers.Answers.{Answers}
+use Rattle.session_answers.specs.Ready.{AreAnswersOf, HasSpareRows, KeepsSource, problem_by}
+use Rattle.session_answers.proofs.KeptNext.{grown_free, grown_long}
+use Rattle.session_answers.proofs.Slotting.{no_slots}
 
 -- ---- nothing was added
 no_events_from : (label : ℕ) (seen : List (List Seen)) → All (λ (events : List Seen). events ≡ []) seen → events_from label seen ≡ []

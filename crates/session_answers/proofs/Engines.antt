@@ -8,7 +8,7 @@ use Rattle.problem_model.specs.Nodes.{Reading}
 use Rattle.problem.specs.Listing.{Listed, listed_nodes}
 use Rattle.problem.proofs.ListedNodes.{reading_node}
 use Rattle.decl.specs.Declaration.{IsSource}
-use Rattle.trace_event.specs.Seen.{Seen}
+use Rattle.traces.specs.Seen.{Seen}
 use Rattle.traces.proofs.Lists.{place_in}
 use Rattle.traces.specs.Messages.{problem_of_seen}
 use Rattle.row_pool.specs.Pool.{free_rows}
@@ -18,22 +18,22 @@ use Rattle.repair.specs.declared.keep.KeepError.TheVariants.{Already, Full}
 use Rattle.repair.specs.Slots.{KeptRows, slot_of, all_slots, behind}
 use Rattle.repair.specs.Keeping.{IsRefused}
 use Rattle.sync_graph.specs.Graph.{GraphLists}
-use Rattle.sync_graph.specs.ListedStanding.{StandsForListed}
-use Rattle.engine.specs.Solver.{SolverLists}
-use Rattle.engine.specs.Changes.{KeepsAnswer}
-use Rattle.engine.specs.Current.{IsCurrent}
-use Rattle.solver.specs.Moved0.{IsSolutionBy}
+use Rattle.problem_graph.specs.ListedStanding.{StandsForListed}
+use Rattle.solver.specs.Solver.{SolverLists}
+use Rattle.solver.specs.Changes.{KeepsAnswer}
+use Rattle.solver.specs.Current.{IsCurrent}
+use Rattle.solver.specs.Solution.{IsSolutionBy}
 use Rattle.roster.specs.Groups.{group_at}
 use Rattle.roster.specs.Readings.{Stamped, HasStamp}
 use Rattle.roster.specs.Roster.{RosterLists, listed}
 use Rattle.roster.proofs.Telling.{among}
 use Rattle.roster.proofs.Turns.{from_turn, into_turn}
-use Rattle.growth.specs.Told.{TellsMessages, messages_by_number}
-use Rattle.kept_graph.specs.Kept.{IsKeptFor, IsGrownBy, KeepsReadings, KeepsRows}
+use Rattle.roster.specs.Told.{TellsMessages, messages_by_number}
+use Rattle.session_graph.specs.Kept.{IsKeptFor, IsGrownBy, KeepsReadings, KeepsRows}
 use Rattle.queries.specs.Asking.{IsReadingAt}
 use Rattle.queries.specs.Replies.{HasReading}
-use Rattle.ready_answers.specs.Ready.{HasSpareRows, KeepsSource}
-use Rattle.ready_answers.specs.Keeping.{TakesForSource, KeepsSourceBut}
+use Rattle.session_answers.specs.Ready.{HasSpareRows, KeepsSource}
+use Rattle.session_answers.specs.Keeping.{TakesForSource, KeepsSourceBut}
 use Rattle.replies.proofs.Elements.{some_same}
 
 -- ---- one node

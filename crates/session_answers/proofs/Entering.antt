@@ -6,28 +6,28 @@ use Rattle.std.proofs.lemmas.List.{length-map}
 use Rattle.std.proofs.lemmas.Option.{slice_get-map, slice_get-get_or, slice_get_within, get_or_from_slice_get}
 use Rattle.repair.specs.declared.slot.Slot.{Slot}
 use Rattle.decl.specs.Declaration.{Declaration}
-use Rattle.trace_event.specs.Seen.{Seen, seen_event, seen_events}
-use Rattle.trace_event.specs.declared.event.Event.{Event}
+use Rattle.traces.specs.Seen.{Seen, seen_event, seen_events}
+use Rattle.traces.specs.declared.event.Event.{Event}
 use Rattle.traces.specs.declared.accepted.Accepted.{Accepted}
-use Rattle.traces.specs.declared.event.EventId.{EventId}
+use Rattle.traces.specs.declared.event_id.EventId.{EventId}
 use Rattle.traces.specs.Traces.{event_count}
 use Rattle.traces.specs.Held.{seen_in}
 use Rattle.traces.specs.Messages.{problem_of_seen}
 use Rattle.traces.proofs.Ids.{count_appended}
-use Rattle.event_match.specs.Ends.{AreEndsBy}
+use Rattle.msg_match.specs.Ends.{AreEndsBy}
 use Rattle.roster.specs.Groups.{group_at, with_more}
 use Rattle.roster.specs.Roster.{IsRoster, id_of, listed}
-use Rattle.engine.specs.Solver.{SolverLists}
-use Rattle.kept_graph.specs.Kept.{IsKeptFor, KeepsEvents, KeepsRows, KeepsReadings}
-use Rattle.ready_answers.specs.declared.answers.Answers.{Answers}
-use Rattle.ready_answers.specs.Ready.{AreAnswersOf, AreSlotsOf, KeepsSource, problem_by}
+use Rattle.solver.specs.Solver.{SolverLists}
+use Rattle.session_graph.specs.Kept.{IsKeptFor, KeepsEvents, KeepsRows, KeepsReadings}
+use Rattle.session_answers.specs.declared.answers.Answers.{Answers}
+use Rattle.session_answers.specs.Ready.{AreAnswersOf, AreSlotsOf, KeepsSource, problem_by}
 use Rattle.queries.specs.Replies.{HasReading}
-use Rattle.ready_answers.specs.Keeping.{Brings, AreAnswersBut, KeepsSourceBut, TakesForSource, clock_at}
-use Rattle.ready_answers.proofs.Engines.{kept_stays, spare_kept, source_so_far, source_spare, source_whole, source_other, source_slotless}
-use Rattle.ready_answers.proofs.FirstReading.{reading_before}
+use Rattle.session_answers.specs.Keeping.{Brings, AreAnswersBut, KeepsSourceBut, TakesForSource, clock_at}
+use Rattle.session_answers.proofs.Engines.{kept_stays, spare_kept, source_so_far, source_spare, source_whole, source_other, source_slotless}
+use Rattle.session_answers.proofs.FirstReading.{reading_before}
 use Rattle.replies.proofs.Elements.{some_same}
-use Rattle.ready_answers.proofs.RosterEvents.{came_count, labels_are}
-use Rattle.ready_answers.proofs.Slotting.{slots_kept}
+use Rattle.session_answers.proofs.RosterEvents.{came_count, labels_are}
+use Rattle.session_answers.proofs.Slotting.{slots_kept}
 
 -- ---- the events that came last
 drop_all : {A : Type 0} (xs ys : List A) (n : ℕ) → n ≡ length xs → drop n (xs ++ ys) ≡ ys

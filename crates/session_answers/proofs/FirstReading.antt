@@ -4,7 +4,7 @@ use Rattle.std.specs.Prelude.{Contains}
 use Rattle.std.proofs.lemmas.List.Elements.{Contains-append_left, Contains-append_right, Contains-append_cases}
 use Rattle.problem_model.specs.declared.items.Event.{Event}
 use Rattle.decl.specs.Declaration.{Declaration}
-use Rattle.trace_event.specs.Seen.{Seen}
+use Rattle.traces.specs.Seen.{Seen}
 use Rattle.traces.proofs.Lists.{place_in}
 use Rattle.traces.specs.Traces.{Placed, events_from, events_of, numbered, clock_by}
 use Rattle.traces.specs.Messages.{event_with, problem_of_seen}
@@ -12,8 +12,8 @@ use Rattle.traces.proofs.Members.{head_or_tail, none_in}
 use Rattle.roster.proofs.Telling.{among}
 use Rattle.roster.proofs.Turns.{into_map}
 use Rattle.queries.specs.Replies.{HasReading}
-use Rattle.ready_answers.specs.Keeping.{clock_at}
-use Rattle.ready_answers.proofs.RosterEvents.{mapped_at}
+use Rattle.session_answers.specs.Keeping.{clock_at}
+use Rattle.session_answers.proofs.RosterEvents.{mapped_at}
 
 -- events are of the label that they are numbered under
 numbered_label : (label n : ℕ) (events : List Seen) (e : Placed) → Contains (numbered label n events) e → e.id.label ≡ label

@@ -7,28 +7,28 @@ use Rattle.problem_model.specs.Problem.{ProblemLists}
 use Rattle.problem.specs.Line.{HasEvent}
 use Rattle.problem.specs.Listing.{Listed, all_readings}
 use Rattle.roster.specs.Roster.{Finds, listed}
-use Rattle.trace_event.specs.Seen.{Seen}
-use Rattle.traces.specs.declared.event.EventId.{EventId}
+use Rattle.traces.specs.Seen.{Seen}
+use Rattle.traces.specs.declared.event_id.EventId.{EventId}
 use Rattle.row_pool.specs.Pool.{Pool, PoolRow, free_rows, widened, free_row, grown}
 use Rattle.repair.specs.declared.slot.Slot.{Slot}
 use Rattle.repair.specs.Slots.{slot_of}
 use Rattle.repair.specs.Keeping.{IsPlaceOf}
-use Rattle.engine.specs.Solver.{SolverLists}
-use Rattle.ready_answers.specs.declared.answers.Answers.{Answers}
+use Rattle.solver.specs.Solver.{SolverLists}
+use Rattle.session_answers.specs.declared.answers.Answers.{Answers}
 use Rattle.replies.specs.declared.outcome.Outcome.{Outcome}
 use Rattle.replies.specs.declared.outcome.Outcome.TheVariants.{Added, Kept, Refused}
 use Rattle.replies.specs.declared.refusal.Refusal.TheVariants.{UnknownEvent}
 use Rattle.replies.specs.Refusals.{refusal_line}
 use Rattle.replies.specs.Outcomes.{outcome_line}
 use Rattle.replies.specs.Reply.{IsPlacedAt, IsAmong, KeepReply, kept_line, AreKept}
-use Rattle.ready_answers.specs.Ready.{AreSlotsOf, AreAnswersOf, KeepsSource, problem_by}
-use Rattle.ready_answers.specs.Keeping.{IsKeptNext, IsCalled}
+use Rattle.session_answers.specs.Ready.{AreSlotsOf, AreAnswersOf, KeepsSource, problem_by}
+use Rattle.session_answers.specs.Keeping.{IsKeptNext, IsCalled}
 use Rattle.problem.proofs.OwnReadings.{own_readings}
-use Rattle.ready_answers.proofs.RosterEvents.{event_place, placed_at, called}
-use Rattle.ready_answers.proofs.Slotting.{has_place, not_among, slots_more}
+use Rattle.session_answers.proofs.RosterEvents.{event_place, placed_at, called}
+use Rattle.session_answers.proofs.Slotting.{has_place, not_among, slots_more}
 use Rattle.replies.proofs.KeptEvents.{kept_more}
-use Rattle.ready_answers.proofs.Engines.{kept_stays}
-use Rattle.ready_answers.proofs.AskedRows.{none_called, with_engine}
+use Rattle.session_answers.proofs.Engines.{kept_stays}
+use Rattle.session_answers.proofs.AskedRows.{none_called, with_engine}
 
 -- ---- more rows
 abbrev one_free : PoolRow → ℕ

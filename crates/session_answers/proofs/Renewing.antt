@@ -6,25 +6,25 @@ use Rattle.problem.specs.Listing.{Listed}
 use Rattle.decl.specs.Declaration.{Declaration}
 use Rattle.sync_graph.specs.Graph.{GraphLists}
 use Rattle.repair.specs.declared.slot.Slot.{Slot}
-use Rattle.engine.specs.Solver.{SolverLists}
-use Rattle.growth.specs.Once.{IsOn}
-use Rattle.event_match.specs.Ends.{AreEndsBy}
-use Rattle.kept_graph.specs.Kept.{IsKeptFor, KeepsEvents, KeepsReadings, KeepsRows}
-use Rattle.kept_graph.specs.Steps.{IsBetween, TakesFewToAdd}
-use Rattle.solver.specs.Moved0.{IsSolutionBy}
-use Rattle.trace_event.specs.Seen.{Seen, seen_events}
+use Rattle.solver.specs.Solver.{SolverLists}
+use Rattle.roster.specs.Once.{IsOn}
+use Rattle.msg_match.specs.Ends.{AreEndsBy}
+use Rattle.session_graph.specs.Kept.{IsKeptFor, KeepsEvents, KeepsReadings, KeepsRows}
+use Rattle.session_graph.specs.Steps.{IsBetween, TakesFewToAdd}
+use Rattle.solver.specs.Solution.{IsSolutionBy}
+use Rattle.traces.specs.Seen.{Seen, seen_events}
 use Rattle.traces.specs.declared.accepted.Accepted.{Accepted}
 use Rattle.traces.specs.Held.{seen_in}
-use Rattle.traces.specs.declared.event.EventId.{EventId}
+use Rattle.traces.specs.declared.event_id.EventId.{EventId}
 use Rattle.traces.specs.Messages.{problem_of_seen}
 use Rattle.roster.specs.Groups.{with_more}
 use Rattle.roster.specs.Roster.{IsRoster, id_of, listed}
-use Rattle.ready_answers.specs.declared.answers.Answers.{Answers}
-use Rattle.ready_answers.specs.Ready.{AreAnswersOf, KeepsSource, IsAddition}
-use Rattle.ready_answers.specs.Keeping.{AreAnswersBut, Brings, BringsSource}
+use Rattle.session_answers.specs.declared.answers.Answers.{Answers}
+use Rattle.session_answers.specs.Ready.{AreAnswersOf, KeepsSource, IsAddition}
+use Rattle.session_answers.specs.Keeping.{AreAnswersBut, Brings, BringsSource}
 use Rattle.replies.proofs.Elements.{some_same}
-use Rattle.ready_answers.proofs.AskedRows.{listed_reading}
-use Rattle.ready_answers.proofs.Entering.{brought, more_is, reads_then, so_far}
+use Rattle.session_answers.proofs.AskedRows.{listed_reading}
+use Rattle.session_answers.proofs.Entering.{brought, more_is, reads_then, so_far}
 
 -- ---- the source
 -- a source that has no slot has none where no event came

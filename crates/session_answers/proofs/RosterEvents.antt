@@ -10,22 +10,22 @@ use Rattle.problem.specs.Line.{HasEvent, IsUnknown}
 use Rattle.problem.specs.Listing.{name_at}
 use Rattle.problem.proofs.ListedNodes.{map_at}
 use Rattle.problem.proofs.Taking.{one_place}
-use Rattle.trace_event.specs.Seen.{Seen}
+use Rattle.traces.specs.Seen.{Seen}
 use Rattle.traces.proofs.Lists.{place_in}
-use Rattle.traces.specs.declared.event.EventId.{EventId}
+use Rattle.traces.specs.declared.event_id.EventId.{EventId}
 use Rattle.traces.specs.Traces.{event_count, name_of}
 use Rattle.sync_graph.specs.Graph.{GraphLists}
-use Rattle.sync_graph.specs.ListedProblem.{IsListedBy}
-use Rattle.sync_graph.specs.ListedStanding.{IsEventAt}
+use Rattle.problem_graph.specs.ListedProblem.{IsListedBy}
+use Rattle.problem_graph.specs.ListedStanding.{IsEventAt}
 use Rattle.roster.specs.declared.came.Came.{Came}
 use Rattle.roster.specs.Groups.{total, sizes_of, group_at, IsPlaceOf}
 use Rattle.roster.specs.Roster.{RosterLists, IsRoster, Holds, Finds, IsUnder, id_of, no_event, event_at, listed}
 use Rattle.roster.proofs.Telling.{among}
 use Rattle.roster.proofs.Turns.{from_turn, in_turn_at}
-use Rattle.growth.specs.Rosters.{KnowsNodes}
+use Rattle.roster.specs.Rosters.{KnowsNodes}
 use Rattle.replies.specs.Reply.{IsPlacedAt}
-use Rattle.ready_answers.specs.Ready.{HasNodeOf}
-use Rattle.ready_answers.specs.Keeping.{IsCalled}
+use Rattle.session_answers.specs.Ready.{HasNodeOf}
+use Rattle.session_answers.specs.Keeping.{IsCalled}
 use Rattle.replies.proofs.Elements.{some_same}
 use Rattle.replies.proofs.Placing.{ids_at}
 

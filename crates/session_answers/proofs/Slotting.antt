@@ -1,17 +1,17 @@
 -- Slots of kept events.
 use Rattle.std.proofs.Common.{◌≡◌, ◌⊎◌, inl, inr, ℕ, zero, suc, ◌<◌, ◌==◌, List, [], ◌∷◌, ◌++◌, length, slice_get, Some, None, find, Bool, true, false, cond, refl, sym, ◌∙◌, ap, subst, arith}
 use Rattle.std.proofs.lemmas.Option.{slice_get_within}
-use Rattle.traces.specs.declared.event.EventId.{EventId}
+use Rattle.traces.specs.declared.event_id.EventId.{EventId}
 use Rattle.repair.specs.declared.slot.Slot.{Slot}
 use Rattle.sync_graph.specs.Graph.{GraphLists}
 use Rattle.roster.specs.declared.came.Came.{Came}
 use Rattle.roster.specs.Roster.{RosterLists, IsRoster, id_of}
-use Rattle.growth.specs.Rosters.{KnowsNodes}
-use Rattle.kept_graph.specs.Kept.{KeepsEvents}
+use Rattle.roster.specs.Rosters.{KnowsNodes}
+use Rattle.session_graph.specs.Kept.{KeepsEvents}
 use Rattle.replies.specs.Reply.{IsAmong}
-use Rattle.ready_answers.specs.Ready.{AreSlotsOf, HasNodeOf}
+use Rattle.session_answers.specs.Ready.{AreSlotsOf, HasNodeOf}
 use Rattle.replies.proofs.Elements.{some_same, there_some, snoc_parts, snoc_long}
-use Rattle.ready_answers.proofs.RosterEvents.{event_of_one, node_of_one}
+use Rattle.session_answers.proofs.RosterEvents.{event_of_one, node_of_one}
 
 -- ---- slots
 -- the slot that is found is of the node

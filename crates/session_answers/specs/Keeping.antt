@@ -2,16 +2,16 @@
 use Rattle.std.specs.Prelude.{◌≡◌, ◌⊎◌, ℕ, ◌+◌, ◌<◌, List, [], ◌∷◌, ◌++◌, length, map, slice_get, slice_set, Option, Some, None, ⊤}
 use Rattle.row_pool.specs.Pool.{free_rows}
 use Rattle.repair.specs.declared.slot.Slot.{Slot}
-use Rattle.engine.specs.Solver.{SolverLists}
-use Rattle.engine.specs.Changes.{KeepsAnswer, LeavesTaken}
-use Rattle.engine.specs.Current.{IsCurrent}
+use Rattle.solver.specs.Solver.{SolverLists}
+use Rattle.solver.specs.Changes.{KeepsAnswer, LeavesTaken}
+use Rattle.solver.specs.Current.{IsCurrent}
 use Rattle.problem.specs.Listing.{Listed}
 use Rattle.roster.specs.Roster.{RosterLists, IsRoster, id_of, listed}
-use Rattle.kept_graph.specs.Kept.{IsKeptFor}
+use Rattle.session_graph.specs.Kept.{IsKeptFor}
 use Rattle.queries.specs.Asking.{IsKept, IsSourceReading}
-use Rattle.trace_event.specs.Seen.{Seen}
-use Rattle.event_match.specs.Ends.{AreEndsBy}
-use Rattle.traces.specs.declared.event.EventId.{EventId}
+use Rattle.traces.specs.Seen.{Seen}
+use Rattle.msg_match.specs.Ends.{AreEndsBy}
+use Rattle.traces.specs.declared.event_id.EventId.{EventId}
 use Rattle.decl.specs.Declaration.{Declaration}
 use Rattle.problem_model.specs.Problem.{ProblemLists}
 use Rattle.queries.specs.Replies.{HasReading, Replies}
@@ -22,8 +22,8 @@ use Rattle.replies.specs.declared.refusal.Refusal.TheVariants.{UnknownEvent, Eig
 use Rattle.replies.specs.declared.outcome.Outcome.{Outcome}
 use Rattle.replies.specs.declared.outcome.Outcome.TheVariants.{Added, Kept, Refused}
 use Rattle.replies.specs.Reply.{most_kept}
-use Rattle.ready_answers.specs.declared.answers.Answers.{Answers}
-use Rattle.ready_answers.specs.Ready.{HasNodeOf, AreSlotsOf, HasSpareRows, problem_by}
+use Rattle.session_answers.specs.declared.answers.Answers.{Answers}
+use Rattle.session_answers.specs.Ready.{HasNodeOf, AreSlotsOf, HasSpareRows, problem_by}
 use Rattle.replies.specs.Commands.{Command, Add, Interval, Order, Time, Merge, Prove, Keep, Problem, Report}
 
 -- what is known of the graph stays, and so many free rows are taken

@@ -1,22 +1,22 @@
 -- What stands ready for questions.
 use Rattle.std.specs.Prelude.{◌≡◌, ℕ, ◌+◌, ◌*◌, ◌≤◌, List, length, map, slice_get, true, Option, Some, None}
-use Rattle.trace_event.specs.Seen.{Seen}
-use Rattle.traces.specs.declared.event.EventId.{EventId}
+use Rattle.traces.specs.Seen.{Seen}
+use Rattle.traces.specs.declared.event_id.EventId.{EventId}
 use Rattle.traces.specs.Messages.{problem_of_seen}
 use Rattle.problem_model.specs.Problem.{ProblemLists}
 use Rattle.problem.specs.Listing.{Listed}
 use Rattle.row_pool.specs.Pool.{free_rows}
 use Rattle.repair.specs.declared.slot.Slot.{Slot}
 use Rattle.repair.specs.Slots.{all_slots}
-use Rattle.engine.specs.Solver.{SolverLists}
+use Rattle.solver.specs.Solver.{SolverLists}
 use Rattle.roster.specs.declared.came.Came.{Came}
 use Rattle.roster.specs.Roster.{RosterLists, IsRoster, id_of, listed}
-use Rattle.event_match.specs.Ends.{AreEndsBy}
-use Rattle.kept_graph.specs.Kept.{IsKeptFor}
-use Rattle.kept_graph.specs.Steps.{IsBetween, TakesFewToAdd}
+use Rattle.msg_match.specs.Ends.{AreEndsBy}
+use Rattle.session_graph.specs.Kept.{IsKeptFor}
+use Rattle.session_graph.specs.Steps.{IsBetween, TakesFewToAdd}
 use Rattle.queries.specs.Asking.{IsSourceReading}
 use Rattle.queries.specs.Replies.{HasReading}
-use Rattle.ready_answers.specs.declared.answers.Answers.{Answers}
+use Rattle.session_answers.specs.declared.answers.Answers.{Answers}
 
 -- ---- slots
 -- a roster has this node of the event

@@ -2,26 +2,26 @@
 ghost use Rattle.std.specs.Prelude.{◌≡◌, ◌<◌, ◌≤◌, ◌+◌, ◌++◌, ◌*◌, ◌^◌, ◌↔◌, List, [], Some, length, map, IfOk, OnOk, IsTrue};
 ghost use Rattle.decl.specs.declared.items.Label.{Label};
 ghost use Rattle.decl.specs.Declaration.{IsDeclaration, declaration_of};
-ghost use Rattle.trace_event.specs.Seen.{Seen, seen_events};
-ghost use Rattle.traces.specs.declared.event.EventId.{EventId};
+ghost use Rattle.traces.specs.Seen.{Seen, seen_events};
+ghost use Rattle.traces.specs.declared.event_id.EventId.{EventId};
 ghost use Rattle.traces.specs.Traces.{event_count};
 ghost use Rattle.traces.specs.Held.{seen_in};
-ghost use Rattle.event_match.specs.Ends.{IsChange};
+ghost use Rattle.msg_match.specs.Ends.{IsChange};
 ghost use Rattle.roster.specs.Roster.{IsRoster};
 ghost use Rattle.queries.specs.Consistent.{IsConsistent};
 ghost use Rattle.replies.specs.Reply.{most_kept};
-ghost use Rattle.ready_answers.specs.Ready.{AreAnswersOf, IsAddition, problem_by};
-ghost use Rattle.ready_answers.specs.Keeping.{AreAnswersBut, Brings, BringsSource, clock_at};
+ghost use Rattle.session_answers.specs.Ready.{AreAnswersOf, IsAddition, problem_by};
+ghost use Rattle.session_answers.specs.Keeping.{AreAnswersBut, Brings, BringsSource, clock_at};
 
 use crate::slots::keep_source;
 use atto::{Nano, Steps};
 use decl::Decl;
-use event_match::Changed;
-use kept_graph::KeptGraph;
+use msg_match::Changed;
+use session_graph::KeptGraph;
 use queries::is_consistent;
 use std::alloc::{AllocError, Global};
 use std::sync::ledger::Ledger;
-use trace_event::Event;
+use traces::Event;
 use traces::Accepted;
 
 /// The graph of all that was added, with its declaration and the ends of messages, and with the rows of the kept events and of the

@@ -1,8 +1,8 @@
 // Events of a roster by their names.
 ghost use Rattle.std.specs.Prelude.{◌⊎◌, None, IfSome, IfNone};
-ghost use Rattle.traces.specs.declared.event.EventId.{EventId};
+ghost use Rattle.traces.specs.declared.event_id.EventId.{EventId};
 ghost use Rattle.roster.specs.Roster.{Finds};
-ghost use Rattle.ready_answers.specs.Keeping.{IsCalled};
+ghost use Rattle.session_answers.specs.Keeping.{IsCalled};
 
 use roster::Roster;
 use traces::EventId;

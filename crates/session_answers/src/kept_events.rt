@@ -1,18 +1,18 @@
 // Events that are kept from now on.
 ghost use Rattle.std.specs.Prelude.{◌≡◌, ◌<◌, ◌≤◌, None, List, length, IfOk, OnOk, OnErr};
-ghost use Rattle.trace_event.specs.Seen.{Seen};
+ghost use Rattle.traces.specs.Seen.{Seen};
 ghost use Rattle.repair.specs.Slots.{slot_of};
-ghost use Rattle.engine.specs.Current.{IsCurrent};
+ghost use Rattle.solver.specs.Current.{IsCurrent};
 ghost use Rattle.replies.specs.Outcomes.{outcome_line};
 ghost use Rattle.replies.specs.Reply.{AreKept, KeepReply, most_kept};
-ghost use Rattle.ready_answers.specs.Ready.{AreAnswersOf, HasSpareRows, problem_by};
-ghost use Rattle.ready_answers.specs.Keeping.{IsKeptNext};
+ghost use Rattle.session_answers.specs.Ready.{AreAnswersOf, HasSpareRows, problem_by};
+ghost use Rattle.session_answers.specs.Keeping.{IsKeptNext};
 
 use crate::answers::{Answers, rows_for};
 use crate::events::find_event;
 use crate::slots::keep_node;
 use atto::Steps;
-use engine::Solver;
+use solver::Solver;
 use replies::{Outcome, Refusal};
 use std::alloc::AllocError;
 use std::sync::ledger::Ledger;

@@ -8,10 +8,10 @@
 
 mod answers;
 mod events;
-mod keeping;
+mod kept_events;
 mod questions;
 mod slots;
 
 pub use answers::{Answers, Renewed, decl_of, first_answers, renew};
-pub use keeping::keep_event;
+pub use kept_events::keep_event;
 pub use questions::{ask_interval, ask_order, ask_proof, ask_time};

@@ -3,15 +3,15 @@ ghost use Rattle.std.specs.Prelude.{◌≡◌, ◌<◌, ◌≤◌, ◌+◌, ℕ,
 ghost use Rattle.problem_model.specs.Problem.{ProblemLists};
 ghost use Rattle.row_pool.specs.Pool.{free_rows};
 ghost use Rattle.repair.specs.Slots.{slot_of};
-ghost use Rattle.engine.specs.Current.{IsCurrent};
+ghost use Rattle.solver.specs.Current.{IsCurrent};
 ghost use Rattle.roster.specs.Roster.{listed};
-ghost use Rattle.solver.specs.Moved0.{IsSolutionBy};
+ghost use Rattle.solver.specs.Solution.{IsSolutionBy};
 ghost use Rattle.queries.specs.Asking.{IsReadingAt};
-ghost use Rattle.ready_answers.specs.Ready.{KeepsSource};
-ghost use Rattle.ready_answers.specs.Keeping.{TakesFree, TakesForSource, HasNextSlot};
+ghost use Rattle.session_answers.specs.Ready.{KeepsSource};
+ghost use Rattle.session_answers.specs.Keeping.{TakesFree, TakesForSource, HasNextSlot};
 
 use atto::{Nano, Steps};
-use engine::Solver;
+use solver::Solver;
 use roster::Roster;
 use std::sync::ledger::Ledger;
 

@@ -4,10 +4,10 @@ use Rattle.std.proofs.Common.{List, [], map, Contains, inl}
 use Rattle.problem_model.specs.declared.items.Message.{Message}
 use Rattle.sync_graph.specs.Graph.{GraphLists}
 use Rattle.roster.specs.Roster.{RosterLists}
-use Rattle.growth.specs.Entered.{all_events}
-use Rattle.growth.specs.Rosters.{named_event}
-use Rattle.kept_graph.specs.Kept.{IsGrownBy}
-use Rattle.kept_graph.proofs.Messages.{with_messages}
+use Rattle.roster.specs.Entered.{all_events}
+use Rattle.roster.specs.Rosters.{named_event}
+use Rattle.session_graph.specs.Kept.{IsGrownBy}
+use Rattle.session_graph.proofs.Messages.{with_messages}
 
 -- two lists have the same messages
 pub record AreAlike (some others : List Message) : Type 0 where

@@ -11,22 +11,22 @@ use Rattle.problem_model.specs.Problem.{ProblemLists}
 use Rattle.problem_model.specs.Bounds.{Constraint, Declares, IsReading}
 use Rattle.sync_graph.specs.declared.arc.Arc.{Arc}
 use Rattle.sync_graph.specs.Graph.{GraphLists, arc_at, with_arc}
-use Rattle.sync_graph.specs.Standing.{HasNode}
+use Rattle.problem_graph.specs.Standing.{HasNode}
 use Rattle.sync_graph.proofs.InForce.{no_arc}
-use Rattle.engine.specs.Solver.{SolverLists, HasRoom}
-use Rattle.engine.specs.Current.{IsCurrent}
-use Rattle.engine.specs.Changes.{KeepsSlots}
-use Rattle.growth.specs.Entered.{IsReadingOf}
-use Rattle.growth.specs.Entering.{span_below, span_above, follow_before, follow_after}
-use Rattle.growth.specs.Growing.{IsGrowing}
-use Rattle.growth.specs.Once.{IsOn, HasEachOnce}
-use Rattle.growth.proofs.Once.{pushed_once}
-use Rattle.growth.proofs.Pushed.{bound_pushed}
-use Rattle.kept_graph.specs.Kept.{KeepsRows}
-use Rattle.kept_graph.specs.Pushing.{Brings}
-use Rattle.kept_graph.specs.Linking.{links_of}
-use Rattle.kept_graph.specs.declared.following.Nearest.{Nearest}
-use Rattle.kept_graph.proofs.Extending.{extends_itself, extends_then, extends_by_arc}
+use Rattle.solver.specs.Solver.{SolverLists, HasRoom}
+use Rattle.solver.specs.Current.{IsCurrent}
+use Rattle.solver.specs.Changes.{KeepsSlots}
+use Rattle.roster.specs.Entered.{IsReadingOf}
+use Rattle.roster.specs.Entering.{span_below, span_above, follow_before, follow_after}
+use Rattle.roster.specs.Growing.{IsGrowing}
+use Rattle.roster.specs.Once.{IsOn, HasEachOnce}
+use Rattle.roster.proofs.Once.{pushed_once}
+use Rattle.roster.proofs.PushedBounds.{bound_pushed}
+use Rattle.session_graph.specs.Kept.{KeepsRows}
+use Rattle.session_graph.specs.Pushes.{Brings}
+use Rattle.session_graph.specs.Links.{links_of}
+use Rattle.session_graph.specs.declared.follows.Nearest.{Nearest}
+use Rattle.session_graph.proofs.Extending.{extends_itself, extends_then, extends_by_arc}
 
 -- ---- rows
 pub rows_stay : (old new : SolverLists) → KeepsSlots old new → KeepsRows old new

@@ -5,10 +5,10 @@ use Rattle.problem_model.specs.declared.items.Message.{Message}
 use Rattle.problem.specs.Line.{HasEvent}
 use Rattle.problem.specs.Listing.{name_at}
 use Rattle.problem.proofs.ListedNodes.{map_at}
-use Rattle.sync_graph.specs.ListedProblem.{StandsAt}
-use Rattle.trace_event.specs.Seen.{Seen}
-use Rattle.traces.specs.declared.event.EventId.{EventId}
-use Rattle.traces.specs.declared.event.Couple.{Couple}
+use Rattle.problem_graph.specs.ListedProblem.{StandsAt}
+use Rattle.traces.specs.Seen.{Seen}
+use Rattle.traces.specs.declared.event_id.EventId.{EventId}
+use Rattle.traces.specs.declared.event_id.Couple.{Couple}
 use Rattle.traces.specs.Traces.{event_count, events_of, name_of}
 use Rattle.traces.specs.Messages.{linked, messages_of, place_of, problem_of_seen}
 use Rattle.traces.proofs.MessageEnds.{ends_known}
@@ -22,9 +22,9 @@ use Rattle.roster.specs.Roster.{RosterLists, id_of, event_at, IsRoster, Holds, l
 use Rattle.roster.proofs.Problem.{events_are}
 use Rattle.roster.proofs.Telling.{among}
 use Rattle.roster.proofs.Turns.{from_map, into_map, into_turn}
-use Rattle.growth.specs.ByNumber.{IsCarriedMessage, AreCarriedMessages}
-use Rattle.growth.specs.Told.{messages_by_number, number_of, numbered_message}
-use Rattle.kept_graph.proofs.Held.{number_is, labels_many, events_many, id_under}
+use Rattle.roster.specs.ByNumber.{IsCarriedMessage, AreCarriedMessages}
+use Rattle.roster.specs.Told.{messages_by_number, number_of, numbered_message}
+use Rattle.session_graph.proofs.Held.{number_is, labels_many, events_many, id_under}
 
 module _ (r : RosterLists) (is : IsRoster r) (seen : List (List Seen)) (holds : Holds r seen) where
   abbrev names : List (List ℕ)

@@ -10,45 +10,45 @@ use Rattle.std.proofs.lemmas.List.Sorted.{All-permutation, Contains-permutation,
 use Rattle.std.proofs.lemmas.Option.{slice_get-get_or}
 use Rattle.problem_model.specs.declared.items.Message.{Message}
 use Rattle.problem_model.specs.declared.items.Node.TheVariants as nodes
-use Rattle.sync_graph.specs.Standing.{HasNode}
-use Rattle.engine.specs.Solver.{SolverLists}
-use Rattle.engine.specs.Current.{IsCurrent}
-use Rattle.trace_event.specs.declared.event.Event.{Event}
-use Rattle.trace_event.specs.Seen.{Seen, seen_event, seen_events}
-use Rattle.traces.specs.declared.event.EventId.{EventId}
-use Rattle.traces.specs.declared.event.Couple.{Couple}
+use Rattle.problem_graph.specs.Standing.{HasNode}
+use Rattle.solver.specs.Solver.{SolverLists}
+use Rattle.solver.specs.Current.{IsCurrent}
+use Rattle.traces.specs.declared.event.Event.{Event}
+use Rattle.traces.specs.Seen.{Seen, seen_event, seen_events}
+use Rattle.traces.specs.declared.event_id.EventId.{EventId}
+use Rattle.traces.specs.declared.event_id.Couple.{Couple}
 use Rattle.traces.specs.Traces.{events_of}
 use Rattle.traces.proofs.Members.{here, there}
 use Rattle.traces.specs.Messages.{messages_of}
 use Rattle.traces.specs.Making.{StampsFit}
 use Rattle.msg_match.specs.declared.change.Change.{Change}
 use Rattle.msg_match.specs.declared.change.Couple as numbers
-use Rattle.event_match.specs.Ends.{AreNewMessages, AreChanges, AreCouplesBelow, ids_from, named}
+use Rattle.msg_match.specs.Ends.{AreNewMessages, AreChanges, AreCouplesBelow, ids_from, named}
 use Rattle.roster.specs.Groups.{group_at, with_more}
 use Rattle.roster.specs.Readings.{stamps_of}
 use Rattle.roster.specs.Roster.{RosterLists, IsRoster, IsGrown, Holds, id_of}
 use Rattle.roster.proofs.Turns.{map-map}
-use Rattle.growth.specs.Entered.{events_below}
-use Rattle.growth.specs.Told.{messages_by_number, numbered_message}
-use Rattle.kept_graph.specs.declared.planning.Due.{Due}
-use Rattle.kept_graph.specs.declared.planning.Turn.{Turn}
-use Rattle.kept_graph.specs.Kept.{IsKeptFor}
-use Rattle.kept_graph.specs.UnderWay.{IsUnderWay, IsEntering}
-use Rattle.kept_graph.specs.Growing.{Gains, Retells, KeepsNodesThere}
-use Rattle.kept_graph.specs.Withdrawing.{AreLeft}
-use Rattle.kept_graph.specs.Planning.{numbers_of, messages_in}
-use Rattle.kept_graph.specs.Numbering.{message_by, names_then}
-use Rattle.kept_graph.specs.Coming.{HaveOwnSends, HaveCome}
-use Rattle.kept_graph.proofs.Alike.{AreAlike}
-use Rattle.kept_graph.proofs.Both.{AreInBoth, in_both, differ_permuted}
-use Rattle.kept_graph.proofs.Gaining.{gains_behind, same_numbered}
-use Rattle.kept_graph.proofs.Held.{labels_many}
-use Rattle.kept_graph.proofs.InARow.{keeps_none}
-use Rattle.kept_graph.proofs.Naming.{messages_are, same_names, names_pushed, names_of_same}
-use Rattle.kept_graph.proofs.NewEnds.{few_added}
-use Rattle.kept_graph.proofs.Pushed.{pushed_gains, came_count, begins, before_there, ends_way}
-use Rattle.kept_graph.proofs.Staying.{gone_differ, are_left, own_sends, come_sends, come_receives, all_there}
-use Rattle.kept_graph.proofs.WholeGraph.{kept_way, way_kept}
+use Rattle.roster.specs.Entered.{events_below}
+use Rattle.roster.specs.Told.{messages_by_number, numbered_message}
+use Rattle.session_graph.specs.declared.plans.Due.{Due}
+use Rattle.session_graph.specs.declared.plans.Turn.{Turn}
+use Rattle.session_graph.specs.Kept.{IsKeptFor}
+use Rattle.session_graph.specs.UnderWay.{IsUnderWay, IsEntering}
+use Rattle.session_graph.specs.Growth.{Gains, Retells, KeepsNodesThere}
+use Rattle.session_graph.specs.Withdrawn.{AreLeft}
+use Rattle.session_graph.specs.Plans.{numbers_of, messages_in}
+use Rattle.session_graph.specs.Numbers.{message_by, names_then}
+use Rattle.session_graph.specs.Arrivals.{HaveOwnSends, HaveCome}
+use Rattle.session_graph.proofs.Alike.{AreAlike}
+use Rattle.session_graph.proofs.Both.{AreInBoth, in_both, differ_permuted}
+use Rattle.session_graph.proofs.Gaining.{gains_behind, same_numbered}
+use Rattle.session_graph.proofs.Held.{labels_many}
+use Rattle.session_graph.proofs.InARow.{keeps_none}
+use Rattle.session_graph.proofs.Naming.{messages_are, same_names, names_pushed, names_of_same}
+use Rattle.session_graph.proofs.NewEnds.{few_added}
+use Rattle.session_graph.proofs.Pushed.{pushed_gains, came_count, begins, before_there, ends_way}
+use Rattle.session_graph.proofs.Staying.{gone_differ, are_left, own_sends, come_sends, come_receives, all_there}
+use Rattle.session_graph.proofs.WholeGraph.{kept_way, way_kept}
 
 -- ---- stamps
 abbrev Fits : Seen → Type 0

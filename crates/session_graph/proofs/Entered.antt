@@ -19,14 +19,14 @@ use Rattle.roster.specs.declared.came.Came.{Came}
 use Rattle.roster.specs.declared.came.Partner.{Partner}
 use Rattle.roster.specs.Readings.{Stamped, Rise}
 use Rattle.roster.specs.Roster.{RosterLists, IsGrown}
-use Rattle.growth.specs.Entered.{all_events, events_below}
-use Rattle.growth.specs.Growing.{IsGrownTo}
-use Rattle.growth.specs.Withdrawing.{AreMore, IsDelayOf, Withdraws}
-use Rattle.growth.specs.Once.{IsOn}
-use Rattle.growth.specs.Rosters.{named_event, problem_by_number}
-use Rattle.growth.proofs.Withdrawn.{grown_after}
-use Rattle.growth.proofs.Rosters.{more_events}
-use Rattle.kept_graph.specs.Kept.{HasArcs, KnowsMessages}
+use Rattle.roster.specs.Entered.{all_events, events_below}
+use Rattle.roster.specs.Growing.{IsGrownTo}
+use Rattle.roster.specs.Withdrawing.{AreMore, IsDelayOf, Withdraws}
+use Rattle.roster.specs.Once.{IsOn}
+use Rattle.roster.specs.Rosters.{named_event, problem_by_number}
+use Rattle.roster.proofs.Withdrawn.{grown_after}
+use Rattle.roster.proofs.Rosters.{more_events}
+use Rattle.session_graph.specs.Kept.{HasArcs, KnowsMessages}
 
 pub map_back : {X Y : Type 0} (f : X → Y) (xs : List X) (k : ℕ) (y : Y) → slice_get (map f xs) k ≡ Some y → (x : X) × (slice_get xs k ≡ Some x) × (f x ≡ y)
 map_back f [] k y at = absurd (none-some y at)

@@ -6,11 +6,11 @@ use Rattle.std.proofs.lemmas.List.{get_or_append_left}
 use Rattle.std.proofs.lemmas.List.Elements.{All-head, All-tail}
 use Rattle.std.proofs.lemmas.List.Sums.{sum_by-cons}
 use Rattle.problem_model.specs.declared.items.Node.{Node}
-use Rattle.difference_bounds.specs.Executions.{at}
-use Rattle.difference_bounds.specs.Tables.{ArcTable, reversed_table}
-use Rattle.difference_bounds.specs.Parents.{IsRow}
-use Rattle.difference_bounds.specs.Sums.{is_changed}
-use Rattle.falls.specs.Withdrawals.{flagged_sum}
+use Rattle.problem_model.specs.Executions.{at}
+use Rattle.problem_model.specs.Tables.{ArcTable, reversed_table}
+use Rattle.problem_model.specs.Parents.{IsRow}
+use Rattle.problem_model.specs.Sums.{is_changed}
+use Rattle.withdrawals.specs.Withdrawals.{flagged_sum}
 use Rattle.earliest.specs.Steps.{differing_sum}
 use Rattle.sync_graph.specs.declared.arc.Arc.{Arc}
 use Rattle.sync_graph.specs.Graph.{GraphLists, IsGraph, table_of, unnamed, arc_at, with_arc, reaching, departing}
@@ -23,13 +23,13 @@ use Rattle.distances.specs.Changes.{AreBlank, steps_of_changes, steps_at}
 use Rattle.repair.specs.declared.slot.Slot.{Slot}
 use Rattle.repair.specs.Slots.{IsRowsOf, all_slots, behind}
 use Rattle.repair.specs.Renewals.{insertion_steps}
-use Rattle.engine.specs.Solver.{SolverLists, with_new_node}
-use Rattle.engine.specs.Current.{IsCurrent}
-use Rattle.engine.specs.Changes.{KeepsSlots}
-use Rattle.engine.specs.Costs.{repair_steps, pushing_steps}
-use Rattle.kept_graph.specs.Steps.{IsSolved, is_new, differs, inserting_values, inserting_row, inserting_rows, inserting_steps}
-use Rattle.kept_graph.specs.Extending.{Extends, TakesFewToPush}
-use Rattle.kept_graph.proofs.Later.{GoesOn, goes_reversed, list_longer, values_rise, none_against, no_farther, differs_still, changed_still, AreZero, flags_more}
+use Rattle.solver.specs.Solver.{SolverLists, with_new_node}
+use Rattle.solver.specs.Current.{IsCurrent}
+use Rattle.solver.specs.Changes.{KeepsSlots}
+use Rattle.solver.specs.Costs.{repair_steps, pushing_steps}
+use Rattle.session_graph.specs.Steps.{IsSolved, is_new, differs, inserting_values, inserting_row, inserting_rows, inserting_steps}
+use Rattle.session_graph.specs.Extensions.{Extends, TakesFewToPush}
+use Rattle.session_graph.proofs.Later.{GoesOn, goes_reversed, list_longer, values_rise, none_against, no_farther, differs_still, changed_still, AreZero, flags_more}
 
 -- ---- growing on
 pub nothing_more : {X : Type 0} (xs ys : List X) → ys ≡ xs → (more : List X) × (ys ≡ xs ++ more)

@@ -7,13 +7,13 @@ use Rattle.std.proofs.lemmas.List.{ext_get_or, get_or_append_left}
 use Rattle.std.proofs.lemmas.List.Elements.{All-contains, Contains-append_cases, Contains-append_left, Contains-append_right}
 use Rattle.std.proofs.lemmas.List.Sums.{sum_by-le-sum_by}
 use Rattle.traces.proofs.Members.{here}
-use Rattle.difference_bounds.specs.Executions as bounds
-use Rattle.difference_bounds.specs.Executions.{at}
-use Rattle.difference_bounds.specs.Tables.{ArcTable, listed, reversed_table}
-use Rattle.difference_bounds.specs.Reversal.{reversed}
-use Rattle.difference_bounds.specs.Parents.{Cells}
-use Rattle.falls.specs.Withdrawals.{IsAffected, flagged_sum}
-use Rattle.regrowths.specs.Regrowths.{MeetsRemoved, IsAffectedIn}
+use Rattle.problem_model.specs.Executions as bounds
+use Rattle.problem_model.specs.Executions.{at}
+use Rattle.problem_model.specs.Tables.{ArcTable, listed, reversed_table}
+use Rattle.problem_model.specs.Reversal.{reversed}
+use Rattle.problem_model.specs.Parents.{Cells}
+use Rattle.withdrawals.specs.Withdrawals.{IsAffected, flagged_sum}
+use Rattle.withdrawals.specs.Regrowths.{MeetsRemoved, IsAffectedIn}
 use Rattle.sync_graph.specs.declared.arc.Arc.{Arc}
 use Rattle.sync_graph.specs.Graph.{IsGraph, table_of, unnamed, arc_at, reaching, departing}
 use Rattle.sync_graph.specs.InForce.{arcs_of}
@@ -21,23 +21,23 @@ use Rattle.sync_graph.proofs.InForce.{no_arc, in_force_below}
 use Rattle.earliest.specs.Withdrawn.{arcs_before}
 use Rattle.row_pool.specs.Row.{cells_of}
 use Rattle.row_pool.specs.Pool.{row_of}
-use Rattle.row_withdrawal.specs.Withdrawals.{IsRemoved}
+use Rattle.repair.specs.RowWithdrawals.{IsRemoved}
 use Rattle.repair.specs.declared.slot.Slot.{Slot}
 use Rattle.repair.specs.Slots.{all_slots}
 use Rattle.repair.specs.Withdrawals.{MarksAffected, steps_of_marked, withdrawal_steps}
-use Rattle.engine.specs.Solver.{SolverLists}
-use Rattle.engine.specs.Current.{IsCurrent}
-use Rattle.engine.specs.Costs.{MarksAll, withdrawing_steps}
-use Rattle.engine.specs.Withdrawn.{arcs_numbered}
-use Rattle.growth.specs.Once.{IsOn}
-use Rattle.kept_graph.specs.Steps.{IsSolved, IsBetween, AllStay, AreGone, IsWithdrawingPart, inserting_steps, TakesFewToAdd}
-use Rattle.kept_graph.specs.Extending.{Extends, TakesFewToPush}
-use Rattle.kept_graph.specs.Cutting.{CutsInFewSteps}
-use Rattle.kept_graph.proofs.Flags.{stays_off, off_in}
-use Rattle.kept_graph.proofs.ToldArcs.{mapped, map_has}
-use Rattle.kept_graph.proofs.Later.{GoesOn, none_against, flags_more}
-use Rattle.kept_graph.proofs.Extending.{nothing_more, extends_itself, goes_on, departing_more, reaching_more, solved_as}
-use Rattle.kept_graph.proofs.Bringing.{on_inside}
+use Rattle.solver.specs.Solver.{SolverLists}
+use Rattle.solver.specs.Current.{IsCurrent}
+use Rattle.solver.specs.Costs.{MarksAll, withdrawing_steps}
+use Rattle.solver.specs.Withdrawn.{arcs_numbered}
+use Rattle.roster.specs.Once.{IsOn}
+use Rattle.session_graph.specs.Steps.{IsSolved, IsBetween, AllStay, AreGone, IsWithdrawingPart, inserting_steps, TakesFewToAdd}
+use Rattle.session_graph.specs.Extensions.{Extends, TakesFewToPush}
+use Rattle.session_graph.specs.Cuts.{CutsInFewSteps}
+use Rattle.session_graph.proofs.Flags.{stays_off, off_in}
+use Rattle.session_graph.proofs.ToldArcs.{mapped, map_has}
+use Rattle.session_graph.proofs.Later.{GoesOn, none_against, flags_more}
+use Rattle.session_graph.proofs.Extending.{nothing_more, extends_itself, goes_on, departing_more, reaching_more, solved_as}
+use Rattle.session_graph.proofs.Bringing.{on_inside}
 
 -- ---- affected nodes, where more is removed
 pub affected_more : (arcs arcs' removed removed' : List bounds.Arc) (x : ℕ → ℤ) (k : ℕ) → ((a : bounds.Arc) → Contains arcs a → Contains arcs' a) → ((a : bounds.Arc) → Contains removed a → Contains removed' a)

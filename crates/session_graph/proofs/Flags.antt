@@ -3,7 +3,7 @@ use Rattle.std.proofs.Common.{◌≡◌, ◌⊎◌, ℕ, Bool, true, false, List
 use Rattle.std.proofs.lemmas.Bool.{cases_eq, cases_lt}
 use Rattle.std.proofs.lemmas.List.{length-set, get_or-set_same, get_or-set_other, get_or_past}
 use Rattle.traces.proofs.Members.{here, there, none_in, head_or_tail}
-use Rattle.engine.specs.Changes.{withdrawn}
+use Rattle.solver.specs.Changes.{withdrawn}
 
 pub stays_off : (flags : List Bool) (numbers : List ℕ) (k : ℕ) → get_or flags k false ≡ false → get_or (withdrawn flags numbers) k false ≡ false
 stays_off flags [] k off = off

@@ -10,11 +10,11 @@ use Rattle.sync_graph.specs.Graph.{GraphLists}
 use Rattle.traces.proofs.Members.{here, there, none_in, head_or_tail}
 use Rattle.roster.specs.declared.came.Came.{Came}
 use Rattle.roster.specs.Roster.{RosterLists, event_at}
-use Rattle.growth.specs.Rosters.{named_event, KnowsNodes}
-use Rattle.kept_graph.specs.Growing.{Retells}
-use Rattle.kept_graph.specs.Withdrawing.{without_partner, without_partners}
-use Rattle.kept_graph.proofs.Gaining.{retells_none, retells_then}
-use Rattle.kept_graph.proofs.OneMessage.{told_here, told_other, retells, events_same, knows_same}
+use Rattle.roster.specs.Rosters.{named_event, KnowsNodes}
+use Rattle.session_graph.specs.Growth.{Retells}
+use Rattle.session_graph.specs.Withdrawn.{without_partner, without_partners}
+use Rattle.session_graph.proofs.Gaining.{retells_none, retells_then}
+use Rattle.session_graph.proofs.OneMessage.{told_here, told_other, retells, events_same, knows_same}
 
 -- the numbers of the sends of messages
 abbrev pub sends_of : List Message → List ℕ

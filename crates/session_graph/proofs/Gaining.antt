@@ -2,12 +2,12 @@
 use Rattle.std.proofs.Common.{◌≡◌, ◌+◌, ℕ, List, length, refl, sym, ◌∙◌, ap, subst}
 use Rattle.decl.specs.Declaration.{Declaration, link_bounds}
 use Rattle.problem_model.specs.declared.items.Message.{Message}
-use Rattle.traces.specs.declared.event.Couple.{Couple}
+use Rattle.traces.specs.declared.event_id.Couple.{Couple}
 use Rattle.traces.specs.Traces.{host_of}
 use Rattle.roster.specs.Roster.{RosterLists, IsUnder}
-use Rattle.growth.specs.Told.{number_of, numbered_message}
-use Rattle.kept_graph.specs.Kept.{KeepsEvents, KeepsReadings}
-use Rattle.kept_graph.specs.Growing.{Gains, Retells}
+use Rattle.roster.specs.Told.{number_of, numbered_message}
+use Rattle.session_graph.specs.Kept.{KeepsEvents, KeepsReadings}
+use Rattle.session_graph.specs.Growth.{Gains, Retells}
 
 -- ---- what stays
 pub events_then : (a b c : RosterLists) → KeepsEvents a b → KeepsEvents b c → KeepsEvents a c

@@ -4,15 +4,15 @@ use Rattle.std.proofs.lemmas.List.{length-map}
 use Rattle.std.proofs.lemmas.List.Elements.{All-contains}
 use Rattle.std.proofs.lemmas.List.Sums.{sum_by-cons}
 use Rattle.std.proofs.lemmas.Option.{same_Some, slice_get_within, get_or_from_slice_get}
-use Rattle.trace_event.specs.Seen.{Seen}
-use Rattle.traces.specs.declared.event.EventId.{EventId}
+use Rattle.traces.specs.Seen.{Seen}
+use Rattle.traces.specs.declared.event_id.EventId.{EventId}
 use Rattle.traces.specs.Traces.{Placed, event_count, events_of}
 use Rattle.traces.proofs.Ids.{ids_within}
 use Rattle.traces.specs.Making.{IsOneOf}
 use Rattle.traces.proofs.Lists.{got}
 use Rattle.roster.specs.Groups.{total, sizes_of, group_at}
 use Rattle.roster.specs.Roster.{RosterLists, id_of, event_at, IsRoster, IsUnder, Holds}
-use Rattle.growth.specs.Told.{number_of}
+use Rattle.roster.specs.Told.{number_of}
 
 -- ---- numbers
 -- the number that is looked up by an id

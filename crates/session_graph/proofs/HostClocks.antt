@@ -13,9 +13,9 @@ use Rattle.decl.specs.Declaration.{Declaration, IsDeclaration, IsClockOf, AreOfO
 use Rattle.decl.specs.declared.items.Owner.{Owner}
 use Rattle.decl.proofs.Following.{is_follow, follow_there, comes_exactly, each_follow}
 use Rattle.sync_graph.specs.Graph.{GraphLists}
-use Rattle.sync_graph.specs.Standing.{HasNode}
+use Rattle.problem_graph.specs.Standing.{HasNode}
 use Rattle.roster.specs.Readings.{Stamped, HasStamp, IsLastUnder, IsFirstOver, IsFirstStamp, IsLastStamp}
-use Rattle.growth.specs.Entering.{IsFirstNode, IsLastNode, IsReadingBefore, IsReadingAfter}
+use Rattle.roster.specs.Entering.{IsFirstNode, IsLastNode, IsReadingBefore, IsReadingAfter}
 
 -- ---- the first and the last node of a clock, sought from stamp to stamp
 -- no node of the clock is before this stamp, which the clock has shown; or none is behind it

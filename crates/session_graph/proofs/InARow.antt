@@ -6,17 +6,17 @@ use Rattle.problem_model.specs.declared.items.Message.{Message}
 use Rattle.problem_model.specs.declared.items.Node.{Node}
 use Rattle.problem_model.specs.declared.items.Node.TheVariants as nodes
 use Rattle.sync_graph.specs.Graph.{GraphLists}
-use Rattle.sync_graph.specs.Standing.{HasNode}
-use Rattle.engine.specs.Solver.{SolverLists, HasRoom}
+use Rattle.problem_graph.specs.Standing.{HasNode}
+use Rattle.solver.specs.Solver.{SolverLists, HasRoom}
 use Rattle.traces.proofs.Members.{first_of_pairs, rest_of_pairs, no_pairs}
 use Rattle.roster.specs.Roster.{RosterLists}
-use Rattle.kept_graph.specs.declared.planning.Due.{Due}
-use Rattle.kept_graph.specs.declared.planning.Turn.{Turn}
-use Rattle.kept_graph.specs.Extending.{Extends}
-use Rattle.kept_graph.specs.Planning.{numbers_of, messages_in}
-use Rattle.kept_graph.specs.Growing.{KeepsNodesThere}
-use Rattle.kept_graph.specs.Coming.{HaveOwnSends, HaveCome}
-use Rattle.kept_graph.proofs.Bringing.{rows_same, rows_then}
+use Rattle.session_graph.specs.declared.plans.Due.{Due}
+use Rattle.session_graph.specs.declared.plans.Turn.{Turn}
+use Rattle.session_graph.specs.Extensions.{Extends}
+use Rattle.session_graph.specs.Plans.{numbers_of, messages_in}
+use Rattle.session_graph.specs.Growth.{KeepsNodesThere}
+use Rattle.session_graph.specs.Arrivals.{HaveOwnSends, HaveCome}
+use Rattle.session_graph.proofs.Bringing.{rows_same, rows_then}
 
 -- ---- what a roster keeps
 pub keeps_none : (g : GraphLists) (r : RosterLists) → KeepsNodesThere g r r

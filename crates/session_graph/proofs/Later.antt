@@ -5,20 +5,20 @@ use Rattle.std.proofs.lemmas.Int.{ints}
 use Rattle.std.proofs.lemmas.Bool.{cases_Bool, cases_lt}
 use Rattle.std.proofs.lemmas.List.Elements.{All-contains, Contains-get_or}
 use Rattle.std.proofs.lemmas.Grind.{get_or_default_zero}
-use Rattle.difference_bounds.specs.Executions.{Arc, Obeys, at}
-use Rattle.difference_bounds.specs.Tables.{ArcTable, ObeysAll, reversed_table}
-use Rattle.difference_bounds.specs.Reversal.{reversed}
-use Rattle.difference_bounds.specs.Parents.{Cells, LeadsBack, IsRow}
-use Rattle.difference_bounds.specs.Sums.{sum_to, is_changed}
-use Rattle.difference_bounds.proofs.Sums.{lt_true}
-use Rattle.difference_bounds.specs.Paths.{IsContradiction}
-use Rattle.difference_bounds.proofs.Paths.{no_execution}
-use Rattle.difference_bounds.proofs.Tables.{obeys_all, earliest_below, execution_of_table}
+use Rattle.problem_model.specs.Executions.{Arc, Obeys, at}
+use Rattle.problem_model.specs.Tables.{ArcTable, ObeysAll, reversed_table}
+use Rattle.problem_model.specs.Reversal.{reversed}
+use Rattle.problem_model.specs.Parents.{Cells, LeadsBack, IsRow}
+use Rattle.problem_model.specs.Sums.{sum_to, is_changed}
+use Rattle.problem_model.proofs.Sums.{lt_true}
+use Rattle.problem_model.specs.Paths.{IsContradiction}
+use Rattle.problem_model.proofs.Paths.{no_execution}
+use Rattle.problem_model.proofs.Tables.{obeys_all, earliest_below, execution_of_table}
 use Rattle.sync_graph.specs.Graph.{GraphLists, IsGraph, table_of}
 use Rattle.sync_graph.specs.Lists.{list_at, entry_at, AreListed}
 use Rattle.sync_graph.specs.InForce.{IsEarliestOf, arcs_of}
 use Rattle.sync_graph.proofs.InForce.{arcs_listed, arcs_within}
-use Rattle.growth.proofs.Counting.{fits}
+use Rattle.roster.proofs.Counting.{fits}
 
 -- ---- arcs that go on
 -- each arc in force is so in the other table too, and is the same arc

@@ -16,28 +16,28 @@ use Rattle.problem_model.specs.Bounds.{Constraint, Declares}
 use Rattle.decl.specs.Declaration.{Declaration, follows_of}
 use Rattle.sync_graph.specs.declared.arc.Arc.{Arc}
 use Rattle.sync_graph.specs.Graph.{arc_at}
-use Rattle.engine.specs.Solver.{SolverLists}
-use Rattle.engine.specs.Current.{IsCurrent}
-use Rattle.engine.specs.Changes.{withdrawn}
+use Rattle.solver.specs.Solver.{SolverLists}
+use Rattle.solver.specs.Current.{IsCurrent}
+use Rattle.solver.specs.Changes.{withdrawn}
 use Rattle.traces.proofs.Members.{none_in}
 use Rattle.roster.specs.declared.came.Came.{Came}
 use Rattle.roster.specs.declared.came.Partner.{Partner}
 use Rattle.roster.specs.Roster.{RosterLists}
-use Rattle.growth.specs.Entered.{all_events, events_below}
-use Rattle.growth.specs.Growing.{IsGrownTo}
-use Rattle.growth.specs.Withdrawing.{IsMore, IsDelayOf, Withdraws, HasMessage}
-use Rattle.growth.specs.Once.{IsOn, HasEachOnce, TakesOut}
-use Rattle.growth.specs.Rosters.{named_event, problem_by_number}
-use Rattle.growth.proofs.Once.{taken_out}
-use Rattle.growth.proofs.Withdrawn.{grown_after}
-use Rattle.growth.proofs.Loop.{grown_alike}
-use Rattle.kept_graph.specs.Kept.{HasArcs, KnowsMessages, Tells}
-use Rattle.kept_graph.specs.UnderWay.{IsUnderWay}
-use Rattle.kept_graph.specs.Withdrawing.{AreLeft, told_arcs, without_partners}
-use Rattle.kept_graph.proofs.Messages.{OfMessage}
-use Rattle.kept_graph.proofs.OneEvent.{none_behind}
-use Rattle.kept_graph.proofs.ToldArcs.{all_from, mapped, map_has, all_on, all_differ, sends_apart, takes_out}
-use Rattle.kept_graph.proofs.Forgetting.{sends_of, IsForgetting, forgets}
+use Rattle.roster.specs.Entered.{all_events, events_below}
+use Rattle.roster.specs.Growing.{IsGrownTo}
+use Rattle.roster.specs.Withdrawing.{IsMore, IsDelayOf, Withdraws, HasMessage}
+use Rattle.roster.specs.Once.{IsOn, HasEachOnce, TakesOut}
+use Rattle.roster.specs.Rosters.{named_event, problem_by_number}
+use Rattle.roster.proofs.Once.{taken_out}
+use Rattle.roster.proofs.Withdrawn.{grown_after}
+use Rattle.roster.proofs.Loop.{grown_alike}
+use Rattle.session_graph.specs.Kept.{HasArcs, KnowsMessages, Tells}
+use Rattle.session_graph.specs.UnderWay.{IsUnderWay}
+use Rattle.session_graph.specs.Withdrawn.{AreLeft, told_arcs, without_partners}
+use Rattle.session_graph.proofs.Messages.{OfMessage}
+use Rattle.session_graph.proofs.OneEvent.{none_behind}
+use Rattle.session_graph.proofs.ToldArcs.{all_from, mapped, map_has, all_on, all_differ, sends_apart, takes_out}
+use Rattle.session_graph.proofs.Forgetting.{sends_of, IsForgetting, forgets}
 
 is_below : (v n : ℕ) → v < n → nat_lt v n ≡ true
 is_below v n less = grind (arith, nat_tests)

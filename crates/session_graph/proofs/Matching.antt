@@ -5,9 +5,9 @@ use Rattle.std.proofs.lemmas.List.Elements.{All-cons, All-nil, All-weaker}
 use Rattle.std.proofs.lemmas.List.Kept.{AllPairs-cons}
 use Rattle.std.proofs.lemmas.Option.{slice_get_within, slice_get-get_or}
 use Rattle.decl.specs.declared.items.Label.{Label}
-use Rattle.trace_event.specs.declared.event.Event.{Event}
-use Rattle.trace_event.specs.Seen.{Seen, seen_event, seen_events}
-use Rattle.traces.specs.declared.event.EventId.{EventId}
+use Rattle.traces.specs.declared.event.Event.{Event}
+use Rattle.traces.specs.Seen.{Seen, seen_event, seen_events}
+use Rattle.traces.specs.declared.event_id.EventId.{EventId}
 use Rattle.traces.specs.Traces.{event_count}
 use Rattle.traces.proofs.Ids.{count_appended}
 use Rattle.traces.proofs.Lists.{pairs_map, place_in}
@@ -15,16 +15,16 @@ use Rattle.traces.proofs.Members.{no_pairs, pairs_joined}
 use Rattle.msg_match.specs.declared.change.Change.{Change}
 use Rattle.msg_match.specs.Groups.{SeenItem}
 use Rattle.msg_match.specs.Changes.{HaveOwnNumbers, AreMessagesAnew}
-use Rattle.event_match.specs.Ends.{AreEndsBy, AreChanges, AreCouplesBelow, ids_from, items_from}
-use Rattle.event_match.proofs.Grown.{ends_none, ends_more, ends_few, ids_many, added_within, gone_within, changes_are}
+use Rattle.msg_match.specs.Ends.{AreEndsBy, AreChanges, AreCouplesBelow, ids_from, items_from}
+use Rattle.msg_match.proofs.Grown.{ends_none, ends_more, ends_few, ids_many, added_within, gone_within, changes_are}
 use Rattle.roster.specs.declared.came.Came.{Came}
 use Rattle.roster.specs.Groups.{group_at, with_more}
 use Rattle.roster.specs.Roster.{RosterLists, IsRoster, Holds, id_of}
 use Rattle.roster.proofs.Turns.{from_map}
-use Rattle.growth.specs.Told.{number_of}
-use Rattle.kept_graph.specs.Numbering.{names_then}
-use Rattle.kept_graph.proofs.Both.{each_in}
-use Rattle.kept_graph.proofs.Held.{number_is, labels_many, group_many, events_many}
+use Rattle.roster.specs.Told.{number_of}
+use Rattle.session_graph.specs.Numbers.{names_then}
+use Rattle.session_graph.proofs.Both.{each_in}
+use Rattle.session_graph.proofs.Held.{number_is, labels_many, group_many, events_many}
 
 abbrev Differ : EventId → EventId → Type 0
 Differ a b = a ≢ b

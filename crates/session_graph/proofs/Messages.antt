@@ -16,10 +16,10 @@ use Rattle.problem_model.specs.Bounds.{Constraint, Declares}
 use Rattle.problem_model.specs.ShortList.{message_bounds, most_bound}
 use Rattle.sync_graph.specs.Graph.{GraphLists}
 use Rattle.traces.proofs.Members.{here, none_in, no_pairs}
-use Rattle.growth.specs.Entered.{IsNodeOf, IsDue}
-use Rattle.growth.specs.Growing.{IsGrowing, IsGrownTo, HasBound}
-use Rattle.growth.specs.Once.{HasEachOnce}
-use Rattle.growth.proofs.Leading.{after_over}
+use Rattle.roster.specs.Entered.{IsNodeOf, IsDue}
+use Rattle.roster.specs.Growing.{IsGrowing, IsGrownTo, HasBound}
+use Rattle.roster.specs.Once.{HasEachOnce}
+use Rattle.roster.proofs.Leading.{after_over}
 
 -- ---- the bounds of a message
 most_has : (m : Message) (o : Option ℕ) (w : ℕ) → o ≡ Some w → Contains (most_bound m o) (DelayMost m.send m.receive)

@@ -5,20 +5,20 @@ use Rattle.std.proofs.lemmas.List.Elements.{All-head, All-tail}
 use Rattle.std.proofs.lemmas.Option.{slice_get-get_or}
 use Rattle.problem_model.specs.declared.items.Message.{Message}
 use Rattle.decl.specs.Declaration.{link_bounds}
-use Rattle.trace_event.specs.declared.event.Event.{Event}
-use Rattle.trace_event.specs.Seen.{Seen, seen_events}
-use Rattle.traces.specs.declared.event.EventId.{EventId}
+use Rattle.traces.specs.declared.event.Event.{Event}
+use Rattle.traces.specs.Seen.{Seen, seen_events}
+use Rattle.traces.specs.declared.event_id.EventId.{EventId}
 use Rattle.traces.specs.Traces.{host_of}
 use Rattle.msg_match.specs.declared.change.Couple.{Couple}
-use Rattle.event_match.specs.Ends.{no_name, name_at, named, ids_from, AreCouplesBelow}
+use Rattle.msg_match.specs.Ends.{no_name, name_at, named, ids_from, AreCouplesBelow}
 use Rattle.roster.specs.declared.came.Came.{Came}
 use Rattle.roster.specs.Groups.{group_at}
 use Rattle.roster.specs.Readings.{stamps_of}
 use Rattle.roster.proofs.Beside.{group_inside}
 use Rattle.roster.specs.Roster.{RosterLists, IsRoster, IsUnder, IsGrown, id_of, no_event, event_at, came_from}
-use Rattle.growth.specs.Told.{number_of, numbered_message}
-use Rattle.kept_graph.specs.Numbering.{message_by, names_then}
-use Rattle.kept_graph.proofs.Held.{number_is, one_id}
+use Rattle.roster.specs.Told.{number_of, numbered_message}
+use Rattle.session_graph.specs.Numbers.{message_by, names_then}
+use Rattle.session_graph.proofs.Held.{number_is, one_id}
 
 -- ---- names
 -- the label of an event is one of those that are declared

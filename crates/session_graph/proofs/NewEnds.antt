@@ -2,18 +2,18 @@
 use Rattle.std.proofs.Common.{◌≡◌, ◌≢◌, ◌⊎◌, ◌<◌, ◌≤◌, ◌+◌, ℕ, zero, suc, List, [], ◌∷◌, ◌++◌, length, set, get_or, Contains, All, AllPairs, inl, inr, refl, sym, ◌∙◌, ap, subst, arith}
 use Rattle.std.proofs.lemmas.List.Elements.{All-contains, Contains-append_cases, Contains-append_left, Contains-append_right}
 use Rattle.std.proofs.lemmas.List.Kept.{AllPairs-cons}
-use Rattle.trace_event.specs.declared.event.Side.{Side}
-use Rattle.trace_event.specs.declared.event.Side.TheVariants.{Send, Receive}
-use Rattle.trace_event.specs.Seen.{EventKey, SeenMark, Keyed, Seen}
-use Rattle.traces.specs.declared.event.Couple.{Couple}
+use Rattle.traces.specs.declared.event.Side.{Side}
+use Rattle.traces.specs.declared.event.Side.TheVariants.{Send, Receive}
+use Rattle.traces.specs.Seen.{EventKey, SeenMark, Keyed, Seen}
+use Rattle.traces.specs.declared.event_id.Couple.{Couple}
 use Rattle.traces.specs.Traces.{Placed, numbered, events_from, events_of}
 use Rattle.traces.specs.Pairs.{IsOnly, IsPair}
 use Rattle.traces.proofs.Members.{here, there, head_or_tail, none_in, no_pairs, first_of_pairs, rest_of_pairs}
 use Rattle.traces.proofs.MessageEnds.{pair_from, pairs_of}
-use Rattle.event_match.specs.Ends.{IsNewMessage, AreNewMessages}
-use Rattle.event_match.proofs.Growing.{numbered_joined}
+use Rattle.msg_match.specs.Ends.{IsNewMessage, AreNewMessages}
+use Rattle.msg_match.proofs.Growing.{numbered_joined}
 use Rattle.roster.specs.Groups.{group_at, with_more}
-use Rattle.growth.proofs.Counting.{fits}
+use Rattle.roster.proofs.Counting.{fits}
 
 -- ---- events with more of one label
 long : (label n : ℕ) (seen : List Seen) → length (numbered label n seen) ≡ length seen

@@ -19,9 +19,9 @@ use Rattle.decl.specs.Declaration.{Declaration, follows_of}
 use Rattle.decl.proofs.Following.{follows_lead, laters_differ}
 use Rattle.sync_graph.specs.declared.arc.Arc.{Arc}
 use Rattle.sync_graph.specs.Graph.{GraphLists, arc_at, with_node}
-use Rattle.sync_graph.specs.Standing.{HasNode}
-use Rattle.engine.specs.Solver.{SolverLists, HasRoom, with_new_node}
-use Rattle.trace_event.specs.Seen.{Seen}
+use Rattle.problem_graph.specs.Standing.{HasNode}
+use Rattle.solver.specs.Solver.{SolverLists, HasRoom, with_new_node}
+use Rattle.traces.specs.Seen.{Seen}
 use Rattle.traces.specs.Traces.{clock_of}
 use Rattle.traces.proofs.Members.{no_pairs}
 use Rattle.traces.proofs.Lists.{place_in}
@@ -31,24 +31,24 @@ use Rattle.roster.specs.Readings.{Stamped, HasStamp}
 use Rattle.roster.specs.Roster.{RosterLists, IsRoster, Holds, SetsReading, event_at, id_of, no_event}
 use Rattle.roster.proofs.Pushing.{get_left, get_right, get_cases}
 use Rattle.roster.proofs.Telling.{among, set_here, set_elsewhere, holds_still, holds_restamped}
-use Rattle.growth.specs.Entered.{and_event}
-use Rattle.growth.specs.Growing.{IsGrowing, IsGrownTo}
-use Rattle.growth.specs.Entering.{Enters, AreMessagesOf, AreNearest}
-use Rattle.growth.specs.Once.{IsOn, HasEachOnce, AreApart}
-use Rattle.growth.specs.Rosters.{named_event, problem_by_number}
-use Rattle.growth.proofs.Entry.{entered_now}
-use Rattle.growth.proofs.Loop.{event_enters, both_enter}
-use Rattle.growth.proofs.Once.{entered_once}
-use Rattle.kept_graph.specs.Kept.{KnowsMessages, KeepsRows}
-use Rattle.kept_graph.specs.Pushing.{Brings}
-use Rattle.kept_graph.specs.Linking.{AreThere, AreBeside, links_of}
-use Rattle.kept_graph.specs.declared.following.Nearest.{Nearest}
-use Rattle.kept_graph.specs.Growing.{KeepsNodesThere}
-use Rattle.kept_graph.specs.UnderWay.{KnowsNodesThere, IsEntering}
-use Rattle.kept_graph.specs.Coming.{HaveCome}
-use Rattle.kept_graph.proofs.Bringing.{links_few}
-use Rattle.kept_graph.proofs.Seeking.{there_by, beside_by}
-use Rattle.kept_graph.proofs.Entered.{map_back, told_named, tells_still, one_place}
+use Rattle.roster.specs.Entered.{and_event}
+use Rattle.roster.specs.Growing.{IsGrowing, IsGrownTo}
+use Rattle.roster.specs.Entering.{Enters, AreMessagesOf, AreNearest}
+use Rattle.roster.specs.Once.{IsOn, HasEachOnce, AreApart}
+use Rattle.roster.specs.Rosters.{named_event, problem_by_number}
+use Rattle.roster.proofs.Entry.{entered_now}
+use Rattle.roster.proofs.Loop.{event_enters, both_enter}
+use Rattle.roster.proofs.Once.{entered_once}
+use Rattle.session_graph.specs.Kept.{KnowsMessages, KeepsRows}
+use Rattle.session_graph.specs.Pushes.{Brings}
+use Rattle.session_graph.specs.Links.{AreThere, AreBeside, links_of}
+use Rattle.session_graph.specs.declared.follows.Nearest.{Nearest}
+use Rattle.session_graph.specs.Growth.{KeepsNodesThere}
+use Rattle.session_graph.specs.UnderWay.{KnowsNodesThere, IsEntering}
+use Rattle.session_graph.specs.Arrivals.{HaveCome}
+use Rattle.session_graph.proofs.Bringing.{links_few}
+use Rattle.session_graph.proofs.Seeking.{there_by, beside_by}
+use Rattle.session_graph.proofs.Entered.{map_back, told_named, tells_still, one_place}
 
 pub none_behind : {X : Type 0} (xs : List X) → xs ++ [] ≡ xs
 none_behind [] = refl

@@ -15,24 +15,24 @@ use Rattle.problem_model.specs.ShortList.{most_bound, message_bounds}
 use Rattle.decl.specs.Declaration.{follows_of}
 use Rattle.sync_graph.specs.declared.arc.Arc.{Arc}
 use Rattle.sync_graph.specs.Graph.{GraphLists, arc_at}
-use Rattle.sync_graph.specs.Standing.{HasNode}
-use Rattle.engine.specs.Solver.{SolverLists}
+use Rattle.problem_graph.specs.Standing.{HasNode}
+use Rattle.solver.specs.Solver.{SolverLists}
 use Rattle.traces.proofs.Members.{here, there, head_or_tail}
 use Rattle.roster.specs.declared.came.Came.{Came}
 use Rattle.roster.specs.declared.came.Partner.{Partner}
 use Rattle.roster.specs.Groups.{group_at}
 use Rattle.roster.specs.Roster.{RosterLists, Holds, event_at, no_event}
 use Rattle.roster.proofs.Telling.{set_here, set_elsewhere, holds_still}
-use Rattle.growth.specs.Growing.{IsGrowing, IsGrownTo}
-use Rattle.growth.specs.Once.{IsOn, HasEachOnce}
-use Rattle.growth.specs.Rosters.{named_event, problem_by_number, KnowsNodes}
-use Rattle.kept_graph.specs.Kept.{HasArcs, KnowsMessages}
-use Rattle.kept_graph.specs.Pushing.{Brings}
-use Rattle.kept_graph.specs.Growing.{Retells, KeepsNodesThere}
-use Rattle.kept_graph.specs.UnderWay.{KnowsNodesThere, IsEntering}
-use Rattle.kept_graph.proofs.Entered.{told_named}
-use Rattle.kept_graph.proofs.OneEvent.{none_behind}
-use Rattle.kept_graph.proofs.Messages.{with_messages, message_once}
+use Rattle.roster.specs.Growing.{IsGrowing, IsGrownTo}
+use Rattle.roster.specs.Once.{IsOn, HasEachOnce}
+use Rattle.roster.specs.Rosters.{named_event, problem_by_number, KnowsNodes}
+use Rattle.session_graph.specs.Kept.{HasArcs, KnowsMessages}
+use Rattle.session_graph.specs.Pushes.{Brings}
+use Rattle.session_graph.specs.Growth.{Retells, KeepsNodesThere}
+use Rattle.session_graph.specs.UnderWay.{KnowsNodesThere, IsEntering}
+use Rattle.session_graph.proofs.Entered.{told_named}
+use Rattle.session_graph.proofs.OneEvent.{none_behind}
+use Rattle.session_graph.proofs.Messages.{with_messages, message_once}
 
 -- ---- arcs
 pub most_of_one : {E : Type 0} (r : Result Unit E) (m : Message) (old new : SolverLists) → OnOk r (IsOn new.graph (length old.graph.arcs)) → OnOk r ((arc_at new.graph.arcs (length old.graph.arcs)).name ≡ DelayMost m.send m.receive)

@@ -7,13 +7,13 @@ use Rattle.std.proofs.lemmas.Option.{slice_get_within}
 use Rattle.problem_model.specs.declared.items.Message.{Message}
 use Rattle.problem_model.specs.declared.items.Node.TheVariants as nodes
 use Rattle.sync_graph.specs.Graph.{GraphLists}
-use Rattle.sync_graph.specs.Standing.{HasNode}
+use Rattle.problem_graph.specs.Standing.{HasNode}
 use Rattle.traces.proofs.Lists.{place_in}
 use Rattle.roster.proofs.Telling.{among}
 use Rattle.roster.proofs.Turns.{into_map}
-use Rattle.kept_graph.specs.declared.planning.Due.{Due}
-use Rattle.kept_graph.specs.declared.planning.Turn.{Turn}
-use Rattle.kept_graph.specs.Planning.{numbers_of, messages_in}
+use Rattle.session_graph.specs.declared.plans.Due.{Due}
+use Rattle.session_graph.specs.declared.plans.Turn.{Turn}
+use Rattle.session_graph.specs.Plans.{numbers_of, messages_in}
 
 -- numbers from one on, with one more
 pub range_more : (a n j : ℕ) → a + n ≡ j → range_with_len a (suc n) ≡ range_with_len a n ++ j ∷ []

@@ -12,9 +12,9 @@ use Rattle.problem_model.specs.declared.items.Node.TheVariants as nodes
 use Rattle.problem_model.specs.Problem.{ProblemLists}
 use Rattle.problem.proofs.ListedNodes.{map_at}
 use Rattle.sync_graph.specs.Graph.{GraphLists}
-use Rattle.sync_graph.specs.Standing.{HasNode}
-use Rattle.engine.specs.Solver.{SolverLists}
-use Rattle.trace_event.specs.Seen.{Seen}
+use Rattle.problem_graph.specs.Standing.{HasNode}
+use Rattle.solver.specs.Solver.{SolverLists}
+use Rattle.traces.specs.Seen.{Seen}
 use Rattle.traces.proofs.Lists.{place_in}
 use Rattle.roster.specs.declared.came.Came.{Came}
 use Rattle.roster.specs.Groups.{group_at}
@@ -23,14 +23,14 @@ use Rattle.roster.specs.Roster.{RosterLists, IsRoster, IsGrown, came_from}
 use Rattle.roster.proofs.Holding.{holds_more}
 use Rattle.roster.proofs.Pushing.{get_left, get_cases}
 use Rattle.roster.proofs.Telling.{among}
-use Rattle.growth.specs.Entered.{all_events, events_below}
-use Rattle.growth.specs.Rosters.{named_event, problem_by_number, KnowsNodes}
-use Rattle.growth.proofs.Loop.{grown_alike}
-use Rattle.kept_graph.specs.Kept.{KnowsMessages}
-use Rattle.kept_graph.specs.Growing.{Gains, KeepsNodesThere}
-use Rattle.kept_graph.specs.UnderWay.{IsUnderWay, KnowsNodesThere, IsEntering}
-use Rattle.kept_graph.proofs.Both.{each_in}
-use Rattle.kept_graph.proofs.Entered.{map_back, ends_below, grown_before, one_reading, tells_still}
+use Rattle.roster.specs.Entered.{all_events, events_below}
+use Rattle.roster.specs.Rosters.{named_event, problem_by_number, KnowsNodes}
+use Rattle.roster.proofs.Loop.{grown_alike}
+use Rattle.session_graph.specs.Kept.{KnowsMessages}
+use Rattle.session_graph.specs.Growth.{Gains, KeepsNodesThere}
+use Rattle.session_graph.specs.UnderWay.{IsUnderWay, KnowsNodesThere, IsEntering}
+use Rattle.session_graph.proofs.Both.{each_in}
+use Rattle.session_graph.proofs.Entered.{map_back, ends_below, grown_before, one_reading, tells_still}
 
 -- what a group has it has with more behind one of them
 group_more : (groups : List (List ℕ)) (label : ℕ) (more : List ℕ) (l k w : ℕ) → slice_get (group_at groups l) k ≡ Some w → slice_get (group_at (set groups label (group_at groups label ++ more)) l) k ≡ Some w

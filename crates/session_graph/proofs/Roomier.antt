@@ -3,9 +3,9 @@ use Rattle.std.proofs.Common.{◌≡◌, ◌+◌, ◌-◌, ℕ, Bool, List, ◌+
 use Rattle.std.specs.Prelude.{sum_by, Contains}
 use Rattle.std.proofs.lemmas.Bool.{cases_lt}
 use Rattle.std.proofs.lemmas.List.{get_or_append_left, get_or-append_right, get_or-replicate, get_or_past, length-replicate}
-use Rattle.difference_bounds.specs.Parents.{Cells}
-use Rattle.difference_bounds.specs.Tables.{reversed_table}
-use Rattle.regrowths.specs.Regrowths.{IsAffectedIn}
+use Rattle.problem_model.specs.Parents.{Cells}
+use Rattle.problem_model.specs.Tables.{reversed_table}
+use Rattle.withdrawals.specs.Regrowths.{IsAffectedIn}
 use Rattle.sync_graph.specs.declared.arc.Arc.{Arc}
 use Rattle.sync_graph.specs.Graph.{GraphLists, table_of, arc_at}
 use Rattle.earliest.specs.Values.{Values}
@@ -14,14 +14,14 @@ use Rattle.row_pool.specs.declared.cell.Cell.{Cell}
 use Rattle.row_pool.specs.Row.{unknown, cell_at, cells_of}
 use Rattle.row_pool.specs.Pool.{Pool, PoolRow, row_of, IsTaken}
 use Rattle.row_pool.proofs.Pools.{below_rows, grown_row}
-use Rattle.row_withdrawal.specs.Withdrawals.{IsRemoved}
+use Rattle.repair.specs.RowWithdrawals.{IsRemoved}
 use Rattle.repair.specs.declared.slot.Slot.{Slot}
 use Rattle.repair.specs.Slots.{KeptRows, all_slots, HasRows, AreOwnRows}
 use Rattle.repair.specs.Withdrawals.{MarksAffected, steps_of_marked, withdrawal_steps}
-use Rattle.engine.specs.Solver.{SolverLists}
-use Rattle.growth.specs.Once.{IsOn}
-use Rattle.kept_graph.specs.Steps.{IsBetween, IsSumOfMarked, IsWithdrawingPart, TakesFewToAdd}
-use Rattle.kept_graph.specs.Cutting.{IsRoomier}
+use Rattle.solver.specs.Solver.{SolverLists}
+use Rattle.roster.specs.Once.{IsOn}
+use Rattle.session_graph.specs.Steps.{IsBetween, IsSumOfMarked, IsWithdrawingPart, TakesFewToAdd}
+use Rattle.session_graph.specs.Cuts.{IsRoomier}
 
 -- unknown cells behind a row say nothing
 cell_still : (row : List Cell) (n k : ℕ) → cell_at (row ++ replicate n unknown) k ≡ cell_at row k

@@ -8,11 +8,11 @@ use Rattle.problem_model.specs.declared.items.Node.TheVariants as nodes
 use Rattle.problem_model.specs.Problem.{ProblemLists}
 use Rattle.problem_model.specs.Bounds.{ComesAfter}
 use Rattle.sync_graph.specs.Graph.{GraphLists}
-use Rattle.sync_graph.specs.Standing.{HasNode}
+use Rattle.problem_graph.specs.Standing.{HasNode}
 use Rattle.roster.specs.Readings.{Stamped, HasStamp, IsLastUnder, IsFirstOver}
-use Rattle.growth.specs.Entering.{IsStampBelow, IsStampAbove, IsEarlierEnd, IsLaterEnd, AreNearest}
-use Rattle.kept_graph.specs.Linking.{AreThere, AreBeside}
-use Rattle.kept_graph.specs.declared.following.Nearest.{Nearest}
+use Rattle.roster.specs.Entering.{IsStampBelow, IsStampAbove, IsEarlierEnd, IsLaterEnd, AreNearest}
+use Rattle.session_graph.specs.Links.{AreThere, AreBeside}
+use Rattle.session_graph.specs.declared.follows.Nearest.{Nearest}
 
 -- no node of the clock is between this stamp, which the clock has shown, and the one that is asked of
 abbrev pub GoesDown : List Stamped → GraphLists → ℕ → ℕ → Option ℕ → Type 0

@@ -3,23 +3,23 @@ use Rattle.std.proofs.Common.{◌≡◌, ◌≢◌, ◌<◌, ℕ, List, ◌++◌
 use Rattle.std.proofs.lemmas.List.Elements.{Contains-append_cases, Contains-append_left, Contains-append_right}
 use Rattle.decl.specs.Declaration.{Declaration, link_bounds}
 use Rattle.problem_model.specs.declared.items.Message.{Message}
-use Rattle.trace_event.specs.Seen.{Seen}
-use Rattle.traces.specs.declared.event.EventId.{EventId}
-use Rattle.traces.specs.declared.event.Couple.{Couple}
+use Rattle.traces.specs.Seen.{Seen}
+use Rattle.traces.specs.declared.event_id.EventId.{EventId}
+use Rattle.traces.specs.declared.event_id.Couple.{Couple}
 use Rattle.traces.specs.Traces.{events_of, host_of}
 use Rattle.traces.specs.Messages.{messages_of}
 use Rattle.traces.proofs.Lists.{pairs_map}
 use Rattle.traces.proofs.MessageEnds.{ends_known}
 use Rattle.traces.specs.Making.{IsOneOf}
-use Rattle.event_match.specs.Ends.{AreNewMessages}
+use Rattle.msg_match.specs.Ends.{AreNewMessages}
 use Rattle.roster.specs.Roster.{RosterLists, IsRoster, IsUnder, Holds}
 use Rattle.roster.proofs.Turns.{from_map, into_map}
-use Rattle.growth.specs.Told.{messages_by_number, number_of, numbered_message}
-use Rattle.kept_graph.specs.Withdrawing.{AreLeft}
-use Rattle.kept_graph.specs.Coming.{HaveOwnSends}
-use Rattle.kept_graph.proofs.Alike.{AreAlike}
-use Rattle.kept_graph.proofs.Both.{AreInBoth, each_in, in_or_not, one_send, told_by}
-use Rattle.kept_graph.proofs.Held.{id_under, number_is, number_inside, one_id}
+use Rattle.roster.specs.Told.{messages_by_number, number_of, numbered_message}
+use Rattle.session_graph.specs.Withdrawn.{AreLeft}
+use Rattle.session_graph.specs.Arrivals.{HaveOwnSends}
+use Rattle.session_graph.proofs.Alike.{AreAlike}
+use Rattle.session_graph.proofs.Both.{AreInBoth, each_in, in_or_not, one_send, told_by}
+use Rattle.session_graph.proofs.Held.{id_under, number_is, number_inside, one_id}
 
 abbrev all_of : List (List Seen) → List Couple
 all_of seen = messages_of (events_of seen)

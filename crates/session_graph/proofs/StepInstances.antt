@@ -3,14 +3,14 @@ use Rattle.std.proofs.Common.{◌≡◌, ◌&&◌, ◌==◌, true, false, [], �
 use Rattle.std.specs.Prelude.{pos, neg_ℤ}
 use Rattle.problem_model.specs.declared.items.Node.TheVariants.{Event}
 use Rattle.problem_model.specs.declared.items.Bound.TheVariants.{DelayLeast}
-use Rattle.difference_bounds.specs.Parents.{no_parent}
+use Rattle.problem_model.specs.Parents.{no_parent}
 use Rattle.sync_graph.specs.declared.arc.Arc.{Arc}
 use Rattle.row_pool.specs.declared.cell.Cell.{Cell}
 use Rattle.row_pool.specs.Row.{unknown}
 use Rattle.repair.specs.Slots.{KeptRows}
-use Rattle.engine.specs.Solver.{SolverLists}
-use Rattle.engine.specs.Costs.{withdrawing_steps}
-use Rattle.kept_graph.specs.Steps.{inserting_values, inserting_rows, inserting_steps}
+use Rattle.solver.specs.Solver.{SolverLists}
+use Rattle.solver.specs.Costs.{withdrawing_steps}
+use Rattle.session_graph.specs.Steps.{inserting_values, inserting_rows, inserting_steps}
 
 -- the second event comes at least 3 before the first
 abbrev arc : Arc

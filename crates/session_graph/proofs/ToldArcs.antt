@@ -11,20 +11,20 @@ use Rattle.problem_model.specs.declared.items.Bound.TheVariants as bounds
 use Rattle.problem_model.specs.declared.items.Bound.TheVariants.{SpanMost, SpanLeast, Late, Early, DelayMost, DelayLeast}
 use Rattle.problem_model.specs.Bounds.{Declares}
 use Rattle.sync_graph.specs.Graph.{GraphLists, arc_at}
-use Rattle.engine.specs.Changes.{withdrawn}
+use Rattle.solver.specs.Changes.{withdrawn}
 use Rattle.traces.proofs.Members.{here, there, none_in, head_or_tail, given_by, giver, first_of_pairs, rest_of_pairs, no_pairs, pairs_joined}
 use Rattle.roster.specs.declared.came.Came.{Came}
 use Rattle.roster.specs.declared.came.Partner.{Partner}
 use Rattle.roster.specs.Roster.{RosterLists, no_event, event_at}
-use Rattle.growth.specs.Entered.{all_events}
-use Rattle.growth.specs.Growing.{IsGrownTo, HasBound}
-use Rattle.growth.specs.Withdrawing.{IsDelayOf}
-use Rattle.growth.specs.Once.{IsOn, TakesOut}
-use Rattle.growth.specs.Rosters.{problem_by_number}
-use Rattle.kept_graph.specs.Kept.{HasArcs, Tells}
-use Rattle.kept_graph.specs.Withdrawing.{arc_of, arcs_to, told_arcs}
-use Rattle.kept_graph.proofs.Flags.{stays_off, off_in, on_or_in}
-use Rattle.kept_graph.proofs.Messages.{OfMessage}
+use Rattle.roster.specs.Entered.{all_events}
+use Rattle.roster.specs.Growing.{IsGrownTo, HasBound}
+use Rattle.roster.specs.Withdrawing.{IsDelayOf}
+use Rattle.roster.specs.Once.{IsOn, TakesOut}
+use Rattle.roster.specs.Rosters.{problem_by_number}
+use Rattle.session_graph.specs.Kept.{HasArcs, Tells}
+use Rattle.session_graph.specs.Withdrawn.{arc_of, arcs_to, told_arcs}
+use Rattle.session_graph.proofs.Flags.{stays_off, off_in, on_or_in}
+use Rattle.session_graph.proofs.Messages.{OfMessage}
 
 -- ---- elements
 pub all_from : {X : Type 0} (P : X → Type 0) (xs : List X) → ((x : X) → Contains xs x → P x) → All P xs

@@ -8,10 +8,10 @@ use Rattle.problem_model.specs.declared.items.Message.{Message}
 use Rattle.problem_model.specs.Problem.{IsProblem}
 use Rattle.decl.specs.declared.items.Label.{Label}
 use Rattle.sync_graph.specs.Graph.{GraphLists, no_graph}
-use Rattle.sync_graph.specs.ListedStanding.{StandsForListed}
-use Rattle.engine.specs.Solver.{SolverLists}
-use Rattle.engine.specs.Current.{IsCurrent}
-use Rattle.trace_event.specs.Seen.{Seen}
+use Rattle.problem_graph.specs.ListedStanding.{StandsForListed}
+use Rattle.solver.specs.Solver.{SolverLists}
+use Rattle.solver.specs.Current.{IsCurrent}
+use Rattle.traces.specs.Seen.{Seen}
 use Rattle.traces.specs.Traces.{Placed, event_count, events_from}
 use Rattle.traces.specs.Messages.{messages_of, problem_of_seen}
 use Rattle.traces.proofs.Members.{none_in}
@@ -22,16 +22,16 @@ use Rattle.roster.specs.Roster.{RosterLists, IsRoster, Holds, listed}
 use Rattle.roster.proofs.Holding.{holds_none}
 use Rattle.roster.proofs.ListedPlaces.{event_places, readings_many}
 use Rattle.roster.proofs.Problem.{all_are, listed_by}
-use Rattle.growth.specs.Rosters.{named_event, problem_by_number, KnowsNodes}
-use Rattle.growth.specs.Told.{messages_by_number, numbered_message}
-use Rattle.growth.proofs.Loop.{nothing_grown}
-use Rattle.growth.proofs.Rosters.{by_number, tells}
-use Rattle.growth.proofs.Whole.{stands}
-use Rattle.kept_graph.specs.Kept.{IsGrownBy, IsKeptFor}
-use Rattle.kept_graph.specs.UnderWay.{IsUnderWay}
-use Rattle.kept_graph.proofs.Alike.{AreAlike, grown_alike}
-use Rattle.kept_graph.proofs.Carried.{carried}
-use Rattle.kept_graph.proofs.Held.{labels_many, events_many}
+use Rattle.roster.specs.Rosters.{named_event, problem_by_number, KnowsNodes}
+use Rattle.roster.specs.Told.{messages_by_number, numbered_message}
+use Rattle.roster.proofs.Loop.{nothing_grown}
+use Rattle.roster.proofs.Rosters.{by_number, tells}
+use Rattle.roster.proofs.Whole.{stands}
+use Rattle.session_graph.specs.Kept.{IsGrownBy, IsKeptFor}
+use Rattle.session_graph.specs.UnderWay.{IsUnderWay}
+use Rattle.session_graph.proofs.Alike.{AreAlike, grown_alike}
+use Rattle.session_graph.proofs.Carried.{carried}
+use Rattle.session_graph.proofs.Held.{labels_many, events_many}
 
 module _ (r : RosterLists) (is : IsRoster r) (seen : List (List Seen)) (s : SolverLists) where
   -- ---- from what is kept

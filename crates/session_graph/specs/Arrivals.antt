@@ -2,12 +2,12 @@
 use Rattle.std.specs.Prelude.{◌≢◌, ℕ, Bool, List, ◌++◌, All, AllPairs, Contains}
 use Rattle.problem_model.specs.declared.items.Message.{Message}
 use Rattle.problem_model.specs.declared.items.Node.{Node}
-use Rattle.sync_graph.specs.Standing.{HasNode}
-use Rattle.engine.specs.Solver.{SolverLists, HasRoom}
+use Rattle.problem_graph.specs.Standing.{HasNode}
+use Rattle.solver.specs.Solver.{SolverLists, HasRoom}
 use Rattle.roster.specs.Roster.{RosterLists}
-use Rattle.kept_graph.specs.Kept.{KeepsRows}
-use Rattle.kept_graph.specs.UnderWay.{IsEntering}
-use Rattle.kept_graph.specs.Growing.{KeepsNodesThere}
+use Rattle.session_graph.specs.Kept.{KeepsRows}
+use Rattle.session_graph.specs.UnderWay.{IsEntering}
+use Rattle.session_graph.specs.Growth.{KeepsNodesThere}
 
 -- no two of the messages that come have one send, and none has that of one of those that are there
 pub record HaveOwnSends (more messages : List Message) : Type 0 where

@@ -2,11 +2,11 @@
 use Rattle.std.specs.Prelude.{◌≡◌, ℕ, List, [], true, All}
 use Rattle.row_pool.specs.Pool.{grown}
 use Rattle.repair.specs.Slots.{with_room}
-use Rattle.engine.specs.Solver.{SolverLists}
-use Rattle.engine.specs.Changes.{KeepsAnswer, withdrawn}
-use Rattle.engine.specs.Costs.{TakesFewToWithdrawAll}
-use Rattle.engine.specs.Withdrawn.{arcs_numbered}
-use Rattle.growth.specs.Once.{IsOn}
+use Rattle.solver.specs.Solver.{SolverLists}
+use Rattle.solver.specs.Changes.{KeepsAnswer, withdrawn}
+use Rattle.solver.specs.Costs.{TakesFewToWithdrawAll}
+use Rattle.solver.specs.Withdrawn.{arcs_numbered}
+use Rattle.roster.specs.Once.{IsOn}
 
 -- the same graph, with what is known of it, and room for more
 pub record IsRoomier (old new : SolverLists) : Type 0 where

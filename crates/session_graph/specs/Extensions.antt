@@ -2,8 +2,8 @@
 use Rattle.std.specs.Prelude.{◌≡◌, ℕ, ◌+◌, ◌*◌, ◌≤◌, Bool, List, ◌++◌, length}
 use Rattle.problem_model.specs.declared.items.Node.{Node}
 use Rattle.sync_graph.specs.declared.arc.Arc.{Arc}
-use Rattle.engine.specs.Solver.{SolverLists}
-use Rattle.kept_graph.specs.Steps.{IsSolved, inserting_steps}
+use Rattle.solver.specs.Solver.{SolverLists}
+use Rattle.session_graph.specs.Steps.{IsSolved, inserting_steps}
 
 -- the later state has more nodes and arcs behind those of the earlier, which are in force or not as they were, and keeps the same nodes
 pub record Extends (old new : SolverLists) : Type 0 where

@@ -2,14 +2,14 @@
 use Rattle.std.specs.Prelude.{◌≡◌, ◌+◌, ℕ, List, ◌++◌, length, map, slice_get, slice_set, Some, Contains}
 use Rattle.problem_model.specs.declared.items.Node.TheVariants as nodes
 use Rattle.sync_graph.specs.Graph.{GraphLists}
-use Rattle.sync_graph.specs.Standing.{HasNode}
-use Rattle.trace_event.specs.Seen.{Seen}
-use Rattle.traces.specs.declared.event.EventId.{EventId}
+use Rattle.problem_graph.specs.Standing.{HasNode}
+use Rattle.traces.specs.Seen.{Seen}
+use Rattle.traces.specs.declared.event_id.EventId.{EventId}
 use Rattle.roster.specs.declared.came.Came.{Came}
 use Rattle.roster.specs.Groups.{group_at}
 use Rattle.roster.specs.Readings.{Stamped}
 use Rattle.roster.specs.Roster.{RosterLists, Holds, IsUnder}
-use Rattle.kept_graph.specs.Kept.{KeepsEvents, KeepsReadings}
+use Rattle.session_graph.specs.Kept.{KeepsEvents, KeepsReadings}
 
 -- the roster has events of a label with these stamps more, and knows all others as before
 pub record Gains (label : ℕ) (stamps : List ℕ) (old new : RosterLists) : Type 0 where

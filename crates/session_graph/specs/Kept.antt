@@ -4,9 +4,9 @@ use Rattle.problem_model.specs.declared.items.Message.{Message}
 use Rattle.problem_model.specs.declared.items.Bound.TheVariants.{DelayMost, DelayLeast}
 use Rattle.sync_graph.specs.Graph.{GraphLists, arc_at}
 use Rattle.row_pool.specs.Pool.{free_rows}
-use Rattle.engine.specs.Solver.{SolverLists}
-use Rattle.solver.specs.Moved0.{IsSolutionBy}
-use Rattle.trace_event.specs.Seen.{Seen}
+use Rattle.solver.specs.Solver.{SolverLists}
+use Rattle.solver.specs.Solution.{IsSolutionBy}
+use Rattle.traces.specs.Seen.{Seen}
 use Rattle.traces.specs.Messages.{problem_of_seen}
 use Rattle.traces.specs.Making.{StampsFit}
 use Rattle.roster.specs.declared.came.Came.{Came}
@@ -14,12 +14,12 @@ use Rattle.roster.specs.declared.came.Partner.{Partner}
 use Rattle.roster.specs.Groups.{group_at}
 use Rattle.roster.specs.Readings.{Stamped}
 use Rattle.roster.specs.Roster.{RosterLists, Holds, listed}
-use Rattle.growth.specs.Entered.{all_events}
-use Rattle.growth.specs.Growing.{IsGrownTo}
-use Rattle.growth.specs.Withdrawing.{HasMessage}
-use Rattle.growth.specs.Once.{IsOn, HasEachOnce}
-use Rattle.growth.specs.Rosters.{problem_by_number, KnowsNodes}
-pub use Rattle.growth.specs.Told.{number_of, numbered_message, messages_by_number}
+use Rattle.roster.specs.Entered.{all_events}
+use Rattle.roster.specs.Growing.{IsGrownTo}
+use Rattle.roster.specs.Withdrawing.{HasMessage}
+use Rattle.roster.specs.Once.{IsOn, HasEachOnce}
+use Rattle.roster.specs.Rosters.{problem_by_number, KnowsNodes}
+pub use Rattle.roster.specs.Told.{number_of, numbered_message, messages_by_number}
 
 -- ---- messages
 -- the arc of this number is in force and is the message's least delay, and the one before it is its greatest delay, where there is one

@@ -5,9 +5,9 @@ use Rattle.problem_model.specs.declared.items.Bound.{Bound}
 use Rattle.problem_model.specs.Problem.{ProblemLists}
 use Rattle.problem_model.specs.Bounds.{ComesAfter}
 use Rattle.sync_graph.specs.Graph.{GraphLists}
-use Rattle.sync_graph.specs.Standing.{HasNode}
-use Rattle.growth.specs.Entering.{reading_bounds}
-use Rattle.kept_graph.specs.declared.following.Nearest.{Nearest}
+use Rattle.problem_graph.specs.Standing.{HasNode}
+use Rattle.roster.specs.Entering.{reading_bounds}
+use Rattle.session_graph.specs.declared.follows.Nearest.{Nearest}
 
 -- the readings nearest to one of a clock are nodes: on its own clock, below and above it, or else on others, the later of which is one of so many
 pub record AreThere (clocks : ℕ) (g : GraphLists) (place stamp : ℕ) (n : Nearest) : Type 0 where

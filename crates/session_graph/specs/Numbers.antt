@@ -2,11 +2,11 @@
 use Rattle.std.specs.Prelude.{◌+◌, ℕ, List, ◌++◌, length, map}
 use Rattle.problem_model.specs.declared.items.Message.{Message}
 use Rattle.decl.specs.Declaration.{link_bounds}
-use Rattle.trace_event.specs.Seen.{Seen}
-use Rattle.traces.specs.declared.event.EventId.{EventId}
+use Rattle.traces.specs.Seen.{Seen}
+use Rattle.traces.specs.declared.event_id.EventId.{EventId}
 use Rattle.traces.specs.Traces.{host_of}
 use Rattle.msg_match.specs.declared.change.Couple.{Couple}
-use Rattle.event_match.specs.Ends.{ids_from}
+use Rattle.msg_match.specs.Ends.{ids_from}
 use Rattle.roster.specs.Groups.{group_at}
 use Rattle.roster.specs.Roster.{RosterLists, id_of, event_at}
 

@@ -1,8 +1,8 @@
 -- The order in which events and messages come.
 use Rattle.std.specs.Prelude.{ℕ, List, map}
 use Rattle.problem_model.specs.declared.items.Message.{Message}
-use Rattle.kept_graph.specs.declared.planning.Turn.{Turn}
-use Rattle.kept_graph.specs.declared.planning.Due.{Due}
+use Rattle.session_graph.specs.declared.plans.Turn.{Turn}
+use Rattle.session_graph.specs.declared.plans.Due.{Due}
 
 -- the numbers of the events
 abbrev pub numbers_of : List Turn → List ℕ

@@ -2,11 +2,11 @@
 use Rattle.std.specs.Prelude.{◌≡◌, ℕ, ◌+◌, ◌++◌, List, length}
 use Rattle.problem_model.specs.declared.items.Bound.{Bound}
 use Rattle.sync_graph.specs.Graph.{arc_at}
-use Rattle.engine.specs.Solver.{SolverLists, HasRoom}
-use Rattle.engine.specs.Current.{IsCurrent}
-use Rattle.growth.specs.Once.{IsOn, HasEachOnce}
-use Rattle.kept_graph.specs.Kept.{KeepsRows}
-use Rattle.kept_graph.specs.Extending.{Extends}
+use Rattle.solver.specs.Solver.{SolverLists, HasRoom}
+use Rattle.solver.specs.Current.{IsCurrent}
+use Rattle.roster.specs.Once.{IsOn, HasEachOnce}
+use Rattle.session_graph.specs.Kept.{KeepsRows}
+use Rattle.session_graph.specs.Extensions.{Extends}
 
 -- arcs of these names are in force behind all others, which stay as they were, as do nodes, slots and rows
 pub record Brings (bounds : List Bound) (old new : SolverLists) : Type 0 where

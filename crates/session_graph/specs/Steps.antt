@@ -1,18 +1,18 @@
 -- How many steps an addition may take.
 use Rattle.std.specs.Prelude.{◌≡◌, ℕ, ◌+◌, ◌*◌, ◌≤◌, ◌⊎◌, Bool, true, ◌||◌, nat_le, int_lt, ℤ, List, length, sum_by, Contains}
-use Rattle.difference_bounds.specs.Executions.{at}
-use Rattle.difference_bounds.specs.Sums.{is_changed}
-use Rattle.falls.specs.Withdrawals.{flagged_sum}
+use Rattle.problem_model.specs.Executions.{at}
+use Rattle.problem_model.specs.Sums.{is_changed}
+use Rattle.withdrawals.specs.Withdrawals.{flagged_sum}
 use Rattle.sync_graph.specs.declared.arc.Arc.{Arc}
 use Rattle.sync_graph.specs.Graph.{IsGraph, arc_at, reaching, departing}
 use Rattle.row_pool.specs.Row.{cells_of}
 use Rattle.row_pool.specs.Pool.{row_of}
 use Rattle.repair.specs.declared.slot.Slot.{Slot}
 use Rattle.repair.specs.Slots.{all_slots}
-use Rattle.engine.specs.Solver.{SolverLists}
-use Rattle.engine.specs.Current.{IsSolvedNow}
-use Rattle.engine.specs.Costs.{MarksAll, withdrawing_steps}
-use Rattle.growth.specs.Once.{IsOn}
+use Rattle.solver.specs.Solver.{SolverLists}
+use Rattle.solver.specs.Current.{IsSolvedNow}
+use Rattle.solver.specs.Costs.{MarksAll, withdrawing_steps}
+use Rattle.roster.specs.Once.{IsOn}
 
 -- ---- the graph between
 -- the graph has an execution, and what is held are its earliest execution and the rows of the kept nodes

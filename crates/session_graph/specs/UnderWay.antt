@@ -3,17 +3,17 @@ use Rattle.std.specs.Prelude.{◌≡◌, ◌*◌, ◌≤◌, ℕ, Bool, true, Li
 use Rattle.problem_model.specs.declared.items.Message.{Message}
 use Rattle.problem_model.specs.declared.items.Node.TheVariants as nodes
 use Rattle.sync_graph.specs.Graph.{GraphLists}
-use Rattle.sync_graph.specs.Standing.{HasNode}
-use Rattle.engine.specs.Solver.{SolverLists}
-use Rattle.engine.specs.Current.{IsCurrent}
+use Rattle.problem_graph.specs.Standing.{HasNode}
+use Rattle.solver.specs.Solver.{SolverLists}
+use Rattle.solver.specs.Current.{IsCurrent}
 use Rattle.roster.specs.declared.came.Came.{Came}
 use Rattle.roster.specs.Groups.{group_at}
 use Rattle.roster.specs.Readings.{Stamped}
 use Rattle.roster.specs.Roster.{RosterLists}
-use Rattle.growth.specs.Growing.{IsGrownTo}
-use Rattle.growth.specs.Once.{HasEachOnce}
-use Rattle.growth.specs.Rosters.{problem_by_number}
-use Rattle.kept_graph.specs.Kept.{KnowsMessages, IsGrownBy}
+use Rattle.roster.specs.Growing.{IsGrownTo}
+use Rattle.roster.specs.Once.{HasEachOnce}
+use Rattle.roster.specs.Rosters.{problem_by_number}
+use Rattle.session_graph.specs.Kept.{KnowsMessages, IsGrownBy}
 
 -- the graph has grown to all events of the roster and these messages among them, and what is held of it is current; nodes are at
 -- most two an event

@@ -1,26 +1,26 @@
 // Events that come at once, and the messages that change with them.
 ghost use Rattle.std.specs.Prelude.{◌≡◌, ◌<◌, ◌≤◌, ◌+◌, ◌*◌, ◌^◌, ◌++◌, true, List, [], length, map, OnOk};
 ghost use Rattle.sync_graph.specs.declared.arc.Arc.{Arc};
-ghost use Rattle.engine.specs.Solver.{SolverLists, HasRoom};
-ghost use Rattle.trace_event.specs.Seen.{Seen, seen_events};
-ghost use Rattle.event_match.specs.Ends.{AreChanges, AreCouplesBelow};
+ghost use Rattle.solver.specs.Solver.{SolverLists, HasRoom};
+ghost use Rattle.traces.specs.Seen.{Seen, seen_events};
+ghost use Rattle.msg_match.specs.Ends.{AreChanges, AreCouplesBelow};
 ghost use Rattle.roster.specs.Groups.{with_more};
 ghost use Rattle.roster.specs.Roster.{id_of};
-ghost use Rattle.kept_graph.specs.Kept.{IsKeptFor, KeepsEvents, KeepsReadings, KeepsRows};
-ghost use Rattle.kept_graph.specs.Numbering.{names_then};
-ghost use Rattle.kept_graph.specs.Steps.{IsBetween, TakesFewToAdd};
+ghost use Rattle.session_graph.specs.Kept.{IsKeptFor, KeepsEvents, KeepsReadings, KeepsRows};
+ghost use Rattle.session_graph.specs.Numbers.{names_then};
+ghost use Rattle.session_graph.specs.Steps.{IsBetween, TakesFewToAdd};
 
-use crate::coming::come;
-use crate::numbering::messages_of;
-use crate::planning::{dues_of, turns_of};
-use crate::withdrawing::withdraw;
+use crate::arrivals::come;
+use crate::numbers::messages_of;
+use crate::plans::{dues_of, turns_of};
+use crate::withdrawn::withdraw;
 use atto::Steps;
-use engine::Solver;
+use solver::Solver;
 use msg_match::Change;
 use roster::Roster;
 use std::alloc::{AllocError, Global};
 use std::sync::ledger::Ledger;
-use trace_event::Event;
+use traces::Event;
 
 /// Events of a label come, which change the messages so, by the numbers that the events have then: those that go are withdrawn, the
 /// events enter in the order of their stamps, and each message that comes joins once both its ends have entered. There is room for

@@ -4,14 +4,14 @@ ghost use Rattle.problem_model.specs.declared.items.Event.{Event};
 ghost use Rattle.problem_model.specs.declared.items.Node.TheVariants as nodes;
 ghost use Rattle.problem_model.specs.Problem.{ProblemLists};
 ghost use Rattle.decl.specs.Declaration.{AreOfOneHost, follows_of};
-ghost use Rattle.sync_graph.specs.Standing.{HasNode};
+ghost use Rattle.problem_graph.specs.Standing.{HasNode};
 ghost use Rattle.roster.specs.Groups.{group_at};
 ghost use Rattle.roster.specs.Readings.{HasStamp};
-ghost use Rattle.growth.specs.Entering.{IsFirstNode, IsLastNode, IsReadingBefore, IsReadingAfter, IsEarlierEnd, IsLaterEnd, AreNearest};
+ghost use Rattle.roster.specs.Entering.{IsFirstNode, IsLastNode, IsReadingBefore, IsReadingAfter, IsEarlierEnd, IsLaterEnd, AreNearest};
 
 use crate::nearest::{above, below, is_known};
 use atto::Nano;
-use engine::Solver;
+use solver::Solver;
 use roster::Roster;
 
 /// The nearest readings of one that is new: the stamps below and above it on its clock, in ns; and where there is none below, the

@@ -3,26 +3,26 @@ ghost use Rattle.std.specs.Prelude.{◌≡◌, ◌<◌, ◌≤◌, ◌+◌, ◌^
 ghost use Rattle.decl.specs.declared.items.Label.{Label};
 ghost use Rattle.decl.specs.Declaration.{IsDeclaration, declaration_of};
 ghost use Rattle.sync_graph.specs.declared.arc.Arc.{Arc};
-ghost use Rattle.engine.specs.Solver.{SolverLists};
-ghost use Rattle.trace_event.specs.Seen.{Seen, seen_events};
+ghost use Rattle.solver.specs.Solver.{SolverLists};
+ghost use Rattle.traces.specs.Seen.{Seen, seen_events};
 ghost use Rattle.msg_match.specs.Changes.{HaveOwnNumbers, AreMessagesAnew};
-ghost use Rattle.event_match.specs.Ends.{AreEndsBy, IsChange, items_from};
+ghost use Rattle.msg_match.specs.Ends.{AreEndsBy, IsChange, items_from};
 ghost use Rattle.roster.specs.Groups.{with_more};
 ghost use Rattle.roster.specs.Roster.{id_of};
-ghost use Rattle.kept_graph.specs.Kept.{IsKeptFor, KeepsEvents, KeepsReadings, KeepsRows};
-ghost use Rattle.kept_graph.specs.Steps.{IsBetween, TakesFewToAdd};
+ghost use Rattle.session_graph.specs.Kept.{IsKeptFor, KeepsEvents, KeepsReadings, KeepsRows};
+ghost use Rattle.session_graph.specs.Steps.{IsBetween, TakesFewToAdd};
 
-use crate::changing::change;
+use crate::changes::change;
 use crate::room::make_room;
 use atto::Steps;
 use decl::Decl;
-use engine::Solver;
-use event_match::{Changed, counts, items_of};
+use solver::Solver;
+use msg_match::{Changed, counts, items_of};
 use msg_match::{Change, Matcher};
 use roster::Roster;
 use std::alloc::{AllocError, Global};
 use std::sync::ledger::Ledger;
-use trace_event::Event;
+use traces::Event;
 
 // The matcher gets the ends of messages among events that have the numbers from `first` on, and answers how the messages change;
 // an error where memory runs out.

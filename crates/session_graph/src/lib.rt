@@ -7,18 +7,18 @@
 //! most eight arcs an event, those of withdrawn messages among them.
 #![tactic(auto)]
 
-mod changing;
-mod coming;
-mod entering;
-mod following;
-mod joining;
+mod arrivals;
+mod changes;
+mod entries;
+mod follows;
+mod joints;
 mod kept;
-mod linking;
+mod links;
 mod nearest;
-mod numbering;
-mod planning;
-mod pushing;
+mod numbers;
+mod plans;
+mod pushes;
 mod room;
-mod withdrawing;
+mod withdrawn;
 
 pub use kept::KeptGraph;

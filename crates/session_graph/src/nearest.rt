@@ -1,13 +1,13 @@
 // The nearest nodes of a new reading.
 ghost use Rattle.std.specs.Prelude.{◌≡◌, ◌<◌, ℕ, true, false, Option, Some, None, length, slice_get, IfSome};
 ghost use Rattle.problem_model.specs.declared.items.Node.TheVariants as nodes;
-ghost use Rattle.sync_graph.specs.Standing.{HasNode};
+ghost use Rattle.problem_graph.specs.Standing.{HasNode};
 ghost use Rattle.roster.specs.Groups.{group_at};
 ghost use Rattle.roster.specs.Readings.{HasStamp};
-ghost use Rattle.growth.specs.Entering.{IsStampBelow, IsStampAbove};
+ghost use Rattle.roster.specs.Entering.{IsStampBelow, IsStampAbove};
 
 use atto::Nano;
-use engine::Solver;
+use solver::Solver;
 use problem_model::Node;
 use roster::Roster;
 

@@ -1,8 +1,8 @@
 // Messages by the numbers of their ends.
 ghost use Rattle.std.specs.Prelude.{◌≡◌, ◌<◌, length, map, IfOk};
 ghost use Rattle.decl.specs.Declaration.{link_bounds};
-ghost use Rattle.event_match.specs.Ends.{AreCouplesBelow};
-ghost use Rattle.kept_graph.specs.Numbering.{host_at, message_by};
+ghost use Rattle.msg_match.specs.Ends.{AreCouplesBelow};
+ghost use Rattle.session_graph.specs.Numbers.{host_at, message_by};
 
 use atto::Nano;
 use msg_match::Couple;

@@ -3,12 +3,12 @@ ghost use Rattle.std.specs.Prelude.{◌≡◌, ◌<◌, ◌≤◌, ◌+◌, ◌^
 ghost use Rattle.std.specs.List.{range_with_len};
 ghost use Rattle.std.specs.List.Sorted.{IsPermutation};
 ghost use Rattle.roster.specs.Readings.{stamps_of};
-ghost use Rattle.kept_graph.specs.Planning.{numbers_of, messages_in};
+ghost use Rattle.session_graph.specs.Plans.{numbers_of, messages_in};
 
 use problem_model::Message;
 use roster::Roster;
 use std::alloc::{AllocError, Global};
-use trace_event::Event;
+use traces::Event;
 
 /// An event that comes, by its number, with its stamp in ns.
 #[derive(Clone, Copy)]

@@ -1,12 +1,12 @@
 // Room for nodes that come.
 ghost use Rattle.std.specs.Prelude.{◌≡◌, ◌≤◌, ◌+◌, ◌*◌, ◌^◌, length, OnOk};
 ghost use Rattle.sync_graph.specs.Graph.{most_nodes};
-ghost use Rattle.engine.specs.Solver.{HasRoom};
-ghost use Rattle.engine.specs.Current.{IsCurrent};
-ghost use Rattle.kept_graph.specs.Kept.{KeepsRows};
-ghost use Rattle.kept_graph.specs.Cutting.{IsRoomier};
+ghost use Rattle.solver.specs.Solver.{HasRoom};
+ghost use Rattle.solver.specs.Current.{IsCurrent};
+ghost use Rattle.session_graph.specs.Kept.{KeepsRows};
+ghost use Rattle.session_graph.specs.Cuts.{IsRoomier};
 
-use engine::Solver;
+use solver::Solver;
 use roster::Roster;
 use std::alloc::AllocError;
 

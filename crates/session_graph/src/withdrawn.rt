@@ -3,18 +3,18 @@ ghost use Rattle.std.specs.Prelude.{◌≡◌, ◌≢◌, ◌<◌, ◌++◌, ℕ
 ghost use Rattle.std.specs.List.{flat_map};
 ghost use Rattle.problem_model.specs.declared.items.Message.{Message};
 ghost use Rattle.sync_graph.specs.Graph.{GraphLists};
-ghost use Rattle.engine.specs.Solver.{HasRoom};
+ghost use Rattle.solver.specs.Solver.{HasRoom};
 ghost use Rattle.roster.specs.declared.came.Came.{Came};
 ghost use Rattle.roster.specs.declared.came.Partner.{Partner};
 ghost use Rattle.roster.specs.Roster.{event_at};
-ghost use Rattle.kept_graph.specs.Kept.{KeepsRows, Tells};
-ghost use Rattle.kept_graph.specs.Growing.{Retells};
-ghost use Rattle.kept_graph.specs.UnderWay.{IsUnderWay};
-ghost use Rattle.kept_graph.specs.Cutting.{CutsInFewSteps};
-ghost use Rattle.kept_graph.specs.Withdrawing.{AreLeft, arc_of, arcs_to, told_arcs, without_partner, without_partners};
+ghost use Rattle.session_graph.specs.Kept.{KeepsRows, Tells};
+ghost use Rattle.session_graph.specs.Growth.{Retells};
+ghost use Rattle.session_graph.specs.UnderWay.{IsUnderWay};
+ghost use Rattle.session_graph.specs.Cuts.{CutsInFewSteps};
+ghost use Rattle.session_graph.specs.Withdrawn.{AreLeft, arc_of, arcs_to, told_arcs, without_partner, without_partners};
 
 use atto::Steps;
-use engine::Solver;
+use solver::Solver;
 use problem_model::Message;
 use roster::Roster;
 use std::alloc::{AllocError, Global};

@@ -3,7 +3,7 @@
 //! `additions` has what is replied to each addition and each command, `cut_additions` a capture that comes in pieces,
 //! `limits` files that have more than a session takes, `questions` what is asked of two events, `several_clocks` what is
 //! replied of hosts with several clocks, `keeps` events that are kept, `wide_captures` packets of IPv6 (`session`); `scripts`
-//! has whole scripts (`script`); `fixtures` what several of them use.
+//! has whole scripts (`session`); `fixtures` what several of them use.
 #![tactic(auto)]
 
 #[cfg(test)]

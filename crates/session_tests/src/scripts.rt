@@ -5,7 +5,7 @@ use crate::fixtures::TWO_LOGS_DECLARATION;
 use atto::Steps;
 use decl::{Decl, read_decl};
 use ports::{MemFiles, MemSink, MemSource};
-use script::{Ended, answer_script};
+use session::{Ended, answer_script};
 use std::alloc::{AllocError, Global};
 use std::marker::Brand;
 use std::sync::ledger::{Blank, Ledger};

@@ -1,9 +1,9 @@
 -- What is read of a solver that has an execution.
 use Rattle.std.proofs.Common.{◌≡◌, ℕ, List, [], length, Option, Some, None, subst}
 use Rattle.std.specs.Prelude.{ℤ, MatchOption}
-use Rattle.difference_bounds.specs.Executions.{IsExecution}
-use Rattle.difference_bounds.specs.Parents.{IsRow}
-use Rattle.difference_bounds.specs.Tables.{reversed_table}
+use Rattle.problem_model.specs.Executions.{IsExecution}
+use Rattle.problem_model.specs.Parents.{IsRow}
+use Rattle.problem_model.specs.Tables.{reversed_table}
 use Rattle.sync_graph.specs.Graph.{GraphLists, IsGraph, table_of}
 use Rattle.sync_graph.specs.InForce.{arcs_of}
 use Rattle.row_pool.specs.Row.{cells_of}
@@ -13,9 +13,9 @@ use Rattle.repair.specs.declared.slot.Slot.{Slot}
 use Rattle.repair.specs.Slots.{slot_of, HasRows, IsRowsOf, AreRowsOf}
 use Rattle.repair.specs.Pairs.{IsPairIn}
 use Rattle.repair.proofs.Found.{found, of_events}
-use Rattle.engine.specs.Solver.{SolverLists}
-use Rattle.engine.specs.Current.{IsCurrent, IsSolvedNow}
-use Rattle.engine.proofs.Staying.{solved_now}
+use Rattle.solver.specs.Solver.{SolverLists}
+use Rattle.solver.specs.Current.{IsCurrent, IsSolvedNow}
+use Rattle.solver.proofs.Staying.{solved_now}
 
 module _ (s : SolverLists) (current : IsCurrent s) (none : s.contradiction ≡ []) where
   now : IsSolvedNow s

@@ -8,13 +8,13 @@ use Rattle.sync_graph.specs.declared.arc.Arc.{Arc}
 use Rattle.sync_graph.specs.Graph.{GraphLists, IsGraph, IsSound, arc_at}
 use Rattle.sync_graph.specs.InForce.{IsEarliestOf}
 use Rattle.earliest.specs.Withdrawn.{IsEarliestWith}
-use Rattle.row_withdrawal.specs.Withdrawals.{AreWithdrawn}
-use Rattle.engine.specs.Solver.{SolverLists}
-use Rattle.engine.specs.Changes.{withdrawn}
-use Rattle.engine.specs.Current.{IsSolvedNow, IsCurrent}
-use Rattle.engine.specs.Costs.{TakesFewToWithdrawAll}
-use Rattle.engine.specs.Withdrawn.{arcs_numbered, IsCutDown}
-use Rattle.engine.proofs.Fewer.{set_up_without}
+use Rattle.repair.specs.RowWithdrawals.{AreWithdrawn}
+use Rattle.solver.specs.Solver.{SolverLists}
+use Rattle.solver.specs.Changes.{withdrawn}
+use Rattle.solver.specs.Current.{IsSolvedNow, IsCurrent}
+use Rattle.solver.specs.Costs.{TakesFewToWithdrawAll}
+use Rattle.solver.specs.Withdrawn.{arcs_numbered, IsCutDown}
+use Rattle.solver.proofs.Fewer.{set_up_without}
 
 -- ---- the arcs of numbers, one after another
 

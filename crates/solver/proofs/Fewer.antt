@@ -3,8 +3,8 @@ use Rattle.std.proofs.Common.{◌≡◌, ◌≢◌, ◌<◌, ◌+◌, ℕ, suc, 
 use Rattle.std.specs.Prelude.{Contains}
 use Rattle.std.proofs.lemmas.List.{drop_more}
 use Rattle.std.proofs.lemmas.List.Elements.{All-map, All-weaker, All-contains, Contains-get_or}
-use Rattle.difference_bounds.specs.Tables.{Lists}
-use Rattle.difference_bounds.proofs.Tables.{lists_listed}
+use Rattle.problem_model.specs.Tables.{Lists}
+use Rattle.problem_model.proofs.Tables.{lists_listed}
 use Rattle.sync_graph.specs.declared.arc.Arc.{Arc}
 use Rattle.sync_graph.specs.Graph.{GraphLists, IsGraph, arc_at, table_of, unnamed}
 use Rattle.sync_graph.specs.InForce.{IsInForce, arcs_of}
@@ -12,9 +12,9 @@ use Rattle.earliest.specs.Inserted.{IsNegativeCycle}
 use Rattle.earliest.proofs.Waiting.{in_force_below}
 use Rattle.repair.specs.declared.slot.Slot.{Slot}
 use Rattle.repair.specs.Slots.{all_slots}
-use Rattle.engine.specs.Changes.{withdrawn}
-use Rattle.engine.specs.Solver.{SolverLists, HasRoom}
-use Rattle.engine.specs.Current.{IsContradicted, IsSetUp, IsCurrent}
+use Rattle.solver.specs.Changes.{withdrawn}
+use Rattle.solver.specs.Solver.{SolverLists, HasRoom}
+use Rattle.solver.specs.Current.{IsContradicted, IsSetUp, IsCurrent}
 
 -- ---- flags
 

@@ -8,11 +8,11 @@ use Rattle.repair.specs.declared.slot.Slot.{Slot}
 use Rattle.repair.specs.declared.keep.KeepError.{KeepError}
 use Rattle.repair.specs.Slots.{KeptRows, behind, all_slots, AreOwnRows, AreRowsOf, AreNodes, ChangesRowsOf}
 use Rattle.repair.specs.Keeping.{TakesRows, with_slot}
-use Rattle.engine.specs.Solver.{SolverLists}
-use Rattle.engine.specs.Changes.{KeepsSlots}
-use Rattle.engine.specs.Current.{IsCurrent}
-use Rattle.engine.proofs.Lending.{free_same, two_less}
-use Rattle.engine.proofs.Staying.{with_rows, current_with_rows, rows_now}
+use Rattle.solver.specs.Solver.{SolverLists}
+use Rattle.solver.specs.Changes.{KeepsSlots}
+use Rattle.solver.specs.Current.{IsCurrent}
+use Rattle.solver.proofs.Lending.{free_same, two_less}
+use Rattle.solver.proofs.Staying.{with_rows, current_with_rows, rows_now}
 
 -- ---- slots that stay
 pub rows_as_before : (slots : List Slot) (pool : Pool) → ChangesRowsOf slots pool pool

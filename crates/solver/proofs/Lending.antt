@@ -10,11 +10,11 @@ use Rattle.repair.specs.declared.slot.Slot.{Slot}
 use Rattle.repair.specs.Slots.{HasRows, AreOwn, IsRowsOf}
 use Rattle.repair.specs.Keeping.{TakesRows}
 use Rattle.repair.proofs.Taking.{marked_own, marked_other, marked_lawful, marked_free, free_there}
-use Rattle.difference_bounds.specs.Parents.{IsRow}
-use Rattle.difference_bounds.specs.Tables.{ArcTable, reversed_table}
+use Rattle.problem_model.specs.Parents.{IsRow}
+use Rattle.problem_model.specs.Tables.{ArcTable, reversed_table}
 use Rattle.row_pool.specs.Row.{cells_of}
 use Rattle.distances.specs.Changes.{AreBlank}
-use Rattle.engine.specs.Changes.{LeavesTaken}
+use Rattle.solver.specs.Changes.{LeavesTaken}
 
 abbrev none : PoolRow
 none = record { taken = false; cells = [] }

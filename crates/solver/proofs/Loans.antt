@@ -2,8 +2,8 @@
 use Rattle.std.proofs.Common.{◌≡◌, ◌≢◌, ◌<◌, ℕ, false, List, [], length, get_or, All, refl, sym, ap, subst, ◌∙◌, arith, length-set}
 use Rattle.std.specs.Prelude.{ℤ, Option}
 use Rattle.std.proofs.lemmas.List.Elements.{All-tail}
-use Rattle.difference_bounds.specs.Parents.{IsRow}
-use Rattle.difference_bounds.specs.Tables.{ArcTable, reversed_table}
+use Rattle.problem_model.specs.Parents.{IsRow}
+use Rattle.problem_model.specs.Tables.{ArcTable, reversed_table}
 use Rattle.sync_graph.specs.Graph.{table_of}
 use Rattle.frontier.specs.Keys.{IsEmpty}
 use Rattle.distances.specs.Changes.{AreBlank}
@@ -16,11 +16,11 @@ use Rattle.repair.specs.Slots.{all_slots, HasRows, AreApart, AreOwn, IsRowsOf}
 use Rattle.repair.specs.Keeping.{TakesRows}
 use Rattle.repair.proofs.Slotting.{own_first, rows_first}
 use Rattle.repair.proofs.Taking.{apart_of, marked_other}
-use Rattle.engine.specs.declared.loan.Lent.{Lent}
-use Rattle.engine.specs.Solver.{SolverLists}
-use Rattle.engine.specs.Current.{IsCurrent}
-use Rattle.engine.specs.Lending.{IsLent}
-use Rattle.engine.proofs.Staying.{with_rows, current_with_rows, rows_now}
+use Rattle.solver.specs.declared.loan.Lent.{Lent}
+use Rattle.solver.specs.Solver.{SolverLists}
+use Rattle.solver.specs.Current.{IsCurrent}
+use Rattle.solver.specs.Lending.{IsLent}
+use Rattle.solver.proofs.Staying.{with_rows, current_with_rows, rows_now}
 
 -- ---- lent
 module _ (s : SolverLists) (current : IsCurrent s) (pool : Pool) (front : List (Option ℤ)) (slot : Slot) (takes : TakesRows s.pool pool slot) where

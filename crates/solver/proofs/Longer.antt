@@ -16,9 +16,9 @@ use Rattle.earliest.proofs.Bounds.{no_arc}
 use Rattle.earliest.proofs.Copying.{cycle_of_part}
 use Rattle.repair.specs.declared.slot.Slot.{Slot}
 use Rattle.repair.specs.Slots.{AreRowsOf, AreRowsBut, all_slots}
-use Rattle.engine.specs.Solver.{SolverLists, HasRoom, with_new_node}
-use Rattle.engine.specs.Current.{IsSetUp, IsCurrent}
-use Rattle.engine.specs.Pushed.{IsPushed}
+use Rattle.solver.specs.Solver.{SolverLists, HasRoom, with_new_node}
+use Rattle.solver.specs.Current.{IsSetUp, IsCurrent}
+use Rattle.solver.specs.Pushed.{IsPushed}
 
 -- ---- a node
 cycle_with_node : (g : GraphLists) (n : Node) (steps : List Arc) → IsNegativeCycle g steps → IsNegativeCycle (with_node g n) steps

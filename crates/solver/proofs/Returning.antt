@@ -6,8 +6,8 @@ use Rattle.row_pool.proofs.Pools.{below_rows}
 use Rattle.repair.specs.declared.slot.Slot.{Slot}
 use Rattle.repair.specs.Keeping.{TakesRows}
 use Rattle.repair.proofs.Taking.{marked_own, marked_other}
-use Rattle.engine.specs.Changes.{LeavesTaken}
-use Rattle.engine.proofs.Lending.{free_same}
+use Rattle.solver.specs.Changes.{LeavesTaken}
+use Rattle.solver.proofs.Lending.{free_same}
 
 -- a row that was free is none that was taken
 not_free : (pool : Pool) (j k : ℕ) → IsFree pool j → IsTaken pool k → k ≢ j

@@ -2,7 +2,7 @@
 use Rattle.std.proofs.Common.{◌≡◌, ◌≤◌, ◌+◌, ◌-◌, ℕ, zero, suc, true, false, List, [], ◌++◌, length, get_or, max, replicate, refl, sym, ap, subst, ◌∙◌, inl, inr, arith, length-append}
 use Rattle.std.specs.Prelude.{ℤ, pos, ◌<ℤ◌, map, Option, None, Some}
 use Rattle.std.proofs.lemmas.Int.{ints}
-use Rattle.difference_bounds.specs.Paths.{sum_of}
+use Rattle.problem_model.specs.Paths.{sum_of}
 use Rattle.sync_graph.specs.declared.arc.Arc.{Arc}
 use Rattle.sync_graph.specs.Graph.{unnamed}
 use Rattle.std.proofs.Math.Nat.{le-max_left}
@@ -12,8 +12,8 @@ use Rattle.std.proofs.lemmas.Option.{get_or_from_slice_get, slice_get-get_or}
 use Rattle.frontier.specs.Keys.{IsEmpty}
 use Rattle.row_pool.specs.Pool.{Pool, grown}
 use Rattle.repair.specs.Slots.{KeptRows, with_room, AreOwnRows, AreRowsOf, AreNodes}
-use Rattle.engine.specs.Solver.{SolverLists}
-use Rattle.engine.specs.Current.{IsSolvedNow, IsContradicted, IsSetUp, IsCurrent}
+use Rattle.solver.specs.Solver.{SolverLists}
+use Rattle.solver.specs.Current.{IsSolvedNow, IsContradicted, IsSetUp, IsCurrent}
 
 -- ---- other rows, another room
 -- the same graph and answer, with these rows and this frontier

@@ -2,7 +2,7 @@
 use Rattle.std.specs.Prelude.{◌≡◌, ℕ, ◌∷◌, [], Bool, false, List, length, slice_set}
 use Rattle.row_pool.specs.Pool.{Pool, row_at, row_of, IsTaken, free_rows}
 use Rattle.repair.specs.Slots.{all_slots, ChangesRowsOf}
-use Rattle.engine.specs.Solver.{SolverLists}
+use Rattle.solver.specs.Solver.{SolverLists}
 
 -- the same nodes are kept with the same rows, no other row is changed, and there is as much room as before
 pub record KeepsSlots (old new : SolverLists) : Type 0 where

@@ -7,7 +7,7 @@ use Rattle.earliest.specs.Withdrawn.{IsAffectedBy}
 use Rattle.repair.specs.Slots.{all_slots}
 use Rattle.repair.specs.Renewals.{insertion_steps}
 use Rattle.repair.specs.Withdrawals.{MarksAffected, steps_of_marked, withdrawal_steps}
-use Rattle.engine.specs.Solver.{SolverLists}
+use Rattle.solver.specs.Solver.{SolverLists}
 
 -- two, two and the arcs in force that reach it for each node whose value differs, and what each kept node's two rows may take
 abbrev pub repair_steps : SolverLists → SolverLists → ℕ

@@ -5,7 +5,7 @@ use Rattle.sync_graph.specs.InForce.{IsEarliestOf}
 use Rattle.earliest.specs.Inserted.{IsNegativeCycle}
 use Rattle.frontier.specs.Keys.{IsEmpty}
 use Rattle.repair.specs.Slots.{AreOwnRows, AreRowsOf, AreNodes}
-use Rattle.engine.specs.Solver.{SolverLists, HasRoom}
+use Rattle.solver.specs.Solver.{SolverLists, HasRoom}
 
 -- an execution exists: the values are the earliest one, no contradiction is held, and the kept rows are present and those of the graph
 pub record IsSolvedNow (s : SolverLists) : Type 0 where

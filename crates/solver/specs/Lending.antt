@@ -1,14 +1,14 @@
 -- Two rows of a solver's pool that are lent for a question.
 use Rattle.std.specs.Prelude.{◌≢◌, ℕ, length, All}
-use Rattle.difference_bounds.specs.Parents.{IsRow}
-use Rattle.difference_bounds.specs.Tables.{reversed_table}
+use Rattle.problem_model.specs.Parents.{IsRow}
+use Rattle.problem_model.specs.Tables.{reversed_table}
 use Rattle.sync_graph.specs.Graph.{table_of}
 use Rattle.row_pool.specs.Row.{cells_of}
 use Rattle.row_pool.specs.Pool.{row_of, IsTaken}
 use Rattle.repair.specs.declared.slot.Slot.{Slot}
 use Rattle.repair.specs.Slots.{all_slots}
-use Rattle.engine.specs.Solver.{SolverLists}
-use Rattle.engine.specs.declared.loan.Lent.{Lent}
+use Rattle.solver.specs.Solver.{SolverLists}
+use Rattle.solver.specs.declared.loan.Lent.{Lent}
 
 -- the row of this number is of no slot
 abbrev pub IsOfNoSlot : SolverLists → ℕ → Type 0

@@ -5,3 +5,4 @@ pub mod Costs
 pub mod Pushed
 pub mod Lending
 pub mod Withdrawn
+pub mod Solution

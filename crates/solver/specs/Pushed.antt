@@ -3,8 +3,8 @@ use Rattle.std.specs.Prelude.{◌≡◌, ℕ, [], List, true, false}
 use Rattle.sync_graph.specs.declared.arc.Arc.{Arc}
 use Rattle.earliest.specs.Values.{IsEarliestBut}
 use Rattle.repair.specs.Slots.{AreRowsBut, with_presence}
-use Rattle.engine.specs.Solver.{SolverLists}
-use Rattle.engine.specs.Current.{IsSetUp}
+use Rattle.solver.specs.Solver.{SolverLists}
+use Rattle.solver.specs.Current.{IsSetUp}
 
 -- values and kept rows are those of the graph without the arc
 pub record IsPushed (arc : ℕ) (s : SolverLists) : Type 0 where

@@ -3,9 +3,9 @@ use Rattle.std.specs.Prelude.{List}
 use Rattle.problem_model.specs.Problem.{ProblemLists}
 use Rattle.problem_model.specs.Nodes.{Reading, AreReadings}
 use Rattle.problem.specs.Listing.{Listed, listing_of}
-use Rattle.sync_graph.specs.ListedStanding.{StandsForListed}
-use Rattle.engine.specs.Solver.{SolverLists}
-use Rattle.engine.specs.Current.{IsCurrent}
+use Rattle.problem_graph.specs.ListedStanding.{StandsForListed}
+use Rattle.solver.specs.Solver.{SolverLists}
+use Rattle.solver.specs.Current.{IsCurrent}
 
 -- what is held is of the present graph, and the graph stands for the problem that the listing lists
 pub record IsSolutionBy (l : Listed) (p : ProblemLists) (s : SolverLists) : Type 0 where

@@ -5,8 +5,8 @@ use Rattle.sync_graph.specs.Graph.{GraphLists, IsSound, arc_at}
 use Rattle.earliest.specs.Withdrawn.{IsEarliestWith}
 use Rattle.repair.specs.Slots.{all_slots}
 use Rattle.repair.specs.Withdrawals.{WereRows}
-use Rattle.engine.specs.Solver.{SolverLists}
-use Rattle.engine.specs.Current.{IsSetUp}
+use Rattle.solver.specs.Solver.{SolverLists}
+use Rattle.solver.specs.Current.{IsSetUp}
 
 -- the arcs of these numbers
 abbrev pub arcs_numbered : GraphLists → List ℕ → List Arc

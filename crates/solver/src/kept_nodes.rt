@@ -4,8 +4,8 @@ ghost use Rattle.row_pool.specs.Pool.{free_rows};
 ghost use Rattle.repair.specs.declared.slot.Slot as slots;
 ghost use Rattle.repair.specs.Slots.{slot_of};
 ghost use Rattle.repair.specs.Keeping.{TakesRows, with_slot, with_source, IsPlaceOf, IsRefused};
-ghost use Rattle.engine.specs.Changes.{KeepsAnswer};
-ghost use Rattle.engine.specs.Current.{IsCurrent};
+ghost use Rattle.solver.specs.Changes.{KeepsAnswer};
+ghost use Rattle.solver.specs.Current.{IsCurrent};
 
 use crate::solver::Solver;
 use atto::Steps;

@@ -8,12 +8,12 @@
 //! for the other calls, but that a kept node is asked for without any.
 #![tactic(auto)]
 
-mod asking;
-mod keeping;
+mod kept_nodes;
 mod loan;
-mod pushing;
+mod pairs;
+mod pushes;
 mod solver;
-mod withdrawing;
+mod withdrawn_arcs;
 
 pub use loan::Lent;
 pub use solver::Solver;

@@ -1,14 +1,14 @@
 // Rows that are lent for a question.
 ghost use Rattle.std.specs.Prelude.{◌≡◌, ◌+◌, ◌<◌, ◌≤◌, ℕ, [], false, length};
-ghost use Rattle.difference_bounds.specs.Parents.{IsRow};
-ghost use Rattle.difference_bounds.specs.Tables.{reversed_table};
+ghost use Rattle.problem_model.specs.Parents.{IsRow};
+ghost use Rattle.problem_model.specs.Tables.{reversed_table};
 ghost use Rattle.sync_graph.specs.Graph.{table_of};
 ghost use Rattle.row_pool.specs.Row.{cells_of};
 ghost use Rattle.row_pool.specs.Pool.{free_rows, marked};
 ghost use Rattle.repair.specs.Keeping.{TakesRows};
-ghost use Rattle.engine.specs.Changes.{KeepsAnswer};
-ghost use Rattle.engine.specs.Current.{IsCurrent};
-ghost use Rattle.engine.specs.Lending.{IsLent, AreRowsFor, lent_slot};
+ghost use Rattle.solver.specs.Changes.{KeepsAnswer};
+ghost use Rattle.solver.specs.Current.{IsCurrent};
+ghost use Rattle.solver.specs.Lending.{IsLent, AreRowsFor, lent_slot};
 
 use crate::solver::Solver;
 use atto::Steps;

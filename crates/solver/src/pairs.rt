@@ -1,7 +1,7 @@
 // What is asked of a graph that has an execution.
 ghost use Rattle.std.specs.Prelude.{◌≡◌, ◌<◌, ◌≤◌, [], length, true, None, Some, MatchOption};
-ghost use Rattle.difference_bounds.specs.Parents.{IsRow};
-ghost use Rattle.difference_bounds.specs.Tables.{reversed_table};
+ghost use Rattle.problem_model.specs.Parents.{IsRow};
+ghost use Rattle.problem_model.specs.Tables.{reversed_table};
 ghost use Rattle.frontier.specs.Keys.{IsEmpty};
 ghost use Rattle.sync_graph.specs.Graph.{table_of};
 ghost use Rattle.sync_graph.specs.InForce.{IsEarliestOf};
@@ -10,8 +10,8 @@ ghost use Rattle.row_pool.specs.Pool.{free_rows};
 ghost use Rattle.repair.specs.declared.slot.Slot as slots;
 ghost use Rattle.repair.specs.Slots.{slot_of};
 ghost use Rattle.repair.specs.Pairs.{IsPairIn};
-ghost use Rattle.engine.specs.Changes.{KeepsAnswer, LeavesTaken};
-ghost use Rattle.engine.specs.Current.{IsCurrent};
+ghost use Rattle.solver.specs.Changes.{KeepsAnswer, LeavesTaken};
+ghost use Rattle.solver.specs.Current.{IsCurrent};
 
 use crate::solver::Solver;
 use atto::Steps;

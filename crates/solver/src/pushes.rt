@@ -2,11 +2,11 @@
 ghost use Rattle.std.specs.Prelude.{◌≡◌, ◌+◌, ◌<◌, ◌≤◌, ℕ, false, true, length, slice_get, slice_index_or, Some, IfOk, OnOk};
 ghost use Rattle.sync_graph.specs.Graph.{IsSound, most_nodes, most_arcs, with_arc};
 ghost use Rattle.sync_graph.specs.Names.{IsNamed};
-ghost use Rattle.engine.specs.Solver.{HasRoom, with_new_node};
-ghost use Rattle.engine.specs.Current.{IsCurrent};
-ghost use Rattle.engine.specs.Changes.{KeepsSlots};
-ghost use Rattle.engine.specs.Costs.{pushing_steps};
-ghost use Rattle.engine.specs.Pushed.{IsPushed, with_contradiction};
+ghost use Rattle.solver.specs.Solver.{HasRoom, with_new_node};
+ghost use Rattle.solver.specs.Current.{IsCurrent};
+ghost use Rattle.solver.specs.Changes.{KeepsSlots};
+ghost use Rattle.solver.specs.Costs.{pushing_steps};
+ghost use Rattle.solver.specs.Pushed.{IsPushed, with_contradiction};
 
 use crate::solver::Solver;
 use atto::Steps;

@@ -1,12 +1,12 @@
 // A graph with its earliest execution or a contradiction, and kept rows.
 ghost use Rattle.std.specs.Prelude.{◌≡◌, ◌-◌, ◌<◌, ◌≤◌, [], ◌++◌, length, max, replicate, None, OnOk};
 ghost use Rattle.problem_model.specs.Nodes.{most_nodes};
-ghost use Rattle.difference_bounds.specs.Executions.{at};
+ghost use Rattle.problem_model.specs.Executions.{at};
 ghost use Rattle.sync_graph.specs.Graph.{no_graph};
 ghost use Rattle.row_pool.specs.Pool.{grown};
 ghost use Rattle.repair.specs.Slots.{nothing_kept, with_room};
-ghost use Rattle.engine.specs.Changes.{KeepsAnswer};
-ghost use Rattle.engine.specs.Current.{IsCurrent, IsSolvedNow, IsContradicted};
+ghost use Rattle.solver.specs.Changes.{KeepsAnswer};
+ghost use Rattle.solver.specs.Current.{IsCurrent, IsSolvedNow, IsContradicted};
 
 use earliest::Earliest;
 use earliest::laws::growth;
@@ -32,7 +32,7 @@ pub struct Solver {
 }
 
 impl Model for Solver {
-    ghost use Rattle.engine.specs.Solver.{SolverLists};
+    ghost use Rattle.solver.specs.Solver.{SolverLists};
 
     ghost Value = { SolverLists };
 

@@ -3,18 +3,18 @@ ghost use Rattle.std.specs.Prelude.{◌≡◌, ◌≢◌, ◌<◌, ◌++◌, ◌
 ghost use Rattle.sync_graph.specs.Graph.{arc_at};
 ghost use Rattle.sync_graph.specs.InForce.{IsEarliestOf};
 ghost use Rattle.earliest.specs.Withdrawn.{IsEarliestWith};
-ghost use Rattle.row_withdrawal.specs.Withdrawals.{AreWithdrawn};
-ghost use Rattle.engine.specs.Changes.{KeepsSlots, withdrawn};
-ghost use Rattle.engine.specs.Costs.{TakesFewToWithdrawAll};
-ghost use Rattle.engine.specs.Current.{IsCurrent, IsSetUp};
-ghost use Rattle.engine.specs.Withdrawn.{arcs_numbered, IsCutDown};
+ghost use Rattle.repair.specs.RowWithdrawals.{AreWithdrawn};
+ghost use Rattle.solver.specs.Changes.{KeepsSlots, withdrawn};
+ghost use Rattle.solver.specs.Costs.{TakesFewToWithdrawAll};
+ghost use Rattle.solver.specs.Current.{IsCurrent, IsSetUp};
+ghost use Rattle.solver.specs.Withdrawn.{arcs_numbered, IsCutDown};
 
 use crate::solver::Solver;
 use atto::Steps;
 use earliest::Inserted;
 use earliest::laws::removals;
 use problem_model::Bound;
-use row_withdrawal::laws::withdrawals;
+use repair::row_laws::withdrawals;
 use std::alloc::{AllocError, Global};
 use std::sync::ledger::Ledger;
 use sync_graph::{Arc, Graph};

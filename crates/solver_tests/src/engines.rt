@@ -3,11 +3,11 @@ ghost use Rattle.std.specs.Prelude.{◌≡◌, ◌+◌, ◌<◌, ◌^◌, ◌++�
 ghost use Rattle.problem_model.specs.declared.items.Node.TheVariants.{Event};
 ghost use Rattle.sync_graph.specs.Graph.{no_graph};
 ghost use Rattle.row_pool.specs.Pool.{free_rows};
-ghost use Rattle.engine.specs.Current.{IsCurrent};
+ghost use Rattle.solver.specs.Current.{IsCurrent};
 
 use crate::fixtures::is_solved;
 use atto::Steps;
-use engine::Solver;
+use solver::Solver;
 use problem_model::{Bound, Node};
 use row_pool::{Pair, Reach};
 use std::alloc::{AllocError, Global};

@@ -2,7 +2,7 @@
 ghost use Rattle.std.specs.Prelude.{◌≡◌, ◌<◌};
 
 use atto::Steps;
-use event_order::event_ranks;
+use problem_solver::event_ranks;
 use problem::{Problem, read_problem};
 use std::alloc::Global;
 use std::marker::Brand;

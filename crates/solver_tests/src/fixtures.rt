@@ -1,13 +1,13 @@
 // Problems that several modules use, and what solving one finds.
 ghost use Rattle.std.specs.Prelude.{◌≡◌, ◌<◌, [], true, IfOk};
 ghost use Rattle.row_pool.specs.Pool.{free_rows};
-ghost use Rattle.engine.specs.Current.{IsCurrent};
-ghost use Rattle.solver.specs.Moved0.{IsSolution};
+ghost use Rattle.solver.specs.Current.{IsCurrent};
+ghost use Rattle.solver.specs.Solution.{IsSolution};
 
 use atto::Steps;
-use engine::Solver;
+use solver::Solver;
 use problem::Problem;
-use solving::solve;
+use problem_solver::solve;
 use std::alloc::{AllocError, Global};
 use std::marker::Brand;
 use std::sync::ledger::{Blank, Ledger};

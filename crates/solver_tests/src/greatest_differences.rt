@@ -1,12 +1,12 @@
 // Greatest differences of problems that are read.
 ghost use Rattle.std.specs.Prelude.{◌≡◌, ◌<◌, ◌≤◌, [], true, length};
 ghost use Rattle.row_pool.specs.Pool.{free_rows};
-ghost use Rattle.engine.specs.Changes.{KeepsAnswer};
-ghost use Rattle.engine.specs.Current.{IsCurrent};
+ghost use Rattle.solver.specs.Changes.{KeepsAnswer};
+ghost use Rattle.solver.specs.Current.{IsCurrent};
 
 use crate::fixtures::{ALONE_PROBLEM, TWO_LOGS_PROBLEM, UNLINKED_PROBLEM, is_solved, solve_alone};
 use atto::Steps;
-use engine::Solver;
+use solver::Solver;
 use problem::{Problem, read_problem};
 use problem_model::{Event, Node};
 use row_pool::{Cell, Pair, Reach};

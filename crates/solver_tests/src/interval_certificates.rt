@@ -2,16 +2,16 @@
 ghost use Rattle.std.specs.Prelude.{◌≡◌, ◌<◌, ◌≤◌, [], length};
 ghost use Rattle.attain.specs.Ends.{AreRowsOf};
 ghost use Rattle.row_pool.specs.Pool.{free_rows};
-ghost use Rattle.solver.specs.Moved0.{IsSolution};
+ghost use Rattle.solver.specs.Solution.{IsSolution};
 
 use crate::fixtures::{ALONE_PROBLEM, TWO_LOGS_PROBLEM, UNLINKED_PROBLEM, is_solved, solve_alone};
 use attain::write_ends;
 use atto::Steps;
-use engine::Solver;
+use solver::Solver;
 use ports::MemSink;
 use problem::{Problem, read_problem};
 use row_pool::Cell;
-use solver::executions;
+use queries::executions;
 use std::alloc::Global;
 use std::marker::Brand;
 use std::sync::ledger::{Blank, Ledger};

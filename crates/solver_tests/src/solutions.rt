@@ -1,9 +1,9 @@
 ghost use Rattle.std.specs.Prelude.{◌≡◌, []};
-ghost use Rattle.engine.specs.Current.{IsCurrent};
+ghost use Rattle.solver.specs.Current.{IsCurrent};
 
 use crate::fixtures::{CIRCLE_PROBLEM, LATE_LOGS_PROBLEM, is_solved, solve_alone};
 use atto::{NsText, write_decimal};
-use engine::Solver;
+use solver::Solver;
 use problem::{Problem, read_problem};
 use std::alloc::{AllocError, Global};
 use std::test::*;

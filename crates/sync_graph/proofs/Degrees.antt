@@ -3,9 +3,9 @@ use Rattle.std.proofs.Common.{◌≡◌, ℕ, zero, suc, ◌+◌, ◌<◌, ◌�
 use Rattle.std.specs.Prelude.{◌≢◌, count_by}
 use Rattle.std.proofs.lemmas.Bool.{cases_eq}
 use Rattle.std.proofs.lemmas.List.Sums.{sum_by-cons}
-use Rattle.difference_bounds.specs.Sums.{sum_to}
-use Rattle.difference_bounds.specs.Tables.{ArcTable, reversed_table}
-use Rattle.difference_bounds.proofs.Sums.{sum-same, sum-more, sum_zero}
+use Rattle.problem_model.specs.Sums.{sum_to}
+use Rattle.problem_model.specs.Tables.{ArcTable, reversed_table}
+use Rattle.problem_model.proofs.Sums.{sum-same, sum-more, sum_zero}
 use Rattle.sync_graph.specs.Lists.{list_at, entry_at, AreListed}
 use Rattle.sync_graph.specs.Graph.{GraphLists, IsGraph, table_of, departing, reaching, arcs_in_force}
 use Rattle.sync_graph.proofs.InForce.{in_force_below, no_arc}

@@ -4,10 +4,10 @@ use Rattle.std.proofs.lemmas.Bool.{cases_lt}
 use Rattle.std.proofs.lemmas.List.{get_or_past}
 use Rattle.std.proofs.lemmas.List.Elements.{Contains-get_or}
 use Rattle.problem_model.specs.declared.items.Bound.TheVariants.{Late}
-use Rattle.difference_bounds.specs.Executions.{AreWithin}
-use Rattle.difference_bounds.specs.Tables.{Lists}
-use Rattle.difference_bounds.proofs.Tables.{lists_listed}
-use Rattle.difference_bounds.proofs.SimplePaths.{pigeons}
+use Rattle.problem_model.specs.Executions.{AreWithin}
+use Rattle.problem_model.specs.Tables.{Lists}
+use Rattle.problem_model.proofs.Tables.{lists_listed}
+use Rattle.problem_model.proofs.SimplePaths.{pigeons}
 use Rattle.sync_graph.specs.declared.arc.Arc.{Arc}
 use Rattle.sync_graph.specs.Graph.{GraphLists, IsGraph, table_of}
 use Rattle.sync_graph.specs.Lists.{list_at, entry_at}

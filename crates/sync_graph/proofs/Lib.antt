@@ -8,13 +8,4 @@ pub mod Degrees
 pub mod Grown
 pub mod Withdrawn
 pub mod Keyed
-pub mod OneMore
-pub mod Rooms
-pub mod Numbering
-pub mod Follows
-pub mod Ends
 pub mod Nearest
-pub mod BoundEnds
-pub mod NodeNumbers
-pub mod ListedExecutions
-pub mod OwnStanding

@@ -4,7 +4,7 @@ use Rattle.std.specs.Prelude.{◌≢◌}
 use Rattle.std.specs.List.{swap_remove}
 use Rattle.std.proofs.lemmas.List.{get_or-set_same, get_or-set_other, get_or_past, get_or_default, get_or-map, length-map, length-take-le}
 use Rattle.std.proofs.lemmas.Bool.{cases_lt, cases_eq}
-use Rattle.difference_bounds.specs.Tables.{ArcTable, reversed_table}
+use Rattle.problem_model.specs.Tables.{ArcTable, reversed_table}
 use Rattle.sync_graph.specs.declared.arc.Arc.{Arc}
 use Rattle.sync_graph.specs.declared.arcs.KindArc.{KindArc}
 use Rattle.sync_graph.specs.Kinds.{named_arc, named_arcs}

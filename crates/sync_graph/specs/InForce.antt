@@ -1,8 +1,8 @@
 -- The arcs in force of a graph, and its earliest execution.
 use Rattle.std.specs.Prelude.{◌≡◌, ℕ, true, false, ℤ, List, length, slice_index_or}
-use Rattle.difference_bounds.specs.Executions as bounds
-use Rattle.difference_bounds.specs.Earliest.{IsEarliest}
-use Rattle.difference_bounds.specs.Tables.{listed}
+use Rattle.problem_model.specs.Executions as bounds
+use Rattle.problem_model.specs.Earliest.{IsEarliest}
+use Rattle.problem_model.specs.Tables.{listed}
 use Rattle.sync_graph.specs.declared.arc.Arc.{Arc}
 use Rattle.sync_graph.specs.Graph.{GraphLists, arc_at, table_of}
 

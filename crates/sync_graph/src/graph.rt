@@ -1,6 +1,6 @@
 // A graph of numbered arcs.
 ghost use Rattle.std.specs.Prelude.{◌≡◌, ℕ, ◌<◌, ◌+◌, ◌++◌, ◌∷◌, [], length, true, false, slice_get, slice_set, slice_index_or, Some, IfSome, IfNone, OnOk, OnErr, IfOk};
-ghost use Rattle.difference_bounds.specs.Sums.{sum_to};
+ghost use Rattle.problem_model.specs.Sums.{sum_to};
 ghost use Rattle.sync_graph.specs.Lists.{list_at};
 ghost use Rattle.sync_graph.specs.Neighbours.{IsNearestBelow, IsNearestAbove, IsFirstReading, IsLastReading, HasNoReading};
 ghost use Rattle.sync_graph.specs.Names.{IsNamed};

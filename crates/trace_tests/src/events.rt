@@ -2,13 +2,13 @@ ghost use Rattle.std.specs.Prelude.{◌≤◌, ◌^◌, length, IfSome};
 
 use arrayvec::ArrayVec;
 use atto::Nano;
-use captures::Packet;
+use pcap_stream::Packet;
 use decl::{Decl, read_decl};
 use event_log::read_rows;
 use ip_headers::PacketKey;
 use std::alloc::Global;
 use std::test::*;
-use trace_event::{Event, Key, Mark, NoKey, Side, packet_events, row_events};
+use traces::{Event, Key, Mark, NoKey, Side, packet_events, row_events};
 
 const FIRST: u32 = 0x0a00_0001;
 

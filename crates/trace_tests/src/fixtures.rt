@@ -6,9 +6,9 @@ use arrayvec::ArrayVec;
 use decl::{Decl, read_decl};
 use event_log::{LogError, read_rows};
 use ip_headers::PacketKey;
-use plain_traces::{messages_in, missing};
+use reference_traces::{messages_in, missing};
 use std::alloc::{AllocError, Global};
-use trace_event::{Event, Side, row_events};
+use traces::{Event, Side, row_events};
 use traces::{Accepted, Couple, EventId, Stream, event_count};
 
 pub(crate) const SEND: Side = Side::Send;

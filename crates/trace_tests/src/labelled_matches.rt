@@ -2,18 +2,18 @@
 // the plain filters say.
 ghost use Rattle.std.specs.Prelude.{OnOk};
 ghost use Rattle.traces.specs.Held.{seen_in};
-ghost use Rattle.plain_traces.specs.Added.{AreAdded};
+ghost use Rattle.reference_traces.specs.Added.{AreAdded};
 
 use crate::fixtures::{RECEIVE, SEND, are_messages, by_filters, lost, packet_key, three_logs};
 use atto::Nano;
 use event_log::WordKey;
-use event_match::{Changed, counts};
+use msg_match::{Changed, counts};
 use msg_match::{Change, Group, Matcher, Tallies};
-use plain_traces::Additions;
+use reference_traces::Additions;
 use roster::Roster;
 use std::alloc::{AllocError, Global};
 use std::test::*;
-use trace_event::{Event, Key, Mark, NoKey, Side};
+use traces::{Event, Key, Mark, NoKey, Side};
 use traces::{Couple, EventId};
 
 // An ambiguous key, and its events by label and number.

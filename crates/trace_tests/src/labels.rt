@@ -1,10 +1,10 @@
 use crate::fixtures::{accepted, are_messages, by_filters, log_of, lost, packet_key};
 use atto::Nano;
 use event_log::{LogError, WordKey};
-use plain_traces::messages;
+use reference_traces::messages;
 use std::alloc::{AllocError, Global};
 use std::test::*;
-use trace_event::{Event, Key, Mark, Side};
+use traces::{Event, Key, Mark, Side};
 use traces::{Accepted, Couple, event_count, events};
 
 // The logs of three labels before, and after more was accepted.

@@ -2,9 +2,9 @@
 //!
 //! `logs` has rows of logs (`event_log`); `declarations` what is declared, and its faults, and `declared_clocks` the same of
 //! hosts with several clocks (`decl`); `headers` the headers of packets (`ip_headers`); `capture_pieces` the packets of a capture
-//! that comes in pieces (`pcap_stream`); `events` what is seen of rows and packets (`trace_event`); `labels` the events and
+//! that comes in pieces (`pcap_stream`); `events` what is seen of rows and packets (`traces`); `labels` the events and
 //! messages under labels (`traces`); `matches` sends and receives of a key (`msg_match`); `labelled_matches` those under labels
-//! (`event_match`); `problems` the problem that is made (`plain_traces`); `rosters` what is listed of events that come
+//! (`msg_match`); `problems` the problem that is made (`reference_traces`); `rosters` what is listed of events that come
 //! (`roster`); `fixtures` has what several of them use.
 #![tactic(auto)]
 

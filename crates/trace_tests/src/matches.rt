@@ -4,7 +4,8 @@ ghost use Rattle.msg_match.specs.Held.{seen_items};
 
 use crate::fixtures::{RECEIVE, SEND, packet_key};
 use event_log::WordKey;
-use msg_match::{Change, Couple, Group, Item, Key, Matcher, Side, Tallies};
+use msg_match::{Change, Couple, Group, Item, Matcher, Tallies};
+use traces::{Key, Side};
 use std::alloc::{AllocError, Global};
 use std::test::*;
 

@@ -4,7 +4,7 @@ ghost use Rattle.decl.specs.Declaration.{IsDeclaration, declaration_of};
 
 use crate::fixtures::log_of;
 use decl::{Decl, read_decl};
-use plain_traces::{messages_in, problem_of};
+use reference_traces::{messages_in, problem_of};
 use problem::{Problem, read_problem};
 use problem_model::Name;
 use std::alloc::Global;

@@ -4,8 +4,8 @@ use Rattle.std.specs.Prelude.{All, AllPairs, slice_set, slice_index_or}
 use Rattle.std.proofs.lemmas.List.Elements.{All-append, All-cons, All-nil, All-weaker}
 use Rattle.std.proofs.lemmas.List.Kept.{AllPairs-cons}
 use Rattle.std.proofs.lemmas.List.Sums.{sum_by-cons, sum_by-set}
-use Rattle.traces.specs.declared.event.EventId.{EventId}
-use Rattle.trace_event.specs.Seen.{Seen}
+use Rattle.traces.specs.declared.event_id.EventId.{EventId}
+use Rattle.traces.specs.Seen.{Seen}
 use Rattle.traces.specs.Traces.{Placed, numbered, events_from, events_of, event_count}
 use Rattle.traces.specs.Pairs.{ComesBefore}
 use Rattle.traces.proofs.Members.{no_pairs, pairs_joined}

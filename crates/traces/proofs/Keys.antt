@@ -6,7 +6,7 @@ use Rattle.std.proofs.lemmas.Bool.{and_from, and_parts, eq-eqb, eqb-true, false�
 use Rattle.std.proofs.lemmas.Slice.Eq.{bytes_eq-Decides}
 use Rattle.ip_headers.specs.Keys.{KeyFields}
 use Rattle.wide_headers.specs.Keys.{WideFields}
-use Rattle.trace_event.specs.Seen.{EventKey, Packet, Wide, Word, is_same_key, is_same_packet, is_same_wide}
+use Rattle.traces.specs.Seen.{EventKey, Packet, Wide, Word, is_same_key, is_same_packet, is_same_wide}
 
 -- a number that passes behind other tests
 number_of : (before : Bool) (m n : ℕ) → (before && (m == n)) ≡ true → (before ≡ true) × (m ≡ n)

@@ -10,3 +10,4 @@ pub mod Places
 pub mod Follows
 pub mod Whole
 pub mod Seen
+pub mod Keys

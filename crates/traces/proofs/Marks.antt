@@ -4,10 +4,10 @@ use Rattle.std.specs.Prelude.{AllPairs, Contains}
 use Rattle.std.proofs.lemmas.Bool.{and_from, and_parts, false≢true}
 use Rattle.std.proofs.lemmas.List.Elements.{All-contains}
 use Rattle.std.proofs.lemmas.List.Kept.{AllPairs-filter}
-use Rattle.trace_event.specs.declared.event.Side.{Side}
-use Rattle.trace_event.specs.declared.event.Side.TheVariants.{Send, Receive}
-use Rattle.trace_event.specs.Seen.{EventKey, SeenMark, Keyed, Unkeyed, is_mark, is_same_key, is_same_side}
-use Rattle.trace_event.proofs.Keys.{keys_tell}
+use Rattle.traces.specs.declared.event.Side.{Side}
+use Rattle.traces.specs.declared.event.Side.TheVariants.{Send, Receive}
+use Rattle.traces.specs.Seen.{EventKey, SeenMark, Keyed, Unkeyed, is_mark, is_same_key, is_same_side}
+use Rattle.traces.proofs.Keys.{keys_tell}
 use Rattle.traces.specs.Traces.{Placed}
 use Rattle.traces.specs.Messages.{with_mark}
 use Rattle.traces.specs.Pairs.{IsOnly}

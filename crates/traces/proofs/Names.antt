@@ -13,7 +13,7 @@ use Rattle.problem_model.specs.Name.{is_clock_byte, is_event_byte, IsClockName, 
 use Rattle.decl.specs.declared.items.Label.{Label}
 use Rattle.decl.specs.Declaration.{Declaration, Precedes}
 use Rattle.decl.proofs.Searching.{precedes_differ}
-use Rattle.traces.specs.declared.event.EventId.{EventId}
+use Rattle.traces.specs.declared.event_id.EventId.{EventId}
 use Rattle.traces.specs.Traces.{name_of}
 use Rattle.traces.proofs.Lists.{got, all_at, pair_at}
 

@@ -7,9 +7,9 @@ use Rattle.std.proofs.lemmas.Option.{slice_get-map, slice_get_read, slice_get_wi
 use Rattle.problem_model.specs.declared.items.Event.{Event}
 use Rattle.problem_model.specs.Problem.{ProblemLists}
 use Rattle.decl.specs.Declaration.{Declaration, HasLawfulLabels}
-use Rattle.traces.specs.declared.event.EventId.{EventId}
-use Rattle.traces.specs.declared.event.Couple.{Couple}
-use Rattle.traces.specs.declared.event.PlacedEvent.{PlacedEvent}
+use Rattle.traces.specs.declared.event_id.EventId.{EventId}
+use Rattle.traces.specs.declared.event_id.Couple.{Couple}
+use Rattle.traces.specs.declared.event_id.PlacedEvent.{PlacedEvent}
 use Rattle.traces.specs.Traces.{Placed, is_same, name_of}
 use Rattle.traces.specs.Held.{placed_in, placed_of}
 use Rattle.traces.specs.Messages.{event_with, place_of}

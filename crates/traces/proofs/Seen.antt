@@ -4,9 +4,9 @@ use Rattle.std.proofs.lemmas.List.Elements.{All-append, All-cons, All-head, All-
 use Rattle.std.proofs.lemmas.List.Sums.{get_or-le-sum_by}
 use Rattle.problem_model.specs.Problem.{IsProblem}
 use Rattle.decl.specs.Declaration.{Declaration, IsDeclaration}
-use Rattle.traces.specs.declared.event.EventId.{EventId}
-use Rattle.traces.specs.declared.event.Couple.{Couple}
-use Rattle.trace_event.specs.Seen.{Seen}
+use Rattle.traces.specs.declared.event_id.EventId.{EventId}
+use Rattle.traces.specs.declared.event_id.Couple.{Couple}
+use Rattle.traces.specs.Seen.{Seen}
 use Rattle.traces.specs.Traces.{Placed, numbered, events_from, events_of, event_count}
 use Rattle.traces.specs.Messages.{messages_of, problem_of_seen}
 use Rattle.traces.proofs.Ids.{ids_differ, ids_rise, ids_within, length_events}

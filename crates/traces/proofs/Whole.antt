@@ -11,8 +11,8 @@ use Rattle.decl.specs.declared.items.Label.{Label}
 use Rattle.decl.specs.declared.items.Link.{Link}
 use Rattle.decl.specs.Declaration.{Declaration, IsDeclaration, HasLawfulClocks, HasLawfulLabels, IsClockOf, LinkFits, bounds_among}
 use Rattle.decl.proofs.Following.{follows_lead, earliers_differ, laters_differ, gaps_fit}
-use Rattle.traces.specs.declared.event.EventId.{EventId}
-use Rattle.traces.specs.declared.event.Couple.{Couple}
+use Rattle.traces.specs.declared.event_id.EventId.{EventId}
+use Rattle.traces.specs.declared.event_id.Couple.{Couple}
 use Rattle.traces.specs.Traces.{Placed, name_of, clock_of}
 use Rattle.traces.specs.Messages.{event_with, linked, place_of}
 use Rattle.traces.specs.Making.{problem_by, IsOneOf, AreEvents, AreMessages}

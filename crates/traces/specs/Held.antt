@@ -1,7 +1,7 @@
 -- The events of what is held under the labels.
 use Rattle.std.specs.Prelude.{List, map}
-use Rattle.trace_event.specs.Seen.{Seen, seen_event, seen_events}
-use Rattle.traces.specs.declared.event.PlacedEvent.{PlacedEvent}
+use Rattle.traces.specs.Seen.{Seen, seen_event, seen_events}
+use Rattle.traces.specs.declared.event_id.PlacedEvent.{PlacedEvent}
 use Rattle.traces.specs.declared.accepted.Accepted.{Accepted}
 use Rattle.traces.specs.Traces.{Placed}
 

@@ -3,3 +3,4 @@ pub mod Messages
 pub mod Held
 pub mod Pairs
 pub mod Making
+pub mod Seen

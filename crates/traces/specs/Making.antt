@@ -2,9 +2,9 @@
 use Rattle.std.specs.Prelude.{◌≡◌, ◌≢◌, ◌^◌, ◌<◌, ◌≤◌, List, map, length, All, AllPairs, Contains}
 use Rattle.problem_model.specs.Problem.{ProblemLists}
 use Rattle.decl.specs.Declaration.{Declaration, follows_of}
-use Rattle.traces.specs.declared.event.EventId.{EventId}
-use Rattle.traces.specs.declared.event.Couple.{Couple}
-use Rattle.trace_event.specs.Seen.{Seen}
+use Rattle.traces.specs.declared.event_id.EventId.{EventId}
+use Rattle.traces.specs.declared.event_id.Couple.{Couple}
+use Rattle.traces.specs.Seen.{Seen}
 use Rattle.traces.specs.Traces.{Placed}
 use Rattle.traces.specs.Messages.{event_with, linked}
 

@@ -5,11 +5,11 @@ use Rattle.problem_model.specs.declared.items.Event.{Event}
 use Rattle.problem_model.specs.declared.items.Message.{Message}
 use Rattle.problem_model.specs.Problem.{ProblemLists}
 use Rattle.decl.specs.Declaration.{Declaration, link_bounds, follows_of}
-use Rattle.trace_event.specs.declared.event.Side.{Side}
-use Rattle.trace_event.specs.declared.event.Side.TheVariants.{Send, Receive}
-use Rattle.trace_event.specs.Seen.{EventKey, SeenMark, Keyed, Unkeyed, Seen, is_mark}
-use Rattle.traces.specs.declared.event.EventId.{EventId}
-use Rattle.traces.specs.declared.event.Couple.{Couple}
+use Rattle.traces.specs.declared.event.Side.{Side}
+use Rattle.traces.specs.declared.event.Side.TheVariants.{Send, Receive}
+use Rattle.traces.specs.Seen.{EventKey, SeenMark, Keyed, Unkeyed, Seen, is_mark}
+use Rattle.traces.specs.declared.event_id.EventId.{EventId}
+use Rattle.traces.specs.declared.event_id.Couple.{Couple}
 use Rattle.traces.specs.Traces.{Traces, Placed, seen_by, events_of, is_same, name_of, host_of, clock_of}
 
 -- ---- messages

@@ -12,15 +12,15 @@ use Rattle.wide_headers.specs.Keys as headers
 use Rattle.wide_headers.specs.Keys.{WideFields}
 use Rattle.wide_headers.specs.Decoding.{decoded_wide}
 use Rattle.captures.specs.Capture as captured
-use Rattle.trace_event.specs.declared.event.Side.{Side}
-use Rattle.trace_event.specs.declared.event.Side.TheVariants.{Send, Receive}
-use Rattle.trace_event.specs.declared.event.NoKey.{NoKey}
-use Rattle.trace_event.specs.declared.event.NoKey.TheVariants as without
-use Rattle.trace_event.specs.declared.event.Key.{Key}
-use Rattle.trace_event.specs.declared.event.Key.TheVariants as code
-use Rattle.trace_event.specs.declared.event.Mark.{Mark}
-use Rattle.trace_event.specs.declared.event.Mark.TheVariants as marks
-use Rattle.trace_event.specs.declared.event.Event.{Event}
+use Rattle.traces.specs.declared.event.Side.{Side}
+use Rattle.traces.specs.declared.event.Side.TheVariants.{Send, Receive}
+use Rattle.traces.specs.declared.event.NoKey.{NoKey}
+use Rattle.traces.specs.declared.event.NoKey.TheVariants as without
+use Rattle.traces.specs.declared.event.Key.{Key}
+use Rattle.traces.specs.declared.event.Key.TheVariants as code
+use Rattle.traces.specs.declared.event.Mark.{Mark}
+use Rattle.traces.specs.declared.event.Mark.TheVariants as marks
+use Rattle.traces.specs.declared.event.Event.{Event}
 
 -- ---- what is seen of an event
 -- what a message is known by at both of its ends

@@ -8,8 +8,8 @@ use Rattle.decl.specs.declared.items.TraceKind.TheVariants.{Capture, Log}
 use Rattle.decl.specs.Declaration.{Declaration}
 use Rattle.captures.specs.Capture as captures
 use Rattle.captures.specs.Capture.{Reads, nothing}
-use Rattle.trace_event.specs.Seen.{Seen, seen_row, event_of_packet}
-use Rattle.traces.specs.declared.event.EventId.{EventId}
+use Rattle.traces.specs.Seen.{Seen, seen_row, event_of_packet}
+use Rattle.traces.specs.declared.event_id.EventId.{EventId}
 
 -- ---- what was accepted
 -- under one label: the bytes of a capture, and what they stand for; the rows of a log, and how many bytes they came in

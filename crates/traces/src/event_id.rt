@@ -1,5 +1,5 @@
 // The events of all labels, by their names.
-use trace_event::Event;
+use crate::Event;
 
 /// An event: the place of its label, from 0 on, and its number there, from 1 on.
 #[derive(Clone, Copy, Debug, PartialEq, Eq)]

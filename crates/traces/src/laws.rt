@@ -2,8 +2,8 @@
 ghost use Rattle.std.specs.Prelude.{◌≡◌, ◌≤◌, ◌^◌, List, length, Contains, AllPairs};
 ghost use Rattle.problem_model.specs.Problem.{IsProblem};
 ghost use Rattle.decl.specs.Declaration.{Declaration, IsDeclaration};
-ghost use Rattle.traces.specs.declared.event.Couple.{Couple};
-ghost use Rattle.trace_event.specs.Seen.{Seen};
+ghost use Rattle.traces.specs.declared.event_id.Couple.{Couple};
+ghost use Rattle.traces.specs.Seen.{Seen};
 ghost use Rattle.traces.specs.Traces.{event_count, events_of};
 ghost use Rattle.traces.specs.Messages.{messages_of, problem_of_seen};
 ghost use Rattle.traces.specs.Making.{StampsFit};

@@ -1,15 +1,25 @@
+//! The events of traces: what each is known by, and what was accepted under the labels of a declaration.
+//!
 //! What was accepted under the labels of a declaration: the events of all labels with their names, the messages among them, and
 //! that their problem is lawful.
+//!
+//! Events of traces: rows of event logs and packets of captures, and what each is known by at both ends of a message.
 #![tactic(auto)]
 
 mod accepted;
 mod event;
+mod event_id;
+mod event_names;
+mod event_places;
 mod laws;
-mod naming;
-mod placing;
+mod packets;
+mod rows;
 
 pub use accepted::{Accepted, Stream};
-pub use event::{Couple, EventId, PlacedEvent};
+pub use event::{Event, Key, Mark, NoKey, Side};
+pub use event_id::{Couple, EventId, PlacedEvent};
+pub use event_names::{event_name, name_of};
+pub use event_places::{event_count, events};
 pub use laws::{lawful, messages_are_pairs};
-pub use naming::{event_name, name_of};
-pub use placing::{event_count, events};
+pub use packets::packet_events;
+pub use rows::row_events;

@@ -3,7 +3,7 @@ ghost use Rattle.std.specs.Prelude.{◌≡◌, ◌≤◌, map, IfOk};
 ghost use Rattle.captures.specs.Feeding.{seen_packet, seen_packets};
 ghost use Rattle.decl.specs.Declaration.{declaration_of};
 ghost use Rattle.wide_headers.specs.Keys.{answer_of};
-ghost use Rattle.trace_event.specs.Seen.{event_of_packet, is_at, is_at6, is_host, key_of, mark_by, mark_of, mark_of_packet, no_key, seen_event, seen_events};
+ghost use Rattle.traces.specs.Seen.{event_of_packet, is_at, is_at6, is_host, key_of, mark_by, mark_of, mark_of_packet, no_key, seen_event, seen_events};
 
 use crate::{Event, Key, Mark, NoKey, Side};
 use captures::Packet;

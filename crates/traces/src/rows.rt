@@ -1,6 +1,6 @@
 // Events of event logs.
 ghost use Rattle.std.specs.Prelude.{◌≡◌, map, IfOk};
-ghost use Rattle.trace_event.specs.Seen.{mark_of, mark_of_row, seen_event, seen_events, seen_row};
+ghost use Rattle.traces.specs.Seen.{mark_of, mark_of_row, seen_event, seen_events, seen_row};
 
 use crate::{Event, Key, Mark, NoKey, Side};
 use event_log::{Kind, Row, WordKey};

@@ -2,8 +2,9 @@
 //! certificates, and answers questions about event logs and packet captures.
 #![tactic(auto)]
 
-use commands::{Status, run};
-use gathering::Gathering;
+use problem_commands::Status;
+use commands::run;
+use ports::Gathering;
 use ports::{DiskFiles, Sink, StdSink, StdSource, Words};
 use std::io::ErrorKind;
 use std::process::ExitCode;

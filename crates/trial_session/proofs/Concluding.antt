@@ -9,8 +9,8 @@ use Rattle.line_format.specs.Words.{words}
 use Rattle.decl.specs.Declaration.{Declaration}
 use Rattle.decl.specs.Walk.{Declares}
 use Rattle.problem_model.specs.Problem.{ProblemLists}
-use Rattle.line_reader.specs.Lines.{lines_of}
-use Rattle.trace_event.specs.Seen.{Seen}
+use Rattle.ports.specs.Lines.{lines_of}
+use Rattle.traces.specs.Seen.{Seen}
 use Rattle.traces.specs.Traces.{event_count, events_of}
 use Rattle.traces.specs.Messages.{messages_of, problem_of}
 use Rattle.trial.specs.Declaration.{declaration_text}

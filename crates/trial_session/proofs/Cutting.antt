@@ -2,8 +2,8 @@
 use Rattle.std.proofs.Common.{◌≡◌, ◌≢◌, ◌∙◌, ℕ, ◌<◌, List, [], ◌∷◌, length, Bool, true, false, cond, nat_eq, Option, Some, None, refl, ap, arith}
 use Rattle.line_format.specs.Cut.{cut, onto_cut, Lacks}
 use Rattle.line_format.proofs.Cutting.{cut_takes}
-use Rattle.line_reader.specs.Lines.{NoFeed, lines_of}
-use Rattle.line_reader.proofs.LinesOf.{first_line, only_line}
+use Rattle.ports.specs.Lines.{NoFeed, lines_of}
+use Rattle.ports.proofs.LinesOf.{first_line, only_line}
 
 feed_free : (bytes : List ℕ) → Lacks 10 bytes → NoFeed bytes
 feed_free [] lacks = tt

@@ -5,11 +5,11 @@ use Rattle.ports.specs.Content.{Appends}
 use Rattle.ports.specs.Files.{Content, FilesTold, Keeps}
 use Rattle.ports.proofs.Writing.{appends_none, appends_then}
 use Rattle.decl.specs.Declaration.{Declaration}
-use Rattle.line_reader.specs.Lines.{lines_of}
+use Rattle.ports.specs.Lines.{lines_of}
 use Rattle.replies.specs.Reply.{State}
 use Rattle.replies.specs.Sessions.{LineReply}
 use Rattle.session.specs.Stands.{Held, StandsFor, Stepped}
-use Rattle.script.proofs.Replies.{session_more, counted_more, counted_none, concat_more}
+use Rattle.session.proofs.Replies.{session_more, counted_more, counted_none, concat_more}
 use Rattle.trial_session.specs.Answering.{Answers}
 
 -- no line was answered yet

@@ -5,7 +5,7 @@ use Rattle.atto.specs.Decimal.{decimal_of}
 use Rattle.ports.specs.Memory.{bytes_of}
 use Rattle.decl.specs.Declaration.{Declaration}
 use Rattle.decl.specs.Walk.{Declares}
-use Rattle.line_reader.specs.Lines.{lines_of}
+use Rattle.ports.specs.Lines.{lines_of}
 use Rattle.traces.specs.Traces.{event_count, events_of, seen_by}
 use Rattle.traces.specs.Messages.{messages_of}
 use Rattle.trial.specs.Declaration.{declaration_text}

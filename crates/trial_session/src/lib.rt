@@ -3,8 +3,8 @@
 //! `logs` has the files that it reads, `lines` how lines are answered, `conducting` the whole and what it comes to.
 #![tactic(auto)]
 
-mod conducting;
 mod lines;
 mod logs;
+mod outcome;
 
-pub use conducting::{Outcome, conduct};
+pub use outcome::{Outcome, conduct};

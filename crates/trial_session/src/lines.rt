@@ -3,7 +3,7 @@ ghost use Rattle.std.specs.Prelude.{◌≡◌, ◌∷◌, ◌<◌, length, OnOk}
 ghost use Rattle.ports.specs.Content.{Appends};
 ghost use Rattle.ports.specs.Files.{Keeps};
 ghost use Rattle.decl.specs.Declaration.{Declaration};
-ghost use Rattle.line_reader.specs.Lines.{lines_of};
+ghost use Rattle.ports.specs.Lines.{lines_of};
 ghost use Rattle.replies.specs.Reply.{State};
 ghost use Rattle.session.specs.Stands.{StandsFor, Stepped, IsReady};
 ghost use Rattle.trial_session.specs.Answering.{Answers};

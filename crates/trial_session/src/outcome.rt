@@ -2,7 +2,7 @@
 ghost use Rattle.std.specs.Prelude.{◌≡◌, ℕ, [], Some, IfOk, OnOk};
 ghost use Rattle.decl.specs.Declaration.{Declaration, IsDeclaration, declaration_of};
 ghost use Rattle.decl.specs.Walk.{Declares};
-ghost use Rattle.line_reader.specs.Lines.{lines_of};
+ghost use Rattle.ports.specs.Lines.{lines_of};
 ghost use Rattle.replies.specs.Reply.{State};
 ghost use Rattle.replies.specs.Sessions.{start};
 ghost use Rattle.session.specs.Stands.{StandsFor, IsReady};
@@ -17,7 +17,8 @@ use crate::logs::Logs;
 use atto::Steps;
 use decl::{Decl, read_decl};
 use ports::MemSink;
-use session::{Session, commands_are_one};
+use session::Session;
+use replies::commands_are_one;
 use std::alloc::{AllocError, Global};
 use std::sync::ledger::Ledger;
 use trial::generate;

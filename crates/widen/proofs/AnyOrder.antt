@@ -9,11 +9,11 @@ use Rattle.problem_model.specs.Nodes.{Reading}
 use Rattle.problem_model.specs.ShortList.{short_list}
 use Rattle.problem_model.proofs.OneName.{declared_one}
 use Rattle.problem_model.proofs.Following.{chained_by}
-use Rattle.difference_bounds.specs.Executions as bounds
-use Rattle.difference_bounds.specs.Problems.{IsArcOf, StandsFor}
+use Rattle.problem_model.specs.Executions as bounds
+use Rattle.problem_model.specs.ProblemArcs.{IsArcOf, StandsFor}
 use Rattle.sync_graph.specs.declared.arc.Arc.{Arc}
 use Rattle.sync_graph.specs.Graph.{GraphLists, unnamed}
-use Rattle.sync_graph.specs.Standing.{HasBounds}
+use Rattle.problem_graph.specs.Standing.{HasBounds}
 use Rattle.sync_graph.proofs.InForce.{no_arc}
 
 module _ (p : ProblemLists) (readings : List Reading) (names : List Bound) (g : GraphLists) (formed : IsWellFormed p) (all : All (Contains names) (short_list p readings)) (has : HasBounds p readings names g) where

@@ -18,7 +18,7 @@ use Rattle.problem_model.specs.Bounds.{Constraint, Declares}
 use Rattle.problem_model.specs.ExecutionText.{value_lines}
 use Rattle.problem_model.specs.Nodes.{Reading, AreReadings, nodes_of}
 use Rattle.problem.proofs.ListedNodes.{few_nodes}
-use Rattle.difference_bounds.specs.Solutions.{Leads}
+use Rattle.problem_model.specs.Solutions.{Leads}
 use Rattle.cert.specs.declared.chain.Step.{Step}
 use Rattle.cert.specs.declared.error.CertError.{CertError}
 use Rattle.cert.specs.declared.error.CertError.TheVariants as errors

@@ -11,11 +11,11 @@ use Rattle.sync_graph.specs.declared.arc.Arc.{Arc}
 use Rattle.sync_graph.specs.Graph.{GraphLists, IsGraph}
 use Rattle.sync_graph.specs.InForce.{IsEarliestOf}
 use Rattle.earliest.specs.Inserted.{IsNegativeCycle}
-use Rattle.solving.specs.Order.{AreAllArcs}
+use Rattle.problem_solver.specs.Order.{AreAllArcs}
 use Rattle.cert_check.specs.Widened.{widened}
 use Rattle.cert_check.proofs.Widening.{formed, readings_on, not_widened}
 use Rattle.widen.specs.Raised.{raised_arc}
-use Rattle.solver.specs.Bounds.{HoldsShortList}
+use Rattle.problem_graph.specs.HeldBounds.{HoldsShortList}
 use Rattle.widen.specs.Found.{IsRunAt, IsCycleFor}
 use Rattle.widen.proofs.Solved.{earliest_of, values_under, sound_arc, cycle_contradicts, cycle_short}
 

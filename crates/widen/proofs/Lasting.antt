@@ -9,8 +9,8 @@ use Rattle.problem_model.specs.Problem.{ProblemLists, IsProblem}
 use Rattle.problem_model.specs.Bounds.{Constraint, Declares}
 use Rattle.problem_model.specs.Nodes.{Reading, AreReadings, most_nodes}
 use Rattle.problem.proofs.ListedNodes.{few_nodes}
-use Rattle.difference_bounds.specs.Numbers.{IsUpTo}
-use Rattle.difference_bounds.specs.Solutions.{WeighedBound, Leads, weight_of, IsContradictionOf}
+use Rattle.problem_model.specs.Numbers.{IsUpTo}
+use Rattle.problem_model.specs.Solutions.{WeighedBound, Leads, weight_of, IsContradictionOf}
 use Rattle.sync_graph.specs.declared.arc.Arc.{Arc}
 use Rattle.cert.specs.declared.chain.Step.{Step}
 use Rattle.cert.specs.Shows.{weighed_bounds}

@@ -10,17 +10,17 @@ use Rattle.problem_model.specs.Problem.{ProblemLists, IsProblem}
 use Rattle.problem_model.specs.Bounds.{Declares}
 use Rattle.problem_model.specs.Nodes.{Reading, AreReadings}
 use Rattle.problem_model.specs.ShortList.{short_list, span_bounds, event_bounds, follow_bounds}
-use Rattle.difference_bounds.specs.Problems.{IsNodeAt}
+use Rattle.problem_model.specs.ProblemArcs.{IsNodeAt}
 use Rattle.sync_graph.specs.declared.arc.Arc.{Arc}
 use Rattle.sync_graph.specs.Graph.{GraphLists, IsGraph, IsSound, arc_at, with_arc}
 use Rattle.sync_graph.specs.Names.{IsNamed}
-use Rattle.sync_graph.specs.Standing.{HasBounds, IsDeclared}
+use Rattle.problem_graph.specs.Standing.{HasBounds, IsDeclared}
 use Rattle.sync_graph.proofs.Copies.{front_more}
 use Rattle.sync_graph.proofs.InForce.{no_arc}
 use Rattle.cert_check.specs.Widened.{widened}
 use Rattle.cert_check.proofs.Widening.{not_widened, readings_back, bounds_same}
 use Rattle.widen.specs.Raised.{rise_of, raised_arc}
-use Rattle.solver.specs.Bounds.{HoldsShortList}
+use Rattle.problem_graph.specs.HeldBounds.{HoldsShortList}
 use Rattle.widen.proofs.Raising.{raised, weight_high, weight_low}
 
 -- ---- the arcs, one after another

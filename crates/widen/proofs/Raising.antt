@@ -10,7 +10,7 @@ use Rattle.problem_model.specs.declared.items.Bound.{Bound}
 use Rattle.problem_model.specs.declared.items.Bound.TheVariants.{SpanMost, SpanLeast, Late, Early, Follow, DelayMost, DelayLeast}
 use Rattle.problem_model.specs.Problem.{ProblemLists, IsProblem, MessageFits}
 use Rattle.problem_model.specs.Bounds.{Constraint, Declares}
-use Rattle.difference_bounds.specs.Solutions.{WeighedBound, Leads, weight_of, IsContradictionOf}
+use Rattle.problem_model.specs.Solutions.{WeighedBound, Leads, weight_of, IsContradictionOf}
 use Rattle.cert_check.specs.Widened.{widened_most, widened_message, widened}
 use Rattle.cert_check.proofs.Widening.{contained, widened_from}
 use Rattle.widen.specs.Raised.{one_delay, delays_of, rise_of, raised_bound}

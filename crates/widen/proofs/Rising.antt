@@ -9,8 +9,8 @@ use Rattle.problem_model.specs.declared.items.Bound.TheVariants.{SpanMost, SpanL
 use Rattle.problem_model.specs.declared.items.Node.TheVariants as nodes
 use Rattle.problem_model.specs.Problem.{ProblemLists}
 use Rattle.problem_model.specs.Bounds.{Constraint, Declares, Obeys, Times, IsExecution}
-use Rattle.difference_bounds.specs.Solutions.{IsContradictionOf}
-use Rattle.difference_bounds.proofs.Solutions.{no_execution}
+use Rattle.problem_model.specs.Solutions.{IsContradictionOf}
+use Rattle.problem_model.proofs.Solutions.{no_execution}
 use Rattle.cert.specs.declared.chain.Step.{Step}
 use Rattle.cert.specs.Shows.{weighed_bounds}
 use Rattle.cert_check.specs.Widened.{widened_most, widened_message, widened}

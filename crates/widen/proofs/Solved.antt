@@ -7,28 +7,28 @@ use Rattle.std.proofs.lemmas.List.Elements.{All-map, All-weaker, Contains-get_or
 use Rattle.problem_model.specs.Problem.{ProblemLists, IsWellFormed}
 use Rattle.problem_model.specs.Nodes.{Reading, AreReadings, nodes_of}
 use Rattle.problem_model.proofs.OneList.{readings_one}
-use Rattle.difference_bounds.specs.Executions as bounds
-use Rattle.difference_bounds.specs.Executions.{at}
-use Rattle.difference_bounds.specs.Earliest.{IsEarliest}
-use Rattle.difference_bounds.specs.Numbers.{IsUpTo}
-use Rattle.difference_bounds.specs.Paths.{IsContradiction}
-use Rattle.difference_bounds.specs.Solutions.{WeighedBound, IsContradictionOf, NamedArc, IsBoundArc, weighed}
-use Rattle.difference_bounds.specs.Tables.{ArcTable, Lists}
-use Rattle.difference_bounds.proofs.Heights.{earliest_height, height_low}
-use Rattle.difference_bounds.proofs.Problems.{times}
-use Rattle.difference_bounds.proofs.Solutions.{same_earliest, named_contradiction}
-use Rattle.difference_bounds.proofs.Tables.{lists_listed, obeys_all, execution_of_table}
+use Rattle.problem_model.specs.Executions as bounds
+use Rattle.problem_model.specs.Executions.{at}
+use Rattle.problem_model.specs.Earliest.{IsEarliest}
+use Rattle.problem_model.specs.Numbers.{IsUpTo}
+use Rattle.problem_model.specs.Paths.{IsContradiction}
+use Rattle.problem_model.specs.Solutions.{WeighedBound, IsContradictionOf, NamedArc, IsBoundArc, weighed}
+use Rattle.problem_model.specs.Tables.{ArcTable, Lists}
+use Rattle.problem_model.proofs.Heights.{earliest_height, height_low}
+use Rattle.problem_model.proofs.Problems.{times}
+use Rattle.problem_model.proofs.Solutions.{same_earliest, named_contradiction}
+use Rattle.problem_model.proofs.Tables.{lists_listed, obeys_all, execution_of_table}
 use Rattle.sync_graph.specs.declared.arc.Arc.{Arc}
 use Rattle.sync_graph.specs.Graph.{GraphLists, IsGraph, table_of, unnamed, arc_at}
 use Rattle.sync_graph.specs.InForce.{arcs_of, IsEarliestOf, IsInForce}
-use Rattle.sync_graph.specs.Standing.{IsDeclared}
-use Rattle.sync_graph.proofs.Ends.{lists_all}
+use Rattle.problem_graph.specs.Standing.{IsDeclared}
+use Rattle.problem_graph.proofs.Ends.{lists_all}
 use Rattle.sync_graph.proofs.InForce.{no_arc, in_force_below, arcs_listed, arcs_within}
 use Rattle.earliest.specs.Inserted.{IsNegativeCycle}
 use Rattle.attain.specs.Tight.{IsUnder}
 use Rattle.attain.proofs.EndLengths.{values_up_to}
 use Rattle.widen.specs.Raised.{weighed_arcs}
-use Rattle.solver.specs.Bounds.{HoldsShortList}
+use Rattle.problem_graph.specs.HeldBounds.{HoldsShortList}
 use Rattle.widen.specs.Found.{AreEarliestOf}
 use Rattle.widen.proofs.AnyOrder.{stands_any}
 

@@ -4,8 +4,8 @@ use Rattle.std.specs.Prelude.{ℤ, pos, neg_ℤ, ◌+ℤ◌, ◌<ℤ◌, unsigne
 use mir.Syntax.{w128}
 use mir.Val.{SFits}
 use Rattle.std.proofs.lemmas.Int.{ints, to_z-of_z}
-use Rattle.difference_bounds.specs.Numbers.{IsUpTo}
-use Rattle.difference_bounds.specs.Solutions.{weight_of}
+use Rattle.problem_model.specs.Numbers.{IsUpTo}
+use Rattle.problem_model.specs.Solutions.{weight_of}
 use Rattle.sync_graph.specs.declared.arc.Arc.{Arc}
 use Rattle.widen.specs.Raised.{one_delay, delays_of, weighed_arcs}
 

@@ -3,7 +3,7 @@ use Rattle.std.specs.Prelude.{◌≡◌, ℕ, ◌-◌, ◌<◌, ◌≤◌, ◌^�
 use Rattle.problem_model.specs.Problem.{ProblemLists}
 use Rattle.problem_model.specs.Bounds.{Times}
 use Rattle.problem_model.specs.Nodes.{Reading, AreReadings, Lists, nodes_of}
-use Rattle.difference_bounds.specs.Solutions.{IsEarliestExecution, IsContradictionOf}
+use Rattle.problem_model.specs.Solutions.{IsEarliestExecution, IsContradictionOf}
 use Rattle.sync_graph.specs.declared.arc.Arc.{Arc}
 use Rattle.cert.specs.declared.chain.Step.{Step}
 use Rattle.cert.specs.Shows.{weighed_bounds}

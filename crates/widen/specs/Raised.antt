@@ -2,7 +2,7 @@
 use Rattle.std.specs.Prelude.{ℕ, ◌+◌, ◌*◌, pos, ◌+ℤ◌, List, [], ◌∷◌, map}
 use Rattle.problem_model.specs.declared.items.Bound.{Bound}
 use Rattle.problem_model.specs.declared.items.Bound.TheVariants.{SpanMost, SpanLeast, Late, Early, Follow, DelayMost, DelayLeast}
-use Rattle.difference_bounds.specs.Solutions.{WeighedBound}
+use Rattle.problem_model.specs.Solutions.{WeighedBound}
 use Rattle.cert.specs.declared.chain.Step.{Step}
 use Rattle.sync_graph.specs.declared.arc.Arc.{Arc}
 

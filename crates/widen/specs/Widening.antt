@@ -1,7 +1,7 @@
 -- What a widening shows of a problem, and what judging it answers.
 use Rattle.std.specs.Prelude.{◌≡◌, ◌≢◌, ℕ, ◌<◌, ◌-◌, ◌⊎◌, List, Option, Some, None, All}
 use Rattle.problem_model.specs.Problem.{ProblemLists}
-use Rattle.difference_bounds.specs.Solutions.{IsContradictionOf}
+use Rattle.problem_model.specs.Solutions.{IsContradictionOf}
 use Rattle.cert.specs.declared.chain.Step.{Step}
 use Rattle.cert.specs.declared.certificate.Cert.TheVariants as certs
 use Rattle.cert.specs.CertificateText.{IsStepOf, HasOneEach}

@@ -1,11 +1,11 @@
 // Tries one widening.
 ghost use Rattle.std.specs.Prelude.{◌≡◌, ◌≤◌, ◌<◌, ◌^◌, [], true, length, All, IfOk};
-ghost use Rattle.difference_bounds.specs.Numbers.{IsUpTo};
+ghost use Rattle.problem_model.specs.Numbers.{IsUpTo};
 ghost use Rattle.problem_model.specs.Nodes.{most_nodes};
-ghost use Rattle.engine.specs.Current.{IsCurrent};
-ghost use Rattle.solver.specs.Bounds.{HoldsShortList};
-ghost use Rattle.solving.specs.GraphSolution.{IsGraphSolution};
-ghost use Rattle.solving.specs.Order.{AreAllArcs};
+ghost use Rattle.solver.specs.Current.{IsCurrent};
+ghost use Rattle.problem_graph.specs.HeldBounds.{HoldsShortList};
+ghost use Rattle.problem_solver.specs.GraphSolution.{IsGraphSolution};
+ghost use Rattle.problem_solver.specs.Order.{AreAllArcs};
 ghost use Rattle.cert_check.specs.Widened.{widened};
 ghost use Rattle.widen.specs.Found.{IsCycleFor};
 ghost use Rattle.widen.specs.Search.{IsTried};
@@ -16,9 +16,9 @@ use crate::tried::Tried;
 use atto::Steps;
 use cert::Execution;
 use earliest::Earliest;
-use engine::Solver;
+use solver::Solver;
 use problem::Problem;
-use solving::{GraphSolution, solve_graph};
+use problem_solver::{GraphSolution, solve_graph};
 use std::alloc::{AllocError, Global};
 use std::sync::ledger::Ledger;
 use sync_graph::{Arc, Graph};

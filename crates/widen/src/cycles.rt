@@ -1,15 +1,15 @@
 // A contradiction, and how far a problem may be widened until it is none any more.
 ghost use Rattle.std.specs.Prelude.{◌≡◌, ◌≤◌, ◌<◌, ◌^◌, ◌*◌, ◌+◌, ◌+ℤ◌, ℕ, length, map, pos, neg_ℤ, unsigned_abs, All, IfOk};
 ghost use Rattle.problem_model.specs.Nodes.{most_nodes};
-ghost use Rattle.difference_bounds.specs.Numbers.{IsUpTo};
-ghost use Rattle.difference_bounds.specs.Solutions.{weight_of};
+ghost use Rattle.problem_model.specs.Numbers.{IsUpTo};
+ghost use Rattle.problem_model.specs.Solutions.{weight_of};
 ghost use Rattle.widen.specs.Least.{most_extra};
 ghost use Rattle.widen.specs.Raised.{one_delay, delays_of, rise_of, raised_step, weighed_arcs};
 
 use crate::raised::rise_of;
 use atto::Units;
 use cert::{Chain, Step};
-use problem::Bound;
+use problem_model::Bound;
 use std::alloc::{AllocError, Global};
 use sync_graph::Arc;
 

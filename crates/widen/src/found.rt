@@ -1,20 +1,20 @@
 // The least widening of a problem, found.
 ghost use Rattle.std.specs.Prelude.{◌<◌, IfOk};
-ghost use Rattle.engine.specs.Current.{IsCurrent};
-ghost use Rattle.solver.specs.Bounds.{HoldsShortList};
-ghost use Rattle.solving.specs.Order.{AreAllArcs};
+ghost use Rattle.solver.specs.Current.{IsCurrent};
+ghost use Rattle.problem_graph.specs.HeldBounds.{HoldsShortList};
+ghost use Rattle.problem_solver.specs.Order.{AreAllArcs};
 ghost use Rattle.widen.specs.Found.{FindsWidening};
 ghost use Rattle.widen.specs.Search.{IsKnown};
 ghost use Rattle.widen.specs.Widening.{IsWideningOf, ShowsWidening};
 
 use crate::choice::Choice;
 use crate::known::{Known, concluded, narrow, nothing_known};
-use crate::trying::{try_nothing, try_widening};
+use crate::attempt::{try_nothing, try_widening};
 use crate::widening::Widening;
 use atto::Steps;
-use engine::Solver;
+use solver::Solver;
 use problem::Problem;
-use solving::solve;
+use problem_solver::solve;
 use std::alloc::{AllocError, Global};
 use std::sync::ledger::Ledger;
 use sync_graph::Graph;

@@ -6,24 +6,24 @@
 //! `judge` checks one and trusts no solver; `read_widening` and `write_widening` have its text.
 #![tactic(auto)]
 
+mod attempt;
 mod choice;
 mod cycles;
-mod finding;
-mod judging;
+mod found;
 mod known;
 mod laws;
 mod raised;
 mod read;
 mod text;
 mod tried;
-mod trying;
+mod verdicts;
 mod widening;
 mod write;
 
-pub use finding::{Found, least_widening, widening_in_rounds};
-pub use judging::judge;
+pub use found::{Found, least_widening, widening_in_rounds};
 pub use laws::{found_widenings, least, widening_answers_are_one};
 pub use read::read_widening;
 pub use text::judge_text;
+pub use verdicts::judge;
 pub use widening::Widening;
 pub use write::write_widening;

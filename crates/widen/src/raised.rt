@@ -1,10 +1,10 @@
 // The graph of a problem that is widened.
 ghost use Rattle.std.specs.Prelude.{◌≡◌, ◌<◌, ◌^◌, length, map, pos, true, All, IfOk};
-ghost use Rattle.difference_bounds.specs.Numbers.{IsUpTo};
+ghost use Rattle.problem_model.specs.Numbers.{IsUpTo};
 ghost use Rattle.sync_graph.specs.Graph.{IsSound};
 ghost use Rattle.widen.specs.Raised.{rise_of, raised_arc};
 
-use problem::Bound;
+use problem_model::Bound;
 use std::alloc::{AllocError, Global};
 use sync_graph::{Arc, Graph};
 

@@ -1,7 +1,7 @@
 // A widening's text, read and judged at once.
 ghost use Rattle.widen.specs.JudgedText.{JudgesText};
 
-use crate::judging::judge;
+use crate::verdicts::judge;
 use crate::read::read_widening;
 use cert::CertError;
 use cert_check::Answer;

@@ -13,7 +13,7 @@ ghost use Rattle.widen.specs.WideningText.{least_words, cycle_lines, widening_li
 use crate::widening::Widening;
 use atto::Nano;
 use cert::{Chain, Execution, Step, write_step, write_value};
-use line_words::line::{Line, first_word, push_decimal};
+use ports::fixed_line::{Line, first_word, push_decimal};
 use ports::{Failed, Sink, write_whole};
 use problem::Problem;
 

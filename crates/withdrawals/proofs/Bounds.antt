@@ -3,15 +3,15 @@ use Rattle.std.proofs.Common.{◌≡◌, ℕ, zero, suc, ◌+◌, ◌*◌, ◌<�
 use Rattle.std.specs.Prelude.{ℤ, ◌-ℤ◌, ◌≤ℤ◌, ◌<ℤ◌, ◌||◌, not, if◌then◌else◌, int_lt}
 use Rattle.std.proofs.lemmas.Int.{ints}
 use Rattle.std.proofs.lemmas.Bool.{cases_Bool}
-use Rattle.difference_bounds.specs.Tables.{ArcTable, ObeysAll}
-use Rattle.difference_bounds.specs.Parents.{Cells, LeadsBack, IsRow, IsRelaxed}
-use Rattle.difference_bounds.specs.RowPops.{IsFresh, IsUnderWay}
-use Rattle.difference_bounds.specs.Sums.{is_changed, changed_sum}
-use Rattle.difference_bounds.proofs.Sums.{lt_false}
-use Rattle.falls.specs.Withdrawals.{flagged_sum}
-use Rattle.falls.proofs.Sums.{flagged_below, flagged_both}
-use Rattle.regrowths.specs.Regrowths.{earlier, IsShrunk, IsAffectedIn, IsCleared, AreMarksIn, IsRemnant}
-use Rattle.regrowths.proofs.Regrown.{regrown_row}
+use Rattle.problem_model.specs.Tables.{ArcTable, ObeysAll}
+use Rattle.problem_model.specs.Parents.{Cells, LeadsBack, IsRow, IsRelaxed}
+use Rattle.problem_model.specs.RowPops.{IsFresh, IsUnderWay}
+use Rattle.problem_model.specs.Sums.{is_changed, changed_sum}
+use Rattle.problem_model.proofs.Sums.{lt_false}
+use Rattle.withdrawals.specs.Withdrawals.{flagged_sum}
+use Rattle.withdrawals.proofs.Sums.{flagged_below, flagged_both}
+use Rattle.withdrawals.specs.Regrowths.{earlier, IsShrunk, IsAffectedIn, IsCleared, AreMarksIn, IsRemnant}
+use Rattle.withdrawals.proofs.Regrown.{regrown_row}
 
 unchanged_same : (a b : ℤ) (h k : Bool) → a ≡ b → h ≡ k → ((int_lt a b || int_lt b a) || (if h then not k else k)) ≡ false
 unchanged_same a b h k e f = rw (e, f, lt_false b b (omega (arith, ints))) (both k)

@@ -2,13 +2,13 @@
 use Rattle.std.proofs.Common.{◌≡◌, ℕ, zero, suc, ◌+◌, ◌<◌, ◌≤◌, Bool, true, false, refl, ap, sym, ◌∙◌, subst, arith, inl, inr, ◌⊎◌}
 use Rattle.std.specs.Prelude.{◌==◌, ◌≢◌, if◌then◌else◌}
 use Rattle.std.proofs.lemmas.Bool.{cases_Bool, cases_eq, eq-eqb, ne_eqb, cond-true, cond-false}
-use Rattle.difference_bounds.specs.Sums.{sum_to}
-use Rattle.difference_bounds.specs.Tables.{ArcTable}
-use Rattle.difference_bounds.specs.Parents.{Cells, IsTight, LeadsBack, IsRow}
-use Rattle.difference_bounds.proofs.Sums.{sum-same}
-use Rattle.falls.specs.Withdrawals.{flagged_sum}
-use Rattle.falls.proofs.Sums.{flagged-more, flagged_fewer, flagged_few, sum_ones}
-use Rattle.regrowths.specs.Regrowths.{earlier, IsShrunk, MeetsRemoved, IsAffectedIn, IsSameAs, IsMarkingIn, IsFoundIn, AreMarksIn}
+use Rattle.problem_model.specs.Sums.{sum_to}
+use Rattle.problem_model.specs.Tables.{ArcTable}
+use Rattle.problem_model.specs.Parents.{Cells, IsTight, LeadsBack, IsRow}
+use Rattle.problem_model.proofs.Sums.{sum-same}
+use Rattle.withdrawals.specs.Withdrawals.{flagged_sum}
+use Rattle.withdrawals.proofs.Sums.{flagged-more, flagged_fewer, flagged_few, sum_ones}
+use Rattle.withdrawals.specs.Regrowths.{earlier, IsShrunk, MeetsRemoved, IsAffectedIn, IsSameAs, IsMarkingIn, IsFoundIn, AreMarksIn}
 
 -- each known node but p has a parent that gives it its value
 pub parent_of : (nodes : ℕ) (table : ArcTable) (p : ℕ) (row : Cells) → IsRow nodes table p row → (k : ℕ) → row.known k ≡ true → k ≢ p → IsTight table row k

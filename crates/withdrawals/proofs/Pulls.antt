@@ -3,10 +3,10 @@ use Rattle.std.proofs.Common.{◌≡◌, ℕ, ◌+◌, ◌<◌, ◌≤◌, Bool,
 use Rattle.std.specs.Prelude.{◌+ℤ◌, ◌≤ℤ◌, ◌<ℤ◌, ◌≢◌}
 use Rattle.std.proofs.lemmas.Int.{ints}
 use Rattle.std.proofs.lemmas.Bool.{cases_eq}
-use Rattle.difference_bounds.specs.Tables.{ArcTable}
-use Rattle.difference_bounds.specs.Parents.{Cells, IsReached}
-use Rattle.difference_bounds.specs.RowPops.{IsUntouched, IsAsBefore, IsPut}
-use Rattle.regrowths.specs.Regrowths.{IsPulled, IsPulling, IsRegrown, IsGot, IsTrying}
+use Rattle.problem_model.specs.Tables.{ArcTable}
+use Rattle.problem_model.specs.Parents.{Cells, IsReached}
+use Rattle.problem_model.specs.RowPops.{IsUntouched, IsAsBefore, IsPut}
+use Rattle.withdrawals.specs.Regrowths.{IsPulled, IsPulling, IsRegrown, IsGot, IsTrying}
 
 -- no arc is tried yet
 pub trying_none : (table : ArcTable) (node : ℕ) (entries : List ℕ) (c : Cells) (waits : ℕ → Bool) → IsTrying table node entries 0 c c waits waits

@@ -3,13 +3,13 @@ use Rattle.std.proofs.Common.{◌≡◌, ℕ, zero, suc, ◌+◌, ◌<◌, ◌�
 use Rattle.std.specs.Prelude.{ℤ, pos, ◌+ℤ◌, ◌-ℤ◌, ◌≤ℤ◌, ◌<ℤ◌}
 use Rattle.std.proofs.lemmas.Int.{ints, by_lt_z}
 use Rattle.std.proofs.lemmas.Bool.{cases_Bool, cases_eq, cases_lt}
-use Rattle.difference_bounds.specs.Tables.{ArcTable, ObeysAll}
-use Rattle.difference_bounds.specs.Parents.{Cells, IsRow, IsReached}
-use Rattle.difference_bounds.specs.RowPops.{IsUntouched, IsGiven, IsUnderWay}
-use Rattle.difference_bounds.specs.Sums.{done_sum}
-use Rattle.difference_bounds.proofs.RowSums.{done_none}
-use Rattle.difference_bounds.proofs.RowsUnderWay.{under_way_row}
-use Rattle.regrowths.specs.Regrowths.{IsRemnant, IsPulled, IsRegrown}
+use Rattle.problem_model.specs.Tables.{ArcTable, ObeysAll}
+use Rattle.problem_model.specs.Parents.{Cells, IsRow, IsReached}
+use Rattle.problem_model.specs.RowPops.{IsUntouched, IsGiven, IsUnderWay}
+use Rattle.problem_model.specs.Sums.{done_sum}
+use Rattle.problem_model.proofs.RowSums.{done_none}
+use Rattle.problem_model.proofs.RowsUnderWay.{under_way_row}
+use Rattle.withdrawals.specs.Regrowths.{IsRemnant, IsPulled, IsRegrown}
 
 -- a number below the first values
 least_of : (f : ℕ → ℤ) (n : ℕ) → (least : ℤ) × ((k : ℕ) → k < n → least ≤ℤ f k)

@@ -3,11 +3,11 @@ use Rattle.std.proofs.Common.{◌≡◌, ℕ, zero, suc, ◌<◌, Bool, true, fa
 use Rattle.std.specs.Prelude.{ℤ, pos, ◌+ℤ◌, ◌-ℤ◌, ◌≤ℤ◌, if◌then◌else◌}
 use Rattle.std.proofs.lemmas.Int.{ints, by_lt_z}
 use Rattle.std.proofs.lemmas.Bool.{cases_Bool, cases_eq, cases_lt, cond-true, cond-false}
-use Rattle.difference_bounds.specs.Tables.{ArcTable, ObeysAll}
-use Rattle.difference_bounds.specs.Parents.{Cells, LeadsBack, IsRow, IsRelaxed}
-use Rattle.difference_bounds.proofs.Parents.{chain_bound}
-use Rattle.regrowths.specs.Regrowths.{earlier, IsShrunk, IsSameAs, IsCleared, AreMarksIn, IsRemnant}
-use Rattle.regrowths.proofs.Marks.{affected_away, unmarked_parent}
+use Rattle.problem_model.specs.Tables.{ArcTable, ObeysAll}
+use Rattle.problem_model.specs.Parents.{Cells, LeadsBack, IsRow, IsRelaxed}
+use Rattle.problem_model.proofs.Parents.{chain_bound}
+use Rattle.withdrawals.specs.Regrowths.{earlier, IsShrunk, IsSameAs, IsCleared, AreMarksIn, IsRemnant}
+use Rattle.withdrawals.proofs.Marks.{affected_away, unmarked_parent}
 
 -- a number above the first values
 pub most_of : (f : ℕ → ℤ) (n : ℕ) → (most : ℤ) × ((k : ℕ) → k < n → f k ≤ℤ most)

@@ -1,12 +1,12 @@
 -- How a row is repaired once arcs are withdrawn: the cells whose paths had one of them are cleared, pulled from the cells
 -- that are left, and settled.
 use Rattle.std.specs.Prelude.{◌≡◌, ◌≢◌, ℕ, zero, suc, ◌<◌, ◌⊎◌, Bool, true, false, ℤ, pos, ◌+ℤ◌, ◌-ℤ◌, ◌≤ℤ◌, List, length, slice_index_or, Contains}
-use Rattle.difference_bounds.specs.Executions.{Arc}
-use Rattle.difference_bounds.specs.Tables.{ArcTable, ObeysAll}
-use Rattle.difference_bounds.specs.Parents.{Cells, no_parent, LeadsBack, IsReached}
-use Rattle.difference_bounds.specs.RowPops.{IsUntouched, IsAsBefore}
-use Rattle.difference_bounds.specs.Sums.{sum_to}
-use Rattle.falls.specs.Withdrawals.{flagged_sum}
+use Rattle.problem_model.specs.Executions.{Arc}
+use Rattle.problem_model.specs.Tables.{ArcTable, ObeysAll}
+use Rattle.problem_model.specs.Parents.{Cells, no_parent, LeadsBack, IsReached}
+use Rattle.problem_model.specs.RowPops.{IsUntouched, IsAsBefore}
+use Rattle.problem_model.specs.Sums.{sum_to}
+use Rattle.withdrawals.specs.Withdrawals.{flagged_sum}
 
 -- the table with these arcs in force
 abbrev pub earlier : ArcTable → (ℕ → Bool) → ArcTable

@@ -1,13 +1,13 @@
 //! What is proved of the repair of rows after withdrawals. The function does nothing.
 
 ghost use Rattle.std.specs.Prelude.{◌≡◌, ℕ, ◌+◌, ◌*◌, ◌≤◌, ℤ, pos, ◌≤ℤ◌, Bool, true, false, List};
-ghost use Rattle.difference_bounds.specs.Executions.{Arc};
-ghost use Rattle.difference_bounds.specs.Tables.{ArcTable, ObeysAll};
-ghost use Rattle.difference_bounds.specs.Parents.{Cells, IsRow};
-ghost use Rattle.difference_bounds.specs.RowPops.{IsUnderWay};
-ghost use Rattle.difference_bounds.specs.Sums.{changed_sum, done_sum};
-ghost use Rattle.falls.specs.Withdrawals.{flagged_sum};
-ghost use Rattle.regrowths.specs.Regrowths.{earlier, are_equal_to, IsShrunk, IsAffectedIn, AreMarksIn, IsCleared, IsRemnant, IsRegrown};
+ghost use Rattle.problem_model.specs.Executions.{Arc};
+ghost use Rattle.problem_model.specs.Tables.{ArcTable, ObeysAll};
+ghost use Rattle.problem_model.specs.Parents.{Cells, IsRow};
+ghost use Rattle.problem_model.specs.RowPops.{IsUnderWay};
+ghost use Rattle.problem_model.specs.Sums.{changed_sum, done_sum};
+ghost use Rattle.withdrawals.specs.Withdrawals.{flagged_sum};
+ghost use Rattle.withdrawals.specs.Regrowths.{earlier, are_equal_to, IsShrunk, IsAffectedIn, AreMarksIn, IsCleared, IsRemnant, IsRegrown};
 
 /// Marks that are closed have every affected cell. The cells that are left hold for the arcs that are left. Once all the
 /// others are pulled, the row is under way over the cleared row, and no step is taken yet. At the end it is the row of

@@ -1,4 +1,4 @@
-use Rattle.sync_graph.proofs.OwnStanding.{own_standing}
+use Rattle.problem_graph.proofs.OwnStanding.{own_standing}
 use Rattle.attain.proofs.laws.own_graphs.Goals as goal
 
 pub returns : goal.returns

@@ -2,7 +2,7 @@ use Rattle.std.proofs.Common.{◌≡◌, ◌<◌, ◌∙◌, ℕ, ℤ, length, a
 use Rattle.std.proofs.lemmas.Int.{to_z-of_z}
 use mir.Syntax.{w128}
 use mir.Val.{SFits}
-use Rattle.difference_bounds.specs.Rows.{attaining}
+use Rattle.problem_model.specs.Rows.{attaining}
 use Rattle.row_pool.specs.Row.{cells_of}
 use Rattle.problem.specs.Listing.{listed_nodes}
 use Rattle.attain.specs.Sides.{differences}

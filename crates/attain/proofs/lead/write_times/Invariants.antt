@@ -1,4 +1,4 @@
-use Rattle.difference_bounds.specs.Rows.{attaining}
+use Rattle.problem_model.specs.Rows.{attaining}
 use Rattle.row_pool.specs.Row.{cells_of}
 use Rattle.ports.proofs.Writing.{Leaves}
 use Rattle.attain.specs.Sides.{differences}

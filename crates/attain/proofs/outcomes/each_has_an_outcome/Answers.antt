@@ -1,6 +1,6 @@
-use Rattle.outcomes.proofs.Arcs.{outcome_of}
-use Rattle.outcomes.proofs.Problems.{problem_outcome}
-use Rattle.outcomes.proofs.laws.each_has_an_outcome.Goals as goal
+use Rattle.attain.proofs.Arcs.{outcome_of}
+use Rattle.attain.proofs.Problems.{problem_outcome}
+use Rattle.attain.proofs.outcomes.each_has_an_outcome.Goals as goal
 
 pub returns-clause-arcs : goal.returns-clause-arcs
 returns-clause-arcs c = outcome_of

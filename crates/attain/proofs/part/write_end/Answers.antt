@@ -1,5 +1,5 @@
 use Rattle.std.proofs.Common.{◌≡◌, ◌∙◌, false, get_or, refl, sym, ap, arith}
-use Rattle.difference_bounds.specs.Executions.{at}
+use Rattle.problem_model.specs.Executions.{at}
 use Rattle.row_pool.specs.declared.cell.Cell.{Cell}
 use Rattle.row_pool.specs.Row.{cells_of}
 use Rattle.attain.specs.Written.{NoLimit, written_end}

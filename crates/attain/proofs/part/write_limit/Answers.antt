@@ -4,7 +4,7 @@ use Rattle.std.proofs.lemmas.Int.{to_z-of_z}
 use mir.Syntax.{w128}
 use Rattle.atto.specs.NsText.{ns_text}
 use Rattle.line_format.specs.Words.{line_of}
-use Rattle.difference_bounds.specs.Rows.{attaining}
+use Rattle.problem_model.specs.Rows.{attaining}
 use Rattle.ports.proofs.Writing.{writes_as, writes_then, writes_front, writes_failed}
 use Rattle.cert.specs.Listed.{listed_step, listed_values}
 use Rattle.row_pool.specs.declared.cell.Cell.{Cell}

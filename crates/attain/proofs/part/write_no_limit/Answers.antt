@@ -1,7 +1,7 @@
 use Rattle.std.proofs.Common.{◌≡◌, ◌∷◌, [], ◌∙◌, None, length}
 use Rattle.std.specs.List.{flat_map}
 use Rattle.line_format.specs.Words.{line_of}
-use Rattle.difference_bounds.specs.Executions.{at}
+use Rattle.problem_model.specs.Executions.{at}
 use Rattle.ports.proofs.Writing.{writes_as, writes_then, writes_front, writes_failed}
 use Rattle.cert.specs.Listed.{listed_values}
 use Rattle.row_pool.specs.Row.{cells_of}

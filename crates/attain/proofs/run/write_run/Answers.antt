@@ -1,5 +1,5 @@
 use Rattle.std.specs.Prelude.{codes}
-use Rattle.difference_bounds.specs.Executions.{at}
+use Rattle.problem_model.specs.Executions.{at}
 use Rattle.ports.proofs.Writing.{writes_then, writes_front, writes_failed}
 use Rattle.cert.specs.Listed.{listed_values}
 use Rattle.attain.proofs.run.write_run.Goals as goal

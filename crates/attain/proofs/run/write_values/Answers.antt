@@ -1,7 +1,7 @@
 use Rattle.std.proofs.Common.{◌≡◌, ◌<◌, ◌∙◌, length, arith, to_z, of_z}
 use Rattle.std.proofs.lemmas.Int.{to_z-of_z}
 use mir.Syntax.{w128}
-use Rattle.difference_bounds.specs.Executions.{at}
+use Rattle.problem_model.specs.Executions.{at}
 use Rattle.problem.specs.Listing.{listed_nodes}
 use Rattle.attain.proofs.Lines.{value_written, value_cut, values_written}
 use Rattle.attain.proofs.run.write_values.Goals as goal

@@ -1,4 +1,4 @@
-use Rattle.difference_bounds.specs.Executions.{at}
+use Rattle.problem_model.specs.Executions.{at}
 use Rattle.ports.proofs.Writing.{Leaves}
 use Rattle.attain.proofs.Lines.{values_from}
 use Rattle.attain.proofs.run.write_values.Given as goal

@@ -1,5 +1,5 @@
 use Rattle.std.proofs.Common.{◌≡◌, false}
-use Rattle.line_reader.specs.Reader.{room}
+use Rattle.ports.specs.Reader.{room}
 use Rattle.base_tests.proofs.lines.transcript.Given as goal
 
 abbrev pub invariant-lines : goal.invariant-lines

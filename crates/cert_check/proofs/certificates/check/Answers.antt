@@ -7,7 +7,7 @@ use Rattle.cert_check.specs.Reasons.{IsAnswer}
 use Rattle.cert_check.specs.Widened.{widened}
 use Rattle.cert_check.proofs.Answering.{yes_of, run_answer}
 use Rattle.cert_check.proofs.Widening.{not_widened}
-use Rattle.cert_check.proofs.checking.check.Goals as goal
+use Rattle.cert_check.proofs.certificates.check.Goals as goal
 
 pub returns-in-Cycle-clause-answer : goal.returns-in-Cycle-clause-answer
 returns-in-Cycle-clause-answer c =

@@ -2,7 +2,7 @@ use Rattle.cert.specs.declared.certificate.Cert.TheVariants as certs
 use Rattle.cert_check.specs.Widened.{widened}
 use Rattle.cert_check.proofs.Answering.{yes_of, cycle_answer}
 use Rattle.cert_check.proofs.Widening.{formed, steps_on}
-use Rattle.cert_check.proofs.checking.check_cycle.Goals as goal
+use Rattle.cert_check.proofs.certificates.check_cycle.Goals as goal
 
 pub returns-clause-answer : goal.returns-clause-answer
 returns-clause-answer c =

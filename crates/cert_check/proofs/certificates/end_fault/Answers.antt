@@ -4,7 +4,7 @@ use Rattle.cert.specs.Shows.{Parts}
 use Rattle.cert_check.specs.Reasons.{home_of, away_of, CutIs, EndIs}
 use Rattle.cert_check.specs.Faults.{FindsFault, ShowsEnd}
 use Rattle.cert_check.proofs.Attaining.{path_then, path_found, cut_then, cut_found}
-use Rattle.cert_check.proofs.checking.end_fault.Goals as goal
+use Rattle.cert_check.proofs.certificates.end_fault.Goals as goal
 
 pub path_fault-requires-clause-steps : goal.path_fault-requires-clause-steps
 path_fault-requires-clause-steps c = let of = rw c.in-At.is at c.requires.lawful in of.0

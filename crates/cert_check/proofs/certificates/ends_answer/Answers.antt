@@ -1,5 +1,5 @@
 use Rattle.cert_check.proofs.Answering.{upper_answer, lower_answer}
-use Rattle.cert_check.proofs.checking.ends_answer.Goals as goal
+use Rattle.cert_check.proofs.certificates.ends_answer.Goals as goal
 
 pub returns-in-None-clause-answer : goal.returns-in-None-clause-answer
 returns-in-None-clause-answer c =

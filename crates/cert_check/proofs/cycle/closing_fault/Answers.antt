@@ -4,7 +4,7 @@ use Rattle.std.proofs.lemmas.Int.{ints, to_z-of_z}
 use mir.Syntax.{w128}
 use mir.Val.{SFits}
 use Rattle.problem_model.specs.declared.items.Node.{Node}
-use Rattle.difference_bounds.specs.Solutions.{Leads, weight_of}
+use Rattle.problem_model.specs.Solutions.{Leads, weight_of}
 use Rattle.cert.specs.Shows.{weighed_bounds}
 use Rattle.cert_check.specs.declared.answer.Part.TheVariants.{Cycle}
 use Rattle.cert_check.specs.declared.answer.Reason.TheVariants.{Join}

@@ -1,5 +1,5 @@
 use Rattle.cert_check.proofs.Showing.{run_is, upper_is, lower_is}
-use Rattle.difference_bounds.proofs.Solutions.{no_execution}
+use Rattle.problem_model.proofs.Solutions.{no_execution}
 use Rattle.cert.specs.Shows.{weighed_bounds}
 use Rattle.cert_check.proofs.laws.soundness.Goals as goal
 

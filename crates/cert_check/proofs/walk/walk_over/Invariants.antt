@@ -1,5 +1,5 @@
 use Rattle.std.proofs.Common.{◌≡◌, ◌≤◌, ◌*◌, ◌-◌, ◌^◌, take, unsigned_abs}
-use Rattle.difference_bounds.specs.Solutions.{weight_of}
+use Rattle.problem_model.specs.Solutions.{weight_of}
 use Rattle.cert.specs.Shows.{weighed_bounds}
 use Rattle.cert_check.specs.Walks.{Goes}
 use Rattle.cert_check.specs.Widened.{widened}

@@ -1,4 +1,4 @@
-use Rattle.widen_tests.proofs.rounds.found_within.Given as goal
+use Rattle.cert_tests.proofs.rounds.found_within.Given as goal
 
 abbrev pub ghosts-found_counted : goal.ghosts-found_counted
 ghosts-found_counted a = record { name = a.blank.name; parts = a.blank.parts }

@@ -1,7 +1,7 @@
 use Rattle.std.proofs.Common.{◌≡◌, ◌∷◌, [], ◌++◌, ◌∙◌, ap, ℕ, List, codes, rules}
 use Rattle.atto.specs.Decimal.{decimal_of}
 use Rattle.line_format.specs.Words.{words}
-use Rattle.commands.proofs.moved_1.counts_line.Goals as goal
+use Rattle.commands.proofs.lines.counts_line.Goals as goal
 
 pub returns : goal.returns
 returns c =

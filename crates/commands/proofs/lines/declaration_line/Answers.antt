@@ -2,7 +2,7 @@ use Rattle.std.proofs.Common.{◌≡◌, ◌∷◌, [], ◌++◌, ◌∙◌, ap,
 use Rattle.atto.specs.Decimal.{decimal_of}
 use Rattle.line_format.specs.Words.{words}
 use Rattle.commands.specs.Sessions.{section_word}
-use Rattle.commands.proofs.moved_1.declaration_line.Goals as goal
+use Rattle.commands.proofs.lines.declaration_line.Goals as goal
 
 pub returns : goal.returns
 returns c =

@@ -1,8 +1,8 @@
 use Rattle.std.proofs.Common.{List, subst}
 use Rattle.mergecap.specs.declared.stored.Stored.{Stored}
 use Rattle.mergecap.specs.MergedCapture.{merged_capture}
-use Rattle.commands.specs.Printing.{IsOnly, Prints}
-use Rattle.commands.specs.declared.status.Status.TheVariants as statuses
+use Rattle.problem_commands.specs.Printing.{IsOnly, Prints}
+use Rattle.problem_commands.specs.declared.status.Status.TheVariants as statuses
 use Rattle.decl.specs.Declaration.{declaration_of}
 use Rattle.mergecap.specs.Packets.{all_timed}
 use Rattle.mergecap.specs.Reading.{IsReadBack}

@@ -1,9 +1,9 @@
 use Rattle.std.proofs.Common.{refl}
 use Rattle.mergecap.specs.MergedCapture.{merged_capture}
 use Rattle.mergecap.specs.Packets.{all_timed}
-use Rattle.commands.specs.Printing.{IsOnly}
-use Rattle.commands.specs.declared.status.Status.TheVariants.{Done}
-use Rattle.commands.proofs.Printing.{written_prints, failed_prints}
+use Rattle.problem_commands.specs.Printing.{IsOnly}
+use Rattle.problem_commands.specs.declared.status.Status.TheVariants.{Done}
+use Rattle.problem_commands.proofs.Printing.{written_prints, failed_prints}
 use Rattle.commands.proofs.merged.print.Goals as goal
 
 pub returns-in-Ok-clause-prints : goal.returns-in-Ok-clause-prints

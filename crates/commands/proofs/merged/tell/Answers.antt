@@ -1,7 +1,7 @@
 use Rattle.std.proofs.Common.{refl, codes, ◌++◌, ◌∷◌, [], ap, List, ℕ}
-use Rattle.commands.specs.Printing.{IsOnly}
-use Rattle.commands.specs.declared.status.Status.TheVariants.{NoMerge, ReadFault, ScriptLimit}
-use Rattle.commands.proofs.Printing.{closes_prints, line_prints}
+use Rattle.problem_commands.specs.Printing.{IsOnly}
+use Rattle.problem_commands.specs.declared.status.Status.TheVariants.{NoMerge, ReadFault, ScriptLimit}
+use Rattle.problem_commands.proofs.Printing.{closes_prints, line_prints}
 use Rattle.commands.proofs.merged.tell.Goals as goal
 
 pub returns-in-Refused : goal.returns-in-Refused

@@ -1,5 +1,5 @@
 use Rattle.std.proofs.Common.{arith, refl}
-use Rattle.script.specs.Script.{devices}
+use Rattle.session.specs.Script.{devices}
 use Rattle.merge_script.specs.Turns.{reads}
 use Rattle.commands.proofs.Forms.{obey_by, solve_by, ends_by, verify_by, session_by, trial_by, widen_by, judge_by, mergecap_by, mergecap_two, solve_or_mergecap, session_or_mergecap, widen_or_mergecap, trial_or_mergecap, other_length, obey_or_verify, solve_or_session, solve_or_trial, session_or_trial, solve_or_widen, session_or_widen, trial_or_widen, obey_or_judge, verify_or_judge, obey_three, solve_two, ends_four, verify_three, session_two, trial_two, widen_two, judge_three}
 use Rattle.commands.proofs.Completing.{obey_answered, solve_answered, ends_answered, verify_answered, session_answered, trial_answered, widen_answered, judge_answered, mergecap_answered}

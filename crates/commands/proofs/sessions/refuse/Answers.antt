@@ -1,8 +1,8 @@
 use Rattle.std.proofs.Common.{refl, codes, ◌∙◌}
-use Rattle.commands.specs.Printing.{IsOnly}
+use Rattle.problem_commands.specs.Printing.{IsOnly}
 use Rattle.commands.specs.Sessions.{declaration_line}
-use Rattle.commands.specs.declared.status.Status.TheVariants.{BadDecl, ReadFault}
-use Rattle.commands.proofs.Printing.{closes_prints, line_prints}
+use Rattle.problem_commands.specs.declared.status.Status.TheVariants.{BadDecl, ReadFault}
+use Rattle.problem_commands.proofs.Printing.{closes_prints, line_prints}
 use Rattle.commands.proofs.sessions.refuse.Goals as goal
 
 pub returns-in-Faulty : goal.returns-in-Faulty

@@ -1,7 +1,7 @@
 use Rattle.std.proofs.Common.{refl}
 use Rattle.decl.specs.Declaration.{declaration_of}
-use Rattle.script.specs.Script.{devices}
-use Rattle.script.proofs.Moved3.{keeps_then}
+use Rattle.session.specs.Script.{devices}
+use Rattle.ports.proofs.Keeping.{keeps_then}
 use Rattle.commands.proofs.Conducting.{conducted, undeclared}
 use Rattle.commands.proofs.sessions.session.Goals as goal
 

@@ -1,7 +1,7 @@
 use Rattle.std.proofs.Common.{◌++◌, ℕ, List, refl}
 use Rattle.commands.specs.Trials.{counts_line, Tried}
-use Rattle.commands.specs.declared.status.Status.TheVariants.{Done}
-use Rattle.commands.proofs.Printing.{written_prints, failed_prints}
+use Rattle.problem_commands.specs.declared.status.Status.TheVariants.{Done}
+use Rattle.problem_commands.proofs.Printing.{written_prints, failed_prints}
 use Rattle.commands.proofs.trials.tell.Goals as goal
 
 pub returns-in-Ok : goal.returns-in-Ok

@@ -1,8 +1,8 @@
 use Rattle.std.proofs.Common.{◌≡◌, false, length, ap, ◌∙◌, length-set, arith}
 use Rattle.std.specs.Prelude.{None, pos}
 use Rattle.std.proofs.lemmas.Int.{ints}
-use Rattle.difference_bounds.specs.Parents.{no_parent}
-use Rattle.difference_bounds.proofs.RowStarts.{own_candidate}
+use Rattle.problem_model.specs.Parents.{no_parent}
+use Rattle.problem_model.proofs.RowStarts.{own_candidate}
 use Rattle.row_pool.specs.Row.{cell_at, cells_of}
 use Rattle.distances.specs.Facing.{facing, potential}
 use Rattle.distances.proofs.Beginning.{begun}

@@ -2,8 +2,8 @@ use Rattle.std.proofs.Common.{◌≡◌, ◌<◌, true, length, get_or, sym, sub
 use Rattle.std.specs.Prelude.{not, ◌+ℤ◌, All}
 use mir.Syntax.{w128}
 use Rattle.row_pool.specs.declared.cell.Cell.{Cell}
-use Rattle.difference_bounds.specs.Numbers.{IsUpTo}
-use Rattle.difference_bounds.specs.Tables.{ObeysAll}
+use Rattle.problem_model.specs.Numbers.{IsUpTo}
+use Rattle.problem_model.specs.Tables.{ObeysAll}
 use Rattle.earliest.proofs.Bounds.{worth}
 use Rattle.sync_graph.specs.Graph.{arc_at}
 use Rattle.row_pool.specs.Row.{cell_at}

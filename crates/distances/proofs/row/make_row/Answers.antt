@@ -1,7 +1,7 @@
 use Rattle.std.proofs.Common.{◌≡◌, false, length}
 use Rattle.row_pool.specs.Row.{cell_at, cells_of}
 use Rattle.distances.specs.Facing.{facing}
-use Rattle.difference_bounds.proofs.RowStarts.{own_candidate}
+use Rattle.problem_model.proofs.RowStarts.{own_candidate}
 use Rattle.distances.proofs.Beginning.{none_known, cleared_blank}
 use Rattle.distances.proofs.Directions.{earliest_small, potential_obeyed}
 use Rattle.distances.proofs.row.make_row.Goals as goal

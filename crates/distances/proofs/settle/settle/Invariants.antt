@@ -1,6 +1,6 @@
 use Rattle.std.proofs.Common.{◌≡◌, ◌+◌, ◌-◌, ◌≤◌, ◌^◌, length}
-use Rattle.difference_bounds.specs.RowPops.{IsUnderWay}
-use Rattle.difference_bounds.specs.Sums.{done_sum}
+use Rattle.problem_model.specs.RowPops.{IsUnderWay}
+use Rattle.problem_model.specs.Sums.{done_sum}
 use Rattle.row_pool.specs.Row.{cells_of}
 use Rattle.distances.specs.Facing.{facing, followed, potential}
 use Rattle.distances.specs.Relaxed.{waits_of, AreKeyed}

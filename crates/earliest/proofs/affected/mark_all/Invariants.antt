@@ -1,6 +1,6 @@
 use Rattle.std.proofs.Common.{◌≡◌, ℕ, ◌+◌, ◌-◌, ◌≤◌, true, List, length}
-use Rattle.difference_bounds.specs.Executions as bounds
-use Rattle.difference_bounds.specs.Sums.{sum_to}
+use Rattle.problem_model.specs.Executions as bounds
+use Rattle.problem_model.specs.Sums.{sum_to}
 use Rattle.sync_graph.specs.Graph.{reaching}
 use Rattle.earliest.specs.Withdrawn.{waits_at, found_at, IsMarkingIn}
 use Rattle.earliest.proofs.affected.mark_all.Given as goal

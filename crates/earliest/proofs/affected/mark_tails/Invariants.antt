@@ -1,9 +1,9 @@
 use Rattle.std.proofs.Common.{◌≡◌, ℕ, ◌+◌, ◌<◌, ◌≤◌, true, List, length}
-use Rattle.difference_bounds.specs.Executions as bounds
-use Rattle.difference_bounds.specs.Executions.{at}
+use Rattle.problem_model.specs.Executions as bounds
+use Rattle.problem_model.specs.Executions.{at}
 use Rattle.sync_graph.specs.Graph.{unnamed, arc_at, reaching}
 use Rattle.sync_graph.specs.Lists.{entry_at}
-use Rattle.falls.specs.Withdrawals.{IsExact}
+use Rattle.withdrawals.specs.Withdrawals.{IsExact}
 use Rattle.earliest.specs.Withdrawn.{waits_at, found_at, IsMarkingIn}
 use Rattle.earliest.proofs.affected.mark_tails.Given as goal
 

@@ -1,12 +1,12 @@
 use Rattle.std.proofs.Common.{◌≤◌, ◌∙◌, sym, length, arith}
-use Rattle.falls.proofs.Falling.{holding_more}
+use Rattle.withdrawals.proofs.Falling.{holding_more}
 use Rattle.sync_graph.specs.Graph.{table_of}
 use Rattle.sync_graph.specs.Lists.{list_at}
 use Rattle.earliest.specs.Withdrawn.{falls_of}
 use Rattle.earliest.proofs.Waiting.{in_force_below, past_end}
 use Rattle.earliest.proofs.Marking.{leaving_short}
 use Rattle.earliest.proofs.Dropping.{leaving_arc, holding_done}
-use Rattle.earliest.proofs.falling.pull.Goals as goal
+use Rattle.earliest.proofs.falls.pull.Goals as goal
 
 pub stop_tail-requires-clause-arc : goal.stop_tail-requires-clause-arc
 stop_tail-requires-clause-arc g c = in_force_below c.args.g.now c.exact.ensures c.in-Some.arc (leaving_arc c.args.g.now c.exact.ensures c.args.node c.loop-k.k c.in-Some.arc (sym c.leaving.ensures.entry ∙ c.in-Some.is)).2

@@ -1,7 +1,7 @@
 use Rattle.std.proofs.Common.{◌≤◌, ◌+◌, ◌∙◌, refl, arith}
 use Rattle.sync_graph.specs.Graph.{departing}
 use Rattle.earliest.proofs.Dropping.{pulled_more, pull_cost}
-use Rattle.earliest.proofs.falling.pull_all.Goals as goal
+use Rattle.earliest.proofs.falls.pull_all.Goals as goal
 
 pub loop-i-preserved : goal.loop-i-preserved
 loop-i-preserved g c = record {

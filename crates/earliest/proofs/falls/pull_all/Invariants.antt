@@ -1,8 +1,8 @@
 use Rattle.std.proofs.Common.{◌≡◌, ℕ, ◌+◌, ◌≤◌, length}
-use Rattle.difference_bounds.specs.Sums.{sum_to}
+use Rattle.problem_model.specs.Sums.{sum_to}
 use Rattle.sync_graph.specs.Graph.{departing}
 use Rattle.earliest.specs.Withdrawn.{waits_at, found_at, IsPulledIn}
-use Rattle.earliest.proofs.falling.pull_all.Given as goal
+use Rattle.earliest.proofs.falls.pull_all.Given as goal
 
 abbrev pub invariant-loop-i : goal.invariant-loop-i
 invariant-loop-i g l = record {

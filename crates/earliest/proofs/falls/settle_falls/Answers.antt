@@ -1,12 +1,12 @@
 use Rattle.std.proofs.Common.{◌≡◌, ◌+◌, ◌∙◌, ap, set, arith, length}
 use Rattle.std.specs.Prelude.{◌-ℤ◌}
-use Rattle.difference_bounds.specs.Executions.{at}
-use Rattle.falls.specs.Withdrawals.{flagged_sum}
+use Rattle.problem_model.specs.Executions.{at}
+use Rattle.withdrawals.specs.Withdrawals.{flagged_sum}
 use Rattle.sync_graph.specs.Graph.{reaching}
 use Rattle.earliest.specs.Withdrawn.{waits_at}
 use Rattle.earliest.proofs.Bounds.{worth}
 use Rattle.earliest.proofs.Dropping.{values1_up, key_up, falls_earliest, falling_more, waits_more, front1_room}
-use Rattle.earliest.proofs.falling.settle_falls.Goals as goal
+use Rattle.earliest.proofs.falls.settle_falls.Goals as goal
 
 pub stop_tails-requires-clause-small : goal.stop_tails-requires-clause-small
 stop_tails-requires-clause-small g c =

@@ -1,8 +1,8 @@
 use Rattle.std.proofs.Common.{◌≡◌, ◌+◌, ◌≤◌, length}
-use Rattle.falls.specs.Withdrawals.{flagged_sum}
+use Rattle.withdrawals.specs.Withdrawals.{flagged_sum}
 use Rattle.sync_graph.specs.Graph.{reaching}
 use Rattle.earliest.specs.Withdrawn.{waits_at, IsFallingIn}
-use Rattle.earliest.proofs.falling.settle_falls.Given as goal
+use Rattle.earliest.proofs.falls.settle_falls.Given as goal
 
 abbrev pub invariant-loop-node : goal.invariant-loop-node
 invariant-loop-node g l = record {

@@ -1,12 +1,12 @@
 use Rattle.std.proofs.Common.{◌≤◌, ◌+◌, ◌∙◌, sym, length, arith}
-use Rattle.falls.proofs.Falling.{holding_more}
+use Rattle.withdrawals.proofs.Falling.{holding_more}
 use Rattle.sync_graph.specs.Graph.{table_of}
 use Rattle.sync_graph.specs.Lists.{list_at}
 use Rattle.earliest.specs.Withdrawn.{falls_of}
 use Rattle.earliest.proofs.Waiting.{past_end, list_short}
 use Rattle.earliest.proofs.Affecting.{tail_arc, tail_below, tail_seen}
 use Rattle.earliest.proofs.Dropping.{holding_done}
-use Rattle.earliest.proofs.falling.stop_tails.Goals as goal
+use Rattle.earliest.proofs.falls.stop_tails.Goals as goal
 
 pub stop_tail-requires-clause-arc : goal.stop_tail-requires-clause-arc
 stop_tail-requires-clause-arc g c = tail_below c.args.g.now c.exact.ensures c.args.node c.loop-k.k c.in-Some.arc (sym c.arriving.ensures.entry ∙ c.in-Some.is)

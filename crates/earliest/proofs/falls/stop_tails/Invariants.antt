@@ -1,9 +1,9 @@
 use Rattle.std.proofs.Common.{◌≡◌, ◌+◌, ◌≤◌, length}
-use Rattle.falls.specs.Falls.{IsHolding}
+use Rattle.withdrawals.specs.Falls.{IsHolding}
 use Rattle.sync_graph.specs.Graph.{table_of, reaching}
 use Rattle.sync_graph.specs.Lists.{list_at}
 use Rattle.earliest.specs.Withdrawn.{falls_of}
-use Rattle.earliest.proofs.falling.stop_tails.Given as goal
+use Rattle.earliest.proofs.falls.stop_tails.Given as goal
 
 abbrev pub invariant-loop-k : goal.invariant-loop-k
 invariant-loop-k g l = record {

@@ -1,8 +1,8 @@
 use Rattle.std.proofs.Common.{◌∙◌, sym}
-use Rattle.places.specs.Numbers.{by_number}
-use Rattle.places.proofs.Numbering.{place_by}
-use Rattle.places.proofs.Positions.{place_within}
-use Rattle.places.proofs.Places.place.Goals as goal
+use Rattle.interner.specs.Numbers.{by_number}
+use Rattle.interner.proofs.Numbering.{place_by}
+use Rattle.interner.proofs.Positions.{place_within}
+use Rattle.interner.proofs.Places.place.Goals as goal
 
 pub returns-in-Some-clause-place : goal.returns-in-Some-clause-place
 returns-in-Some-clause-place g c =

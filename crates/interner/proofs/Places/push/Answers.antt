@@ -1,8 +1,8 @@
 use Rattle.std.proofs.Common.{◌≡◌, ◌+◌, [], ◌∷◌, ◌++◌, length, sym, ◌∙◌, ap, subst, None, position, is_some, cond}
-use Rattle.places.specs.Numbers.{by_number, AreNumbered}
-use Rattle.places.proofs.Numbering.{one_more, more_numbered}
-use Rattle.places.proofs.Places.push.Goals as goal
-use Rattle.places.proofs.Places.push.Goals.{in-Ok, in-Err}
+use Rattle.interner.specs.Numbers.{by_number, AreNumbered}
+use Rattle.interner.proofs.Numbering.{one_more, more_numbered}
+use Rattle.interner.proofs.Places.push.Goals as goal
+use Rattle.interner.proofs.Places.push.Goals.{in-Ok, in-Err}
 
 pub invariant_of-self : goal.invariant_of-self
 invariant_of-self g c =

@@ -1,8 +1,8 @@
 use Rattle.std.proofs.Common.{◌≡◌, ◌∙◌, ◌+◌, ◌-◌, length, take, sym, ap, subst, cond, is_some}
 use Rattle.std.specs.BTreeMap.{get}
-use Rattle.places.specs.Numbers.{by_number, IsLast}
-use Rattle.places.proofs.Numbering.{less_numbered, last_taken}
-use Rattle.places.proofs.Places.take_last.Goals as goal
+use Rattle.interner.specs.Numbers.{by_number, IsLast}
+use Rattle.interner.proofs.Numbering.{less_numbered, last_taken}
+use Rattle.interner.proofs.Places.take_last.Goals as goal
 
 pub invariant_of-self : goal.invariant_of-self
 invariant_of-self g c =

@@ -1,13 +1,13 @@
 use Rattle.std.proofs.Common.{◌≡◌, ◌∙◌, ◌+◌, ◌<◌, ◌≤◌, ℕ, List, length, drop, inr, sym, ap, subst, rules}
 use Rattle.mergecap.specs.declared.stored.Stored.{Stored}
 use Rattle.mergecap.specs.Packets.{all_timed}
-use Rattle.session.specs.declared.taking.AddAnswer.{AddAnswer}
-use Rattle.session.specs.declared.taking.AddAnswer.TheVariants as answers
+use Rattle.session.specs.declared.kept_packets.AddAnswer.{AddAnswer}
+use Rattle.session.specs.declared.kept_packets.AddAnswer.TheVariants as answers
 use Rattle.session.specs.Taking.{Takes}
 use Rattle.merge_script.specs.declared.unmerged.Unmerged.TheVariants as ends
 use Rattle.merge_script.specs.Gathered.{bytes_in, most_bytes}
 use Rattle.merge_script.proofs.Adding.{adds_line, ends_size, ends_refused, grown_by, grown_long, grown_bytes}
-use Rattle.merge_script.proofs.gathering.add_line.Goals as goal
+use Rattle.merge_script.proofs.added_packets.add_line.Goals as goal
 
 pub newest-requires : goal.newest-requires
 newest-requires g c =

@@ -1,13 +1,13 @@
 use Rattle.std.proofs.Common.{◌≤◌, ℕ, List, arith, ap, sym, subst}
-use Rattle.line_reader.specs.Reader.{Reader}
+use Rattle.ports.specs.Reader.{Reader}
 use Rattle.mergecap.specs.declared.stored.Stored.{Stored}
 use Rattle.mergecap.specs.Packets.{all_timed}
-use Rattle.script.specs.Script.{Devices}
-use Rattle.script.proofs.Moved3.{keeps_none, keeps_then}
+use Rattle.session.specs.Script.{Devices}
+use Rattle.ports.proofs.Keeping.{keeps_none, keeps_then}
 use Rattle.merge_script.specs.Gathered.{bytes_in, most_bytes}
 use Rattle.merge_script.specs.Turns.{reads}
 use Rattle.merge_script.proofs.Adding.{so_far_first, so_far_more, gathers_all, gathers_none}
-use Rattle.merge_script.proofs.gathering.gather.Goals as goal
+use Rattle.merge_script.proofs.added_packets.gather.Goals as goal
 
 pub loop-why-init : goal.loop-why-init
 loop-why-init g c =

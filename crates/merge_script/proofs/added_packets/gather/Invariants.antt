@@ -1,13 +1,13 @@
 use Rattle.std.proofs.Common.{◌≡◌, ◌≤◌, false}
 use Rattle.ports.specs.Files.{Keeps}
-use Rattle.line_reader.specs.Reader.{room}
+use Rattle.ports.specs.Reader.{room}
 use Rattle.mergecap.specs.Packets.{all_timed}
 use Rattle.session.specs.Stands.{IsReady}
-use Rattle.script.specs.Script.{Devices}
+use Rattle.session.specs.Script.{Devices}
 use Rattle.merge_script.specs.Gathered.{bytes_in, most_bytes}
 use Rattle.merge_script.specs.Turns.{reads}
 use Rattle.merge_script.proofs.Adding.{IsSoFar}
-use Rattle.merge_script.proofs.gathering.gather.Given as goal
+use Rattle.merge_script.proofs.added_packets.gather.Given as goal
 
 abbrev pub invariant-loop-why : goal.invariant-loop-why
 invariant-loop-why g l =

@@ -1,17 +1,17 @@
 use Rattle.std.proofs.Common.{◌≡◌, refl, sym, rules}
 use Rattle.std.specs.Prelude.{IfErr}
-use Rattle.line_reader.specs.Lines.{most_taken}
+use Rattle.ports.specs.Lines.{most_taken}
 use Rattle.mergecap.specs.Packets.{all_timed}
 use Rattle.replies.specs.declared.refusal.Refusal.TheVariants.{NoCommand}
-use Rattle.script.specs.Script.{Devices}
-use Rattle.script.specs.Turns.{TakesOff}
-use Rattle.script.proofs.Places.{within_most}
+use Rattle.session.specs.Script.{Devices}
+use Rattle.session.specs.Turns.{TakesOff}
+use Rattle.session.proofs.Places.{within_most}
 use Rattle.merge_script.specs.declared.unmerged.Unmerged.{Unmerged}
 use Rattle.merge_script.specs.declared.unmerged.Unmerged.TheVariants as ends
 use Rattle.merge_script.specs.Turns.{EndsSo, reads}
 use Rattle.merge_script.proofs.Adding.{ends_turn, ends_long}
 use Rattle.merge_script.proofs.Merges.{err_is}
-use Rattle.merge_script.proofs.gathering.take_line.Goals as goal
+use Rattle.merge_script.proofs.added_packets.take_line.Goals as goal
 
 pub returns-in_ok-add_line-in-Ok-Text-clause-ok : goal.returns-in_ok-add_line-in-Ok-Text-clause-ok
 returns-in_ok-add_line-in-Ok-Text-clause-ok g c =

@@ -7,7 +7,7 @@ use Rattle.session.specs.Settled.{HasEventOf}
 use Rattle.session.specs.Stands.{problem_held, seen_held}
 use Rattle.merge_script.specs.Merged.{IsUnarranged, LacksMerge}
 use Rattle.merge_script.proofs.Merges.{kept_events, if_ok, if_err, given_apart, given_short, given_lacks}
-use Rattle.merge_script.proofs.arranging.merge.Goals as goal
+use Rattle.merge_script.proofs.arrangement.merge.Goals as goal
 
 pub settle-requires-clause-there : goal.settle-requires-clause-there
 settle-requires-clause-there c =

@@ -1,4 +1,4 @@
-use Rattle.merge_script.proofs.arranging.merge_script.Goals as goal
+use Rattle.merge_script.proofs.arrangement.merge_script.Goals as goal
 
 pub returns-in-Ok-clause-ok : goal.returns-in-Ok-clause-ok
 returns-in-Ok-clause-ok g c = rw c.in-Ok.ensures.stands.declaration at c.merge_lines.ensures.ok

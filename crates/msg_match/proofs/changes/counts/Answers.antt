@@ -1,6 +1,6 @@
 use Rattle.std.proofs.Common.{◌≡◌, length, rules}
-use Rattle.event_match.proofs.Counted.{change_counted}
-use Rattle.event_match.proofs.changes.counts.Goals as goal
+use Rattle.msg_match.proofs.Counted.{change_counted}
+use Rattle.msg_match.proofs.changes.counts.Goals as goal
 
 pub returns-clause-change : goal.returns-clause-change
 returns-clause-change c = λ ids before after changes.

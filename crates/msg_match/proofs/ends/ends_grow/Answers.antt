@@ -1,5 +1,5 @@
-use Rattle.event_match.proofs.Grown.{changes_are, ends_few, ends_more, ends_none}
-use Rattle.event_match.proofs.laws.ends_grow.Goals as goal
+use Rattle.msg_match.proofs.Grown.{changes_are, ends_few, ends_more, ends_none}
+use Rattle.msg_match.proofs.ends.ends_grow.Goals as goal
 
 pub returns-clause-none : goal.returns-clause-none
 returns-clause-none c = ends_none

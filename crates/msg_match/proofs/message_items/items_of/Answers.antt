@@ -1,9 +1,9 @@
 use Rattle.std.proofs.Common.{◌+◌, ◌++◌, ◌∙◌, ap, List}
-use Rattle.trace_event.specs.Seen.{mark_of}
+use Rattle.traces.specs.Seen.{mark_of}
 use Rattle.msg_match.specs.Groups.{SeenItem}
-use Rattle.event_match.specs.Ends.{item_of}
-use Rattle.event_match.proofs.Grown.{items_next}
-use Rattle.event_match.proofs.finding.items_of.Goals as goal
+use Rattle.msg_match.specs.Ends.{item_of}
+use Rattle.msg_match.proofs.Grown.{items_next}
+use Rattle.msg_match.proofs.message_items.items_of.Goals as goal
 
 pub loop-place-preserved : goal.loop-place-preserved
 loop-place-preserved c =

@@ -1,8 +1,8 @@
 use Rattle.std.proofs.Common.{◌≡◌, take}
-use Rattle.trace_event.specs.Seen.{seen_events}
+use Rattle.traces.specs.Seen.{seen_events}
 use Rattle.msg_match.specs.Held.{seen_items}
-use Rattle.event_match.specs.Ends.{items_from}
-use Rattle.event_match.proofs.finding.items_of.Given as goal
+use Rattle.msg_match.specs.Ends.{items_from}
+use Rattle.msg_match.proofs.message_items.items_of.Given as goal
 
 -- the ends of messages among the events so far are found
 abbrev pub invariant-loop-place : goal.invariant-loop-place

@@ -2,7 +2,7 @@ use Rattle.std.proofs.Common.{◌≡◌, ◌≤◌, length, take}
 use Rattle.std.specs.Prelude.{filter}
 use Rattle.msg_match.specs.Groups.{is_ambiguous}
 use Rattle.msg_match.specs.Held.{seen_groups}
-use Rattle.msg_match.proofs.tallying.ambiguous_count.Given as goal
+use Rattle.msg_match.proofs.tallies.ambiguous_count.Given as goal
 
 -- what is counted are the ambiguous ones so far
 abbrev pub invariant-loop-group : goal.invariant-loop-group

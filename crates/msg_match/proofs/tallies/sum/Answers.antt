@@ -3,7 +3,7 @@ use Rattle.msg_match.specs.declared.change.Tallies.{Tallies}
 use Rattle.msg_match.specs.Held.{seen_groups}
 use Rattle.msg_match.specs.Parts.{sum_of}
 use Rattle.msg_match.proofs.Counting.{ambiguous_fit, messages_fit, size_fits, unmatched_fit}
-use Rattle.msg_match.proofs.tallying.sum.Goals as goal
+use Rattle.msg_match.proofs.tallies.sum.Goals as goal
 
 pub tallies-requires : goal.tallies-requires
 tallies-requires c = size_fits c.args.groups.now c.loop-group.group-index c.group-item.result c.loop-group-test.true c.group-item.is c.requires

@@ -1,7 +1,7 @@
 use Rattle.std.proofs.Common.{◌≡◌, take}
 use Rattle.msg_match.specs.Held.{seen_groups}
 use Rattle.msg_match.specs.Parts.{sum_of}
-use Rattle.msg_match.proofs.tallying.sum.Given as goal
+use Rattle.msg_match.proofs.tallies.sum.Given as goal
 
 -- what the groups so far count as
 abbrev pub invariant-loop-group : goal.invariant-loop-group

@@ -2,7 +2,7 @@ use Rattle.std.proofs.Common.{◌∷◌, [], ◌++◌, ◌∙◌, ap, ℕ, List}
 use Rattle.std.proofs.lemmas.Int.{to_z-of_z}
 use mir.Syntax.{w128}
 use mir.Val.{SFits}
-use Rattle.line_words.proofs.line.limit_line.Goals as goal
+use Rattle.ports.proofs.fixed_line.limit_line.Goals as goal
 
 pub returns : goal.returns
 returns c =

@@ -1,6 +1,6 @@
 use Rattle.std.proofs.Common.{◌++◌, ◌∙◌, ap, ℕ, List}
-use Rattle.line_words.proofs.Composing.{words_more}
-use Rattle.line_words.proofs.push_word.Goals as goal
+use Rattle.ports.proofs.Composing.{words_more}
+use Rattle.ports.proofs.line_words.push_word.Goals as goal
 
 pub returns : goal.returns
 returns c = λ first ws is.

@@ -2,11 +2,11 @@ use Rattle.std.proofs.Common.{◌≡◌, ◌∙◌, ℕ, List, ap, subst}
 use Rattle.intervals.specs.declared.ends.Ends.{Ends}
 use Rattle.intervals.specs.Ends.{ends_of}
 use Rattle.intervals.specs.Orders.{IsOrder}
-use Rattle.commands.specs.Printing.{Closes}
-use Rattle.commands.specs.Intervals.{interval_line}
-use Rattle.commands.specs.declared.status.Status.TheVariants.{Done}
-use Rattle.commands.proofs.Intervals.{answered}
-use Rattle.commands.proofs.ends.answer.Goals as goal
+use Rattle.problem_commands.specs.Printing.{Closes}
+use Rattle.problem_commands.specs.Intervals.{interval_line}
+use Rattle.problem_commands.specs.declared.status.Status.TheVariants.{Done}
+use Rattle.problem_commands.proofs.Intervals.{answered}
+use Rattle.problem_commands.proofs.ends.answer.Goals as goal
 
 pub returns : goal.returns
 returns g c = λ p from to is.

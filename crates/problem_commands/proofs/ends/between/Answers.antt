@@ -1,10 +1,10 @@
 use Rattle.std.proofs.Common.{refl}
-use Rattle.commands.specs.Printing.{IsOnly}
-use Rattle.commands.specs.declared.status.Status.TheVariants.{UnknownEvent}
+use Rattle.problem_commands.specs.Printing.{IsOnly}
+use Rattle.problem_commands.specs.declared.status.Status.TheVariants.{UnknownEvent}
 use Rattle.std.proofs.Common.{codes}
-use Rattle.commands.proofs.Printing.{closes_prints}
-use Rattle.commands.proofs.Solving.{known_names, unknown_name}
-use Rattle.commands.proofs.ends.between.Goals as goal
+use Rattle.problem_commands.proofs.Printing.{closes_prints}
+use Rattle.problem_commands.proofs.Solving.{known_names, unknown_name}
+use Rattle.problem_commands.proofs.ends.between.Goals as goal
 
 pub returns-in_default : goal.returns-in_default
 returns-in_default g c =

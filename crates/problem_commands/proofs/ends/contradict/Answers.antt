@@ -1,8 +1,8 @@
 use Rattle.std.proofs.Common.{refl, inr, sym}
-use Rattle.commands.specs.Intervals.{TellsInterval}
-use Rattle.commands.specs.declared.status.Status.TheVariants.{Done}
-use Rattle.commands.proofs.Printing.{written_prints, failed_prints}
-use Rattle.commands.proofs.ends.contradict.Goals as goal
+use Rattle.problem_commands.specs.Intervals.{TellsInterval}
+use Rattle.problem_commands.specs.declared.status.Status.TheVariants.{Done}
+use Rattle.problem_commands.proofs.Printing.{written_prints, failed_prints}
+use Rattle.problem_commands.proofs.ends.contradict.Goals as goal
 
 pub write_contradiction-requires : goal.write_contradiction-requires
 write_contradiction-requires g c = (c.args.p.now, (c.args.solver.now, c.requires.solution, c.requires.held, sym c.contradiction.ensures.value))

@@ -1,5 +1,5 @@
-use Rattle.commands.proofs.Solving.{ends_stops, named_ends}
-use Rattle.commands.proofs.ends.ends.Goals as goal
+use Rattle.problem_commands.proofs.Solving.{ends_stops, named_ends}
+use Rattle.problem_commands.proofs.ends.ends.Goals as goal
 
 pub returns-in-Ok-clause-answered : goal.returns-in-Ok-clause-answered
 returns-in-Ok-clause-answered g c = named_ends c.args.problem.now _ _ _ _ _ c.args.first.now c.args.second.now c.in-Ok.p c.in-Ok.ensures.ok c.between.ensures

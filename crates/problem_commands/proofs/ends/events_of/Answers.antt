@@ -1,7 +1,7 @@
 use Rattle.std.proofs.Common.{◌⊎◌, ℕ, inl, inr, subst}
 use Rattle.problem.specs.Line.{IsUnknown}
-use Rattle.commands.proofs.Intervals.{where_none}
-use Rattle.commands.proofs.ends.events_of.Goals as goal
+use Rattle.problem_commands.proofs.Intervals.{where_none}
+use Rattle.problem_commands.proofs.ends.events_of.Goals as goal
 
 pub returns-in_err-from-clause-none : goal.returns-in_err-from-clause-none
 returns-in_err-from-clause-none c =

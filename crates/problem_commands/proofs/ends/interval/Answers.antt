@@ -1,9 +1,9 @@
 use Rattle.problem_model.specs.declared.items.Node.TheVariants as nodes
 use Rattle.problem.specs.Listing.{listing_of, all_readings}
-use Rattle.sync_graph.proofs.OwnStanding.{own_event}
+use Rattle.problem_graph.proofs.OwnStanding.{own_event}
 use Rattle.problem.proofs.OwnReadings.{own_readings}
 use Rattle.queries.proofs.Solutions.{event_by, event_below}
-use Rattle.commands.proofs.ends.interval.Goals as goal
+use Rattle.problem_commands.proofs.ends.interval.Goals as goal
 
 pub pair-pair-requires-clause-p : goal.pair-pair-requires-clause-p
 pair-pair-requires-clause-p g c =

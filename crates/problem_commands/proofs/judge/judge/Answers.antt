@@ -1,6 +1,6 @@
-use Rattle.script.proofs.Moved3.{keeps_then}
-use Rattle.commands.proofs.Widenings.{judged_named, judge_stops, widening_stops, judged}
-use Rattle.commands.proofs.judging.judge.Goals as goal
+use Rattle.ports.proofs.Keeping.{keeps_then}
+use Rattle.problem_commands.proofs.Widenings.{judged_named, judge_stops, widening_stops, judged}
+use Rattle.problem_commands.proofs.judge.judge.Goals as goal
 
 pub answer-requires : goal.answer-requires
 answer-requires g c = let found = c.in-Ok-judged_in.ensures.ok in judged_named c.in-Ok.p found.0 c.in-Ok-judged_in.found c.events.ensures.lawful found.2.judged

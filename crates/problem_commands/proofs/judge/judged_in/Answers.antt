@@ -1,8 +1,8 @@
 use Rattle.widen.specs.JudgedText.{IsJudgedAs}
-use Rattle.commands.specs.Widening.{SpellsWidening, RefusesWidening}
-use Rattle.commands.proofs.Reading.{err_in}
-use Rattle.commands.proofs.Widenings.{widening_in, unread_widening}
-use Rattle.commands.proofs.judging.judged_in.Goals as goal
+use Rattle.problem_commands.specs.Widening.{SpellsWidening, RefusesWidening}
+use Rattle.problem_commands.proofs.Reading.{err_in}
+use Rattle.problem_commands.proofs.Widenings.{widening_in, unread_widening}
+use Rattle.problem_commands.proofs.judge.judged_in.Goals as goal
 
 pub returns-in-Ok-clause-ok : goal.returns-in-Ok-clause-ok
 returns-in-Ok-clause-ok g c =

@@ -1,5 +1,5 @@
-use Rattle.commands.proofs.Widenings.{widening_refused, widening_spelled}
-use Rattle.commands.proofs.judging.judged_of.Goals as goal
+use Rattle.problem_commands.proofs.Widenings.{widening_refused, widening_spelled}
+use Rattle.problem_commands.proofs.judge.judged_of.Goals as goal
 
 pub returns-in-Ok-clause-ok : goal.returns-in-Ok-clause-ok
 returns-in-Ok-clause-ok c =

@@ -1,9 +1,9 @@
 use Rattle.std.proofs.Common.{refl, codes, ◌∙◌}
-use Rattle.commands.specs.Printing.{IsOnly}
-use Rattle.commands.specs.Refusal.{refusal_line}
-use Rattle.commands.specs.declared.status.Status.TheVariants.{ReadFault}
-use Rattle.commands.proofs.Printing.{closes_prints, line_prints}
-use Rattle.commands.proofs.ending.stop.Goals as goal
+use Rattle.problem_commands.specs.Printing.{IsOnly}
+use Rattle.problem_commands.specs.Refusal.{refusal_line}
+use Rattle.problem_commands.specs.declared.status.Status.TheVariants.{ReadFault}
+use Rattle.problem_commands.proofs.Printing.{closes_prints, line_prints}
+use Rattle.problem_commands.proofs.last_line.stop.Goals as goal
 
 pub returns-in-Refused : goal.returns-in-Refused
 returns-in-Refused g c =

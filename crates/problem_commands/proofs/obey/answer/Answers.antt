@@ -3,10 +3,10 @@ use Rattle.std.proofs.lemmas.Int.{to_z-of_z}
 use mir.Syntax.{w128}
 use mir.Val.{SFits}
 use Rattle.problem_model.specs.BoundText.{broken_line}
-use Rattle.commands.specs.Printing.{IsOnly}
-use Rattle.commands.specs.declared.status.Status.TheVariants.{Done, No}
-use Rattle.commands.proofs.Printing.{closes_prints, line_prints}
-use Rattle.commands.proofs.obey.answer.Goals as goal
+use Rattle.problem_commands.specs.Printing.{IsOnly}
+use Rattle.problem_commands.specs.declared.status.Status.TheVariants.{Done, No}
+use Rattle.problem_commands.proofs.Printing.{closes_prints, line_prints}
+use Rattle.problem_commands.proofs.obey.answer.Goals as goal
 
 pub returns-in-Obeys : goal.returns-in-Obeys
 returns-in-Obeys g c =

@@ -1,8 +1,8 @@
 use Rattle.problem_model.proofs.OneList.{listed}
-use Rattle.commands.proofs.Naming.{verdict_named}
-use Rattle.commands.proofs.Obeying.{problem_stops, execution_stops, judged}
-use Rattle.script.proofs.Moved3.{keeps_then}
-use Rattle.commands.proofs.obey.obey.Goals as goal
+use Rattle.problem_commands.proofs.Naming.{verdict_named}
+use Rattle.problem_commands.proofs.Obeying.{problem_stops, execution_stops, judged}
+use Rattle.ports.proofs.Keeping.{keeps_then}
+use Rattle.problem_commands.proofs.obey.obey.Goals as goal
 
 pub answer-requires : goal.answer-requires
 answer-requires g c =

@@ -5,8 +5,8 @@ use mir.Val.{SFits}
 use Rattle.atto.specs.NsText.{ns_text}
 use Rattle.problem.specs.Listing.{listing_of}
 use Rattle.cert.specs.Listed.{listed_bound}
-use Rattle.commands.proofs.Words.{broken_line_is}
-use Rattle.commands.proofs.print.broken_line.Goals as goal
+use Rattle.problem_commands.proofs.Words.{broken_line_is}
+use Rattle.problem_commands.proofs.print.broken_line.Goals as goal
 
 pub returns : goal.returns
 returns c =

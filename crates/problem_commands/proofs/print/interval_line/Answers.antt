@@ -1,6 +1,6 @@
 use Rattle.std.proofs.Common.{◌∷◌, [], ◌++◌, ◌∙◌, ap, ℕ, List, codes}
 use Rattle.queries.specs.Words.{end_word}
-use Rattle.commands.proofs.print.interval_line.Goals as goal
+use Rattle.problem_commands.proofs.print.interval_line.Goals as goal
 
 pub returns : goal.returns
 returns c =

@@ -1,7 +1,7 @@
 use Rattle.std.proofs.Common.{◌∷◌, [], ◌++◌, ◌∙◌, ap, ℕ, List, codes}
 use Rattle.line_format.specs.Words.{words}
-use Rattle.commands.specs.Verify.{reason_words}
-use Rattle.commands.proofs.print.no_line.Goals as goal
+use Rattle.problem_commands.specs.Verify.{reason_words}
+use Rattle.problem_commands.proofs.print.no_line.Goals as goal
 
 pub returns : goal.returns
 returns c =

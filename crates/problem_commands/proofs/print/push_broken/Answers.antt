@@ -5,8 +5,8 @@ use mir.Val.{SFits}
 use Rattle.atto.specs.NsText.{ns_text}
 use Rattle.problem.specs.Listing.{listing_of}
 use Rattle.cert.specs.Listed.{listed_bound}
-use Rattle.commands.proofs.Words.{broken_are}
-use Rattle.commands.proofs.print.push_broken.Goals as goal
+use Rattle.problem_commands.proofs.Words.{broken_are}
+use Rattle.problem_commands.proofs.print.push_broken.Goals as goal
 
 pub returns-clause-appended : goal.returns-clause-appended
 returns-clause-appended c = λ first ws is.

@@ -1,6 +1,6 @@
 use Rattle.std.proofs.Common.{◌∷◌, [], ◌++◌, ◌∙◌, codes}
-use Rattle.commands.proofs.Words.{leaving_are}
-use Rattle.commands.proofs.print.push_leaving.Goals as goal
+use Rattle.problem_commands.proofs.Words.{leaving_are}
+use Rattle.problem_commands.proofs.print.push_leaving.Goals as goal
 
 pub returns-clause-appended : goal.returns-clause-appended
 returns-clause-appended c = λ first ws is.

@@ -4,7 +4,7 @@ use Rattle.line_format.specs.Words.{words}
 use Rattle.std.proofs.lemmas.Int.{to_z-of_z}
 use mir.Syntax.{w128}
 use mir.Val.{SFits}
-use Rattle.commands.proofs.print.push_units.Goals as goal
+use Rattle.problem_commands.proofs.print.push_units.Goals as goal
 
 pub returns-clause-appended : goal.returns-clause-appended
 returns-clause-appended c = λ first ws is.

@@ -1,8 +1,8 @@
 use Rattle.std.proofs.Common.{◌≡◌, ◌∷◌, [], ◌++◌, ◌∙◌, ap, ℕ, List, rules}
 use Rattle.line_format.specs.Words.{words}
 use Rattle.atto.specs.Decimal.{decimal_of}
-use Rattle.commands.specs.Refusal.{number_of, place_of}
-use Rattle.commands.proofs.print.refusal_line.Goals as goal
+use Rattle.problem_commands.specs.Refusal.{number_of, place_of}
+use Rattle.problem_commands.proofs.print.refusal_line.Goals as goal
 
 pub returns : goal.returns
 returns c =

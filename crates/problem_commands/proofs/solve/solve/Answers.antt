@@ -1,5 +1,5 @@
-use Rattle.commands.proofs.Solving.{problem_stops, certified}
-use Rattle.commands.proofs.solve.solve.Goals as goal
+use Rattle.problem_commands.proofs.Solving.{problem_stops, certified}
+use Rattle.problem_commands.proofs.solve.solve.Goals as goal
 
 pub returns-in-Ok-clause-solved : goal.returns-in-Ok-clause-solved
 returns-in-Ok-clause-solved g c = certified c.args.problem.now _ _ _ _ _ c.in-Ok.p c.in-Ok.ensures.ok c.answer.ensures

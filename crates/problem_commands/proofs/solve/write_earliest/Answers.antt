@@ -1,11 +1,11 @@
 use Rattle.std.proofs.Common.{◌<◌, sym, ◌∙◌, ap, subst}
 use Rattle.std.specs.Prelude.{All, length}
-use Rattle.difference_bounds.specs.Executions.{at}
+use Rattle.problem_model.specs.Executions.{at}
 use Rattle.cert.specs.Listed.{listed_run}
 use Rattle.problem.specs.Listing.{listing_of, listed_nodes}
 use Rattle.earliest.specs.Values.{Values}
-use Rattle.commands.specs.Solve.{IsEarliestText}
-use Rattle.commands.proofs.solve.write_earliest.Goals as goal
+use Rattle.problem_commands.specs.Solve.{IsEarliestText}
+use Rattle.problem_commands.proofs.solve.write_earliest.Goals as goal
 
 pub write_run-requires-clause-solved : goal.write_run-requires-clause-solved
 write_run-requires-clause-solved g c =

@@ -1,6 +1,6 @@
 use Rattle.std.proofs.Common.{inl, inr, sym, ◌∙◌}
 use Rattle.queries.proofs.Hands.{some_held}
-use Rattle.commands.proofs.solve.write_solution.Goals as goal
+use Rattle.problem_commands.proofs.solve.write_solution.Goals as goal
 
 pub returns-then-is_empty : goal.returns-then-is_empty
 returns-then-is_empty g c = let text = c.write_earliest.ensures in (text.0, inl text.1, text.2)

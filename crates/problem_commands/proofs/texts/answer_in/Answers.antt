@@ -1,7 +1,7 @@
 use Rattle.cert_check.specs.CheckedText.{IsCheckOf}
-use Rattle.commands.specs.Texts.{SpellsCert, RefusesCert}
-use Rattle.commands.proofs.Reading.{cert_in, err_in, unread_certificate}
-use Rattle.commands.proofs.texts.answer_in.Goals as goal
+use Rattle.problem_commands.specs.Texts.{SpellsCert, RefusesCert}
+use Rattle.problem_commands.proofs.Reading.{cert_in, err_in, unread_certificate}
+use Rattle.problem_commands.proofs.texts.answer_in.Goals as goal
 
 pub returns-in-Ok-clause-ok : goal.returns-in-Ok-clause-ok
 returns-in-Ok-clause-ok g c =

@@ -1,5 +1,5 @@
-use Rattle.commands.proofs.Reading.{certificate_refused, certificate_spelled}
-use Rattle.commands.proofs.texts.answer_of.Goals as goal
+use Rattle.problem_commands.proofs.Reading.{certificate_refused, certificate_spelled}
+use Rattle.problem_commands.proofs.texts.answer_of.Goals as goal
 
 pub returns-in-Ok-clause-ok : goal.returns-in-Ok-clause-ok
 returns-in-Ok-clause-ok c =

@@ -1,6 +1,6 @@
-use Rattle.commands.specs.Texts.{RefusesExecution}
-use Rattle.commands.proofs.Reading.{times_in, err_in, unread_execution}
-use Rattle.commands.proofs.texts.execution_in.Goals as goal
+use Rattle.problem_commands.specs.Texts.{RefusesExecution}
+use Rattle.problem_commands.proofs.Reading.{times_in, err_in, unread_execution}
+use Rattle.problem_commands.proofs.texts.execution_in.Goals as goal
 
 pub returns-in-Ok-clause-ok : goal.returns-in-Ok-clause-ok
 returns-in-Ok-clause-ok g c = times_in _ _ c.in-Ok.text.items c.args.p.now c.execution_of.result c.in-Ok.ensures.ok (rw c.deref.ensures.value at c.execution_of.ensures.ok)

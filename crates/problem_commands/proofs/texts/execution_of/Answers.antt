@@ -1,5 +1,5 @@
-use Rattle.commands.proofs.Reading.{execution_refused, execution_spelled}
-use Rattle.commands.proofs.texts.execution_of.Goals as goal
+use Rattle.problem_commands.proofs.Reading.{execution_refused, execution_spelled}
+use Rattle.problem_commands.proofs.texts.execution_of.Goals as goal
 
 pub returns-in-Ok-clause-ok : goal.returns-in-Ok-clause-ok
 returns-in-Ok-clause-ok c = λ x lists. execution_spelled c.args.p.now c.args.text.now c.in-Ok.e x c.in-Ok.ensures lists

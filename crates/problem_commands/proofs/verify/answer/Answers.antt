@@ -1,9 +1,9 @@
 use Rattle.std.proofs.Common.{refl, codes, ◌∙◌}
-use Rattle.commands.specs.Printing.{IsOnly}
-use Rattle.commands.specs.Verify.{no_line}
-use Rattle.commands.specs.declared.status.Status.TheVariants.{Done, No}
-use Rattle.commands.proofs.Printing.{closes_prints, line_prints}
-use Rattle.commands.proofs.verify.answer.Goals as goal
+use Rattle.problem_commands.specs.Printing.{IsOnly}
+use Rattle.problem_commands.specs.Verify.{no_line}
+use Rattle.problem_commands.specs.declared.status.Status.TheVariants.{Done, No}
+use Rattle.problem_commands.proofs.Printing.{closes_prints, line_prints}
+use Rattle.problem_commands.proofs.verify.answer.Goals as goal
 
 pub returns-in-Yes : goal.returns-in-Yes
 returns-in-Yes g c =

@@ -1,7 +1,7 @@
-use Rattle.commands.proofs.Naming.{answer_named}
-use Rattle.commands.proofs.Verifying.{problem_stops, certificate_stops, checked}
-use Rattle.script.proofs.Moved3.{keeps_then}
-use Rattle.commands.proofs.verify.verify.Goals as goal
+use Rattle.problem_commands.proofs.Naming.{answer_named}
+use Rattle.problem_commands.proofs.Verifying.{problem_stops, certificate_stops, checked}
+use Rattle.ports.proofs.Keeping.{keeps_then}
+use Rattle.problem_commands.proofs.verify.verify.Goals as goal
 
 pub answer-requires : goal.answer-requires
 answer-requires g c = let found = c.in-Ok-answer_in.ensures.ok in answer_named c.in-Ok.p c.events.ensures.lawful found.0 c.in-Ok-answer_in.found found.2

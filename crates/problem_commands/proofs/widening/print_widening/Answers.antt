@@ -1,10 +1,10 @@
 use Rattle.std.proofs.Common.{refl}
 use Rattle.widen.proofs.FoundTexts.{widening_of}
-use Rattle.commands.specs.Widening.{TellsLeast}
-use Rattle.commands.specs.declared.status.Status.TheVariants.{Done}
-use Rattle.commands.proofs.Printing.{written_prints, failed_prints}
-use Rattle.commands.proofs.Widenings.{least_text}
-use Rattle.commands.proofs.widening.print_widening.Goals as goal
+use Rattle.problem_commands.specs.Widening.{TellsLeast}
+use Rattle.problem_commands.specs.declared.status.Status.TheVariants.{Done}
+use Rattle.problem_commands.proofs.Printing.{written_prints, failed_prints}
+use Rattle.problem_commands.proofs.Widenings.{least_text}
+use Rattle.problem_commands.proofs.widening.print_widening.Goals as goal
 
 pub write_widening-requires : goal.write_widening-requires
 write_widening-requires g c = widening_of c.args.p.now c.args.w.now c.requires

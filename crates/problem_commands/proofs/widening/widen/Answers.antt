@@ -1,5 +1,5 @@
-use Rattle.commands.proofs.Widenings.{widen_stops, widened_found}
-use Rattle.commands.proofs.widening.widen.Goals as goal
+use Rattle.problem_commands.proofs.Widenings.{widen_stops, widened_found}
+use Rattle.problem_commands.proofs.widening.widen.Goals as goal
 
 pub returns-in-Ok-clause-found : goal.returns-in-Ok-clause-found
 returns-in-Ok-clause-found g c = widened_found c.args.problem.now _ _ _ _ _ c.in-Ok.p c.in-Ok.ensures.ok c.answer.ensures

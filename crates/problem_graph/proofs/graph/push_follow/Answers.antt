@@ -5,9 +5,9 @@ use Rattle.problem_model.specs.declared.items.Bound.TheVariants as bounds
 use Rattle.problem_model.specs.Bounds.{Declares}
 use Rattle.problem.specs.declared.nearest.NearestFollow.{NearestFollow}
 use Rattle.problem.specs.Nearest.{listed_follow, gap_between}
-use Rattle.sync_graph.specs.Standing.{IsLeft}
-use Rattle.sync_graph.proofs.OneMore.{on_ok}
-use Rattle.sync_graph.proofs.standing.push_follow.Goals as goal
+use Rattle.problem_graph.specs.Standing.{IsLeft}
+use Rattle.problem_graph.proofs.OneMore.{on_ok}
+use Rattle.problem_graph.proofs.graph.push_follow.Goals as goal
 
 pub returns : goal.returns
 returns c = on_ok c.push_bound.result c.push_bound.ensures.left (λ left p readings rest declared is.

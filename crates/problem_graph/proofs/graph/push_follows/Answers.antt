@@ -1,9 +1,9 @@
 use Rattle.std.proofs.Common.{◌<◌, ◌+◌, ◌++◌, length, drop, ap, arith}
 use Rattle.std.specs.List.{flat_map}
 use Rattle.problem_model.specs.ShortList.{follow_bounds, message_bounds}
-use Rattle.sync_graph.proofs.Follows.{follow_next, has_first, has_last}
-use Rattle.sync_graph.proofs.Rooms.{one_more}
-use Rattle.sync_graph.proofs.standing.push_follows.Goals as goal
+use Rattle.problem_graph.proofs.Follows.{follow_next, has_first, has_last}
+use Rattle.problem_graph.proofs.Rooms.{one_more}
+use Rattle.problem_graph.proofs.graph.push_follows.Goals as goal
 
 pub push_follow-requires-clause-from : goal.push_follow-requires-clause-from
 push_follow-requires-clause-from c =

@@ -2,8 +2,8 @@ use Rattle.std.proofs.Common.{drop, ◌++◌, List}
 use Rattle.std.specs.List.{flat_map}
 use Rattle.problem_model.specs.Nodes.{Reading, AreReadings}
 use Rattle.problem_model.specs.ShortList.{follow_bounds, message_bounds}
-use Rattle.sync_graph.specs.Standing.{IsLeft}
-use Rattle.sync_graph.proofs.standing.push_follows.Given as goal
+use Rattle.problem_graph.specs.Standing.{IsLeft}
+use Rattle.problem_graph.proofs.graph.push_follows.Given as goal
 
 -- the follows of the clocks from this place on and all delays are left
 abbrev pub invariant-loop-place : goal.invariant-loop-place

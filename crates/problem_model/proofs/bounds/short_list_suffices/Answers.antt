@@ -1,5 +1,5 @@
 use Rattle.problem_model.proofs.Sufficing.{suffices}
-use Rattle.problem_model.proofs.law.short_list_suffices.Goals as goal
+use Rattle.problem_model.proofs.bounds.short_list_suffices.Goals as goal
 
 pub returns : goal.returns
 returns c = λ p readings x chained are. suffices p x chained readings are

@@ -1,5 +1,5 @@
-use Rattle.difference_bounds.proofs.Cuts.{raised_execution, cut_unbounded}
-use Rattle.difference_bounds.proofs.laws.cuts.Goals as goal
+use Rattle.problem_model.proofs.Cuts.{raised_execution, cut_unbounded}
+use Rattle.problem_model.proofs.differences.cuts.Goals as goal
 
 pub returns-clause-raised : goal.returns-clause-raised
 returns-clause-raised c = raised_execution

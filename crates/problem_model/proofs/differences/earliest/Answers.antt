@@ -1,6 +1,6 @@
-use Rattle.difference_bounds.proofs.Heights.{earliest_height}
-use Rattle.difference_bounds.proofs.Earliest.{earliest_one, earliest_without_arcs, earliest_grown}
-use Rattle.difference_bounds.proofs.laws.earliest.Goals as goal
+use Rattle.problem_model.proofs.Heights.{earliest_height}
+use Rattle.problem_model.proofs.Earliest.{earliest_one, earliest_without_arcs, earliest_grown}
+use Rattle.problem_model.proofs.differences.earliest.Goals as goal
 
 pub returns-clause-one : goal.returns-clause-one
 returns-clause-one c = earliest_one

@@ -1,5 +1,5 @@
-use Rattle.difference_bounds.proofs.Orders.{before_greatest, unbounded_not_before, same_greatest, unbounded_not_same}
-use Rattle.difference_bounds.proofs.laws.orders.Goals as goal
+use Rattle.problem_model.proofs.Orders.{before_greatest, unbounded_not_before, same_greatest, unbounded_not_same}
+use Rattle.problem_model.proofs.differences.orders.Goals as goal
 
 pub returns-clause-before : goal.returns-clause-before
 returns-clause-before c = before_greatest

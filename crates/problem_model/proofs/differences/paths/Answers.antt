@@ -1,5 +1,5 @@
-use Rattle.difference_bounds.proofs.Paths.{path_bound, no_execution, greatest_from, greatest_one, unbounded_not_greatest}
-use Rattle.difference_bounds.proofs.laws.paths.Goals as goal
+use Rattle.problem_model.proofs.Paths.{path_bound, no_execution, greatest_from, greatest_one, unbounded_not_greatest}
+use Rattle.problem_model.proofs.differences.paths.Goals as goal
 
 pub returns-clause-along : goal.returns-clause-along
 returns-clause-along c = path_bound

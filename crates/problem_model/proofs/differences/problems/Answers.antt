@@ -1,5 +1,5 @@
-use Rattle.difference_bounds.proofs.Problems.{same_executions, within, same_greatest, same_unbounded}
-use Rattle.difference_bounds.proofs.laws.problems.Goals as goal
+use Rattle.problem_model.proofs.Problems.{same_executions, within, same_greatest, same_unbounded}
+use Rattle.problem_model.proofs.differences.problems.Goals as goal
 
 pub returns-clause-execution : goal.returns-clause-execution
 returns-clause-execution c = λ p readings arcs x xs are stands is. same_executions p readings x xs is arcs are stands

@@ -1,5 +1,5 @@
-use Rattle.difference_bounds.proofs.Reversal.{execution_reversed, execution_of_reversed, greatest_reversed, greatest_of_reversed, unbounded_reversed, unbounded_of_reversed, path_of_reversed, sum_of-walked_back}
-use Rattle.difference_bounds.proofs.laws.reversals.Goals as goal
+use Rattle.problem_model.proofs.Reversal.{execution_reversed, execution_of_reversed, greatest_reversed, greatest_of_reversed, unbounded_reversed, unbounded_of_reversed, path_of_reversed, sum_of-walked_back}
+use Rattle.problem_model.proofs.differences.reversals.Goals as goal
 
 pub returns-clause-execution : goal.returns-clause-execution
 returns-clause-execution c = execution_reversed

@@ -1,5 +1,5 @@
-use Rattle.difference_bounds.proofs.Attaining.{greatest_lead, greatest_lead_one, attaining_execution, attaining_difference, attaining_upto, row_shortest, known_greatest, unknown_unbounded}
-use Rattle.difference_bounds.proofs.laws.rows.Goals as goal
+use Rattle.problem_model.proofs.Attaining.{greatest_lead, greatest_lead_one, attaining_execution, attaining_difference, attaining_upto, row_shortest, known_greatest, unknown_unbounded}
+use Rattle.problem_model.proofs.differences.rows.Goals as goal
 
 pub returns-clause-lead : goal.returns-clause-lead
 returns-clause-lead c = greatest_lead

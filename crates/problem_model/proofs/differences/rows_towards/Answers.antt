@@ -1,5 +1,5 @@
-use Rattle.difference_bounds.proofs.Towards.{least_lead, least_lead_one, towards_execution, towards_difference, towards_greatest, towards_least, towards_unbounded}
-use Rattle.difference_bounds.proofs.laws.rows_towards.Goals as goal
+use Rattle.problem_model.proofs.Towards.{least_lead, least_lead_one, towards_execution, towards_difference, towards_greatest, towards_least, towards_unbounded}
+use Rattle.problem_model.proofs.differences.rows_towards.Goals as goal
 
 pub returns-clause-lead : goal.returns-clause-lead
 returns-clause-lead c = least_lead

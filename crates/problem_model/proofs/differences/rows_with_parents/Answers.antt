@@ -1,5 +1,5 @@
-use Rattle.difference_bounds.proofs.Parents.{row_closed, row_one, row_grown, row_path, row_greatest, row_unbounded, row_high}
-use Rattle.difference_bounds.proofs.laws.rows_with_parents.Goals as goal
+use Rattle.problem_model.proofs.Parents.{row_closed, row_one, row_grown, row_path, row_greatest, row_unbounded, row_high}
+use Rattle.problem_model.proofs.differences.rows_with_parents.Goals as goal
 
 pub returns-clause-closed : goal.returns-clause-closed
 returns-clause-closed c = row_closed

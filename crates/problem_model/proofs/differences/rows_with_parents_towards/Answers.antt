@@ -1,5 +1,5 @@
-use Rattle.difference_bounds.proofs.Parents.{towards_closed, towards_path, towards_row_greatest, towards_row_unbounded}
-use Rattle.difference_bounds.proofs.laws.rows_with_parents_towards.Goals as goal
+use Rattle.problem_model.proofs.Parents.{towards_closed, towards_path, towards_row_greatest, towards_row_unbounded}
+use Rattle.problem_model.proofs.differences.rows_with_parents_towards.Goals as goal
 
 pub returns-clause-closed : goal.returns-clause-closed
 returns-clause-closed c = towards_closed

@@ -1,5 +1,5 @@
-use Rattle.difference_bounds.proofs.SimplePaths.{simple_short, short_sum}
-use Rattle.difference_bounds.proofs.laws.simple_paths.Goals as goal
+use Rattle.problem_model.proofs.SimplePaths.{simple_short, short_sum}
+use Rattle.problem_model.proofs.differences.simple_paths.Goals as goal
 
 pub returns-clause-short : goal.returns-clause-short
 returns-clause-short c = simple_short

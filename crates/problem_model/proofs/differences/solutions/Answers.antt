@@ -1,5 +1,5 @@
-use Rattle.difference_bounds.proofs.Solutions.{same_earliest, named_contradiction, no_execution}
-use Rattle.difference_bounds.proofs.laws.solutions.Goals as goal
+use Rattle.problem_model.proofs.Solutions.{same_earliest, named_contradiction, no_execution}
+use Rattle.problem_model.proofs.differences.solutions.Goals as goal
 
 pub returns-clause-earliest : goal.returns-clause-earliest
 returns-clause-earliest c = λ p readings arcs x xs are stands is. same_earliest p readings arcs are stands x xs is

@@ -1,5 +1,5 @@
-use Rattle.difference_bounds.proofs.Tables.{lists_listed, lists_reversed, obeys_all, execution_of_table}
-use Rattle.difference_bounds.proofs.laws.tables.Goals as goal
+use Rattle.problem_model.proofs.Tables.{lists_listed, lists_reversed, obeys_all, execution_of_table}
+use Rattle.problem_model.proofs.differences.tables.Goals as goal
 
 pub returns-clause-listed : goal.returns-clause-listed
 returns-clause-listed c = lists_listed

@@ -1,7 +1,7 @@
 use Rattle.std.proofs.Common.{◌≡◌, ◌≤◌, ℕ, length, sym, subst}
 use Rattle.sync_graph.specs.Graph.{most_arcs}
-use Rattle.solving.proofs.Orders.{order_long, order_in_force, order_every}
-use Rattle.solving.proofs.graphs.bring_in.Goals as goal
+use Rattle.problem_solver.proofs.Orders.{order_long, order_in_force, order_every}
+use Rattle.problem_solver.proofs.graphs.bring_in.Goals as goal
 
 pub rebuild_in_order-requires-clause-in_force : goal.rebuild_in_order-requires-clause-in_force
 rebuild_in_order-requires-clause-in_force g c = order_in_force c.args.g.now c.args.order.now c.requires.order c.requires.in_force

@@ -1,7 +1,7 @@
 use Rattle.std.proofs.Common.{subst}
 use Rattle.earliest.specs.declared.inserted.Inserted.TheVariants.{Negative}
 use Rattle.earliest.specs.Inserted.{IsInserted}
-use Rattle.solving.proofs.graphs.kept_or_cycle.Goals as goal
+use Rattle.problem_solver.proofs.graphs.kept_or_cycle.Goals as goal
 
 pub returns-in-Kept : goal.returns-in-Kept
 returns-in-Kept c = λ g found. subst (IsInserted g c.args.e) c.in-Kept.is found

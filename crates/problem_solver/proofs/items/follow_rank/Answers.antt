@@ -1,6 +1,6 @@
 use Rattle.std.proofs.Common.{arith}
 use Rattle.std.proofs.lemmas.Option.{slice_get_within}
-use Rattle.solving.proofs.items.follow_rank.Goals as goal
+use Rattle.problem_solver.proofs.items.follow_rank.Goals as goal
 
 pub bounds-ranks-first : goal.bounds-ranks-first
 bounds-ranks-first c =

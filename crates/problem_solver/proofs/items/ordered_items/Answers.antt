@@ -1,6 +1,6 @@
 use Rattle.std.proofs.Common.{◌-◌, length}
-use Rattle.solving.proofs.ItemSteps.{sorted_items}
-use Rattle.solving.proofs.items.ordered_items.Goals as goal
+use Rattle.problem_solver.proofs.ItemSteps.{sorted_items}
+use Rattle.problem_solver.proofs.items.ordered_items.Goals as goal
 
 pub returns : goal.returns
 returns g c =

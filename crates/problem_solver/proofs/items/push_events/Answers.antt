@@ -1,6 +1,6 @@
 use Rattle.std.proofs.Common.{◌-◌, length, ap, arith}
-use Rattle.solving.proofs.ItemSteps.{event_pushed}
-use Rattle.solving.proofs.items.push_events.Goals as goal
+use Rattle.problem_solver.proofs.ItemSteps.{event_pushed}
+use Rattle.problem_solver.proofs.items.push_events.Goals as goal
 
 pub loop-place-preserved : goal.loop-place-preserved
 loop-place-preserved c =

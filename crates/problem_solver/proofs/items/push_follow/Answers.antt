@@ -1,6 +1,6 @@
-use Rattle.solving.proofs.ItemSteps.{follow_none, follow_pushed}
-use Rattle.solving.specs.Items.{items_of}
-use Rattle.solving.proofs.items.push_follow.Goals as goal
+use Rattle.problem_solver.proofs.ItemSteps.{follow_none, follow_pushed}
+use Rattle.problem_solver.specs.Items.{items_of}
+use Rattle.problem_solver.proofs.items.push_follow.Goals as goal
 
 pub returns-in_ok-push-in-Some : goal.returns-in_ok-push-in-Some
 returns-in_ok-push-in-Some c = λ spans are.

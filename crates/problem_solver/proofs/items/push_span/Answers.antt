@@ -1,6 +1,6 @@
 use Rattle.std.proofs.Common.{◌≡◌, ◌+◌, get_or, arith}
-use Rattle.solving.proofs.ItemSteps.{neighbours_at, span_pushed}
-use Rattle.solving.proofs.items.push_span.Goals as goal
+use Rattle.problem_solver.proofs.ItemSteps.{neighbours_at, span_pushed}
+use Rattle.problem_solver.proofs.items.push_span.Goals as goal
 
 pub returns : goal.returns
 returns c = λ p are.

@@ -1,6 +1,6 @@
 use Rattle.std.proofs.Common.{arith}
 use Rattle.problem.proofs.AllReadings.{few_readings}
-use Rattle.solving.proofs.items.push_spans.Goals as goal
+use Rattle.problem_solver.proofs.items.push_spans.Goals as goal
 
 pub push_span-requires-clause-few : goal.push_span-requires-clause-few
 push_span-requires-clause-few c =

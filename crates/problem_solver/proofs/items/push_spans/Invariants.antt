@@ -1,5 +1,5 @@
-use Rattle.solving.specs.Items.{AreItems, items_of}
-use Rattle.solving.proofs.items.push_spans.Given as goal
+use Rattle.problem_solver.specs.Items.{AreItems, items_of}
+use Rattle.problem_solver.proofs.items.push_spans.Given as goal
 
 abbrev pub invariant-loop-place : goal.invariant-loop-place
 invariant-loop-place l = AreItems l.p l.readings l.place 0 0 0 (items_of l.items.items)

@@ -1,6 +1,6 @@
 use Rattle.std.proofs.Common.{arith}
 use Rattle.std.proofs.lemmas.Option.{slice_get_within}
-use Rattle.solving.proofs.items.reading_ranks.Goals as goal
+use Rattle.problem_solver.proofs.items.reading_ranks.Goals as goal
 
 pub index-requires : goal.index-requires
 index-requires c =

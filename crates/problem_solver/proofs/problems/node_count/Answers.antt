@@ -1,7 +1,7 @@
 use Rattle.std.proofs.Common.{◌+◌, ◌≤◌, ◌^◌, length, ap, arith}
 use Rattle.problem.proofs.AllReadings.{few_readings}
 use Rattle.problem.proofs.ListedNodes.{length-nodes_of}
-use Rattle.solving.proofs.problems.node_count.Goals as goal
+use Rattle.problem_solver.proofs.problems.node_count.Goals as goal
 
 pub overflow_cast-result : goal.overflow_cast-result
 overflow_cast-result c =

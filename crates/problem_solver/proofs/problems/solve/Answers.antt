@@ -1,12 +1,12 @@
 use Rattle.std.proofs.Common.{◌≤◌, ◌+◌, List, length, All, ◌∙◌, sym, subst}
 use Rattle.std.specs.List.{flat_map}
 use Rattle.sync_graph.specs.Graph.{most_arcs}
-use Rattle.solving.specs.declared.items.Ranked.{Ranked}
-use Rattle.solving.specs.Items.{IsItem, bounds_of, items_of}
-use Rattle.solving.specs.Pushing.{AddsBounds}
-use Rattle.solving.proofs.Covering.{covered}
-use Rattle.solving.proofs.Bringing.{nodes_all, few_enough, holds_bounds, is_solution}
-use Rattle.solving.proofs.problems.solve.Goals as goal
+use Rattle.problem_solver.specs.declared.items.Ranked.{Ranked}
+use Rattle.problem_solver.specs.Items.{IsItem, bounds_of, items_of}
+use Rattle.problem_solver.specs.Pushing.{AddsBounds}
+use Rattle.problem_solver.proofs.Covering.{covered}
+use Rattle.problem_solver.proofs.Bringing.{nodes_all, few_enough, holds_bounds, is_solution}
+use Rattle.problem_solver.proofs.problems.solve.Goals as goal
 
 pub push_items-requires-clause-current : goal.push_items-requires-clause-current
 push_items-requires-clause-current g c = (c.in_ok-s.ensures.come c.readings-readings.result.now c.readings-readings.ensures).current

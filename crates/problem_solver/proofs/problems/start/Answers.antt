@@ -1,8 +1,8 @@
 use Rattle.std.proofs.Common.{length, ap, ◌∙◌}
 use Rattle.row_pool.specs.Pool.{Pool, free_rows}
 use Rattle.repair.specs.Slots.{KeptRows}
-use Rattle.solving.proofs.Bringing.{come_first, come_all, all_free, all_rows}
-use Rattle.solving.proofs.problems.start.Goals as goal
+use Rattle.problem_solver.proofs.Bringing.{come_first, come_all, all_free, all_rows}
+use Rattle.problem_solver.proofs.problems.start.Goals as goal
 
 pub push_nodes-requires-clause-start : goal.push_nodes-requires-clause-start
 push_nodes-requires-clause-start c =

@@ -1,6 +1,6 @@
 use Rattle.std.proofs.Common.{◌+◌, ◌<◌, length, ap, arith, ◌^◌}
 use Rattle.problem.proofs.AllReadings.{few_readings}
-use Rattle.solving.proofs.pushing.node_of_reading.Goals as goal
+use Rattle.problem_solver.proofs.pushes.node_of_reading.Goals as goal
 
 pub overflow_add-result : goal.overflow_add-result
 overflow_add-result c =

@@ -5,9 +5,9 @@ use Rattle.std.proofs.lemmas.Option.{slice_get_within}
 use mir.Syntax.{w128}
 use mir.Val.{SFits}
 use Rattle.problem_model.specs.declared.items.Bound.TheVariants.{Follow}
-use Rattle.solving.specs.Pushing.{arc_of}
-use Rattle.solving.proofs.DeclaredArcs.{follow_declared}
-use Rattle.solving.proofs.pushing.push_between.Goals as goal
+use Rattle.problem_solver.specs.Pushing.{arc_of}
+use Rattle.problem_solver.proofs.DeclaredArcs.{follow_declared}
+use Rattle.problem_solver.proofs.pushes.push_between.Goals as goal
 
 pub place_of-first-requires : goal.place_of-first-requires
 place_of-first-requires g c = c.requires.declared.4

@@ -4,9 +4,9 @@ use mir.Syntax.{w128}
 use mir.Val.{SFits}
 use Rattle.sync_graph.specs.declared.arc.Arc.{Arc}
 use Rattle.sync_graph.specs.Graph.{with_arc}
-use Rattle.solving.specs.Pushing.{arc_of}
-use Rattle.solving.proofs.Bringing.{arc_named, arc_sound, adds_one}
-use Rattle.solving.proofs.pushing.push_bound.Goals as goal
+use Rattle.problem_solver.specs.Pushing.{arc_of}
+use Rattle.problem_solver.proofs.Bringing.{arc_named, arc_sound, adds_one}
+use Rattle.problem_solver.proofs.pushes.push_bound.Goals as goal
 
 pub push_arc-requires-clause-sound : goal.push_arc-requires-clause-sound
 push_arc-requires-clause-sound g c =

@@ -6,12 +6,12 @@ use mir.Val.{SFits}
 use Rattle.problem_model.specs.declared.items.Bound.TheVariants.{Late, Early}
 use Rattle.problem_model.specs.Bounds.{ClockAt}
 use Rattle.problem_model.proofs.Walking.{clock_at}
-use Rattle.sync_graph.proofs.BoundEnds.{contains_at}
-use Rattle.sync_graph.proofs.OneMore.{on_ok}
-use Rattle.solving.specs.Pushing.{arc_of}
-use Rattle.solving.proofs.Bringing.{two_added}
-use Rattle.solving.proofs.DeclaredArcs.{late_declared, early_declared}
-use Rattle.solving.proofs.pushing.push_event.Goals as goal
+use Rattle.problem_graph.proofs.BoundEnds.{contains_at}
+use Rattle.problem_graph.proofs.OneMore.{on_ok}
+use Rattle.problem_solver.specs.Pushing.{arc_of}
+use Rattle.problem_solver.proofs.Bringing.{two_added}
+use Rattle.problem_solver.proofs.DeclaredArcs.{late_declared, early_declared}
+use Rattle.problem_solver.proofs.pushes.push_event.Goals as goal
 
 pub node_of_reading-node-requires : goal.node_of_reading-node-requires
 node_of_reading-node-requires g c = λ rs are. slice_get_within rs c.args.reading (c.args.event.now.clock, c.args.event.now.stamp) (c.requires.reading rs are)

@@ -1,9 +1,9 @@
 use Rattle.std.proofs.Common.{List, sym, subst}
 use Rattle.problem_model.specs.declared.items.Bound.{Bound}
-use Rattle.sync_graph.proofs.OneMore.{on_ok}
-use Rattle.solving.specs.Pushing.{AddsBounds}
-use Rattle.solving.proofs.Bringing.{adds_none}
-use Rattle.solving.proofs.pushing.push_follow.Goals as goal
+use Rattle.problem_graph.proofs.OneMore.{on_ok}
+use Rattle.problem_solver.specs.Pushing.{AddsBounds}
+use Rattle.problem_solver.proofs.Bringing.{adds_none}
+use Rattle.problem_solver.proofs.pushes.push_follow.Goals as goal
 
 pub returns-in-Some : goal.returns-in-Some
 returns-in-Some g c = on_ok c.push_between.result c.push_between.ensures (λ adds rs are.

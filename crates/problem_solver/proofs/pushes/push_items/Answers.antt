@@ -2,12 +2,12 @@ use Rattle.std.proofs.Common.{take, get_or, ℕ, arith}
 use Rattle.std.proofs.lemmas.List.{get_or_default}
 use Rattle.std.specs.List.{flat_map}
 use Rattle.sync_graph.specs.Graph.{most_arcs}
-use Rattle.solving.specs.declared.items.Item.TheVariants.{Span}
-use Rattle.solving.specs.declared.items.Ranked.{Ranked}
-use Rattle.solving.specs.Items.{bounds_of, items_of}
-use Rattle.solving.proofs.Bringing.{adds_none, nodes_still}
-use Rattle.solving.proofs.PushedItems.{item_at, room_there, one_more_item, all_items}
-use Rattle.solving.proofs.pushing.push_items.Goals as goal
+use Rattle.problem_solver.specs.declared.items.Item.TheVariants.{Span}
+use Rattle.problem_solver.specs.declared.items.Ranked.{Ranked}
+use Rattle.problem_solver.specs.Items.{bounds_of, items_of}
+use Rattle.problem_solver.proofs.Bringing.{adds_none, nodes_still}
+use Rattle.problem_solver.proofs.PushedItems.{item_at, room_there, one_more_item, all_items}
+use Rattle.problem_solver.proofs.pushes.push_items.Goals as goal
 
 -- what stands where there is no item
 abbrev none : Ranked

@@ -1,8 +1,8 @@
 use Rattle.std.proofs.Common.{take}
 use Rattle.std.specs.List.{flat_map}
-use Rattle.solving.specs.Items.{bounds_of, items_of}
-use Rattle.solving.specs.Pushing.{AddsBounds}
-use Rattle.solving.proofs.pushing.push_items.Given as goal
+use Rattle.problem_solver.specs.Items.{bounds_of, items_of}
+use Rattle.problem_solver.specs.Pushing.{AddsBounds}
+use Rattle.problem_solver.proofs.pushes.push_items.Given as goal
 
 -- the bounds of the items before this place came
 abbrev pub invariant-loop-ranked : goal.invariant-loop-ranked

@@ -4,9 +4,9 @@ use Rattle.std.proofs.lemmas.Int.{ints, to_z-of_z}
 use mir.Syntax.{w128}
 use mir.Val.{SFits}
 use Rattle.problem_model.specs.declared.items.Bound.TheVariants.{DelayLeast}
-use Rattle.solving.specs.Pushing.{arc_of}
-use Rattle.solving.proofs.DeclaredArcs.{delay_least_declared}
-use Rattle.solving.proofs.pushing.push_least.Goals as goal
+use Rattle.problem_solver.specs.Pushing.{arc_of}
+use Rattle.problem_solver.proofs.DeclaredArcs.{delay_least_declared}
+use Rattle.problem_solver.proofs.pushes.push_least.Goals as goal
 
 pub push_bound-requires-clause-declared : goal.push_bound-requires-clause-declared
 push_bound-requires-clause-declared g c = λ rs are.

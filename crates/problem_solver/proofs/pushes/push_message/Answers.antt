@@ -2,10 +2,10 @@ use Rattle.std.proofs.Common.{◌∷◌, []}
 use Rattle.problem_model.specs.declared.items.Bound.TheVariants.{DelayLeast}
 use Rattle.problem_model.specs.ShortList.{most_bound}
 use Rattle.sync_graph.specs.Graph.{most_arcs}
-use Rattle.sync_graph.proofs.OneMore.{on_ok}
-use Rattle.solving.proofs.Covering.{most_one}
-use Rattle.solving.proofs.Bringing.{nodes_still, room_after, adds_then}
-use Rattle.solving.proofs.pushing.push_message.Goals as goal
+use Rattle.problem_graph.proofs.OneMore.{on_ok}
+use Rattle.problem_solver.proofs.Covering.{most_one}
+use Rattle.problem_solver.proofs.Bringing.{nodes_still, room_after, adds_then}
+use Rattle.problem_solver.proofs.pushes.push_message.Goals as goal
 
 pub push_least-requires-clause-nodes : goal.push_least-requires-clause-nodes
 push_least-requires-clause-nodes g c =

@@ -3,12 +3,12 @@ use Rattle.std.proofs.lemmas.Option.{slice_get_read}
 use Rattle.problem_model.specs.declared.items.Node.{Node}
 use Rattle.problem_model.specs.declared.items.Node.TheVariants as nodes
 use Rattle.problem_model.specs.Nodes.{Reading, event_nodes, reading_nodes}
-use Rattle.engine.specs.Solver.{SolverLists}
-use Rattle.solving.specs.Pushing.{NodesCome}
+use Rattle.solver.specs.Solver.{SolverLists}
+use Rattle.problem_solver.specs.Pushing.{NodesCome}
 use Rattle.problem_model.proofs.Walking.{nodes_more, drop_more}
-use Rattle.sync_graph.proofs.Numbering.{next_new, next_room}
-use Rattle.solving.proofs.Bringing.{room_next, come_next}
-use Rattle.solving.proofs.pushing.push_nodes.Goals as goal
+use Rattle.problem_graph.proofs.Numbering.{next_new, next_room}
+use Rattle.problem_solver.proofs.Bringing.{room_next, come_next}
+use Rattle.problem_solver.proofs.pushes.push_nodes.Goals as goal
 
 pub push_node-requires-clause-current : goal.push_node-requires-clause-current
 push_node-requires-clause-current c =

@@ -1,7 +1,7 @@
 use Rattle.std.proofs.Common.{◌≡◌, drop, ◌++◌}
 use Rattle.problem_model.specs.Nodes.{event_nodes, reading_nodes}
-use Rattle.solving.specs.Pushing.{NodesCome}
-use Rattle.solving.proofs.pushing.push_nodes.Given as goal
+use Rattle.problem_solver.specs.Pushing.{NodesCome}
+use Rattle.problem_solver.proofs.pushes.push_nodes.Given as goal
 
 -- the nodes of the events from this place on and all readings are left
 abbrev pub invariant-loop-place : goal.invariant-loop-place

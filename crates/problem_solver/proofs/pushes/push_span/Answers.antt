@@ -6,11 +6,11 @@ use mir.Val.{SFits}
 use Rattle.problem_model.specs.declared.items.Bound.{Bound}
 use Rattle.problem_model.specs.declared.items.Bound.TheVariants.{SpanMost, SpanLeast}
 use Rattle.problem_model.specs.declared.items.Clock.{Clock}
-use Rattle.sync_graph.proofs.OneMore.{on_ok}
-use Rattle.solving.specs.Pushing.{AddsBounds}
-use Rattle.solving.proofs.Bringing.{two_added}
-use Rattle.solving.proofs.DeclaredArcs.{below_all, clock_below, most_is_declared, least_is_declared, span_names}
-use Rattle.solving.proofs.pushing.push_span.Goals as goal
+use Rattle.problem_graph.proofs.OneMore.{on_ok}
+use Rattle.problem_solver.specs.Pushing.{AddsBounds}
+use Rattle.problem_solver.proofs.Bringing.{two_added}
+use Rattle.problem_solver.proofs.DeclaredArcs.{below_all, clock_below, most_is_declared, least_is_declared, span_names}
+use Rattle.problem_solver.proofs.pushes.push_span.Goals as goal
 
 pub bounds-clocks-a : goal.bounds-clocks-a
 bounds-clocks-a g c =

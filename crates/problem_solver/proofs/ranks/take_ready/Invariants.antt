@@ -1,6 +1,6 @@
 use Rattle.std.proofs.Common.{◌≡◌, ◌+◌, length}
-use Rattle.event_order.specs.Queues.{AreEvents}
-use Rattle.event_order.proofs.ranks.take_ready.Given as goal
+use Rattle.problem_solver.specs.Queues.{AreEvents}
+use Rattle.problem_solver.proofs.ranks.take_ready.Given as goal
 
 abbrev pub invariant-loop-event : goal.invariant-loop-event
 invariant-loop-event g l = record {

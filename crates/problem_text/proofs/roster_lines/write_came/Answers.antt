@@ -6,8 +6,8 @@ use Rattle.decl.specs.Declaration.{Declaration}
 use Rattle.ports.proofs.Writing.{writes_as}
 use Rattle.roster.proofs.ListedPlaces.{own_label}
 use Rattle.roster.proofs.Pushing.{clock_inside}
-use Rattle.roster_text.proofs.LineTexts.{came_text}
-use Rattle.roster_text.proofs.lines.write_came.Goals as goal
+use Rattle.problem_text.proofs.LineTexts.{came_text}
+use Rattle.problem_text.proofs.roster_lines.write_came.Goals as goal
 
 pub clock_name-clock-requires : goal.clock_name-clock-requires
 clock_name-clock-requires g c =

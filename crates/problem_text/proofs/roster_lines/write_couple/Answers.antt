@@ -3,8 +3,8 @@ use Rattle.decl.specs.Declaration.{Declaration, declaration_of, link_bounds}
 use Rattle.traces.specs.Traces.{host_of}
 use Rattle.ports.proofs.Writing.{writes_as}
 use Rattle.roster.specs.Roster.{id_of}
-use Rattle.roster_text.proofs.LineTexts.{couple_text}
-use Rattle.roster_text.proofs.lines.write_couple.Goals as goal
+use Rattle.problem_text.proofs.LineTexts.{couple_text}
+use Rattle.problem_text.proofs.roster_lines.write_couple.Goals as goal
 
 pub returns : goal.returns
 returns g c =

@@ -1,8 +1,8 @@
 use Rattle.std.proofs.Common.{◌≡◌, Some, sym, ◌∙◌, ap, arith}
 use Rattle.decl.specs.Declaration.{Declaration, declaration_of, follow_from}
 use Rattle.ports.proofs.Writing.{writes_as}
-use Rattle.roster_text.proofs.Follows.{few_owners, leads, next_is}
-use Rattle.roster_text.proofs.lines.write_next.Goals as goal
+use Rattle.problem_text.proofs.Follows.{few_owners, leads, next_is}
+use Rattle.problem_text.proofs.roster_lines.write_next.Goals as goal
 
 pub follow_from-requires : goal.follow_from-requires
 follow_from-requires g c = few_owners (declaration_of c.decl.result.now) c.args.roster.now c.decl.ensures.same c.decl.ensures.lawful

@@ -1,8 +1,8 @@
 use Rattle.std.proofs.Common.{◌≡◌, ◌∙◌, map}
 use Rattle.problem_model.specs.ProblemText.{clock_name}
 use Rattle.problem.proofs.Naming.{name_found, clock_name_is}
-use Rattle.roster_text.proofs.Follows.{has_clock}
-use Rattle.roster_text.proofs.lines.write_own_follow.Goals as goal
+use Rattle.problem_text.proofs.Follows.{has_clock}
+use Rattle.problem_text.proofs.roster_lines.write_own_follow.Goals as goal
 
 pub clock_name-earlier-requires : goal.clock_name-earlier-requires
 clock_name-earlier-requires g c = has_clock c.args.roster.now c.args.follow.now.earlier c.requires.earlier

@@ -4,8 +4,8 @@ use Rattle.ports.proofs.Writing.{writes_as, writes_none}
 use Rattle.roster.specs.declared.came.Came.{Came}
 use Rattle.roster.specs.declared.came.Partner.{Partner}
 use Rattle.roster.specs.Roster.{event_at, id_of, no_event}
-use Rattle.roster_text.specs.RosterText.{partner_line}
-use Rattle.roster_text.proofs.lines.write_sent.Goals as goal
+use Rattle.problem_text.specs.RosterText.{partner_line}
+use Rattle.problem_text.proofs.roster_lines.write_sent.Goals as goal
 
 pub returns-in-Some : goal.returns-in-Some
 returns-in-Some g c =

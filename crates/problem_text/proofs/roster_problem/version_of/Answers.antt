@@ -1,7 +1,7 @@
 use Rattle.std.proofs.Common.{sym, ◌∙◌}
 use Rattle.decl.specs.Declaration.{declaration_of}
-use Rattle.roster_text.proofs.Follows.{none_more, version_two}
-use Rattle.roster_text.proofs.write.version_of.Goals as goal
+use Rattle.problem_text.proofs.Follows.{none_more, version_two}
+use Rattle.problem_text.proofs.roster_problem.version_of.Goals as goal
 
 pub returns-then-is_some-clause-head : goal.returns-then-is_some-clause-head
 returns-then-is_some-clause-head c = version_two (declaration_of c.args.decl.now) c.loop-place.place c.follow_from.result c.follow_from.ensures (sym c.is_some.ensures ∙ c.if-is_some.true)

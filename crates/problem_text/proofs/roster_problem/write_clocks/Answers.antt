@@ -3,7 +3,7 @@ use Rattle.std.proofs.lemmas.Option.{get_or_from_slice_get, slice_get_read, slic
 use Rattle.problem_model.specs.declared.items.Clock.{Clock}
 use Rattle.problem_model.specs.ProblemText.{clock_line}
 use Rattle.problem_text.proofs.ListedLines.{line_written, line_cut, lines_written}
-use Rattle.roster_text.proofs.write.write_clocks.Goals as goal
+use Rattle.problem_text.proofs.roster_problem.write_clocks.Goals as goal
 
 pub returns-in_err-write_clock : goal.returns-in_err-write_clock
 returns-in_err-write_clock g c =

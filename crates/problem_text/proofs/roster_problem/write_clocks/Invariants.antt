@@ -2,7 +2,7 @@ use Rattle.std.proofs.Common.{drop}
 use Rattle.std.specs.List.{flat_map}
 use Rattle.problem_model.specs.ProblemText.{clock_line}
 use Rattle.ports.proofs.Writing.{Leaves}
-use Rattle.roster_text.proofs.write.write_clocks.Given as goal
+use Rattle.problem_text.proofs.roster_problem.write_clocks.Given as goal
 
 -- the lines of the clocks from this place on are left
 abbrev pub invariant-loop-clock : goal.invariant-loop-clock

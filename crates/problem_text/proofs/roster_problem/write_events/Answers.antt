@@ -3,9 +3,9 @@ use Rattle.std.proofs.lemmas.Option.{get_or_from_slice_get, slice_get_within}
 use Rattle.ports.proofs.Writing.{leaves_all}
 use Rattle.problem_text.proofs.ListedLines.{line_written, line_cut, lines_written}
 use Rattle.roster.specs.Roster.{listed}
-use Rattle.roster_text.specs.RosterText.{came_line, came_lines}
-use Rattle.roster_text.proofs.Ids.{named_came}
-use Rattle.roster_text.proofs.write.write_events.Goals as goal
+use Rattle.problem_text.specs.RosterText.{came_line, came_lines}
+use Rattle.problem_text.proofs.Ids.{named_came}
+use Rattle.problem_text.proofs.roster_problem.write_events.Goals as goal
 
 pub loop-place-init : goal.loop-place-init
 loop-place-init g c = leaves_all (g.O.Sink.told c.args.out.now) (came_lines c.args.roster.now)

@@ -4,9 +4,9 @@ use Rattle.problem_model.specs.ProblemText.{follow_line}
 use Rattle.decl.specs.Declaration.{Declaration, follows_of}
 use Rattle.ports.proofs.Writing.{leaves_all, leaves_as}
 use Rattle.problem_text.proofs.ListedLines.{line_written, line_cut, lines_written}
-use Rattle.roster_text.specs.RosterText.{next_line}
-use Rattle.roster_text.proofs.Follows.{by_place, few_owners, place_inside, place_is, places_end}
-use Rattle.roster_text.proofs.write.write_follows.Goals as goal
+use Rattle.problem_text.specs.RosterText.{next_line}
+use Rattle.problem_text.proofs.Follows.{by_place, few_owners, place_inside, place_is, places_end}
+use Rattle.problem_text.proofs.roster_problem.write_follows.Goals as goal
 
 pub loop-place-init : goal.loop-place-init
 loop-place-init g c =

@@ -3,8 +3,8 @@ use Rattle.std.specs.List.{flat_map, range_with_len}
 use Rattle.problem_model.specs.ProblemText.{follow_line}
 use Rattle.decl.specs.Declaration.{follows_of}
 use Rattle.ports.proofs.Writing.{Leaves}
-use Rattle.roster_text.specs.RosterText.{next_line}
-use Rattle.roster_text.proofs.write.write_follows.Given as goal
+use Rattle.problem_text.specs.RosterText.{next_line}
+use Rattle.problem_text.proofs.roster_problem.write_follows.Given as goal
 
 -- the lines of the follows from this place on are left
 abbrev pub invariant-loop-place : goal.invariant-loop-place

@@ -2,8 +2,8 @@ use Rattle.std.proofs.Common.{ℕ, drop}
 use Rattle.std.specs.List.{flat_map}
 use Rattle.ports.proofs.Writing.{Leaves}
 use Rattle.roster.specs.Roster.{listed}
-use Rattle.roster_text.specs.RosterText.{sent_line, sent_lines}
-use Rattle.roster_text.proofs.write.write_messages.Given as goal
+use Rattle.problem_text.specs.RosterText.{sent_line, sent_lines}
+use Rattle.problem_text.proofs.roster_problem.write_messages.Given as goal
 
 -- the lines of the events from this place on are left
 abbrev pub invariant-loop-place : goal.invariant-loop-place

@@ -1,6 +1,6 @@
 use Rattle.ports.proofs.Writing.{writes_as}
-use Rattle.roster_text.proofs.Told.{partners_came, text_is}
-use Rattle.roster_text.proofs.write.write_roster.Goals as goal
+use Rattle.problem_text.proofs.Told.{partners_came, text_is}
+use Rattle.problem_text.proofs.roster_problem.write_roster.Goals as goal
 
 pub write_text-requires : goal.write_text-requires
 write_text-requires g c =

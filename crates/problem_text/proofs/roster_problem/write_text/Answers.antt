@@ -5,9 +5,9 @@ use Rattle.line_format.specs.Words.{line_of}
 use Rattle.problem_model.specs.ProblemText.{clock_line, follow_line}
 use Rattle.decl.specs.Declaration.{Declaration, follows_of}
 use Rattle.ports.proofs.Writing.{writes_as, writes_then, writes_front, writes_failed}
-use Rattle.roster_text.specs.RosterText.{came_lines, sent_lines}
-use Rattle.roster_text.proofs.Follows.{few_owners, head_is}
-use Rattle.roster_text.proofs.write.write_text.Goals as goal
+use Rattle.problem_text.specs.RosterText.{came_lines, sent_lines}
+use Rattle.problem_text.proofs.Follows.{few_owners, head_is}
+use Rattle.problem_text.proofs.roster_problem.write_text.Goals as goal
 
 pub version_of-requires : goal.version_of-requires
 version_of-requires g c = few_owners _ c.args.roster.now c.decl-decl.ensures.same c.decl-decl.ensures.lawful

@@ -1,8 +1,8 @@
 use Rattle.problem.specs.Listing.{all_readings}
 use Rattle.cert.specs.Listed.{listed_cycle}
-use Rattle.solver.specs.Solution.{steps_of}
+use Rattle.queries.specs.Contradiction.{steps_of}
 use Rattle.problem.proofs.OwnReadings.{own_readings}
-use Rattle.queries.proofs.Contradictions.{cycle_named, cycle_shows}
+use Rattle.queries.proofs.ContradictionTexts.{cycle_named, cycle_shows}
 use Rattle.queries.proofs.contradiction.write_contradiction.Goals as goal
 
 pub write_cycle-requires : goal.write_cycle-requires

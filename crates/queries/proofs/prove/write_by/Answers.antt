@@ -3,7 +3,7 @@ use Rattle.earliest.specs.Values.{Values}
 use Rattle.problem.specs.Listing.{all_readings}
 use Rattle.sync_graph.specs.Graph.{GraphLists}
 use Rattle.sync_graph.specs.InForce.{IsEarliestOf}
-use Rattle.sync_graph.specs.ListedStanding.{StandsForListed}
+use Rattle.problem_graph.specs.ListedStanding.{StandsForListed}
 use Rattle.attain.specs.Ends.{AreRowsOf}
 use Rattle.problem.proofs.OwnReadings.{own_readings}
 use Rattle.queries.proofs.Solutions.{stands, earliest_so}

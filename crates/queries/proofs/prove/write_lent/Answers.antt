@@ -1,8 +1,8 @@
 use Rattle.std.proofs.Common.{sym, ◌∙◌, subst}
 use Rattle.row_pool.specs.Pool.{Pool}
-use Rattle.engine.specs.Changes.{LeavesTaken}
-use Rattle.engine.specs.Lending.{lent_slot}
-use Rattle.engine.proofs.Returning.{given_up}
+use Rattle.solver.specs.Changes.{LeavesTaken}
+use Rattle.solver.specs.Lending.{lent_slot}
+use Rattle.solver.proofs.Returning.{given_up}
 use Rattle.queries.proofs.Solutions.{event_below, goes_on, keeps_both}
 use Rattle.queries.proofs.prove.write_lent.Goals as goal
 

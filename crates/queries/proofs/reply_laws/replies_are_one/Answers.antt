@@ -1,6 +1,6 @@
 use Rattle.queries.specs.Replies.{IsIntervalLine, IsOrderLine, IsTimeLine}
 use Rattle.queries.proofs.OneReply.{one_interval, one_order_line, one_time_line, reply_says}
-use Rattle.queries.proofs.laws.replies_are_one.Goals as goal
+use Rattle.queries.proofs.reply_laws.replies_are_one.Goals as goal
 
 pub returns-clause-interval : goal.returns-clause-interval
 returns-clause-interval c = one_interval

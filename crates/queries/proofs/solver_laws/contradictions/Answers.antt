@@ -1,5 +1,5 @@
-use Rattle.solver.proofs.ListedAnswers.{contradicts, cycle_written}
-use Rattle.solver.proofs.laws.contradictions.Goals as goal
+use Rattle.queries.proofs.ListedAnswers.{contradicts, cycle_written}
+use Rattle.queries.proofs.solver_laws.contradictions.Goals as goal
 
 pub returns-clause-held : goal.returns-clause-held
 returns-clause-held c = λ l p readings s are is some. contradicts l p readings are s is some

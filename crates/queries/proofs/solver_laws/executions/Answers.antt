@@ -1,6 +1,6 @@
-use Rattle.engine.proofs.Staying.{solved_now}
-use Rattle.solver.proofs.ListedAnswers.{one_each, each_earliest, earliest_there, run_written}
-use Rattle.solver.proofs.laws.executions.Goals as goal
+use Rattle.solver.proofs.Staying.{solved_now}
+use Rattle.queries.proofs.ListedAnswers.{one_each, each_earliest, earliest_there, run_written}
+use Rattle.queries.proofs.solver_laws.executions.Goals as goal
 
 pub returns-clause-earliest : goal.returns-clause-earliest
 returns-clause-earliest c = λ l p readings s are is none. earliest_there l p readings are s is none

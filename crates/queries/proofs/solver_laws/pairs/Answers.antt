@@ -1,5 +1,5 @@
-use Rattle.solver.proofs.ListedPairs.{pair_of, pair_fits}
-use Rattle.solver.proofs.laws.pairs.Goals as goal
+use Rattle.queries.proofs.ListedPairs.{pair_of, pair_fits}
+use Rattle.queries.proofs.solver_laws.pairs.Goals as goal
 
 pub returns-clause-pair : goal.returns-clause-pair
 returns-clause-pair c = λ l p readings s j k m n pair are is none by by' told. pair_of l p readings s j k m n pair are is by by' told

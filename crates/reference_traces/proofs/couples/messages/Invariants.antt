@@ -2,7 +2,7 @@ use Rattle.std.proofs.Common.{◌≡◌, ◌++◌, drop}
 use Rattle.traces.specs.Messages.{messages_of}
 use Rattle.traces.specs.Held.{placed_in}
 use Rattle.traces.proofs.Sent.{sent_of}
-use Rattle.plain_traces.proofs.pairing.messages.Given as goal
+use Rattle.reference_traces.proofs.couples.messages.Given as goal
 
 -- the messages so far and those that the events from this place on send are all
 abbrev pub invariant-loop-event : goal.invariant-loop-event

@@ -6,17 +6,17 @@ use Rattle.problem_model.specs.Problem.{ProblemLists}
 use Rattle.problem_model.specs.ChainNumbers.{with_follow}
 use Rattle.problem.specs.Growing.{IsNewClock, IsNewEvent, IsNewFollow, with_event}
 use Rattle.decl.specs.Declaration.{Declaration, declaration_of, follow_from}
-use Rattle.traces.specs.declared.event.Couple.{Couple}
+use Rattle.traces.specs.declared.event_id.Couple.{Couple}
 use Rattle.traces.specs.Traces.{Placed}
 use Rattle.traces.specs.Messages.{event_with, linked}
 use Rattle.traces.specs.Held.{placed_in, placed_of}
-use Rattle.plain_traces.specs.Known.{IsKnown}
+use Rattle.reference_traces.specs.Known.{IsKnown}
 use Rattle.traces.proofs.Lists.{all_at}
 use Rattle.traces.proofs.Places.{label_of, placed_at}
-use Rattle.plain_traces.proofs.Growth.{clock_new, event_more, event_new, known, linked_is, made_more, made_new}
-use Rattle.plain_traces.proofs.Follows.{follow_more, follow_new, follow_none}
-use Rattle.plain_traces.proofs.making.problem_by.Goals as goal
-use Rattle.plain_traces.proofs.making.problem_by.Goals.{in-Some+in_ok-add_follow, in_default}
+use Rattle.reference_traces.proofs.Growth.{clock_new, event_more, event_new, known, linked_is, made_more, made_new}
+use Rattle.reference_traces.proofs.Follows.{follow_more, follow_new, follow_none}
+use Rattle.reference_traces.proofs.problems.problem_by.Goals as goal
+use Rattle.reference_traces.proofs.problems.problem_by.Goals.{in-Some+in_ok-add_follow, in_default}
 
 -- what a list of couples shows past its end
 abbrev no_couple : Couple

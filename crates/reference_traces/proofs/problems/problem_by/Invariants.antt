@@ -2,9 +2,9 @@ use Rattle.std.proofs.Common.{◌≡◌, [], take}
 use Rattle.decl.specs.Declaration.{declaration_of}
 use Rattle.traces.specs.Held.{placed_in}
 use Rattle.traces.specs.Making.{problem_by}
-use Rattle.plain_traces.proofs.Growth.{clocks_alone}
-use Rattle.plain_traces.proofs.Follows.{followed}
-use Rattle.plain_traces.proofs.making.problem_by.Given as goal
+use Rattle.reference_traces.proofs.Growth.{clocks_alone}
+use Rattle.reference_traces.proofs.Follows.{followed}
+use Rattle.reference_traces.proofs.problems.problem_by.Given as goal
 
 abbrev pub invariant-loop-clock : goal.invariant-loop-clock
 invariant-loop-clock l = l.p ≡ clocks_alone (take l.clock-index l.decl.clocks.items)

@@ -1,14 +1,14 @@
 use Rattle.std.proofs.Common.{◌≡◌, ◌∙◌, List, length, ap, subst, sym}
 use Rattle.std.proofs.lemmas.List.{length-map}
 use Rattle.decl.specs.Declaration.{Declaration, declaration_of}
-use Rattle.traces.specs.declared.event.Couple.{Couple}
-use Rattle.trace_event.specs.Seen.{Seen, seen_events}
+use Rattle.traces.specs.declared.event_id.Couple.{Couple}
+use Rattle.traces.specs.Seen.{Seen, seen_events}
 use Rattle.traces.specs.declared.accepted.Accepted.{Accepted}
 use Rattle.traces.specs.Traces.{Placed, events_of}
 use Rattle.traces.specs.Held.{placed_in, seen_in}
 use Rattle.traces.specs.Making.{AreEvents, AreMessages}
 use Rattle.traces.proofs.Seen.{are_events, are_messages}
-use Rattle.plain_traces.proofs.making.problem_of.Goals as goal
+use Rattle.reference_traces.proofs.problems.problem_of.Goals as goal
 
 pub problem_by-requires-clause-events : goal.problem_by-requires-clause-events
 problem_by-requires-clause-events c =

@@ -1,6 +1,6 @@
 use Rattle.std.proofs.Common.{◌≡◌, ◌≤◌, ◌+◌, drop}
 use Rattle.traces.specs.Messages.{missing}
-use Rattle.plain_traces.proofs.withdrawn.missing.Given as goal
+use Rattle.reference_traces.proofs.withdrawn.missing.Given as goal
 
 -- the count so far and that of the messages from this place on are that of all
 abbrev pub invariant-loop-x : goal.invariant-loop-x

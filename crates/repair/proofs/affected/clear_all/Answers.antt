@@ -1,8 +1,8 @@
 use Rattle.std.proofs.Common.{◌+◌, ◌<◌, ◌≤◌, ◌∙◌, refl, length, arith}
 use Rattle.earliest.proofs.Affecting.{mark_cost}
-use Rattle.row_withdrawal.specs.Pulling.{onward}
-use Rattle.row_withdrawal.proofs.Clearing.{next_found}
-use Rattle.row_withdrawal.proofs.affected.clear_all.Goals as goal
+use Rattle.repair.specs.Pulling.{onward}
+use Rattle.repair.proofs.Clearing.{next_found}
+use Rattle.repair.proofs.affected.clear_all.Goals as goal
 
 pub loop-done-init : goal.loop-done-init
 loop-done-init g c = record {

@@ -1,11 +1,11 @@
 use Rattle.std.proofs.Common.{◌≡◌, ℕ, ◌+◌, ◌-◌, ◌≤◌, true, Bool, length}
-use Rattle.difference_bounds.specs.Parents.{Cells}
-use Rattle.difference_bounds.specs.Sums.{sum_to}
+use Rattle.problem_model.specs.Parents.{Cells}
+use Rattle.problem_model.specs.Sums.{sum_to}
 use Rattle.earliest.specs.Withdrawn.{found_at}
 use Rattle.distances.specs.Changes.{AreBlank}
-use Rattle.row_withdrawal.specs.Clearings.{IsRowBefore, IsMarkingOf}
-use Rattle.row_withdrawal.specs.Pulling.{onward}
-use Rattle.row_withdrawal.proofs.affected.clear_all.Given as goal
+use Rattle.repair.specs.Clearings.{IsRowBefore, IsMarkingOf}
+use Rattle.repair.specs.Pulling.{onward}
+use Rattle.repair.proofs.affected.clear_all.Given as goal
 
 abbrev pub invariant-loop-done : goal.invariant-loop-done
 invariant-loop-done g l = record {

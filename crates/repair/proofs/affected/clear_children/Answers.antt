@@ -4,9 +4,9 @@ use Rattle.sync_graph.specs.Lists.{list_at}
 use Rattle.earliest.proofs.Waiting.{past_end}
 use Rattle.distances.specs.Facing.{followed}
 use Rattle.distances.proofs.Directions.{followed_short}
-use Rattle.row_withdrawal.specs.Clearings.{IsChildBy}
-use Rattle.row_withdrawal.proofs.Clearing.{head_within, head_place, seen_more, cleared_lengths, blank_cleared, few_marked, seen_all, listed_below}
-use Rattle.row_withdrawal.proofs.affected.clear_children.Goals as goal
+use Rattle.repair.specs.Clearings.{IsChildBy}
+use Rattle.repair.proofs.Clearing.{head_within, head_place, seen_more, cleared_lengths, blank_cleared, few_marked, seen_all, listed_below}
+use Rattle.repair.proofs.affected.clear_children.Goals as goal
 
 pub loop-k-init : goal.loop-k-init
 loop-k-init g c = record {

@@ -1,10 +1,10 @@
 use Rattle.std.proofs.Common.{◌≡◌, ℕ, ◌+◌, ◌<◌, ◌≤◌, Bool, length}
-use Rattle.difference_bounds.specs.Parents.{Cells}
+use Rattle.problem_model.specs.Parents.{Cells}
 use Rattle.earliest.specs.Withdrawn.{found_at}
 use Rattle.distances.specs.Changes.{AreBlank}
-use Rattle.row_withdrawal.specs.Clearings.{IsRowBefore, IsMarkingOf, IsSeenOf}
-use Rattle.row_withdrawal.specs.Pulling.{onward}
-use Rattle.row_withdrawal.proofs.affected.clear_children.Given as goal
+use Rattle.repair.specs.Clearings.{IsRowBefore, IsMarkingOf, IsSeenOf}
+use Rattle.repair.specs.Pulling.{onward}
+use Rattle.repair.proofs.affected.clear_children.Given as goal
 
 abbrev pub invariant-loop-k : goal.invariant-loop-k
 invariant-loop-k g l = record {

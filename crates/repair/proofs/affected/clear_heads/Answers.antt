@@ -1,9 +1,9 @@
 use Rattle.std.proofs.Common.{◌≤◌, ◌∙◌, refl, false, length, arith}
 use Rattle.row_pool.specs.Row.{cells_of}
 use Rattle.distances.specs.Facing.{end_of}
-use Rattle.row_withdrawal.specs.Clearings.{IsChildOf}
-use Rattle.row_withdrawal.proofs.Clearing.{seeded_none, seed_place, seeded_more, seeded_all, cleared_lengths, blank_cleared, few_marked}
-use Rattle.row_withdrawal.proofs.affected.clear_heads.Goals as goal
+use Rattle.repair.specs.Clearings.{IsChildOf}
+use Rattle.repair.proofs.Clearing.{seeded_none, seed_place, seeded_more, seeded_all, cleared_lengths, blank_cleared, few_marked}
+use Rattle.repair.proofs.affected.clear_heads.Goals as goal
 
 pub loop-i-init : goal.loop-i-init
 loop-i-init c = record {

@@ -1,8 +1,8 @@
 use Rattle.std.proofs.Common.{◌≡◌, ℕ, Bool, length}
 use Rattle.row_pool.specs.Row.{cells_of}
 use Rattle.distances.specs.Changes.{AreBlank}
-use Rattle.row_withdrawal.specs.Clearings.{IsRowBefore, AreSeeded}
-use Rattle.row_withdrawal.proofs.affected.clear_heads.Given as goal
+use Rattle.repair.specs.Clearings.{IsRowBefore, AreSeeded}
+use Rattle.repair.proofs.affected.clear_heads.Given as goal
 
 abbrev pub invariant-loop-i : goal.invariant-loop-i
 invariant-loop-i l = record {

@@ -3,13 +3,13 @@ use Rattle.std.specs.Prelude.{not}
 use Rattle.std.proofs.lemmas.Option.{slice_get_within}
 use Rattle.sync_graph.specs.Lists.{list_at}
 use Rattle.earliest.proofs.Waiting.{past_end}
-use Rattle.regrowths.proofs.Pulls.{trying_none}
+use Rattle.withdrawals.proofs.Pulls.{trying_none}
 use Rattle.distances.specs.Facing.{facing, followed}
 use Rattle.distances.specs.Relaxed.{waits_of}
 use Rattle.row_pool.specs.Row.{cells_of}
-use Rattle.row_withdrawal.specs.Pulling.{onward}
-use Rattle.row_withdrawal.proofs.Pulls.{arc_onto, onto_short, tried_more, small_more, tried_all}
-use Rattle.row_withdrawal.proofs.regrow.pull.Goals as goal
+use Rattle.repair.specs.Pulling.{onward}
+use Rattle.repair.proofs.Pulls.{arc_onto, onto_short, tried_more, small_more, tried_all}
+use Rattle.repair.proofs.regrow.pull.Goals as goal
 
 pub loop-k-init : goal.loop-k-init
 loop-k-init g c = record {

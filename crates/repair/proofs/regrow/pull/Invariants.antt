@@ -2,8 +2,8 @@ use Rattle.std.proofs.Common.{◌≡◌, ◌+◌, ◌≤◌, length}
 use Rattle.std.specs.Prelude.{not}
 use Rattle.distances.specs.Facing.{potential}
 use Rattle.distances.specs.Relaxed.{AreKeyed}
-use Rattle.row_withdrawal.specs.Pulling.{onward, AreSmallAtRest, IsTryingIn}
-use Rattle.row_withdrawal.proofs.regrow.pull.Given as goal
+use Rattle.repair.specs.Pulling.{onward, AreSmallAtRest, IsTryingIn}
+use Rattle.repair.proofs.regrow.pull.Given as goal
 
 abbrev pub invariant-loop-k : goal.invariant-loop-k
 invariant-loop-k g l = record {

@@ -3,9 +3,9 @@ use Rattle.std.specs.Prelude.{not}
 use Rattle.earliest.proofs.Dropping.{pull_cost}
 use Rattle.distances.specs.Facing.{potential}
 use Rattle.distances.proofs.Puts.{keyed_none}
-use Rattle.row_withdrawal.specs.Pulling.{onward}
-use Rattle.row_withdrawal.proofs.Pulls.{pulled_none, found_waits, pulled_more}
-use Rattle.row_withdrawal.proofs.regrow.pull_all.Goals as goal
+use Rattle.repair.specs.Pulling.{onward}
+use Rattle.repair.proofs.Pulls.{pulled_none, found_waits, pulled_more}
+use Rattle.repair.proofs.regrow.pull_all.Goals as goal
 
 pub loop-i-init : goal.loop-i-init
 loop-i-init g c = record {

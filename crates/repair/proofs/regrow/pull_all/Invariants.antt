@@ -1,11 +1,11 @@
 use Rattle.std.proofs.Common.{◌≡◌, ◌+◌, ◌≤◌, length}
 use Rattle.std.specs.Prelude.{not}
-use Rattle.difference_bounds.specs.Sums.{sum_to}
+use Rattle.problem_model.specs.Sums.{sum_to}
 use Rattle.earliest.specs.Withdrawn.{found_at}
 use Rattle.distances.specs.Facing.{potential}
 use Rattle.distances.specs.Relaxed.{AreKeyed}
-use Rattle.row_withdrawal.specs.Pulling.{onward, AreSmallAtRest, IsPullingIn}
-use Rattle.row_withdrawal.proofs.regrow.pull_all.Given as goal
+use Rattle.repair.specs.Pulling.{onward, AreSmallAtRest, IsPullingIn}
+use Rattle.repair.proofs.regrow.pull_all.Given as goal
 
 abbrev pub invariant-loop-i : goal.invariant-loop-i
 invariant-loop-i g l = record {

@@ -2,8 +2,8 @@ use Rattle.std.proofs.Common.{◌≡◌, ◌<◌, length, ap, sym, ◌∙◌, su
 use Rattle.std.specs.Prelude.{not}
 use Rattle.distances.specs.Facing.{facing, end_of}
 use Rattle.distances.proofs.Directions.{facing_from, facing_from_within}
-use Rattle.row_withdrawal.proofs.Pulls.{base_small, pulled_by}
-use Rattle.row_withdrawal.proofs.regrow.pull_arc.Goals as goal
+use Rattle.repair.proofs.Pulls.{base_small, pulled_by}
+use Rattle.repair.proofs.regrow.pull_arc.Goals as goal
 
 pub relax_arc-requires-clause-base : goal.relax_arc-requires-clause-base
 relax_arc-requires-clause-base c =

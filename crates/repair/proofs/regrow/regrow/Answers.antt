@@ -1,6 +1,6 @@
 use Rattle.std.proofs.Common.{◌≡◌, ◌+◌, ◌≤◌, length, ap, sym, ◌∙◌, subst, length-set, arith}
 use Rattle.std.specs.Prelude.{None, not}
-use Rattle.difference_bounds.specs.Sums.{done_sum, changed_sum, sum_to}
+use Rattle.problem_model.specs.Sums.{done_sum, changed_sum, sum_to}
 use Rattle.earliest.specs.Withdrawn.{found_at}
 use Rattle.row_pool.specs.Row.{cells_of}
 use Rattle.distances.specs.Facing.{facing, followed, potential}
@@ -9,9 +9,9 @@ use Rattle.distances.specs.Changes.{steps_at}
 use Rattle.distances.proofs.Directions.{facing_listed}
 use Rattle.distances.proofs.Popping.{popped_small, under_way_more, fewer_left, paid_more, none_left, blank_kept, all_paid}
 use Rattle.distances.proofs.Puts.{taken_keyed}
-use Rattle.row_withdrawal.specs.Pulling.{onward}
-use Rattle.row_withdrawal.proofs.Pulls.{pulled_under_way, pulled_free}
-use Rattle.row_withdrawal.proofs.regrow.regrow.Goals as goal
+use Rattle.repair.specs.Pulling.{onward}
+use Rattle.repair.proofs.Pulls.{pulled_under_way, pulled_free}
+use Rattle.repair.proofs.regrow.regrow.Goals as goal
 
 pub pull_all-requires-clause-at_rest : goal.pull_all-requires-clause-at_rest
 pull_all-requires-clause-at_rest g c = λ k h f. c.requires.distances k h

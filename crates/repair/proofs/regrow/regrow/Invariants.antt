@@ -1,14 +1,14 @@
 use Rattle.std.proofs.Common.{◌≡◌, ◌+◌, ◌-◌, ◌≤◌, ◌^◌, length}
 use Rattle.std.specs.Prelude.{not}
-use Rattle.difference_bounds.specs.RowPops.{IsUnderWay}
-use Rattle.difference_bounds.specs.Sums.{done_sum, sum_to}
+use Rattle.problem_model.specs.RowPops.{IsUnderWay}
+use Rattle.problem_model.specs.Sums.{done_sum, sum_to}
 use Rattle.earliest.specs.Withdrawn.{found_at}
 use Rattle.row_pool.specs.Row.{cells_of}
 use Rattle.distances.specs.Facing.{facing, followed, potential}
 use Rattle.distances.specs.Relaxed.{waits_of, AreKeyed}
 use Rattle.distances.specs.Changes.{steps_at}
-use Rattle.row_withdrawal.specs.Pulling.{onward}
-use Rattle.row_withdrawal.proofs.regrow.regrow.Given as goal
+use Rattle.repair.specs.Pulling.{onward}
+use Rattle.repair.proofs.regrow.regrow.Given as goal
 
 abbrev pub invariant-loop-node : goal.invariant-loop-node
 invariant-loop-node g l = record {

@@ -1,6 +1,6 @@
 use Rattle.std.proofs.Common.{◌∷◌, ◌+◌, ◌≤◌, List, All, length, drop, arith, sym, subst, ◌∙◌}
 use Rattle.std.proofs.lemmas.List.Elements.{All-head}
-use Rattle.difference_bounds.specs.Tables.{without}
+use Rattle.problem_model.specs.Tables.{without}
 use Rattle.sync_graph.specs.Graph.{table_of}
 use Rattle.repair.specs.declared.slot.Slot.{Slot}
 use Rattle.repair.specs.Slots.{slots_in, AreOwn, IsRowsOf}

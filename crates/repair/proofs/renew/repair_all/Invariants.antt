@@ -1,5 +1,5 @@
 use Rattle.std.proofs.Common.{◌≡◌, ℕ, drop, length, All}
-use Rattle.difference_bounds.specs.Tables.{without}
+use Rattle.problem_model.specs.Tables.{without}
 use Rattle.frontier.specs.Keys.{IsEmpty}
 use Rattle.sync_graph.specs.Graph.{table_of}
 use Rattle.row_pool.specs.Pool.{Pool}

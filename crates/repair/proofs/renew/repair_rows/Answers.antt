@@ -1,6 +1,6 @@
 use Rattle.std.proofs.Common.{List, length, sym, subst, ◌∙◌}
-use Rattle.difference_bounds.specs.Parents.{IsRow}
-use Rattle.difference_bounds.specs.Tables.{reversed_table, without}
+use Rattle.problem_model.specs.Parents.{IsRow}
+use Rattle.problem_model.specs.Tables.{reversed_table, without}
 use Rattle.sync_graph.specs.Graph.{table_of}
 use Rattle.row_pool.specs.declared.cell.Cell.{Cell}
 use Rattle.row_pool.specs.Row.{cells_of}

@@ -1,5 +1,5 @@
 use Rattle.std.proofs.Common.{[], Option, length, sym, subst}
-use Rattle.difference_bounds.specs.Tables.{without}
+use Rattle.problem_model.specs.Tables.{without}
 use Rattle.sync_graph.specs.Graph.{table_of}
 use Rattle.repair.specs.declared.slot.Slot.{Slot}
 use Rattle.repair.specs.Slots.{behind, HasRows, IsRowsOf}

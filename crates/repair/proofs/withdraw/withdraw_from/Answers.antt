@@ -1,6 +1,6 @@
 use Rattle.row_pool.specs.Row.{cells_of}
-use Rattle.row_withdrawal.proofs.Repairs.{before_from}
-use Rattle.row_withdrawal.proofs.withdraw.withdraw_from.Goals as goal
+use Rattle.repair.proofs.Repairs.{before_from}
+use Rattle.repair.proofs.withdraw.withdraw_from.Goals as goal
 
 pub withdraw_row-requires-clause-before : goal.withdraw_row-requires-clause-before
 withdraw_row-requires-clause-before g c =

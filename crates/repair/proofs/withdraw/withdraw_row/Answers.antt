@@ -1,9 +1,9 @@
 use Rattle.std.proofs.Common.{◌≤◌, length, arith}
 use Rattle.row_pool.specs.Row.{cells_of}
 use Rattle.distances.proofs.Directions.{earliest_small, potential_obeyed}
-use Rattle.row_withdrawal.proofs.Clearing.{few_marked}
-use Rattle.row_withdrawal.proofs.Repairs.{left_over, left_small, left_past, found_free, open_found, all_cost}
-use Rattle.row_withdrawal.proofs.withdraw.withdraw_row.Goals as goal
+use Rattle.repair.proofs.Clearing.{few_marked}
+use Rattle.repair.proofs.Repairs.{left_over, left_small, left_past, found_free, open_found, all_cost}
+use Rattle.repair.proofs.withdraw.withdraw_row.Goals as goal
 
 pub clear_heads-first-requires-clause-before : goal.clear_heads-first-requires-clause-before
 clear_heads-first-requires-clause-before g c = (c.requires.before.0, c.args.p, c.requires.before.1)

@@ -1,11 +1,11 @@
 use Rattle.std.proofs.Common.{◌∷◌, [], List, length, sum_by, sym, subst, ◌∙◌}
 use Rattle.std.proofs.lemmas.List.Elements.{All-head}
-use Rattle.difference_bounds.specs.Parents.{IsRow}
-use Rattle.difference_bounds.specs.Tables.{reversed_table}
+use Rattle.problem_model.specs.Parents.{IsRow}
+use Rattle.problem_model.specs.Tables.{reversed_table}
 use Rattle.sync_graph.specs.Graph.{table_of}
 use Rattle.row_pool.specs.declared.cell.Cell.{Cell}
 use Rattle.row_pool.specs.Row.{cells_of}
-use Rattle.row_withdrawal.specs.Withdrawals.{IsAffectedFrom, IsAffectedTo}
+use Rattle.repair.specs.RowWithdrawals.{IsAffectedFrom, IsAffectedTo}
 use Rattle.distances.specs.Changes.{AreBlank}
 use Rattle.repair.specs.declared.slot.Slot.{Slot}
 use Rattle.repair.specs.Slots.{IsRowsOf}

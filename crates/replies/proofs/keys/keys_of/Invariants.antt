@@ -1,8 +1,8 @@
 use Rattle.std.proofs.Common.{◌≡◌, ◌++◌, drop}
 use Rattle.traces.specs.Held.{placed_in}
-use Rattle.merging.specs.Merged.{keys_from}
-use Rattle.merging.specs.Writing.{times_by}
-use Rattle.merging.proofs.keys.keys_of.Given as goal
+use Rattle.replies.specs.Merged.{keys_from}
+use Rattle.replies.specs.Writing.{times_by}
+use Rattle.replies.proofs.keys.keys_of.Given as goal
 
 -- the keys so far and those of the events from this place on are all
 abbrev pub invariant-loop-place : goal.invariant-loop-place

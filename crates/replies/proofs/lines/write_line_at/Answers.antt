@@ -10,9 +10,9 @@ use Rattle.traces.specs.Held.{placed_in, placed_of}
 use Rattle.traces.proofs.Places.{placed_at}
 use Rattle.traces.proofs.Lists.{all_at}
 use Rattle.report.specs.Merging.{merge_line}
-use Rattle.merging.specs.Merged.{line_if}
-use Rattle.merging.specs.Writing.{times_by}
-use Rattle.merging.proofs.lines.write_line_at.Goals as goal
+use Rattle.replies.specs.Merged.{line_if}
+use Rattle.replies.specs.Writing.{times_by}
+use Rattle.replies.proofs.lines.write_line_at.Goals as goal
 
 pub write_event-requires-clause-label : goal.write_event-requires-clause-label
 write_event-requires-clause-label g c =

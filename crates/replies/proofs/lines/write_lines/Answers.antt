@@ -5,9 +5,9 @@ use Rattle.ports.proofs.Writing.{leaves_as, leaves_less, leaves_cut, leaves_none
 use Rattle.problem_model.proofs.Walking.{lines_more, lines_none}
 use Rattle.decl.specs.Declaration.{declaration_of}
 use Rattle.traces.specs.Held.{placed_in}
-use Rattle.merging.specs.Merged.{line_at}
-use Rattle.merging.specs.Writing.{times_by}
-use Rattle.merging.proofs.lines.write_lines.Goals as goal
+use Rattle.replies.specs.Merged.{line_at}
+use Rattle.replies.specs.Writing.{times_by}
+use Rattle.replies.proofs.lines.write_lines.Goals as goal
 
 pub returns-in_err-write_line_at : goal.returns-in_err-write_line_at
 returns-in_err-write_line_at g c =

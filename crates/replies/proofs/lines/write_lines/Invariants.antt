@@ -2,8 +2,8 @@ use Rattle.std.proofs.Common.{drop}
 use Rattle.decl.specs.Declaration.{declaration_of}
 use Rattle.traces.specs.Held.{placed_in}
 use Rattle.ports.proofs.Writing.{Leaves}
-use Rattle.merging.specs.Writing.{lines_of, times_by}
-use Rattle.merging.proofs.lines.write_lines.Given as goal
+use Rattle.replies.specs.Writing.{lines_of, times_by}
+use Rattle.replies.proofs.lines.write_lines.Given as goal
 
 -- the lines from this place of the order on are what is left of all
 abbrev pub invariant-loop-place : goal.invariant-loop-place

@@ -1,6 +1,6 @@
 use Rattle.std.proofs.Common.{◌∙◌}
 use Rattle.ports.proofs.Writing.{writes_as, writes_failed, writes_front, writes_then}
-use Rattle.merging.proofs.lines.write_ordered.Goals as goal
+use Rattle.replies.proofs.lines.write_ordered.Goals as goal
 
 pub returns-in_err-write_whole : goal.returns-in_err-write_whole
 returns-in_err-write_whole g c =

@@ -4,7 +4,7 @@ use Rattle.ports.proofs.Writing.{such_as}
 use Rattle.problem_model.specs.Problem.{ProblemLists}
 use Rattle.problem.specs.Listing.{all_readings}
 use Rattle.decl.specs.Declaration.{Declaration, declaration_of}
-use Rattle.trace_event.specs.Seen.{Seen, seen_events}
+use Rattle.traces.specs.Seen.{Seen, seen_events}
 use Rattle.traces.specs.declared.accepted.Accepted.{Accepted}
 use Rattle.traces.specs.Traces.{Placed, events_of}
 use Rattle.traces.specs.Held.{placed_in, placed_of, seen_in}
@@ -14,10 +14,10 @@ use Rattle.traces.proofs.Seen.{are_events}
 use Rattle.earliest.specs.Values.{Values}
 use Rattle.queries.specs.Replies.{Replies}
 use Rattle.problem.proofs.OwnReadings.{own_readings}
-use Rattle.merging.specs.Merged.{IsMergeText}
-use Rattle.merging.specs.Writing.{AreValued, IsTextBy, times_by}
-use Rattle.merging.proofs.Texts.{valued, merge_shows}
-use Rattle.merging.proofs.merge.write_events.Goals as goal
+use Rattle.replies.specs.Merged.{IsMergeText}
+use Rattle.replies.specs.Writing.{AreValued, IsTextBy, times_by}
+use Rattle.replies.proofs.Texts.{valued, merge_shows}
+use Rattle.replies.proofs.merge.write_events.Goals as goal
 
 pub write_merged-requires-clause-events : goal.write_merged-requires-clause-events
 write_merged-requires-clause-events g c =

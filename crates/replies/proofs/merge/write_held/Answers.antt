@@ -4,9 +4,9 @@ use Rattle.decl.specs.Declaration.{declaration_of}
 use Rattle.traces.specs.Held.{seen_in}
 use Rattle.traces.specs.Messages.{problem_of_seen}
 use Rattle.queries.specs.Replies.{Replies}
-use Rattle.merging.specs.Merged.{IsMergeText}
-use Rattle.merging.proofs.Stopping.{not_memory}
-use Rattle.merging.proofs.merge.write_held.Goals as goal
+use Rattle.replies.specs.Merged.{IsMergeText}
+use Rattle.replies.proofs.Stopping.{not_memory}
+use Rattle.replies.proofs.merge.write_held.Goals as goal
 
 pub write_contradiction-requires : goal.write_contradiction-requires
 write_contradiction-requires g c =

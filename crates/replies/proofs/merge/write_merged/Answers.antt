@@ -7,12 +7,12 @@ use Rattle.traces.specs.Traces.{Placed}
 use Rattle.traces.specs.Held.{placed_in, placed_of}
 use Rattle.report.specs.declared.merge.MergeKey.{MergeKey}
 use Rattle.report.specs.Merging.{AreApart, IsMergeOrder}
-use Rattle.merging.specs.Merged.{keys_from}
-use Rattle.merging.specs.Writing.{IsTextBy, count_line, lines_of, times_by}
-use Rattle.merging.proofs.Agreeing.{keys_apart, length_keys}
-use Rattle.merging.proofs.OneOrder.{order_within}
-use Rattle.merging.proofs.Stopping.{not_memory}
-use Rattle.merging.proofs.merge.write_merged.Goals as goal
+use Rattle.replies.specs.Merged.{keys_from}
+use Rattle.replies.specs.Writing.{IsTextBy, count_line, lines_of, times_by}
+use Rattle.replies.proofs.Agreeing.{keys_apart, length_keys}
+use Rattle.replies.proofs.OneOrder.{order_within}
+use Rattle.replies.proofs.Stopping.{not_memory}
+use Rattle.replies.proofs.merge.write_merged.Goals as goal
 
 pub keys_of-requires-clause-few : goal.keys_of-requires-clause-few
 keys_of-requires-clause-few g c = omega (arith, c.requires.events.limit, length-map c.args.events.now placed_of)

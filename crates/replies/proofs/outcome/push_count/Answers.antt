@@ -1,6 +1,6 @@
 use Rattle.std.proofs.Common.{◌∷◌, [], ◌++◌}
 use Rattle.atto.specs.Decimal.{decimal_of}
-use Rattle.line_words.proofs.Composing.{two_more}
+use Rattle.ports.proofs.Composing.{two_more}
 use Rattle.replies.proofs.outcome.push_count.Goals as goal
 
 pub returns-clause-appended : goal.returns-clause-appended

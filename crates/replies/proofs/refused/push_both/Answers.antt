@@ -1,6 +1,6 @@
 use Rattle.std.proofs.Common.{◌∷◌, [], ◌++◌}
 use Rattle.atto.specs.Decimal.{decimal_of}
-use Rattle.line_words.proofs.Composing.{two_more}
+use Rattle.ports.proofs.Composing.{two_more}
 use Rattle.replies.proofs.refused.push_both.Goals as goal
 
 pub returns : goal.returns

@@ -1,6 +1,6 @@
 use Rattle.std.proofs.Common.{◌∷◌, [], ◌++◌, ◌∙◌, ap, ℕ, List}
 use Rattle.line_format.specs.Words.{words}
-use Rattle.line_words.proofs.Composing.{words_more}
+use Rattle.ports.proofs.Composing.{words_more}
 use Rattle.replies.proofs.refused.push_number.Goals as goal
 
 pub returns-clause-appended : goal.returns-clause-appended

@@ -1,11 +1,11 @@
 use Rattle.std.proofs.Common.{◌++◌, ap, ◌∙◌, List, ◌∷◌, []}
 use Rattle.msg_match.specs.Held.{seen_group}
-use Rattle.event_match.specs.Ambiguous.{EndGroup}
-use Rattle.traces.specs.declared.event.EventId.{EventId}
-use Rattle.event_match.specs.Inside.{HasEventsOf, IsWithin, led_groups}
-use Rattle.trace_report.specs.Inside.{ids_in}
-use Rattle.event_match.proofs.Gathered.{at_group, next_led}
-use Rattle.trace_report.proofs.ambiguous.ambiguous_keys.Goals as goal
+use Rattle.msg_match.specs.Ambiguous.{EndGroup}
+use Rattle.traces.specs.declared.event_id.EventId.{EventId}
+use Rattle.msg_match.specs.EndsInside.{HasEventsOf, IsWithin, led_groups}
+use Rattle.report.specs.Inside.{ids_in}
+use Rattle.msg_match.proofs.Gathered.{at_group, next_led}
+use Rattle.report.proofs.ambiguous.ambiguous_keys.Goals as goal
 
 pub push_ambiguous-requires : goal.push_ambiguous-requires
 push_ambiguous-requires c = at_group (IsWithin (ids_in c.args.roster.now)) c.args.groups.now c.loop-group.group-index c.group-item.result c.requires c.loop-group-test.true c.group-item.is

@@ -1,10 +1,10 @@
 use Rattle.std.proofs.Common.{◌≡◌, List, All, map, take}
 use Rattle.msg_match.specs.Held.{seen_groups}
 use Rattle.msg_match.specs.Parts.{keys_in}
-use Rattle.event_match.specs.Ends.{End}
-use Rattle.event_match.specs.Inside.{AreRising, HasEventsOf, led_groups}
-use Rattle.trace_report.specs.Inside.{ids_in, led}
-use Rattle.trace_report.proofs.ambiguous.ambiguous_keys.Given as goal
+use Rattle.msg_match.specs.Ends.{End}
+use Rattle.msg_match.specs.EndsInside.{AreRising, HasEventsOf, led_groups}
+use Rattle.report.specs.Inside.{ids_in, led}
+use Rattle.report.proofs.ambiguous.ambiguous_keys.Given as goal
 
 -- the ambiguous ones of the keys so far
 abbrev pub invariant-loop-group : goal.invariant-loop-group

@@ -2,8 +2,8 @@ use Rattle.std.proofs.Common.{ap, sym, ◌∙◌}
 use Rattle.std.proofs.lemmas.List.{get_or-map}
 use Rattle.std.proofs.lemmas.Option.{get_or_from_slice_get}
 use Rattle.roster.specs.Roster.{id_of, no_event}
-use Rattle.event_match.specs.Ends.{no_name}
-use Rattle.trace_report.proofs.ambiguous.id_at.Goals as goal
+use Rattle.msg_match.specs.Ends.{no_name}
+use Rattle.report.proofs.ambiguous.id_at.Goals as goal
 
 pub returns : goal.returns
 returns c =

@@ -2,11 +2,11 @@ use Rattle.std.proofs.Common.{ℕ, ◌≡◌, ◌++◌, ◌∙◌, List, All, le
 use Rattle.std.proofs.Math.Seq.{take-append_seam}
 use Rattle.std.specs.List.Sorted.{IsPermutation}
 use Rattle.msg_match.specs.Held.{seen_groups}
-use Rattle.event_match.specs.Inside.{IsWithin}
-use Rattle.event_match.proofs.Gathered.{all_told, groups_within}
-use Rattle.trace_report.specs.declared.ambiguous.Ambiguous.{Ambiguous}
-use Rattle.trace_report.specs.Inside.{ids_in, led, seen_ambiguous}
-use Rattle.trace_report.proofs.ambiguous.keys_in_order.Goals as goal
+use Rattle.msg_match.specs.EndsInside.{IsWithin}
+use Rattle.msg_match.proofs.Gathered.{all_told, groups_within}
+use Rattle.report.specs.declared.ambiguous.Ambiguous.{Ambiguous}
+use Rattle.report.specs.Inside.{ids_in, led, seen_ambiguous}
+use Rattle.report.proofs.ambiguous.keys_in_order.Goals as goal
 
 pub ambiguous_keys-requires : goal.ambiguous_keys-requires
 ambiguous_keys-requires c =

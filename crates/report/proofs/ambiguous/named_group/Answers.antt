@@ -1,15 +1,15 @@
 use Rattle.std.proofs.Common.{◌≡◌, List, ℕ, length, map, sym, ap, subst, ◌∙◌, arith, rules}
 use Rattle.std.specs.Vec.{vec_len}
 use Rattle.std.specs.List.Sorted.{IsPermutation}
-use Rattle.trace_event.specs.declared.event.Side.TheVariants.{Send, Receive}
-use Rattle.trace_event.specs.Seen.{EventKey, key_of}
+use Rattle.traces.specs.declared.event.Side.TheVariants.{Send, Receive}
+use Rattle.traces.specs.Seen.{EventKey, key_of}
 use Rattle.msg_match.specs.Held.{seen_group}
-use Rattle.traces.specs.declared.event.EventId.{EventId}
-use Rattle.event_match.specs.Ambiguous.{EndGroup, names_with}
-use Rattle.event_match.specs.Ends.{name_at}
-use Rattle.trace_report.specs.Inside.{ids_in}
-use Rattle.event_match.proofs.Gathered.{led_is, names_rise, some_of_both}
-use Rattle.trace_report.proofs.ambiguous.named_group.Goals as goal
+use Rattle.traces.specs.declared.event_id.EventId.{EventId}
+use Rattle.msg_match.specs.Ambiguous.{EndGroup, names_with}
+use Rattle.msg_match.specs.Ends.{name_at}
+use Rattle.report.specs.Inside.{ids_in}
+use Rattle.msg_match.proofs.Gathered.{led_is, names_rise, some_of_both}
+use Rattle.report.proofs.ambiguous.named_group.Goals as goal
 
 pub index-requires : goal.index-requires
 index-requires c =

@@ -1,8 +1,8 @@
 use Rattle.std.proofs.Common.{sym, ◌∙◌}
 use Rattle.msg_match.specs.Held.{seen_group}
-use Rattle.trace_report.specs.Inside.{ids_in, led}
-use Rattle.event_match.proofs.Gathered.{led_in, led_out, ambiguous_is}
-use Rattle.trace_report.proofs.ambiguous.push_ambiguous.Goals as goal
+use Rattle.report.specs.Inside.{ids_in, led}
+use Rattle.msg_match.proofs.Gathered.{led_in, led_out, ambiguous_is}
+use Rattle.report.proofs.ambiguous.push_ambiguous.Goals as goal
 
 pub returns-in_ok-push : goal.returns-in_ok-push
 returns-in_ok-push c = λ ends rising has.

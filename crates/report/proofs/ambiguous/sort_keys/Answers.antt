@@ -1,12 +1,12 @@
 use Rattle.std.proofs.Common.{◌≡◌, map, rules}
 use Rattle.std.proofs.lemmas.Fn.{always_returns_same}
 use Rattle.std.proofs.lemmas.List.Sorted.{IsPermutation-map, IsPermutation-trans}
-use Rattle.traces.specs.declared.event.EventId.{EventId}
-use Rattle.trace_report.specs.declared.ambiguous.Ambiguous.{Ambiguous}
-use Rattle.event_match.specs.Ambiguous.{EndGroup}
-use Rattle.trace_report.specs.Inside.{led}
-use Rattle.event_match.proofs.Sorting.{rank, sorted_one}
-use Rattle.trace_report.proofs.ambiguous.sort_keys.Goals as goal
+use Rattle.traces.specs.declared.event_id.EventId.{EventId}
+use Rattle.report.specs.declared.ambiguous.Ambiguous.{Ambiguous}
+use Rattle.msg_match.specs.Ambiguous.{EndGroup}
+use Rattle.report.specs.Inside.{led}
+use Rattle.msg_match.proofs.Sorting.{rank, sorted_one}
+use Rattle.report.proofs.ambiguous.sort_keys.Goals as goal
 
 pub returns-clause-sorted : goal.returns-clause-sorted
 returns-clause-sorted c = λ in_order rising moved.

@@ -3,10 +3,10 @@ use Rattle.std.specs.List.Sorted.{IsPermutation}
 use Rattle.std.proofs.lemmas.Fn.{always_returns_same}
 use Rattle.std.proofs.lemmas.List.{length-map}
 use Rattle.std.proofs.lemmas.List.Sorted.{IsPermutation-trans, length_permutation}
-use Rattle.event_match.specs.Ends.{name_at}
-use Rattle.trace_report.specs.Inside.{ids_in}
-use Rattle.event_match.proofs.Sorting.{rank, sorted_names_one}
-use Rattle.trace_report.proofs.ambiguous.sorted_names.Goals as goal
+use Rattle.msg_match.specs.Ends.{name_at}
+use Rattle.report.specs.Inside.{ids_in}
+use Rattle.msg_match.proofs.Sorting.{rank, sorted_names_one}
+use Rattle.report.proofs.ambiguous.sorted_names.Goals as goal
 
 pub returns-clause-names : goal.returns-clause-names
 returns-clause-names c = λ in_order rising moved.

@@ -1,7 +1,7 @@
 use Rattle.std.proofs.Common.{◌≡◌, map, take}
-use Rattle.event_match.specs.Ends.{name_at}
-use Rattle.trace_report.specs.Inside.{ids_in}
-use Rattle.trace_report.proofs.ambiguous.sorted_names.Given as goal
+use Rattle.msg_match.specs.Ends.{name_at}
+use Rattle.report.specs.Inside.{ids_in}
+use Rattle.report.proofs.ambiguous.sorted_names.Given as goal
 
 -- the names of the numbers so far
 abbrev pub invariant-loop-number : goal.invariant-loop-number

@@ -1,8 +1,8 @@
 use Rattle.std.proofs.Common.{◌≡◌, ◌<◌, ℕ, map, get_or, ap, sym, subst, ◌∙◌}
 use Rattle.std.proofs.lemmas.List.{get_or-map, length-map}
 use Rattle.decl.specs.Declaration.{declaration_of}
-use Rattle.trace_report.specs.Inside.{HasLabels, seen_ambiguous}
-use Rattle.trace_report.proofs.naming.named_keys.Goals as goal
+use Rattle.report.specs.Inside.{HasLabels, seen_ambiguous}
+use Rattle.report.proofs.key_names.named_keys.Goals as goal
 
 pub named-requires-clause-labels : goal.named-requires-clause-labels
 named-requires-clause-labels c =

@@ -1,7 +1,7 @@
 use Rattle.std.proofs.Common.{◌/◌, ◌^◌}
-use Rattle.trace_report.specs.KeyTexts.{quad}
-use Rattle.trace_report.proofs.Joined.{four_joined}
-use Rattle.trace_report.proofs.spelling.push_four_groups.Goals as goal
+use Rattle.report.specs.KeyTexts.{quad}
+use Rattle.report.proofs.Joined.{four_joined}
+use Rattle.report.proofs.key_parts.push_four_groups.Goals as goal
 
 pub returns : goal.returns
 returns c =

@@ -1,8 +1,8 @@
 use Rattle.std.proofs.Common.{◌≡◌, ◌++◌, ◌∙◌, ap, ℕ, rules}
 use Rattle.atto.specs.Decimal.{decimal_of}
-use Rattle.trace_report.specs.KeyTexts.{groups}
-use Rattle.trace_report.proofs.Joined.{endpoint_joined}
-use Rattle.trace_report.proofs.spelling.push_wide_endpoint.Goals as goal
+use Rattle.report.specs.KeyTexts.{groups}
+use Rattle.report.proofs.Joined.{endpoint_joined}
+use Rattle.report.proofs.key_parts.push_wide_endpoint.Goals as goal
 
 pub returns : goal.returns
 returns c =

@@ -1,7 +1,7 @@
 use Rattle.std.proofs.Common.{◌+◌, cond, Bool, ap, sym, ◌∙◌}
-use Rattle.trace_report.proofs.Counted.{one_more}
-use Rattle.trace_report.proofs.counting.count_under.Goals.{then-lacks_key, else-lacks_key}
-use Rattle.trace_report.proofs.counting.count_under.Goals as goal
+use Rattle.report.proofs.Counted.{one_more}
+use Rattle.report.proofs.nokey_counts.count_under.Goals.{then-lacks_key, else-lacks_key}
+use Rattle.report.proofs.nokey_counts.count_under.Goals as goal
 
 pub loop-event-preserved : goal.loop-event-preserved
 loop-event-preserved c =

@@ -1,13 +1,13 @@
 use Rattle.std.proofs.Common.{◌≡◌, ◌≤◌, ◌^◌, List, length, ap, sym, subst, ◌∙◌, arith, take, take_all}
 use Rattle.std.specs.Prelude.{sum_by}
 use Rattle.std.proofs.lemmas.List.{length-map}
-use Rattle.trace_event.specs.declared.event.Event.{Event}
-use Rattle.trace_event.specs.Seen.{Seen, seen_events}
+use Rattle.traces.specs.declared.event.Event.{Event}
+use Rattle.traces.specs.Seen.{Seen, seen_events}
 use Rattle.traces.specs.declared.accepted.Accepted.{Accepted}
 use Rattle.traces.specs.Held.{seen_in}
-use Rattle.trace_report.specs.Inside.{lacking}
-use Rattle.trace_report.proofs.Counted.{all_lacking, count_fits, few_under, label_more}
-use Rattle.trace_report.proofs.counting.count_without.Goals as goal
+use Rattle.report.specs.Inside.{lacking}
+use Rattle.report.proofs.Counted.{all_lacking, count_fits, few_under, label_more}
+use Rattle.report.proofs.nokey_counts.count_without.Goals as goal
 
 pub count_under-count-requires : goal.count_under-count-requires
 count_under-count-requires c =

@@ -1,8 +1,8 @@
 use Rattle.std.proofs.Common.{◌≡◌, take}
 use Rattle.std.specs.Prelude.{sum_by}
 use Rattle.traces.specs.Held.{seen_in}
-use Rattle.trace_report.specs.Inside.{lacking}
-use Rattle.trace_report.proofs.counting.count_without.Given as goal
+use Rattle.report.specs.Inside.{lacking}
+use Rattle.report.proofs.nokey_counts.count_without.Given as goal
 
 -- the count of the labels so far
 abbrev pub invariant-loop-under : goal.invariant-loop-under

@@ -1,8 +1,8 @@
 use Rattle.std.proofs.Common.{◌++◌, ◌∷◌, [], ◌∙◌, ap, ℕ, List}
 use Rattle.std.specs.Prelude.{codes}
-use Rattle.trace_report.specs.KeyTexts.{payload_word}
-use Rattle.line_words.proofs.Composing.{two_more, words_more}
-use Rattle.trace_report.proofs.texts.push_bytes.Goals as goal
+use Rattle.report.specs.KeyTexts.{payload_word}
+use Rattle.ports.proofs.Composing.{two_more, words_more}
+use Rattle.report.proofs.texts.push_bytes.Goals as goal
 
 pub returns-clause-text : goal.returns-clause-text
 returns-clause-text c = λ first ws is.

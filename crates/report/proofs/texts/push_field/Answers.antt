@@ -1,7 +1,7 @@
 use Rattle.std.proofs.Common.{◌++◌, ◌∷◌, [], ◌∙◌, ap, ℕ, List}
 use Rattle.atto.specs.Decimal.{decimal_of}
-use Rattle.line_words.proofs.Composing.{two_more, words_more}
-use Rattle.trace_report.proofs.texts.push_field.Goals as goal
+use Rattle.ports.proofs.Composing.{two_more, words_more}
+use Rattle.report.proofs.texts.push_field.Goals as goal
 
 pub returns : goal.returns
 returns c = λ first ws is.

@@ -3,10 +3,10 @@ use Rattle.std.specs.Prelude.{codes}
 use Rattle.std.specs.Str.{IsAscii}
 use Rattle.atto.specs.Decimal.{decimal_of}
 use Rattle.ip_headers.specs.Keys.{fields_of}
-use Rattle.trace_report.specs.KeyTexts.{endpoint, payload_word}
-use Rattle.trace_report.proofs.Composing.{tcp_is}
-use Rattle.trace_report.proofs.Ascii.{ascii_tcp}
-use Rattle.trace_report.proofs.texts.tcp_text.Goals as goal
+use Rattle.report.specs.KeyTexts.{endpoint, payload_word}
+use Rattle.report.proofs.Composing.{tcp_is}
+use Rattle.report.proofs.AsciiKeys.{ascii_tcp}
+use Rattle.report.proofs.texts.tcp_text.Goals as goal
 
 pub returns-clause-text : goal.returns-clause-text
 returns-clause-text c =

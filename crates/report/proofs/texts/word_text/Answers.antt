@@ -2,8 +2,8 @@ use Rattle.std.proofs.Common.{◌∷◌, [], ◌∙◌, sym, subst, ap, ℕ, Lis
 use Rattle.std.specs.Prelude.{codes}
 use Rattle.std.specs.Str.{IsAscii}
 use Rattle.line_format.specs.Words.{words}
-use Rattle.trace_report.proofs.Ascii.{ascii_log}
-use Rattle.trace_report.proofs.texts.word_text.Goals as goal
+use Rattle.report.proofs.AsciiKeys.{ascii_log}
+use Rattle.report.proofs.texts.word_text.Goals as goal
 
 pub returns-clause-text : goal.returns-clause-text
 returns-clause-text c =

@@ -1,20 +1,20 @@
 use Rattle.std.proofs.Common.{◌≡◌, List, All, map, ap, sym, subst, ◌∙◌}
 use Rattle.std.proofs.lemmas.List.{length-map}
 use Rattle.decl.specs.Declaration.{declaration_of}
-use Rattle.trace_event.specs.Seen.{seen_events}
+use Rattle.traces.specs.Seen.{seen_events}
 use Rattle.traces.specs.declared.accepted.Accepted.{Accepted}
 use Rattle.traces.specs.Traces.{events_of}
 use Rattle.traces.specs.Held.{seen_in}
 use Rattle.msg_match.specs.declared.change.Tallies.{Tallies}
 use Rattle.report.specs.Report.{reported_key}
-use Rattle.event_match.specs.Ends.{ends_of}
-use Rattle.event_match.specs.Ambiguous.{EndGroup, ambiguous_ends, tallies_of}
-use Rattle.trace_report.specs.Reports.{named_key}
-use Rattle.trace_report.specs.Inside.{HasLabels, ids_in, seen_ambiguous}
-use Rattle.trace_report.proofs.Ended.{counts_told, keys_labelled}
-use Rattle.trace_report.proofs.Matched.{messages_many}
-use Rattle.trace_report.proofs.Whole.{counted, made_is}
-use Rattle.trace_report.proofs.view.view_of.Goals as goal
+use Rattle.msg_match.specs.Ends.{ends_of}
+use Rattle.msg_match.specs.Ambiguous.{EndGroup, ambiguous_ends, tallies_of}
+use Rattle.report.specs.Reports.{named_key}
+use Rattle.report.specs.Inside.{HasLabels, ids_in, seen_ambiguous}
+use Rattle.report.proofs.Ended.{counts_told, keys_labelled}
+use Rattle.report.proofs.Matched.{messages_many}
+use Rattle.report.proofs.Whole.{counted, made_is}
+use Rattle.report.proofs.trace_view.view_of.Goals as goal
 
 pub keys_in_order-requires : goal.keys_in_order-requires
 keys_in_order-requires c = c.requires.ends.within

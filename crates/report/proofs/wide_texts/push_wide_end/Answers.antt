@@ -1,7 +1,7 @@
 use Rattle.std.proofs.Common.{◌++◌, ◌∙◌, ap, ℕ, List}
-use Rattle.trace_report.specs.KeyTexts.{wide_endpoint}
-use Rattle.line_words.proofs.Composing.{words_more}
-use Rattle.trace_report.proofs.wide_texts.push_wide_end.Goals as goal
+use Rattle.report.specs.KeyTexts.{wide_endpoint}
+use Rattle.ports.proofs.Composing.{words_more}
+use Rattle.report.proofs.wide_texts.push_wide_end.Goals as goal
 
 pub returns : goal.returns
 returns c = λ first ws is.

@@ -3,10 +3,10 @@ use Rattle.std.specs.Prelude.{codes}
 use Rattle.std.specs.Str.{IsAscii}
 use Rattle.atto.specs.Decimal.{decimal_of}
 use Rattle.wide_headers.specs.Keys.{fields_of}
-use Rattle.trace_report.specs.KeyTexts.{payload_word, wide_endpoint}
-use Rattle.trace_report.proofs.Composing.{wide_udp_is}
-use Rattle.trace_report.proofs.Ascii.{ascii_wide_udp}
-use Rattle.trace_report.proofs.wide_texts.wide_udp_text.Goals as goal
+use Rattle.report.specs.KeyTexts.{payload_word, wide_endpoint}
+use Rattle.report.proofs.Composing.{wide_udp_is}
+use Rattle.report.proofs.AsciiKeys.{ascii_wide_udp}
+use Rattle.report.proofs.wide_texts.wide_udp_text.Goals as goal
 
 pub returns-clause-text : goal.returns-clause-text
 returns-clause-text c =

@@ -1,7 +1,7 @@
 use Rattle.std.proofs.Common.{subst}
 use Rattle.problem_model.specs.Problem.{ProblemLists}
 use Rattle.problem.specs.Listing.{listing_of}
-use Rattle.solver.specs.Moved0.{IsSolutionBy}
+use Rattle.solver.specs.Solution.{IsSolutionBy}
 use Rattle.report_tests.proofs.merged_orders.merge.Goals as goal
 
 pub write_merge-requires-clause-solution : goal.write_merge-requires-clause-solution

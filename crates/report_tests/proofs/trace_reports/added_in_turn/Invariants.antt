@@ -1,5 +1,5 @@
 use Rattle.traces.specs.Held.{seen_in}
-use Rattle.plain_traces.specs.Added.{AreAdded}
+use Rattle.reference_traces.specs.Added.{AreAdded}
 use Rattle.report_tests.proofs.trace_reports.added_in_turn.Given as goal
 
 abbrev pub invariant-loop-label : goal.invariant-loop-label

@@ -1,6 +1,6 @@
 use Rattle.std.proofs.Common.{◌≡◌, ◌+◌, ◌++◌, ◌∷◌, [], ℕ, List, sym, ◌∙◌, ap, rules}
 use Rattle.roster.proofs.Pushing.{range_more}
-use Rattle.roster.proofs.growing.numbers_from.Goals as goal
+use Rattle.roster.proofs.arrivals.numbers_from.Goals as goal
 
 pub loop-k-preserved : goal.loop-k-preserved
 loop-k-preserved c =

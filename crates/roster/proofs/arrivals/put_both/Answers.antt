@@ -1,7 +1,7 @@
 use Rattle.std.proofs.Common.{◌≡◌, ◌<◌, ◌+◌, ℕ, List, length, take, set, ◌∙◌, ap, arith}
 use Rattle.roster.specs.Groups.{total, sizes_of, group_at, with_tail}
 use Rattle.roster.proofs.GroupTails.{tail_behind, tail_total, tail_taken}
-use Rattle.roster.proofs.growing.put_both.Goals as goal
+use Rattle.roster.proofs.arrivals.put_both.Goals as goal
 
 pub cut-requires-clause-few : goal.cut-requires-clause-few
 cut-requires-clause-few c =

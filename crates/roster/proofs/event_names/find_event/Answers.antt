@@ -3,7 +3,7 @@ use Rattle.std.proofs.lemmas.Option.{slice_get_within}
 use Rattle.decl.specs.Declaration.{declaration_of}
 use Rattle.roster.proofs.EventNames.{if_none, no_parts, no_label, found_in, found_none}
 use Rattle.roster.proofs.Labels.{label_there, label_nowhere}
-use Rattle.roster.proofs.naming.find_event.Goals as goal
+use Rattle.roster.proofs.event_names.find_event.Goals as goal
 
 pub label_at-requires : goal.label_at-requires
 label_at-requires c = c.requires.lawful.labels

@@ -1,6 +1,6 @@
 use Rattle.std.proofs.Common.{◌≡◌, ◌<◌, ◌-◌, ℕ, suc, zero, length, arith, refl}
 use Rattle.std.proofs.lemmas.Option.{slice_get-get_or}
-use Rattle.roster.proofs.naming.numbered.Goals as goal
+use Rattle.roster.proofs.event_names.numbered.Goals as goal
 
 some : (n : ℕ) → (n ≡ 0 → ⊥) → 0 < n
 some zero none = absurd (none refl)

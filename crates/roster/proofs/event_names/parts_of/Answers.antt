@@ -2,7 +2,7 @@ use Rattle.std.proofs.Common.{◌≢◌, ◌<◌, ◌^◌, ◌+◌, ◌∙◌, �
 use Rattle.std.proofs.lemmas.List.{take_rest}
 use Rattle.atto.specs.Decimal.{decimal_of}
 use Rattle.roster.proofs.EventNames.{without_sharp, without_number, no_number_spelled, if_none}
-use Rattle.roster.proofs.naming.parts_of.Goals as goal
+use Rattle.roster.proofs.event_names.parts_of.Goals as goal
 
 pub returns-in_err-sharp-clause-none : goal.returns-in_err-sharp-clause-none
 returns-in_err-sharp-clause-none c = if_none c.from_residual.result _ (without_sharp c.args.name.now c.in_err-sharp.ensures.none)

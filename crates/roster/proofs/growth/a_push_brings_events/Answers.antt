@@ -1,5 +1,5 @@
-use Rattle.growth.proofs.Rosters.{more_events}
-use Rattle.growth.proofs.laws.a_push_brings_events.Goals as goal
+use Rattle.roster.proofs.Rosters.{more_events}
+use Rattle.roster.proofs.growth.a_push_brings_events.Goals as goal
 
 pub returns : goal.returns
 returns c = more_events

@@ -1,5 +1,5 @@
-use Rattle.growth.proofs.Entry.{entered_now}
-use Rattle.growth.proofs.laws.an_event_enters.Goals as goal
+use Rattle.roster.proofs.Entry.{entered_now}
+use Rattle.roster.proofs.growth.an_event_enters.Goals as goal
 
 pub returns : goal.returns
 returns c = λ p entered v e below above earlier later messages g h chains at nearest own enters grown.

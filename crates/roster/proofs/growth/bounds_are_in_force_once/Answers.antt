@@ -1,5 +1,5 @@
-use Rattle.growth.proofs.Once.{taken_out, pushed_once, entered_once}
-use Rattle.growth.proofs.laws.bounds_are_in_force_once.Goals as goal
+use Rattle.roster.proofs.Once.{taken_out, pushed_once, entered_once}
+use Rattle.roster.proofs.growth.bounds_are_in_force_once.Goals as goal
 
 pub returns-clause-withdrawn : goal.returns-clause-withdrawn
 returns-clause-withdrawn c = λ messages numbers g h takes each. taken_out messages numbers g h takes each

@@ -1,5 +1,5 @@
-use Rattle.growth.proofs.Loop.{nothing_grown, grown_alike}
-use Rattle.growth.proofs.laws.growth_begins_with_nothing.Goals as goal
+use Rattle.roster.proofs.Loop.{nothing_grown, grown_alike}
+use Rattle.roster.proofs.growth.growth_begins_with_nothing.Goals as goal
 
 pub returns-clause-nothing : goal.returns-clause-nothing
 returns-clause-nothing c = nothing_grown

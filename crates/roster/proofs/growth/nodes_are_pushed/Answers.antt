@@ -1,5 +1,5 @@
-use Rattle.growth.proofs.Loop.{event_enters, both_enter}
-use Rattle.growth.proofs.laws.nodes_are_pushed.Goals as goal
+use Rattle.roster.proofs.Loop.{event_enters, both_enter}
+use Rattle.roster.proofs.growth.nodes_are_pushed.Goals as goal
 
 pub returns-clause-one : goal.returns-clause-one
 returns-clause-one c = event_enters

@@ -1,5 +1,5 @@
 use Rattle.std.proofs.Common.{map, take}
-use Rattle.trace_event.specs.declared.event.Event.{Event}
+use Rattle.traces.specs.declared.event.Event.{Event}
 use Rattle.roster.specs.Readings.{AreFresh}
 use Rattle.roster.proofs.readings.fresh_readings.Given as goal
 

@@ -1,7 +1,7 @@
 use Rattle.std.proofs.Common.{refl}
 use Rattle.std.specs.List.{slice_index_or}
 use Rattle.std.proofs.lemmas.Option.{slice_get-get_or}
-use Rattle.trace_event.specs.Seen.{seen_events}
+use Rattle.traces.specs.Seen.{seen_events}
 use Rattle.session.proofs.Extending.{in_err, grown_by, kept_by, size_fits}
 use Rattle.session.proofs.accepted.extend.Goals as goal
 

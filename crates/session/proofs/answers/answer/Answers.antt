@@ -1,19 +1,19 @@
 use Rattle.std.proofs.Common.{◌∙◌, length, refl, sym, ap, subst}
 use Rattle.ports.specs.Content.{WritesSuch}
 use Rattle.decl.specs.Declaration.{Declaration, IsDeclaration}
-use Rattle.merging.specs.Merged.{IsMergeText}
+use Rattle.replies.specs.Merged.{IsMergeText}
 use Rattle.queries.specs.Replies.{Replies}
 use Rattle.queries.specs.declared.stop.Stop.TheVariants as stops
 use Rattle.roster.specs.Roster.{listed}
-use Rattle.solver.specs.Moved0.{IsSolutionBy}
+use Rattle.solver.specs.Solution.{IsSolutionBy}
 use Rattle.traces.specs.Held.{seen_in}
 use Rattle.traces.specs.Messages.{problem_of_seen}
-use Rattle.ready_answers.specs.Ready.{problem_by}
+use Rattle.session_answers.specs.Ready.{problem_by}
 use Rattle.session.proofs.Telling.{reply_such, reply_text}
-use Rattle.ready_answers.proofs.AskedRows.{answers_left}
-use Rattle.ready_answers.proofs.Engines.{spare_free, told}
+use Rattle.session_answers.proofs.AskedRows.{answers_left}
+use Rattle.session_answers.proofs.Engines.{spare_free, told}
 use Rattle.session.proofs.Replying.{interval_answered, order_answered, proof_answered, source_keeps, time_answered, merge_answered, report_answered, problem_answered}
-use Rattle.session.proofs.answering.answer.Goals as goal
+use Rattle.session.proofs.answers.answer.Goals as goal
 
 pub ask_interval-requires-clause-solution : goal.ask_interval-requires-clause-solution
 ask_interval-requires-clause-solution g c = (problem_by c.args.answers.now (seen_in c.args.accepted.now), c.requires.ready.1.graph.solution)

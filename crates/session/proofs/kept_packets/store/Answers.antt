@@ -1,6 +1,6 @@
 use Rattle.std.proofs.Common.{refl}
 use Rattle.session.proofs.BroughtPackets.{stored_then}
-use Rattle.session.proofs.taking.store.Goals as goal
+use Rattle.session.proofs.kept_packets.store.Goals as goal
 
 pub loop-packet-preserved : goal.loop-packet-preserved
 loop-packet-preserved c =

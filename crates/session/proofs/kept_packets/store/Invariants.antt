@@ -2,7 +2,7 @@ use Rattle.std.proofs.Common.{◌≡◌, ◌+◌, ◌++◌, length}
 use Rattle.mergecap.specs.Packets.{all_timed}
 use Rattle.captures.specs.Feeding.{seen_packets}
 use Rattle.session.specs.Taken.{packets_from}
-use Rattle.session.proofs.taking.store.Given as goal
+use Rattle.session.proofs.kept_packets.store.Given as goal
 
 -- as many are numbered as were taken, and they stand behind those before
 abbrev pub invariant-loop-packet : goal.invariant-loop-packet

@@ -6,7 +6,7 @@ use Rattle.roster.specs.Roster.{IsUnder}
 use Rattle.session.specs.Settled.{event_of, valued}
 use Rattle.std.proofs.lemmas.List.{length-map}
 use Rattle.session.proofs.Settles.{settle_next, settle_step, settle_done}
-use Rattle.session.proofs.settling.settle_each.Goals as goal
+use Rattle.session.proofs.packet_times.settle_each.Goals as goal
 
 pub loop-stored-init : goal.loop-stored-init
 loop-stored-init c = refl

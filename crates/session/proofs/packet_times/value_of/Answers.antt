@@ -3,10 +3,10 @@ use Rattle.std.proofs.lemmas.Int.{to_z-of_z}
 use mir.Syntax.{w128}
 use mir.Val.{SFits}
 use Rattle.std.proofs.lemmas.Option.{slice_get_within}
-use Rattle.difference_bounds.specs.Executions.{at}
+use Rattle.problem_model.specs.Executions.{at}
 use Rattle.problem_model.specs.declared.items.Node.TheVariants as nodes
 use Rattle.session.proofs.Settles.{number_inside, node_found}
-use Rattle.session.proofs.settling.value_of.Goals as goal
+use Rattle.session.proofs.packet_times.value_of.Goals as goal
 
 pub event-came-requires : goal.event-came-requires
 event-came-requires c = number_inside c.args.names.now c.decl.ensures.lawful c.args.event c.number_of.result c.number_of.ensures

@@ -4,12 +4,12 @@ use Rattle.pcap_stream.proofs.Collecting.{all_few, all_kept}
 use Rattle.captures.specs.Capture as captures
 use Rattle.captures.specs.Feeding.{seen_packets}
 use Rattle.decl.specs.Declaration.{declaration_of}
-use Rattle.trace_event.specs.Seen.{event_of_packet, seen_event, seen_events}
+use Rattle.traces.specs.Seen.{event_of_packet, seen_event, seen_events}
 use Rattle.traces.specs.declared.accepted.Stream.TheVariants as streams
 use Rattle.replies.specs.Refusals.{capture_refusal}
 use Rattle.session.specs.Pieces.{IsFed}
 use Rattle.replies.proofs.OneReply.{capture_not_memory}
-use Rattle.session.proofs.reading.read_capture.Goals as goal
+use Rattle.session.proofs.pieces.read_capture.Goals as goal
 
 pub returns-then-completed-clause-read : goal.returns-then-completed-clause-read
 returns-then-completed-clause-read c =

@@ -1,9 +1,9 @@
 use Rattle.std.proofs.Common.{◌≡◌, ◌∙◌, ◌≤◌, Some, length, map, refl, ap, arith, rules}
 use Rattle.std.proofs.lemmas.List.{length-map, take_all}
-use Rattle.trace_event.specs.Seen.{seen_event, seen_events, seen_row}
+use Rattle.traces.specs.Seen.{seen_event, seen_events, seen_row}
 use Rattle.traces.specs.declared.accepted.Stream.TheVariants as streams
 use Rattle.replies.specs.Refusals.{log_refusal}
-use Rattle.session.proofs.reading.read_log.Goals as goal
+use Rattle.session.proofs.pieces.read_log.Goals as goal
 
 pub returns-then-rows-room-clause-read : goal.returns-then-rows-room-clause-read
 returns-then-rows-room-clause-read c = λ d host.

@@ -6,7 +6,7 @@ use Rattle.traces.specs.Messages.{problem_of_seen}
 use Rattle.ports.proofs.Writing.{such_of}
 use Rattle.replies.specs.Reply.{IsReport}
 use Rattle.session.proofs.Telling.{never_memory}
-use Rattle.session.proofs.reporting.write_report.Goals as goal
+use Rattle.session.proofs.reports.write_report.Goals as goal
 
 pub returns-clause-writes : goal.returns-clause-writes
 returns-clause-writes g c =

@@ -2,17 +2,17 @@ use Rattle.std.proofs.Common.{◌≡◌, ℕ, List, Err, ap, sym, subst, rules}
 use Rattle.std.specs.Prelude.{IfErr}
 use Rattle.ports.specs.Content.{Appends, AppendsPrefix, SinkTold}
 use Rattle.ports.specs.Files.{FilesTold}
-use Rattle.line_reader.specs.Lines.{most_taken}
+use Rattle.ports.specs.Lines.{most_taken}
 use Rattle.queries.specs.declared.stop.Stop.{Stop}
 use Rattle.session.specs.Stands.{Held, Stepped}
-use Rattle.script.specs.declared.ended.Ended.{Ended}
-use Rattle.script.specs.Script.{Devices, devices}
-use Rattle.script.specs.Stopping.{ended_of}
-use Rattle.script.specs.Turns.{TakesOff, HasNoReply}
-use Rattle.script.proofs.Replies.{long_stepped}
-use Rattle.script.proofs.Places.{within_most}
-use Rattle.script.proofs.Endings.{stopped, other_stop, handed_on}
-use Rattle.script.proofs.script.answer_line.Goals as goal
+use Rattle.session.specs.declared.ended.Ended.{Ended}
+use Rattle.session.specs.Script.{Devices, devices}
+use Rattle.session.specs.Stopping.{ended_of}
+use Rattle.session.specs.Turns.{TakesOff, HasNoReply}
+use Rattle.session.proofs.Replies.{long_stepped}
+use Rattle.session.proofs.Places.{within_most}
+use Rattle.session.proofs.Endings.{stopped, other_stop, handed_on}
+use Rattle.session.proofs.script.answer_line.Goals as goal
 
 pub returns-in_ok-step-in-Ok-Text-clause-ok : goal.returns-in_ok-step-in-Ok-Text-clause-ok
 returns-in_ok-step-in-Ok-Text-clause-ok g c =

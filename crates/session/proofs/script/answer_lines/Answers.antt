@@ -1,10 +1,10 @@
 use Rattle.std.proofs.Common.{arith, ap}
-use Rattle.line_reader.specs.Reader.{Reader}
-use Rattle.script.specs.Script.{Devices, devices}
-use Rattle.script.proofs.Moved3.{keeps_none, keeps_then}
-use Rattle.script.proofs.Places.{at_start, at_more, of_script, of_told}
-use Rattle.script.proofs.Endings.{ends_so}
-use Rattle.script.proofs.script.answer_lines.Goals as goal
+use Rattle.ports.specs.Reader.{Reader}
+use Rattle.session.specs.Script.{Devices, devices}
+use Rattle.ports.proofs.Keeping.{keeps_none, keeps_then}
+use Rattle.session.proofs.Places.{at_start, at_more, of_script, of_told}
+use Rattle.session.proofs.Endings.{ends_so}
+use Rattle.session.proofs.script.answer_lines.Goals as goal
 
 pub loop-ended-init : goal.loop-ended-init
 loop-ended-init g c = record {

@@ -1,12 +1,12 @@
 use Rattle.std.proofs.Common.{◌≡◌, ◌≤◌, false}
 use Rattle.ports.specs.Files.{Keeps}
 use Rattle.decl.specs.Declaration.{Declaration}
-use Rattle.line_reader.specs.Reader.{room}
+use Rattle.ports.specs.Reader.{room}
 use Rattle.replies.specs.Sessions.{start}
 use Rattle.session.specs.Stands.{StandsFor, IsReady}
-use Rattle.script.specs.Script.{Devices, devices, OfScript}
-use Rattle.script.proofs.Places.{IsAt}
-use Rattle.script.proofs.script.answer_lines.Given as goal
+use Rattle.session.specs.Script.{Devices, devices, OfScript}
+use Rattle.session.proofs.Places.{IsAt}
+use Rattle.session.proofs.script.answer_lines.Given as goal
 
 abbrev pub invariant-loop-ended : goal.invariant-loop-ended
 invariant-loop-ended g l =

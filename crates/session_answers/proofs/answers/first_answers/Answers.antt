@@ -1,9 +1,9 @@
 use Rattle.std.proofs.Common.{◌∙◌, ℕ, refl, ap}
 use Rattle.row_pool.specs.Pool.{grown}
 use Rattle.repair.specs.Slots.{KeptRows}
-use Rattle.ready_answers.proofs.Engines.{kept_stays}
-use Rattle.ready_answers.proofs.Beginning.{first_stands}
-use Rattle.ready_answers.proofs.answers.first_answers.Goals as goal
+use Rattle.session_answers.proofs.Engines.{kept_stays}
+use Rattle.session_answers.proofs.Beginning.{first_stands}
+use Rattle.session_answers.proofs.answers.first_answers.Goals as goal
 
 pub reserve-requires-clause-current : goal.reserve-requires-clause-current
 reserve-requires-clause-current c = c.in_ok-graph.ensures.kept.solution.current

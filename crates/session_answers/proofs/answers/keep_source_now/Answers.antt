@@ -2,11 +2,11 @@ use Rattle.std.proofs.Common.{◌≡◌, ◌∙◌, ◌<◌, ℕ, Bool, Option, 
 use Rattle.std.specs.Prelude.{IfSome, IsTrue}
 use Rattle.decl.specs.Declaration.{Declaration, IsSource}
 use Rattle.roster.specs.Roster.{listed}
-use Rattle.ready_answers.specs.Ready.{KeepsSource, problem_by}
-use Rattle.ready_answers.specs.Keeping.{clock_at}
-use Rattle.ready_answers.proofs.Engines.{source_inside, spare_source}
-use Rattle.ready_answers.proofs.Entering.{some_of, known_source, other_source, no_source_slot, looked_for}
-use Rattle.ready_answers.proofs.answers.keep_source_now.Goals as goal
+use Rattle.session_answers.specs.Ready.{KeepsSource, problem_by}
+use Rattle.session_answers.specs.Keeping.{clock_at}
+use Rattle.session_answers.proofs.Engines.{source_inside, spare_source}
+use Rattle.session_answers.proofs.Entering.{some_of, known_source, other_source, no_source_slot, looked_for}
+use Rattle.session_answers.proofs.answers.keep_source_now.Goals as goal
 
 pub returns-then-is_some-clause-ready : goal.returns-then-is_some-clause-ready
 returns-then-is_some-clause-ready g c = λ seen kept are.

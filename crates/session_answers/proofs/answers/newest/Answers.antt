@@ -1,9 +1,9 @@
 use Rattle.std.proofs.Common.{◌≡◌, ◌≤◌, ◌-◌, ◌∙◌, List, length, drop, ap, rules, arith}
 use Rattle.std.proofs.lemmas.List.{take_rest}
-use Rattle.trace_event.specs.Seen.{seen_events}
-use Rattle.trace_event.specs.declared.event.Event.{Event}
-use Rattle.ready_answers.proofs.Entering.{last_seen}
-use Rattle.ready_answers.proofs.answers.newest.Goals as goal
+use Rattle.traces.specs.Seen.{seen_events}
+use Rattle.traces.specs.declared.event.Event.{Event}
+use Rattle.session_answers.proofs.Entering.{last_seen}
+use Rattle.session_answers.proofs.answers.newest.Goals as goal
 
 pub returns-clause-events : goal.returns-clause-events
 returns-clause-events c = λ old events are many.

@@ -1,14 +1,14 @@
 use Rattle.std.proofs.Common.{◌≡◌, ◌∙◌, ◌<◌, List, length, refl, sym, ap, subst}
 use Rattle.decl.specs.Declaration.{Declaration}
-use Rattle.trace_event.specs.Seen.{Seen, seen_events}
+use Rattle.traces.specs.Seen.{Seen, seen_events}
 use Rattle.traces.specs.Held.{seen_in}
 use Rattle.roster.specs.Roster.{RosterLists, listed}
-use Rattle.event_match.specs.Ends.{IsChange}
-use Rattle.ready_answers.specs.declared.answers.Answers.{Answers}
-use Rattle.ready_answers.specs.Ready.{problem_by}
-use Rattle.ready_answers.proofs.Renewing.{addition_is, all_then, but_source, nothing_of, source_idle}
-use Rattle.ready_answers.proofs.Entering.{accepted_at, enough, few_came, label_inside}
-use Rattle.ready_answers.proofs.answers.renew.Goals as goal
+use Rattle.msg_match.specs.Ends.{IsChange}
+use Rattle.session_answers.specs.declared.answers.Answers.{Answers}
+use Rattle.session_answers.specs.Ready.{problem_by}
+use Rattle.session_answers.proofs.Renewing.{addition_is, all_then, but_source, nothing_of, source_idle}
+use Rattle.session_answers.proofs.Entering.{accepted_at, enough, few_came, label_inside}
+use Rattle.session_answers.proofs.answers.renew.Goals as goal
 
 pub newest-events-requires : goal.newest-events-requires
 newest-events-requires g c =

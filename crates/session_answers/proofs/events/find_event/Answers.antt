@@ -1,5 +1,5 @@
-use Rattle.ready_answers.proofs.RosterEvents.{found_inside, called_here}
-use Rattle.ready_answers.proofs.events.find_event.Goals as goal
+use Rattle.session_answers.proofs.RosterEvents.{found_inside, called_here}
+use Rattle.session_answers.proofs.events.find_event.Goals as goal
 
 pub event-came-requires : goal.event-came-requires
 event-came-requires c = found_inside c.args.names.now c.decl.ensures.lawful c.args.name.now c.in-Some.number c.in-Some.ensures

@@ -1,10 +1,10 @@
 use Rattle.std.proofs.lemmas.Result.{IfOk-weaker}
 use Rattle.replies.specs.Outcomes.{outcome_line}
 use Rattle.replies.specs.Reply.{KeepReply}
-use Rattle.ready_answers.specs.Ready.{problem_by}
-use Rattle.ready_answers.proofs.KeptNext.{kept_again, kept_now, kept_either, ready_after, unknown_kept}
-use Rattle.ready_answers.proofs.RosterEvents.{node_inside}
-use Rattle.ready_answers.proofs.keeping.keep_event.Goals as goal
+use Rattle.session_answers.specs.Ready.{problem_by}
+use Rattle.session_answers.proofs.KeptNext.{kept_again, kept_now, kept_either, ready_after, unknown_kept}
+use Rattle.session_answers.proofs.RosterEvents.{node_inside}
+use Rattle.session_answers.proofs.kept_events.keep_event.Goals as goal
 
 pub keep_new-requires-clause-current : goal.keep_new-requires-clause-current
 keep_new-requires-clause-current g c = c.requires.ready.2.graph.solution.current

@@ -1,8 +1,8 @@
 use Rattle.std.proofs.Common.{inr, refl}
 use Rattle.ports.specs.Content.{Writes}
 use Rattle.queries.specs.Replies.{IsIntervalLine}
-use Rattle.ready_answers.proofs.AskedRows.{two_nodes, two_replied, either_unknown, leaves_all, pair_at_hand}
-use Rattle.ready_answers.proofs.questions.ask_interval.Goals as goal
+use Rattle.session_answers.proofs.AskedRows.{two_nodes, two_replied, either_unknown, leaves_all, pair_at_hand}
+use Rattle.session_answers.proofs.questions.ask_interval.Goals as goal
 
 pub write_interval-requires-clause-solution : goal.write_interval-requires-clause-solution
 write_interval-requires-clause-solution g c = c.requires.solution

@@ -1,8 +1,8 @@
 use Rattle.std.proofs.Common.{inr, refl}
 use Rattle.ports.specs.Content.{Writes}
 use Rattle.queries.specs.Replies.{IsOrderLine}
-use Rattle.ready_answers.proofs.AskedRows.{two_nodes, two_replied, either_unknown, leaves_all, pair_at_hand}
-use Rattle.ready_answers.proofs.questions.ask_order.Goals as goal
+use Rattle.session_answers.proofs.AskedRows.{two_nodes, two_replied, either_unknown, leaves_all, pair_at_hand}
+use Rattle.session_answers.proofs.questions.ask_order.Goals as goal
 
 pub write_order-requires-clause-solution : goal.write_order-requires-clause-solution
 write_order-requires-clause-solution g c = c.requires.solution

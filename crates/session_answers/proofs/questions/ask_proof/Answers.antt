@@ -1,8 +1,8 @@
 use Rattle.std.proofs.Common.{inr, refl}
 use Rattle.ports.specs.Content.{Writes}
 use Rattle.queries.specs.Replies.{IsProofText}
-use Rattle.ready_answers.proofs.AskedRows.{two_nodes, two_replied, either_unknown, leaves_all, at_hand}
-use Rattle.ready_answers.proofs.questions.ask_proof.Goals as goal
+use Rattle.session_answers.proofs.AskedRows.{two_nodes, two_replied, either_unknown, leaves_all, at_hand}
+use Rattle.session_answers.proofs.questions.ask_proof.Goals as goal
 
 pub write_proof-requires-clause-solution : goal.write_proof-requires-clause-solution
 write_proof-requires-clause-solution g c = c.requires.solution

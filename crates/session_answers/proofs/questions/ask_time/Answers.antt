@@ -1,8 +1,8 @@
 use Rattle.std.proofs.Common.{inr, refl}
 use Rattle.ports.specs.Content.{Writes}
 use Rattle.roster.specs.Roster.{listed}
-use Rattle.ready_answers.proofs.AskedRows.{event_called, none_called, source_known, time_known, time_refused}
-use Rattle.ready_answers.proofs.questions.ask_time.Goals as goal
+use Rattle.session_answers.proofs.AskedRows.{event_called, none_called, source_known, time_known, time_refused}
+use Rattle.session_answers.proofs.questions.ask_time.Goals as goal
 
 pub write_time-requires-clause-solution : goal.write_time-requires-clause-solution
 write_time-requires-clause-solution g c = (c.requires.0, c.requires.1)

@@ -1,6 +1,6 @@
 use Rattle.roster.proofs.EventNames.{if_none}
-use Rattle.ready_answers.proofs.Engines.{clock_listed, listed_clock}
-use Rattle.ready_answers.proofs.slots.first_reading.Goals as goal
+use Rattle.session_answers.proofs.Engines.{clock_listed, listed_clock}
+use Rattle.session_answers.proofs.slots.first_reading.Goals as goal
 
 pub returns-in_err-stamp-clause-none : goal.returns-in_err-stamp-clause-none
 returns-in_err-stamp-clause-none c = if_none c.from_residual.result _ (λ stamp node at. c.in_err-stamp.ensures stamp (listed_clock c.args.roster.now c.args.clock stamp node at))

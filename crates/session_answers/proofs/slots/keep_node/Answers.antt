@@ -1,7 +1,7 @@
 use Rattle.std.proofs.Common.{ap}
 use Rattle.repair.specs.Slots.{KeptRows}
-use Rattle.ready_answers.proofs.Engines.{not_refused}
-use Rattle.ready_answers.proofs.slots.keep_node.Goals as goal
+use Rattle.session_answers.proofs.Engines.{not_refused}
+use Rattle.session_answers.proofs.slots.keep_node.Goals as goal
 
 pub returns-clause-slot : goal.returns-clause-slot
 returns-clause-slot g c =

@@ -1,8 +1,8 @@
 use Rattle.std.proofs.Common.{inl, inr, refl, ap}
 use Rattle.repair.specs.Slots.{KeptRows}
 use Rattle.problem.proofs.OwnReadings.{own_readings}
-use Rattle.ready_answers.proofs.Engines.{reading_within, reading_listed}
-use Rattle.ready_answers.proofs.slots.keep_reading.Goals as goal
+use Rattle.session_answers.proofs.Engines.{reading_within, reading_listed}
+use Rattle.session_answers.proofs.slots.keep_reading.Goals as goal
 
 pub keep_source-requires-clause-current : goal.keep_source-requires-clause-current
 keep_source-requires-clause-current g c = c.requires.solution.1.current

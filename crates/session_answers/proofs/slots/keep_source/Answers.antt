@@ -1,5 +1,5 @@
 use Rattle.std.proofs.Common.{inr, refl}
-use Rattle.ready_answers.proofs.slots.keep_source.Goals as goal
+use Rattle.session_answers.proofs.slots.keep_source.Goals as goal
 
 pub returns-in-None-clause-source : goal.returns-in-None-clause-source
 returns-in-None-clause-source g c = λ p is. rw c.in-None.is (refl, c.requires.none)

@@ -5,18 +5,18 @@ use Rattle.std.proofs.lemmas.Option.{same_Some}
 use Rattle.problem_model.specs.declared.items.Message.{Message}
 use Rattle.problem_model.specs.declared.items.Node.{Node}
 use Rattle.problem_model.specs.declared.items.Node.TheVariants as nodes
-use Rattle.sync_graph.specs.Standing.{HasNode}
+use Rattle.problem_graph.specs.Standing.{HasNode}
 use Rattle.roster.proofs.Telling.{among}
-use Rattle.kept_graph.specs.declared.planning.Due.{Due}
-use Rattle.kept_graph.specs.Planning.{numbers_of, messages_in}
-use Rattle.engine.specs.Solver.{SolverLists}
-use Rattle.kept_graph.specs.Extending.{TakesFewToPush}
-use Rattle.kept_graph.specs.Coming.{HaveCome}
-use Rattle.kept_graph.proofs.Extending.{extends_itself, extends_then, few_then, few_without}
-use Rattle.kept_graph.proofs.InARow.{come_none, come_event, come_next, own_from, room_less, StandsAt, stands_as}
-use Rattle.kept_graph.proofs.Orders.{all_stand, drop_all, of_due}
-use Rattle.kept_graph.proofs.coming.come.Goals as goal
-use Rattle.kept_graph.proofs.coming.come.Goals.{then-is_message_next+in_ok-join, else-is_message_next+in_ok-hint}
+use Rattle.session_graph.specs.declared.plans.Due.{Due}
+use Rattle.session_graph.specs.Plans.{numbers_of, messages_in}
+use Rattle.solver.specs.Solver.{SolverLists}
+use Rattle.session_graph.specs.Extensions.{TakesFewToPush}
+use Rattle.session_graph.specs.Arrivals.{HaveCome}
+use Rattle.session_graph.proofs.Extending.{extends_itself, extends_then, few_then, few_without}
+use Rattle.session_graph.proofs.InARow.{come_none, come_event, come_next, own_from, room_less, StandsAt, stands_as}
+use Rattle.session_graph.proofs.Orders.{all_stand, drop_all, of_due}
+use Rattle.session_graph.proofs.arrivals.come.Goals as goal
+use Rattle.session_graph.proofs.arrivals.come.Goals.{then-is_message_next+in_ok-join, else-is_message_next+in_ok-hint}
 
 pub loop-k-init : goal.loop-k-init
 loop-k-init g c =

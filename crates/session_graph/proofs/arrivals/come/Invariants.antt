@@ -1,6 +1,6 @@
-use Rattle.kept_graph.specs.Extending.{TakesFewToPush}
-use Rattle.kept_graph.proofs.InARow.{StandsAt}
-use Rattle.kept_graph.proofs.coming.come.Given as goal
+use Rattle.session_graph.specs.Extensions.{TakesFewToPush}
+use Rattle.session_graph.proofs.InARow.{StandsAt}
+use Rattle.session_graph.proofs.arrivals.come.Given as goal
 
 -- the events before this turn have entered, and the messages from this place on have come
 abbrev pub invariant-loop-k : goal.invariant-loop-k

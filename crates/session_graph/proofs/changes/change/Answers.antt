@@ -1,17 +1,17 @@
 use Rattle.std.proofs.Common.{◌+◌, ◌*◌, ◌++◌, ℕ, List, length, ap, ◌∙◌, sym, subst, arith}
 use Rattle.sync_graph.specs.declared.arc.Arc.{Arc}
-use Rattle.engine.specs.Solver.{SolverLists}
-use Rattle.trace_event.specs.declared.event.Event.{Event}
-use Rattle.trace_event.specs.Seen.{Seen, seen_events}
-use Rattle.event_match.specs.Ends.{AreChanges, AreCouplesBelow}
+use Rattle.solver.specs.Solver.{SolverLists}
+use Rattle.traces.specs.declared.event.Event.{Event}
+use Rattle.traces.specs.Seen.{Seen, seen_events}
+use Rattle.msg_match.specs.Ends.{AreChanges, AreCouplesBelow}
 use Rattle.roster.specs.Groups.{with_more}
-use Rattle.kept_graph.specs.Kept.{IsKeptFor}
-use Rattle.kept_graph.specs.Numbering.{names_then}
-use Rattle.kept_graph.proofs.Bringing.{rows_then}
-use Rattle.kept_graph.proofs.Changed.{HaveAllCome, are_by_number, in_turn, in_queue, may_go, none_gone, added_there, may_come, all_come}
-use Rattle.kept_graph.proofs.FewSteps.{some_between, none_few, added_few}
-use Rattle.kept_graph.proofs.InARow.{room_less}
-use Rattle.kept_graph.proofs.changing.change.Goals as goal
+use Rattle.session_graph.specs.Kept.{IsKeptFor}
+use Rattle.session_graph.specs.Numbers.{names_then}
+use Rattle.session_graph.proofs.Bringing.{rows_then}
+use Rattle.session_graph.proofs.Changed.{HaveAllCome, are_by_number, in_turn, in_queue, may_go, none_gone, added_there, may_come, all_come}
+use Rattle.session_graph.proofs.FewSteps.{some_between, none_few, added_few}
+use Rattle.session_graph.proofs.InARow.{room_less}
+use Rattle.session_graph.proofs.changes.change.Goals as goal
 
 pub messages_of-requires : goal.messages_of-requires
 messages_of-requires g c =

@@ -2,7 +2,7 @@ use Rattle.std.proofs.Common.{◌<◌, length, refl, sym, subst}
 use Rattle.std.proofs.lemmas.Option.{slice_get_read}
 use Rattle.decl.specs.Declaration.{Declaration, IsDeclaration, declaration_of}
 use Rattle.roster.proofs.Pushing.{clock_inside}
-use Rattle.kept_graph.proofs.entering.clock_of.Goals as goal
+use Rattle.session_graph.proofs.entries.clock_of.Goals as goal
 
 pub returns-clause-inside : goal.returns-clause-inside
 returns-clause-inside c =

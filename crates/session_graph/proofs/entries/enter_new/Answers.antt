@@ -6,10 +6,10 @@ use Rattle.roster.specs.Groups.{group_at}
 use Rattle.roster.specs.Readings.{HasStamp}
 use Rattle.roster.specs.Roster.{RosterLists}
 use Rattle.roster.proofs.Beside.{group_inside}
-use Rattle.kept_graph.specs.Linking.{AreThere}
-use Rattle.kept_graph.proofs.Extending.{extends_then, extends_by_nodes, few_then, few_by_nodes}
-use Rattle.kept_graph.proofs.OneEvent.{own_shown, nodes_shown, reading_new, entered_event, entered_reading, entered_there, comes, stands, nodes_few, arcs_few}
-use Rattle.kept_graph.proofs.entering.enter_new.Goals as goal
+use Rattle.session_graph.specs.Links.{AreThere}
+use Rattle.session_graph.proofs.Extending.{extends_then, extends_by_nodes, few_then, few_by_nodes}
+use Rattle.session_graph.proofs.OneEvent.{own_shown, nodes_shown, reading_new, entered_event, entered_reading, entered_there, comes, stands, nodes_few, arcs_few}
+use Rattle.session_graph.proofs.entries.enter_new.Goals as goal
 
 pub clock_of-place-requires : goal.clock_of-place-requires
 clock_of-place-requires g c =

@@ -2,10 +2,10 @@ use Rattle.std.proofs.Common.{◌∷◌, [], List, arith}
 use Rattle.problem_model.specs.declared.items.Bound.{Bound}
 use Rattle.problem_model.specs.declared.items.Bound.TheVariants.{Late, Early}
 use Rattle.problem_model.specs.declared.items.Node.TheVariants as nodes
-use Rattle.kept_graph.specs.Linking.{links_of}
-use Rattle.kept_graph.proofs.Bringing.{brings_then, has_still, links_few}
-use Rattle.kept_graph.proofs.Extending.{few_then}
-use Rattle.kept_graph.proofs.entering.push_entry.Goals as goal
+use Rattle.session_graph.specs.Links.{links_of}
+use Rattle.session_graph.proofs.Bringing.{brings_then, has_still, links_few}
+use Rattle.session_graph.proofs.Extending.{few_then}
+use Rattle.session_graph.proofs.entries.push_entry.Goals as goal
 
 pub push_stamp-requires-clause-current : goal.push_stamp-requires-clause-current
 push_stamp-requires-clause-current g c = c.in_ok-push_links.ensures.brings.current

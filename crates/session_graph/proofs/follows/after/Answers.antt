@@ -1,6 +1,6 @@
 use Rattle.std.proofs.Common.{◌<◌, ◌+◌, length, arith}
-use Rattle.kept_graph.proofs.HostClocks.{next_there, on_begins, on_goes, on_found, on_ends}
-use Rattle.kept_graph.proofs.following.after.Goals as goal
+use Rattle.session_graph.proofs.HostClocks.{next_there, on_begins, on_goes, on_found, on_ends}
+use Rattle.session_graph.proofs.follows.after.Goals as goal
 
 pub loop-clock-init : goal.loop-clock-init
 loop-clock-init c = on_begins c.args.roster.now.declaration c.decl.ensures.lawful.declared c.args.solver.now.graph c.args.place c.requires.clock

@@ -1,6 +1,6 @@
 use Rattle.std.proofs.Common.{◌-◌, length}
-use Rattle.kept_graph.proofs.HostClocks.{GoesOn}
-use Rattle.kept_graph.proofs.following.after.Given as goal
+use Rattle.session_graph.proofs.HostClocks.{GoesOn}
+use Rattle.session_graph.proofs.follows.after.Given as goal
 
 abbrev pub invariant-loop-clock : goal.invariant-loop-clock
 invariant-loop-clock l = GoesOn l.roster.declaration l.solver.graph l.fn.place l.clock

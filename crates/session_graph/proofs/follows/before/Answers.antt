@@ -1,5 +1,5 @@
-use Rattle.kept_graph.proofs.HostClocks.{back_begins, back_goes, back_found, back_ends}
-use Rattle.kept_graph.proofs.following.before.Goals as goal
+use Rattle.session_graph.proofs.HostClocks.{back_begins, back_goes, back_found, back_ends}
+use Rattle.session_graph.proofs.follows.before.Goals as goal
 
 pub loop-clock-init : goal.loop-clock-init
 loop-clock-init c = back_begins c.args.roster.now.declaration c.decl.ensures.lawful.declared c.args.solver.now.graph c.args.place c.requires.clock

@@ -1,5 +1,5 @@
-use Rattle.kept_graph.proofs.HostClocks.{GoesBack}
-use Rattle.kept_graph.proofs.following.before.Given as goal
+use Rattle.session_graph.proofs.HostClocks.{GoesBack}
+use Rattle.session_graph.proofs.follows.before.Given as goal
 
 abbrev pub invariant-loop-clock : goal.invariant-loop-clock
 invariant-loop-clock l = GoesBack l.roster.declaration l.solver.graph l.fn.place l.clock

@@ -1,6 +1,6 @@
 use Rattle.std.proofs.Common.{ℕ, Option, sym, subst}
-use Rattle.growth.specs.Entering.{IsEarlierEnd}
-use Rattle.kept_graph.proofs.following.earlier.Goals as goal
+use Rattle.roster.specs.Entering.{IsEarlierEnd}
+use Rattle.session_graph.proofs.follows.earlier.Goals as goal
 
 pub returns-in-None-clause-new : goal.returns-in-None-clause-new
 returns-in-None-clause-new c = λ known p follows.

@@ -1,8 +1,8 @@
 use Rattle.std.proofs.Common.{ℕ, List, Option, refl, subst}
 use Rattle.roster.specs.Groups.{group_at}
 use Rattle.roster.specs.Readings.{Stamped}
-use Rattle.kept_graph.proofs.HostClocks.{ComesUp, up_begins, up_goes}
-use Rattle.kept_graph.proofs.following.first_of.Goals as goal
+use Rattle.session_graph.proofs.HostClocks.{ComesUp, up_begins, up_goes}
+use Rattle.session_graph.proofs.follows.first_of.Goals as goal
 
 pub loop-next-init : goal.loop-next-init
 loop-next-init c = up_begins (group_at c.args.roster.now.readings c.args.clock) c.args.solver.now.graph c.args.clock (c.requires.nodes c.args.clock) c.first_stamp-next.result c.first_stamp-next.ensures

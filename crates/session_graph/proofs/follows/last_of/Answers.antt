@@ -1,8 +1,8 @@
 use Rattle.std.proofs.Common.{ℕ, List, Option, refl, subst}
 use Rattle.roster.specs.Groups.{group_at}
 use Rattle.roster.specs.Readings.{Stamped}
-use Rattle.kept_graph.proofs.HostClocks.{ComesDown, down_begins, down_goes}
-use Rattle.kept_graph.proofs.following.last_of.Goals as goal
+use Rattle.session_graph.proofs.HostClocks.{ComesDown, down_begins, down_goes}
+use Rattle.session_graph.proofs.follows.last_of.Goals as goal
 
 pub loop-last-init : goal.loop-last-init
 loop-last-init c = down_begins (group_at c.args.roster.now.readings c.args.clock) c.args.solver.now.graph c.args.clock (c.requires.nodes c.args.clock) c.last_stamp-last.result c.last_stamp-last.ensures

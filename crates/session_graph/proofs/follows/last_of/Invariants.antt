@@ -1,7 +1,7 @@
 use Rattle.roster.specs.Groups.{group_at}
-use Rattle.kept_graph.proofs.Seeking.{left_below}
-use Rattle.kept_graph.proofs.HostClocks.{ComesDown}
-use Rattle.kept_graph.proofs.following.last_of.Given as goal
+use Rattle.session_graph.proofs.Seeking.{left_below}
+use Rattle.session_graph.proofs.HostClocks.{ComesDown}
+use Rattle.session_graph.proofs.follows.last_of.Given as goal
 
 abbrev pub invariant-loop-last : goal.invariant-loop-last
 invariant-loop-last l = ComesDown (group_at l.roster.readings l.clock) l.solver.graph l.clock l.last

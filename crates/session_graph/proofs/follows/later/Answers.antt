@@ -1,6 +1,6 @@
 use Rattle.std.proofs.Common.{ℕ, Option, sym, subst}
-use Rattle.growth.specs.Entering.{IsLaterEnd}
-use Rattle.kept_graph.proofs.following.later.Goals as goal
+use Rattle.roster.specs.Entering.{IsLaterEnd}
+use Rattle.session_graph.proofs.follows.later.Goals as goal
 
 pub returns-in-None-clause-new : goal.returns-in-None-clause-new
 returns-in-None-clause-new c = λ known p follows.

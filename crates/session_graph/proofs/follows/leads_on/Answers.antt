@@ -1,7 +1,7 @@
 use Rattle.std.proofs.Common.{ap, ◌∙◌, sym}
 use Rattle.decl.specs.Declaration.{Declaration, follow_from}
-use Rattle.kept_graph.proofs.HostClocks.{one_host, two_hosts}
-use Rattle.kept_graph.proofs.following.leads_on.Goals as goal
+use Rattle.session_graph.proofs.HostClocks.{one_host, two_hosts}
+use Rattle.session_graph.proofs.follows.leads_on.Goals as goal
 
 pub returns-clause-one : goal.returns-clause-one
 returns-clause-one c = λ test.

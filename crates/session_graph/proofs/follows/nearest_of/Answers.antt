@@ -1,5 +1,5 @@
-use Rattle.kept_graph.proofs.Seeking.{near_by}
-use Rattle.kept_graph.proofs.following.nearest_of.Goals as goal
+use Rattle.session_graph.proofs.Seeking.{near_by}
+use Rattle.session_graph.proofs.follows.nearest_of.Goals as goal
 
 pub returns-clause-nearest : goal.returns-clause-nearest
 returns-clause-nearest c = λ p e follows on is.

@@ -3,8 +3,8 @@ use Rattle.std.specs.Prelude.{Contains}
 use Rattle.std.proofs.lemmas.List.Elements.{All-head}
 use Rattle.problem_model.specs.declared.items.Message.{Message}
 use Rattle.problem_model.specs.declared.items.Node.{Node}
-use Rattle.kept_graph.proofs.OneMessage.{sent_inside, joined_way, keeps_told, retells}
-use Rattle.kept_graph.proofs.joining.join.Goals as goal
+use Rattle.session_graph.proofs.OneMessage.{sent_inside, joined_way, keeps_told, retells}
+use Rattle.session_graph.proofs.joints.join.Goals as goal
 
 pub set_partner-requires : goal.set_partner-requires
 set_partner-requires g c =

@@ -7,11 +7,11 @@ use Rattle.problem_model.specs.declared.items.Node.TheVariants as nodes
 use Rattle.problem_model.specs.Bounds.{Constraint}
 use Rattle.problem_model.specs.ShortList.{most_bound}
 use Rattle.sync_graph.specs.Graph.{GraphLists}
-use Rattle.growth.specs.Growing.{IsGrowing}
-use Rattle.kept_graph.proofs.Bringing.{brings_then, has_still}
-use Rattle.kept_graph.proofs.OneMessage.{most_few, arcs_of_two}
-use Rattle.kept_graph.proofs.Extending.{few_then}
-use Rattle.kept_graph.proofs.joining.push_message.Goals as goal
+use Rattle.roster.specs.Growing.{IsGrowing}
+use Rattle.session_graph.proofs.Bringing.{brings_then, has_still}
+use Rattle.session_graph.proofs.OneMessage.{most_few, arcs_of_two}
+use Rattle.session_graph.proofs.Extending.{few_then}
+use Rattle.session_graph.proofs.joints.push_message.Goals as goal
 
 pub push_bound-requires-clause-current : goal.push_bound-requires-clause-current
 push_bound-requires-clause-current g c = c.in_ok-push_most.ensures.brings.current

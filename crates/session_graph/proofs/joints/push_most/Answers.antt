@@ -4,12 +4,12 @@ use Rattle.std.proofs.lemmas.Int.{ints}
 use Rattle.problem_model.specs.declared.items.Node.TheVariants as nodes
 use Rattle.problem_model.specs.Bounds.{Constraint}
 use Rattle.problem_model.specs.ShortList.{most_bound}
-use Rattle.sync_graph.proofs.OneMore.{on_ok}
-use Rattle.growth.specs.Growing.{IsGrowing}
-use Rattle.kept_graph.specs.Pushing.{Brings}
-use Rattle.kept_graph.proofs.Bringing.{brings_none}
-use Rattle.kept_graph.proofs.OneMessage.{most_of_one}
-use Rattle.kept_graph.proofs.joining.push_most.Goals as goal
+use Rattle.problem_graph.proofs.OneMore.{on_ok}
+use Rattle.roster.specs.Growing.{IsGrowing}
+use Rattle.session_graph.specs.Pushes.{Brings}
+use Rattle.session_graph.proofs.Bringing.{brings_none}
+use Rattle.session_graph.proofs.OneMessage.{most_of_one}
+use Rattle.session_graph.proofs.joints.push_most.Goals as goal
 
 pub returns-in-Some-clause-brings : goal.returns-in-Some-clause-brings
 returns-in-Some-clause-brings g c = on_ok c.push_bound.result c.push_bound.ensures.brings (λ brings.

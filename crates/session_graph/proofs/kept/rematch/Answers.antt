@@ -1,12 +1,12 @@
 use Rattle.std.proofs.Common.{◌≡◌, ◌++◌, List, length, sym, ◌∙◌, ap, subst, arith}
 use Rattle.std.proofs.lemmas.List.{length-map}
-use Rattle.sync_graph.proofs.OneMore.{on_ok}
-use Rattle.trace_event.specs.Seen.{seen_events}
+use Rattle.problem_graph.proofs.OneMore.{on_ok}
+use Rattle.traces.specs.Seen.{seen_events}
 use Rattle.msg_match.specs.Groups.{SeenItem}
 use Rattle.msg_match.specs.Held.{seen_item, seen_items}
 use Rattle.msg_match.specs.Changes.{HaveOwnNumbers}
-use Rattle.event_match.specs.Ends.{items_from}
-use Rattle.kept_graph.proofs.kept.rematch.Goals as goal
+use Rattle.msg_match.specs.Ends.{items_from}
+use Rattle.session_graph.proofs.kept.rematch.Goals as goal
 
 pub add-requires-clause-few : goal.add-requires-clause-few
 add-requires-clause-few c =

@@ -1,10 +1,10 @@
 use Rattle.std.proofs.Common.{◌++◌, ℕ, Option, subst, sym}
-use Rattle.sync_graph.proofs.OneMore.{on_ok}
-use Rattle.growth.specs.Entering.{span_above}
-use Rattle.growth.specs.Growing.{IsGrowing}
-use Rattle.kept_graph.specs.Pushing.{Brings}
-use Rattle.kept_graph.proofs.Bringing.{brings_none}
-use Rattle.kept_graph.proofs.linking.push_above.Goals as goal
+use Rattle.problem_graph.proofs.OneMore.{on_ok}
+use Rattle.roster.specs.Entering.{span_above}
+use Rattle.roster.specs.Growing.{IsGrowing}
+use Rattle.session_graph.specs.Pushes.{Brings}
+use Rattle.session_graph.proofs.Bringing.{brings_none}
+use Rattle.session_graph.proofs.links.push_above.Goals as goal
 
 pub returns-in-Some-clause-brings : goal.returns-in-Some-clause-brings
 returns-in-Some-clause-brings g c = on_ok c.push_span.result c.push_span.ensures.brings (λ brings.

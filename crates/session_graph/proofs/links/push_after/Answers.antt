@@ -1,11 +1,11 @@
 use Rattle.std.proofs.Common.{ℕ, ◌++◌, Option, subst}
 use Rattle.std.specs.Prelude.{IfSome}
 use Rattle.problem_model.specs.Bounds.{ComesAfter}
-use Rattle.sync_graph.proofs.OneMore.{on_ok}
-use Rattle.growth.specs.Entering.{follow_after}
-use Rattle.growth.specs.Growing.{IsGrowing}
-use Rattle.kept_graph.proofs.HostClocks.{follow_to}
-use Rattle.kept_graph.proofs.linking.push_after.Goals as goal
+use Rattle.problem_graph.proofs.OneMore.{on_ok}
+use Rattle.roster.specs.Entering.{follow_after}
+use Rattle.roster.specs.Growing.{IsGrowing}
+use Rattle.session_graph.proofs.HostClocks.{follow_to}
+use Rattle.session_graph.proofs.links.push_after.Goals as goal
 
 pub returns-in-Some-clause-left : goal.returns-in-Some-clause-left
 returns-in-Some-clause-left g c = on_ok c.push_follow.result c.push_follow.ensures.left (λ left p entered rest follows beside is.

@@ -1,10 +1,10 @@
 use Rattle.std.proofs.Common.{◌++◌, List, subst}
 use Rattle.problem_model.specs.declared.items.Bound.{Bound}
-use Rattle.growth.specs.Entering.{span_below, span_above, follow_before, follow_after}
-use Rattle.growth.specs.Growing.{IsGrowing}
-use Rattle.kept_graph.proofs.Bringing.{brings_then, four_behind}
-use Rattle.kept_graph.proofs.Extending.{extends_then, few_then}
-use Rattle.kept_graph.proofs.linking.push_links.Goals as goal
+use Rattle.roster.specs.Entering.{span_below, span_above, follow_before, follow_after}
+use Rattle.roster.specs.Growing.{IsGrowing}
+use Rattle.session_graph.proofs.Bringing.{brings_then, four_behind}
+use Rattle.session_graph.proofs.Extending.{extends_then, few_then}
+use Rattle.session_graph.proofs.links.push_links.Goals as goal
 
 pub returns-clause-brings : goal.returns-clause-brings
 returns-clause-brings g c =

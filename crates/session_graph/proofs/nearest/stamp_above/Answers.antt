@@ -1,8 +1,8 @@
 use Rattle.std.proofs.Common.{ℕ, List, Option, refl, subst}
 use Rattle.roster.specs.Groups.{group_at}
 use Rattle.roster.specs.Readings.{Stamped}
-use Rattle.kept_graph.proofs.Seeking.{GoesUp, up_first, up_next}
-use Rattle.kept_graph.proofs.nearest.stamp_above.Goals as goal
+use Rattle.session_graph.proofs.Seeking.{GoesUp, up_first, up_next}
+use Rattle.session_graph.proofs.nearest.stamp_above.Goals as goal
 
 pub loop-next-init : goal.loop-next-init
 loop-next-init c = up_first (group_at c.args.roster.now.readings c.args.place) c.args.solver.now.graph c.args.place c.args.stamp c.requires.nodes c.stamp_above-next.result c.stamp_above-next.ensures

@@ -1,8 +1,8 @@
 use Rattle.std.proofs.Common.{ℕ, List, Option, refl, subst}
 use Rattle.roster.specs.Groups.{group_at}
 use Rattle.roster.specs.Readings.{Stamped}
-use Rattle.kept_graph.proofs.Seeking.{GoesDown, down_first, down_next}
-use Rattle.kept_graph.proofs.nearest.stamp_below.Goals as goal
+use Rattle.session_graph.proofs.Seeking.{GoesDown, down_first, down_next}
+use Rattle.session_graph.proofs.nearest.stamp_below.Goals as goal
 
 pub loop-last-init : goal.loop-last-init
 loop-last-init c = down_first (group_at c.args.roster.now.readings c.args.place) c.args.solver.now.graph c.args.place c.args.stamp c.requires.nodes c.stamp_below-last.result c.stamp_below-last.ensures

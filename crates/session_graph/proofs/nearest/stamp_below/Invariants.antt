@@ -1,6 +1,6 @@
 use Rattle.roster.specs.Groups.{group_at}
-use Rattle.kept_graph.proofs.Seeking.{GoesDown, left_below}
-use Rattle.kept_graph.proofs.nearest.stamp_below.Given as goal
+use Rattle.session_graph.proofs.Seeking.{GoesDown, left_below}
+use Rattle.session_graph.proofs.nearest.stamp_below.Given as goal
 
 abbrev pub invariant-loop-last : goal.invariant-loop-last
 invariant-loop-last l = GoesDown (group_at l.roster.readings l.place) l.solver.graph l.place l.fn.stamp l.last

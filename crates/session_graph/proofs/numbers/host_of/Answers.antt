@@ -4,8 +4,8 @@ use Rattle.decl.specs.Declaration.{Declaration, declaration_of}
 use Rattle.traces.specs.Traces.{host_of, host_by}
 use Rattle.roster.specs.declared.came.Came.{Came}
 use Rattle.roster.specs.Roster.{id_of, no_event, event_at}
-use Rattle.kept_graph.proofs.Naming.{label_inside}
-use Rattle.kept_graph.proofs.numbering.host_of.Goals as goal
+use Rattle.session_graph.proofs.Naming.{label_inside}
+use Rattle.session_graph.proofs.numbers.host_of.Goals as goal
 
 pub index-requires : goal.index-requires
 index-requires c =

@@ -1,6 +1,6 @@
 use Rattle.std.proofs.Common.{◌≡◌, ◌++◌, drop, map}
-use Rattle.kept_graph.specs.Numbering.{message_by}
-use Rattle.kept_graph.proofs.numbering.messages_of.Given as goal
+use Rattle.session_graph.specs.Numbers.{message_by}
+use Rattle.session_graph.proofs.numbers.messages_of.Given as goal
 
 -- the messages before this one are there
 abbrev pub invariant-loop-couple : goal.invariant-loop-couple

@@ -1,6 +1,6 @@
 use Rattle.std.proofs.Common.{◌≡◌, ◌++◌, drop}
-use Rattle.kept_graph.specs.Planning.{messages_in}
-use Rattle.kept_graph.proofs.planning.dues_from.Given as goal
+use Rattle.session_graph.specs.Plans.{messages_in}
+use Rattle.session_graph.proofs.plans.dues_from.Given as goal
 
 -- the messages before this one are there
 abbrev pub invariant-loop-k : goal.invariant-loop-k

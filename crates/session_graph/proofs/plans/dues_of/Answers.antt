@@ -2,9 +2,9 @@ use Rattle.std.proofs.Common.{List, subst}
 use Rattle.std.specs.List.Sorted.{IsPermutation}
 use Rattle.std.proofs.lemmas.List.Sorted.{IsPermutation-map}
 use Rattle.problem_model.specs.declared.items.Message.{Message}
-use Rattle.kept_graph.specs.declared.planning.Due.{Due}
-use Rattle.kept_graph.specs.Planning.{messages_in}
-use Rattle.kept_graph.proofs.planning.dues_of.Goals as goal
+use Rattle.session_graph.specs.declared.plans.Due.{Due}
+use Rattle.session_graph.specs.Plans.{messages_in}
+use Rattle.session_graph.proofs.plans.dues_of.Goals as goal
 
 pub returns : goal.returns
 returns c =

@@ -2,13 +2,13 @@ use Rattle.std.proofs.Common.{◌<◌, ◌+◌, ◌^◌, ◌++◌, ◌∷◌, []
 use Rattle.std.specs.List.{range_with_len}
 use Rattle.std.proofs.lemmas.List.{length-map}
 use Rattle.std.proofs.lemmas.List.Elements.{All-cons, All-nil}
-use Rattle.trace_event.specs.declared.event.Event.{Event}
+use Rattle.traces.specs.declared.event.Event.{Event}
 use Rattle.roster.specs.Readings.{stamps_of}
-use Rattle.kept_graph.specs.declared.planning.Turn.{Turn}
-use Rattle.kept_graph.specs.Planning.{numbers_of}
-use Rattle.kept_graph.proofs.InARow.{drop_next}
-use Rattle.kept_graph.proofs.Orders.{range_more, map_behind, drop_all}
-use Rattle.kept_graph.proofs.planning.turns_from.Goals as goal
+use Rattle.session_graph.specs.declared.plans.Turn.{Turn}
+use Rattle.session_graph.specs.Plans.{numbers_of}
+use Rattle.session_graph.proofs.InARow.{drop_next}
+use Rattle.session_graph.proofs.Orders.{range_more, map_behind, drop_all}
+use Rattle.session_graph.proofs.plans.turns_from.Goals as goal
 
 pub loop-k-preserved : goal.loop-k-preserved
 loop-k-preserved c =

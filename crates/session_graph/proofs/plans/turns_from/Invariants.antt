@@ -1,8 +1,8 @@
 use Rattle.std.proofs.Common.{◌≡◌, ◌<◌, ◌^◌, All, drop}
 use Rattle.std.specs.List.{range_with_len}
 use Rattle.roster.specs.Readings.{stamps_of}
-use Rattle.kept_graph.specs.Planning.{numbers_of}
-use Rattle.kept_graph.proofs.planning.turns_from.Given as goal
+use Rattle.session_graph.specs.Plans.{numbers_of}
+use Rattle.session_graph.proofs.plans.turns_from.Given as goal
 
 -- the events before this one have their turns, and if the stamps from here on fit, all do
 abbrev pub invariant-loop-k : goal.invariant-loop-k

@@ -1,9 +1,9 @@
 use Rattle.std.proofs.Common.{ℕ, List, subst}
 use Rattle.std.specs.List.Sorted.{IsPermutation}
 use Rattle.std.proofs.lemmas.List.Sorted.{IsPermutation-map}
-use Rattle.kept_graph.specs.declared.planning.Turn.{Turn}
-use Rattle.kept_graph.specs.Planning.{numbers_of}
-use Rattle.kept_graph.proofs.planning.turns_of.Goals as goal
+use Rattle.session_graph.specs.declared.plans.Turn.{Turn}
+use Rattle.session_graph.specs.Plans.{numbers_of}
+use Rattle.session_graph.proofs.plans.turns_of.Goals as goal
 
 pub returns-clause-numbers : goal.returns-clause-numbers
 returns-clause-numbers c =

@@ -4,9 +4,9 @@ use mir.Syntax.{w128}
 use mir.Val.{SFits}
 use Rattle.sync_graph.specs.declared.arc.Arc.{Arc}
 use Rattle.sync_graph.specs.Graph.{with_arc}
-use Rattle.kept_graph.proofs.Bringing.{brings_one, nodes_of_one, arcs_of_one, on_of_one, name_of_one, grows_one}
-use Rattle.kept_graph.proofs.Extending.{extends_by_arc, few_by_arc}
-use Rattle.kept_graph.proofs.pushing.push_bound.Goals as goal
+use Rattle.session_graph.proofs.Bringing.{brings_one, nodes_of_one, arcs_of_one, on_of_one, name_of_one, grows_one}
+use Rattle.session_graph.proofs.Extending.{extends_by_arc, few_by_arc}
+use Rattle.session_graph.proofs.pushes.push_bound.Goals as goal
 
 pub push_arc-requires-clause-named : goal.push_arc-requires-clause-named
 push_arc-requires-clause-named g c = record {

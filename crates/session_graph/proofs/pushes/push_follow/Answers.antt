@@ -3,9 +3,9 @@ use Rattle.std.specs.Prelude.{pos, neg_ℤ}
 use Rattle.std.proofs.lemmas.Int.{ints}
 use Rattle.problem_model.specs.declared.items.Node.TheVariants as nodes
 use Rattle.problem_model.specs.Bounds.{Constraint}
-use Rattle.sync_graph.proofs.OneMore.{on_ok}
-use Rattle.kept_graph.proofs.Bringing.{reading_by}
-use Rattle.kept_graph.proofs.pushing.push_follow.Goals as goal
+use Rattle.problem_graph.proofs.OneMore.{on_ok}
+use Rattle.session_graph.proofs.Bringing.{reading_by}
+use Rattle.session_graph.proofs.pushes.push_follow.Goals as goal
 
 pub returns-clause-left : goal.returns-clause-left
 returns-clause-left g c = on_ok c.push_bound.result c.push_bound.ensures.left (λ left p entered rest f among later gap after is.

@@ -5,9 +5,9 @@ use Rattle.atto.specs.Span.{most_of, least_of}
 use Rattle.problem_model.specs.declared.items.Bound.TheVariants.{SpanMost, SpanLeast}
 use Rattle.problem_model.specs.declared.items.Node.TheVariants as nodes
 use Rattle.problem_model.specs.Bounds.{Constraint}
-use Rattle.kept_graph.proofs.Bringing.{brings_then, reading_by}
-use Rattle.kept_graph.proofs.Extending.{few_then}
-use Rattle.kept_graph.proofs.pushing.push_span.Goals as goal
+use Rattle.session_graph.proofs.Bringing.{brings_then, reading_by}
+use Rattle.session_graph.proofs.Extending.{few_then}
+use Rattle.session_graph.proofs.pushes.push_span.Goals as goal
 
 pub returns-clause-brings : goal.returns-clause-brings
 returns-clause-brings g c =

@@ -4,9 +4,9 @@ use Rattle.std.proofs.lemmas.Int.{ints}
 use Rattle.problem_model.specs.declared.items.Bound.TheVariants.{Late, Early}
 use Rattle.problem_model.specs.declared.items.Node.TheVariants as nodes
 use Rattle.problem_model.specs.Bounds.{Constraint, ClockAt}
-use Rattle.kept_graph.proofs.Bringing.{brings_then}
-use Rattle.kept_graph.proofs.Extending.{few_then}
-use Rattle.kept_graph.proofs.pushing.push_stamp.Goals as goal
+use Rattle.session_graph.proofs.Bringing.{brings_then}
+use Rattle.session_graph.proofs.Extending.{few_then}
+use Rattle.session_graph.proofs.pushes.push_stamp.Goals as goal
 
 pub push_bound-requires-clause-joins : goal.push_bound-requires-clause-joins
 push_bound-requires-clause-joins g c = (c.args.place, c.args.stamp, refl, refl)

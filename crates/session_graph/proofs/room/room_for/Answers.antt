@@ -1,6 +1,6 @@
 use Rattle.std.proofs.Common.{◌*◌, arith}
-use Rattle.kept_graph.proofs.Rooms.{few_nodes}
-use Rattle.kept_graph.proofs.room.room_for.Goals as goal
+use Rattle.session_graph.proofs.Rooms.{few_nodes}
+use Rattle.session_graph.proofs.room.room_for.Goals as goal
 
 pub returns-clause-few : goal.returns-clause-few
 returns-clause-few c =

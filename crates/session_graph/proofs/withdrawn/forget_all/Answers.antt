@@ -1,6 +1,6 @@
 use Rattle.std.proofs.Common.{◌<◌, length, sym, subst, arith}
 use Rattle.problem_model.specs.declared.items.Message.{Message}
-use Rattle.kept_graph.proofs.withdrawing.forget_all.Goals as goal
+use Rattle.session_graph.proofs.withdrawn.forget_all.Goals as goal
 
 pub forget-requires : goal.forget-requires
 forget-requires c =

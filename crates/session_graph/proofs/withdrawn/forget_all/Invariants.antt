@@ -1,6 +1,6 @@
 use Rattle.std.proofs.Common.{◌≡◌, drop, length}
-use Rattle.kept_graph.specs.Withdrawing.{without_partners}
-use Rattle.kept_graph.proofs.withdrawing.forget_all.Given as goal
+use Rattle.session_graph.specs.Withdrawn.{without_partners}
+use Rattle.session_graph.proofs.withdrawn.forget_all.Given as goal
 
 abbrev pub invariant-loop-message : goal.invariant-loop-message
 invariant-loop-message l = record {

@@ -1,7 +1,7 @@
 use Rattle.std.proofs.Common.{sym, subst, arith}
 use Rattle.problem_model.specs.declared.items.Message.{Message}
-use Rattle.kept_graph.specs.Kept.{Tells}
-use Rattle.kept_graph.proofs.withdrawing.list_messages.Goals as goal
+use Rattle.session_graph.specs.Kept.{Tells}
+use Rattle.session_graph.proofs.withdrawn.list_messages.Goals as goal
 
 pub list_message-requires : goal.list_message-requires
 list_message-requires c =

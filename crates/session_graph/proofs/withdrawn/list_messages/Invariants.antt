@@ -1,7 +1,7 @@
 use Rattle.std.proofs.Common.{◌≡◌, ◌++◌, drop}
 use Rattle.std.specs.List.{flat_map}
-use Rattle.kept_graph.specs.Withdrawing.{told_arcs}
-use Rattle.kept_graph.proofs.withdrawing.list_messages.Given as goal
+use Rattle.session_graph.specs.Withdrawn.{told_arcs}
+use Rattle.session_graph.proofs.withdrawn.list_messages.Given as goal
 
 abbrev pub invariant-loop-message : goal.invariant-loop-message
 invariant-loop-message l = record {

@@ -1,12 +1,12 @@
 use Rattle.std.proofs.Common.{◌≡◌, ◌≢◌, ℕ, All, AllPairs, sym, ◌∙◌, ap, subst}
 use Rattle.std.specs.List.{flat_map}
-use Rattle.engine.specs.Changes.{withdrawn}
-use Rattle.growth.specs.Once.{IsOn}
-use Rattle.kept_graph.specs.Growing.{Retells}
-use Rattle.kept_graph.specs.Withdrawing.{told_arcs}
-use Rattle.kept_graph.proofs.Forgetting.{IsForgetting, sends_of}
-use Rattle.kept_graph.proofs.Leaving.{all_told, numbers_on, numbers_differ, sends_inside, left_way, forgotten}
-use Rattle.kept_graph.proofs.withdrawing.withdraw.Goals as goal
+use Rattle.solver.specs.Changes.{withdrawn}
+use Rattle.roster.specs.Once.{IsOn}
+use Rattle.session_graph.specs.Growth.{Retells}
+use Rattle.session_graph.specs.Withdrawn.{told_arcs}
+use Rattle.session_graph.proofs.Forgetting.{IsForgetting, sends_of}
+use Rattle.session_graph.proofs.Leaving.{all_told, numbers_on, numbers_differ, sends_inside, left_way, forgotten}
+use Rattle.session_graph.proofs.withdrawn.withdraw.Goals as goal
 
 pub list_messages-requires : goal.list_messages-requires
 list_messages-requires g c =

@@ -4,7 +4,7 @@ use Rattle.std.proofs.lemmas.Bool.{cases_eq}
 use Rattle.std.proofs.lemmas.List.{get_or_default}
 use Rattle.sync_graph.specs.declared.arc.Arc.{Arc}
 use Rattle.sync_graph.specs.Graph.{arc_at}
-use Rattle.engine.proofs.withdrawing.are_met.Goals as goal
+use Rattle.solver.proofs.withdrawn_arcs.are_met.Goals as goal
 
 pub loop-k-preserved : goal.loop-k-preserved
 loop-k-preserved c = λ i d below. elim (cases_eq i c.loop-k.k-index) [

@@ -1,8 +1,8 @@
 use Rattle.std.proofs.Common.{◌∷◌, ◌++◌, [], List, get_or, ap, ◌∙◌, sym, arith}
 use Rattle.sync_graph.specs.declared.arc.Arc.{Arc}
 use Rattle.sync_graph.specs.Graph.{arc_at}
-use Rattle.engine.proofs.Cutting.{numbered_more, numbered_all}
-use Rattle.engine.proofs.withdrawing.list_arcs.Goals as goal
+use Rattle.solver.proofs.Cutting.{numbered_more, numbered_all}
+use Rattle.solver.proofs.withdrawn_arcs.list_arcs.Goals as goal
 
 pub list_arc-requires : goal.list_arc-requires
 list_arc-requires c = c.requires c.loop-k.k-index 0 c.loop-k-test.true

@@ -5,11 +5,11 @@ use Rattle.std.proofs.lemmas.List.Elements.{All-head}
 use Rattle.sync_graph.specs.declared.arc.Arc.{Arc}
 use Rattle.sync_graph.specs.Graph.{arc_at}
 use Rattle.earliest.specs.Withdrawn.{IsEarliestWith}
-use Rattle.row_withdrawal.specs.Withdrawals.{AreWithdrawn}
-use Rattle.engine.specs.Changes.{withdrawn}
-use Rattle.engine.proofs.Cutting.{one_more, numbered_all}
-use Rattle.engine.proofs.Fewer.{drop_turn, rest_in_force, pairs_behind}
-use Rattle.engine.proofs.withdrawing.take_out.Goals as goal
+use Rattle.repair.specs.RowWithdrawals.{AreWithdrawn}
+use Rattle.solver.specs.Changes.{withdrawn}
+use Rattle.solver.proofs.Cutting.{one_more, numbered_all}
+use Rattle.solver.proofs.Fewer.{drop_turn, rest_in_force, pairs_behind}
+use Rattle.solver.proofs.withdrawn_arcs.take_out.Goals as goal
 
 pub withdraw-requires : goal.withdraw-requires
 withdraw-requires c =

@@ -3,9 +3,9 @@ use Rattle.std.specs.Prelude.{ℤ, map}
 use Rattle.sync_graph.specs.Graph.{IsGraph, arc_at}
 use Rattle.sync_graph.specs.InForce.{IsEarliestOf}
 use Rattle.earliest.specs.Withdrawn.{IsEarliestWith}
-use Rattle.row_withdrawal.specs.Withdrawals.{AreWithdrawn}
-use Rattle.engine.specs.Changes.{withdrawn}
-use Rattle.engine.proofs.withdrawing.take_out.Given as goal
+use Rattle.repair.specs.RowWithdrawals.{AreWithdrawn}
+use Rattle.solver.specs.Changes.{withdrawn}
+use Rattle.solver.proofs.withdrawn_arcs.take_out.Given as goal
 
 abbrev pub invariant-loop-k : goal.invariant-loop-k
 invariant-loop-k l = record {

@@ -1,6 +1,6 @@
 use Rattle.std.proofs.Common.{◌≡◌, true, All}
 use Rattle.row_pool.specs.Pool.{free_rows}
-use Rattle.engine.specs.Current.{IsCurrent}
+use Rattle.solver.specs.Current.{IsCurrent}
 use Rattle.solver_tests.proofs.engines.push_all.Given as goal
 
 abbrev pub invariant-loop-link : goal.invariant-loop-link

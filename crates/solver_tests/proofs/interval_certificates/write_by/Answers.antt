@@ -3,11 +3,11 @@ use Rattle.problem.specs.Listing.{listing_of}
 use Rattle.earliest.specs.Values.{Values}
 use Rattle.sync_graph.specs.Graph.{GraphLists}
 use Rattle.sync_graph.specs.InForce.{IsEarliestOf}
-use Rattle.sync_graph.specs.ListedStanding.{StandsForListed}
-use Rattle.sync_graph.proofs.OwnStanding.{own_event}
+use Rattle.problem_graph.specs.ListedStanding.{StandsForListed}
+use Rattle.problem_graph.proofs.OwnStanding.{own_event}
 use Rattle.attain.specs.Ends.{AreRowsOf}
-use Rattle.engine.specs.Solver.{SolverLists}
-use Rattle.engine.specs.Current.{IsCurrent}
+use Rattle.solver.specs.Solver.{SolverLists}
+use Rattle.solver.specs.Current.{IsCurrent}
 use Rattle.solver_tests.proofs.interval_certificates.write_by.Goals as goal
 
 -- where the values are known they are the earliest execution of the graph

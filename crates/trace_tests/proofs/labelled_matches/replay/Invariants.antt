@@ -1,5 +1,5 @@
 use Rattle.traces.specs.Held.{seen_in}
-use Rattle.plain_traces.specs.Added.{AreAdded}
+use Rattle.reference_traces.specs.Added.{AreAdded}
 use Rattle.trace_tests.proofs.labelled_matches.replay.Given as goal
 
 abbrev pub invariant-loop-step : goal.invariant-loop-step

@@ -3,7 +3,7 @@ use Rattle.std.proofs.lemmas.List.{at_drop_all}
 use Rattle.traces.specs.declared.accepted.Accepted.{Accepted}
 use Rattle.traces.specs.Traces.{event_count}
 use Rattle.traces.specs.Held.{seen_in}
-use Rattle.traces.proofs.placing.event_count.Goals as goal
+use Rattle.traces.proofs.event_places.event_count.Goals as goal
 
 pub returns : goal.returns
 returns c =

@@ -2,7 +2,7 @@ use Rattle.std.proofs.Common.{◌≡◌, ◌≤◌, ◌+◌, ◌-◌, ◌^◌, d
 use Rattle.std.specs.Prelude.{min}
 use Rattle.traces.specs.Traces.{event_count}
 use Rattle.traces.specs.Held.{seen_in}
-use Rattle.traces.proofs.placing.event_count.Given as goal
+use Rattle.traces.proofs.event_places.event_count.Given as goal
 
 -- the count so far and that of the labels from this place on are that of all, as far as it fits
 abbrev pub invariant-loop-under : goal.invariant-loop-under

@@ -2,7 +2,7 @@ use Rattle.std.proofs.Common.{◌≤◌, length, ap, arith}
 use Rattle.traces.specs.Traces.{event_count}
 use Rattle.traces.specs.Held.{seen_in}
 use Rattle.traces.proofs.Counting.{events_few}
-use Rattle.traces.proofs.placing.events.Goals as goal
+use Rattle.traces.proofs.event_places.events.Goals as goal
 
 pub place_events-requires : goal.place_events-requires
 place_events-requires c =

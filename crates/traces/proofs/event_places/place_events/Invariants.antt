@@ -1,8 +1,8 @@
 use Rattle.std.proofs.Common.{◌≡◌, ◌+◌, ◌++◌, drop}
-use Rattle.trace_event.specs.Seen.{seen_events}
+use Rattle.traces.specs.Seen.{seen_events}
 use Rattle.traces.specs.Traces.{numbered}
 use Rattle.traces.specs.Held.{placed_in}
-use Rattle.traces.proofs.placing.place_events.Given as goal
+use Rattle.traces.proofs.event_places.place_events.Given as goal
 
 -- the events so far and those from this place on are all
 abbrev pub invariant-loop-place : goal.invariant-loop-place

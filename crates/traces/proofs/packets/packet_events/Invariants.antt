@@ -1,8 +1,8 @@
 use Rattle.std.proofs.Common.{◌≡◌, ◌++◌, drop, map}
 use Rattle.captures.specs.Feeding.{seen_packets}
 use Rattle.decl.specs.Declaration.{declaration_of}
-use Rattle.trace_event.specs.Seen.{event_of_packet, seen_events}
-use Rattle.trace_event.proofs.packets.packet_events.Given as goal
+use Rattle.traces.specs.Seen.{event_of_packet, seen_events}
+use Rattle.traces.proofs.packets.packet_events.Given as goal
 
 -- the events so far and those of the packets from this place on are all
 abbrev pub invariant-loop-packet : goal.invariant-loop-packet

@@ -1,6 +1,6 @@
 use Rattle.std.proofs.Common.{◌≡◌, map}
-use Rattle.trace_event.specs.Seen.{seen_events, seen_row}
-use Rattle.trace_event.proofs.rows.row_events.Given as goal
+use Rattle.traces.specs.Seen.{seen_events, seen_row}
+use Rattle.traces.proofs.rows.row_events.Given as goal
 
 -- the events so far are those of the rows so far
 abbrev pub invariant-loop-row : goal.invariant-loop-row

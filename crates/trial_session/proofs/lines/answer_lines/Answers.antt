@@ -1,7 +1,7 @@
 use Rattle.std.proofs.Common.{◌≡◌, [], arith}
 use Rattle.std.proofs.lemmas.List.{nil_from_length}
 use Rattle.ports.specs.Files.{FilesTold}
-use Rattle.script.proofs.Moved3.{keeps_none, keeps_then}
+use Rattle.ports.proofs.Keeping.{keeps_none, keeps_then}
 use Rattle.trial_session.proofs.Going.{over_none, over_more, over_all}
 use Rattle.trial_session.proofs.lines.answer_lines.Goals as goal
 

@@ -1,6 +1,6 @@
 use Rattle.replies.specs.Sessions.{start}
 use Rattle.trial_session.proofs.Concluding.{concluded}
-use Rattle.trial_session.proofs.conducting.conclude.Goals as goal
+use Rattle.trial_session.proofs.outcome.conclude.Goals as goal
 
 pub returns : goal.returns
 returns g c = λ n d declares stands is has.

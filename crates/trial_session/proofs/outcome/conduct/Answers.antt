@@ -2,7 +2,7 @@ use Rattle.std.proofs.Common.{◌∙◌, ℕ, List, sym, subst}
 use Rattle.decl.specs.Walk.{Declares}
 use Rattle.trial.specs.Workload.{files_of, HasFiles}
 use Rattle.trial_session.specs.Logs.{LogsState}
-use Rattle.trial_session.proofs.conducting.conduct.Goals as goal
+use Rattle.trial_session.proofs.outcome.conduct.Goals as goal
 
 pub returns : goal.returns
 returns g c =

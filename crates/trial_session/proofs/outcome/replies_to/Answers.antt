@@ -1,9 +1,9 @@
 use Rattle.std.proofs.Common.{◌≡◌, ℕ, List, [], Option, Some, ap, subst}
 use Rattle.ports.specs.Memory.{SinkState}
-use Rattle.line_reader.specs.Lines.{lines_of}
+use Rattle.ports.specs.Lines.{lines_of}
 use Rattle.trial_session.specs.Logs.{told_of}
 use Rattle.trial_session.specs.Answering.{Answers}
-use Rattle.trial_session.proofs.conducting.replies_to.Goals as goal
+use Rattle.trial_session.proofs.outcome.replies_to.Goals as goal
 
 pub returns : goal.returns
 returns g c =

@@ -1,9 +1,9 @@
 use Rattle.std.proofs.Common.{List, sym, subst}
 use Rattle.sync_graph.specs.declared.arc.Arc.{Arc}
-use Rattle.engine.proofs.Staying.{contradicted_now}
+use Rattle.solver.proofs.Staying.{contradicted_now}
 use Rattle.widen.specs.Found.{IsCycleFor}
 use Rattle.widen.proofs.Ground.{holds_unwidened, cycle_found}
-use Rattle.widen.proofs.trying.cycle_held.Goals as goal
+use Rattle.widen.proofs.attempt.cycle_held.Goals as goal
 
 pub last_cycle-requires-clause-cycle : goal.last_cycle-requires-clause-cycle
 last_cycle-requires-clause-cycle c =

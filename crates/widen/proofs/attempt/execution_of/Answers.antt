@@ -2,10 +2,10 @@ use Rattle.std.proofs.Common.{◌≡◌, ◌<◌, ◌++◌, ◌∷◌, [], ◌�
 use Rattle.std.specs.Prelude.{ℤ, pos}
 use Rattle.std.proofs.Math.Seq.{take-length}
 use Rattle.std.proofs.lemmas.Option.{slice_get-get_or}
-use Rattle.difference_bounds.specs.Numbers.{IsUpTo}
+use Rattle.problem_model.specs.Numbers.{IsUpTo}
 use Rattle.sync_graph.proofs.Copies.{front_more}
 use Rattle.widen.proofs.Summing.{units_fit, value_is}
-use Rattle.widen.proofs.trying.execution_of.Goals as goal
+use Rattle.widen.proofs.attempt.execution_of.Goals as goal
 
 pub units-requires : goal.units-requires
 units-requires c =

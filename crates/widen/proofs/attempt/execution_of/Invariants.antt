@@ -1,5 +1,5 @@
 use Rattle.std.proofs.Common.{◌≡◌, take, length}
-use Rattle.widen.proofs.trying.execution_of.Given as goal
+use Rattle.widen.proofs.attempt.execution_of.Given as goal
 
 -- the values of the nodes so far
 abbrev pub invariant-loop-node : goal.invariant-loop-node

@@ -1,6 +1,6 @@
 use Rattle.std.proofs.Common.{◌<◌, ◌+◌, ◌^◌, arith}
 use Rattle.widen.proofs.Lasting.{lacks, few_arcs, weights_up, all_up, tried}
-use Rattle.widen.proofs.trying.last_cycle.Goals as goal
+use Rattle.widen.proofs.attempt.last_cycle.Goals as goal
 
 pub last_rise-rise-requires : goal.last_rise-rise-requires
 last_rise-rise-requires c = record {

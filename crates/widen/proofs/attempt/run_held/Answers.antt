@@ -1,13 +1,13 @@
 use Rattle.std.proofs.Common.{length, sym, ◌∙◌, ap, subst}
 use Rattle.std.specs.Prelude.{ℤ, List, All}
-use Rattle.difference_bounds.specs.Numbers.{IsUpTo}
+use Rattle.problem_model.specs.Numbers.{IsUpTo}
 use Rattle.sync_graph.specs.Graph.{GraphLists}
 use Rattle.earliest.specs.Values.{Values}
-use Rattle.engine.proofs.Staying.{solved_now}
+use Rattle.solver.proofs.Staying.{solved_now}
 use Rattle.widen.specs.Found.{IsRunAt}
 use Rattle.widen.proofs.Solved.{values_small}
 use Rattle.widen.proofs.Ground.{holds_unwidened, run_found}
-use Rattle.widen.proofs.trying.run_held.Goals as goal
+use Rattle.widen.proofs.attempt.run_held.Goals as goal
 
 pub execution_of-requires-clause-solved : goal.execution_of-requires-clause-solved
 execution_of-requires-clause-solved c =

@@ -1,12 +1,12 @@
 use Rattle.std.proofs.Common.{List, sym, subst}
 use Rattle.std.specs.Prelude.{ℤ}
 use Rattle.sync_graph.specs.declared.arc.Arc.{Arc}
-use Rattle.solving.specs.declared.solution.GraphSolution.TheVariants.{Execution, Contradiction}
-use Rattle.solving.specs.GraphSolution.{IsGraphSolution}
+use Rattle.problem_solver.specs.declared.solution.GraphSolution.TheVariants.{Execution, Contradiction}
+use Rattle.problem_solver.specs.GraphSolution.{IsGraphSolution}
 use Rattle.widen.specs.Found.{IsRunAt, IsCycleFor}
 use Rattle.widen.proofs.Solved.{values_small}
 use Rattle.widen.proofs.Ground.{run_found, cycle_found}
-use Rattle.widen.proofs.trying.said_of_problem.Goals as goal
+use Rattle.widen.proofs.attempt.said_of_problem.Goals as goal
 
 pub execution_of-requires-clause-solved : goal.execution_of-requires-clause-solved
 execution_of-requires-clause-solved c =

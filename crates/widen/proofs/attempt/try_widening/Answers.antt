@@ -1,6 +1,6 @@
 use Rattle.widen.proofs.RaisedGraphs.{arcs_sound, holds_raised}
 use Rattle.widen.proofs.Ground.{all_arcs}
-use Rattle.widen.proofs.trying.try_widening.Goals as goal
+use Rattle.widen.proofs.attempt.try_widening.Goals as goal
 
 pub widened_graph-requires-clause-sound : goal.widened_graph-requires-clause-sound
 widened_graph-requires-clause-sound g c = arcs_sound c.args.p.now c.readings.result.now c.args.extra c.args.g.now c.events.ensures.lawful c.requires.extra c.exact.ensures c.readings.ensures c.requires.graph

@@ -1,6 +1,6 @@
 use Rattle.std.proofs.Common.{◌≤◌, ◌+◌, ◌*◌, ◌^◌, sym, subst, arith}
 use Rattle.std.specs.Prelude.{ℤ, unsigned_abs}
-use Rattle.difference_bounds.specs.Numbers.{IsUpTo}
+use Rattle.problem_model.specs.Numbers.{IsUpTo}
 use Rattle.sync_graph.specs.declared.arc.Arc.{Arc}
 use Rattle.widen.proofs.Summing.{sum_next, sum_all, sum_grows, sum_fits, sum_is}
 use Rattle.widen.proofs.cycles.sum_of.Goals as goal

@@ -1,6 +1,6 @@
 use Rattle.std.proofs.Common.{◌≡◌, ◌≤◌, ◌*◌, ◌^◌, drop}
 use Rattle.std.specs.Prelude.{◌+ℤ◌, unsigned_abs}
-use Rattle.difference_bounds.specs.Solutions.{weight_of}
+use Rattle.problem_model.specs.Solutions.{weight_of}
 use Rattle.widen.specs.Raised.{weighed_arcs}
 use Rattle.widen.proofs.cycles.sum_of.Given as goal
 

@@ -1,6 +1,6 @@
 use Rattle.std.proofs.Common.{◌≡◌}
 use Rattle.std.specs.List.{range_with_len}
-use Rattle.widen.proofs.finding.all_arcs.Given as goal
+use Rattle.widen.proofs.found.all_arcs.Given as goal
 
 abbrev pub invariant-loop-k : goal.invariant-loop-k
 invariant-loop-k l = l.order.items ≡ range_with_len 0 l.k

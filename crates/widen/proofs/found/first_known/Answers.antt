@@ -1,5 +1,5 @@
 use Rattle.std.proofs.Common.{arith}
-use Rattle.widen.proofs.finding.first_known.Goals as goal
+use Rattle.widen.proofs.found.first_known.Goals as goal
 
 pub narrow-requires-clause-from : goal.narrow-requires-clause-from
 narrow-requires-clause-from c = omega (arith, c.nothing_known-known.ensures.low)

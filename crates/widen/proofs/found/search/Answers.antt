@@ -1,8 +1,8 @@
 use Rattle.std.proofs.Common.{arith, sym, subst}
 use Rattle.sync_graph.specs.Graph.{GraphLists}
-use Rattle.solver.specs.Bounds.{HoldsShortList}
+use Rattle.problem_graph.specs.HeldBounds.{HoldsShortList}
 use Rattle.widen.proofs.Concluding.{high_within}
-use Rattle.widen.proofs.finding.search.Goals as goal
+use Rattle.widen.proofs.found.search.Goals as goal
 
 pub widenings-init : goal.widenings-init
 widenings-init g c =

@@ -1,6 +1,6 @@
 use Rattle.std.proofs.Common.{◌<◌, ◌≤◌, ◌+◌, ◌-◌, ◌^◌}
 use Rattle.widen.specs.Search.{IsKnown}
-use Rattle.widen.proofs.finding.search.Given as goal
+use Rattle.widen.proofs.found.search.Given as goal
 
 -- what lies between both ends
 abbrev pub decreases-widenings : goal.decreases-widenings

@@ -1,5 +1,5 @@
 use Rattle.widen.proofs.FoundTexts.{widening_of, shows}
-use Rattle.widen.proofs.finding.widening_in_rounds.Goals as goal
+use Rattle.widen.proofs.found.widening_in_rounds.Goals as goal
 
 pub returns-clause-widening : goal.returns-clause-widening
 returns-clause-widening g c = widening_of c.args.p.now c.in_ok-found.found.widening c.in_ok-found.ensures.finds

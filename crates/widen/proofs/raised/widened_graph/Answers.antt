@@ -4,7 +4,7 @@ use Rattle.sync_graph.specs.declared.arc.Arc.{Arc}
 use Rattle.sync_graph.specs.Graph.{IsSound, arc_at, with_arc}
 use Rattle.sync_graph.specs.Names.{IsNamed}
 use Rattle.sync_graph.proofs.InForce.{no_arc}
-use Rattle.difference_bounds.specs.Numbers.{IsUpTo}
+use Rattle.problem_model.specs.Numbers.{IsUpTo}
 use Rattle.widen.specs.Raised.{raised_arc}
 use Rattle.widen.proofs.Summing.{up_from}
 use Rattle.widen.proofs.RaisedGraphs.{IsRaisedUpTo, named_raised, raised_more}

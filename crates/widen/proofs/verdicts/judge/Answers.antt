@@ -1,5 +1,5 @@
 use Rattle.widen.proofs.JudgedOnce.{exact}
-use Rattle.widen.proofs.judging.judge.Goals as goal
+use Rattle.widen.proofs.verdicts.judge.Goals as goal
 
 pub judge_least-requires-clause-execution : goal.judge_least-requires-clause-execution
 judge_least-requires-clause-execution c = (rw c.in-Least.is at c.requires).0

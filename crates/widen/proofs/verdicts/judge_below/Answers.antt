@@ -1,5 +1,5 @@
 use Rattle.std.proofs.Common.{refl}
-use Rattle.widen.proofs.judging.judge_below.Goals as goal
+use Rattle.widen.proofs.verdicts.judge_below.Goals as goal
 
 pub check_cycle-requires : goal.check_cycle-requires
 check_cycle-requires c = (rw c.in-Some.is at c.requires).1

@@ -1,5 +1,5 @@
 use Rattle.std.proofs.Common.{inl, inr}
-use Rattle.widen.proofs.judging.judge_least.Goals as goal
+use Rattle.widen.proofs.verdicts.judge_least.Goals as goal
 
 pub returns-in-Yes-clause-judged : goal.returns-in-Yes-clause-judged
 returns-in-Yes-clause-judged c = inr (rw c.in-Yes.is at c.judge_run.ensures.answer, c.judge_below.ensures.answer)

@@ -10,7 +10,7 @@ use Rattle.cert_check.proofs.Agreeing.{broken_first}
 use Rattle.cert_check.proofs.Answering.{run_answer}
 use Rattle.cert_check.proofs.Widening.{formed}
 use Rattle.widen.proofs.JudgedOnce.{lists_on}
-use Rattle.widen.proofs.judging.judge_run.Goals as goal
+use Rattle.widen.proofs.verdicts.judge_run.Goals as goal
 
 pub returns-in-Obeys-clause-answer : goal.returns-in-Obeys-clause-answer
 returns-in-Obeys-clause-answer c =

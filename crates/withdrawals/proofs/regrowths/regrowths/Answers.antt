@@ -1,9 +1,9 @@
-use Rattle.regrowths.specs.Regrowths.{are_equal_to}
-use Rattle.regrowths.proofs.Marks.{affected_marked_in}
-use Rattle.regrowths.proofs.Remnants.{remnant}
-use Rattle.regrowths.proofs.Regrown.{regrown_under_way, regrown_free, regrown_row}
-use Rattle.regrowths.proofs.Bounds.{changed_within, regrowth_cost}
-use Rattle.regrowths.proofs.laws.regrowths.Goals as goal
+use Rattle.withdrawals.specs.Regrowths.{are_equal_to}
+use Rattle.withdrawals.proofs.Marks.{affected_marked_in}
+use Rattle.withdrawals.proofs.Remnants.{remnant}
+use Rattle.withdrawals.proofs.Regrown.{regrown_under_way, regrown_free, regrown_row}
+use Rattle.withdrawals.proofs.Bounds.{changed_within, regrowth_cost}
+use Rattle.withdrawals.proofs.regrowths.regrowths.Goals as goal
 
 pub returns-clause-affected : goal.returns-clause-affected
 returns-clause-affected c = λ nodes table was removed. affected_marked_in nodes table was (are_equal_to table removed)

@@ -1,6 +1,6 @@
 use Rattle.std.proofs.Common.{ap, map, ◌∙◌}
 use Rattle.std.proofs.lemmas.List.{map_push}
-use Rattle.trace_event.specs.Seen.{key_of}
+use Rattle.traces.specs.Seen.{key_of}
 use Rattle.msg_match.proofs.KeyTests.{absent}
 use Rattle.msg_match.proofs.keys.Keys.push.Goals as goal
 

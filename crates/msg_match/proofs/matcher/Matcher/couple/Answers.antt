@@ -1,7 +1,7 @@
 use Rattle.std.proofs.Common.{◌≡◌, ◌<◌, ℕ, List, length, sym, ap, subst, ◌∙◌}
 use Rattle.std.proofs.lemmas.List.{length-map}
-use Rattle.trace_event.specs.declared.event.Side.TheVariants.{Receive}
-use Rattle.trace_event.specs.Seen.{key_of}
+use Rattle.traces.specs.declared.event.Side.TheVariants.{Receive}
+use Rattle.traces.specs.Seen.{key_of}
 use Rattle.msg_match.specs.Groups.{SeenItem, SeenGroup, couple_of, events_with, group_of, only_two}
 use Rattle.msg_match.specs.Held.{seen_group, seen_groups}
 use Rattle.msg_match.specs.Inside.{items_by}

@@ -1,6 +1,6 @@
 use Rattle.std.proofs.Common.{◌≡◌, ◌++◌, ◌∷◌, [], List, refl, sym, ap, subst, ◌∙◌}
 use Rattle.std.proofs.lemmas.List.{map_push}
-use Rattle.trace_event.specs.Seen.{EventKey}
+use Rattle.traces.specs.Seen.{EventKey}
 use Rattle.msg_match.specs.declared.entry.Entry.{Entry}
 use Rattle.msg_match.specs.Groups.{SeenItem}
 use Rattle.msg_match.specs.Held.{seen_groups}

@@ -1,6 +1,6 @@
 use Rattle.std.proofs.Common.{rules, ◌≤◌, ◌<◌, length, arith}
-use Rattle.gathering.proofs.Holding.{holds_behind}
-use Rattle.gathering.proofs.gathering.GatheringSink.write.Goals as goal
+use Rattle.ports.proofs.Holding.{holds_behind}
+use Rattle.ports.proofs.buffered_sink.GatheringSink.write.Goals as goal
 
 pub returns-clause-every : goal.returns-clause-every
 returns-clause-every g c = rw (← c.self.view_is, c.hold-2.ensures.items, c.in_ok-pass_on.ensures.left) (

@@ -1,7 +1,7 @@
 use Rattle.std.proofs.Common.{◌≡◌, ◌∙◌, inl, sym, ap, rules, true, false, Err, List, ℕ, ◌++◌}
-use Rattle.line_reader.specs.Reader.{Reader}
-use Rattle.line_reader.proofs.Going.{ended_answered, whole_answered, going_behind, going_on, none_held, end_answered, fault_answered, untouched, needed}
-use Rattle.line_reader.proofs.reader.LineReader.next_line.Goals as goal
+use Rattle.ports.specs.Reader.{Reader}
+use Rattle.ports.proofs.Going.{ended_answered, whole_answered, going_behind, going_on, none_held, end_answered, fault_answered, untouched, needed}
+use Rattle.ports.proofs.reader.LineReader.next_line.Goals as goal
 
 pub returns-then-is_ended-clause-next : goal.returns-then-is_ended-clause-next
 returns-then-is_ended-clause-next g c =

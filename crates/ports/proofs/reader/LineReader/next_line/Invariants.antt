@@ -1,7 +1,7 @@
 use Rattle.std.proofs.Common.{◌≡◌, ◌-◌, ◌⊎◌}
-use Rattle.line_reader.specs.Lines.{NoFeed, most_taken}
-use Rattle.line_reader.proofs.Going.{IsGoing}
-use Rattle.line_reader.proofs.reader.LineReader.next_line.Given as goal
+use Rattle.ports.specs.Lines.{NoFeed, most_taken}
+use Rattle.ports.proofs.Going.{IsGoing}
+use Rattle.ports.proofs.reader.LineReader.next_line.Given as goal
 
 abbrev pub invariant-pieces : goal.invariant-pieces
 invariant-pieces g l = IsGoing l.initial.self l.self (g.S.Source.told l.initial.source) (g.S.Source.told l.source) l.line.items l.long

@@ -1,9 +1,9 @@
 use Rattle.std.proofs.Common.{◌≡◌, ◌≤◌, ◌<◌, ◌∙◌, sym, ap, length, arith, rules, false, refl}
 use Rattle.std.proofs.lemmas.List.{length-take}
-use Rattle.line_reader.specs.Reader.{Reader}
-use Rattle.line_reader.proofs.Pieces.{one_came}
-use Rattle.line_reader.proofs.reader.LineReader.refill.Goals as goal
-use Rattle.line_reader.specs.Lines.{most_taken}
+use Rattle.ports.specs.Reader.{Reader}
+use Rattle.ports.proofs.Pieces.{one_came}
+use Rattle.ports.proofs.reader.LineReader.refill.Goals as goal
+use Rattle.ports.specs.Lines.{most_taken}
 
 pub returns-in-Ok : goal.returns-in-Ok
 returns-in-Ok g c =

@@ -1,8 +1,8 @@
 use Rattle.std.proofs.Common.{◌≡◌, ◌≤◌, ◌∙◌, sym, ap, length, slice_range, rules}
-use Rattle.line_reader.specs.Reader.{Reader}
-use Rattle.line_reader.proofs.Feeds.{feed_missing}
-use Rattle.line_reader.proofs.Pieces.{piece_whole, no_range}
-use Rattle.line_reader.proofs.reader.LineReader.take_piece.Goals as goal
+use Rattle.ports.specs.Reader.{Reader}
+use Rattle.ports.proofs.Feeds.{feed_missing}
+use Rattle.ports.proofs.Pieces.{piece_whole, no_range}
+use Rattle.ports.proofs.reader.LineReader.take_piece.Goals as goal
 
 pub returns-in-Some-clause-piece : goal.returns-in-Some-clause-piece
 returns-in-Some-clause-piece c = λ front kept.

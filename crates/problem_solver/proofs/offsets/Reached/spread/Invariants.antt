@@ -1,5 +1,5 @@
 use Rattle.std.proofs.Common.{◌≡◌}
-use Rattle.event_order.proofs.offsets.Reached.spread.Given as goal
+use Rattle.problem_solver.proofs.offsets.Reached.spread.Given as goal
 
 abbrev pub invariant-loop-place : goal.invariant-loop-place
 invariant-loop-place l = l.self ≡ l.initial.self

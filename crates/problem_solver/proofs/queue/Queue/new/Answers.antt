@@ -1,6 +1,6 @@
 use Rattle.std.proofs.Common.{◌≡◌, length, false, replicate, rules}
-use Rattle.event_order.proofs.Counting.{all_left}
-use Rattle.event_order.proofs.queue.Queue.new.Goals as goal
+use Rattle.problem_solver.proofs.Counting.{all_left}
+use Rattle.problem_solver.proofs.queue.Queue.new.Goals as goal
 
 pub returns-clause-left : goal.returns-clause-left
 returns-clause-left c =

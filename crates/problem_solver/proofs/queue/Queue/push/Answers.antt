@@ -1,9 +1,9 @@
 use Rattle.std.proofs.Common.{◌≡◌, ◌<◌, ◌∙◌, length, get_or, false, true, sym, subst, to_z, of_z}
 use Rattle.std.specs.Int.{w128}
 use Rattle.std.proofs.lemmas.List.{length-set, get_or_default}
-use Rattle.event_order.specs.Turns.{Turns}
-use Rattle.event_order.proofs.Counting.{same_turns, left_same}
-use Rattle.event_order.proofs.queue.Queue.push.Goals as goal
+use Rattle.problem_solver.specs.Turns.{Turns}
+use Rattle.problem_solver.proofs.Counting.{same_turns, left_same}
+use Rattle.problem_solver.proofs.queue.Queue.push.Goals as goal
 
 pub returns : goal.returns
 returns c =

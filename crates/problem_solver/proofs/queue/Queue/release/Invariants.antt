@@ -1,5 +1,5 @@
 use Rattle.std.proofs.Common.{◌≡◌}
-use Rattle.event_order.proofs.queue.Queue.release.Given as goal
+use Rattle.problem_solver.proofs.queue.Queue.release.Given as goal
 
 abbrev pub invariant-loop-place : goal.invariant-loop-place
 invariant-loop-place l = l.self ≡ l.initial.self

@@ -1,5 +1,5 @@
-use Rattle.event_order.proofs.Counting.{left_less}
-use Rattle.event_order.proofs.queue.Queue.take.Goals as goal
+use Rattle.problem_solver.proofs.Counting.{left_less}
+use Rattle.problem_solver.proofs.queue.Queue.take.Goals as goal
 
 pub returns-clause-left : goal.returns-clause-left
 returns-clause-left g c =

@@ -2,19 +2,19 @@ use Rattle.std.proofs.Common.{◌≡◌, ◌≤◌, ◌<◌, ◌++◌, List, len
 use Rattle.std.specs.Prelude.{slice_set}
 use Rattle.std.proofs.lemmas.List.{length-map}
 use Rattle.decl.specs.Declaration.{Declaration}
-use Rattle.trace_event.specs.declared.event.Event.{Event}
-use Rattle.trace_event.specs.Seen.{seen_event, seen_events}
+use Rattle.traces.specs.declared.event.Event.{Event}
+use Rattle.traces.specs.Seen.{seen_event, seen_events}
 use Rattle.traces.specs.declared.accepted.Accepted.{Accepted}
 use Rattle.traces.specs.Held.{seen_in}
 use Rattle.msg_match.specs.Groups.{SeenItem}
 use Rattle.msg_match.specs.Held.{seen_item, seen_items}
-use Rattle.event_match.specs.Ends.{items_from}
-use Rattle.event_match.proofs.Grown.{few_more}
+use Rattle.msg_match.specs.Ends.{items_from}
+use Rattle.msg_match.proofs.Grown.{few_more}
 use Rattle.roster.specs.Readings.{stamps_of}
 use Rattle.roster.specs.Roster.{RosterLists, IsGrown}
-use Rattle.plain_traces.specs.Added.{AreAdded}
-use Rattle.plain_traces.proofs.Added.{added_more, items_few, labels_many, own_numbers, seen_more}
-use Rattle.plain_traces.proofs.additions.Additions.add.Goals as goal
+use Rattle.reference_traces.specs.Added.{AreAdded}
+use Rattle.reference_traces.proofs.Added.{added_more, items_few, labels_many, own_numbers, seen_more}
+use Rattle.reference_traces.proofs.additions.Additions.add.Goals as goal
 
 pub add-requires-clause-few : goal.add-requires-clause-few
 add-requires-clause-few c =

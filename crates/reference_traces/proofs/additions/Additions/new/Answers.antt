@@ -2,8 +2,8 @@ use Rattle.std.proofs.Common.{◌≡◌, [], List, map, sym, ◌∙◌, ap}
 use Rattle.decl.specs.declared.items.Label.{Label}
 use Rattle.roster.specs.Roster.{RosterLists}
 use Rattle.traces.specs.Held.{seen_in}
-use Rattle.plain_traces.proofs.Added.{none_added}
-use Rattle.plain_traces.proofs.additions.Additions.new.Goals as goal
+use Rattle.reference_traces.proofs.Added.{none_added}
+use Rattle.reference_traces.proofs.additions.Additions.new.Goals as goal
 
 pub returns : goal.returns
 returns c =

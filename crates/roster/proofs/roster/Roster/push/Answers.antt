@@ -4,7 +4,7 @@ use Rattle.std.proofs.lemmas.List.{length-map}
 use Rattle.std.proofs.lemmas.List.FromFn.{length-range_with_len}
 use Rattle.std.proofs.lemmas.Option.{slice_get_within, slice_get_read, get_or_from_slice_get}
 use Rattle.decl.specs.Declaration.{declaration_of}
-use Rattle.trace_event.specs.declared.event.Event.{Event}
+use Rattle.traces.specs.declared.event.Event.{Event}
 use Rattle.roster.specs.Groups.{total, sizes_of}
 use Rattle.roster.specs.Readings.{Rise, stamps_of}
 use Rattle.roster.specs.Roster.{RosterLists, IsGrown}

@@ -2,17 +2,17 @@ use Rattle.std.proofs.Common.{◌≡◌, ◌∙◌, refl, ◌^◌, ◌≤◌, �
 use Rattle.std.specs.Vec.{with_items}
 use Rattle.std.proofs.lemmas.List.{with_items_is}
 use Rattle.decl.specs.Declaration.{Declaration}
-use Rattle.trace_event.specs.Seen.{Seen, seen_events}
+use Rattle.traces.specs.Seen.{Seen, seen_events}
 use Rattle.traces.specs.declared.accepted.Accepted.{Accepted}
 use Rattle.traces.specs.Traces.{event_count}
 use Rattle.traces.specs.Held.{seen_in}
 use Rattle.traces.specs.Messages.{problem_of_seen}
-use Rattle.event_match.specs.Ends.{IsChange}
+use Rattle.msg_match.specs.Ends.{IsChange}
 use Rattle.queries.specs.Consistent.{IsConsistent}
 use Rattle.replies.specs.Outcomes.{IsLineOf, outcome_line}
 use Rattle.session.specs.Stands.{Held, held_of, problem_held, solver_of, under_of}
-use Rattle.ready_answers.specs.Ready.{AreAnswersOf}
-use Rattle.ready_answers.specs.Keeping.{Brings}
+use Rattle.session_answers.specs.Ready.{AreAnswersOf}
+use Rattle.session_answers.specs.Keeping.{Brings}
 use Rattle.session.specs.Inside.{AcceptAnswered, HasPlace}
 use Rattle.session.proofs.AddedThere.{where_weaker}
 use Rattle.session.proofs.Holding.{limits, seen_accepted}

@@ -3,13 +3,13 @@ use Rattle.std.proofs.lemmas.Result.{IfOk-weaker}
 use Rattle.std.proofs.lemmas.List.{length-map}
 use Rattle.decl.specs.declared.items.Label.{Label}
 use Rattle.decl.specs.Declaration.{Declaration, declaration_of}
-use Rattle.trace_event.specs.Seen.{seen_events}
+use Rattle.traces.specs.Seen.{seen_events}
 use Rattle.replies.specs.declared.refusal.Refusal.TheVariants.{TooManyBytes, TooManyEvents}
 use Rattle.replies.specs.declared.outcome.Outcome.TheVariants.{Refused}
 use Rattle.replies.specs.Outcomes.{IsLineOf}
 use Rattle.captures.specs.Feeding.{Packet, seen_packet, seen_packets}
 use Rattle.traces.specs.Traces.{event_count}
-use Rattle.session.specs.declared.reading.Piece.TheVariants as pieces
+use Rattle.session.specs.declared.pieces.Piece.TheVariants as pieces
 use Rattle.session.specs.Stands.{Held, Under, under_of, seen_held}
 use Rattle.session.specs.TakingInside.{Completes, CompletesFront, HadRoom, HasPackets}
 use Rattle.session.specs.Pieces.{SaysEvents, IsRead, IsRefusedAs}

@@ -6,7 +6,7 @@ use Rattle.traces.specs.Traces.{event_count}
 use Rattle.traces.specs.Held.{seen_in}
 use Rattle.replies.specs.CommandSeen.{question_seen}
 use Rattle.session.specs.Stands.{Held, held_of, solver_of}
-use Rattle.ready_answers.specs.Ready.{AreAnswersOf}
+use Rattle.session_answers.specs.Ready.{AreAnswersOf}
 use Rattle.session.specs.Inside.{Asked}
 use Rattle.session.proofs.Telling.{reply_as}
 use Rattle.session.proofs.Standby.{ready_of, ready_some}

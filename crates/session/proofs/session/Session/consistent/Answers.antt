@@ -1,12 +1,12 @@
 use Rattle.std.proofs.Common.{◌≡◌, ◌∙◌, List, true, sym, ap, subst}
-use Rattle.trace_event.specs.Seen.{Seen}
+use Rattle.traces.specs.Seen.{Seen}
 use Rattle.traces.specs.Held.{seen_in}
 use Rattle.traces.specs.Messages.{problem_of_seen}
 use Rattle.problem_model.specs.Problem.{ProblemLists}
 use Rattle.queries.specs.Consistent.{IsConsistent}
 use Rattle.roster.specs.Roster.{listed}
 use Rattle.session.specs.Stands.{Held, problem_held}
-use Rattle.ready_answers.specs.Ready.{problem_by}
+use Rattle.session_answers.specs.Ready.{problem_by}
 use Rattle.session.proofs.Holding.{seen_accepted}
 use Rattle.session.proofs.Standby.{ready_of}
 use Rattle.session.proofs.session.Session.consistent.Goals as goal

@@ -2,7 +2,7 @@ use Rattle.std.proofs.Common.{◌≡◌, ◌^◌, ◌-◌, ◌∙◌, List, leng
 use Rattle.traces.specs.declared.accepted.Accepted.{Accepted}
 use Rattle.traces.specs.Traces.{event_count}
 use Rattle.traces.specs.Held.{seen_in}
-use Rattle.ready_answers.proofs.RosterEvents.{came_count}
+use Rattle.session_answers.proofs.RosterEvents.{came_count}
 use Rattle.session.specs.Stands.{Held, seen_held, solver_of}
 use Rattle.session.proofs.Counting.{least_of_few}
 use Rattle.session.proofs.Holding.{limits, accepted_few, seen_accepted}

@@ -7,7 +7,7 @@ use Rattle.traces.specs.Held.{seen_in}
 use Rattle.replies.specs.Commands.{Keep}
 use Rattle.replies.specs.Outcomes.{IsLineOf, outcome_line}
 use Rattle.session.specs.Stands.{Held, held_of, solver_of}
-use Rattle.ready_answers.specs.Ready.{AreAnswersOf}
+use Rattle.session_answers.specs.Ready.{AreAnswersOf}
 use Rattle.session.specs.Inside.{Asked}
 use Rattle.session.proofs.Replying.{keep_answered}
 use Rattle.session.proofs.Standby.{ready_of, ready_some, on_ok, of_ok}

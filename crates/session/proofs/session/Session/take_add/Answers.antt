@@ -4,7 +4,7 @@ use Rattle.mergecap.specs.Packets.{all_timed}
 use Rattle.replies.specs.Commands as asked
 use Rattle.replies.specs.CommandSeen.{question_seen}
 use Rattle.replies.specs.declared.refusal.Refusal.TheVariants.{NoCommand}
-use Rattle.session.specs.declared.taking.AddAnswer.TheVariants as answers
+use Rattle.session.specs.declared.kept_packets.AddAnswer.TheVariants as answers
 use Rattle.session.specs.Taking.{AsksToAdd, Takes}
 use Rattle.session.proofs.TakingOver.{line_takes, line_refused, question_adds_none, where_err}
 use Rattle.session.proofs.session.Session.take_add.Goals as goal

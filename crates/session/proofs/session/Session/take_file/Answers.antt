@@ -3,7 +3,7 @@ use Rattle.std.proofs.lemmas.Result.{IfOk-weaker}
 use Rattle.decl.specs.Declaration.{Declaration, HasLawfulLabels, declaration_of}
 use Rattle.mergecap.specs.Packets.{all_timed}
 use Rattle.replies.specs.declared.refusal.Refusal.TheVariants.{UnknownLabel}
-use Rattle.session.specs.declared.taking.AddAnswer.TheVariants as answers
+use Rattle.session.specs.declared.kept_packets.AddAnswer.TheVariants as answers
 use Rattle.replies.specs.Reply.{label_at}
 use Rattle.session.specs.Stands.{Held}
 use Rattle.session.specs.TakingInside.{TakesFile}

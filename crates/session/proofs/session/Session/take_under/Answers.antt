@@ -4,7 +4,7 @@ use Rattle.mergecap.specs.Packets.{all_timed}
 use Rattle.traces.specs.Traces.{event_count}
 use Rattle.replies.specs.declared.outcome.Outcome.{Outcome}
 use Rattle.replies.specs.declared.outcome.Outcome.TheVariants.{Refused}
-use Rattle.session.specs.declared.taking.AddAnswer.TheVariants as answers
+use Rattle.session.specs.declared.kept_packets.AddAnswer.TheVariants as answers
 use Rattle.session.specs.Stands.{seen_held, under_of}
 use Rattle.replies.specs.Outcomes.{IsLineOf}
 use Rattle.session.specs.TakingInside.{KeepsFound, UnderAnswered}

@@ -1,15 +1,15 @@
 use Rattle.std.proofs.Common.{List, ◌∙◌, ◌++◌, ap, length, sym, subst}
 use Rattle.earliest.specs.Values.{Values}
 use Rattle.sync_graph.specs.Graph.{GraphLists}
-use Rattle.trace_event.specs.Seen.{seen_events}
-use Rattle.traces.specs.declared.event.EventId.{EventId}
-use Rattle.event_match.specs.Ends.{AreEndsBy}
+use Rattle.traces.specs.Seen.{seen_events}
+use Rattle.traces.specs.declared.event_id.EventId.{EventId}
+use Rattle.msg_match.specs.Ends.{AreEndsBy}
 use Rattle.roster.specs.Groups.{with_more}
-use Rattle.kept_graph.specs.Numbering.{names_then}
-use Rattle.kept_graph.proofs.Matching.{own_come, few_come, ends_rematched}
-use Rattle.kept_graph.proofs.WholeGraph.{kept_still}
-use Rattle.kept_graph.proofs.Roomier.{roomier_between, roomier_add}
-use Rattle.kept_graph.proofs.kept.KeptGraph.add.Goals as goal
+use Rattle.session_graph.specs.Numbers.{names_then}
+use Rattle.session_graph.proofs.Matching.{own_come, few_come, ends_rematched}
+use Rattle.session_graph.proofs.WholeGraph.{kept_still}
+use Rattle.session_graph.proofs.Roomier.{roomier_between, roomier_add}
+use Rattle.session_graph.proofs.kept.KeptGraph.add.Goals as goal
 
 pub rematch-requires-clause-few : goal.rematch-requires-clause-few
 rematch-requires-clause-few g c =

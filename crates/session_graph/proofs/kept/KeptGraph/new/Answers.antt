@@ -1,8 +1,8 @@
 use Rattle.std.proofs.Common.{ap}
 use Rattle.roster.specs.Roster.{RosterLists}
-use Rattle.kept_graph.proofs.Matching.{no_ends}
-use Rattle.kept_graph.proofs.WholeGraph.{nothing_kept}
-use Rattle.kept_graph.proofs.kept.KeptGraph.new.Goals as goal
+use Rattle.session_graph.proofs.Matching.{no_ends}
+use Rattle.session_graph.proofs.WholeGraph.{nothing_kept}
+use Rattle.session_graph.proofs.kept.KeptGraph.new.Goals as goal
 
 pub returns-clause-kept : goal.returns-clause-kept
 returns-clause-kept c =

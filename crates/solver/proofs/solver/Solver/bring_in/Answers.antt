@@ -1,10 +1,10 @@
 use Rattle.std.proofs.Common.{ap, subst, ◌∙◌}
 use Rattle.repair.specs.Slots.{KeptRows}
-use Rattle.engine.specs.Solver.{SolverLists}
-use Rattle.engine.specs.Changes.{KeepsSlots}
-use Rattle.engine.specs.contracts.solver.Solver.{the_view}
-use Rattle.engine.proofs.KeptSlots.{keeps_slots}
-use Rattle.engine.proofs.solver.Solver.bring_in.Goals as goal
+use Rattle.solver.specs.Solver.{SolverLists}
+use Rattle.solver.specs.Changes.{KeepsSlots}
+use Rattle.solver.specs.contracts.solver.Solver.{the_view}
+use Rattle.solver.proofs.KeptSlots.{keeps_slots}
+use Rattle.solver.proofs.solver.Solver.bring_in.Goals as goal
 
 pub returns-in-Kept-clause-slots : goal.returns-in-Kept-clause-slots
 returns-in-Kept-clause-slots g c =

@@ -1,16 +1,16 @@
 use Rattle.std.proofs.Common.{◌≡◌, ◌<◌, ℕ, true, false, List, length, get_or, All, refl, sym, ap, subst, ◌∙◌}
 use Rattle.sync_graph.specs.declared.arc.Arc.{Arc}
 use Rattle.sync_graph.specs.Graph.{GraphLists}
-use Rattle.engine.specs.Solver.{SolverLists}
-use Rattle.engine.specs.Changes.{KeepsSlots, withdrawn}
-use Rattle.engine.specs.Current.{IsCurrent}
-use Rattle.engine.specs.Costs.{TakesFewToWithdrawAll}
-use Rattle.engine.specs.Withdrawn.{arcs_numbered, IsCutDown}
-use Rattle.engine.specs.contracts.solver.Solver.{the_view}
-use Rattle.engine.proofs.Cutting.{cut_down, few_after}
-use Rattle.engine.proofs.Fewer.{numbers_below}
-use Rattle.engine.proofs.KeptSlots.{keeps_after}
-use Rattle.engine.proofs.solver.Solver.cut_down.Goals as goal
+use Rattle.solver.specs.Solver.{SolverLists}
+use Rattle.solver.specs.Changes.{KeepsSlots, withdrawn}
+use Rattle.solver.specs.Current.{IsCurrent}
+use Rattle.solver.specs.Costs.{TakesFewToWithdrawAll}
+use Rattle.solver.specs.Withdrawn.{arcs_numbered, IsCutDown}
+use Rattle.solver.specs.contracts.solver.Solver.{the_view}
+use Rattle.solver.proofs.Cutting.{cut_down, few_after}
+use Rattle.solver.proofs.Fewer.{numbers_below}
+use Rattle.solver.proofs.KeptSlots.{keeps_after}
+use Rattle.solver.proofs.solver.Solver.cut_down.Goals as goal
 
 pub list_arcs-listed-requires : goal.list_arcs-listed-requires
 list_arcs-listed-requires g c =

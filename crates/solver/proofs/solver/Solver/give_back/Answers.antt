@@ -1,12 +1,12 @@
 use Rattle.std.proofs.Common.{◌≡◌, false, sym, subst, ap, ◌∙◌}
 use Rattle.row_pool.specs.Pool.{Pool, marked}
-use Rattle.engine.specs.Solver.{SolverLists}
-use Rattle.engine.specs.Current.{IsCurrent}
-use Rattle.engine.specs.Lending.{IsLent}
-use Rattle.engine.specs.contracts.solver.Solver.{the_view}
-use Rattle.engine.proofs.Loans.{back_current}
-use Rattle.engine.proofs.Staying.{with_rows}
-use Rattle.engine.proofs.solver.Solver.give_back.Goals as goal
+use Rattle.solver.specs.Solver.{SolverLists}
+use Rattle.solver.specs.Current.{IsCurrent}
+use Rattle.solver.specs.Lending.{IsLent}
+use Rattle.solver.specs.contracts.solver.Solver.{the_view}
+use Rattle.solver.proofs.Loans.{back_current}
+use Rattle.solver.proofs.Staying.{with_rows}
+use Rattle.solver.proofs.solver.Solver.give_back.Goals as goal
 
 pub returns-clause-current : goal.returns-clause-current
 returns-clause-current c =

@@ -1,11 +1,11 @@
 use Rattle.std.proofs.Common.{◌≡◌, ◌+◌, ◌<◌, length, sym, subst}
 use Rattle.std.specs.Prelude.{OnOk}
 use Rattle.row_pool.specs.Pool.{free_rows}
-use Rattle.engine.specs.Solver.{SolverLists}
-use Rattle.engine.specs.Current.{IsCurrent}
-use Rattle.engine.specs.contracts.solver.Solver.{the_view}
-use Rattle.engine.proofs.KeptSlots.{keep_free, keep_current}
-use Rattle.engine.proofs.solver.Solver.keep.Goals as goal
+use Rattle.solver.specs.Solver.{SolverLists}
+use Rattle.solver.specs.Current.{IsCurrent}
+use Rattle.solver.specs.contracts.solver.Solver.{the_view}
+use Rattle.solver.proofs.KeptSlots.{keep_free, keep_current}
+use Rattle.solver.proofs.solver.Solver.keep.Goals as goal
 
 pub returns-clause-free : goal.returns-clause-free
 returns-clause-free g c =

@@ -1,8 +1,8 @@
 use Rattle.std.proofs.Common.{◌≡◌, ◌+◌, subst}
 use Rattle.row_pool.specs.Pool.{free_rows}
-use Rattle.engine.specs.Solver.{SolverLists}
-use Rattle.engine.proofs.Lending.{two_less}
-use Rattle.engine.proofs.solver.Solver.keep_source.Goals as goal
+use Rattle.solver.specs.Solver.{SolverLists}
+use Rattle.solver.proofs.Lending.{two_less}
+use Rattle.solver.proofs.solver.Solver.keep_source.Goals as goal
 
 pub returns-clause-free : goal.returns-clause-free
 returns-clause-free g c =

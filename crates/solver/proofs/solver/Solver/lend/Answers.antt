@@ -2,13 +2,13 @@ use Rattle.std.proofs.Common.{◌≡◌, ◌+◌, [], length, sym, subst}
 use Rattle.sync_graph.specs.Graph.{table_of}
 use Rattle.row_pool.specs.Pool.{free_rows}
 use Rattle.repair.specs.Slots.{IsRowsOf}
-use Rattle.engine.specs.Solver.{SolverLists}
-use Rattle.engine.specs.Current.{IsCurrent}
-use Rattle.engine.specs.contracts.solver.Solver.{the_view}
-use Rattle.engine.proofs.Lending.{two_less}
-use Rattle.engine.proofs.Loans.{lent_current}
-use Rattle.engine.proofs.Staying.{solved_now}
-use Rattle.engine.proofs.solver.Solver.lend.Goals as goal
+use Rattle.solver.specs.Solver.{SolverLists}
+use Rattle.solver.specs.Current.{IsCurrent}
+use Rattle.solver.specs.contracts.solver.Solver.{the_view}
+use Rattle.solver.proofs.Lending.{two_less}
+use Rattle.solver.proofs.Loans.{lent_current}
+use Rattle.solver.proofs.Staying.{solved_now}
+use Rattle.solver.proofs.solver.Solver.lend.Goals as goal
 
 pub returns-clause-free : goal.returns-clause-free
 returns-clause-free g c =

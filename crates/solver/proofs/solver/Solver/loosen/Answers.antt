@@ -3,13 +3,13 @@ use Rattle.std.specs.Prelude.{Contains}
 use Rattle.sync_graph.specs.declared.arc.Arc.{Arc}
 use Rattle.sync_graph.specs.Graph.{GraphLists, arc_at}
 use Rattle.repair.specs.Slots.{all_slots}
-use Rattle.engine.specs.Solver.{SolverLists}
-use Rattle.engine.specs.Changes.{KeepsSlots, withdrawn}
-use Rattle.engine.specs.Current.{IsCurrent}
-use Rattle.engine.specs.contracts.solver.Solver.{the_view}
-use Rattle.engine.proofs.Fewer.{set_up_without, current_without, numbers_below}
-use Rattle.engine.proofs.KeptSlots.{keeps_slots, keeps_after, rows_as_before}
-use Rattle.engine.proofs.solver.Solver.loosen.Goals as goal
+use Rattle.solver.specs.Solver.{SolverLists}
+use Rattle.solver.specs.Changes.{KeepsSlots, withdrawn}
+use Rattle.solver.specs.Current.{IsCurrent}
+use Rattle.solver.specs.contracts.solver.Solver.{the_view}
+use Rattle.solver.proofs.Fewer.{set_up_without, current_without, numbers_below}
+use Rattle.solver.proofs.KeptSlots.{keeps_slots, keeps_after, rows_as_before}
+use Rattle.solver.proofs.solver.Solver.loosen.Goals as goal
 
 pub are_met-requires : goal.are_met-requires
 are_met-requires g c =

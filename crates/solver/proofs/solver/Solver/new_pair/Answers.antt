@@ -3,13 +3,13 @@ use Rattle.sync_graph.specs.Graph.{table_of}
 use Rattle.row_pool.specs.declared.cell.Cell.{Cell}
 use Rattle.row_pool.specs.Pool.{Pool, free_rows, marked, written}
 use Rattle.repair.specs.Slots.{all_slots}
-use Rattle.engine.specs.Solver.{SolverLists}
-use Rattle.engine.specs.Changes.{LeavesTaken}
-use Rattle.engine.specs.Current.{IsCurrent}
-use Rattle.engine.specs.contracts.solver.Solver.{the_view}
-use Rattle.engine.proofs.Lending.{some_free, given_back, own_left, rows_left}
-use Rattle.engine.proofs.Staying.{current_with_rows, rows_now}
-use Rattle.engine.proofs.solver.Solver.new_pair.Goals as goal
+use Rattle.solver.specs.Solver.{SolverLists}
+use Rattle.solver.specs.Changes.{LeavesTaken}
+use Rattle.solver.specs.Current.{IsCurrent}
+use Rattle.solver.specs.contracts.solver.Solver.{the_view}
+use Rattle.solver.proofs.Lending.{some_free, given_back, own_left, rows_left}
+use Rattle.solver.proofs.Staying.{current_with_rows, rows_now}
+use Rattle.solver.proofs.solver.Solver.new_pair.Goals as goal
 
 pub unreachable-requires : goal.unreachable-requires
 unreachable-requires g c = some_free c.self.inside.pool (subst (λ (x : SolverLists). 0 < free_rows x.pool) (sym c.self.view_is) c.requires.free) c.in_default.ensures.none

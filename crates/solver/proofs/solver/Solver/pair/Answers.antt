@@ -1,12 +1,12 @@
 use Rattle.std.proofs.Common.{◌≡◌, ◌<◌, [], length, sym, subst}
 use Rattle.sync_graph.specs.Graph.{GraphLists}
 use Rattle.repair.specs.Pairs.{IsPairIn}
-use Rattle.engine.specs.Solver.{SolverLists}
-use Rattle.engine.specs.Current.{IsCurrent}
-use Rattle.engine.specs.contracts.solver.Solver.{the_view}
-use Rattle.engine.proofs.Asked.{of_this}
-use Rattle.engine.proofs.Telling.{pair_turned}
-use Rattle.engine.proofs.solver.Solver.pair.Goals as goal
+use Rattle.solver.specs.Solver.{SolverLists}
+use Rattle.solver.specs.Current.{IsCurrent}
+use Rattle.solver.specs.contracts.solver.Solver.{the_view}
+use Rattle.solver.proofs.Asked.{of_this}
+use Rattle.solver.proofs.Telling.{pair_turned}
+use Rattle.solver.proofs.solver.Solver.pair.Goals as goal
 
 pub returns-in-Some-clause-pair : goal.returns-in-Some-clause-pair
 returns-in-Some-clause-pair g c =

@@ -1,11 +1,11 @@
 use Rattle.std.proofs.Common.{ℕ, length, sym, subst, ◌∙◌}
 use Rattle.sync_graph.specs.Graph.{GraphLists, IsGraph, with_arc}
-use Rattle.engine.specs.Solver.{SolverLists}
-use Rattle.engine.specs.Current.{IsCurrent}
-use Rattle.engine.specs.Pushed.{IsPushed}
-use Rattle.engine.specs.contracts.solver.Solver.{the_view}
-use Rattle.engine.proofs.Longer.{with_new_arc, is_pushed, still_contradicted}
-use Rattle.engine.proofs.solver.Solver.push_arc.Goals as goal
+use Rattle.solver.specs.Solver.{SolverLists}
+use Rattle.solver.specs.Current.{IsCurrent}
+use Rattle.solver.specs.Pushed.{IsPushed}
+use Rattle.solver.specs.contracts.solver.Solver.{the_view}
+use Rattle.solver.proofs.Longer.{with_new_arc, is_pushed, still_contradicted}
+use Rattle.solver.proofs.solver.Solver.push_arc.Goals as goal
 
 pub bring_in-requires-clause-before : goal.bring_in-requires-clause-before
 bring_in-requires-clause-before g c =

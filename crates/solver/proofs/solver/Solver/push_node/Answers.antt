@@ -2,11 +2,11 @@ use Rattle.std.proofs.Common.{◌+◌, [], ◌∷◌, ◌++◌, length, sym, sub
 use Rattle.std.specs.Prelude.{pos}
 use Rattle.sync_graph.specs.Graph.{GraphLists, IsGraph, with_node}
 use Rattle.earliest.specs.Values.{Values}
-use Rattle.engine.specs.Solver.{SolverLists, HasRoom}
-use Rattle.engine.specs.Current.{IsCurrent}
-use Rattle.engine.specs.contracts.solver.Solver.{the_view}
-use Rattle.engine.proofs.Longer.{current_with_node}
-use Rattle.engine.proofs.solver.Solver.push_node.Goals as goal
+use Rattle.solver.specs.Solver.{SolverLists, HasRoom}
+use Rattle.solver.specs.Current.{IsCurrent}
+use Rattle.solver.specs.contracts.solver.Solver.{the_view}
+use Rattle.solver.proofs.Longer.{current_with_node}
+use Rattle.solver.proofs.solver.Solver.push_node.Goals as goal
 
 pub returns-clause-current : goal.returns-clause-current
 returns-clause-current c =

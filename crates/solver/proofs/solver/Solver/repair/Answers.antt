@@ -1,12 +1,12 @@
 use Rattle.std.proofs.Common.{ap, subst, ◌∙◌}
 use Rattle.repair.specs.Slots.{KeptRows}
-use Rattle.engine.specs.Solver.{SolverLists}
-use Rattle.engine.specs.Changes.{KeepsSlots}
-use Rattle.engine.specs.Costs.{TakesFewToWithdrawAll}
-use Rattle.engine.specs.contracts.solver.Solver.{the_view}
-use Rattle.engine.proofs.Cutting.{few_both}
-use Rattle.engine.proofs.KeptSlots.{keeps_slots}
-use Rattle.engine.proofs.solver.Solver.repair.Goals as goal
+use Rattle.solver.specs.Solver.{SolverLists}
+use Rattle.solver.specs.Changes.{KeepsSlots}
+use Rattle.solver.specs.Costs.{TakesFewToWithdrawAll}
+use Rattle.solver.specs.contracts.solver.Solver.{the_view}
+use Rattle.solver.proofs.Cutting.{few_both}
+use Rattle.solver.proofs.KeptSlots.{keeps_slots}
+use Rattle.solver.proofs.solver.Solver.repair.Goals as goal
 
 pub returns-clause-slots : goal.returns-clause-slots
 returns-clause-slots g c =

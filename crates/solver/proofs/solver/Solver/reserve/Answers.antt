@@ -1,9 +1,9 @@
 use Rattle.std.proofs.Common.{◌-◌, length, sym, subst}
-use Rattle.engine.specs.Solver.{SolverLists}
-use Rattle.engine.specs.Current.{IsCurrent}
-use Rattle.engine.specs.contracts.solver.Solver.{the_view}
-use Rattle.engine.proofs.Staying.{with_rows, front_step, found_step, rows_step}
-use Rattle.engine.proofs.solver.Solver.reserve.Goals as goal
+use Rattle.solver.specs.Solver.{SolverLists}
+use Rattle.solver.specs.Current.{IsCurrent}
+use Rattle.solver.specs.contracts.solver.Solver.{the_view}
+use Rattle.solver.proofs.Staying.{with_rows, front_step, found_step, rows_step}
+use Rattle.solver.proofs.solver.Solver.reserve.Goals as goal
 
 pub returns-clause-current : goal.returns-clause-current
 returns-clause-current c =

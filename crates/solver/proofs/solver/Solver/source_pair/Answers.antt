@@ -2,11 +2,11 @@ use Rattle.std.proofs.Common.{◌≡◌, [], Some, None, sym, subst}
 use Rattle.std.specs.Prelude.{MatchOption}
 use Rattle.repair.specs.declared.slot.Slot.{Slot}
 use Rattle.repair.specs.Pairs.{IsPairIn}
-use Rattle.engine.specs.Solver.{SolverLists}
-use Rattle.engine.specs.Current.{IsCurrent}
-use Rattle.engine.specs.contracts.solver.Solver.{the_view}
-use Rattle.engine.proofs.Asked.{source_told}
-use Rattle.engine.proofs.solver.Solver.source_pair.Goals as goal
+use Rattle.solver.specs.Solver.{SolverLists}
+use Rattle.solver.specs.Current.{IsCurrent}
+use Rattle.solver.specs.contracts.solver.Solver.{the_view}
+use Rattle.solver.proofs.Asked.{source_told}
+use Rattle.solver.proofs.solver.Solver.source_pair.Goals as goal
 
 pub returns : goal.returns
 returns c =

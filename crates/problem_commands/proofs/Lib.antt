@@ -1,0 +1,9 @@
+pub mod Printing
+pub mod Reading
+pub mod Words
+pub mod Naming
+pub mod Obeying
+pub mod Solving
+pub mod Intervals
+pub mod Verifying
+pub mod Widenings

@@ -1,0 +1,10 @@
+pub mod Codes
+pub mod Printing
+pub mod Refusal
+pub mod Texts
+pub mod Unread
+pub mod Obey
+pub mod Solve
+pub mod Intervals
+pub mod Verify
+pub mod Widening

@@ -1,0 +1,16 @@
+//! The commands over texts of problems: `obey`, `solve`, `ends`, `verify`, `widen` and `judge`.
+#![tactic(auto)]
+
+pub mod ends;
+pub mod judge;
+pub mod last_line;
+pub mod obey;
+mod print;
+pub mod refusal;
+pub mod solve;
+pub mod status;
+mod texts;
+pub mod verify;
+pub mod widening;
+
+pub use status::Status;

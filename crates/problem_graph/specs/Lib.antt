@@ -1,0 +1,4 @@
+pub mod Standing
+pub mod ListedProblem
+pub mod ListedStanding
+pub mod HeldBounds
