@@ -13,5 +13,7 @@ mod units;
 pub use nano::{Nano, delay_units};
 pub use rate::{Rate, span_least, span_most, spans_add};
 pub use steps::Steps;
-pub use text::{NsText, NumFault, read_decimal, read_ns, spellings_are_one, write_decimal, write_ns};
+pub use text::{
+    NsText, NumFault, read_decimal, read_ns, spellings_are_one, write_decimal, write_ns,
+};
 pub use units::Units;

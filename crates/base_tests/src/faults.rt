@@ -1,6 +1,5 @@
 use crate::fixtures::{text_of, write_pieces};
-use ports::Gathering;
-use ports::{Failed, MemSink};
+use ports::{Failed, Gathering, MemSink};
 use std::alloc::Global;
 
 // A sink that takes 20,000 bytes in a call and fails at the call of this number.

@@ -1,6 +1,5 @@
 // Texts, and how they are written.
-use ports::Gathering;
-use ports::{MemSink, Sink};
+use ports::{Gathering, MemSink, Sink};
 use std::alloc::{AllocError, Global};
 
 // A text of so many bytes, which repeat after 251.

@@ -1,7 +1,7 @@
 // Two clocks of which one follows the other, pushed, and what the problem says of their order.
 use atto::{Nano, Rate};
-use problem_model::{Clock, Event, Follow, Name};
 use problem::{NearestFollow, Problem, PushError};
+use problem_model::{Clock, Event, Follow, Name};
 use std::alloc::Global;
 use std::process::Abort;
 use std::test::*;

@@ -1,7 +1,6 @@
 ghost use Rattle.std.specs.Prelude.{◌<◌};
 
-use ports::{Line, LineFault, LineReader, LineText};
-use ports::MemSource;
+use ports::{Line, LineFault, LineReader, LineText, MemSource};
 use std::alloc::{AllocError, Global};
 use std::test::Fail;
 

@@ -1,6 +1,5 @@
 use crate::fixtures::comes_out;
-use ports::Gathering;
-use ports::{MemSink, write_whole};
+use ports::{Gathering, MemSink, write_whole};
 use std::alloc::Global;
 use std::test::Fail;
 

@@ -2,8 +2,8 @@ ghost use Rattle.std.specs.Prelude.{◌<◌};
 
 use atto::{Nano, Rate};
 use ports::{MemSink, Sink};
-use problem_model::{Clock, Name};
 use problem::{Problem, read_problem};
+use problem_model::{Clock, Name};
 use problem_text::{write_clock, write_end, write_event, write_head, write_message, write_problem};
 use std::alloc::Global;
 use std::test::*;

@@ -1,6 +1,6 @@
 use atto::{Nano, Rate};
-use problem_model::{Clock, Event, Message, Name};
 use problem::{Listing, Problem, ProblemError, read_problem};
+use problem_model::{Clock, Event, Message, Name};
 use std::alloc::Global;
 use std::process::Abort;
 use std::test::*;

@@ -10,8 +10,8 @@ ghost use Rattle.cert.specs.TakesPart.{HasBound};
 use crate::kinds::{Extreme, StampBound};
 use crate::steps::{FollowWords, SpanWords, StepWords};
 use atto::Nano;
-use problem_model::{Bound, Message, Name};
 use problem::Problem;
+use problem_model::{Bound, Message, Name};
 
 // The stamp of a number that is held.
 fn nano_of(n: Option<u64>) -> Option<Nano>

@@ -12,8 +12,8 @@ use crate::execution::Execution;
 use crate::kinds::Side;
 use atto::{NumFault, read_ns};
 use line_format::{FaultKind, LineError, cut, three_words};
-use problem_model::Name;
 use problem::Problem;
+use problem_model::Name;
 use std::alloc::Global;
 
 /// The names of the two events whose difference has the ends.

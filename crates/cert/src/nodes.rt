@@ -4,8 +4,8 @@ ghost use Rattle.problem_model.specs.Nodes.{AreReadings, nodes_of, most_nodes};
 ghost use Rattle.cert.specs.NodeLists.{StandsAt};
 
 use atto::Nano;
-use problem_model::{Clock, Event, Name};
 use problem::Problem;
+use problem_model::{Clock, Event, Name};
 use std::marker::Model;
 
 /// The events of a problem in their order, then its readings.

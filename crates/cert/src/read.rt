@@ -17,8 +17,8 @@ use crate::nodes::{NextNode, Nodes};
 use crate::words::{event_words, reading_words};
 use atto::Nano;
 use line_format::{FaultKind, LineError, MOST_BYTES, Taken, cut};
-use problem_model::Name;
 use problem::Problem;
+use problem_model::Name;
 use std::alloc::Global;
 
 // The line of the event of this name.

@@ -20,8 +20,8 @@ use crate::steps::{StepWords, step_words};
 use crate::words::clock_name;
 use atto::Units;
 use line_format::{FaultKind, LineError, Taken, cut};
-use problem_model::Name;
 use problem::Problem;
+use problem_model::Name;
 
 /// The clock of a line `inside CLOCK`.
 fn inside_words(body: &[u8]) -> Option<Name>

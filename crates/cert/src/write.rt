@@ -9,8 +9,8 @@ ghost use Rattle.problem_model.specs.BoundText.{span_words, stamp_words, follow_
 use atto::Nano;
 use ports::fixed_line::{Line, first_word, push_decimal, push_ns, push_word};
 use ports::{Failed, Sink, write_whole};
-use problem_model::Bound;
 use problem::Listing;
+use problem_model::Bound;
 
 /// Appends the name of an event behind a space.
 pub fn push_event<N: Listing>(line: &mut Line, names: &N, event: u32)

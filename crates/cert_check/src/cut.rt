@@ -14,8 +14,8 @@ ghost use Rattle.std.specs.Prelude.{IfSome};
 
 use crate::answer::{Part, Reason};
 use crate::declared::listed_bound;
-use problem_model::{Bound, Message};
 use problem::Problem;
+use problem_model::{Bound, Message};
 
 // Whether a clock is among those inside, which rise.
 fn has_clock(inside: &[u32], clock: u32) -> bool

@@ -20,8 +20,8 @@ use crate::declared::declared;
 use crate::walk::{Held, Walk, walk_over};
 use atto::Nano;
 use cert::Chain;
-use problem_model::Node;
 use problem::Problem;
+use problem_model::Node;
 
 // What is wrong with a cycle whose walk from where the first step comes from went over all so many steps.
 fn closing_fault(start: &Node, held: Held, count: u32) -> Option<Reason>

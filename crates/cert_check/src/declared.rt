@@ -9,8 +9,8 @@ ghost use Rattle.cert_check.specs.Walks.{constraint, HasMessageBetween, LeadsTo}
 ghost use Rattle.cert_check.specs.Widened.{widened};
 
 use atto::{Nano, delay_units, span_least, span_most};
-use problem_model::{Bound, Clock, Event, Message, Node};
 use problem::{NearestFollow, Problem};
+use problem_model::{Bound, Clock, Event, Message, Node};
 
 /// The difference constraint `x_to - x_from <= weight` that a problem declares. The weight is in units of 1e-9 ns.
 #[derive(Clone, Copy, Debug, PartialEq, Eq)]

@@ -20,8 +20,8 @@ use crate::declared::no_extra;
 use crate::walk::{Held, Walk, walk_over};
 use atto::Units;
 use cert::Chain;
-use problem_model::Node;
 use problem::Problem;
+use problem_model::Node;
 
 // The sum that a path should have, in units of 1e-9 ns.
 fn sum_for(part: Part, value: Units) -> i128

@@ -16,8 +16,8 @@ ghost use Rattle.cert_check.specs.Widened.{widened};
 use crate::declared::{listed_bound, no_extra, widened_units};
 use atto::{Nano, Units, delay_units, span_least, span_most};
 use cert::Execution;
-use problem_model::{Bound, Clock, Event, Message};
 use problem::Problem;
+use problem_model::{Bound, Clock, Event, Message};
 
 /// Whether an execution obeys the bounds of a problem. Weight and difference are in units of 1e-9 ns.
 #[derive(Clone, Copy, Debug, PartialEq, Eq)]

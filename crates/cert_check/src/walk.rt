@@ -10,8 +10,8 @@ use crate::answer::Part;
 use crate::declared::{Declaration, declared};
 use atto::Nano;
 use cert::Chain;
-use problem_model::Node;
 use problem::Problem;
+use problem_model::Node;
 
 /// What became of a walk. Steps count from 1.
 #[derive(Clone, Copy, Debug, PartialEq, Eq)]

@@ -6,8 +6,8 @@ use crate::fixtures::MESSAGE_PROBLEM;
 use crate::parts::{LEAST, NS, chain, cut, execution, limit};
 use cert::{Cert, EndProof, write_cert};
 use ports::MemSink;
-use problem_model::Bound;
 use problem::{Problem, read_problem};
+use problem_model::Bound;
 use std::alloc::Global;
 use std::test::*;
 

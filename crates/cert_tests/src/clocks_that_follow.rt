@@ -3,8 +3,8 @@ use crate::parts::{NS, execution};
 use crate::verdicts::{Ends, ends_answer, first_wrong_of, text_answers};
 use atto::Nano;
 use cert_check::{Answer, Part, Reason, Verdict, obeys};
-use problem_model::Bound;
 use problem::{Problem, read_problem};
+use problem_model::Bound;
 use std::alloc::Global;
 use std::test::*;
 

@@ -8,8 +8,8 @@ use crate::fixtures::TWO_LOGS_PROBLEM;
 use atto::Nano;
 use cert::{CertError, Execution, read_execution, write_step, write_value};
 use ports::MemSink;
-use problem_model::Bound;
 use problem::{Listing, Problem, read_problem};
+use problem_model::Bound;
 use std::alloc::Global;
 use std::test::*;
 

@@ -6,8 +6,8 @@ ghost use Rattle.cert.specs.CertificateText.{IsStepOf, HasOneEach, IsEndOf};
 
 use atto::{Nano, Units};
 use cert::{Chain, EndProof, Execution, Step};
-use problem_model::Bound;
 use problem::Problem;
+use problem_model::Bound;
 use std::alloc::Global;
 
 pub(crate) const NS: i128 = 1_000_000_000;

@@ -4,8 +4,8 @@ use crate::fixtures::MESSAGE_PROBLEM;
 use crate::parts::{LEAST, MOST, NS, chain, execution};
 use cert::Cert;
 use cert_check::{Answer, Part, Reason, check, check_text};
-use problem_model::Bound;
 use problem::{Problem, read_problem};
+use problem_model::Bound;
 use std::alloc::{AllocError, Global};
 use std::test::*;
 

@@ -1,8 +1,8 @@
 // Worked texts of widenings: what judging them answers, why others are refused, and that they are written as they are read.
 use cert::CertError;
 use cert_check::{Answer, Part, Reason};
-use problem_model::Bound;
 use problem::{Problem, read_problem};
+use problem_model::Bound;
 use std::alloc::{AllocError, Global};
 use std::test::*;
 use widen::judge_text;

@@ -11,13 +11,13 @@ ghost use Rattle.problem_commands.specs.Printing.{Closes, IsOnly, Prints};
 ghost use Rattle.problem_commands.specs.declared.status.Status.TheVariants as statuses;
 
 use crate::declaration::decl_in;
-use problem_commands::last_line::finish;
 use crate::sessions::refuse;
-use problem_commands::Status;
 use atto::Steps;
 use merge_script::{Unmerged, merge_script};
 use mergecap::{Stored, write_capture};
 use ports::{Failed, Files, Sink, Source, write_whole};
+use problem_commands::Status;
+use problem_commands::last_line::finish;
 use std::alloc::Global;
 use std::sync::ledger::Ledger;
 

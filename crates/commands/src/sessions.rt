@@ -5,11 +5,11 @@ ghost use Rattle.problem_commands.specs.Printing.{Prints};
 ghost use Rattle.commands.specs.Sessions.{TellsUndeclared, ClosesScript, Conducted};
 
 use crate::declaration::{Undeclared, decl_in};
-use problem_commands::last_line::finish;
 use crate::lines::declaration_line;
-use problem_commands::Status;
 use atto::Steps;
 use ports::{Files, Sink, Source};
+use problem_commands::Status;
+use problem_commands::last_line::finish;
 use session::{Ended, answer_script};
 use std::alloc::Global;
 use std::sync::ledger::Ledger;

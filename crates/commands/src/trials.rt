@@ -6,9 +6,9 @@ ghost use Rattle.problem_commands.specs.Printing.{Prints};
 ghost use Rattle.commands.specs.Trials.{counts_line, Tried};
 
 use crate::lines::counts_line;
-use problem_commands::Status;
 use atto::Steps;
 use ports::{Failed, Sink, write_whole};
+use problem_commands::Status;
 use std::alloc::Global;
 use std::sync::ledger::Ledger;
 use trial_session::{Outcome, conduct};

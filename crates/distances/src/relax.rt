@@ -10,9 +10,9 @@ ghost use Rattle.distances.specs.Facing.{facing, followed, end_of, potential};
 ghost use Rattle.distances.specs.Relaxed.{waits_of, AreKeyed, IsShorter, IsEnough, IsOffered, IsRelaxedBy};
 
 use atto::Steps;
-use problem_model::numbers::{longer, reduced_distance};
 use earliest::Earliest;
 use frontier::Frontier;
+use problem_model::numbers::{longer, reduced_distance};
 use row_pool::Cell;
 use std::sync::ledger::Ledger;
 use sync_graph::{Arc, Graph};

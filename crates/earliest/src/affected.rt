@@ -10,8 +10,8 @@ ghost use Rattle.withdrawals.specs.Withdrawals.{IsExact};
 ghost use Rattle.earliest.specs.Withdrawn.{waits_at, found_at, arcs_before, IsMarkedBy, IsMarkingIn};
 
 use atto::Steps;
-use problem_model::numbers::shortfall;
 use frontier::Frontier;
+use problem_model::numbers::shortfall;
 use std::sync::ledger::Ledger;
 use sync_graph::{Arc, Graph};
 

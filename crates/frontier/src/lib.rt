@@ -7,8 +7,8 @@ mod order;
 ghost use Rattle.std.specs.Prelude.{◌≡◌, ◌+◌, ◌-◌, ◌<◌, ◌≤◌, ◌^◌, [], ◌++◌, length, replicate, IfNone, IfSome, IfOk, OnOk, OnErr, List, ℤ, ◌≤ℤ◌, slice_set, slice_index_or, Option, Some, None};
 ghost use Rattle.frontier.specs.Keys.{Waits, IsFree, IsEmpty, IsLeastEntry};
 
-use atto::Steps;
 use crate::heap::{remove_root, sift_up};
+use atto::Steps;
 use std::alloc::{AllocError, Global};
 use std::marker::Model;
 use std::sync::ledger::Ledger;

@@ -9,11 +9,11 @@ use atto::Steps;
 use earliest::{Earliest, Inserted};
 use frontier::Frontier;
 use problem::read_problem;
+use problem_graph::graph_of;
 use problem_model::{Bound, Node};
 use std::alloc::{AllocError, Global};
 use std::sync::ledger::Ledger;
 use sync_graph::{Arc, Graph};
-use problem_graph::graph_of;
 
 // An arc between two nodes, and its weight.
 pub(crate) type Link = (u32, u32, i128);

@@ -1,7 +1,6 @@
 //! Different values, each with its place: for names and keys that are looked up, whoever chose them.
 #![tactic(auto)]
 
-
 ghost use Rattle.std.specs.Prelude.{◌≡◌, ◌-◌, ◌<◌, ◌++◌, ◌∷◌, [], length, take, position, Some, None, IfSome, IfErr, OnOk, OnErr};
 ghost use Rattle.interner.specs.Numbers.{IsLast};
 

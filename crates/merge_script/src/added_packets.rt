@@ -12,11 +12,10 @@ ghost use Rattle.merge_script.specs.Turns.{AreKeptFor, AddsLine, EndsOrLacks, En
 use crate::Unmerged;
 use crate::sizes::with_all;
 use atto::Steps;
-use ports::{Line, LineFault, LineReader, LineText};
 use mergecap::Stored;
-use ports::{Files, Source};
-use session::{AddAnswer, Session};
+use ports::{Files, Line, LineFault, LineReader, LineText, Source};
 use replies::too_long_text;
+use session::{AddAnswer, Session};
 use std::sync::ledger::Ledger;
 
 // The packets behind so many.

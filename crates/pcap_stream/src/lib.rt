@@ -11,6 +11,9 @@ mod stream;
 
 pub use errors::PcapError;
 pub use first_packets::FirstPackets;
-pub use laws::{captures_are_one, faults_are_one, new_stands, nothing_reads, old_packets_stay, refused_or_read, streams_are_judged, tails_are_one};
+pub use laws::{
+    captures_are_one, faults_are_one, new_stands, nothing_reads, old_packets_stay, refused_or_read,
+    streams_are_judged, tails_are_one,
+};
 pub use packet::Packet;
 pub use stream::PcapStream;

@@ -16,5 +16,8 @@ mod section;
 mod stream;
 
 pub use errors::CaptureError;
-pub use laws::{captures_are_one, faults_are_one, kept_streams_are_read, new_stands, nothing_reads, old_packets_stay, refused_or_read, streams_are_judged, tails_are_one};
+pub use laws::{
+    captures_are_one, faults_are_one, kept_streams_are_read, new_stands, nothing_reads,
+    old_packets_stay, refused_or_read, streams_are_judged, tails_are_one,
+};
 pub use stream::CaptureStream;

@@ -3,8 +3,7 @@ ghost use Rattle.std.specs.Prelude.{◌≡◌, ◌≤◌, ◌<◌, ◌++◌, ◌
 ghost use Rattle.ports.specs.Content.{TakesSome};
 ghost use Rattle.ports.specs.Block.{IsKept};
 
-use crate::LineText;
-use crate::{Failed, Source};
+use crate::{Failed, LineText, Source};
 
 // The place of the first line feed.
 pub fn feed_place(bytes: &[u8]) -> Option<usize>

@@ -5,8 +5,7 @@ ghost use Rattle.ports.specs.Block.{EndsLine, IsKept, Refills, TakesPiece, found
 ghost use Rattle.ports.specs.Lines.{most_taken};
 
 use crate::block::{feed_place, keep, read_block};
-use crate::{Line, LineFault, LineText};
-use crate::Source;
+use crate::{Line, LineFault, LineText, Source};
 use std::marker::Model;
 
 // How many bytes are read at a time, at most.

@@ -16,14 +16,13 @@ use crate::print::interval_line;
 use crate::status::Status;
 use crate::texts::problem_in;
 use atto::Steps;
-use solver::Solver;
 use intervals::{ends_from, order_of};
 use ports::{Failed, Files, Sink};
-use problem_model::Name;
 use problem::Problem;
-use queries::write_contradiction;
+use problem_model::Name;
+use queries::{pairs, write_contradiction};
 use row_pool::Pair;
-use queries::pairs;
+use solver::Solver;
 use std::alloc::Global;
 use std::sync::ledger::Ledger;
 

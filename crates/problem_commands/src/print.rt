@@ -18,8 +18,8 @@ use cert::push_bound;
 use cert_check::{Part, Reason};
 use intervals::{End, Ends, Order};
 use ports::fixed_line::{Line, first_word, push_decimal, push_ns, push_word};
-use problem_model::Bound;
 use problem::Problem;
+use problem_model::Bound;
 use queries::order_word;
 
 /// The line that names a broken bound, its weight and the difference found, which are given in units of 1e-9 ns and

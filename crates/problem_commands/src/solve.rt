@@ -11,11 +11,10 @@ use crate::status::Status;
 use crate::texts::problem_in;
 use attain::write_run;
 use atto::Steps;
-use solver::Solver;
 use ports::{Failed, Files, Sink};
 use problem::Problem;
-use queries::write_contradiction;
-use queries::executions;
+use queries::{executions, write_contradiction};
+use solver::Solver;
 use std::alloc::Global;
 use std::sync::ledger::Ledger;
 

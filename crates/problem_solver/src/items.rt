@@ -5,8 +5,8 @@ ghost use Rattle.problem_model.specs.Bounds.{IsReading};
 ghost use Rattle.problem_model.specs.Nodes.{Reading, AreReadings};
 ghost use Rattle.problem_solver.specs.Items.{AreItems, items_of};
 
-use atto::{Nano, Steps};
 use crate::event_ranks;
+use atto::{Nano, Steps};
 use problem::{NearestFollow, Problem};
 use problem_model::{Event, Message};
 use std::alloc::{AllocError, Global};

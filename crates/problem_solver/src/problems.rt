@@ -9,8 +9,8 @@ ghost use Rattle.problem_solver.specs.Pushing.{NodesCome};
 use crate::items::ordered_items;
 use crate::pushes::{push_items, push_nodes};
 use atto::{Nano, Steps};
-use solver::Solver;
 use problem::Problem;
+use solver::Solver;
 use std::alloc::{AllocError, Global};
 use std::sync::ledger::Ledger;
 

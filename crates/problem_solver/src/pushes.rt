@@ -15,9 +15,9 @@ ghost use Rattle.problem_solver.specs.Pushing.{HasNodesOf, IsDeclaredArc, AddsBo
 
 use crate::items::{Item, Ranked, place_of, reading_of};
 use atto::{Nano, Steps, delay_units, span_least, span_most};
-use solver::Solver;
 use problem::{NearestFollow, Problem};
 use problem_model::{Bound, Event, Message, Node};
+use solver::Solver;
 use std::alloc::AllocError;
 use std::sync::ledger::Ledger;
 use sync_graph::Arc;

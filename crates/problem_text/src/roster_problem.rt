@@ -13,10 +13,10 @@ ghost use Rattle.roster.specs.Told.{TellsMessages, messages_by_number};
 ghost use Rattle.problem_text.specs.RosterText.{HasPartners, came_lines, roster_text, sent_lines};
 
 use crate::roster_lines::{write_came, write_next, write_sent};
+use crate::{write_clock, write_end, write_head};
 use decl::Decl;
 use ports::{Failed, Sink};
 use problem::Listing;
-use crate::{write_clock, write_end, write_head};
 use roster::Roster;
 
 // The version of the text: 2 where one clock follows another, and 1 elsewhere.

@@ -8,8 +8,8 @@ ghost use Rattle.problem_model.specs.ProblemText.{head_of, clock_line, follow_li
 use crate::lines::{write_clock, write_end, write_event, write_follow, write_head, write_message};
 use atto::Nano;
 use ports::{Failed, Sink};
-use problem_model::{Event, Follow, Message};
 use problem::{Listing, Problem};
+use problem_model::{Event, Follow, Message};
 
 // The version of the problem's text.
 fn version_of(p: &Problem) -> u32

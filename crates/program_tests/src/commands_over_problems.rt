@@ -3,8 +3,8 @@ use crate::fixtures::{
 };
 use crate::runs::{Wanted, prints};
 use atto::{NsText, write_decimal};
-use problem_commands::Status;
 use ports::MemFiles;
+use problem_commands::Status;
 use std::alloc::{AllocError, Global};
 use std::test::Fail;
 

@@ -1,8 +1,8 @@
 // Each call of a device fails in turn, in a session over two logs.
 use crate::fixtures::TWO_LOGS_DECLARATION;
 use crate::runs::run_over;
-use problem_commands::Status;
 use ports::{MemFiles, MemSink};
+use problem_commands::Status;
 use std::alloc::{AllocError, Global};
 use std::test::Fail;
 

@@ -2,8 +2,8 @@
 use crate::commands_over_problems::{rows_ended, rows_obeyed, rows_refused};
 use crate::runs::{Wanted, prints};
 use crate::verified_certificates::{rows_verified, solve_into};
-use problem_commands::Status;
 use ports::{MemFiles, MemSink};
+use problem_commands::Status;
 use std::alloc::{AllocError, Global};
 use std::test::Fail;
 

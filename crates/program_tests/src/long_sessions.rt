@@ -1,8 +1,8 @@
 // A session over a log of some thousand rows.
 use crate::runs::{Wanted, answers};
 use atto::{NsText, write_decimal};
-use problem_commands::Status;
 use ports::{MemFiles, MemSink};
+use problem_commands::Status;
 use std::alloc::{AllocError, Global};
 use std::test::Fail;
 

@@ -1,7 +1,7 @@
 // Captures that are merged into one, and why some are not.
 use crate::runs::run_over;
-use problem_commands::Status;
 use ports::{MemFiles, MemSink};
+use problem_commands::Status;
 use std::alloc::{AllocError, Global};
 use std::test::Fail;
 

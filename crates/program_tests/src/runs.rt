@@ -1,7 +1,7 @@
 // Runs of the program over objects in memory. Each function makes one of them, and gives it to the next.
-use problem_commands::Status;
 use commands::run;
 use ports::{MemFiles, MemSink, MemSource, Words};
+use problem_commands::Status;
 use std::alloc::{AllocError, Global};
 
 // Words, and what a run with them comes to.

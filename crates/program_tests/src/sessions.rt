@@ -1,7 +1,7 @@
 use crate::fixtures::{TWO_LOGS_DECLARATION, USAGE};
 use crate::runs::{Wanted, answers, prints, run_over};
-use problem_commands::Status;
 use ports::{MemFiles, MemSink};
+use problem_commands::Status;
 use std::alloc::{AllocError, Global};
 use std::test::Fail;
 

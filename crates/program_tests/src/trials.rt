@@ -1,8 +1,8 @@
 // Trials, over workloads that the program makes.
 use crate::fixtures::USAGE;
 use crate::runs::{Wanted, prints};
-use problem_commands::Status;
 use ports::MemFiles;
+use problem_commands::Status;
 use std::alloc::{AllocError, Global};
 use std::test::Fail;
 

@@ -6,8 +6,8 @@ use crate::runs::{Wanted, prints, run_over};
 use crate::verify_cases::{
     ACCEPTED, CHANGED_INTERVALS, CHANGED_RUNS_AND_CYCLES, CHANGED_UNBOUNDED, ILL_FORMED, REFUSED,
 };
-use problem_commands::Status;
 use ports::{MemFiles, MemSink};
+use problem_commands::Status;
 use std::alloc::{AllocError, Global};
 use std::test::Fail;
 

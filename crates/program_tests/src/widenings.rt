@@ -1,8 +1,8 @@
 // The least widening of a problem is printed, and judged.
 use crate::fixtures::{CONTRADICTING_PROBLEM, TWO_LOGS_PROBLEM};
 use crate::runs::{Wanted, answers, prints, run_over};
-use problem_commands::Status;
 use ports::{MemFiles, MemSink};
+use problem_commands::Status;
 use std::alloc::{AllocError, Global};
 use std::test::Fail;
 

@@ -4,8 +4,8 @@ ghost use Rattle.problem.specs.Listing.{Listed};
 ghost use Rattle.solver.specs.Solution.{IsSolutionBy};
 ghost use Rattle.queries.specs.Consistent.{IsConsistent};
 
-use solver::Solver;
 use crate::{contradictions, executions};
+use solver::Solver;
 
 /// Whether some execution obeys all bounds of the problem of which the engine holds the answer.
 pub fn is_consistent(solver: &Solver) -> bool

@@ -5,10 +5,10 @@ ghost use Rattle.ports.specs.Content.{Writes};
 ghost use Rattle.queries.specs.Asking.{IsHeldContradiction};
 ghost use Rattle.queries.specs.Replies.{IsContradictionText};
 
+use crate::contradictions;
 use attain::write_cycle;
 use ports::{Failed, Sink};
 use problem::Listing;
-use crate::contradictions;
 use sync_graph::Arc;
 
 /// Writes the certificate of a contradiction that an engine holds of a listed problem: a closed chain of bounds whose

@@ -13,13 +13,13 @@ ghost use Rattle.queries.specs.Asking.{IsAtHand};
 ghost use Rattle.queries.specs.Replies.{IsProofText, Replies};
 
 use crate::contradiction::write_contradiction;
+use crate::executions;
 use attain::write_ends;
 use atto::Steps;
-use solver::Solver;
 use ports::{Failed, Sink};
 use problem::Listing;
 use row_pool::Cell;
-use crate::executions;
+use solver::Solver;
 use std::sync::ledger::Ledger;
 
 // Writes the certificate by the rows of the first node.

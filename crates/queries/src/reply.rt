@@ -18,12 +18,12 @@ ghost use Rattle.queries.specs.Replies.{IsIntervalLine, IsOrderLine, IsLineOf, R
 use crate::contradiction::write_contradiction;
 use crate::lines::line_for;
 use crate::question::{Asked, Question};
+use crate::{executions, pairs};
 use atto::Steps;
-use solver::Solver;
 use ports::{Failed, Sink, write_whole};
 use problem::Listing;
 use row_pool::Pair;
-use crate::{executions, pairs};
+use solver::Solver;
 use std::sync::ledger::Ledger;
 
 // Writes the line that answers what is asked of two events, by their greatest differences in both directions.

@@ -14,13 +14,13 @@ ghost use Rattle.queries.specs.Replies.{IsTimeLine, Replies};
 
 use crate::contradiction::write_contradiction;
 use crate::lines::time_line;
+use crate::{executions, pairs};
 use atto::Nano;
-use solver::Solver;
 use intervals::source_time;
 use ports::{Failed, Sink, write_whole};
 use problem::Listing;
 use row_pool::Pair;
-use crate::{executions, pairs};
+use solver::Solver;
 
 // Writes the line of an event's time, by the greatest differences of a reading of this stamp and the event.
 fn write_line<O: Sink>(stamp: Nano, pair: Pair, out: &mut O) -> Result<(), Failed>

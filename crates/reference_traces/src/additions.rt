@@ -8,12 +8,10 @@ ghost use Rattle.roster.specs.Groups.{with_more};
 ghost use Rattle.reference_traces.specs.Added.{AreAdded};
 
 use decl::{Decl, Label};
-use msg_match::items_of;
-use msg_match::{Change, Matcher};
+use msg_match::{Change, Matcher, items_of};
 use roster::Roster;
 use std::alloc::{AllocError, Global};
-use traces::Event;
-use traces::{Accepted, Stream};
+use traces::{Accepted, Event, Stream};
 
 // How many events there are at most.
 const MOST: usize = 1 << 21;

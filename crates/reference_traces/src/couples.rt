@@ -8,8 +8,7 @@ ghost use Rattle.traces.specs.Held.{placed_in, seen_in};
 ghost use Rattle.reference_traces.specs.Ends.{only_event};
 
 use std::alloc::{AllocError, Global};
-use traces::{Key, Mark, Side};
-use traces::{Accepted, Couple, EventId, PlacedEvent, events};
+use traces::{Accepted, Couple, EventId, Key, Mark, PlacedEvent, Side, events};
 
 // Whether a mark is such an end of a message of this key.
 fn is_mark(mark: &Mark, key: &Key, side: Side) -> bool

@@ -7,11 +7,11 @@ ghost use Rattle.repair.specs.Slots.{slots_in, behind, HasRows, AreOwn, IsRowsOf
 ghost use Rattle.repair.specs.Withdrawals.{WereRows, Withdraws, TakesFewToWithdraw};
 
 use crate::slot::Slot;
+use crate::{withdraw_from, withdraw_to};
 use atto::Steps;
 use earliest::Earliest;
 use frontier::Frontier;
 use row_pool::RowPool;
-use crate::{withdraw_from, withdraw_to};
 use std::sync::ledger::Ledger;
 use sync_graph::{Arc, Graph};
 

@@ -21,7 +21,10 @@ mod refusal;
 mod refused;
 
 pub use command::{Command, Question, read_command};
-pub use laws::{commands_are_one, outputs_are_one, proofs_are_one, reads_are_one, replies_are_one, sessions_are_lawful};
+pub use laws::{
+    commands_are_one, outputs_are_one, proofs_are_one, reads_are_one, replies_are_one,
+    sessions_are_lawful,
+};
 pub use merge::write_merge;
 pub use merge_laws::merges_are_one;
 pub use outcome::{Added, Outcome};

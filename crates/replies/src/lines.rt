@@ -17,8 +17,7 @@ use ports::fixed_line::{Line, first_word, push_decimal};
 use ports::{Failed, Sink, write_whole};
 use problem::Listing;
 use report::write_merge_line;
-use traces::Event;
-use traces::{PlacedEvent, name_of};
+use traces::{Event, PlacedEvent, name_of};
 
 // What an event log says of an event; nothing of a packet.
 fn text_of(event: &Event) -> &[u8]

@@ -16,12 +16,11 @@ use crate::keys::keys_of;
 use crate::lines::write_ordered;
 use decl::Decl;
 use earliest::Earliest;
-use solver::Solver;
 use ports::Sink;
 use problem::Listing;
-use queries::{Stop, write_contradiction};
+use queries::{Stop, executions, write_contradiction};
 use report::merge_order;
-use queries::executions;
+use solver::Solver;
 use std::alloc::Global;
 use traces::{Accepted, PlacedEvent, events};
 

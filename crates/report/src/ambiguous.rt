@@ -16,8 +16,7 @@ ghost use Rattle.report.specs.Inside.{ids_in, led, seen_ambiguous};
 use msg_match::{Group, Matcher};
 use roster::Roster;
 use std::alloc::{AllocError, Global};
-use traces::Key;
-use traces::EventId;
+use traces::{EventId, Key};
 
 /// An ambiguous key, with its events: it has sends and receives, and two of the ones or the others at least.
 #[derive(Drop)]

@@ -6,11 +6,11 @@ ghost use Rattle.report.specs.Report.{HasAsciiKey, reported_key};
 ghost use Rattle.report.specs.Reports.{named_key};
 ghost use Rattle.report.specs.Inside.{AreLabelled, HasLabels, seen_ambiguous};
 
+use crate::NamedGroup;
 use crate::ambiguous::Ambiguous;
 use crate::texts::key_text;
 use decl::Decl;
 use problem_model::Name;
-use crate::NamedGroup;
 use std::alloc::{AllocError, Global};
 use traces::{EventId, name_of};
 

@@ -7,8 +7,7 @@ ghost use Rattle.report.specs.Reports.{count_without, is_reason, lacks_key, noke
 ghost use Rattle.report.specs.Inside.{lacking};
 
 use crate::NoKeys;
-use traces::{Event, Mark, NoKey};
-use traces::Accepted;
+use traces::{Accepted, Event, Mark, NoKey};
 
 // Whether it is the same reason.
 fn is_reason(reason: NoKey, other: NoKey) -> bool

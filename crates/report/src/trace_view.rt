@@ -8,12 +8,12 @@ ghost use Rattle.msg_match.specs.Ends.{AreEndsBy};
 ghost use Rattle.report.specs.Report.{HasAsciiKey, reported};
 ghost use Rattle.report.specs.Reports.{report_of};
 
+use crate::View;
 use crate::ambiguous::keys_in_order;
-use crate::nokey_counts::nokeys_of;
 use crate::key_names::named_keys;
+use crate::nokey_counts::nokeys_of;
 use decl::Decl;
 use msg_match::Matcher;
-use crate::View;
 use roster::Roster;
 use std::alloc::{AllocError, Global};
 use traces::{Accepted, event_count};

@@ -7,11 +7,11 @@ ghost use Rattle.queries.specs.Asking.{IsReadingAt};
 
 use crate::fixtures::CYCLE;
 use atto::{Nano, Steps};
-use solver::Solver;
 use ports::{Failed, MemSink};
 use problem::{Listing, Problem, read_problem};
-use queries::{is_consistent, write_interval, write_order, write_proof, write_time};
 use problem_solver::solve;
+use queries::{is_consistent, write_interval, write_order, write_proof, write_time};
+use solver::Solver;
 use std::alloc::Global;
 use std::marker::Brand;
 use std::sync::ledger::{Blank, Ledger};

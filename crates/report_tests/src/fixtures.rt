@@ -5,8 +5,7 @@ ghost use Rattle.decl.specs.Declaration.{IsDeclaration, declaration_of};
 use decl::{Decl, read_decl};
 use event_log::read_rows;
 use std::alloc::Global;
-use traces::{Event, row_events};
-use traces::{Accepted, Stream};
+use traces::{Accepted, Event, Stream, row_events};
 
 // The contradiction of two logs: the way from a#1 to a#2 over host b takes 90 ns at most, and 95 ns by host a's clock.
 pub(crate) const CYCLE: &str =

@@ -12,12 +12,10 @@ use decl::Decl;
 use event_log::WordKey;
 use ip_headers::PacketKey;
 use reference_traces::Additions;
-use report::report_line;
+use report::{key_text, report_line, view_of};
 use std::alloc::{AllocError, Global};
 use std::test::*;
-use traces::{Event, Key, packet_events};
-use report::{key_text, view_of};
-use traces::event_count;
+use traces::{Event, Key, event_count, packet_events};
 use wide_headers::WideKey;
 
 // Captures at the hosts a and b, a log at a and two at b.

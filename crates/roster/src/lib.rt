@@ -16,6 +16,10 @@ mod roster;
 mod sums;
 
 pub use came::{Came, Partner};
-pub use growth::{a_bound_is_pushed, a_graph_stands_for_its_roster, a_push_brings_events, an_event_enters, bounds_are_in_force_once, growth_begins_with_nothing, messages_are_withdrawn, nodes_are_pushed, the_whole_stands_for_its_problem};
+pub use growth::{
+    a_bound_is_pushed, a_graph_stands_for_its_roster, a_push_brings_events, an_event_enters,
+    bounds_are_in_force_once, growth_begins_with_nothing, messages_are_withdrawn, nodes_are_pushed,
+    the_whole_stands_for_its_problem,
+};
 pub use laws::{roster_lists_its_problem, rosters_grow, telling_keeps_events};
 pub use roster::Roster;

@@ -5,17 +5,16 @@ ghost use Rattle.roster.specs.Readings.{Stamped, HasStamp, IsLastUnder, IsFirstO
 ghost use Rattle.roster.specs.Groups.{group_at};
 ghost use Rattle.roster.specs.Roster.{IsRoster, IsUnder, Finds, IsGrown, SetsReading, event_at};
 
-use crate::came::{Came, Partner};
-use crate::groups::Groups;
 use crate::arrivals::{append_came, numbers_from, put_both};
+use crate::came::{Came, Partner};
 use crate::event_names::{event_numbered, find_event};
+use crate::groups::Groups;
 use crate::readings::{change_of, first_stamp, last_stamp, place_of, stamp_above, stamp_below};
 use atto::Nano;
 use decl::Decl;
 use std::alloc::{AllocError, Global};
 use std::marker::Model;
-use traces::Event;
-use traces::EventId;
+use traces::{Event, EventId};
 
 /// The events of a session by their numbers, by label and by name, and the readings of its clocks. It keeps its declaration.
 ///

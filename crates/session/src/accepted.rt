@@ -8,8 +8,7 @@ use crate::limits::{MOST_EVENTS, MOST_OF_LABEL, MOST_PIECE};
 use captures::CaptureStream;
 use decl::{Label, TraceKind};
 use std::alloc::{AllocError, Global};
-use traces::Event;
-use traces::{Accepted, Stream};
+use traces::{Accepted, Event, Stream};
 
 // What is kept under a label of this kind of which nothing came yet.
 fn new_stream(alloc: Global, kind: TraceKind) -> Stream

@@ -19,12 +19,11 @@ use crate::pieces::{Piece, read_piece};
 use atto::Steps;
 use pcap_stream::Packet;
 use ports::{FileFault, Files, read_file};
-use session_answers::{decl_of, renew};
 use replies::{Outcome, Refusal};
+use session_answers::{decl_of, renew};
 use std::alloc::AllocError;
 use std::sync::ledger::Ledger;
-use traces::Event;
-use traces::Stream;
+use traces::{Event, Stream};
 
 // Lets packets go that are not to be kept.
 fn keep_only(keeps: bool, packets: &mut Vec<Packet>)

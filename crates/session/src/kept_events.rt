@@ -7,8 +7,8 @@ ghost use Rattle.session.specs.Inside.{Asked};
 
 use crate::Session;
 use atto::Steps;
-use session_answers::keep_event;
 use replies::Outcome;
+use session_answers::keep_event;
 use std::alloc::AllocError;
 use std::sync::ledger::Ledger;
 

@@ -10,12 +10,12 @@ ghost use Rattle.session.specs.TakingInside.{TakesFile, TakesUnder};
 
 use crate::Session;
 use atto::Steps;
-use pcap_stream::Packet;
 use captures::captures_are_one;
 use mergecap::Stored;
+use pcap_stream::Packet;
 use ports::Files;
-use session_answers::decl_of;
 use replies::{Command, Outcome, Refusal, RefusedText, read_command, refused_text};
+use session_answers::decl_of;
 use std::alloc::AllocError;
 use std::sync::ledger::Ledger;
 

@@ -33,6 +33,9 @@ mod session;
 pub use ended::Ended;
 pub use kept_packets::AddAnswer;
 pub use queries::Stop;
-pub use replies::{RefusedText, commands_are_one, outputs_are_one, proofs_are_one, reads_are_one, replies_are_one, sessions_are_lawful, too_long_text};
+pub use replies::{
+    RefusedText, commands_are_one, outputs_are_one, proofs_are_one, reads_are_one, replies_are_one,
+    sessions_are_lawful, too_long_text,
+};
 pub use script::answer_script;
 pub use session::Session;

@@ -10,11 +10,10 @@ ghost use Rattle.session.specs.Stands.{IsReady, problem_held, seen_held};
 ghost use Rattle.session.specs.Settled.{AreSettled, HasEventOf, event_of, node_of, valued};
 
 use crate::Session;
-use solver::Solver;
 use mergecap::Stored;
-use queries::is_consistent;
+use queries::{contradictions, executions, is_consistent};
 use roster::Roster;
-use queries::{contradictions, executions};
+use solver::Solver;
 use traces::EventId;
 
 // The value of an event's node in the earliest execution.

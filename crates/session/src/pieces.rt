@@ -7,13 +7,12 @@ ghost use Rattle.session.specs.Pieces.{IsRead, HasPlaceFor, HasRoomFor};
 ghost use Rattle.session.specs.TakingInside.{HasPackets};
 
 use captures::CaptureStream;
-use pcap_stream::{FirstPackets, Packet};
 use decl::Decl;
 use event_log::read_first_rows;
+use pcap_stream::{FirstPackets, Packet};
 use replies::{Refusal, capture_refusal, log_refusal};
 use std::alloc::{AllocError, Global};
-use traces::{Event, packet_events, row_events};
-use traces::Stream;
+use traces::{Event, Stream, packet_events, row_events};
 
 /// What a piece says.
 #[derive(Drop)]

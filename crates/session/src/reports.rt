@@ -14,14 +14,13 @@ ghost use Rattle.replies.specs.Reply.{IsReport};
 
 use crate::lines::write_line;
 use decl::Decl;
-use solver::Solver;
 use msg_match::Matcher;
 use ports::Sink;
 use queries::{Stop, is_consistent};
-use report::report_line;
+use report::{report_line, view_of};
 use roster::Roster;
+use solver::Solver;
 use std::alloc::Global;
-use report::view_of;
 use traces::Accepted;
 
 /// Writes the report on all events, of which the roster has the names by number and the matcher the ends of messages, and the engine

@@ -9,12 +9,10 @@ ghost use Rattle.session.specs.Stands.{StandsFor, IsReady};
 ghost use Rattle.session.specs.Script.{ScriptAnswered, devices};
 ghost use Rattle.session.specs.Turns.{AnswersLine, HasNoReply};
 
-use crate::Ended;
+use crate::{Ended, Session};
 use atto::Steps;
 use decl::Decl;
-use ports::{Line, LineFault, LineReader, LineText};
-use ports::{Files, Sink, Source};
-use crate::Session;
+use ports::{Files, Line, LineFault, LineReader, LineText, Sink, Source};
 use std::alloc::Global;
 use std::sync::ledger::Ledger;
 

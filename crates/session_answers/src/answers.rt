@@ -17,12 +17,11 @@ use crate::slots::keep_source;
 use atto::{Nano, Steps};
 use decl::Decl;
 use msg_match::Changed;
-use session_graph::KeptGraph;
 use queries::is_consistent;
+use session_graph::KeptGraph;
 use std::alloc::{AllocError, Global};
 use std::sync::ledger::Ledger;
-use traces::Event;
-use traces::Accepted;
+use traces::{Accepted, Event};
 
 /// The graph of all that was added, with its declaration and the ends of messages, and with the rows of the kept events and of the
 /// source.

@@ -13,11 +13,11 @@ ghost use Rattle.session_answers.specs.Keeping.{HasSlotBy, LeavesAnswer, IsReply
 
 use crate::events::{find_event, two_events};
 use atto::{Nano, Steps};
-use solver::Solver;
 use ports::{Failed, Sink};
 use queries::{write_interval, write_order, write_proof, write_time};
 use replies::{Refusal, write_refusal};
 use roster::Roster;
+use solver::Solver;
 use std::sync::ledger::Ledger;
 
 /// Writes the interval from the first event to the second, or the refusal where there is no such event. `Failed` comes only where

@@ -11,8 +11,8 @@ ghost use Rattle.session_answers.specs.Ready.{KeepsSource};
 ghost use Rattle.session_answers.specs.Keeping.{TakesFree, TakesForSource, HasNextSlot};
 
 use atto::{Nano, Steps};
-use solver::Solver;
 use roster::Roster;
+use solver::Solver;
 use std::sync::ledger::Ledger;
 
 /// Keeps the rows of a node that has no slot, where fewer than eight have one, and answers the number of its slot.

@@ -15,9 +15,9 @@ use crate::entries::{enter, has_entered};
 use crate::joints::join;
 use crate::plans::{Due, Turn};
 use atto::Steps;
-use solver::Solver;
 use problem_model::Message;
 use roster::Roster;
+use solver::Solver;
 use std::alloc::AllocError;
 use std::sync::ledger::Ledger;
 

@@ -27,9 +27,9 @@ use crate::links::push_links;
 use crate::nearest::is_known;
 use crate::pushes::push_stamp;
 use atto::{Nano, Steps};
-use solver::Solver;
 use problem_model::{Clock, Node};
 use roster::Roster;
+use solver::Solver;
 use std::alloc::AllocError;
 use std::sync::ledger::Ledger;
 

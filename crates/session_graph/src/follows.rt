@@ -11,8 +11,8 @@ ghost use Rattle.roster.specs.Entering.{IsFirstNode, IsLastNode, IsReadingBefore
 
 use crate::nearest::{above, below, is_known};
 use atto::Nano;
-use solver::Solver;
 use roster::Roster;
+use solver::Solver;
 
 /// The nearest readings of one that is new: the stamps below and above it on its clock, in ns; and where there is none below, the
 /// last reading of a clock before, where there is none above, the first one of a clock after, with the place of the clock.

@@ -19,9 +19,9 @@ ghost use Rattle.session_graph.specs.Arrivals.{HaveCome};
 
 use crate::pushes::push_bound;
 use atto::{Steps, delay_units};
-use solver::Solver;
 use problem_model::{Bound, Message, Node};
 use roster::{Partner, Roster};
+use solver::Solver;
 use std::alloc::AllocError;
 use std::sync::ledger::Ledger;
 

@@ -19,9 +19,9 @@ ghost use Rattle.session_graph.specs.Extensions.{TakesFewToPush};
 use crate::follows::Nearest;
 use crate::pushes::{push_follow, push_span};
 use atto::{Nano, Steps};
-use solver::Solver;
 use problem_model::Clock;
 use roster::Roster;
+use solver::Solver;
 use std::alloc::AllocError;
 use std::sync::ledger::Ledger;
 

@@ -7,9 +7,9 @@ ghost use Rattle.roster.specs.Readings.{HasStamp};
 ghost use Rattle.roster.specs.Entering.{IsStampBelow, IsStampAbove};
 
 use atto::Nano;
-use solver::Solver;
 use problem_model::Node;
 use roster::Roster;
+use solver::Solver;
 
 /// Whether a reading is a node.
 pub(crate) fn is_known(solver: &Solver, place: u32, stamp: Nano) -> bool

@@ -18,8 +18,8 @@ ghost use Rattle.session_graph.specs.Pushes.{Brings};
 ghost use Rattle.session_graph.specs.Extensions.{TakesFewToPush};
 
 use atto::{Nano, Steps, delay_units, span_least, span_most};
-use solver::Solver;
 use problem_model::{Bound, Clock, Node};
+use solver::Solver;
 use std::alloc::AllocError;
 use std::sync::ledger::Ledger;
 use sync_graph::Arc;

@@ -6,8 +6,8 @@ ghost use Rattle.solver.specs.Current.{IsCurrent};
 ghost use Rattle.session_graph.specs.Kept.{KeepsRows};
 ghost use Rattle.session_graph.specs.Cuts.{IsRoomier};
 
-use solver::Solver;
 use roster::Roster;
+use solver::Solver;
 use std::alloc::AllocError;
 
 // Room for the nodes of so many events: a power of two, so that the rows are laid out anew for few additions.

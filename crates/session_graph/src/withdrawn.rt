@@ -14,9 +14,9 @@ ghost use Rattle.session_graph.specs.Cuts.{CutsInFewSteps};
 ghost use Rattle.session_graph.specs.Withdrawn.{AreLeft, arc_of, arcs_to, told_arcs, without_partner, without_partners};
 
 use atto::Steps;
-use solver::Solver;
 use problem_model::Message;
 use roster::Roster;
+use solver::Solver;
 use std::alloc::{AllocError, Global};
 use std::sync::ledger::Ledger;
 

@@ -7,9 +7,9 @@ ghost use Rattle.solver.specs.Current.{IsCurrent};
 
 use crate::fixtures::is_solved;
 use atto::Steps;
-use solver::Solver;
 use problem_model::{Bound, Node};
 use row_pool::{Pair, Reach};
+use solver::Solver;
 use std::alloc::{AllocError, Global};
 use std::marker::Brand;
 use std::sync::ledger::{Blank, Ledger};

@@ -2,8 +2,8 @@
 ghost use Rattle.std.specs.Prelude.{◌≡◌, ◌<◌};
 
 use atto::Steps;
-use problem_solver::event_ranks;
 use problem::{Problem, read_problem};
+use problem_solver::event_ranks;
 use std::alloc::Global;
 use std::marker::Brand;
 use std::sync::ledger::{Blank, Ledger};

@@ -5,9 +5,9 @@ ghost use Rattle.solver.specs.Current.{IsCurrent};
 ghost use Rattle.solver.specs.Solution.{IsSolution};
 
 use atto::Steps;
-use solver::Solver;
 use problem::Problem;
 use problem_solver::solve;
+use solver::Solver;
 use std::alloc::{AllocError, Global};
 use std::marker::Brand;
 use std::sync::ledger::{Blank, Ledger};

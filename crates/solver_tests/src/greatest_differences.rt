@@ -6,10 +6,10 @@ ghost use Rattle.solver.specs.Current.{IsCurrent};
 
 use crate::fixtures::{ALONE_PROBLEM, TWO_LOGS_PROBLEM, UNLINKED_PROBLEM, is_solved, solve_alone};
 use atto::Steps;
-use solver::Solver;
 use problem::{Problem, read_problem};
 use problem_model::{Event, Node};
 use row_pool::{Cell, Pair, Reach};
+use solver::Solver;
 use std::alloc::{AllocError, Global};
 use std::marker::Brand;
 use std::sync::ledger::{Blank, Ledger};

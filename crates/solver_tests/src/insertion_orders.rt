@@ -1,10 +1,10 @@
 // The order in which the arcs of a problem's graph are brought in.
 use crate::fixtures::{CIRCLE_PROBLEM, LATE_LOGS_PROBLEM, solve_alone};
 use problem::{Problem, read_problem};
+use problem_graph::graph_of;
 use std::alloc::Global;
 use std::test::*;
 use sync_graph::Graph;
-use problem_graph::graph_of;
 
 // The same as LATE_LOGS_PROBLEM, but the events of b stand first, and those of a in the other order.
 const TURNED_PROBLEM: &str =

@@ -3,8 +3,8 @@ ghost use Rattle.solver.specs.Current.{IsCurrent};
 
 use crate::fixtures::{CIRCLE_PROBLEM, LATE_LOGS_PROBLEM, is_solved, solve_alone};
 use atto::{NsText, write_decimal};
-use solver::Solver;
 use problem::{Problem, read_problem};
+use solver::Solver;
 use std::alloc::{AllocError, Global};
 use std::test::*;
 

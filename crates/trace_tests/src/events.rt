@@ -2,10 +2,10 @@ ghost use Rattle.std.specs.Prelude.{◌≤◌, ◌^◌, length, IfSome};
 
 use arrayvec::ArrayVec;
 use atto::Nano;
-use pcap_stream::Packet;
 use decl::{Decl, read_decl};
 use event_log::read_rows;
 use ip_headers::PacketKey;
+use pcap_stream::Packet;
 use std::alloc::Global;
 use std::test::*;
 use traces::{Event, Key, Mark, NoKey, Side, packet_events, row_events};

@@ -8,8 +8,7 @@ use event_log::{LogError, read_rows};
 use ip_headers::PacketKey;
 use reference_traces::{messages_in, missing};
 use std::alloc::{AllocError, Global};
-use traces::{Event, Side, row_events};
-use traces::{Accepted, Couple, EventId, Stream, event_count};
+use traces::{Accepted, Couple, Event, EventId, Side, Stream, event_count, row_events};
 
 pub(crate) const SEND: Side = Side::Send;
 

@@ -7,14 +7,12 @@ ghost use Rattle.reference_traces.specs.Added.{AreAdded};
 use crate::fixtures::{RECEIVE, SEND, are_messages, by_filters, lost, packet_key, three_logs};
 use atto::Nano;
 use event_log::WordKey;
-use msg_match::{Changed, counts};
-use msg_match::{Change, Group, Matcher, Tallies};
+use msg_match::{Change, Changed, Group, Matcher, Tallies, counts};
 use reference_traces::Additions;
 use roster::Roster;
 use std::alloc::{AllocError, Global};
 use std::test::*;
-use traces::{Event, Key, Mark, NoKey, Side};
-use traces::{Couple, EventId};
+use traces::{Couple, Event, EventId, Key, Mark, NoKey, Side};
 
 // An ambiguous key, and its events by label and number.
 struct Unclear {

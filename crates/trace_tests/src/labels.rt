@@ -4,8 +4,7 @@ use event_log::{LogError, WordKey};
 use reference_traces::messages;
 use std::alloc::{AllocError, Global};
 use std::test::*;
-use traces::{Event, Key, Mark, Side};
-use traces::{Accepted, Couple, event_count, events};
+use traces::{Accepted, Couple, Event, Key, Mark, Side, event_count, events};
 
 // The logs of three labels before, and after more was accepted.
 struct Case {

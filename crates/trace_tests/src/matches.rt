@@ -5,9 +5,9 @@ ghost use Rattle.msg_match.specs.Held.{seen_items};
 use crate::fixtures::{RECEIVE, SEND, packet_key};
 use event_log::WordKey;
 use msg_match::{Change, Couple, Group, Item, Matcher, Tallies};
-use traces::{Key, Side};
 use std::alloc::{AllocError, Global};
 use std::test::*;
+use traces::{Key, Side};
 
 // What one call adds, and what it is to answer. Events are numbered from 0 on, through all calls of a case.
 struct Step {

@@ -4,9 +4,9 @@ ghost use Rattle.decl.specs.Declaration.{IsDeclaration, declaration_of};
 
 use crate::fixtures::log_of;
 use decl::{Decl, read_decl};
-use reference_traces::{messages_in, problem_of};
 use problem::{Problem, read_problem};
 use problem_model::Name;
+use reference_traces::{messages_in, problem_of};
 use std::alloc::Global;
 use std::test::*;
 use traces::{Accepted, event_count, event_name};

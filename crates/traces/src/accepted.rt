@@ -1,6 +1,6 @@
 // What was accepted under a label.
-use captures::CaptureStream;
 use crate::Event;
+use captures::CaptureStream;
 
 /// What is kept of the bytes that were accepted under a label, by its kind, so that the next piece can be read.
 #[derive(Drop)]

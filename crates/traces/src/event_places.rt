@@ -4,9 +4,8 @@ ghost use Rattle.traces.specs.Seen.{seen_events};
 ghost use Rattle.traces.specs.Traces.{event_count, events_of, numbered};
 ghost use Rattle.traces.specs.Held.{placed_in, seen_in};
 
-use crate::{Accepted, EventId, PlacedEvent};
+use crate::{Accepted, Event, EventId, PlacedEvent};
 use std::alloc::{AllocError, Global};
-use crate::Event;
 
 /// How many events were accepted. It is 2^64 - 1 where they are that many or more.
 pub fn event_count(accepted: &[Accepted]) -> u64

@@ -2,10 +2,9 @@
 //! certificates, and answers questions about event logs and packet captures.
 #![tactic(auto)]
 
-use problem_commands::Status;
 use commands::run;
-use ports::Gathering;
-use ports::{DiskFiles, Sink, StdSink, StdSource, Words};
+use ports::{DiskFiles, Gathering, Sink, StdSink, StdSource, Words};
+use problem_commands::Status;
 use std::io::ErrorKind;
 use std::process::ExitCode;
 use std::{env, io};

@@ -7,14 +7,14 @@ ghost use Rattle.widen.specs.Found.{FindsWidening};
 ghost use Rattle.widen.specs.Search.{IsKnown};
 ghost use Rattle.widen.specs.Widening.{IsWideningOf, ShowsWidening};
 
+use crate::attempt::{try_nothing, try_widening};
 use crate::choice::Choice;
 use crate::known::{Known, concluded, narrow, nothing_known};
-use crate::attempt::{try_nothing, try_widening};
 use crate::widening::Widening;
 use atto::Steps;
-use solver::Solver;
 use problem::Problem;
 use problem_solver::solve;
+use solver::Solver;
 use std::alloc::{AllocError, Global};
 use std::sync::ledger::Ledger;
 use sync_graph::Graph;

@@ -1,8 +1,8 @@
 // A widening's text, read and judged at once.
 ghost use Rattle.widen.specs.JudgedText.{JudgesText};
 
-use crate::verdicts::judge;
 use crate::read::read_widening;
+use crate::verdicts::judge;
 use cert::CertError;
 use cert_check::Answer;
 use problem::Problem;
