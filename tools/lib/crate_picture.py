@@ -6,7 +6,7 @@ from textwrap import wrap
 from crate_map import CrateMap
 from picture import INKS
 
-WIDE, HIGH, GUTTER, GAP, TRACK, MARGIN, HEAD, LETTERS = 124, 26, 64, 20, 7, 14, 74, 19
+WIDE, HIGH, GUTTER, GAP, TRACK, MARGIN, HEAD, LETTERS = 130, 26, 64, 20, 7, 14, 74, 19
 # A gap of a column: the number of the column, and of the gap, which is that of the box below it.
 Gap = tuple[int, int]
 
