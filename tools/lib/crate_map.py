@@ -14,7 +14,7 @@ class Crate:
 
 
 class CrateMap:
-    """The crates in the order of crates.txt, in which each stands behind those that it stands on."""
+    """The crates in the order of crates.txt, in which each stands behind those that it stands on. Else it is a ValueError."""
 
     def __init__(self, text: str) -> None:
         self.crates: dict[str, Crate] = {}
@@ -28,6 +28,9 @@ class CrateMap:
         self.layers: dict[str, list[str]] = {}
         for crate in self.crates.values():
             self.layers.setdefault(crate.layer, []).append(crate.name)
+            for word in crate.libraries:
+                if word in self.crates:
+                    raise ValueError(f"crates.txt has {crate.name} in front of {word}, on which it stands")
 
     def add(self, name: str, layer: str, uses: list[str]) -> None:
         """Appends a crate. A word that is no crate before it is a library of the kit."""

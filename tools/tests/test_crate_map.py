@@ -38,6 +38,10 @@ class Crates(unittest.TestCase):
         self.assertEqual(self.crates.above("low"), ["mid", "top", "far"])
         self.assertEqual(self.crates.longest_chain(), ["low", "mid", "top"])
 
+    def test_order(self):
+        with self.assertRaisesRegex(ValueError, "has top in front of low"):
+            CrateMap("# all\ntop: low\nlow:\n")
+
     def test_picture(self):
         drawn = ElementTree.fromstring(CratePicture(self.crates).svg())
         names = [it.text for it in drawn.iter("{http://www.w3.org/2000/svg}text")]
