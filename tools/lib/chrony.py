@@ -1,11 +1,20 @@
 """What chronyd says of a clock: the line that `chronyc -c tracking` prints, and its file chrony.conf."""
 
+import re
 from dataclasses import dataclass
-from decimal import Decimal, InvalidOperation
+from decimal import ROUND_UP, Decimal, InvalidOperation
 
-# The fields of `chronyc -c tracking`, by their place.
-FIELDS = {"system": 4, "frequency": 7, "residual": 8, "skew": 9, "delay": 10, "dispersion": 11}
+# The greatest rate that is taken, in ppm, as chronyd's own of maxslewrate, and the greatest time, in s: no estimate of a clock that
+# runs comes near.
+PPM_MOST, SECONDS_MOST = 100_000, 10**9
+# The fields of `chronyc -c tracking` that are read: the place of each, and its least and greatest value.
+FIELDS = {"system": (4, -SECONDS_MOST, SECONDS_MOST), "residual": (8, -PPM_MOST, PPM_MOST), "skew": (9, 0, PPM_MOST),
+          "delay": (10, 0, SECONDS_MOST), "dispersion": (11, 0, SECONDS_MOST)}  # fmt: skip
 COUNT = 14
+NUMBER = re.compile(r"[+-]?([0-9]+\.?[0-9]*|\.[0-9]+)([eE][+-]?[0-9]+)?")
+# Digits behind this place are rounded away from 0, so that no bound becomes narrower.
+PLACES = Decimal("1e-12")
+SHOWN_MOST = 40
 # As chronyd comes, in ppm: a twelfth.
 SLEW_DEFAULT = Decimal("83333.333")
 
@@ -56,12 +65,9 @@ def read_all_chrony(words):
 
 
 def tracking(found, words, path):
-    try:
-        for name, at in FIELDS.items():
-            if name != "frequency":
-                setattr(found, name, Decimal(words[at]))
-    except InvalidOperation:
-        raise ValueError(f"{path}: a field of the tracking line is no number")
+    """Takes the estimates of a line of `chronyc -c tracking`."""
+    for name, (at, least, most) in FIELDS.items():
+        setattr(found, name, number(words[at], name, path, least, most))
     if words[-1] == "Not synchronised":
         raise ValueError(f"{path}: chronyd was not synchronised, so its estimates say nothing")
     found.tracking_from = path
@@ -77,7 +83,7 @@ def conf(found, lines, path):
             continue
         is_conf = is_conf or words[0].isalpha()
         if words[0].lower() == "maxslewrate" and len(words) == 2:
-            found.slew, found.slew_from = number(words[1], path), f"maxslewrate of {path}"
+            found.slew, found.slew_from = number(words[1], "maxslewrate", path, 0, PPM_MOST), f"maxslewrate of {path}"
         if words[0].lower() == "makestep":
             found.steps = line
         includes = includes or words[0].lower() in ("include", "confdir", "sourcedir")
@@ -88,11 +94,16 @@ def conf(found, lines, path):
     return found
 
 
-def number(text, path):
+def number(text, name, path, least, most):
+    """Returns a number that a file has under a name. Raises ValueError where it is none, as NaN and Infinity are, or is out of its range."""
+    shown = text if len(text) <= SHOWN_MOST else f"{text[:SHOWN_MOST]}.."
     try:
-        value = Decimal(text)
+        value = Decimal(text) if NUMBER.fullmatch(text) else None
     except InvalidOperation:
-        raise ValueError(f"{path}: maxslewrate {text} is no number")
-    if not 0 <= value <= 100_000:
-        raise ValueError(f"{path}: maxslewrate {text} is out of range")
-    return value
+        value = None
+    if value is None:
+        raise ValueError(f"{path}: {name} {shown!r} is no number")
+    if not least <= value <= most:
+        raise ValueError(f"{path}: {name} {shown} is out of range, from {least:,} to {most:,}")
+    # (adding 0 takes the sign of a zero off)
+    return value.quantize(PLACES, ROUND_UP) + 0

@@ -6,16 +6,20 @@ from math import ceil
 
 from ends import ends_of
 from headers import address_text, decode
+from texts import plain
 
 # A quartz that runs free, in ppm, where nothing is known of it.
 QUARTZ = Decimal(100)
 # The numbers of bytes of the payload that are tried; of several that do as well the first is taken.
 PAYLOAD_BYTES = (8, 16, 32, 64, 0)
-ADDRESSES_MOST = 64
+# Half as fast, or twice as fast: `long` would be above what a declaration may have.
+PPM_MOST = 500_000
 
 
 def rates(ppm):
-    """Returns `short` and `long`, in ppb, of a clock whose rate is at most so many ppm off."""
+    """Returns `short` and `long`, in ppb, of a clock whose rate is at most so many ppm off, from 0 on. Raises ValueError above PPM_MOST."""
+    if ppm > PPM_MOST:
+        raise ValueError(f"a clock that may be off by {ppm.normalize():f} ppm cannot be declared: {PPM_MOST:,} ppm are the most")
     short = ceil(ppm * 1000)
     return short, -(-short * 10**9 // (10**9 - short))
 
@@ -23,11 +27,6 @@ def rates(ppm):
 def late_of(resolution, long):
     """Returns how late an event may be for a stamp that is cut off at this many ns."""
     return -(-resolution * (10**9 + long) // 10**9)
-
-
-def plain(text):
-    """Returns a path or another text without signs that would end a comment."""
-    return "".join(it if it.isprintable() else "?" for it in text)
 
 
 def spelled(number):

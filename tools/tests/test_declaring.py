@@ -114,6 +114,25 @@ class Chrony(unittest.TestCase):
         found = self.read(TRACKING, "makestep 1.0 3\nmaxslewrate 500\n")
         self.assertEqual((found.skew, found.slew, found.steps), (Decimal("0.350"), Decimal(500), "makestep 1.0 3"))
 
+    def test_numbers_that_bound_nothing_are_refused_by_name(self):
+        fields = {"skew": "0.350", "system": "-0.000012", "residual": "0.010", "delay": "0.001000", "dispersion": "0.002000"}
+        never = ("NaN", "sNaN", "-NaN", "nan123", "Infinity", "-inf", "1e9999999", "-1e9999999", "1e99999999999999999999", "1_0", "0x1", "", "fast", "1" * 5000)
+        for name, value in fields.items():
+            for text in (*never, *(("-1", "-0.000001") if name not in ("system", "residual") else ())):
+                with self.assertRaisesRegex(ValueError, f"{name} .*(is no number|is out of range)"):
+                    self.read(TRACKING.replace(f",{value},", f",{text},"))
+        for text in (*never[:-4], "-1", "100001", "1e6"):
+            with self.assertRaisesRegex(ValueError, "maxslewrate .*(is no number|is out of range)"):
+                self.read(f"server a\nmaxslewrate {text}\n")
+
+    def test_negative_offsets_and_residuals_count_as_much_as_positive_ones(self):
+        found = self.read(TRACKING.replace("-0.000012", "0.000012").replace("0.010", "-0.010"))
+        self.assertEqual((found.error(), found.residual), (Decimal("0.002512"), Decimal("-0.010")))
+
+    def test_no_digit_that_is_left_out_makes_a_bound_narrower(self):
+        found = self.read(TRACKING.replace("0.350", "1e-9999").replace("0.010", "-1e-9999"))
+        self.assertEqual((found.skew, found.residual), (Decimal("1e-12"), Decimal("-1e-12")))
+
     def test_what_is_neither_is_refused(self):
         for text in ("Reference ID    : C0A80001\n", "1,2,3,4,5\n", TRACKING.replace("Normal", "Not synchronised"), "maxslewrate fast\n", ""):
             with self.assertRaises(ValueError, msg=text):
@@ -151,6 +170,26 @@ class Text(unittest.TestCase):
     def test_one_capture_alone_says_what_it_cannot_find_out(self):
         found, said, text = self.declare("left=captures/left.pcap", status=1)
         self.assertEqual(("addresses" in found["hosts"]["left"], "10.9.0.1 or 10.9.0.2" in said, "NOT FOUND OUT" in text), (False, True, True))
+
+    def test_what_chrony_cannot_mean_is_told_in_one_line(self):
+        for text in ("NaN", "sNaN", "Infinity", "1e9999999", "1e9", "-50000"):
+            with tempfile.TemporaryDirectory() as room:
+                for name, line in (("tracking", TRACKING.replace("0.350", text)), ("conf", f"maxslewrate {text}\n")):
+                    with open(f"{room}/{name}", "w") as it:
+                        it.write(line)
+                    found, said, _ = self.declare("left=captures/left.pcap", "right=captures/right.pcap", "--chrony", f"left={room}/{name}", status=1)
+                    self.assertEqual((found, len(said.splitlines())), ({}, 1), said)
+                    self.assertIn("skew" if name == "tracking" else "maxslewrate", said)
+
+    def test_rates_that_no_declaration_may_have_are_refused(self):
+        self.assertEqual(declaring.rates(Decimal(500_000)), (500_000_000, 1_000_000_000))
+        with tempfile.NamedTemporaryFile("w", suffix=".csv") as it:
+            it.write(TRACKING.replace("0.350", "99999").replace("0.010", "-99999"))
+            it.flush()
+            both = (word for name in ("left", "right") for word in ("--chrony", f"{name}={it.name}"))
+            found, said, _ = self.declare("left=captures/left.pcap", "right=captures/right.pcap", *both, "--reference", "left", status=1)
+        self.assertEqual((found, len(said.splitlines())), ({}, 1), said)
+        self.assertIn("ppm cannot be declared", said)
 
     def test_the_source_and_a_daemon(self):
         with tempfile.NamedTemporaryFile("w", delete=False) as it:
