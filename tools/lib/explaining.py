@@ -11,16 +11,17 @@ from inputs import Input, open_input
 from program import PROGRAM, Ended, Session
 from refusals import Refusals
 from replies import UNITS, read_cycle, read_ns, read_problem
+from texts import plain
 from words import REASONS, count_text, greatest_text, least_text, time_text
 
 
 @dataclass
 class Told:
-    """A reply with its line and its words."""
+    """A reply with the line that was asked and the first one that came, and its words as lines, in which each sign can be seen."""
 
     line: str
     reply: str
-    words: str
+    words: list
     is_refusal: bool = False
 
 
@@ -39,10 +40,14 @@ class Explainer:
         """Returns a reply told; the line that was asked may be empty where it is not known."""
         words, asked = reply[0].split(" "), line.split(" ")
         self.done.append(line)
-        told = Told(line, reply[0], self.words(words, reply, asked, line), words[0] == "refused")
-        if words[0] == "added" and len(asked) == 3:
-            self.take(asked, words)
-        return told
+        try:
+            found = self.words(words, reply, asked, line)
+            if words[0] == "added" and len(asked) == 3:
+                self.take(asked, words)
+        except (ValueError, LookupError, AttributeError, TypeError):
+            # (a text of another program, or of an older one, may begin like a reply)
+            found = ["no reply of a session"]
+        return Told(line, reply[0], [plain(it) for it in found], words[0] == "refused")
 
     def take(self, asked, words):
         """Remembers what was added."""
@@ -56,39 +61,40 @@ class Explainer:
             pass
 
     def words(self, words, reply, asked, line):
-        """Returns the words for a reply."""
-        names = asked[1:] if len(asked) > 1 else ["P", "Q"]
-        if words[0] == "refused":
-            return self.refusals.told(line, words[1:])
-        if words[0] == "added":
-            return self.added(words, asked)
-        if words[0] == "interval":
-            return self.interval(*(read_ns(it) for it in words[1:3]), *[*names, "P", "Q"][:2])
-        if words[0] == "order":
-            return self.order(words[1], *[*names, "P", "Q"][:2])
-        if words[0] == "time":
-            least, greatest = (read_ns(it) for it in words[1:3])
-            ends = [stamp_text(it // UNITS) if it is not None else "no limit" for it in (least, greatest)]
-            wide = f", {time_text(greatest - least, 1)} apart" if None not in (least, greatest) else ""
-            return f"by the clock of the source {names[0]} was between {ends[0]} and {ends[1]}{wide} (ns are cut off)"
-        if words[0] == "kept":
-            return f"questions about {names[0]} are answered at once from now on (the {words[1]}. of eight that can be kept)"
-        if words[0] == "merge":
-            return f"{count_text(int(words[1]), 'event')} in the order of one execution, the earliest: for two of them ask `order`"
+        """Returns the words for a reply, as lines."""
+        names = [*asked[1:], "P", "Q"][:2] if len(asked) > 1 else ["P", "Q"]
+        tellers = {
+            "refused": lambda: self.refusals.told(line, words[1:]),
+            "added": lambda: self.added(words, asked),
+            "interval": lambda: self.interval(*(read_ns(it) for it in words[1:3]), *names),
+            "order": lambda: self.order(words[1], *names),
+            "time": lambda: self.time(*(read_ns(it) for it in words[1:3]), names[0]),
+            "kept": lambda: f"questions about {names[0]} are answered at once from now on (the {words[1]}. of eight that can be kept)",
+            "merge": lambda: f"{count_text(int(words[1]), 'event')} in the order of one execution, the earliest: for two of them ask `order`",
+            "problem": lambda: self.told_problem(reply),
+        }
+        if words[0] in tellers:
+            return [tellers[words[0]]()]
         if reply[0].startswith("{"):
-            return self.report(json.loads(reply[0]))
-        if words[0] == "problem":
-            self.problem = reply
-            problem = read_problem(reply)
-            counts = [(problem.clocks, "clock"), (problem.events, "event"), (problem.messages, "message")]
-            if problem.follows:
-                counts.insert(1, (problem.follows, "follow"))
-            return f"all that is declared and known: {', '.join(count_text(len(it), name) for it, name in counts)}"
+            return [self.report(json.loads(reply[0]))]
         if read_cycle(reply) is not None:
-            return "\n".join(self.told_cycle(reply, self.known_problem(), self.inputs))
+            return self.told_cycle(reply, self.known_problem(), self.inputs)
         if reply[0] == "certificate 1":
-            return "evidence for both ends of the interval, which `verify` checks against the reply to `problem`"
-        return "\n".join(self.told_end(reply)) or "no reply of a session"
+            return ["evidence for both ends of the interval, which `verify` checks against the reply to `problem`"]
+        return self.told_end(reply) or ["no reply of a session"]
+
+    def told_problem(self, reply):
+        self.problem = reply
+        problem = read_problem(reply)
+        counts = [(problem.clocks, "clock"), (problem.events, "event"), (problem.messages, "message")]
+        if problem.follows:
+            counts.insert(1, (problem.follows, "follow"))
+        return f"all that is declared and known: {', '.join(count_text(len(it), name) for it, name in counts)}"
+
+    def time(self, least, greatest, name):
+        ends = [stamp_text(it // UNITS) if it is not None else "no limit" for it in (least, greatest)]
+        wide = f", {time_text(greatest - least, 1)} apart" if None not in (least, greatest) else ""
+        return f"by the clock of the source {name} was between {ends[0]} and {ends[1]}{wide} (ns are cut off)"
 
     def added(self, words, asked):
         events, messages, withdrawn, pending, state = words[2], words[4], words[6], words[8], words[9]

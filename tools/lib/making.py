@@ -12,49 +12,43 @@ from declaration import read_declaration
 from declaring import Declaring
 from explaining import Explainer
 from inputs import read_inputs
+from files import read_own, write_own
 from page import page
 from program import PROGRAM, Ended, Look, Session
 from replies import read_cycle, read_problem
+from texts import plain
 from timeline import DELAYS_MOST, FROM_MOST, make_timeline, plain_path
 from words import Words, list_lines
 
 FOLDER = "tracesync-timeline"
 EVENTS_MOST = 400
-
-
-def number(text, name, least=0):
-    if not (text.isascii() and text.isdigit() and int(text) >= least):
-        raise ValueError(f"--{name} {text} is no number from {least} on")
-    return int(text)
-
-
-def read(path):
-    """Returns the text of a file, or None if there is none."""
-    if not os.path.exists(path):
-        return None
-    with open(path, encoding="utf-8") as it:
-        return it.read()
+OUTPUTS = {
+    "html": "a page that zooms and pans, and needs nothing from a network",
+    "svg": "a picture of at most --events events, those around the first event of --from, or else the first ones",
+    "json": "all that was asked, with each number as the program printed it",
+    "csv": "a row for each event; a text that a spreadsheet would take for a formula stands behind a single quote",
+    "chrome": "trace events, which Perfetto (ui.perfetto.dev) and chrome://tracing open",
+    "shiviz": "a log for ShiViz",
+    "list": "the events in words, in the order of the earliest execution; `-` is the standard output",
+}
 
 
 class Making:
     """What the command line says, and what is made of it."""
 
-    OUTPUTS = ("html", "svg", "json", "csv", "chrome", "shiviz", "list")
-
     def __init__(self, said):
-        self.folder, self.program = said.one["folder"] or FOLDER, None if said.flags["look"] else said.one["program"] or PROGRAM
-        self.declaration, self.chrony = said.one["declaration"], said.many["chrony"]
-        self.source, self.reference = said.one["source"], said.one["reference"]
+        self.folder, self.program = said.folder, None if said.look else said.program
+        self.declaration, self.chrony = said.declaration, said.chrony
+        self.source, self.reference = said.source, said.reference
         if self.declaration and (self.source or self.reference or self.chrony):
             raise ValueError("--source, --reference and --chrony are for a declaration that is written, and --declaration names one")
-        self.chosen = [name for word in said.many["from"] for name in word.split(",")]
+        self.chosen = [name for word in said.chosen for name in word.split(",")]
         if len(self.chosen) > FROM_MOST:
             raise ValueError(f"--from has {len(self.chosen)} events, and {FROM_MOST} can be kept")
-        self.delays = number(said.one["delays"] or str(DELAYS_MOST), "delays")
+        self.delays, self.events = said.delays, said.events
         # (questions for orders come last, and would have the program compiled once more)
-        self.pairs = number(said.one["pairs"], "pairs") if said.one["pairs"] else None if self.program else 0
-        self.events = number(said.one["events"] or str(EVENTS_MOST), "events", 1)
-        self.outputs = {name: said.one[name] for name in self.OUTPUTS if said.one[name]}
+        self.pairs = said.pairs if said.pairs is not None or self.program else 0
+        self.outputs = {name: getattr(said, name) for name in OUTPUTS if getattr(said, name)}
         self.words = said.files
 
     def make(self):
@@ -74,8 +68,8 @@ class Making:
         if not self.program:
             found.is_proved = False
             found.notes.append("this was made by tools/first-look, and NOTHING OF IT IS PROVED")
-        self.keep("script.txt", session.script)
-        self.keep("replies.txt", [line for reply in session.replies for line in reply])
+        self.keep("script.txt", "".join(f"{line}\n" for line in session.script))
+        self.keep("replies.txt", "".join(f"{line}\n" for reply in session.replies for line in reply))
         return self.write(found)
 
     def declared_source(self):
@@ -92,11 +86,10 @@ class Making:
         declaring = Declaring(inputs, read_all_chrony(self.chrony), self.source, self.reference)
         text, self.declaration = declaring.text(), f"{self.folder}/hosts.toml"
         last = f"{self.folder}/.hosts.toml"
-        if os.path.exists(self.declaration) and read(self.declaration) not in (text, read(last)):
+        if read_own(self.declaration) not in (None, text, read_own(last)):
             raise ValueError(f"{self.declaration} was changed, or is not of this tool: name it with --declaration to use it, or remove it")
         for path in (last, self.declaration):
-            with open(path, "w", encoding="utf-8") as it:
-                it.write(text)
+            write_own(path, text)
         self.say(f"Wrote {self.declaration}: every answer follows from it, so look at each line.")
         self.say(*(f"{it[0].upper()}{it[1:]}." for it in declaring.notes()))
 
@@ -111,20 +104,24 @@ class Making:
             self.say("The declaration is contradicted, so there is no timeline.", *explainer.told_cycle(found.cycle, found.problem, self.inputs_text(found)))
             text = chain_svg(read_cycle(found.cycle), read_problem(found.problem))
             if text:
-                self.output_to(f"{self.folder}/contradiction.svg", text)
+                self.keep("contradiction.svg", text)
+                self.say(f"Wrote {self.folder}/contradiction.svg.")
             return 1
         if not found.events:
             self.say("There are no events, and nothing to draw.")
             return 1
-        for name, path in (self.outputs or {"html": f"{self.folder}/timeline.html", "svg": f"{self.folder}/timeline.svg"}).items():
-            text = self.output(name, found)
-            if path == "-":
-                sys.stdout.write(text)
-            else:
-                self.output_to(path, text)
+        for name, path in self.outputs.items():
+            self.output_to(path, self.output(name, found))
+        for name in () if self.outputs else ("html", "svg"):
+            self.keep(f"timeline.{name}", self.output(name, found))
+            self.say(f"Wrote {self.folder}/timeline.{name}.")
         return 1 if refused else 0
 
     def output_to(self, path, text):
+        """Writes an output to where the command line says, be it a link, a device or `-`."""
+        if path == "-":
+            sys.stdout.write(text)
+            return
         with open(path, "w", encoding="utf-8") as it:
             it.write(text)
         self.say(f"Wrote {path}.")
@@ -143,15 +140,15 @@ class Making:
         makers = {"json": tables.as_json, "csv": tables.as_csv, "chrome": neighbours.chrome, "shiviz": neighbours.shiviz}
         return makers[name](found)
 
-    def keep(self, name, lines):
-        with open(f"{self.folder}/{name}", "w", encoding="utf-8") as it:
-            it.write("".join(f"{line}\n" for line in lines))
+    def keep(self, name, text):
+        """Writes a file into the folder."""
+        write_own(f"{self.folder}/{name}", text)
 
     def say(self, *lines):
-        """Says lines on the standard output, or on the standard error where an output goes there."""
+        """Says lines on the standard output, or on the standard error where an output goes there: without signs that cannot be seen."""
         out = sys.stderr if "-" in self.outputs.values() else sys.stdout
         try:
-            print("\n".join(lines), end="\n" if lines else "", file=out, flush=True)
+            print("\n".join(plain(it) for it in lines), end="\n" if lines else "", file=out, flush=True)
         except BrokenPipeError:
             # (nobody reads on: the outputs are written all the same)
             os.dup2(os.open(os.devnull, os.O_WRONLY), out.fileno())

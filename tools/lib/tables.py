@@ -1,10 +1,11 @@
-"""The timeline as JSON and as CSV, with each number as the program printed it."""
+"""The timeline as JSON and as CSV, with each number as the program printed it. In CSV no text of others is a formula."""
 
 import csv
 import io
 import json
 
 from replies import ns_text
+from texts import cell
 from timeline import order_of
 
 
@@ -34,7 +35,10 @@ def as_json(found):
 
 
 def as_csv(found):
-    """Returns a row for each event, in the order of the earliest execution; the ends are since the first event that was chosen."""
+    """Returns a row for each event, in the order of the earliest execution; the ends are since the first event that was chosen.
+
+    Names and texts are those of others, and stand as `cell` has them; what is in the other columns was made here or by the program.
+    """
     out = io.StringIO()
     write = csv.writer(out, lineterminator="\n")
     name, ends = next(iter(found.ends.items()))
@@ -43,5 +47,6 @@ def as_csv(found):
     for it in found.events:
         least, greatest = ends[it.name]
         order = order_of((least, greatest))
-        write.writerow([it.name, it.host, it.stamp, ns_text(it.time), text_of(least, "-inf"), text_of(greatest, "+inf"), order, peers.get(it.name, ""), it.text])
+        numbers = [str(it.stamp), ns_text(it.time), text_of(least, "-inf"), text_of(greatest, "+inf")]
+        write.writerow([cell(it.name), cell(it.host), *numbers, order, cell(peers.get(it.name, "")), cell(it.text)])
     return out.getvalue()

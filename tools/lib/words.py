@@ -3,6 +3,7 @@
 from statistics import median_high, median_low
 
 from replies import UNITS
+from texts import plain
 
 REASONS = {
     "fragment": "of fragments of datagrams",
@@ -134,5 +135,5 @@ def list_lines(found):
     lines = [f"{'time since ' + name:>24}  {'at least':>16}  {'at most':>16}  event"]
     for it in found.events:
         least, greatest = ends[it.name]
-        lines.append(f"{time_text(it.time - base):>24}  {least_text(least):>16}  {greatest_text(greatest):>16}  {it.name}  {it.text}".rstrip())
+        lines.append(f"{time_text(it.time - base):>24}  {least_text(least):>16}  {greatest_text(greatest):>16}  {it.name}  {plain(it.text)}".rstrip())
     return lines

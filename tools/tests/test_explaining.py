@@ -47,7 +47,7 @@ end"""
 
 class Replies(unittest.TestCase):
     def told(self, line, reply, **known):
-        return Explainer(**known).reply(line, reply.split("\n")).words
+        return "\n".join(Explainer(**known).reply(line, reply.split("\n")).words)
 
     def test_replies(self):
         cases = (
@@ -94,12 +94,12 @@ class Replies(unittest.TestCase):
         for second, wanted in ((path, "was added before"), (other, "begins with a header of its own")):
             explainer = Explainer()
             explainer.reply(f"add left {path}", ["added events 58 messages 0 withdrawn 0 pending 0 consistent"])
-            self.assertIn(wanted, explainer.reply(f"add left {second}", ["refused 25 4636"]).words)
+            self.assertIn(wanted, explainer.reply(f"add left {second}", ["refused 25 4636"]).words[0])
 
     def test_an_event_that_is_not_there_yet(self):
         explainer = Explainer(declaration=DECLARED)
         explainer.reply("add left x", ["added events 58 messages 0 withdrawn 0 pending 0 consistent"])
-        self.assertEqual(explainer.reply("keep left#59", ["refused 28"]).words, "left has 58 events so far")
+        self.assertEqual(explainer.reply("keep left#59", ["refused 28"]).words, ["left has 58 events so far"])
 
     def test_replies_are_split_where_they_end(self):
         lines = ["kept 1", "merge 2", "0.000000000 a#1 end", "1.000000000 a#2", *CYCLE.split("\n"), "problem 1", "end", *FOLLOWED.split("\n"), "order open"]
