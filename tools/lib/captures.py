@@ -32,13 +32,13 @@ class Packet:
 class Capture:
     """The packets of a file, the ns that its stamps count in, the addresses of its interfaces where it says so, and what was odd."""
 
-    packets: list = field(default_factory=list)
+    packets: list[Packet] = field(default_factory=list)
     unit: int = 1
-    addresses: set = field(default_factory=set)
-    interfaces: list = field(default_factory=list)
-    odd: list = field(default_factory=list)
+    addresses: set[bytes] = field(default_factory=set)
+    interfaces: list[str] = field(default_factory=list)
+    odd: list[str] = field(default_factory=list)
 
-    def resolution(self):
+    def resolution(self) -> int:
         """Returns the ns that all stamps are multiples of, at most a second, and at least what the file counts in."""
         size = 10**9
         while size > self.unit and any(it.stamp % size for it in self.packets):
@@ -46,12 +46,12 @@ class Capture:
         return max(size, self.unit) if self.packets else self.unit
 
 
-def is_capture(start):
+def is_capture(start: bytes) -> bool:
     """Returns whether a file that begins with these bytes is a capture."""
     return start[:4] in MAGICS or start[:4] == SECTION
 
 
-def read_capture(path):
+def read_capture(path: str) -> Capture:
     """Returns the capture that a file holds: its whole packets up to the first fault."""
     with open(path, "rb") as it:
         data = it.read()
@@ -62,7 +62,7 @@ def read_capture(path):
     return classic(data)
 
 
-def classic(data):
+def classic(data: bytes) -> Capture:
     """Returns the packets of a classic capture."""
     order, unit = MAGICS[data[:4]]
     found = Capture(unit=unit)
@@ -86,10 +86,12 @@ def classic(data):
 class Blocks:
     """Reads a capture in pcapng block by block."""
 
-    def __init__(self, data):
-        self.data, self.at, self.order, self.interfaces, self.found = data, 0, "<", [], Capture(unit=0)
+    def __init__(self, data: bytes) -> None:
+        self.data, self.at, self.order, self.found = data, 0, "<", Capture(unit=0)
+        # (of each interface its link type, and what its stamps count in a second)
+        self.interfaces: list[tuple[int, int]] = []
 
-    def capture(self):
+    def capture(self) -> Capture:
         while self.at + 12 <= len(self.data):
             if self.data[self.at : self.at + 4] == SECTION:
                 self.order, self.interfaces = ORDERS.get(self.data[self.at + 8 : self.at + 12], self.order), []
@@ -105,9 +107,9 @@ class Blocks:
         self.found.unit = self.found.unit or 1000
         return self.found
 
-    def options(self, data, at):
+    def options(self, data: bytes, at: int) -> dict[int, bytes]:
         """Returns the options of a block from this place on, by code; of several with one code the first."""
-        found = {}
+        found: dict[int, bytes] = {}
         while at + 4 <= len(data):
             code, length = struct.unpack_from(f"{self.order}HH", data, at)
             if code == 0 or at + 4 + length > len(data):
@@ -116,7 +118,7 @@ class Blocks:
             at += 4 + (length + 3) // 4 * 4
         return found
 
-    def interface(self, block):
+    def interface(self, block: bytes) -> None:
         options = self.options(block, 16)
         count = options.get(RESOLUTION, b"\x06")[:1] or b"\x06"
         per_second = 2 ** (count[0] & 127) if count[0] & 128 else 10 ** count[0]
@@ -126,7 +128,7 @@ class Blocks:
         self.found.unit = max(self.found.unit, -(-(10**9) // per_second))
         self.found.addresses |= {options[it][:size] for it, size in ((ADDRESS4, 4), (ADDRESS6, 16)) if len(options.get(it, b"")) >= size}
 
-    def packet(self, block):
+    def packet(self, block: bytes) -> None:
         number, high, low, captured = struct.unpack_from(f"{self.order}IIII", block, 8)
         if number >= len(self.interfaces) or captured > len(block) - 28:
             self.found.odd.append(f"the packet at byte {self.at} is malformed")

@@ -1,6 +1,7 @@
 """What chronyd says of a clock: the line that `chronyc -c tracking` prints, and its file chrony.conf."""
 
 import re
+from collections.abc import Iterable
 from dataclasses import dataclass
 from decimal import ROUND_UP, Decimal, InvalidOperation
 
@@ -33,12 +34,12 @@ class Chrony:
     dispersion: Decimal | None = None
     tracking_from: str = ""
 
-    def error(self):
+    def error(self) -> Decimal | None:
         """Returns by how many seconds the clock may be wrong, as chronyd estimates, or None."""
         return None if self.dispersion is None else self.dispersion + self.delay / 2 + abs(self.system)
 
 
-def read_chrony(path, known=None):
+def read_chrony(path: str, known: Chrony | None = None) -> Chrony:
     """Returns what a file says beside what is known: a line of `chronyc -c tracking`, or else a chrony.conf."""
     found = known or Chrony()
     with open(path, encoding="utf-8", errors="replace") as it:
@@ -53,9 +54,9 @@ def read_chrony(path, known=None):
     return conf(found, lines, path)
 
 
-def read_all_chrony(words):
+def read_all_chrony(words: Iterable[str]) -> dict[str, Chrony]:
     """Returns what the files of words HOST=FILE say, by host."""
-    found = {}
+    found: dict[str, Chrony] = {}
     for word in words:
         host, equals, path = word.partition("=")
         if not equals:
@@ -64,7 +65,7 @@ def read_all_chrony(words):
     return found
 
 
-def tracking(found, words, path):
+def tracking(found: Chrony, words: list[str], path: str) -> Chrony:
     """Takes the estimates of a line of `chronyc -c tracking`."""
     for name, (at, least, most) in FIELDS.items():
         setattr(found, name, number(words[at], name, path, least, most))
@@ -74,7 +75,7 @@ def tracking(found, words, path):
     return found
 
 
-def conf(found, lines, path):
+def conf(found: Chrony, lines: list[str], path: str) -> Chrony:
     """Takes the last `maxslewrate`, and whether the clock may be set, from a chrony.conf."""
     is_conf = includes = False
     for line in lines:
@@ -94,7 +95,7 @@ def conf(found, lines, path):
     return found
 
 
-def number(text, name, path, least, most):
+def number(text: str, name: str, path: str, least: int, most: int) -> Decimal:
     """Returns a number that a file has under a name. Raises ValueError where it is none, as NaN and Infinity are, or is out of its range."""
     shown = text if len(text) <= SHOWN_MOST else f"{text[:SHOWN_MOST]}.."
     try:

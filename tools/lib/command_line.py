@@ -46,7 +46,8 @@ class Parser(argparse.ArgumentParser):
     def option(self, flag: str, metavar: str, told: str, group: argparse._ArgumentGroup | None = None, **more: Any) -> None:
         """Adds an option with a value, which may be there once if `more` has no other action."""
         self.valued.add(flag)
-        (group or self).add_argument(flag, metavar=metavar, help=told, **{"action": Once, **more})
+        more.setdefault("action", Once)
+        (group or self).add_argument(flag, metavar=metavar, help=told, **more)
 
     def read(self, words: Sequence[str]) -> argparse.Namespace:
         """Returns what the words say."""

@@ -2,11 +2,13 @@
 
 import os
 import tempfile
+from collections.abc import Iterable
 from datetime import datetime, timezone
 
 from headers import described
+from inputs import Input
 from program import PROGRAM, run
-from replies import UNITS, read_cycle, read_problem
+from replies import UNITS, Problem, Step, read_cycle, read_problem
 from words import count_text, decimal_text, time_text
 
 # The first moment of 2000: what is earlier is no time since 1970, but that of a clock which began with 0.
@@ -16,7 +18,7 @@ SINCE_1970 = 946_684_800 * 10**9
 QUARTZ_MOST = 1_000_000
 
 
-def stamp_text(stamp):
+def stamp_text(stamp: int) -> str:
     """Returns a stamp as a time of day in UTC, if it is one, and else in ns."""
     if stamp < SINCE_1970:
         return f"{stamp} ns"
@@ -24,17 +26,17 @@ def stamp_text(stamp):
     return f"{whole:%Y-%m-%d %H:%M:%S}.{stamp % 10**9:09} UTC"
 
 
-def exact_ns(units):
+def exact_ns(units: int) -> str:
     """Returns units as ns with the digits that count."""
     return decimal_text(units, UNITS, digits=9)
 
 
-def event_names(steps):
+def event_names(steps: list[Step]) -> dict[str, None]:
     """Returns the events that steps name, each once: spans and follows name clocks and stamps."""
     return dict.fromkeys(name for it in steps if it.kind in ("late", "early", "delay-least", "delay-most") for name in it.names)
 
 
-def told_follow(step):
+def told_follow(step: Step) -> str:
     """Returns which reading of a later clock comes after which of an earlier one."""
     earlier, last, later, first = step.names
     return f"{later}'s clock showed {first} after {earlier}'s clock showed {last}"
@@ -43,10 +45,10 @@ def told_follow(step):
 class Contradiction:
     """Tells the steps of a cycle; the problem gives stamps of events, and the inputs what they are."""
 
-    def __init__(self, steps, problem=None, inputs=None):
+    def __init__(self, steps: list[Step], problem: Problem | None = None, inputs: dict[int, Input] | None = None) -> None:
         self.steps, self.problem, self.inputs = steps, problem, inputs or {}
 
-    def lines(self):
+    def lines(self) -> list[str]:
         """Returns the groups with their sums, one on each line, and their sum."""
         total = sum(it.weight for it in self.steps)
         rows = [*self.groups(), (f"in all, where no less than 0 can be: they are too narrow by {time_text(-total, -1)} at least", total)]
@@ -55,7 +57,7 @@ class Contradiction:
         found += [f"  {exact_ns(weight):>{wide}} ns  {text}" for text, weight in rows]
         return found + self.events() + self.cures(-total)
 
-    def groups(self):
+    def groups(self) -> list[tuple[str, int]]:
         """Returns each group in words with the sum of its weights: spans by clock, stamps' errors, and messages one by one."""
         found = []
         for kind, told in (("span-least", "at least"), ("span-most", "at most")):
@@ -76,9 +78,9 @@ class Contradiction:
                 found.append((f"the message from {it.names[0]} to {it.names[1]} took {told} {time_text(abs(it.weight))}", it.weight))
         return found
 
-    def stretches(self, spans):
+    def stretches(self, spans: Iterable[Step]) -> str:
         """Returns the stretches of stamps that spans make together."""
-        found = []
+        found: list[list[int]] = []
         for first, last in sorted((int(it.names[1]), int(it.names[2])) for it in spans):
             if found and found[-1][1] == first:
                 found[-1][1] = last
@@ -86,7 +88,7 @@ class Contradiction:
                 found.append([first, last])
         return " and ".join(f"from {first} to {last}" for first, last in found)
 
-    def events(self):
+    def events(self) -> list[str]:
         """Returns what the events of the chain are: the packets' addresses, ports and stamps, or the rows' texts."""
         names = event_names(self.steps)
         lines = []
@@ -95,7 +97,7 @@ class Contradiction:
             lines.append(f"  {name}: {', '.join(it for it in (self.what(name), stamp) if it)}")
         return ["The events are:", *lines] if any(not it.endswith(": ") for it in lines) else []
 
-    def what(self, name):
+    def what(self, name: str) -> str:
         label, _, number = name.partition("#")
         contents = [it.content for it in self.inputs.values() if it.label == label] if number.isdigit() else []
         if len(contents) != 1:
@@ -107,7 +109,7 @@ class Contradiction:
         it = entries[int(number) - 1]
         return " ".join(part for part in it[1:] if part) if of_log is not None else described(it)[0]
 
-    def cures(self, lack):
+    def cures(self, lack: int) -> list[str]:
         """Returns how much each kind of bound would have to be wider to mend this chain alone."""
         lines = []
         for clock in dict.fromkeys(it.names[0] for it in self.steps if it.kind.startswith("span")):
@@ -133,7 +135,7 @@ class Contradiction:
         return ["Any one of these would mend this chain (there may be others):", *lines, f"Or it is something else: {causes}."]
 
 
-def widening_lines(problem_lines, program=PROGRAM):
+def widening_lines(problem_lines: list[str], program: str | None = PROGRAM) -> list[str]:
     """Returns what the program says of the least widening of a problem text; nothing where there is none."""
     if program is None:
         return []
@@ -150,8 +152,8 @@ def widening_lines(problem_lines, program=PROGRAM):
     return [f"With each `most` greater by {least} ns nothing contradicts any more, and with 1 ns less something does (by `widen`)."]
 
 
-def told_cycle(lines, problem_lines=None, inputs=None, program=PROGRAM):
+def told_cycle(lines: list[str], problem_lines: list[str] | None = None, inputs: dict[int, Input] | None = None, program: str | None = PROGRAM) -> list[str]:
     """Returns a contradiction in words, with its least widening where the problem is known."""
     problem = read_problem(problem_lines) if problem_lines else None
-    found = Contradiction(read_cycle(lines), problem, inputs).lines()
+    found = Contradiction(read_cycle(lines) or [], problem, inputs).lines()
     return found + (widening_lines(problem_lines, program) if problem_lines else [])

@@ -2,8 +2,13 @@
 
 import re
 import tomllib
+from collections.abc import Collection
+from typing import Any
 
 from inputs import NAME
+
+# A table of a document, by its keys.
+Table = dict[str, Any]
 
 NUMBERS = ("short", "long", "early", "late")
 HOST, CLOCK = {*NUMBERS, "addresses", "addresses6", "clocks"}, {*NUMBERS, "name", "gap"}
@@ -15,31 +20,31 @@ ADDRESS6 = re.compile(r"[0-9a-fA-F]{1,4}(:[0-9a-fA-F]{1,4}){7}")
 RATE_FEW = 1000
 
 
-def ppm(ppb):
+def ppm(ppb: int) -> str:
     return f"{ppb / 1000:.3f}".rstrip("0").rstrip(".") + " ppm"
 
 
-def ns(value):
+def ns(value: int) -> str:
     for size, name in ((10**9, "s"), (10**6, "ms"), (10**3, "us")):
         if value >= size and value % (size // 1000) == 0:
             return f"{value / size:.3f}".rstrip("0").rstrip(".") + f" {name}"
     return f"{value} ns"
 
 
-def read_declaration(path):
+def read_declaration(path: str) -> Table:
     """Returns the tables of a declaration. Raises ValueError where it is no TOML, with the line."""
     with open(path, "rb") as it:
         return tomllib.load(it)
 
 
-def clocks_of(name, host):
+def clocks_of(name: str, host: Table) -> list[tuple[Any, Table, int]]:
     """Returns the clocks of a host in their order: the name, the numbers and the gap of each. A host without tables of clocks is one itself."""
     own = {it: host[it] for it in NUMBERS if it in host}
     tables = [it for it in host.get("clocks", []) if isinstance(it, dict)]
     return [(it.get("name"), {**own, **it}, it.get("gap", 0)) for it in tables] or [(name, own, 0)]
 
 
-def told_clock(numbers, is_source):
+def told_clock(numbers: Table, is_source: bool) -> list[str]:
     """Returns what is declared of a clock and of its stamps, in words."""
     short, long, early, late = (numbers.get(it) for it in NUMBERS)
     parts = []
@@ -48,7 +53,7 @@ def told_clock(numbers, is_source):
     else:
         wanted = -(-(short or 0) * 10**9 // (10**9 - (short or 0)))
         if long == wanted:
-            parts.append(f"its clock is within {ppm(short)}")
+            parts.append(f"its clock is within {ppm(short or 0)}")
         else:
             parts.append(f"its clock is fast by {ppm(short or 0)} at most, and slow by some {ppm(long or 0)}")
         few = [str(it) for it in (short, long) if it and it < RATE_FEW]
@@ -63,7 +68,7 @@ def told_clock(numbers, is_source):
     return parts
 
 
-def told_clocks(name, host, source, labels):
+def told_clocks(name: str, host: Table, source: str | None, labels: Table) -> list[str]:
     """Returns the clocks of a host with several, a line for each."""
     lines, before = [], None
     for clock, numbers, gap in clocks_of(name, host):
@@ -77,7 +82,7 @@ def told_clocks(name, host, source, labels):
     return lines
 
 
-def told_host(name, host, source, kinds):
+def told_host(name: str, host: Table, source: str | None, kinds: Collection[str | None]) -> str:
     """Returns a host in words; its clocks, if it has several, are told behind it."""
     clocks = host.get("clocks", [])
     parts = [f"{len(clocks)} clocks, one after the other"] if clocks else told_clock(host, source == name)
@@ -91,16 +96,16 @@ def told_host(name, host, source, kinds):
     return f"{name}: {'; '.join(parts)}."
 
 
-def told_label(name, label, hosts):
+def told_label(name: str, label: Table, hosts: Table) -> str:
     """Returns a label in words."""
     told = f"{name}: a {'capture' if label.get('kind') == 'capture' else 'log'} taken at {label.get('host')}"
     if "clock" in label:
         return f"{told} and stamped by {label['clock']}."
-    clocks = hosts.get(label.get("host"), {}).get("clocks", [])
+    clocks = hosts.get(str(label.get("host")), {}).get("clocks", [])
     return f"{told} and stamped by its first clock, {clocks[0].get('name')}." if clocks else f"{told}."
 
 
-def told_declaration(value):
+def told_declaration(value: Table) -> list[str]:
     """Returns a declaration in words."""
     hosts, labels = value.get("hosts", {}), value.get("labels", {})
     lines = []
@@ -129,7 +134,7 @@ def told_declaration(value):
     return lines
 
 
-def place_of(path, section, name, index):
+def place_of(path: str, section: str, name: str, index: int) -> int | None:
     """Returns the line in which a table of a declaration begins, or None."""
     with open(path, encoding="utf-8", errors="replace") as it:
         lines = it.read().splitlines()
@@ -140,7 +145,7 @@ def place_of(path, section, name, index):
     return next((at for at, line in enumerate(lines, 1) if wanted.match(line)), None)
 
 
-def refused(path, number, section, index):
+def refused(path: str, number: int, section: str, index: int) -> str:
     """Returns why a declaration was refused with these three, in words, by a look at the file."""
     try:
         value = read_declaration(path)
@@ -161,7 +166,7 @@ def refused(path, number, section, index):
     return f"{path}{f', line {place}' if place else ''}: {name if section == 'links' else f'{section[:-1]} {name}'}: {told}"
 
 
-def top_cause(value, number):
+def top_cause(value: Table, number: int) -> str:
     if number == 2:
         return f"another key on top: {', '.join(sorted(set(value) - TOP))}"
     if number == 7:
@@ -171,7 +176,7 @@ def top_cause(value, number):
             5: "payload_bytes is not from 0 to 64", 8: "it has more than 2^24 bytes"}.get(number, f"cause {number}")  # fmt: skip
 
 
-def host_cause(value, name, table, number):
+def host_cause(value: Table, name: str, table: Table, number: int) -> str:
     if number == 2:
         others = sorted(set(table) - HOST)
         nested = [it for it in others if isinstance(table[it], dict)]
@@ -196,7 +201,7 @@ def host_cause(value, name, table, number):
             4: "a name is 1 to 32 letters, digits, points, lines below and hyphens"}.get(number, f"cause {number}")  # fmt: skip
 
 
-def out_of_range(table, clock):
+def out_of_range(table: Table, clock: str | None) -> list[str]:
     """Returns the numbers of a host or of a clock that may not be so, with the clock's name."""
     most = {"short": 999_999_999, "long": 1_000_000_000}
     wrong = [it for it in (*NUMBERS, "gap") if isinstance(table.get(it), int) and not 0 <= table[it] <= most.get(it, 2**62 - 1)]
@@ -204,7 +209,7 @@ def out_of_range(table, clock):
     return [f"{it}{limits[it]}{f' of {clock}' if clock else ''}" for it in wrong]
 
 
-def clock_keys_cause(table):
+def clock_keys_cause(table: Table) -> str:
     """Returns which key a clock of a host may not have, or lacks."""
     for at, it in enumerate(table.get("clocks", []), 1):
         others = sorted(set(it) - CLOCK) if isinstance(it, dict) else []
@@ -215,7 +220,7 @@ def clock_keys_cause(table):
     return "cause 2"
 
 
-def clock_name_cause(value, name, table):
+def clock_name_cause(value: Table, name: str, table: Table) -> str:
     """Returns which name of a host's clocks is misspelled, or is that of a clock before."""
     hosts = value["hosts"]
     taken = {it for host in sorted(hosts, key=str.encode) if host.encode() < name.encode() for it, *_ in clocks_of(host, hosts[host])}
@@ -228,7 +233,7 @@ def clock_name_cause(value, name, table):
     return "cause 4"
 
 
-def label_cause(value, name, table, number):
+def label_cause(value: Table, name: str, table: Table, number: int) -> str:
     if number == 2:
         lacks, others = sorted(LABEL - {"clock"} - set(table)), sorted(set(table) - LABEL)
         return "; ".join([*([f"no such key: {', '.join(others)}"] if others else []), *([f"it lacks {', '.join(lacks)}"] if lacks else [])])
@@ -244,7 +249,7 @@ def label_cause(value, name, table, number):
     return "its values are texts in quotes" if number == 3 else f"cause {number}"
 
 
-def link_cause(value, name, table, number):
+def link_cause(value: Table, name: str, table: Table, number: int) -> str:
     if number == 2:
         lacks, others = sorted({"from", "to"} - set(table)), sorted(set(table) - LINK)
         return "; ".join([*([f"no such key: {', '.join(others)}"] if others else []), *([f"it lacks {', '.join(lacks)}"] if lacks else [])])

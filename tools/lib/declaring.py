@@ -4,8 +4,10 @@ from collections import Counter
 from decimal import Decimal
 from math import ceil
 
+from chrony import Chrony
 from ends import ends_of
 from headers import address_text, decode
+from inputs import Input
 from texts import plain
 
 # A quartz that runs free, in ppm, where nothing is known of it.
@@ -16,7 +18,7 @@ PAYLOAD_BYTES = (8, 16, 32, 64, 0)
 PPM_MOST = 500_000
 
 
-def rates(ppm):
+def rates(ppm: Decimal) -> tuple[int, int]:
     """Returns `short` and `long`, in ppb, of a clock whose rate is at most so many ppm off, from 0 on. Raises ValueError above PPM_MOST."""
     if ppm > PPM_MOST:
         raise ValueError(f"a clock that may be off by {ppm.normalize():f} ppm cannot be declared: {PPM_MOST:,} ppm are the most")
@@ -24,23 +26,23 @@ def rates(ppm):
     return short, -(-short * 10**9 // (10**9 - short))
 
 
-def late_of(resolution, long):
+def late_of(resolution: int, long: int) -> int:
     """Returns how late an event may be for a stamp that is cut off at this many ns."""
     return -(-resolution * (10**9 + long) // 10**9)
 
 
-def spelled(number):
+def spelled(number: int) -> str:
     return f"{number:_}"
 
 
-def unit_text(ns):
+def unit_text(ns: int) -> str:
     for size, name in ((10**9, "s"), (10**6, "ms"), (10**3, "us")):
         if ns % size == 0:
             return f"{ns // size} {name}"
     return f"{ns} ns"
 
 
-def rounded_ppm(ppm):
+def rounded_ppm(ppm: Decimal) -> Decimal:
     """Returns a rate that is no less, in whole ppm, and in whole thousands where it is a great one."""
     size = 1000 if ppm > 10_000 else 1
     return Decimal(ceil(ppm / size) * size)
@@ -49,10 +51,11 @@ def rounded_ppm(ppm):
 class Declaring:
     """A declaration for inputs: what is known of each host, as lines, and what could not be found out."""
 
-    def __init__(self, inputs, chrony=None, source=None, reference=None):
+    def __init__(self, inputs: list[Input], chrony: dict[str, Chrony] | None = None, source: str | None = None, reference: str | None = None) -> None:
         if source and reference:
             raise ValueError("a source is a true clock, and a reference one that is taken for the measure: say one of them")
-        self.inputs, self.chrony, self.source, self.reference, self.unknown = inputs, chrony or {}, source or reference, reference, []
+        self.inputs, self.chrony, self.source, self.reference = inputs, chrony or {}, source or reference, reference
+        self.unknown: list[str] = []
         self.hosts = sorted({it.host for it in inputs})
         self.captures = [it for it in inputs if it.kind == "capture"]
         for name in [*self.chrony, *([self.source] if self.source else [])]:
@@ -60,7 +63,7 @@ class Declaring:
                 raise ValueError(f"there is no host {name}, but {', '.join(self.hosts)}")
         self.ends = ends_of(self.captures)
 
-    def text(self):
+    def text(self) -> str:
         """Returns the declaration."""
         body = [line for host in self.hosts for line in self.host(host)] + self.labels() + self.links()
         files = ", ".join(f"{it.label} of {plain(it.path)}" for it in self.inputs)
@@ -70,7 +73,7 @@ class Declaring:
         head += [f"# NOT FOUND OUT: {it}." for it in self.unknown] + ["", *self.top()]
         return "\n".join([*head, *body]) + "\n"
 
-    def top(self):
+    def top(self) -> list[str]:
         lines = []
         if self.captures:
             count, repeated, short = self.payload_bytes()
@@ -86,10 +89,10 @@ class Declaring:
                       '# source = "ITS HOST" here, and short = 0 and long = 0 below.']  # fmt: skip
         return lines
 
-    def payload_bytes(self):
+    def payload_bytes(self) -> tuple[int, int, int]:
         """Returns how many bytes of the payload tell most packets apart, how many packets they do not, and how many are too short for them."""
-        packets = [(it.host, decode(packet.link, packet.data)[0]) for it in self.captures for packet in it.content.packets]
-        packets = [(host, found) for host, found in packets if found and found.key]
+        decoded = ((it.host, decode(packet.link, packet.data)[0]) for it in self.captures for packet in it.content.packets)
+        packets = [(host, found) for host, found in decoded if found and found.key]
         tried = []
         for at, count in enumerate(PAYLOAD_BYTES):
             keys = Counter((host, found.key, found.payload[:count]) for host, found in packets)
@@ -98,14 +101,14 @@ class Declaring:
             tried.append((repeated + short, at, count, repeated, short))
         return min(tried)[2:]
 
-    def host(self, name):
+    def host(self, name: str) -> list[str]:
         told, ppm = self.rate(name)
         short, long = rates(ppm)
         lines = ["", f'[hosts."{name}"]' if "." in name else f"[hosts.{name}]", *(f"# {it}" for it in told)]
         lines += [f"short = {spelled(short)}", f"long = {spelled(long)}", *self.stamps(name, long), *self.addresses(name)]
         return lines
 
-    def rate(self, name):
+    def rate(self, name: str) -> tuple[list[str], Decimal]:
         """Returns what there is to say of a clock's rate, and by how many ppm it is off at most."""
         if name == self.source:
             return ["It is the source: time is measured by this clock."], Decimal(0)
@@ -116,7 +119,7 @@ class Declaring:
             return [*told, f"Time is measured by {self.reference}'s clock, which may be {other.normalize():f} ppm off itself: so both rates count."], ppm + other
         return told, ppm
 
-    def own_rate(self, name):
+    def own_rate(self, name: str) -> tuple[list[str], Decimal]:
         """Returns the same by true time."""
         found = self.chrony.get(name)
         if found is None:
@@ -127,8 +130,9 @@ class Declaring:
             quartz = found.skew + abs(found.residual)
             told += [f"By {plain(found.tracking_from)}: chronyd's correction of the rate is right to {quartz.normalize():f} ppm (skew, and residual). That is its estimate,",
                      "no bound, and holds while the temperature does: 100 in its place is never too narrow."]  # fmt: skip
-        if found.error() is not None:
-            told += [f"It estimates the time to be right to {found.error().normalize():f} s (root dispersion, half the root delay, system time);",
+        error = found.error()
+        if error is not None:
+            told += [f"It estimates the time to be right to {error.normalize():f} s (root dispersion, half the root delay, system time);",
                      "that is no part of a declaration, for nothing is declared of offsets."]  # fmt: skip
         told.append(f"It may slew by {found.slew.normalize():f} ppm besides ({plain(found.slew_from)}). With maxslewrate 500 while you record that is far less.")
         if found.steps:
@@ -136,7 +140,7 @@ class Declaring:
         off = quartz + found.slew + quartz * found.slew / 10**6
         return told, rounded_ppm(off)
 
-    def stamps(self, name, long):
+    def stamps(self, name: str, long: int) -> list[str]:
         found = [(it.content.resolution(), it) for it in self.inputs if it.host == name]
         resolution, worst = max(found, key=lambda it: it[0])
         what = "the kernel stamped the packet" if worst.kind == "capture" else "the program took the time"
@@ -147,7 +151,7 @@ class Declaring:
             self.unknown.append(f"how fine the stamps of {name} are")
         return [*lines, "early = 0", f"late = {spelled(late_of(resolution, long))}"]
 
-    def addresses(self, name):
+    def addresses(self, name: str) -> list[str]:
         if not any(it.host == name for it in self.captures):
             return []
         own, lines = self.ends.own[name], []
@@ -167,7 +171,7 @@ class Declaring:
                 self.unknown.append(f"the addresses of {name}: no packet of its captures is of IP between two hosts")
         return lines
 
-    def labels(self):
+    def labels(self) -> list[str]:
         lines, done = [], set()
         for it in self.inputs:
             if it.label not in done:
@@ -175,7 +179,7 @@ class Declaring:
                 lines += ["", f'[labels."{it.label}"]' if "." in it.label else f"[labels.{it.label}]", f'host = "{it.host}"', f'kind = "{it.kind}"']
         return lines
 
-    def links(self):
+    def links(self) -> list[str]:
         """Returns a link for each two hosts, both ways."""
         if len(self.hosts) < 2:
             return []
@@ -187,7 +191,7 @@ class Declaring:
                     lines += ["[[links]]", f'from = "{one}"', f'to = "{other}"', "least = 1", ""]
         return lines[:-1]
 
-    def notes(self):
+    def notes(self) -> list[str]:
         """Returns what is to be said beside the declaration: what is odd, and what could not be found out."""
         odd = [f"{plain(it.path)}: {why}" for it in self.inputs for why in it.content.odd] + self.ends.odd
         links = Counter(packet.link for it in self.captures for packet in it.content.packets)

@@ -1,10 +1,17 @@
 """Which addresses are at which end: what captures show of whose they are, and what they do not."""
 
 from collections import Counter, defaultdict
+from collections.abc import Iterable
 from dataclasses import dataclass, field
 from ipaddress import ip_address
+from typing import Any
 
-from headers import address_text, decode, is_unicast
+from captures import Capture
+from headers import Key, address_text, decode, is_unicast
+from inputs import Input
+
+# Two addresses, the lesser one first.
+Pair = tuple[bytes, bytes]
 
 # A question and its answer tell the ends apart where their times differ by more than the stamps' error and this part of the time.
 DRIFT_PART = 1000
@@ -16,13 +23,13 @@ class Seen:
     """What the captures of one host show: how often two addresses talked, those that packets say are its own, and keys with stamps by pair."""
 
     host: str
-    pairs: Counter = field(default_factory=Counter)
-    marked: Counter = field(default_factory=Counter)
-    named: set = field(default_factory=set)
-    keys: dict = field(default_factory=dict)
+    pairs: Counter[Pair] = field(default_factory=Counter)
+    marked: Counter[bytes] = field(default_factory=Counter)
+    named: set[bytes] = field(default_factory=set)
+    keys: dict[Pair, list[tuple[int, Key]]] = field(default_factory=dict)
     unit: int = 1
 
-    def add(self, capture):
+    def add(self, capture: Capture) -> None:
         self.unit = max(self.unit, capture.resolution())
         self.named |= {it for it in capture.addresses if is_unicast(it)}
         for packet in capture.packets:
@@ -44,15 +51,15 @@ class Seen:
 class Ends:
     """The addresses of each host with the reason for each, the pairs of addresses of which nobody can tell, and what was odd."""
 
-    own: dict
-    open: dict
-    odd: list = field(default_factory=list)
+    own: dict[str, dict[bytes, str]]
+    open: dict[str, list[Pair]]
+    odd: list[str] = field(default_factory=list)
 
-    def owner(self, address):
+    def owner(self, address: bytes) -> str | None:
         return next((host for host, found in self.own.items() if address in found), None)
 
 
-def find_ends(seen):
+def find_ends(seen: list[Seen]) -> Ends:
     """Returns which addresses are whose, by what each host's captures show."""
     ends = Ends({it.host: {} for it in seen}, {it.host: [] for it in seen})
     for it in seen:
@@ -67,13 +74,13 @@ def find_ends(seen):
     return ends
 
 
-def rest(seen, ends):
+def rest(seen: Seen, ends: Ends) -> list[Pair]:
     """Returns the pairs of addresses of a host of which neither is its own."""
     own = ends.own[seen.host]
     return [pair for pair in seen.pairs if pair[0] not in own and pair[1] not in own]
 
 
-def by_marks(seen, ends):
+def by_marks(seen: Seen, ends: Ends) -> None:
     """Takes the addresses that an interface names, and those that packets were marked with as sent or received."""
     own = ends.own[seen.host]
     for address in sorted(seen.named):
@@ -82,7 +89,7 @@ def by_marks(seen, ends):
         own.setdefault(address, f"{count} packets are marked as sent from it or received for it")
 
 
-def by_stars(seen, ends):
+def by_stars(seen: Seen, ends: Ends) -> None:
     """Takes an address that talked with several others which did not talk with one another, as one end does with all its peers."""
     pairs = rest(seen, ends)
     peers, total = defaultdict(set), sum(seen.pairs.values())
@@ -96,7 +103,7 @@ def by_stars(seen, ends):
             ends.own[seen.host][address] = told
 
 
-def by_others(seen, ends):
+def by_others(seen: list[Seen], ends: Ends) -> bool:
     """Takes an address whose peer is another host's own. Returns whether there was one."""
     is_new = False
     for it in seen:
@@ -109,7 +116,7 @@ def by_others(seen, ends):
     return is_new
 
 
-def by_answers(seen, ends):
+def by_answers(seen: list[Seen], ends: Ends) -> bool:
     """Takes the two ends of a pair that two hosts have both seen: who asks waits longer than who answers. Returns whether it could."""
     is_new = False
     for one in seen:
@@ -129,7 +136,7 @@ def by_answers(seen, ends):
     return is_new
 
 
-def count_votes(one, other, pair):
+def count_votes(one: Seen, other: Seen, pair: Pair) -> list[int]:
     """Returns how many questions with their answers say that the first address of the pair is the first host's, and how many the second.
 
     From a question to its answer more time passes at the end that asks, by both ways; what the offsets of the clocks are does not matter.
@@ -149,13 +156,13 @@ def count_votes(one, other, pair):
     return votes
 
 
-def once(found):
+def once(found: Iterable[tuple[int, Key]]) -> dict[Key, int]:
     """Returns the stamps, by key, of the keys that stand there just once."""
     counts = Counter(key for _, key in found)
     return {key: stamp for stamp, key in found if counts[key] == 1}
 
 
-def ends_of(captures):
+def ends_of(captures: Iterable[Input]) -> Ends:
     """Returns which addresses are whose, by inputs that are captures."""
     seen = {it.host: Seen(it.host) for it in captures}
     for it in captures:
@@ -163,7 +170,7 @@ def ends_of(captures):
     return find_ends(list(seen.values()))
 
 
-def exchanged(captures, declared):
+def exchanged(captures: Iterable[Input], declared: dict[str, Any]) -> list[str]:
     """Returns, in words, each declared address that the captures show to be another host's; inputs have their hosts."""
     found = ends_of(captures)
     lines = []
@@ -171,12 +178,12 @@ def exchanged(captures, declared):
         for text in [*table.get("addresses", []), *table.get("addresses6", [])]:
             address = ip_address(text).packed
             owner = found.owner(address)
-            if owner not in (None, host):
+            if owner is not None and owner != host:
                 lines.append(f"{text} is declared as {host}'s, and by the captures it is {owner}'s: {found.own[owner][address]}")
     return lines
 
 
-def drop_shared(ends):
+def drop_shared(ends: Ends) -> None:
     """Takes back what would be two hosts' own, since an address belongs to one."""
     holders = defaultdict(list)
     for host, found in ends.own.items():

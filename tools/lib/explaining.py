@@ -2,6 +2,7 @@
 
 import json
 from dataclasses import dataclass, replace
+from typing import Any
 
 import declaration as declarations
 from contradiction import stamp_text, told_cycle
@@ -21,22 +22,25 @@ class Told:
 
     line: str
     reply: str
-    words: list
+    words: list[str]
     is_refusal: bool = False
 
 
 class Explainer:
     """Tells replies; what is known of the declaration and of the files that were added makes it say more."""
 
-    def __init__(self, declaration=None, program=PROGRAM):
-        self.path, self.program, self.inputs, self.done, self.problem = declaration, program, {}, [], None
+    def __init__(self, declaration: str | None = None, program: str | None = PROGRAM) -> None:
+        self.path, self.program = declaration, program
+        self.inputs: dict[int, Input] = {}
+        self.done: list[str] = []
+        self.problem: list[str] | None = None
         try:
             self.declared = read_declaration(declaration) if declaration else {}
         except (OSError, ValueError):
             self.declared = {}
         self.refusals = Refusals(self.declared)
 
-    def reply(self, line, reply):
+    def reply(self, line: str, reply: list[str]) -> Told:
         """Returns a reply told; the line that was asked may be empty where it is not known."""
         words, asked = reply[0].split(" "), line.split(" ")
         self.done.append(line)
@@ -49,7 +53,7 @@ class Explainer:
             found = ["no reply of a session"]
         return Told(line, reply[0], [plain(it) for it in found], words[0] == "refused")
 
-    def take(self, asked, words):
+    def take(self, asked: list[str], words: list[str]) -> None:
         """Remembers what was added."""
         label, path = asked[1:]
         self.problem = None
@@ -60,15 +64,15 @@ class Explainer:
         except (OSError, ValueError):
             pass
 
-    def words(self, words, reply, asked, line):
+    def words(self, words: list[str], reply: list[str], asked: list[str], line: str) -> list[str]:
         """Returns the words for a reply, as lines."""
         names = [*asked[1:], "P", "Q"][:2] if len(asked) > 1 else ["P", "Q"]
         tellers = {
             "refused": lambda: self.refusals.told(line, words[1:]),
             "added": lambda: self.added(words, asked),
-            "interval": lambda: self.interval(*(read_ns(it) for it in words[1:3]), *names),
+            "interval": lambda: self.interval(read_ns(words[1]), read_ns(words[2]), *names),
             "order": lambda: self.order(words[1], *names),
-            "time": lambda: self.time(*(read_ns(it) for it in words[1:3]), names[0]),
+            "time": lambda: self.time(read_ns(words[1]), read_ns(words[2]), names[0]),
             "kept": lambda: f"questions about {names[0]} are answered at once from now on (the {words[1]}. of eight that can be kept)",
             "merge": lambda: f"{count_text(int(words[1]), 'event')} in the order of one execution, the earliest: for two of them ask `order`",
             "problem": lambda: self.told_problem(reply),
@@ -83,20 +87,18 @@ class Explainer:
             return ["evidence for both ends of the interval, which `verify` checks against the reply to `problem`"]
         return self.told_end(reply) or ["no reply of a session"]
 
-    def told_problem(self, reply):
+    def told_problem(self, reply: list[str]) -> str:
         self.problem = reply
         problem = read_problem(reply)
-        counts = [(problem.clocks, "clock"), (problem.events, "event"), (problem.messages, "message")]
-        if problem.follows:
-            counts.insert(1, (problem.follows, "follow"))
-        return f"all that is declared and known: {', '.join(count_text(len(it), name) for it, name in counts)}"
+        counts = [(len(problem.clocks), "clock"), (len(problem.follows), "follow"), (len(problem.events), "event"), (len(problem.messages), "message")]
+        return f"all that is declared and known: {', '.join(count_text(it, name) for it, name in counts if it or name != 'follow')}"
 
-    def time(self, least, greatest, name):
+    def time(self, least: int | None, greatest: int | None, name: str) -> str:
         ends = [stamp_text(it // UNITS) if it is not None else "no limit" for it in (least, greatest)]
-        wide = f", {time_text(greatest - least, 1)} apart" if None not in (least, greatest) else ""
+        wide = f", {time_text(greatest - least, 1)} apart" if least is not None and greatest is not None else ""
         return f"by the clock of the source {name} was between {ends[0]} and {ends[1]}{wide} (ns are cut off)"
 
-    def added(self, words, asked):
+    def added(self, words: list[str], asked: list[str]) -> str:
         events, messages, withdrawn, pending, state = words[2], words[4], words[6], words[8], words[9]
         label = asked[1] if len(asked) == 3 else "the label"
         parts = [f"{label} has {events} events more", f"{messages} messages were found"]
@@ -108,7 +110,7 @@ class Explainer:
             return f"{', '.join(parts)}; what was declared can be true of all this"
         return f"{', '.join(parts)}; what was declared CANNOT be true of all this: a question will show why"
 
-    def interval(self, least, greatest, one, other):
+    def interval(self, least: int | None, greatest: int | None, one: str, other: str) -> str:
         if least is not None and least >= 0:
             more = "or more" if greatest is None else f"to {greatest_text(greatest)}"
             return f"{other} came {least_text(least)} {more} after {one}"
@@ -119,21 +121,21 @@ class Explainer:
         late = "any time" if greatest is None else f"{time_text(greatest, 1)} at most"
         return f"{other} came {early} before or {late} after {one}: which was first is open"
 
-    def order(self, order, one, other):
+    def order(self, order: str, one: str, other: str) -> str:
         told = {"before": f"{one} came before {other}, whatever happened", "after": f"{one} came after {other}, whatever happened",
                 "same": f"{one} and {other} were at one time", "open": f"which of {one} and {other} came first is open: what is declared allows both"}  # fmt: skip
         return told.get(order, order)
 
-    def report(self, report):
+    def report(self, report: dict[str, Any]) -> str:
         parts = [f"{count_text(report['messages'], 'message')} among {count_text(report['events'], 'event')}"]
         parts += [f"{count} {REASONS.get(name, name)}" for name, count in report["nokey"].items() if count]
         parts += [f"{report['unmatched']} without another end"] if report["unmatched"] else []
         parts += [f"{count_text(len(report['ambiguous']), 'key')} with too many events"] if report["ambiguous"] else []
         return "; ".join(parts)
 
-    def known_problem(self):
+    def known_problem(self) -> list[str] | None:
         """Returns the problem that a contradiction is of: the last reply to `problem`, or what a session says of the same additions."""
-        if self.problem is None and self.path and self.inputs:
+        if self.problem is None and self.path and self.program and self.inputs:
             try:
                 with Session(self.path, self.program) as session:
                     for line in self.done:
@@ -144,13 +146,13 @@ class Explainer:
                 return None
         return self.problem
 
-    def told_cycle(self, lines, problem, inputs):
+    def told_cycle(self, lines: list[str], problem: list[str] | None, inputs: dict[int, Input]) -> list[str]:
         """Returns a contradiction in words, as lines."""
         labels = self.declared.get("labels", {})
         captures = [replace(it, host=labels.get(it.label, {}).get("host", it.host)) for it in inputs.values() if it.kind == "capture"]
         return told_cycle(lines, problem, inputs, self.program) + exchanged(captures, self.declared)
 
-    def told_end(self, lines):
+    def told_end(self, lines: list[str]) -> list[str]:
         """Returns what the last line of a run says that is no reply."""
         words = lines[-1].split(" ") if lines else []
         if words[:1] == ["declaration"] and len(words) == 4:

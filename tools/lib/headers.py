@@ -4,6 +4,11 @@ import struct
 from dataclasses import dataclass
 from ipaddress import ip_address
 
+from captures import Packet
+
+# What a packet is known by at both ends: addresses, protocol, identification, ports, and what TCP or UDP says.
+Key = tuple[bytes | int | None, ...]
+
 ETHERNET, RAW, COOKED, COOKED2 = 1, 101, 113, 276
 IPV4, IPV6, ARP, TAGS = 0x0800, 0x86DD, 0x0806, (0x8100, 0x88A8)
 TCP, UDP = 6, 17
@@ -21,15 +26,15 @@ class Headers:
     source: bytes
     target: bytes
     protocol: int
-    ports: tuple | None = None
-    key: tuple | None = None
+    ports: tuple[int, int] | None = None
+    key: Key | None = None
     payload: bytes = b""
     # How many bytes of the payload were there to be captured.
     payload_length: int = 0
     flags: int = 0
 
 
-def frame(link, data):
+def frame(link: int, data: bytes) -> tuple[int, bytes, bool | None]:
     """Returns the type of what a frame carries, what it carries, and whether it was sent, where the link says so; type 0 is none."""
     if link == ETHERNET:
         at = 12
@@ -45,7 +50,7 @@ def frame(link, data):
     return 0, b"", None
 
 
-def decode(link, data):
+def decode(link: int, data: bytes) -> tuple[Headers | None, bool | None]:
     """Returns the headers of a packet and whether it was sent; None for headers where it is none of IP, or was cut within them."""
     kind, data, is_sent = frame(link, data)
     if kind == IPV4 and len(data) >= 20 and data[0] >> 4 == 4:
@@ -56,7 +61,7 @@ def decode(link, data):
     return None, is_sent
 
 
-def decode4(data):
+def decode4(data: bytes) -> Headers:
     head, total, ident, fragment = 4 * (data[0] & 15), *struct.unpack_from(">HHH", data, 2)
     found = Headers(4, data[12:16], data[16:20], data[9])
     if fragment & 0x3FFF or head < 20 or total < head:
@@ -64,40 +69,42 @@ def decode4(data):
     return transport(found, data[head:], total - head, ident)
 
 
-def transport(found, data, length, ident):
+def transport(found: Headers, data: bytes, length: int, ident: int | None) -> Headers:
     """Fills in what the header of TCP or UDP says, of a datagram with so many bytes behind that of IP."""
     data = data[:length]
     if found.protocol == UDP and len(data) >= 8:
-        found.ports, size = struct.unpack_from(">HH", data), struct.unpack_from(">H", data, 4)[0]
+        one, other, size = struct.unpack_from(">HHH", data)
+        found.ports = (one, other)
         found.payload, found.payload_length = data[8:size], max(size - 8, 0)
-        found.key = (found.source, found.target, UDP, ident, *found.ports, 0, 0, 0, size)
+        found.key = (found.source, found.target, UDP, ident, one, other, 0, 0, 0, size)
     elif found.protocol == TCP and len(data) >= 20:
-        found.ports, (sequence, acknowledged) = struct.unpack_from(">HH", data), struct.unpack_from(">II", data, 4)
+        one, other, sequence, acknowledged = struct.unpack_from(">HHII", data)
+        found.ports = (one, other)
         head, found.flags = 4 * (data[12] >> 4), data[13]
         found.payload, found.payload_length = data[head:], max(length - head, 0)
-        found.key = (found.source, found.target, TCP, ident, *found.ports, sequence, acknowledged, found.flags, length - head)
+        found.key = (found.source, found.target, TCP, ident, one, other, sequence, acknowledged, found.flags, length - head)
     return found
 
 
-def address_text(address):
+def address_text(address: bytes) -> str:
     """Returns an address as a declaration spells it: four decimals, or eight groups of hexadecimal digits."""
     if len(address) == 4:
         return ".".join(str(it) for it in address)
     return ":".join(f"{int.from_bytes(address[at : at + 2], 'big'):x}" for at in range(0, 16, 2))
 
 
-def is_unicast(address):
+def is_unicast(address: bytes) -> bool:
     """Returns whether an address is that of one host: no multicast, no broadcast, no loop back, and not none at all."""
     it = ip_address(address)
     return not (it.is_multicast or it.is_loopback or it.is_unspecified or address == b"\xff" * 4)
 
 
-def end_text(address, port):
+def end_text(address: bytes, port: int) -> str:
     text = str(ip_address(address))
     return f"[{text}]:{port}" if len(address) == 16 else f"{text}:{port}"
 
 
-def described(packet):
+def described(packet: Packet) -> tuple[str, str]:
     """Returns a packet in a few words with its addresses, and in fewer without them."""
     found, _ = decode(packet.link, packet.data)
     if found is None:

@@ -2,7 +2,9 @@
 
 import os
 import re
+from collections.abc import Iterable
 from dataclasses import dataclass
+from typing import Any
 
 from captures import is_capture, read_capture
 from logs import read_log
@@ -23,26 +25,26 @@ PACKED = {
 
 @dataclass
 class Input:
-    """A trace: its label, its host, the path of its file, `capture` or `log`, and its packets or rows."""
+    """A trace: its label, its host, the path of its file, `capture` or `log`, and a Capture or a Log."""
 
     label: str
     host: str
     path: str
     kind: str = ""
-    content: object = None
+    content: Any = None
 
 
-def packed(start):
+def packed(start: bytes) -> tuple[str, str] | None:
     """Returns what a file is that begins with these bytes, and the command that unpacks it, or None."""
     return next((told for magic, told in PACKED.items() if start.startswith(magic)), None)
 
 
-def start_of(path):
+def start_of(path: str) -> bytes:
     with open(path, "rb") as it:
         return it.read(16)
 
 
-def parse_input(word):
+def parse_input(word: str) -> Input:
     """Returns the input that a word LABEL=FILE or LABEL@HOST=FILE names."""
     names, equals, path = word.partition("=")
     label, at, host = names.partition("@")
@@ -55,7 +57,7 @@ def parse_input(word):
     return Input(label, host, path)
 
 
-def open_input(it):
+def open_input(it: Input) -> Input:
     """Reads the file of an input. Raises ValueError where it is neither a capture nor a log."""
     if os.path.isdir(it.path):
         raise ValueError(f"{it.path} is a folder")
@@ -63,14 +65,17 @@ def open_input(it):
     told = packed(start)
     if told:
         raise ValueError(f"{it.path} is {told[0]}: {told[1]} it first")
-    it.kind = "capture" if is_capture(start) else "log"
-    it.content = read_capture(it.path) if it.kind == "capture" else read_log(it.path)
-    if it.kind == "log" and not it.content.rows and it.content.odd:
-        raise ValueError(f"{it.path} is no capture, and no log either: {it.content.odd[0]}")
+    if is_capture(start):
+        it.kind, it.content = "capture", read_capture(it.path)
+        return it
+    log = read_log(it.path)
+    if not log.rows and log.odd:
+        raise ValueError(f"{it.path} is no capture, and no log either: {log.odd[0]}")
+    it.kind, it.content = "log", log
     return it
 
 
-def read_inputs(words):
+def read_inputs(words: Iterable[str]) -> list[Input]:
     """Returns the inputs that words name, with their files read; hosts of one label are one host."""
     found = [open_input(parse_input(word)) for word in words]
     for one in found:

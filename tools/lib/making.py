@@ -1,5 +1,6 @@
 """Makes all that tools/timeline writes: the declaration, the session, the words and the outputs."""
 
+import argparse
 import os
 import sys
 
@@ -11,13 +12,13 @@ from chrony import read_all_chrony
 from declaration import read_declaration
 from declaring import Declaring
 from explaining import Explainer
-from inputs import read_inputs
+from inputs import Input, read_inputs
 from files import read_own, write_own
 from page import page
-from program import PROGRAM, Ended, Look, Session
+from program import Ended, Look, Session
 from replies import read_cycle, read_problem
 from texts import plain
-from timeline import DELAYS_MOST, FROM_MOST, make_timeline, plain_path
+from timeline import FROM_MOST, Timeline, make_timeline, plain_path
 from words import Words, list_lines
 
 FOLDER = "tracesync-timeline"
@@ -36,7 +37,7 @@ OUTPUTS = {
 class Making:
     """What the command line says, and what is made of it."""
 
-    def __init__(self, said):
+    def __init__(self, said: argparse.Namespace) -> None:
         self.folder, self.program = said.folder, None if said.look else said.program
         self.declaration, self.chrony = said.declaration, said.chrony
         self.source, self.reference = said.source, said.reference
@@ -51,14 +52,14 @@ class Making:
         self.outputs = {name: getattr(said, name) for name in OUTPUTS if getattr(said, name)}
         self.words = said.files
 
-    def make(self):
+    def make(self) -> int:
         """Makes all outputs, and returns the status."""
         inputs = read_inputs(self.words)
         os.makedirs(self.folder, exist_ok=True)
         for at, it in enumerate(inputs, 1):
             it.path = plain_path(it.path, self.folder, at)
         self.declare(inputs)
-        session = Session(self.declaration, self.program) if self.program else Look(self.declaration)
+        session: Session | Look = Session(self.declaration, self.program) if self.program else Look(self.declaration)
         try:
             found = make_timeline(session, inputs, self.chosen, self.delays, self.pairs, self.declared_source())
         except Ended as why:
@@ -72,14 +73,14 @@ class Making:
         self.keep("replies.txt", "".join(f"{line}\n" for reply in session.replies for line in reply))
         return self.write(found)
 
-    def declared_source(self):
+    def declared_source(self) -> str | None:
         """Returns the source that the declaration names, or None where there is none, or where the program will refuse the declaration."""
         try:
             return read_declaration(self.declaration).get("source")
         except ValueError:
             return None
 
-    def declare(self, inputs):
+    def declare(self, inputs: list[Input]) -> None:
         """Writes a declaration, if none was named; one that is there and was changed is left alone."""
         if self.declaration:
             return
@@ -93,7 +94,7 @@ class Making:
         self.say(f"Wrote {self.declaration}: every answer follows from it, so look at each line.")
         self.say(*(f"{it[0].upper()}{it[1:]}." for it in declaring.notes()))
 
-    def write(self, found):
+    def write(self, found: Timeline) -> int:
         """Tells what was found, and writes the outputs. Returns the status."""
         explainer = Explainer(declaration=self.declaration, program=self.program)
         self.say(*Words(found).lines())
@@ -102,7 +103,7 @@ class Making:
             self.say(f"{' '.join(words)}: {explainer.refusals.told(line, words[1:])}.")
         if found.cycle:
             self.say("The declaration is contradicted, so there is no timeline.", *explainer.told_cycle(found.cycle, found.problem, self.inputs_text(found)))
-            text = chain_svg(read_cycle(found.cycle), read_problem(found.problem))
+            text = chain_svg(read_cycle(found.cycle) or [], read_problem(found.problem))
             if text:
                 self.keep("contradiction.svg", text)
                 self.say(f"Wrote {self.folder}/contradiction.svg.")
@@ -117,7 +118,7 @@ class Making:
             self.say(f"Wrote {self.folder}/timeline.{name}.")
         return 1 if refused else 0
 
-    def output_to(self, path, text):
+    def output_to(self, path: str, text: str) -> None:
         """Writes an output to where the command line says, be it a link, a device or `-`."""
         if path == "-":
             sys.stdout.write(text)
@@ -126,10 +127,10 @@ class Making:
             it.write(text)
         self.say(f"Wrote {path}.")
 
-    def inputs_text(self, found):
+    def inputs_text(self, found: Timeline) -> dict[int, Input]:
         return dict(enumerate(it for it, _ in found.added))
 
-    def output(self, name, found):
+    def output(self, name: str, found: Timeline) -> str:
         """Returns the text of an output."""
         if name == "html":
             return page(found, f"Timeline of {', '.join(found.hosts)}")
@@ -140,11 +141,11 @@ class Making:
         makers = {"json": tables.as_json, "csv": tables.as_csv, "chrome": neighbours.chrome, "shiviz": neighbours.shiviz}
         return makers[name](found)
 
-    def keep(self, name, text):
+    def keep(self, name: str, text: str) -> None:
         """Writes a file into the folder."""
         write_own(f"{self.folder}/{name}", text)
 
-    def say(self, *lines):
+    def say(self, *lines: str) -> None:
         """Says lines on the standard output, or on the standard error where an output goes there: without signs that cannot be seen."""
         out = sys.stderr if "-" in self.outputs.values() else sys.stdout
         try:

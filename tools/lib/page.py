@@ -4,8 +4,10 @@ import json
 import os
 import re
 from html import escape
+from typing import Any
 
 from replies import short_ns
+from timeline import Timeline
 from words import Words
 
 # What the program said, how it is drawn, and what one does: in this order, as one script.
@@ -13,16 +15,16 @@ SCRIPTS = ("page_said.js", "page_drawn.js", "page_done.js")
 HERE = os.path.dirname(os.path.realpath(__file__))
 
 
-def part(name):
+def part(name: str) -> str:
     with open(f"{HERE}/{name}", encoding="utf-8") as it:
         return it.read()
 
 
-def ends_text(units):
+def ends_text(units: int | None) -> str | None:
     return None if units is None else short_ns(units)
 
 
-def page_data(found):
+def page_data(found: Timeline) -> dict[str, Any]:
     """Returns what the page draws, as values of JSON: numbers of ns are texts, so that no digit is lost."""
     words = Words(found)
     hosts = {host: at for at, host in enumerate(found.hosts)}
@@ -41,7 +43,7 @@ def page_data(found):
     }
 
 
-def page(found, title):
+def page(found: Timeline, title: str) -> str:
     """Returns the page."""
     # (no text can end the script)
     data = json.dumps(page_data(found), separators=(",", ":")).replace("<", "\\u003c")

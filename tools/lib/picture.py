@@ -1,11 +1,17 @@
 """The timeline as a picture in SVG: events at their times in the earliest execution, with bars, and messages as arrows."""
 
 from bisect import bisect_right
+from collections.abc import Collection, Iterable
 from html import escape
 from math import ceil, log2
 
 from replies import UNITS, short_ns
+from timeline import Event, Timeline
 from words import time_text
+
+# A line from one place to another, and a box: left, top, right and foot.
+Line = tuple[float, float, float, float]
+Box = tuple[float, float, float, float]
 
 INKS = ("#1f5fa8", "#b3541e", "#2f7d4f", "#7a4aa0", "#a8324e", "#4d6b7a", "#8a6d1a", "#5a5a5a")
 LEFT, TOP, ABOVE, BELOW, FOOT, LANE, LANES_MOST = 110, 44, 48, 16, 34, 6, 12
@@ -17,7 +23,7 @@ LETTER, BOLD = 6.1, 9
 class Places:
     """Where each time lies from left to right: distances are squeezed, so that events can be told apart, and their order is kept."""
 
-    def __init__(self, times):
+    def __init__(self, times: Iterable[int]) -> None:
         self.times = sorted(set(times))
         gaps = [late - early for early, late in zip(self.times, self.times[1:])]
         self.small = sorted(gaps)[len(gaps) // 10] if gaps else UNITS
@@ -25,7 +31,7 @@ class Places:
         for gap in gaps:
             self.across.append(self.across[-1] + min(GAP_LEAST + GAP_MORE * log2(1 + gap / self.small), GAP_MOST))
 
-    def place(self, time):
+    def place(self, time: int) -> float:
         """Returns where a time lies: between two events in proportion, outside of all less and less far."""
         first, last = self.times[0], self.times[-1]
         mean = (last - first) / max(len(self.times) - 1, 1) or self.small
@@ -37,7 +43,7 @@ class Places:
         return self.across[at] + (self.across[at + 1] - self.across[at]) * ((time - self.times[at]) / (self.times[at + 1] - self.times[at]))
 
 
-def chosen_part(found, most, around):
+def chosen_part(found: Timeline, most: int, around: Collection[str]) -> tuple[list[Event], str | None]:
     """Returns the events that are drawn, and what there is to say of them, or None where they are all."""
     events = found.events
     at = next((k for k, it in enumerate(events) if it.name in around), 0)
@@ -49,7 +55,7 @@ def chosen_part(found, most, around):
 class Picture:
     """What is drawn, and where it lies."""
 
-    def __init__(self, found, most, around):
+    def __init__(self, found: Timeline, most: int, around: Collection[str]) -> None:
         self.events, self.part = chosen_part(found, most, around)
         self.names, self.is_proved = {it.name: it for it in self.events}, found.is_proved
         self.base, self.ends = next(iter(found.ends.items()))
@@ -64,20 +70,21 @@ class Picture:
         self.left = max(LEFT, 26 + max(BOLD * len(host) for host in self.hosts))
         self.lay_out()
 
-    def bar(self, name):
+    def bar(self, name: str) -> tuple[float, float]:
         """Returns where a bar begins and ends; far out where there is no limit."""
         least, greatest = self.ends[name]
         return (-1e6 if least is None else self.places.place(least), 1e6 if greatest is None else self.places.place(greatest))
 
-    def lay_out(self):
+    def lay_out(self) -> None:
         """Cuts the time into strips, and finds the lanes of bars and the height of each host's row."""
         low = min([*self.x.values(), *(it[0] for it in self.bars.values() if it[0] > -1e6)])
         high = max([*self.x.values(), *(it[1] for it in self.bars.values() if it[1] < 1e6)])
         low, high = max(low, min(self.x.values()) - 120) - 14, min(high, max(self.x.values()) + 120) + 30
         count = ceil((high - low) / STRIP_MOST)
         self.strips = [(low + (high - low) * k / count, low + (high - low) * (k + 1) / count) for k in range(count)]
-        self.lanes, used = {}, dict.fromkeys(self.hosts, 1)
-        ends = {host: [] for host in self.hosts}
+        self.lanes: dict[str, int] = {}
+        used = dict.fromkeys(self.hosts, 1)
+        ends: dict[str, list[float]] = {host: [] for host in self.hosts}
         for it in sorted(self.events, key=lambda it: self.bars[it.name][0]):
             first, last = self.bars[it.name]
             own = ends[it.host]
@@ -85,14 +92,15 @@ class Picture:
             lane = min(lane, LANES_MOST - 1)
             own[lane:] = [max(last, own[lane]) if lane < len(own) else last, *own[lane + 1 :]]
             self.lanes[it.name], used[it.host] = lane, max(used[it.host], lane + 1)
-        self.y, y = {}, TOP
+        self.y: dict[str, float] = {}
+        y = TOP
         for host in self.hosts:
             self.y[host] = y + ABOVE
             y += ABOVE + LANE * used[host] + BELOW
         self.high = y + FOOT
         self.wide = self.left + max(max(last - first for first, last in self.strips), 7 * len(self.title(0)) - 40) + 16
 
-    def title(self, number):
+    def title(self, number: int) -> str:
         words = [f"Earliest execution; bars: from the least to the greatest time since {self.base} in any execution; distances are squeezed"]
         if self.part:
             words.append(self.part)
@@ -100,7 +108,7 @@ class Picture:
             words.append("NOTHING OF IT IS PROVED")
         return "; ".join(words) if number == 0 else f"Continued ({number + 1} of {len(self.strips)})"
 
-    def svg(self):
+    def svg(self) -> str:
         high = self.high * len(self.strips)
         out = [
             f'<svg xmlns="http://www.w3.org/2000/svg" viewBox="0 0 {self.wide:.0f} {high:.0f}" width="{self.wide:.0f}" height="{high:.0f}" '
@@ -120,7 +128,7 @@ class Picture:
             out.append("</g>")
         return "\n".join([*out, "</svg>"]) + "\n"
 
-    def marks(self, first, last):
+    def marks(self, first: float, last: float) -> list[str]:
         """Returns times at the foot, where there is room, with lines up."""
         out, before = [], first - MARK
         for time, at in zip(self.places.times, self.places.across):
@@ -130,7 +138,7 @@ class Picture:
                 out.append(f'<text x="{at:.1f}" y="{self.high - FOOT + 18}" fill="#777" text-anchor="middle">{escape(time_text(time))}</text>')
         return out
 
-    def lines(self, first, last):
+    def lines(self, first: float, last: float) -> list[str]:
         out = []
         for host in self.hosts:
             y, ink = self.y[host], self.ink[host]
@@ -138,7 +146,7 @@ class Picture:
             out.append(f'<text x="{first - 12:.1f}" y="{y + 5}" text-anchor="end" font-size="14" font-weight="bold" fill="{ink}">{escape(host)}</text>')
         return out
 
-    def bar_lines(self, it, first, last):
+    def bar_lines(self, it: Event, first: float, last: float) -> list[str]:
         """Returns the bar of an event, as far as it lies in a strip: a line with an end on each side that is there."""
         low, high = self.bars[it.name]
         if high < first or low > last:
@@ -152,20 +160,16 @@ class Picture:
             out.append(f'<line x1="{x:.1f}" y1="{self.y[it.host]}" x2="{x:.1f}" y2="{y}" stroke="{ink}" stroke-opacity="0.3"/>')
         return out
 
-    def arrows(self, first, last):
+    def arrows(self, first: float, last: float) -> list[tuple[str, Line]]:
         """Returns the messages of a strip, each with the line that it takes up."""
-        out = []
+        out: list[tuple[str, Line]] = []
         for it in self.messages:
             one, other = self.names.get(it.send), self.names.get(it.receive)
-            here = one or other
-            x, y = self.x[here.name], self.y[here.host]
-            dash, head = "", ' marker-end="url(#head)"'
-            if one and other:
-                x1, y1, x2, y2 = self.x[it.send], self.y[one.host], self.x[it.receive], self.y[other.host]
-            elif one:
-                x1, y1, x2, y2, dash, head = x, y, x + STUB, y - STUB, ' stroke-dasharray="4 3"', ""
-            else:
-                x1, y1, x2, y2, dash = x - STUB, y - STUB, x, y, ' stroke-dasharray="4 3"'
+            dash, head = "" if one and other else ' stroke-dasharray="4 3"', ' marker-end="url(#head)"' if other else ""
+            # (where an end is not drawn, a stub is)
+            x1, y1 = (self.x[one.name], self.y[one.host]) if one else (0, 0)
+            x2, y2 = (self.x[other.name], self.y[other.host]) if other else (x1 + STUB, y1 - STUB)
+            x1, y1 = (x1, y1) if one else (x2 - STUB, y2 - STUB)
             if max(x1, x2) < first or min(x1, x2) > last:
                 continue
             length = ((x2 - x1) ** 2 + (y2 - y1) ** 2) ** 0.5 or 1
@@ -178,7 +182,7 @@ class Picture:
             out.append((f'<line {line} stroke="#555" stroke-width="1.1"{dash}{head}>{title}</line>', (x1, y1, x2, y2)))
         return out
 
-    def points(self, first, last):
+    def points(self, first: float, last: float) -> list[str]:
         """Returns the events of a strip; one without a message is hollow."""
         ends, out = {it.send for it in self.messages} | {it.receive for it in self.messages}, []
         for it in self.events:
@@ -193,10 +197,11 @@ class Picture:
                 )
         return out
 
-    def labels(self, first, last, lines):
+    def labels(self, first: float, last: float, lines: list[Line]) -> list[str]:
         """Returns names above their lines, where they lie on no arrow, no event and no other name; the others are left out."""
         points = [(self.x[it.name], self.y[it.host]) for it in self.events if first <= self.x[it.name] < last]
-        out, taken = [], []
+        out: list[str] = []
+        taken: list[Box] = []
         for it in self.events:
             x, y = self.x[it.name], self.y[it.host]
             if not first <= x < last:
@@ -215,7 +220,7 @@ class Picture:
         return out
 
 
-def is_free(box, taken, points, lines):
+def is_free(box: Box, taken: list[Box], points: list[tuple[float, float]], lines: list[Line]) -> bool:
     left, top, right, foot = box
     if any(it[0] < right and left < it[2] and it[1] < foot and top < it[3] for it in taken):
         return False
@@ -224,7 +229,7 @@ def is_free(box, taken, points, lines):
     return not any(crosses(line, box) for line in lines)
 
 
-def crosses(line, box):
+def crosses(line: Line, box: Box) -> bool:
     """Returns whether a line meets a box."""
     (x1, y1, x2, y2), (left, top, right, foot) = line, box
     if max(x1, x2) < left or min(x1, x2) > right or max(y1, y2) < top or min(y1, y2) > foot:
@@ -233,7 +238,7 @@ def crosses(line, box):
     return not (all(it > 0 for it in sides) or all(it < 0 for it in sides))
 
 
-def cut(x1, y1, x2, y2, first, last):
+def cut(x1: float, y1: float, x2: float, y2: float, first: float, last: float) -> tuple[float, float]:
     """Returns the first end of a line, or where the line crosses the border of a strip if the end lies outside."""
     if first <= x1 <= last or x1 == x2:
         return x1, y1
@@ -241,6 +246,6 @@ def cut(x1, y1, x2, y2, first, last):
     return border, y1 + (y2 - y1) * (border - x1) / (x2 - x1)
 
 
-def svg(found, most, around):
+def svg(found: Timeline, most: int, around: Collection[str]) -> str:
     """Returns the picture of at most so many events: those around one of these names, or the first ones."""
     return Picture(found, most, around).svg()

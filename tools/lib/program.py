@@ -2,6 +2,8 @@
 
 import os
 import subprocess
+from collections.abc import Iterable
+from typing import Self
 
 from replies import is_texted, split_replies
 
@@ -12,7 +14,7 @@ PROGRAM = f"{TOP}/tracesync"
 class Ended(Exception):
     """The program ended before its last reply; `lines` are those that it printed for it, and `status` is its status."""
 
-    def __init__(self, lines, status):
+    def __init__(self, lines: list[str], status: int) -> None:
         super().__init__(f"the program ended with status {status}{': ' if lines else ''}{' '.join(lines)}")
         self.lines, self.status = lines, status
 
@@ -20,25 +22,28 @@ class Ended(Exception):
 class Session:
     """A session of the program. What it is asked and what it replies is kept in `script` and `replies`."""
 
-    def __init__(self, declaration, program=PROGRAM):
-        self.script, self.replies = [], []
+    def __init__(self, declaration: str, program: str = PROGRAM) -> None:
+        self.script: list[str] = []
+        self.replies: list[list[str]] = []
         self.ran = subprocess.Popen([program, "session", declaration], stdin=subprocess.PIPE, stdout=subprocess.PIPE, text=True)
+        assert self.ran.stdin and self.ran.stdout
+        self.input, self.output = self.ran.stdin, self.ran.stdout
 
-    def ask(self, line):
+    def ask(self, line: str) -> list[str]:
         """Returns the lines of the reply to a line."""
         self.script.append(line)
         try:
-            self.ran.stdin.write(f"{line}\n")
-            self.ran.stdin.flush()
+            self.input.write(f"{line}\n")
+            self.input.flush()
         except BrokenPipeError:
             pass
         return self.read_reply()
 
-    def ask_all(self, lines):
+    def ask_all(self, lines: Iterable[str]) -> list[list[str]]:
         """Returns the replies to lines."""
         return [self.ask(line) for line in lines]
 
-    def read_reply(self):
+    def read_reply(self) -> list[str]:
         first = self.line([])
         words, reply = first.split(" "), [first]
         count = int(words[1]) if words[0] == "merge" and len(words) == 2 and words[1].isdigit() else 0
@@ -49,42 +54,44 @@ class Session:
         self.replies.append(reply)
         return reply
 
-    def line(self, before):
-        found = self.ran.stdout.readline()
+    def line(self, before: list[str]) -> str:
+        found = self.output.readline()
         if not found.endswith("\n") or found.startswith("declaration ") or found == "read fault\n":
             self.close_input()
             rest = [found.rstrip("\n")] if found else []
             raise Ended([*before, *rest], self.ran.wait())
         return found.rstrip("\n")
 
-    def close_input(self):
+    def close_input(self) -> None:
         """Ends the script. Where the program has ended before, what it was not asked any more is lost."""
         try:
-            self.ran.stdin.close()
+            self.input.close()
         except BrokenPipeError:
             pass
 
-    def close(self):
+    def close(self) -> int:
         """Ends the session, and returns the status of the program."""
         self.close_input()
-        self.ran.stdout.close()
+        self.output.close()
         return self.ran.wait()
 
-    def __enter__(self):
+    def __enter__(self) -> Self:
         return self
 
-    def __exit__(self, *_):
-        if not self.ran.stdin.closed:
+    def __exit__(self, *_: object) -> None:
+        if not self.input.closed:
             self.close()
 
 
 class Look:
     """A session that tools/first-look answers: it reads a script to its end, so each time from the beginning. Nothing of it is proved."""
 
-    def __init__(self, declaration):
-        self.declaration, self.script, self.replies = declaration, [], []
+    def __init__(self, declaration: str) -> None:
+        self.declaration = declaration
+        self.script: list[str] = []
+        self.replies: list[list[str]] = []
 
-    def ask_all(self, lines):
+    def ask_all(self, lines: list[str]) -> list[list[str]]:
         """Returns the replies to lines."""
         self.script += lines
         words = [f"{TOP}/tools/first-look", "session", self.declaration]
@@ -94,14 +101,14 @@ class Look:
             raise Ended(self.replies[-1] if self.replies else [], ran.returncode)
         return self.replies[-len(lines) :]
 
-    def __enter__(self):
+    def __enter__(self) -> Self:
         return self
 
-    def __exit__(self, *_):
+    def __exit__(self, *_: object) -> None:
         pass
 
 
-def run(words, program=PROGRAM):
+def run(words: list[str], program: str = PROGRAM) -> tuple[list[str], int]:
     """Returns the lines that the program prints for these words, and its status."""
     ran = subprocess.run([program, *words], stdin=subprocess.DEVNULL, stdout=subprocess.PIPE, text=True)
     return ran.stdout.splitlines(), ran.returncode

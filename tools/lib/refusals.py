@@ -2,6 +2,7 @@
 
 import os
 import re
+from typing import Any
 
 from captures import MAGICS, SECTION, is_capture
 from inputs import packed, start_of
@@ -18,10 +19,12 @@ ROW_CAUSES = {
 class Refusals:
     """Tells refusals; `declared` is the declaration's tables, and `counts` how many events each label has so far, where that is known."""
 
-    def __init__(self, declared=None):
-        self.declared, self.counts, self.added = declared or {}, {}, {}
+    def __init__(self, declared: dict[str, Any] | None = None) -> None:
+        self.declared = declared or {}
+        self.counts: dict[str, int] = {}
+        self.added: dict[str, list[str]] = {}
 
-    def told(self, line, words):
+    def told(self, line: str, words: list[str]) -> str:
         """Returns why a line was refused with these words behind `refused`."""
         number, rest = words[0], words[1:]
         asked = line.split(" ")
@@ -37,7 +40,7 @@ class Refusals:
                    "31": lambda: self.no_block(path, rest)}  # fmt: skip
         return tellers[number]() if number in tellers else f"refusal {number}"
 
-    def no_command(self, line):
+    def no_command(self, line: str) -> str:
         """Returns what is wrong with a line that is no command."""
         if not line:
             return "the line is empty"
@@ -60,14 +63,14 @@ class Refusals:
             return f"`{words[0]}` has {COMMANDS[words[0]]} words behind it, and here are {count}"
         return "it has a byte that is not plain ASCII"
 
-    def no_label(self, label):
+    def no_label(self, label: str) -> str:
         labels = sorted(self.declared.get("labels", {}))
         told = f"; there are {', '.join(labels)}" if labels else ""
         if label in self.declared.get("hosts", {}):
             return f"{label} is a host, and no label: [labels.{label}] is missing{told}"
         return f"no label {label} is declared{told}"
 
-    def no_file(self, path):
+    def no_file(self, path: str | None) -> str:
         """Returns why a file cannot be read."""
         if path is None:
             return "there is no such file, or it cannot be read"
@@ -79,7 +82,7 @@ class Refusals:
             return f"there is no file {path} in {os.getcwd()}, from where it counts" if not os.path.isabs(path) else f"there is no file {path}"
         return f"{path} is a pipe or a device, which is read once" if not os.path.isfile(path) else f"{path} cannot be read"
 
-    def no_capture(self, path, rest):
+    def no_capture(self, path: str | None, rest: list[str]) -> str:
         """Returns why a file is no capture, by its first bytes."""
         if rest == ["2"]:
             return "the capture is of another version than 2.4 of pcap or 1 of pcapng: editcap makes it one that is read"
@@ -93,21 +96,21 @@ class Refusals:
             return f"{path} is text: a log is declared with kind = \"log\""
         return f"{path or 'the file'} is neither classic pcap nor pcapng: `file {path or 'X'}` may tell what it is"
 
-    def no_packet(self, path, rest, label):
+    def no_packet(self, path: str | None, rest: list[str], label: str) -> str:
         if path and start_of(path)[:4] in MAGICS and self.added.get(label):
             again = path in self.added[label]
             return f"{path} {'was added before' if again else 'begins with a header of its own, which only the first file of a label may have'}" + (
                 "" if again else ": mergecap -a -F nsecpcap -w ALL.pcap joins files")
         return f"at byte {rest[0] if rest else '?'} of {label} stands no record of a packet: is the file damaged, or are its parts in another order?"
 
-    def no_block(self, path, rest):
+    def no_block(self, path: str | None, rest: list[str]) -> str:
         told = packed(start_of(path)) if path else None
         if told:
             return f"{path} is {told[0]}: {told[1]} it first"
         more = "" if path is None or start_of(path)[:4] != SECTION else "; the file before it may have ended inside a block: editcap CUT WHOLE takes the rest off"
         return f"at byte {rest[0] if rest else '?'} of the label stands a malformed block of pcapng{more}"
 
-    def no_row(self, path, rest):
+    def no_row(self, path: str | None, rest: list[str]) -> str:
         """Returns what is wrong with a row, and shows it."""
         row, cause = [*rest, "?", "?"][:2]
         if path and is_capture(start_of(path)):
@@ -115,13 +118,13 @@ class Refusals:
         shown = self.row(path, row) if path and row.isdigit() else ""
         return f"record {row}: {ROW_CAUSES.get(cause, f'cause {cause}')}{f'. It is: {shown}' if shown else ''}. tools/rows makes rows of other logs"
 
-    def row(self, path, number):
+    def row(self, path: str, number: str) -> str:
         """Returns a record of a log as it stands, where its records are lines."""
         with open(path, encoding="utf-8", errors="replace") as it:
             lines = [line for line in it.read().splitlines() if line]
         return lines[int(number) - 1][:120] if 0 < int(number) <= len(lines) else ""
 
-    def no_event(self, names):
+    def no_event(self, names: list[str]) -> str:
         """Returns which of the names is no event."""
         for name in names:
             found = re.fullmatch(r"(.+)#([1-9]\d*)", name)
@@ -136,6 +139,6 @@ class Refusals:
                 return f"nothing was added to {label} so far"
         return "there is no such event"
 
-    def no_source(self):
+    def no_source(self) -> str:
         source = self.declared.get("source")
         return f"{source}, the source, has no event so far" if source else 'no source is declared: source = "CLOCK" on top, a host\'s name or that of a clock of its own, with short = 0 and long = 0'

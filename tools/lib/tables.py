@@ -3,29 +3,34 @@
 import csv
 import io
 import json
+from typing import Any
 
-from replies import ns_text
+from replies import Interval, ns_text
 from texts import cell
-from timeline import order_of
+from timeline import Timeline, order_of
 
 
-def text_of(units, infinite):
+def text_of(units: int | None, infinite: str) -> str:
     return infinite if units is None else ns_text(units)
 
 
-def as_json(found):
+def ends_text(ends: Interval) -> list[str]:
+    return [text_of(ends[0], "-inf"), text_of(ends[1], "+inf")]
+
+
+def as_json(found: Timeline) -> str:
     """Returns the timeline as one JSON object; numbers of ns are texts with nine digits behind the point."""
-    value = {
+    value: dict[str, Any] = {
         "report": found.report,
         "hosts": found.hosts,
         "events": [
             {"event": it.name, "host": it.host, "stamp": str(it.stamp), "earliest": ns_text(it.time), "text": it.text,
-             "since": {name: [text_of(ends[it.name][0], "-inf"), text_of(ends[it.name][1], "+inf")] for name, ends in found.ends.items()},
-             **({"time": [text_of(it.source_time[0], "-inf"), text_of(it.source_time[1], "+inf")]} if it.source_time else {})}
+             "since": {name: ends_text(ends[it.name]) for name, ends in found.ends.items()},
+             **({"time": ends_text(it.source_time)} if it.source_time else {})}
             for it in found.events
         ],
         "messages": [
-            {"send": it.send, "receive": it.receive, **({"delay": [text_of(it.delay[0], "-inf"), text_of(it.delay[1], "+inf")]} if it.delay else {})}
+            {"send": it.send, "receive": it.receive, **({"delay": ends_text(it.delay)} if it.delay else {})}
             for it in found.messages
         ],
         "orders": [{"first": one, "second": other, "order": order} for (one, other), order in found.orders.items()],
@@ -34,7 +39,7 @@ def as_json(found):
     return json.dumps(value, indent=1) + "\n"
 
 
-def as_csv(found):
+def as_csv(found: Timeline) -> str:
     """Returns a row for each event, in the order of the earliest execution; the ends are since the first event that was chosen.
 
     Names and texts are those of others, and stand as `cell` has them; what is in the other columns was made here or by the program.

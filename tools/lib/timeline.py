@@ -6,10 +6,19 @@ Nothing here is worked out that the program could answer: differences of real ti
 
 import json
 import os
+from collections.abc import Callable, Iterable, Iterator
 from dataclasses import dataclass, field
+from typing import Any, TypeVar
 
 from headers import described
-from replies import read_merge, read_ns, read_problem
+from inputs import Input
+from program import Look, Session
+from replies import Interval, Problem, read_merge, read_ns, read_problem
+
+K = TypeVar("K")
+T = TypeVar("T")
+# A line for a session, and what takes the words of its reply.
+Question = tuple[str, Callable[[list[str]], None]]
 
 FROM_MOST = 8
 # How many messages of a link are asked for their delays, and how many questions about orders times events are asked, if not said.
@@ -27,7 +36,7 @@ class Event:
     time: int
     text: str = ""
     brief: str = ""
-    source_time: tuple | None = None
+    source_time: Interval | None = None
 
 
 @dataclass
@@ -36,30 +45,31 @@ class Message:
 
     send: str
     receive: str
-    delay: tuple | None = None
+    delay: Interval | None = None
 
 
 @dataclass
 class Timeline:
     """What is known of a session; `ends` has, for each event that was asked from, the ends to each event, None for an infinite one."""
 
-    hosts: list = field(default_factory=list)
-    events: list = field(default_factory=list)
-    messages: list = field(default_factory=list)
-    ends: dict = field(default_factory=dict)
-    orders: dict = field(default_factory=dict)
-    report: dict = field(default_factory=dict)
-    added: list = field(default_factory=list)
-    cycle: list | None = None
-    problem: list = field(default_factory=list)
-    notes: list = field(default_factory=list)
+    hosts: list[str] = field(default_factory=list)
+    events: list[Event] = field(default_factory=list)
+    messages: list[Message] = field(default_factory=list)
+    ends: dict[str, dict[str, Interval]] = field(default_factory=dict)
+    orders: dict[tuple[str, str], str] = field(default_factory=dict)
+    report: dict[str, Any] = field(default_factory=dict)
+    added: list[tuple[Input, str]] = field(default_factory=list)
+    cycle: list[str] | None = None
+    problem: list[str] = field(default_factory=list)
+    notes: list[str] = field(default_factory=list)
     is_proved: bool = True
 
-    def find(self, name):
-        return next((it for it in self.events if it.name == name), None)
+    def find(self, name: str) -> Event:
+        """Returns the event of a name, which is one of them."""
+        return next(it for it in self.events if it.name == name)
 
 
-def order_of(ends):
+def order_of(ends: Interval) -> str:
     """Returns which of two events comes first, by the ends of the interval from the first to the second: exactly as `order` replies."""
     least, greatest = ends
     if least is not None and least > 0:
@@ -69,7 +79,7 @@ def order_of(ends):
     return SAME if least == greatest == 0 else OPEN
 
 
-def is_apart(one, other):
+def is_apart(one: Interval, other: Interval) -> bool:
     """Returns whether the first of two events is certainly earlier, by the ends of their intervals from one and the same event."""
     return one[1] is not None and other[0] is not None and one[1] < other[0]
 
@@ -77,11 +87,11 @@ def is_apart(one, other):
 class Asking:
     """Asks a session for a timeline."""
 
-    def __init__(self, session, inputs, chosen=(), delays=DELAYS_MOST, pairs=None, source=None):
+    def __init__(self, session: Session | Look, inputs: list[Input], chosen: Iterable[str] = (), delays: int = DELAYS_MOST, pairs: int | None = None, source: str | None = None) -> None:
         self.session, self.inputs, self.chosen, self.delays, self.pairs, self.source = session, inputs, list(chosen), delays, pairs, source
         self.found = Timeline()
 
-    def timeline(self):
+    def timeline(self) -> Timeline:
         """Returns the timeline. Of a contradiction it has the cycle, the problem and the report alone."""
         found = self.found
         *added, report, found.problem, merged = self.session.ask_all([*(f"add {it.label} {it.path}" for it in self.inputs), "report", "problem", "merge"])
@@ -96,12 +106,12 @@ class Asking:
             self.ask_orders()
         return found
 
-    def ask_round(self, questions):
+    def ask_round(self, questions: list[Question]) -> None:
         """Asks questions, each a line and what takes the words of its reply."""
         for (_, take), reply in zip(questions, self.session.ask_all([line for line, _ in questions])):
             take(reply[0].split(" "))
 
-    def take_events(self, problem, merged):
+    def take_events(self, problem: Problem, merged: dict[str, tuple[int, str]]) -> None:
         """Takes the events in the order of the merge, hosts by their first events, and messages."""
         texts = self.texts(problem)
         for name, (time, text) in merged.items():
@@ -110,9 +120,10 @@ class Asking:
         self.found.hosts = list(dict.fromkeys([*(it.host for it in self.found.events), *problem.clocks]))
         self.found.messages = [Message(*it) for it in problem.messages]
 
-    def texts(self, problem):
+    def texts(self, problem: Problem) -> dict[str, tuple[str, str]]:
         """Returns what each packet is, in words and in few words, by its event's name; nothing of a label with another number of events."""
-        texts, counts = {}, {}
+        texts: dict[str, tuple[str, str]] = {}
+        counts: dict[str, int] = {}
         for name in problem.events:
             label = name.partition("#")[0]
             counts[label] = counts.get(label, 0) + 1
@@ -124,7 +135,7 @@ class Asking:
             texts |= {f"{label}#{number}": described(packet) for number, packet in enumerate(packets, 1)}
         return texts
 
-    def ends(self):
+    def ends(self) -> Iterator[Question]:
         """Yields the questions how much later each event was than each chosen one, at least and at most."""
         names = [it.name for it in self.found.events]
         for name in self.chosen or names[:1]:
@@ -133,30 +144,32 @@ class Asking:
             own = self.found.ends[name] = {}
             yield f"keep {name}", lambda words: None
             for other in names:
-                yield f"interval {name} {other}", lambda words, own=own, other=other: own.__setitem__(other, ends_of(words))
+                yield f"interval {name} {other}", putting(own, other, ends_of)
 
-    def delays_of(self, problem):
+    def delays_of(self, problem: Problem) -> Iterator[Question]:
         """Yields the questions for the delay of each message; of a link with too many, of some that lie evenly among all."""
-        links, asked = {}, 0
+        links: dict[tuple[str, str], list[Message]] = {}
+        asked = 0
         for it in self.found.messages:
             links.setdefault((problem.events[it.send][0], problem.events[it.receive][0]), []).append(it)
         for messages in links.values():
             for it in evenly(messages, self.delays):
                 asked += 1
-                yield f"interval {it.send} {it.receive}", lambda words, it=it: setattr(it, "delay", ends_of(words))
+                yield f"interval {it.send} {it.receive}", setting(it, "delay", ends_of)
         if asked < len(self.found.messages):
             self.found.notes.append(f"{asked} of {len(self.found.messages)} messages were asked for their delays, of each link some evenly among all")
 
-    def times(self):
+    def times(self) -> Iterator[Question]:
         """Yields the questions when the events of other hosts were by the clock of the source, if there is one; of a great many, of some."""
         for host in self.found.hosts if self.source else []:
             for it in evenly([it for it in self.found.events if it.host == host != self.source], self.delays):
                 # (it is refused where the source has no event)
-                yield f"time {it.name}", lambda words, it=it: setattr(it, "source_time", ends_of(words) if words[0] == "time" else None)
+                yield f"time {it.name}", setting(it, "source_time", lambda words: ends_of(words) if words[0] == "time" else None)
 
-    def ask_orders(self):
+    def ask_orders(self) -> None:
         """Asks for the order of pairs whose bars lie over one another, those nearest in the merge first."""
-        found, names, questions = self.found, [it.name for it in self.found.events], []
+        found, names = self.found, [it.name for it in self.found.events]
+        questions: list[Question] = []
         delays = {(it.send, it.receive): it.delay for it in found.messages if it.delay}
         most = self.pairs if self.pairs is not None else PAIRS_WORK // max(len(names), 1)
         for pair in near_pairs(names, next(iter(found.ends.values()))):
@@ -165,7 +178,7 @@ class Asking:
             if pair in delays:
                 found.orders[pair] = order_of(delays[pair])
             elif len(questions) < most:
-                questions.append((f"order {pair[0]} {pair[1]}", lambda words, pair=pair: found.orders.__setitem__(pair, words[1])))
+                questions.append((f"order {pair[0]} {pair[1]}", putting(found.orders, pair, lambda words: words[1])))
             else:
                 found.notes.append("not all pairs whose bars lie over one another were asked for their order, only those nearest in the list")
                 break
@@ -173,30 +186,47 @@ class Asking:
             self.ask_round(questions)
 
 
-def ends_of(words):
+def ends_of(words: list[str]) -> Interval:
     """Returns both ends that a reply to `interval` or `time` has."""
     if words[0] not in ("interval", "time"):
         raise ValueError(f"the session replied {' '.join(words)} to a question about two events")
     return read_ns(words[1]), read_ns(words[2])
 
 
-def evenly(found, most):
+def putting(found: dict[K, T], key: K, read: Callable[[list[str]], T]) -> Callable[[list[str]], None]:
+    """Returns what puts under a key what is read of the words of a reply."""
+
+    def take(words: list[str]) -> None:
+        found[key] = read(words)
+
+    return take
+
+
+def setting(it: Event | Message, name: str, read: Callable[[list[str]], Interval | None]) -> Callable[[list[str]], None]:
+    """Returns what sets a field of an event or a message to what is read of the words of a reply."""
+
+    def take(words: list[str]) -> None:
+        setattr(it, name, read(words))
+
+    return take
+
+
+def evenly(found: list[T], most: int) -> list[T]:
     """Returns at most so many of a list, which lie evenly in it."""
     count = min(len(found), most)
     return [found[k * len(found) // count] for k in range(count)]
 
 
-def near_pairs(names, ends):
+def near_pairs(names: list[str], ends: dict[str, Interval]) -> Iterator[tuple[str, str]]:
     """Yields the pairs of which neither is apart from the other by these ends, as they stand in the list: neighbours first."""
-    least_behind = [None] * (len(names) + 1)
     lowest = float("inf")
+    least_behind = [lowest] * (len(names) + 1)
     for at in range(len(names) - 1, -1, -1):
         least = ends[names[at]][0]
         lowest = min(lowest, float("-inf") if least is None else least)
         least_behind[at] = lowest
-    least_behind[len(names)] = float("inf")
-    highest = [float("inf") if ends[it][1] is None else ends[it][1] for it in names]
-    live = range(len(names))
+    highest = [float("inf") if greatest is None else greatest for greatest in (ends[it][1] for it in names)]
+    live = list(range(len(names)))
     for apart in range(1, len(names)):
         # (behind each of these some event may still be as early)
         live = [at for at in live if at + apart < len(names) and highest[at] >= least_behind[at + apart]]
@@ -207,13 +237,13 @@ def near_pairs(names, ends):
                 yield names[at], names[at + apart]
 
 
-def make_timeline(session, inputs, chosen=(), delays=DELAYS_MOST, pairs=None, source=None):
+def make_timeline(session: Session | Look, inputs: list[Input], chosen: Iterable[str] = (), delays: int = DELAYS_MOST, pairs: int | None = None, source: str | None = None) -> Timeline:
     """Returns the timeline that a session over inputs gives."""
     with session:
         return Asking(session, inputs, chosen, delays, pairs, source).timeline()
 
 
-def plain_path(path, folder, number):
+def plain_path(path: str, folder: str, number: int) -> str:
     """Returns a path that a line of a script can name: this one, or a link in the folder."""
     if all(33 <= it <= 126 for it in os.fsencode(path)):
         return path

@@ -2,8 +2,9 @@
 
 from statistics import median_high, median_low
 
-from replies import UNITS
+from replies import UNITS, Interval
 from texts import plain
+from timeline import Timeline
 
 REASONS = {
     "fragment": "of fragments of datagrams",
@@ -17,13 +18,13 @@ REASONS = {
 }
 
 
-def time_text(units, way=0):
+def time_text(units: int, way: int = 0) -> str:
     """Returns a span of time in a unit in which it has few digits, three behind the point at most: rounded down, up or to the nearest one."""
     size, name = next(((size, name) for size, name in ((10**9, "s"), (10**6, "ms"), (10**3, "us")) if abs(units) >= size * UNITS), (1, "ns"))
     return f"{decimal_text(units, size * UNITS, way)} {name}"
 
 
-def decimal_text(units, size, way=0, digits=3):
+def decimal_text(units: int, size: int, way: int = 0, digits: int = 3) -> str:
     """Returns units over a size with so many decimals at most, rounded down (-1), up (1) or to the nearest (0)."""
     scaled = units * 10**digits
     scaled = scaled // size if way < 0 else -(-scaled // size) if way > 0 else (2 * scaled + size) // (2 * size)
@@ -32,33 +33,33 @@ def decimal_text(units, size, way=0, digits=3):
     return f"-{text}" if scaled < 0 else text
 
 
-def least_text(units):
+def least_text(units: int | None) -> str:
     return "-inf" if units is None else time_text(units, -1)
 
 
-def greatest_text(units):
+def greatest_text(units: int | None) -> str:
     return "no limit" if units is None else time_text(units, 1)
 
 
-def count_text(count, one, many=None):
+def count_text(count: int, one: str, many: str | None = None) -> str:
     return f"{count} {one if count == 1 else many or one + 's'}"
 
 
 class Words:
     """Tells a timeline."""
 
-    def __init__(self, found):
+    def __init__(self, found: Timeline) -> None:
         self.found = found
         self.host_of = {it.name: it.host for it in found.events}
 
-    def lines(self):
+    def lines(self) -> list[str]:
         """Returns what was matched and what was not, and the delays of each link."""
         return [*self.files(), *self.matched(), *self.delays(), *self.offsets(), *self.notes()]
 
-    def notes(self):
+    def notes(self) -> list[str]:
         return [f"Note: {it}." for it in self.found.notes]
 
-    def files(self):
+    def files(self) -> list[str]:
         lines = []
         for it, reply in self.found.added:
             words = reply.split(" ")
@@ -70,7 +71,7 @@ class Words:
             lines.append(f"{it.label}: {words[2]} {what} of {it.path}{more}")
         return lines
 
-    def matched(self):
+    def matched(self) -> list[str]:
         report = self.found.report
         lines = [f"{count_text(report['messages'], 'message')} among {count_text(report['events'], 'event')}."]
         reasons = [f"{count} {REASONS[name]}" for name, count in report["nokey"].items() if count and name in REASONS]
@@ -86,39 +87,39 @@ class Words:
             lines.append(f"{count_text(len(names), 'event is', 'events are')} ambiguous, since several have one key: {shown}.")
         return lines
 
-    def offsets(self):
+    def offsets(self) -> list[str]:
         """Returns how far each host's stamps are ahead of the source's clock, where that is known best: a stamp less its ends of `time`."""
-        found = {}
+        found: dict[str, tuple[int, int, str]] = {}
         for it in self.found.events:
-            if it.source_time and None not in it.source_time:
-                least, greatest = (it.stamp * UNITS - end for end in it.source_time[::-1])
+            early, late = it.source_time or (None, None)
+            if early is not None and late is not None:
+                least, greatest = it.stamp * UNITS - late, it.stamp * UNITS - early
                 if it.host not in found or greatest - least < found[it.host][1] - found[it.host][0]:
                     found[it.host] = (least, greatest, it.name)
         lines = [f"{host}: {time_text(least, -1)} to {time_text(greatest, 1)}, at {name}" for host, (least, greatest, name) in found.items()]
         return ["How far stamps are ahead of the clock of the source, where that is known best:", *lines, ""] if lines else []
 
-    def delay_rows(self):
+    def delay_rows(self) -> list[tuple[str, ...]]:
         """Returns a table of one-way delays: for each link the least, the medians of both ends, and the greatest; nothing without delays."""
-        links, counts = {}, {}
+        links: dict[tuple[str, str], list[Interval]] = {}
+        counts: dict[tuple[str, str], int] = {}
         for it in self.found.messages:
             link = (self.host_of[it.send], self.host_of[it.receive])
             counts[link] = counts.get(link, 0) + 1
             if it.delay:
                 links.setdefault(link, []).append(it.delay)
-        rows = [("one-way delay", "messages", "least", "median of least", "median of greatest", "greatest")]
+        rows: list[tuple[str, ...]] = [("one-way delay", "messages", "least", "median of least", "median of greatest", "greatest")]
         for (one, other), delays in sorted(links.items()):
-            lows, highs = sorted(it[0] for it in delays), [it[1] for it in delays]
-            # (an infinite end is greater than each number)
-            highs = sorted((it is None, it or 0) for it in highs)
-            high = median_high(highs)
+            # (an infinite end is less, or greater, than each number)
+            lows = sorted((end is not None, end or 0) for end, _ in delays)
+            highs = sorted((end is None, end or 0) for _, end in delays)
             count = str(len(delays)) if len(delays) == counts[one, other] else f"{len(delays)} of {counts[one, other]}"
-            rows.append((
-                f"{one} to {other}", count, least_text(lows[0]), least_text(median_low(lows)),
-                greatest_text(None if high[0] else high[1]), greatest_text(None if highs[-1][0] else highs[-1][1]),
-            ))  # fmt: skip
+            least = (least_text(end if is_finite else None) for is_finite, end in (lows[0], median_low(lows)))
+            greatest = (greatest_text(None if is_infinite else end) for is_infinite, end in (median_high(highs), highs[-1]))
+            rows.append((f"{one} to {other}", count, *least, *greatest))
         return rows if len(rows) > 1 else []
 
-    def delays(self):
+    def delays(self) -> list[str]:
         """Returns the table of delays as lines."""
         rows = self.delay_rows()
         if not rows:
@@ -128,7 +129,7 @@ class Words:
         return ["", *lines, "(Each message took no less than its least and no more than its greatest delay, whatever the clocks' offsets are.)", ""]
 
 
-def list_lines(found):
+def list_lines(found: Timeline) -> list[str]:
     """Returns the events in the order of the earliest execution, each with the ends of its time since the first chosen one."""
     name, ends = next(iter(found.ends.items()))
     base = found.find(name).time
