@@ -2,7 +2,6 @@
 
 import os
 import subprocess
-from collections.abc import Iterable
 from typing import Self
 
 from replies import is_texted, split_replies
@@ -39,7 +38,7 @@ class Session:
             pass
         return self.read_reply()
 
-    def ask_all(self, lines: Iterable[str]) -> list[list[str]]:
+    def ask_all(self, lines: list[str]) -> list[list[str]]:
         """Returns the replies to lines."""
         return [self.ask(line) for line in lines]
 
@@ -112,5 +111,3 @@ def run(words: list[str], program: str = PROGRAM) -> tuple[list[str], int]:
     """Returns the lines that the program prints for these words, and its status."""
     ran = subprocess.run([program, *words], stdin=subprocess.DEVNULL, stdout=subprocess.PIPE, text=True)
     return ran.stdout.splitlines(), ran.returncode
-
-

@@ -50,7 +50,7 @@ class Refusals:
             return "the line ends with a carriage return: tr -d '\\r' takes them out"
         if line != line.strip(" ") or "  " in line or "\t" in line:
             return "there is a blank too many, or a tab: one blank stands between two words, and none at the ends"
-        if len(line.encode()) > 4096:
+        if len(os.fsencode(line)) > 4096:
             return "the line has more than 4,096 bytes"
         words = line.split(" ")
         if words[0] not in COMMANDS:

@@ -8,7 +8,7 @@ import json
 import os
 from collections.abc import Callable, Iterable, Iterator
 from dataclasses import dataclass, field
-from typing import Any, TypeVar
+from typing import Any, Protocol, TypeVar
 
 from headers import described
 from inputs import Input
@@ -84,10 +84,17 @@ def is_apart(one: Interval, other: Interval) -> bool:
     return one[1] is not None and other[0] is not None and one[1] < other[0]
 
 
+class Asked(Protocol):
+    """What replies to the lines of a session."""
+
+    def ask_all(self, lines: list[str]) -> list[list[str]]:
+        """Returns the lines of each reply."""
+
+
 class Asking:
     """Asks a session for a timeline."""
 
-    def __init__(self, session: Session | Look, inputs: list[Input], chosen: Iterable[str] = (), delays: int = DELAYS_MOST, pairs: int | None = None, source: str | None = None) -> None:
+    def __init__(self, session: Asked, inputs: list[Input], chosen: Iterable[str] = (), delays: int = DELAYS_MOST, pairs: int | None = None, source: str | None = None) -> None:
         self.session, self.inputs, self.chosen, self.delays, self.pairs, self.source = session, inputs, list(chosen), delays, pairs, source
         self.found = Timeline()
 

@@ -10,11 +10,12 @@ import random
 import sys
 
 
-def logs(events, hosts):
+def logs(events: int, hosts: int) -> list[list[str]]:
     """Returns the rows of each host, as lines, with at least so many in all."""
     draw = random.Random(events)
     offsets = [draw.randrange(10**9) for _ in range(hosts)]
-    rows, time, messages = [[] for _ in range(hosts)], 10**9, 0
+    rows: list[list[tuple[int, str]]] = [[] for _ in range(hosts)]
+    time, messages = 10**9, 0
     while sum(map(len, rows)) < events:
         time += draw.randrange(1, 200_000)
         sender = draw.randrange(hosts)
@@ -28,7 +29,7 @@ def logs(events, hosts):
     return [[f"{offset + time},{rest}" for time, rest in sorted(found)] for offset, found in zip(offsets, rows)]
 
 
-def main(folder, events, hosts):
+def main(folder: str, events: str, hosts: str) -> None:
     words = []
     for number, lines in enumerate(logs(int(events), int(hosts))):
         words.append(f"h{number}={folder}/h{number}.csv")

@@ -8,7 +8,7 @@ NEEDED = {"M": {"name", "args"}, "X": {"name", "ts", "dur"}, "b": {"name", "cat"
           "s": {"name", "cat", "id", "ts"}, "f": {"name", "cat", "id", "ts"}}  # fmt: skip
 
 
-def faults_of_trace_events(text):
+def faults_of_trace_events(text: str) -> list[str]:
     """Returns what is wrong with trace events: keys, numbers, pairs of async events, and flows that leave and come in within slices."""
     value = json.loads(text)
     events, wrong = value["traceEvents"], []
@@ -33,7 +33,7 @@ def faults_of_trace_events(text):
     return wrong
 
 
-def read_shiviz(text):
+def read_shiviz(text: str) -> tuple[str, list[tuple[str, dict[str, int], str]]]:
     """Returns the events of a log for ShiViz, by its own expression: each its host, its vector clock and its text."""
     expression, delimiter, body = text.split("\n", 2)
     # (a named group of JavaScript is one of Python with a P)
@@ -41,13 +41,14 @@ def read_shiviz(text):
     return delimiter, [(it["host"], json.loads(it["clock"]), it["event"]) for it in found]
 
 
-def faults_of_shiviz(text):
+def faults_of_shiviz(text: str) -> list[str]:
     """Returns what is wrong with a log for ShiViz: each host counts its own events from 1, and knows no event that did not happen before."""
     delimiter, events = read_shiviz(text)
-    wrong, last = ["the second line is a delimiter"] if delimiter else [], {}
+    wrong = ["the second line is a delimiter"] if delimiter else []
+    last: dict[str, dict[str, int]] = {}
     if 2 * len(events) != len(text.splitlines()) - 2:
         wrong.append("some lines are no events")
-    seen = {}
+    seen: dict[tuple[str, int], dict[str, int]] = {}
     for host, clock, event in events:
         if clock.get(host) != last.get(host, {}).get(host, 0) + 1:
             wrong.append(f"{event}: {host} does not count its events one by one")
@@ -59,5 +60,5 @@ def faults_of_shiviz(text):
             elif other != host and any(clock.get(it, 0) < known for it, known in seen[other, count].items()):
                 wrong.append(f"{event}: it knows less than event {count} of {other}, which it has heard of")
         last[host] = clock
-        seen[host, clock.get(host)] = clock
+        seen[host, clock.get(host, 0)] = clock
     return wrong

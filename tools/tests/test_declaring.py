@@ -6,7 +6,9 @@ import sys
 import tempfile
 import tomllib
 import unittest
+from collections.abc import Iterable
 from decimal import Decimal
+from typing import Any
 
 import chrony
 import declaration
@@ -20,7 +22,7 @@ from headers import address_text
 A, B, C, D = "10.0.0.1", "10.0.0.2", "10.0.0.3", "10.0.0.4"
 
 
-def seen(host, *packets, link=101, marks=None, named=()):
+def seen(host: str, *packets: tuple[int, str, str, int], link: int = 101, marks: list[bool] | None = None, named: Iterable[str] = ()) -> ends.Seen:
     """Returns what a host's capture shows of packets, each a stamp, a source and a target, and an identification."""
     found = ends.Seen(host)
     made = [Packet(stamp, link, making.framed(link, making.udp(one, other, ident=ident), marks and marks[at])) for at, (stamp, one, other, ident) in enumerate(packets)]
@@ -28,48 +30,48 @@ def seen(host, *packets, link=101, marks=None, named=()):
     return found
 
 
-def own(*hosts):
+def own(*hosts: ends.Seen) -> dict[str, list[str]]:
     return {host: sorted(address_text(it) for it in found) for host, found in ends.find_ends(list(hosts)).own.items()}
 
 
 class Ends(unittest.TestCase):
-    def test_an_address_in_all_packets_of_several_peers(self):
+    def test_an_address_in_all_packets_of_several_peers(self) -> None:
         self.assertEqual(own(seen("a", (1, A, B, 1), (2, C, A, 2))), {"a": [A]})
 
-    def test_two_addresses_of_one_host(self):
+    def test_two_addresses_of_one_host(self) -> None:
         self.assertEqual(own(seen("a", (1, A, B, 1), (2, C, A, 2), (3, D, "10.0.0.9", 3), (4, D, "10.0.0.8", 4))), {"a": [A, D]})
 
-    def test_the_peer_of_another_hosts_address(self):
+    def test_the_peer_of_another_hosts_address(self) -> None:
         self.assertEqual(own(seen("a", (1, A, B, 1)), seen("b", (1, A, B, 1), (2, C, B, 2))), {"a": [A], "b": [B]})
 
-    def test_packets_that_are_marked(self):
+    def test_packets_that_are_marked(self) -> None:
         self.assertEqual(own(seen("a", (1, A, B, 1), (2, B, A, 2), link=276, marks=[True, False])), {"a": [A]})
 
-    def test_an_interface_that_names_its_address(self):
+    def test_an_interface_that_names_its_address(self) -> None:
         self.assertEqual(own(seen("a", (1, A, B, 1), named=[A])), {"a": [A]})
 
-    def test_who_asks_waits_longer_whatever_the_offset(self):
+    def test_who_asks_waits_longer_whatever_the_offset(self) -> None:
         asks, answers = ((0, A, B, 1), (100_003, B, A, 2)), ((7 * 10**9 + 1, A, B, 1), (7 * 10**9 + 60_008, B, A, 2))
         self.assertEqual(own(seen("x", *asks), seen("y", *answers)), {"x": [A], "y": [B]})
         self.assertEqual(own(seen("x", *answers), seen("y", *asks)), {"x": [B], "y": [A]})
 
-    def test_nothing_is_taken_where_nothing_shows_it(self):
+    def test_nothing_is_taken_where_nothing_shows_it(self) -> None:
         self.assertEqual(own(seen("x", (0, A, B, 1)), seen("y", (5, A, B, 1))), {"x": [], "y": []})
 
-    def test_nothing_is_taken_where_the_difference_is_within_the_stamps_error(self):
+    def test_nothing_is_taken_where_the_difference_is_within_the_stamps_error(self) -> None:
         self.assertEqual(own(seen("x", (0, A, B, 1), (100_003, B, A, 2)), seen("y", (0, A, B, 1), (100_001, B, A, 2))), {"x": [], "y": []})
 
-    def test_a_router_has_no_address(self):
+    def test_a_router_has_no_address(self) -> None:
         self.assertEqual(own(seen("r", (0, A, B, 1), (1, C, D, 2), (2, A, C, 3), (3, B, D, 4))), {"r": []})
 
-    def test_an_address_of_two_hosts_is_none_of_them(self):
+    def test_an_address_of_two_hosts_is_none_of_them(self) -> None:
         found = ends.find_ends([seen("a", (1, A, B, 1), named=[D]), seen("b", (1, C, B, 1), named=[D])])
         self.assertEqual((len(found.odd), any(making.address(D) in it for it in found.own.values())), (1, False))
 
-    def test_multicast_broadcast_and_loop_back_are_nobodys(self):
+    def test_multicast_broadcast_and_loop_back_are_nobodys(self) -> None:
         self.assertEqual(own(seen("a", (1, A, "224.0.0.1", 1), (2, "127.0.0.1", "127.0.0.1", 2), (3, A, "255.255.255.255", 3))), {"a": []})
 
-    def test_exchanged_addresses_are_told(self):
+    def test_exchanged_addresses_are_told(self) -> None:
         captures = [type("It", (), {"host": host, "content": Capture([Packet(*it) for it in packets])}) for host, packets in (
             ("x", [(3, 101, making.udp(A, B)), (100_000, 101, making.udp(B, A, ident=2))]),
             ("y", [(7, 101, making.udp(A, B)), (60_000, 101, making.udp(B, A, ident=2))]))]  # fmt: skip
@@ -77,12 +79,12 @@ class Ends(unittest.TestCase):
 
 
 class Numbers(unittest.TestCase):
-    def test_rates_are_those_of_the_guide(self):
+    def test_rates_are_those_of_the_guide(self) -> None:
         cases = ((1, (1_000, 1_001)), (20, (20_000, 20_001)), (50, (50_000, 50_003)), (100, (100_000, 100_011)), (601, (601_000, 601_362)), (84_000, (84_000_000, 91_703_057)))
         for ppm, wanted in cases:
             self.assertEqual(declaring.rates(Decimal(ppm)), wanted, ppm)
 
-    def test_late_is_that_of_the_guide(self):
+    def test_late_is_that_of_the_guide(self) -> None:
         cases = ((1, 100_011, 2), (1_000, 100_011, 1_001), (1_000, 91_703_057, 1_092), (10**6, 50_003, 1_000_051), (10**6, 601_362, 1_000_602), (10**9, 50_003, 1_000_050_003))
         for resolution, long, wanted in cases:
             self.assertEqual(declaring.late_of(resolution, long), wanted)
@@ -92,29 +94,30 @@ TRACKING = "C0A80001,ntp.example,2,1795842008.123,-0.000012,0.000001,0.000020,-1
 
 
 class Chrony(unittest.TestCase):
-    def read(self, *texts):
+    def read(self, *texts: str) -> chrony.Chrony:
         found = None
         for text in texts:
             with tempfile.NamedTemporaryFile("w", delete=False) as it:
                 it.write(text)
             found = chrony.read_chrony(it.name, found)
             os.remove(it.name)
+        assert found
         return found
 
-    def test_maxslewrate(self):
+    def test_maxslewrate(self) -> None:
         cases = (("server a\nmaxslewrate 500\n", Decimal(500)), ("server a\n", chrony.SLEW_DEFAULT), ("# maxslewrate 1\nserver a\n", chrony.SLEW_DEFAULT))
         for text, wanted in cases:
             self.assertEqual(self.read(text).slew, wanted, text)
 
-    def test_skew_and_dispersion(self):
+    def test_skew_and_dispersion(self) -> None:
         found = self.read(TRACKING)
         self.assertEqual((found.skew, found.residual, found.error()), (Decimal("0.350"), Decimal("0.010"), Decimal("0.002512")))
 
-    def test_both(self):
+    def test_both(self) -> None:
         found = self.read(TRACKING, "makestep 1.0 3\nmaxslewrate 500\n")
         self.assertEqual((found.skew, found.slew, found.steps), (Decimal("0.350"), Decimal(500), "makestep 1.0 3"))
 
-    def test_numbers_that_bound_nothing_are_refused_by_name(self):
+    def test_numbers_that_bound_nothing_are_refused_by_name(self) -> None:
         fields = {"skew": "0.350", "system": "-0.000012", "residual": "0.010", "delay": "0.001000", "dispersion": "0.002000"}
         never = ("NaN", "sNaN", "-NaN", "nan123", "Infinity", "-inf", "1e9999999", "-1e9999999", "1e99999999999999999999", "1_0", "0x1", "", "fast", "1" * 5000)
         for name, value in fields.items():
@@ -125,27 +128,27 @@ class Chrony(unittest.TestCase):
             with self.assertRaisesRegex(ValueError, "maxslewrate .*(is no number|is out of range)"):
                 self.read(f"server a\nmaxslewrate {text}\n")
 
-    def test_negative_offsets_and_residuals_count_as_much_as_positive_ones(self):
+    def test_negative_offsets_and_residuals_count_as_much_as_positive_ones(self) -> None:
         found = self.read(TRACKING.replace("-0.000012", "0.000012").replace("0.010", "-0.010"))
         self.assertEqual((found.error(), found.residual), (Decimal("0.002512"), Decimal("-0.010")))
 
-    def test_no_digit_that_is_left_out_makes_a_bound_narrower(self):
+    def test_no_digit_that_is_left_out_makes_a_bound_narrower(self) -> None:
         found = self.read(TRACKING.replace("0.350", "1e-9999").replace("0.010", "-1e-9999"))
         self.assertEqual((found.skew, found.residual), (Decimal("1e-12"), Decimal("-1e-12")))
 
-    def test_what_is_neither_is_refused(self):
+    def test_what_is_neither_is_refused(self) -> None:
         for text in ("Reference ID    : C0A80001\n", "1,2,3,4,5\n", TRACKING.replace("Normal", "Not synchronised"), "maxslewrate fast\n", ""):
             with self.assertRaises(ValueError, msg=text):
                 self.read(text)
 
 
 class Text(unittest.TestCase):
-    def declare(self, *words, status=0):
+    def declare(self, *words: str, status: int = 0) -> tuple[dict[str, Any], str, str]:
         ran = subprocess.run([sys.executable, f"{TOOLS}/declare", *words], cwd=EXAMPLES, capture_output=True, text=True)
         self.assertEqual(ran.returncode, status, ran.stderr)
         return tomllib.loads(ran.stdout) if ran.stdout else {}, ran.stderr, ran.stdout
 
-    def test_the_captures_of_the_examples(self):
+    def test_the_captures_of_the_examples(self) -> None:
         found, _, _ = self.declare("left=captures/left.pcap", "right=pcapng/right.pcapng")
         wanted = {
             "payload_bytes": 8,
@@ -156,22 +159,22 @@ class Text(unittest.TestCase):
         }  # fmt: skip
         self.assertEqual(found, wanted)
 
-    def test_every_number_has_a_comment_before_it(self):
+    def test_every_number_has_a_comment_before_it(self) -> None:
         _, _, text = self.declare("left=captures/left.pcap", "right=pcapng/right.pcapng")
         lines = text.splitlines()
         for at, line in enumerate(lines):
             if line.split(" ")[0] in ("short", "early", "addresses", "payload_bytes"):
                 self.assertTrue(lines[at - 1].startswith("#"), line)
 
-    def test_logs_and_a_second_label_of_a_host(self):
+    def test_logs_and_a_second_label_of_a_host(self) -> None:
         found, _, _ = self.declare("web=session/web.csv", "db=session/db.csv", "db.again@db=session/db-again.csv")
         self.assertEqual((sorted(found["hosts"]), found["labels"]["db.again"], "payload_bytes" in found), (["db", "web"], {"host": "db", "kind": "log"}, False))
 
-    def test_one_capture_alone_says_what_it_cannot_find_out(self):
+    def test_one_capture_alone_says_what_it_cannot_find_out(self) -> None:
         found, said, text = self.declare("left=captures/left.pcap", status=1)
         self.assertEqual(("addresses" in found["hosts"]["left"], "10.9.0.1 or 10.9.0.2" in said, "NOT FOUND OUT" in text), (False, True, True))
 
-    def test_what_chrony_cannot_mean_is_told_in_one_line(self):
+    def test_what_chrony_cannot_mean_is_told_in_one_line(self) -> None:
         for text in ("NaN", "sNaN", "Infinity", "1e9999999", "1e9", "-50000"):
             with tempfile.TemporaryDirectory() as room:
                 for name, line in (("tracking", TRACKING.replace("0.350", text)), ("conf", f"maxslewrate {text}\n")):
@@ -181,7 +184,7 @@ class Text(unittest.TestCase):
                     self.assertEqual((found, len(said.splitlines())), ({}, 1), said)
                     self.assertIn("skew" if name == "tracking" else "maxslewrate", said)
 
-    def test_rates_that_no_declaration_may_have_are_refused(self):
+    def test_rates_that_no_declaration_may_have_are_refused(self) -> None:
         self.assertEqual(declaring.rates(Decimal(500_000)), (500_000_000, 1_000_000_000))
         with tempfile.NamedTemporaryFile("w", suffix=".csv") as it:
             it.write(TRACKING.replace("0.350", "99999").replace("0.010", "-99999"))
@@ -191,7 +194,7 @@ class Text(unittest.TestCase):
         self.assertEqual((found, len(said.splitlines())), ({}, 1), said)
         self.assertIn("ppm cannot be declared", said)
 
-    def test_the_source_and_a_daemon(self):
+    def test_the_source_and_a_daemon(self) -> None:
         with tempfile.NamedTemporaryFile("w", delete=False) as it:
             it.write("maxslewrate 500\n")
         found, _, _ = self.declare("left=captures/left.pcap", "right=captures/right.pcap", "--source", "left", "--chrony", f"right={it.name}")
@@ -199,25 +202,25 @@ class Text(unittest.TestCase):
         rates = {name: (host["short"], host["long"]) for name, host in found["hosts"].items()}
         self.assertEqual((found["source"], rates), ("left", {"left": (0, 0), "right": (601_000, 601_362)}))
 
-    def test_a_reference_counts_for_the_rates_of_all_others(self):
+    def test_a_reference_counts_for_the_rates_of_all_others(self) -> None:
         found, _, _ = self.declare("left=captures/left.pcap", "right=captures/right.pcap", "--reference", "left")
         rates = {name: (host["short"], host["long"]) for name, host in found["hosts"].items()}
         self.assertEqual((found["source"], rates), ("left", {"left": (0, 0), "right": (200_000, 200_041)}))
 
-    def test_what_cannot_be_declared(self):
+    def test_what_cannot_be_declared(self) -> None:
         cases = ((["left"], 2), (["left=nosuch"], 1), (["le ft=captures/left.pcap"], 1), (["left=captures"], 1), ([], 2), (["--what"], 2),
                  (["a=captures/left.pcap", "--source", "b"], 1), (["a=captures/hosts.toml"], 1))  # fmt: skip
         for words, status in cases:
             self.declare(*words, status=status if words != ["left"] else 1)
 
-    def test_a_path_cannot_break_a_comment(self):
+    def test_a_path_cannot_break_a_comment(self) -> None:
         with tempfile.TemporaryDirectory() as room:
             path = f'{room}/x\n[hosts."evil"]'
             with open(path, "w") as it:
                 it.write("1,local,,\n2,local,,\n5,local,,\n")
             self.assertEqual(list(self.declare(f"a={path}")[0]["hosts"]), ["a"])
 
-    def test_what_declare_writes_has_no_slip(self):
+    def test_what_declare_writes_has_no_slip(self) -> None:
         found, _, _ = self.declare("left=captures/left.pcap", "right=pcapng/right.pcapng")
         told = "\n".join(declaration.told_declaration(found))
         self.assertFalse("meant" in told or "No link" in told or any(word.isupper() and len(word) > 4 for word in told.split()), told)

@@ -3,6 +3,7 @@
 import os
 import tempfile
 import unittest
+from typing import Any
 from xml.etree import ElementTree
 
 import declaration
@@ -46,10 +47,10 @@ end"""
 
 
 class Replies(unittest.TestCase):
-    def told(self, line, reply, **known):
+    def told(self, line: str, reply: str, **known: Any) -> str:
         return "\n".join(Explainer(**known).reply(line, reply.split("\n")).words)
 
-    def test_replies(self):
+    def test_replies(self) -> None:
         cases = (
             ("interval a#1 b#1", "interval 1000.000000000 2000.500000000", "b#1 came 1 us to 2.001 us after a#1"),
             ("interval a#1 b#1", "interval -2000.500000000 -1000.000000000", "b#1 came 1 us to 2.001 us before a#1"),
@@ -66,17 +67,17 @@ class Replies(unittest.TestCase):
         for line, reply, wanted in cases:
             self.assertEqual(self.told(line, reply), wanted)
 
-    def test_refusals_by_the_line(self):
+    def test_refusals_by_the_line(self) -> None:
         cases = (
             ("", "20", "the line is empty"), ("# a", "20", "comments"), ("merge ", "20", "blank too many"), ("merge\r", "20", "carriage return"), ("Merge", "20", "merge is"),
             ("add a my file", "20", "a path has no blanks"), ("order a#1", "20", "2 words"), ("add web x", "21", "no label web is declared; there are left, right"),
-            ("add a nosuch", "22", "there is no file nosuch"), ("add a ~/x", "22", "no quotes"), (f"add a {EXAMPLES}", "22", "is a folder"), ("order a#01 b#1", "28", "not of the form"),
+            ("add a nosuch", "22", "there is no file nosuch"), ("add a ~/x", "22", "no quotes"), ("merge\udcff", "20", "`merge?` is no command"), ("add a \udcff", "20", "a byte that is not plain ASCII"), (f"add a {EXAMPLES}", "22", "is a folder"), ("order a#01 b#1", "28", "not of the form"),
             ("order x#1 left#1", "28", "no label x is declared"), ("time left#1", "29", "no source is declared"), ("keep left#1", "30", "eight events"), ("add a x", "27", "2,097,152"),
         )  # fmt: skip
         for line, number, wanted in cases:
             self.assertIn(wanted, self.told(line, f"refused {number}", declaration=DECLARED), line)
 
-    def test_refusals_by_the_file(self):
+    def test_refusals_by_the_file(self) -> None:
         capture = making.classic([(1, making.framed(1, making.udp("10.0.0.1", "10.0.0.2")))])
         cases = (
             (b"\x1f\x8b123", "24 1", "compressed by gzip: gunzip"), (b"1,local,,\n", "24 1", 'kind = "log"'), (b"\x00\x01\x02\x03", "24 1", "neither classic pcap nor pcapng"),
@@ -88,7 +89,7 @@ class Replies(unittest.TestCase):
             self.assertIn(wanted, self.told(f"add a {it.name}", f"refused {numbers}"), numbers)
             os.remove(it.name)
 
-    def test_a_second_header_is_told_from_a_file_that_is_added_again(self):
+    def test_a_second_header_is_told_from_a_file_that_is_added_again(self) -> None:
         path = f"{EXAMPLES}/captures/left.pcap"
         other = f"{EXAMPLES}/captures/right.pcap"
         for second, wanted in ((path, "was added before"), (other, "begins with a header of its own")):
@@ -96,38 +97,38 @@ class Replies(unittest.TestCase):
             explainer.reply(f"add left {path}", ["added events 58 messages 0 withdrawn 0 pending 0 consistent"])
             self.assertIn(wanted, explainer.reply(f"add left {second}", ["refused 25 4636"]).words[0])
 
-    def test_an_event_that_is_not_there_yet(self):
+    def test_an_event_that_is_not_there_yet(self) -> None:
         explainer = Explainer(declaration=DECLARED)
         explainer.reply("add left x", ["added events 58 messages 0 withdrawn 0 pending 0 consistent"])
         self.assertEqual(explainer.reply("keep left#59", ["refused 28"]).words, ["left has 58 events so far"])
 
-    def test_replies_are_split_where_they_end(self):
+    def test_replies_are_split_where_they_end(self) -> None:
         lines = ["kept 1", "merge 2", "0.000000000 a#1 end", "1.000000000 a#2", *CYCLE.split("\n"), "problem 1", "end", *FOLLOWED.split("\n"), "order open"]
         self.assertEqual([len(it) for it in split_replies(lines)], [1, 3, 11, 2, 8, 1])
 
-    def test_a_problem_with_clocks_that_follow(self):
+    def test_a_problem_with_clocks_that_follow(self) -> None:
         self.assertEqual(self.told("problem", FOLLOWED), "all that is declared and known: 2 clocks, 1 follow, 2 events, 1 message")
 
 
 class Contradictions(unittest.TestCase):
-    def test_groups_add_up_to_the_sum(self):
+    def test_groups_add_up_to_the_sum(self) -> None:
         steps = read_cycle(CYCLE.split("\n"))
         found = Contradiction(steps)
         self.assertEqual(sum(weight for _, weight in found.groups()), sum(it.weight for it in steps))
 
-    def test_words(self):
+    def test_words(self) -> None:
         told = "\n".join(told_cycle(CYCLE.split("\n")))
         for wanted in ("-199.996 ns  b's clock from 100 to 300 showed 200 ns: at least so long", "-72.994 ns  in all", "b's clock, if its rate is off by 364970 ppm more", "the message from b#2 to a#2, if it took 72.994 ns more"):
             self.assertIn(wanted, told)
 
-    def test_a_picture_has_each_stretch_and_message(self):
+    def test_a_picture_has_each_stretch_and_message(self) -> None:
         problem = read_problem(["event a#1 a 50", "event a#2 a 150", "event b#1 b 100", "event b#2 b 300"])
         steps = read_cycle(CYCLE.split("\n"))
         texts = [it.text for it in ElementTree.fromstring(chain_svg(steps, problem)).iter() if it.tag.endswith("}text")]
         for wanted in ("shown as 200 ns, lasts at least 199.996 ns", "shown as 100 ns, lasts at most 100.002 ns", "takes at least 1 ns", "takes at most 20 ns", "b#1", "may be earlier by 3 ns at most"):
             self.assertIn(wanted, texts)
 
-    def test_clocks_that_follow_are_told_and_drawn(self):
+    def test_clocks_that_follow_are_told_and_drawn(self) -> None:
         steps, problem = read_cycle(FOLLOWED_CYCLE.split("\n")), read_problem(FOLLOWED.split("\n"))
         self.assertEqual(sum(weight for _, weight in Contradiction(steps).groups()), sum(it.weight for it in steps))
         told = "\n".join(told_cycle(FOLLOWED_CYCLE.split("\n")))
@@ -137,22 +138,22 @@ class Contradictions(unittest.TestCase):
         for wanted in ("comes 5 ns behind at least", "takes at least 2 ns", "p#1", "a1", "a2"):
             self.assertIn(wanted, texts)
 
-    def test_a_gap_that_is_less_may_mend_a_chain(self):
+    def test_a_gap_that_is_less_may_mend_a_chain(self) -> None:
         cycle = FOLLOWED_CYCLE.replace("step late p#1 0.", "step delay-most x#1 p#1 3.")
         self.assertIn("  a2's clock, if it came 4 ns less behind a1's clock than its gap is", told_cycle(cycle.split("\n")))
 
-    def test_a_long_contradiction_has_no_picture(self):
+    def test_a_long_contradiction_has_no_picture(self) -> None:
         self.assertIsNone(chain_svg(read_cycle(CYCLE.split("\n")) * 8, read_problem([])))
 
-    def test_a_delay_below_0_mends_nothing(self):
+    def test_a_delay_below_0_mends_nothing(self) -> None:
         self.assertNotIn("less than its least", "\n".join(told_cycle(CYCLE.split("\n"))))
 
 
 class Declarations(unittest.TestCase):
-    def told(self, **value):
+    def told(self, **value: Any) -> str:
         return "\n".join(declaration.told_declaration(value))
 
-    def test_slips_are_asked_about(self):
+    def test_slips_are_asked_about(self) -> None:
         host = {"short": 50_000, "long": 50_003, "late": 2}
         cases = (
             ({"hosts": {"a": {}}}, "a PERFECT clock"), ({"hosts": {"a": {"short": 50, "long": 51, "late": 2}}}, "is 50_000 meant, 50 ppm?"), ({"hosts": {"a": {"short": 50_000, "late": 2}}}, "`long` is less"),
@@ -162,7 +163,7 @@ class Declarations(unittest.TestCase):
         for value, wanted in cases:
             self.assertIn(wanted, self.told(**value))
 
-    def test_hosts_with_several_clocks(self):
+    def test_hosts_with_several_clocks(self) -> None:
         clocks = [{"name": "a1", "gap": 3}, {"name": "a2", "gap": 5, "short": 0, "long": 0}, {"name": "a3"}]
         host = {"short": 50_000, "long": 50_003, "late": 2, "clocks": clocks}
         told = self.told(hosts={"a": host}, labels={"p": {"host": "a", "kind": "log"}, "q": {"host": "a", "kind": "log", "clock": "a2"}}, source="a2")
@@ -174,7 +175,7 @@ class Declarations(unittest.TestCase):
         ):  # fmt: skip
             self.assertIn(wanted, told.split("\n") if wanted[-1] == "." and ":" in wanted[:3] else told)
 
-    def test_refusals_name_the_table_and_its_line(self):
+    def test_refusals_name_the_table_and_its_line(self) -> None:
         cases = (
             ('[hosts.web]\nshort = 1\n[hosts.app]\ndrift = 3\n', 2, "hosts", 1, "line 3: host app: no such key: drift"),
             ('[hosts.a.example.com]\nshort = 1\n', 2, "hosts", 1, '[hosts."a.example"]'),

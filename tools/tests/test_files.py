@@ -4,7 +4,7 @@ import os
 import stat
 import tempfile
 import unittest
-from types import SimpleNamespace
+from argparse import Namespace
 
 import files
 from inputs import Input
@@ -75,7 +75,7 @@ class Own(Room):
 class Declaring(Room):
     def making(self) -> Making:
         names = ("declaration", "source", "reference", "pairs", "html", "svg", "json", "csv", "chrome", "shiviz", "list")
-        said = SimpleNamespace(**dict.fromkeys(names), folder=self.room, look=False, program="true", chrony=[], chosen=[], delays=1, events=1, files=[])
+        said = Namespace(**dict.fromkeys(names), folder=self.room, look=False, program="true", chrony=[], chosen=[], delays=1, events=1, files=[])
         return Making(said)
 
     def declare(self) -> None:

@@ -5,6 +5,7 @@ import re
 import shutil
 import subprocess
 import unittest
+from typing import Any
 
 import page
 import timeline
@@ -21,7 +22,7 @@ console.log(JSON.stringify({ orders: events.map((one) => events.map((other) => o
 """
 
 
-def run_page(found, hash_text=""):
+def run_page(found: timeline.Timeline, hash_text: str = "") -> dict[str, Any]:
     script = re.search(r"<script>(.*)</script>", page.page(found, "A page"), re.S)[1]
     ran = subprocess.run(["node", "-"], input=script.replace('"use strict";', STUB.replace("HASH", hash_text)) + TOLD, capture_output=True, text=True)
     if ran.returncode:
@@ -31,7 +32,7 @@ def run_page(found, hash_text=""):
 
 @unittest.skipUnless(shutil.which("node"), "no node is there")
 class Page(unittest.TestCase):
-    def test_orders(self):
+    def test_orders(self) -> None:
         found, _ = made()
         names, ends = [it.name for it in found.events], found.ends["a#1"]
         turned = {"before": "after", "after": "before", "same": "same", "open": "open"}
@@ -51,18 +52,18 @@ class Page(unittest.TestCase):
                     wanted = "before" if timeline.is_apart(ends[one], ends[other]) else "after" if timeline.is_apart(ends[other], ends[one]) else None
                 self.assertEqual(told and told[0], wanted, (one, other))
 
-    def test_what_was_not_asked_is_not_said(self):
+    def test_what_was_not_asked_is_not_said(self) -> None:
         found, _ = made()
         found.orders = {}
         orders = run_page(found)["orders"]
         self.assertEqual((orders[2][3], orders[3][4]), (None, None))
 
-    def test_numbers_are_exact(self):
+    def test_numbers_are_exact(self) -> None:
         found, _ = made()
         found.ends["a#1"]["b#1"] = (1234567890123456789000000001, None)
         self.assertEqual(run_page(found)["ends"][1], "1 234 567 890 123 456 789.000000001 ns".replace(" ", "\u202f").replace("\u202fns", "\u00a0ns"))
 
-    def test_an_event_is_chosen_by_the_address(self):
+    def test_an_event_is_chosen_by_the_address(self) -> None:
         told = run_page(made()[0], "#event=b%232")
         self.assertEqual((told["chosen"], told["relations"]), ("b#2", ["after", "after", None, "open", "before"]))
 
