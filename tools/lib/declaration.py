@@ -51,7 +51,10 @@ def told_clock(numbers: Table, is_source: bool) -> list[str]:
     if not short and not long:
         parts.append("the source: a clock that is true" if is_source else "a PERFECT clock, which never drifts: is this meant?")
     else:
-        wanted = -(-(short or 0) * 10**9 // (10**9 - (short or 0)))
+        is_still = (short or 0) >= 10**9
+        wanted = 0 if is_still else -(-(short or 0) * 10**9 // (10**9 - (short or 0)))
+        if is_still:
+            parts.append("`short` IS ABOVE 999_999_999: no session takes that")
         if long == wanted:
             parts.append(f"its clock is within {ppm(short or 0)}")
         else:

@@ -12,10 +12,10 @@ from chrony import read_all_chrony
 from declaration import read_declaration
 from declaring import Declaring
 from explaining import Explainer
-from inputs import Input, read_inputs
 from files import read_own, write_own
+from inputs import Input, read_inputs
 from page import page
-from program import Ended, Look, Session
+from program import PROGRAM, Ended, Look, Session
 from replies import read_cycle, read_problem
 from texts import plain
 from timeline import FROM_MOST, Timeline, make_timeline, plain_path
@@ -38,7 +38,7 @@ class Making:
     """What the command line says, and what is made of it."""
 
     def __init__(self, said: argparse.Namespace) -> None:
-        self.folder, self.program = said.folder, None if said.look else said.program
+        self.folder, self.program = said.folder or FOLDER, None if said.look else said.program or PROGRAM
         self.declaration, self.chrony = said.declaration, said.chrony
         self.source, self.reference = said.source, said.reference
         if self.declaration and (self.source or self.reference or self.chrony):

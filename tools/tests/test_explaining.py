@@ -159,6 +159,7 @@ class Declarations(unittest.TestCase):
             ({"hosts": {"a": {}}}, "a PERFECT clock"), ({"hosts": {"a": {"short": 50, "long": 51, "late": 2}}}, "is 50_000 meant, 50 ppm?"), ({"hosts": {"a": {"short": 50_000, "late": 2}}}, "`long` is less"),
             ({"hosts": {"a": {**host, "late": 0}}}, "WITHOUT ANY ERROR"), ({"hosts": {"a": host}, "labels": {"a": {"host": "a", "kind": "capture"}}}, "NO ADDRESS"), ({"hosts": {"a": host, "b": host}}, "No link is declared from a to b"),
             ({"hosts": {"a": host}, "links": [{"from": "a", "to": "a"}]}, "with `least` 0"), ({"hosts": {"a": host}, "links": [{"from": "a", "to": "a", "least": 5, "most": 4}]}, "IS LESS THAN"), ({"hosts": {"a": host}}, "within 50 ppm"),
+            ({"hosts": {"a": {**host, "short": 10**9}}}, "IS ABOVE 999_999_999"), ({"hosts": {"a": {**host, "short": 10**10}}}, "IS ABOVE 999_999_999"),
         )  # fmt: skip
         for value, wanted in cases:
             self.assertIn(wanted, self.told(**value))
