@@ -1,4 +1,5 @@
-"""The words of a tool's command line, and its end. This module alone, and texts.py, hold for each Python from 3.8 on."""
+"""The words of a tool's command line, and its end. This module and texts.py are written for each Python from 3.8 on, as are the tools
+that do not call `needs`."""
 
 from __future__ import annotations
 
