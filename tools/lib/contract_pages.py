@@ -11,14 +11,16 @@ from wrapping import wrapped, wrapped_code
 
 MADE = "This page is made by `tools/contracts` from {}, and is not changed by hand."
 DEFINED_HEAD = [
-    "# Definitions, as they stand above their code",
+    "# Definitions, with the comments above them",
     "This page is for whoever reads a contract, and wants to know what a name in it means.",
-    MADE.format("`crates/*/specs/*.antt`") + " [How to read a definition](DEFINITIONS.md) is a page of its own.",
+    MADE.format("`crates/*/specs/*.antt`") + " The definition itself stands in the file that is linked, and decides what is meant.",
+    "[How to read a definition](DEFINITIONS.md) has the notation, examples, and an order in which to read this page.",
 ]
 CALLS_HEAD = [
-    "# Calls and their clauses",
+    "# Calls, with their clauses",
     "This page is for whoever calls a crate, or checks what is proved of it.",
-    MADE.format("`crates/*/src/*.rt`") + " [What the clauses come to](CLAIMS.md), and how they are read, is told by hand.",
+    MADE.format("`crates/*/src/*.rt`") + " The clauses are proved. What the text above them says beside them is not.",
+    "[Claims](CLAIMS.md) has what the clauses come to, and [How to read a definition](DEFINITIONS.md) the notation.",
 ]
 
 Crate = Callable[[Path], Iterator[str]]
