@@ -31,12 +31,17 @@ def depths(line: str) -> list[int]:
     return found
 
 
+def is_joint(line: str, at: int) -> bool:
+    """Whether a line of code is well cut at this blank: behind a comma, or before a sign."""
+    return line[at - 1] in ",;" or line[at + 1 :].partition(" ")[0] in JOINTS
+
+
 def joint(line: str, least: int) -> int:
-    """Returns the place of the blank at which a line of code is cut, or -1 where it has none: in few brackets, before a sign, far on."""
+    """Returns the place of the blank at which a line of code is cut, or -1 where it has none: in few brackets, at a joint, far on."""
     deep = depths(line)
     blanks = [at for at in range(least + 1, min(WIDTH, len(line) - 1) + 1) if line[at] == " "]
     late = [at for at in blanks if at > WIDTH // 2] or blanks[-1:] or [line.find(" ", least + 1)]
-    return min(late, key=lambda at: (deep[at], line[at + 1 :].partition(" ")[0] not in JOINTS, -at))
+    return min(late, key=lambda at: (deep[at], not is_joint(line, at), -at))
 
 
 def wrapped_code(line: str) -> list[str]:
