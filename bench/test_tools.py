@@ -43,6 +43,8 @@ CASES = [
     ("tools/build", 0, "", "no source is newer"),
     ("tools/first-look --help", 0, "usage: tools/first-look", ""),
     ("tools/crate-graph --check", 0, "", ""),
+    ("tools/contracts --help", 0, "usage: tools/contracts", ""),
+    ("tools/contracts --check", 0, "", ""),
     ("tools/declare --help", 0, "usage: tools/declare", ""),
     ("tools/declare left=examples/captures/left.pcap", 1, "[hosts.left]", "not found out: which address is left's"),
     ("tools/timeline --help", 0, "usage: tools/timeline", ""),

@@ -9,6 +9,8 @@ CLAUSE = re.compile(r"((?:\s*//[^\n]*\n)*)\s*(requires|ensures\*?)(?: (\w+))? \{
 TAKEN = re.compile(r"^pub use (?:crate::)?(\w+)::(?:(\w+)|\{([^}]*)\});", re.M)
 OPEN = re.compile(r"^pub mod (\w+);", re.M)
 BLOCK = re.compile(r"^(pub trait |impl(?:<[^{]*?>)? )([^{]*?) \{$", re.M)
+# The module that is the root of a library.
+ROOT = "lib"
 CALL = re.compile(r"^( *)(pub )?fn (\w+)", re.M)
 
 
@@ -45,19 +47,23 @@ class SourceFile:
 
 @dataclass
 class HandedOut:
-    """What the root of a crate hands out: whole modules, and single items by their module."""
+    """What the root of a crate hands out: whole modules, and single items, each with its module."""
 
     modules: set[str]
-    items: set[str]
+    items: set[tuple[str, str]]
 
-    def names(self, module: str, item: str) -> bool:
-        return module in self.modules or item in self.items
+    def has_type(self, module: str, name: str) -> bool:
+        """Whether a type is handed out, whose block may stand in another module than the type."""
+        return module in self.modules or any(item == name for _, item in self.items)
+
+    def has_call(self, module: str, name: str) -> bool:
+        return module in self.modules or (module, name) in self.items
 
 
 def handed_out(root: str) -> HandedOut:
     """Returns what a lib.rt hands out."""
-    items = {word.strip().split(" as ")[0] for _, one, many in TAKEN.findall(root) for word in [one, *many.split(",")]}
-    return HandedOut(set(OPEN.findall(root)), items - {""})
+    found = {(module, word.strip().split(" as ")[0]) for module, one, many in TAKEN.findall(root) for word in [one, *many.split(",")]}
+    return HandedOut({ROOT, *OPEN.findall(root)}, found)
 
 
 def closing(text: str, place: int) -> int:
@@ -136,24 +142,23 @@ def calls_of(text: str, module: str, out: HandedOut) -> Iterator[Call]:
         kind, owner = owner_at(blocks, said.start())
         end = end_of_signature(text, said.start())
         clauses, told = clauses_at(text, end), told_above(text, said.start())
-        if not out.names(module, owner or said[3]) or not is_handed_out(kind, bool(said[2]), clauses, told):
+        is_there = out.has_type(module, owner) if owner else out.has_call(module, said[3])
+        if not is_there or not is_handed_out(kind, bool(said[2]), clauses, told):
             continue
-        path = [owner] if owner else [module] if module in out.modules and said[3] not in out.items else []
+        path = [owner] if owner else [] if module == ROOT or (module, said[3]) in out.items else [module]
         begin = said.start() + len(said[1]) + len(said[2] or "")
         yield Call("::".join([*path, said[3]]), signature_of(text, begin, end), told, clauses)
 
 
 def source_files(crate: Path) -> list[SourceFile]:
     """Returns the files of a crate with a call that it hands out, by their names."""
-    root = crate / "src" / "lib.rt"
+    root = crate / "src" / f"{ROOT}.rt"
     if not root.is_file():
         return []
     out, found = handed_out(root.read_text(encoding="utf-8")), []
     for path in sorted((crate / "src").glob("*.rt")):
         text = path.read_text(encoding="utf-8")
         module = path.stem
-        if path == root:
-            out.modules.add(module)
         if calls := list(calls_of(text, module, out)):
             found.append(SourceFile(path.name, calls))
     return found
