@@ -5,8 +5,8 @@ from collections.abc import Callable, Iterator
 from pathlib import Path
 
 from calls import Call, source_files
+from crate_map import CrateMap
 from definitions import Definition, spec_files
-from layers import Layer, layers
 from wrapping import wrapped, wrapped_code
 
 MADE = "This page is made by `tools/contracts` from {}, and is not changed by hand."
@@ -24,6 +24,9 @@ CALLS_HEAD = [
 ]
 
 Crate = Callable[[Path], Iterator[str]]
+
+# Crates of tests tell nothing here.
+TESTS = "_tests"
 
 
 def code(name: str) -> str:
@@ -105,15 +108,15 @@ def called(crate: Path) -> Iterator[str]:
             yield from call_lines(it)
 
 
-def page(head: list[str], found: list[Layer], top: Path, told: Crate) -> str:
+def page(head: list[str], found: dict[str, list[str]], top: Path, told: Crate) -> str:
     """Returns a page: its head, links to its layers, and each crate that tells something."""
     lines, titles = [], []
-    for layer in found:
-        parts = [(name, list(told(top / "crates" / name))) for name in layer.crates]
+    for layer, names in found.items():
+        parts = [(name, list(told(top / "crates" / name))) for name in names if not name.endswith(TESTS)]
         if not any(part for _, part in parts):
             continue
-        titles.append(layer.title)
-        lines += ["", f"## {layer.title}"]
+        titles.append(layer[:1].upper() + layer[1:])
+        lines += ["", f"## {titles[-1]}"]
         for name, part in parts:
             if part:
                 lines += ["", f"### `{name}`", "", *wrapped(escaped(subject_of(top / "crates" / name))), *part]
@@ -124,7 +127,7 @@ def page(head: list[str], found: list[Layer], top: Path, told: Crate) -> str:
 
 def pages(top: Path) -> dict[Path, str]:
     """Returns each page with its text."""
-    found = layers(top)
+    found = CrateMap((top / "crates.txt").read_text(encoding="utf-8")).layers
     return {
         top / "docs" / "DEFINED.md": page(DEFINED_HEAD, found, top, defined),
         top / "docs" / "CALLS.md": page(CALLS_HEAD, found, top, called),

@@ -2,7 +2,6 @@
 
 import subprocess
 import sys
-import tempfile
 import unittest
 from pathlib import Path
 
@@ -10,7 +9,6 @@ from common import TOOLS, TOP
 
 from calls import calls_of, handed_out  # noqa: E402
 from definitions import definitions_of  # noqa: E402
-from layers import layers  # noqa: E402
 from wrapping import wrapped, wrapped_code  # noqa: E402
 
 SPECS = """-- The subject of the file.
@@ -92,13 +90,6 @@ class Calls(unittest.TestCase):
         whole = calls_of(SOURCE, "count", handed_out("pub mod count;\n"))
         self.assertEqual([it.name for it in whole], ["Count::next", "count::aside"])
         self.assertEqual(list(calls_of(SOURCE, "count", handed_out("mod count;\npub use other::Count2;\n"))), [])
-
-
-class Layers(unittest.TestCase):
-    def test_tests_are_left_out(self):
-        with tempfile.TemporaryDirectory() as top:
-            Path(top, "crates.txt").write_text("# name: what it stands on\n\n# low words\na:\nb: a\n\n# tests\na_tests: a\n", encoding="utf-8")
-            self.assertEqual([(it.title, it.crates) for it in layers(Path(top))], [("Low words", ["a", "b"])])
 
 
 class Wrapping(unittest.TestCase):
