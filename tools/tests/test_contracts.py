@@ -3,7 +3,6 @@
 import subprocess
 import sys
 import unittest
-from pathlib import Path
 
 from common import TOOLS, TOP
 
