@@ -1,13 +1,10 @@
-//! Tests of captures of either kind (`pcapng_stream`), by public calls.
+//! Tests of captures and of what packets are known by, by public calls.
 //!
-//! `cuts` has captures that are cut anywhere; `blocks` has sections, stamps, and blocks that are skipped; `faults` has captures
-//! that are refused; `limits` has captures with more packets than are wanted; `fixtures` has what several of them use.
-//!
-//! Tests of what frames are known by, where they may be of IPv6 or behind a Linux cooked header.
-//!
-//! Tests of merged captures (`mergecap`), by public calls: packets that are arranged, written and read again.
-//!
-//! `captures` has whole captures, those that are refused, and one whose writing fails; `fixtures` has what they use.
+//! `cuts` has captures that are cut anywhere; `blocks` sections, stamps, and blocks that are skipped; `faults` captures
+//! that are refused; `limits` captures with more packets than are wanted (`pcapng_stream`); `wide_keys` frames of IPv6
+//! or behind a Linux cooked header (`wide_headers`); `merged_captures` packets that are arranged, written and read
+//! again, those that are refused, and one whose writing fails (`mergecap`). `fixtures` and `merge_fixtures` have what
+//! several of them use.
 #![tactic(auto)]
 
 #[cfg(test)]

@@ -31,10 +31,11 @@ HoldsProblem files path P = (p : ProblemLists) × Holds files path (SpellsProble
 abbrev pub IsExecutionText : ProblemLists → List ℕ → Type 0
 IsExecutionText p text = (readings : List Reading) × (values : List ℤ) × AreReadings p readings × IsTextOf p readings values text
 
--- the text is that of a certificate of the problem, or of a widening, whether or not it shows what it should
+-- the text is that of a certificate of the problem, whether or not it shows what it should
 abbrev pub IsCertText : ProblemLists → List ℕ → Type 0
 IsCertText p text = (c : Cert) × SpellsCert p c text
 
+-- the text is that of a widening of the problem, whether or not it shows what it should
 abbrev pub IsWideningText : ProblemLists → List ℕ → Type 0
 IsWideningText p text = (w : Widening) × SpellsWidening p w text
 
@@ -55,12 +56,12 @@ pub record IsLawful (ws : List (List ℕ)) (files : Content) (script : Option (L
   pub widen : (problem : List ℕ) → ws ≡ widen_words problem → HoldsProblem files problem (λ p. Unit {0})
   pub judge : (problem widening : List ℕ) → ws ≡ judge_words problem widening → HoldsProblem files problem (λ p. Holds files widening (IsWideningText p))
 
--- no count of faults rose
+-- no count of faults rose, of files, input and output
 pub record IsFaultless (old new : Devices) : Type 0 where
   pub files : Rose old.files.faults new.files.faults → ⊥
   pub input : Rose old.input.faults new.input.faults → ⊥
   pub out : Rose old.out.faults new.out.faults → ⊥
 
--- the command was answered, also by a reason why packets are not merged, or memory ran out
+-- the status is 0, 1 or 9, or 12, which has the reason why packets are not merged
 abbrev pub IsAnswered : Status → Type 0
 IsAnswered status = (status ≡ Done) ⊎ (status ≡ No) ⊎ (status ≡ Memory) ⊎ (status ≡ NoMerge)

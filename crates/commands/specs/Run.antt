@@ -5,21 +5,27 @@ use Rattle.commands.specs.declared.form.Form.{Form}
 use Rattle.commands.specs.declared.form.Form.TheVariants.{Obey, Solve, Ends, Verify, Session, Trial, Widen, Judge, Mergecap, Unknown}
 
 -- ---- the words
+-- the words `obey PROBLEM EXEC`
 abbrev pub obey_words : List ℕ → List ℕ → List (List ℕ)
 obey_words problem exec = codes "obey" ∷ problem ∷ exec ∷ []
 
+-- the words `solve PROBLEM`
 abbrev pub solve_words : List ℕ → List (List ℕ)
 solve_words problem = codes "solve" ∷ problem ∷ []
 
+-- the words `ends PROBLEM P Q`
 abbrev pub ends_words : List ℕ → List ℕ → List ℕ → List (List ℕ)
 ends_words problem first second = codes "ends" ∷ problem ∷ first ∷ second ∷ []
 
+-- the words `verify PROBLEM CERT`
 abbrev pub verify_words : List ℕ → List ℕ → List (List ℕ)
 verify_words problem cert = codes "verify" ∷ problem ∷ cert ∷ []
 
+-- the words `session DECL`
 abbrev pub session_words : List ℕ → List (List ℕ)
 session_words decl = codes "session" ∷ decl ∷ []
 
+-- the words `trial N`, with the decimal of this number
 abbrev pub trial_words : ℕ → List (List ℕ)
 trial_words n = codes "trial" ∷ decimal_of n ∷ []
 
@@ -27,12 +33,15 @@ trial_words n = codes "trial" ∷ decimal_of n ∷ []
 abbrev pub IsNoNumber : List ℕ → Type 0
 IsNoNumber text = (n : ℕ) → n < 2 ^ 32 → text ≡ decimal_of n → ⊥
 
+-- the words `widen PROBLEM`
 abbrev pub widen_words : List ℕ → List (List ℕ)
 widen_words problem = codes "widen" ∷ problem ∷ []
 
+-- the words `judge PROBLEM WIDENING`
 abbrev pub judge_words : List ℕ → List ℕ → List (List ℕ)
 judge_words problem widening = codes "judge" ∷ problem ∷ widening ∷ []
 
+-- the words `mergecap DECL`
 abbrev pub mergecap_words : List ℕ → List (List ℕ)
 mergecap_words decl = codes "mergecap" ∷ decl ∷ []
 

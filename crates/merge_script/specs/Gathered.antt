@@ -20,7 +20,7 @@ use Rattle.merge_script.specs.declared.unmerged.Unmerged.TheVariants.{Refused, S
 abbrev pub bytes_in : List Timed → ℕ
 bytes_in ts = sum_by (λ (t : Timed). length t.packet.bytes) ts
 
--- how many they have at most
+-- how many they have at most: 2^30
 abbrev pub most_bytes : ℕ
 most_bytes = 2 ^ 30
 

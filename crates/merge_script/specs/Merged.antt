@@ -29,7 +29,8 @@ pub record PassesLimit (d : Declaration) (seen : List (List Seen)) (all : List T
   pub at_times : AreSettled d seen all settled
   pub late : Any (λ (t : Timed). time_limit ≤ℤ t.key.value) settled
 
--- why these packets have no merge
+-- why these packets have no merge: no execution, or one and two link types, or one link type and a late time; want of
+-- memory says nothing
 abbrev pub LacksMerge : Declaration → List (List Seen) → List Timed → Unmerged → Type 0
 LacksMerge d seen all (ends.Refused said) = ⊥
 LacksMerge d seen all ends.Size = ⊥

@@ -21,7 +21,7 @@ pub record Timed : Type 0 where
 abbrev pub keys_of : List Timed → List MergeKey
 keys_of ts = map (λ (t : Timed). t.key) ts
 
--- the same packets, and each comes before those behind it
+-- the same packets, and each comes before those behind it, as events do in a merge
 pub record IsArranged (old new : List Timed) : Type 0 where
   pub same : IsPermutation old new
   pub sorted : AllPairs (λ (a b : Timed). ComesFirst a.key b.key) new
@@ -36,7 +36,7 @@ four_bytes n = little_bytes 4 n
 abbrev pub header : ℕ → List ℕ
 header link = magic Little Nanos ++ version Little ++ four_bytes 0 ++ four_bytes 0 ++ four_bytes 262144 ++ four_bytes link
 
--- the whole ns of a time in units of 1e-9 ns that is not below 0
+-- the whole ns of a time in units of 1e-9 ns that is not below 0, rounded down
 abbrev pub whole_nanos : ℤ → ℕ
 whole_nanos units = unsigned_abs units / 1000000000
 
@@ -75,7 +75,7 @@ pub record IsInRange (t : Timed) : Type 0 where
   pub low : pos 0 ≤ℤ t.key.value
   pub high : t.key.value <ℤ time_limit
 
--- as many bytes as a record may have
+-- at most 262,144 bytes, as a record may have
 abbrev pub IsShort : Timed → Type 0
 IsShort t = length t.packet.bytes ≤ 262144
 

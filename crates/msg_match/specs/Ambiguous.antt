@@ -29,7 +29,7 @@ abbrev pub end_group : List End → EventKey → EndGroup
 end_group ends key = record { key = key; sends = names_with ends key Send; receives = names_with ends key Receive }
 
 -- ---- ambiguous keys
--- whether a key is ambiguous among ends
+-- whether a key has sends and receives among ends, and two of the ones or of the others at least
 abbrev pub is_ambiguous_key : List End → EventKey → Bool
 is_ambiguous_key ends key = are_ambiguous (length (names_with ends key Send)) (length (names_with ends key Receive))
 

@@ -4,10 +4,11 @@ use Rattle.traces.specs.Seen.{EventKey, Word}
 use Rattle.msg_match.specs.declared.entry.Entry.{Entry}
 use Rattle.msg_match.specs.Groups.{SeenItem, SeenGroup, keys_of, group_of}
 
--- an event, by the keys
+-- an event of the log, with the key at its place among the keys
 abbrev pub item_by : List EventKey → Entry → SeenItem
 item_by keys e = record { event = e.event; side = e.side; key = slice_index_or keys e.place (Word []) }
 
+-- the events of a log
 abbrev pub items_by : List EventKey → List Entry → List SeenItem
 items_by keys log = map (item_by keys) log
 

@@ -45,7 +45,7 @@ keys_in groups = map (λ (g : SeenGroup). g.key) groups
 abbrev pub group_before : List SeenGroup → Entry → SeenGroup
 group_before groups e = without_last (group_at groups e.place) e.side
 
--- groups after the last event is taken away, which was this one
+-- groups before the last event came, which was this one: a group that is then empty goes
 abbrev pub groups_before : List SeenGroup → Entry → List SeenGroup
 groups_before groups e =
     let less = slice_set groups e.place (group_before groups e) in

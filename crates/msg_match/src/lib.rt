@@ -1,7 +1,6 @@
-//! Messages among events: which send and receive are one message, kept by an index of keys while events are added.
-//!
-//! The messages among events of all labels, where a matcher has the ends of messages by the numbers of their events: what is found
-//! among events that come, how many messages a change brings and takes, and, as definitions, which keys are ambiguous.
+//! Messages among events of all labels: which send and receive are one message, kept by an index of keys while events are
+//! added. Events go by their numbers: what is found among those that come, how many messages a change brings and takes, and, as
+//! definitions, which keys are ambiguous.
 #![tactic(auto)]
 
 mod change;

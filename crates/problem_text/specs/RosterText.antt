@@ -39,13 +39,15 @@ partner_line r send (Some p) = couple_line r.declaration send (id_of (event_at r
 abbrev pub sent_line : RosterLists → ℕ → List ℕ
 sent_line r v = partner_line r (id_of (event_at r.came v)) (event_at r.came v).partner
 
--- the lines of the events, by label and then by number, and those of the messages that they send
+-- the lines of the events, by label and then by number
 abbrev pub came_lines : RosterLists → List ℕ
 came_lines r = flat_map (λ (e : ℕ × ℕ). came_line r e.0) (listed r).events
 
+-- the lines of the messages that they send, in the same order
 abbrev pub sent_lines : RosterLists → List ℕ
 sent_lines r = flat_map (λ (e : ℕ × ℕ). sent_line r e.0) (listed r).events
 
--- the whole text
+-- the whole text: the head of its version, clocks, follows, events by label and number, the messages that they send,
+-- the end
 abbrev pub roster_text : RosterLists → List ℕ
 roster_text r = line_of (head_of (follows_of r.declaration)) ++ flat_map clock_line r.declaration.clocks ++ flat_map (follow_line r.declaration.clocks) (follows_of r.declaration) ++ came_lines r ++ sent_lines r ++ line_of (codes "end" ∷ [])

@@ -1,9 +1,6 @@
-//! Problems, written as their text: a line for the head, one for each clock, each follow, each event and each message, and
-//! the end.
-//!
-//! A caller that holds no problem writes the same text line by line. No call takes memory.
-//!
-//! The text of the problem of what a roster holds, written from the roster. No problem is made, and no call takes memory.
+//! Problems, written as their text: a line for the head, one for each clock, each follow, each event and each message,
+//! and the end. A caller that holds no problem writes the same text line by line, as from a roster. No call takes
+//! memory.
 #![tactic(auto)]
 
 mod laws;

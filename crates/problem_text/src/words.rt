@@ -30,7 +30,7 @@ fn push_most(line: &mut Line, most: Option<Nano>)
     }
 }
 
-// The line of a clock.
+/// The line of a clock.
 pub fn clock_line(c: &Clock) -> Line
     ensures { result.items ≡ clock_line c.now }
 {
@@ -44,7 +44,7 @@ pub fn clock_line(c: &Clock) -> Line
     line
 }
 
-// The line of a follow, by the names of its clocks and its gap.
+/// The line of a follow, by the names of its clocks and its gap.
 pub fn follow_line(earlier: &Name, later: &Name, gap: Nano) -> Line
     ensures { result.items ≡ line_of (line_words (FollowLine earlier.now later.now gap)) }
 {
@@ -56,7 +56,7 @@ pub fn follow_line(earlier: &Name, later: &Name, gap: Nano) -> Line
     line
 }
 
-// The line of an event, by its name, the name of its clock and its stamp.
+/// The line of an event, by its name, the name of its clock and its stamp.
 pub fn event_line(name: &Name, clock: &Name, stamp: Nano) -> Line
     ensures { result.items ≡ line_of (line_words (EventLine name.now clock.now stamp)) }
 {
@@ -68,7 +68,7 @@ pub fn event_line(name: &Name, clock: &Name, stamp: Nano) -> Line
     line
 }
 
-// The line of a message, by the names of its events and its delays.
+/// The line of a message, by the names of its events and its delays.
 pub fn message_line(send: &Name, receive: &Name, least: Nano, most: Option<Nano>) -> Line
     ensures { result.items ≡ line_of (line_words (MessageLine send.now receive.now least most)) }
 {

@@ -1,9 +1,10 @@
 //! Tests of the commands of the program, each a run over files, input and output in memory.
 //!
-//! `problem_commands` has the commands over a problem, `following_clocks` those over clocks that follow each other, `sessions`
-//! those over a declaration, `long_sessions` one over a log of thousands of rows, `verifying` those over a certificate, with its
-//! table `verify_cases`, `trials` the trials, `widenings` those over a widening, `merged_captures` merges, `failing_in_turn` has
-//! each call of a device fail; `running` is how they are run, and `fixtures` has what several of them use.
+//! `commands_over_problems` has the commands over a problem, `following_clocks` those over clocks that follow each
+//! other, `sessions` those over a declaration, `long_sessions` one over a log of thousands of rows,
+//! `verified_certificates` those over a certificate, with its table `verify_cases`, `trials` the trials, `widenings`
+//! those over a widening, `merged_captures` merges, `failing_in_turn` has each call of a device fail; `runs` is how
+//! they are run, and `fixtures` has what several of them use.
 #![tactic(auto)]
 
 #[cfg(test)]

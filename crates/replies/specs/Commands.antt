@@ -15,7 +15,7 @@ pub data Command : Type 0 where
   Problem : Command
   Report : Command
 
--- some bytes that print, without a space
+-- some bytes from 33 to 126: they print, without a space
 pub record IsWord (w : List ℕ) : Type 0 where
   pub some : 0 < length w
   pub visible : All (λ b. IsInRange 33 126 b) w
@@ -42,7 +42,7 @@ abbrev pub HasWords : List (List ℕ) → Option Command → Type 0
 HasWords ws (Some c) = (ws ≡ command_words c) × All IsWord ws
 HasWords ws None = (c : Command) → All IsWord ws → ws ≡ command_words c → ⊥
 
--- memory may run out for the command
+-- the command may be answered by `Memory`
 abbrev pub TakesMemory : Command → Type 0
 TakesMemory (Add label path) = ⊤
 TakesMemory (Interval first second) = ⊥
@@ -54,6 +54,6 @@ TakesMemory (Keep event) = ⊤
 TakesMemory Problem = ⊥
 TakesMemory Report = ⊤
 
--- the line spells a command for which memory may run out
+-- the line spells a command that may be answered by `Memory`
 abbrev pub AsksForMemory : List ℕ → Type 0
 AsksForMemory line = (c : Command) × Asks line (Some c) × TakesMemory c

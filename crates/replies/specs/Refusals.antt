@@ -45,7 +45,7 @@ details EightAreKept = []
 abbrev pub refusal_line : Refusal → List ℕ
 refusal_line r = line_of (codes "refused" ∷ decimal_of (number_of r) ∷ details r)
 
--- the refusal of a log with this fault: its row, and what it lacks
+-- the refusal of a log with this fault, by its row and what it lacks; none where memory ran out
 abbrev pub log_refusal : LogError → Option Refusal
 log_refusal (faults.Fields row) = Some (LogRow row 1)
 log_refusal (faults.Stamp row) = Some (LogRow row 2)
@@ -53,7 +53,7 @@ log_refusal (faults.Kind row) = Some (LogRow row 3)
 log_refusal (faults.Text row) = Some (LogRow row 4)
 log_refusal faults.Memory = None
 
--- the refusal of a capture with this fault
+-- the refusal of a capture with this fault; none where memory ran out
 abbrev pub capture_refusal : CaptureError → Option Refusal
 capture_refusal refused.Magic = Some CaptureMagic
 capture_refusal refused.Version = Some CaptureVersion

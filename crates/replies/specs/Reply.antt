@@ -35,7 +35,7 @@ pub record State : Type 0 where
   pub traces : Traces
   pub kept : List EventId
 
--- what came of the read that a command makes
+-- what came of the read that a command makes: it makes none, bytes, no such file, or a read that failed
 pub data Found : Type 0 where
   -- the command reads no file
   Unread : Found

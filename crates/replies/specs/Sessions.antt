@@ -50,12 +50,14 @@ abbrev pub start : Declaration → State
 start d = record { traces = map (λ (l : Label). nothing_for l.kind) d.labels; kept = [] }
 
 -- ---- reads that failed
+-- a read failed
 abbrev pub is_failed : Found → Bool
 is_failed Unread = false
 is_failed (Bytes bytes) = false
 is_failed Absent = false
 is_failed Failed = true
 
+-- a file is not there
 abbrev pub is_absent : Found → Bool
 is_absent Unread = false
 is_absent (Bytes bytes) = false

@@ -1,13 +1,12 @@
 //! Commands of a session, and the replies to them.
 //!
-//! `read_command` tells what a line asks for: to add a file to a label, to keep an event, or a `Question`. What a reply to it may
-//! be, and what a session then has, is a relation (`specs/Reply.antt`); here stand the lines of it that tell what came of a
-//! change (`Outcome`) and why a line changes nothing (`Refusal`). Laws say that a line asks for one command at most, that it has
-//! one reply but for which contradiction or path is printed, and that what a session has stays lawful.
+//! `read_command` tells what a line asks for: to add a file to a label, to keep an event, or a `Question`. What a reply
+//! to it may be, and what a session then has, is a relation (`specs/Reply.antt`); here stand the lines of it that tell
+//! what came of a change (`Outcome`) and why a line changes nothing (`Refusal`), and the events of all labels in one
+//! order, by their times in the earliest execution (`merge`). Laws say that a line asks for one command at most, that
+//! it has one reply but for which contradiction or path is printed, and that what a session has stays lawful.
 //!
 //! It knows no session: who keeps the graph, and who answers questions of it, cite what a reply is from here.
-//!
-//! The events of all labels in one order: by their times in the earliest execution of their problem, as an engine holds it.
 #![tactic(auto)]
 
 mod command;

@@ -55,11 +55,12 @@ tcp_words k = codes "tcp" ∷ endpoint k.source k.source_port ∷ endpoint k.tar
     ∷ codes "seq" ∷ decimal_of k.sequence ∷ codes "ack" ∷ decimal_of k.acknowledged ∷ codes "flags" ∷ decimal_of k.flags
     ∷ codes "length" ∷ decimal_of k.length ∷ codes "payload" ∷ payload_word k.payload ∷ []
 
--- the same for packets of IPv6, which have no identification
+-- the words of a datagram of UDP over IPv6, which has no identification
 abbrev pub wide_udp_words : WideFields → List (List ℕ)
 wide_udp_words k = codes "udp" ∷ wide_endpoint k.source k.source_port ∷ wide_endpoint k.target k.target_port
     ∷ codes "length" ∷ decimal_of k.length ∷ codes "payload" ∷ payload_word k.payload ∷ []
 
+-- the words of a segment of TCP over IPv6, which has no identification
 abbrev pub wide_tcp_words : WideFields → List (List ℕ)
 wide_tcp_words k = codes "tcp" ∷ wide_endpoint k.source k.source_port ∷ wide_endpoint k.target k.target_port
     ∷ codes "seq" ∷ decimal_of k.sequence ∷ codes "ack" ∷ decimal_of k.acknowledged ∷ codes "flags" ∷ decimal_of k.flags

@@ -57,7 +57,7 @@ nokey_data n = object (
     member (codes "side") (count n.side)
     no_members))))))))
 
--- the whole report
+-- the whole report, its keys in the order of their bytes
 abbrev pub report_data : Reported → Data
 report_data v = object (
     member (codes "ambiguous") (groups_data v.groups) (

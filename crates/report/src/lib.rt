@@ -1,11 +1,10 @@
 //! Reports on traces: how many events and messages there are, how many events have no key or no partner, and which keys
-//! are ambiguous, as one line of JSON (RFC 8259); and the order and the lines of events that are merged.
+//! are ambiguous, with the texts of keys and the names of events, as one line of JSON (RFC 8259); and the order and the
+//! lines of events that are merged.
 //!
 //! A report has no space between its parts, and an object's keys stand in byte order. What it is made of comes in as a
-//! `View`, so nothing here knows of sessions or of how messages are found.
-//!
-//! Reports on the events of all labels: how many have no key, and which keys are ambiguous, with the texts of keys and the
-//! names of events.
+//! `View`, which `trace_view` makes of the events of all labels; the line knows nothing of sessions or of how messages
+//! are found.
 #![tactic(auto)]
 
 mod ambiguous;

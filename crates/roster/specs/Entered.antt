@@ -14,13 +14,15 @@ use Rattle.problem_model.specs.Bounds.{EventAt, ComesAfter}
 abbrev pub HasEntered : ProblemLists → (ℕ → Bool) → ℕ → Event → Type 0
 HasEntered p entered v e = EventAt p v e × (entered v ≡ true)
 
--- all events, those below a number, and some with one more
+-- all events
 abbrev pub all_events : ℕ → Bool
 all_events v = true
 
+-- the events below a number
 abbrev pub events_below : ℕ → ℕ → Bool
 events_below n v = nat_lt v n
 
+-- some events, with one more
 abbrev pub and_event : (ℕ → Bool) → ℕ → ℕ → Bool
 and_event entered v w = (w == v) || entered w
 

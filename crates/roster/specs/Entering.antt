@@ -24,21 +24,22 @@ pub record Enters (v : ℕ) (e : Event) (g h : GraphLists) : Type 0 where
   pub arcs : h.arcs ≡ g.arcs
   pub in_force : h.in_force ≡ g.in_force
 
--- the spans of a new reading to the nearest ones below and above it, where there are any
+-- the span of a new reading from the nearest one below it, where there is one
 abbrev pub span_below : ℕ → ℕ → Option ℕ → List Bound
 span_below clock stamp None = []
 span_below clock stamp (Some s) = SpanMost clock s stamp ∷ SpanLeast clock s stamp ∷ []
 
+-- the span of a new reading to the nearest one above it, where there is one
 abbrev pub span_above : ℕ → ℕ → Option ℕ → List Bound
 span_above clock stamp None = []
 span_above clock stamp (Some t) = SpanMost clock stamp t ∷ SpanLeast clock stamp t ∷ []
 
--- the follow of a new reading, which comes after the given reading of an earlier clock, or before that of a later clock; none where none is
--- given
+-- the follow of a new reading, which comes after the given reading of an earlier clock; none where none is given
 abbrev pub follow_before : ℕ → ℕ → Option (ℕ × ℕ) → List Bound
 follow_before clock stamp None = []
 follow_before clock stamp (Some (c, s)) = bounds.Follow c s clock stamp ∷ []
 
+-- the follow of a new reading, which comes before the given reading of a later clock; none where none is given
 abbrev pub follow_after : ℕ → ℕ → Option (ℕ × ℕ) → List Bound
 follow_after clock stamp None = []
 follow_after clock stamp (Some (d, t)) = bounds.Follow clock stamp d t ∷ []
@@ -58,19 +59,21 @@ abbrev pub entry_bounds : ℕ → Event → Option ℕ → Option ℕ → Option
 entry_bounds v e below above earlier later messages =
     reading_bounds e.clock e.stamp below above earlier later ++ (Late v ∷ Early v ∷ flat_map message_bounds messages)
 
--- the greatest stamp of the clock's nodes below this one, or none; and the least one above
+-- the greatest stamp of the clock's nodes below this one, or none where there is none
 abbrev pub IsStampBelow : GraphLists → ℕ → ℕ → Option ℕ → Type 0
 IsStampBelow g clock stamp (Some s) = HasNode g (nodes.Reading clock s) × (s < stamp) × ((t : ℕ) → HasNode g (nodes.Reading clock t) → t < stamp → t ≤ s)
 IsStampBelow g clock stamp None = (t : ℕ) → HasNode g (nodes.Reading clock t) → t < stamp → ⊥
 
+-- the least stamp of the clock's nodes above this one, or none where there is none
 abbrev pub IsStampAbove : GraphLists → ℕ → ℕ → Option ℕ → Type 0
 IsStampAbove g clock stamp (Some s) = HasNode g (nodes.Reading clock s) × (stamp < s) × ((t : ℕ) → HasNode g (nodes.Reading clock t) → stamp < t → s ≤ t)
 IsStampAbove g clock stamp None = (t : ℕ) → HasNode g (nodes.Reading clock t) → stamp < t → ⊥
 
--- the last stamp of the clock's nodes; and the first one
+-- the last stamp of the clock's nodes
 abbrev pub IsLastNode : GraphLists → ℕ → ℕ → Type 0
 IsLastNode g clock s = HasNode g (nodes.Reading clock s) × ((t : ℕ) → HasNode g (nodes.Reading clock t) → t ≤ s)
 
+-- the first stamp of the clock's nodes
 abbrev pub IsFirstNode : GraphLists → ℕ → ℕ → Type 0
 IsFirstNode g clock s = HasNode g (nodes.Reading clock s) × ((t : ℕ) → HasNode g (nodes.Reading clock t) → s ≤ t)
 

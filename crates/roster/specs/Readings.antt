@@ -29,11 +29,12 @@ IsFirstOver readings stamp None = (t : ℕ) → HasStamp readings t → stamp < 
 abbrev pub stamps_of : List Event → List ℕ
 stamps_of events = map (λ (e : Event). e.stamp) events
 
--- the least stamp of the readings, and None where there is none; and the greatest one
+-- the least stamp of the readings, and None where there is none
 abbrev pub IsFirstStamp : List Stamped → Option ℕ → Type 0
 IsFirstStamp readings (Some s) = HasStamp readings s × ((t : ℕ) → HasStamp readings t → s ≤ t)
 IsFirstStamp readings None = (t : ℕ) → HasStamp readings t → ⊥
 
+-- the greatest stamp of the readings, and None where there is none
 abbrev pub IsLastStamp : List Stamped → Option ℕ → Type 0
 IsLastStamp readings (Some s) = HasStamp readings s × ((t : ℕ) → HasStamp readings t → t ≤ s)
 IsLastStamp readings None = (t : ℕ) → HasStamp readings t → ⊥

@@ -44,14 +44,15 @@ IsUnder under id v = (k : ℕ) × (id.number ≡ suc k) × (slice_get (group_at 
 abbrev pub IsStamp : Declaration → List Came → ℕ → ℕ → Type 0
 IsStamp d came clock stamp = (e : Came) × Contains came e × (clock_of d (id_of e) ≡ clock) × (e.stamp ≡ stamp)
 
--- the readings of each clock are those of its events, in their order
+-- the readings of each clock are the stamps of its events and no others, each once and rising
 pub record AreOnClocks (d : Declaration) (came : List Came) (readings : List (List Stamped)) : Type 0 where
   pub rise : (c : ℕ) → Rise (group_at readings c)
   pub each : (c stamp : ℕ) → HasStamp (group_at readings c) stamp → IsStamp d came c stamp
   pub every : (c stamp : ℕ) → IsStamp d came c stamp → HasStamp (group_at readings c) stamp
   pub few : total (sizes_of readings) ≤ length came
 
--- a group for each label and each clock; what a label numbers k has number k there, and each event stands under its label
+-- a group for each label and each clock; what a label numbers k has number k there, and each event stands under its
+-- label; there are at most 2^21 events
 pub record IsRoster (r : RosterLists) : Type 0 where
   pub declared : IsDeclaration r.declaration
   pub labels : length r.under ≡ length r.declaration.labels
@@ -67,7 +68,7 @@ pub record IsRoster (r : RosterLists) : Type 0 where
 abbrev pub stamps_by : RosterLists → List (List ℕ)
 stamps_by r = map (λ (vs : List ℕ). map (λ (v : ℕ). (event_at r.came v).stamp) vs) r.under
 
--- the roster holds these events of each label
+-- under each label stand as many events as these, with the same stamps
 abbrev pub Holds : RosterLists → List (List Seen) → Type 0
 Holds r seen = stamps_by r ≡ map (λ (events : List Seen). map (λ (s : Seen). s.stamp) events) seen
 

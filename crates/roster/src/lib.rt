@@ -1,7 +1,8 @@
 //! The events of a session, by the number in which they came, by label and by name, and the readings of its clocks, listed
 //! as they are printed.
 //!
-//! Graphs that grow event by event: what holds of one between two additions, and while events enter it, whatever their order.
+//! `growth` says what holds of a graph that grows event by event, between two additions and while events enter it, whatever
+//! their order.
 #![tactic(auto)]
 
 mod arrivals;

@@ -313,7 +313,7 @@ whole_grown d accepted new then kept before ready a held k events size stream e 
       answers,
     )
 
--- and where other events are kept, or the engine changed
+-- and where other events are kept, or the solver changed
 pub whole_kept : (d : Declaration) (accepted : List Accepted) (kept kept' : List EventId) (before : Option SolverLists) (ready : Bool) (a : Answers) → a.graph.roster.declaration ≡ d →
     IsWithinLimits (held_of d accepted kept before) → AreKept (seen_in accepted) kept' → (ready ≡ true → AreAnswersOf (seen_in accepted) kept' a) → IsWhole accepted kept' ready a
 whole_kept d accepted kept kept' before ready a declared held lawful answers = (

@@ -52,11 +52,12 @@ pub record IsTaken (d : Declaration) (old new : Devices) (IsWritten : List ℕ �
 abbrev pub IsScriptFault : Declaration → Devices → Devices → (List ℕ → Type 0) → Type 0
 IsScriptFault d old new IsWritten = Rose old.input.faults new.input.faults × OfScript old.input.left (IsTaken d old new IsWritten)
 
--- the script is too long, and the replies to the whole lines of its first bytes stand written so
+-- the script has more than 2^30 bytes, and the replies to the whole lines of its first 2^30 stand written so
 abbrev pub IsTooLong : Declaration → Devices → Devices → (List ℕ → Type 0) → Type 0
 IsTooLong d old new IsWritten = OfScript old.input.left (λ script. (most_taken < length script) × Replied d old new (whole_lines (take most_taken script)) IsWritten)
 
--- the lines that have replies where nothing fails: those of a script, or where it is too long the whole ones of its first bytes
+-- the lines that have replies where nothing fails: those of a script, or where it is too long the whole ones of its
+-- first 2^30 bytes
 abbrev pub lines_within : List ℕ → List (List ℕ)
 lines_within script = if nat_le (length script) most_taken then lines_of script else whole_lines (take most_taken script)
 
@@ -80,7 +81,7 @@ pub record IsInterrupted (d : Declaration) (old new : Devices) (IsWritten : List
   pub asks : AsksForMemory line
   pub replied : Replied d old new lines IsWritten
 
--- memory ran out before the first line, or in one
+-- memory ran out: nothing is written, or it did so in a line that may ask for it
 abbrev pub IsOutOfMemory : Declaration → Devices → Devices → (List ℕ → Type 0) → Type 0
 IsOutOfMemory d old new IsWritten = (new.out ≡ old.out) ⊎ OfScript old.input.left (IsInterrupted d old new IsWritten)
 

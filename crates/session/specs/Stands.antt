@@ -110,7 +110,7 @@ pub record IsHeld (h : Held) : Type 0 where
   pub few : event_count (seen_held h.under) ≤ 2 ^ 21
   pub kept_up : IfSome h.answers (IsKeptUp h)
 
--- the engine of the answers, where they stand ready
+-- the solver of the answers, where they stand ready
 abbrev pub solver_of : Bool → Answers → Option SolverLists
 solver_of true a = Some a.graph.solver
 solver_of false a = None
@@ -171,7 +171,8 @@ Stepped line files files' held held' IsWritten = (d : Declaration) (s : State) �
     × AreCounted (found ∷ []) files files'
     × StandsFor held' d s'
 
--- this is said of the reply as it stands written: whole, or a front of it where a write failed
+-- this is said of the reply as it stands written: whole, or a front of it where a write failed, and then the output's
+-- count of faults rose
 pub record WritesReply (Says : (List ℕ → Type 0) → Type 0) (old new : SinkTold) (result : Result (Unit {0}) Stop) : Type 0 where
   pub reply : OnOk result (Says (Appends old.written new.written))
   pub front : IsErrOf result stops.WriteFault → Says (AppendsPrefix old.written new.written)

@@ -69,9 +69,10 @@ abbrev pub KeepsFound : Bool → Held → ℕ → List captures.Seen → Outcome
 KeepsFound keeps held k packets outcome found = keeps ≡ true → WhereAdded (CompletesFound held k packets found) outcome
 
 -- ---- what is answered
--- a file for the label at a place, or for the label of this name
+-- a file for the label at a place
 abbrev pub TakesUnder : ℕ → List ℕ → FilesTold → FilesTold → Held → Held → List Timed → List Timed → AddAnswer → Type 0
 TakesUnder k path files files' = TakesBy (λ d s found text s'. IsAtPath files path found × AddReply d s (Some k) found text s') files files'
 
+-- a file for the label of this name
 abbrev pub TakesFile : List ℕ → List ℕ → FilesTold → FilesTold → Held → Held → List Timed → List Timed → AddAnswer → Type 0
 TakesFile label path files files' = TakesBy (λ d s. CommandReply d files.content s (Some (Add label path))) files files'

@@ -10,7 +10,7 @@
 //! worked out. Where a contradiction that was held goes, all values and rows are made anew, and so are the rows of the
 //! source when its first reading comes. `keep EVENT` has the distances of an event made ready too.
 //!
-//! A session over the lines of a script: each line gets its reply, up to the end of the script or the first fault.
+//! `script` has a session over the lines of a script: each line gets its reply, up to the end of the script or the first fault.
 #![tactic(auto)]
 
 mod accepted;

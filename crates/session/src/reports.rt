@@ -23,7 +23,7 @@ use solver::Solver;
 use std::alloc::Global;
 use traces::Accepted;
 
-/// Writes the report on all events, of which the roster has the names by number and the matcher the ends of messages, and the engine
+/// Writes the report on all events, of which the roster has the names by number and the matcher the ends of messages, and the solver
 /// holds the answer.
 pub(crate) fn write_report<O: Sink>(
     alloc: Global,

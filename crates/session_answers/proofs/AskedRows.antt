@@ -1,4 +1,4 @@
--- Questions over the rows of an engine.
+-- Questions over the rows of a solver.
 use Rattle.std.proofs.Common.{◌≡◌, ◌⊎◌, inl, inr, ℕ, zero, suc, List, [], ◌∷◌, length, map, slice_get, Option, Some, None, IfSome, refl, sym, ◌∙◌, ap, subst, arith}
 use Rattle.std.specs.Prelude.{Contains}
 use Rattle.problem_model.specs.Problem.{ProblemLists}
@@ -56,7 +56,7 @@ spare_left old new same leaves spare =
     let owned = spare.1 in
     (omega (arith, count, slots, many), omega (arith, free, count, all, owned))
 
--- the answers with this engine
+-- the answers with this solver
 abbrev pub with_engine : Answers → SolverLists → Answers
 with_engine a s = record { graph = record { roster = a.graph.roster; matcher = a.graph.matcher; solver = s }; source = a.source }
 

@@ -63,7 +63,7 @@ first_rows old new none slots source pool =
     let all : length (all_slots new.kept) ≡ length new.kept.slots = ap (λ (x : Option Slot). length (behind x new.kept.slots)) source in
     (omega (arith, long, empty, few), omega (arith, long, free, empty, all))
 
--- the engine over no node holds the answer where nothing was added
+-- the solver over no node holds the answer where nothing was added
 pub first_stands : (a : Answers) (old : SolverLists) → IsRoster a.graph.roster → IsKeptFor (map (λ (l : Label). []) a.graph.roster.declaration.labels) a.graph.roster a.graph.solver →
     AreEndsBy (map id_of a.graph.roster.came) a.graph.matcher (map (λ (l : Label). []) a.graph.roster.declaration.labels) → a.graph.solver.kept.slots ≡ [] → a.graph.solver.kept.source ≡ None → old.pool.rows ≡ [] → a.graph.solver.pool ≡ grown old.pool 4 0 → a.source ≡ None →
     AreAnswersOf (map (λ (l : Label). []) a.graph.roster.declaration.labels) [] a

@@ -18,7 +18,7 @@ use std::alloc::AllocError;
 use std::sync::ledger::Ledger;
 use traces::EventId;
 
-// How many events are kept at most: as many as an engine has slots for.
+// How many events are kept at most: as many as a solver has slots for.
 const MOST_KEPT: usize = 8;
 
 // Keeps the rows of a node that has no slot, unless eight have one, and notes its event.

@@ -1,4 +1,4 @@
-// Nodes and a source whose rows an engine keeps.
+// Nodes and a source whose rows a solver keeps.
 ghost use Rattle.std.specs.Prelude.{◌≡◌, ◌<◌, ◌≤◌, ◌+◌, ℕ, None, Some, length, IfSome, IfNone};
 ghost use Rattle.problem_model.specs.Problem.{ProblemLists};
 ghost use Rattle.row_pool.specs.Pool.{free_rows};

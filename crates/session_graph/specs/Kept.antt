@@ -46,7 +46,8 @@ pub record IsGrownBy (r : RosterLists) (messages : List Message) (g : GraphLists
   pub knows : KnowsNodes r g
   pub tells : KnowsMessages r messages g
 
--- the roster holds these events of each label, and what is kept of the graph is of their problem; arcs are at most eight an event, withdrawn ones too
+-- the roster holds these events of each label, the graph has grown to all of them and their messages, and what is held
+-- of it is the answer of their problem; arcs are at most eight an event, withdrawn ones too
 pub record IsKeptFor (seen : List (List Seen)) (r : RosterLists) (s : SolverLists) : Type 0 where
   pub holds : Holds r seen
   pub stamps : StampsFit seen

@@ -85,8 +85,8 @@ abbrev pub inserting_steps : SolverLists → SolverLists → ℕ
 inserting_steps between after = inserting_values between after + sum_by (inserting_rows between after) (all_slots between.kept)
 
 -- ---- the whole
--- where an execution exists before and after, and the source's first reading does not come: the withdrawing part, and for each new
--- event eight times the inserting part
+-- where an execution exists before and after, and the source's slot does not come: the withdrawing part, and for each
+-- new event eight times the inserting part
 abbrev pub TakesFewToAdd : ℕ → SolverLists → SolverLists → ℕ → ℕ → Type 0
 TakesFewToAdd events before after first last = before.earliest.is_solved ≡ true → after.earliest.is_solved ≡ true → after.kept.source ≡ before.kept.source
     → (between : SolverLists) (part : ℕ) → IsBetween before after between → IsWithdrawingPart before after between part

@@ -23,7 +23,7 @@ use Rattle.traces.specs.declared.event.Mark.TheVariants as marks
 use Rattle.traces.specs.declared.event.Event.{Event}
 
 -- ---- what is seen of an event
--- what a message is known by at both of its ends
+-- what a message is known by at both of its ends: the fields of a packet of IPv4 or of IPv6, or a row's word
 pub data EventKey : Type 0 where
   Packet : KeyFields → EventKey
   Word : List ℕ → EventKey
@@ -105,10 +105,11 @@ abbrev pub is_host : Option ℕ → ℕ → Bool
 is_host None host = false
 is_host (Some other) host = other == host
 
--- whether an address of IPv4, or one of IPv6, is one of this host
+-- whether an address of IPv4 is one of this host
 abbrev pub is_at : Declaration → ℕ → ℕ → Bool
 is_at d host address = is_host (host_at d address) host
 
+-- whether an address of IPv6 is one of this host
 abbrev pub is_at6 : Declaration → ℕ → ℕ → Bool
 is_at6 d host address = is_host (host6_at d address) host
 

@@ -1,9 +1,6 @@
-//! The events of traces: what each is known by, and what was accepted under the labels of a declaration.
-//!
-//! What was accepted under the labels of a declaration: the events of all labels with their names, the messages among them, and
-//! that their problem is lawful.
-//!
-//! Events of traces: rows of event logs and packets of captures, and what each is known by at both ends of a message.
+//! The events of traces: rows of event logs and packets of captures, what each is known by at both ends of a message,
+//! and what was accepted under the labels of a declaration: the events of all labels with their names, the messages
+//! among them, and that their problem is lawful.
 #![tactic(auto)]
 
 mod accepted;

@@ -19,7 +19,8 @@ use Rattle.replies.specs.Sessions.{Session, start, is_failed}
 abbrev pub files_at : ℕ → List ℕ → Option (List ℕ)
 files_at n = bytes_of (files_of n)
 
--- each line of the script has its reply, in order, in a session over the workload that begins with nothing, and no read fails
+-- the text of the trial declares this, each line of its script has its reply, in order, in a session that begins with
+-- nothing, and no read fails; the session then has this
 pub record IsConducted (n : ℕ) (d : Declaration) (s : State) : Type 0 where
   pub declared : Declares declaration_text d
   pub founds : List Found
