@@ -5,8 +5,8 @@ use Rattle.std.proofs.lemmas.List.Concat.{flat_map-append}
 use Rattle.pcap_stream.specs.Capture.{Seen}
 use Rattle.pcapng_stream.specs.declared.section.Interface.{Interface}
 use Rattle.pcapng_stream.specs.declared.order.Order.{Order}
-use Rattle.pcapng_stream.specs.declared.block.BlockKind.{BlockKind}
-use Rattle.pcapng_stream.specs.declared.block.BlockKind.TheVariants.{SectionHeader, InterfaceDescription, EnhancedPacket, Other}
+use Rattle.pcapng_stream.specs.declared.block_kind.BlockKind.{BlockKind}
+use Rattle.pcapng_stream.specs.declared.block_kind.BlockKind.TheVariants.{SectionHeader, InterfaceDescription, EnhancedPacket, Other}
 use Rattle.pcapng_stream.specs.declared.errors.CaptureError.{CaptureError}
 use Rattle.pcapng_stream.specs.declared.errors.CaptureError.TheVariants.{Magic, Version, Length, Memory}
 use Rattle.pcapng_stream.specs.declared.errors.CaptureError.TheVariants as errors

@@ -7,7 +7,8 @@ use Rattle.std.specs.Str.{bytes_eq}
 use Rattle.pcapng_stream.specs.declared.order.Order.{Order}
 use Rattle.pcapng_stream.specs.declared.order.Order.TheVariants.{Big}
 use Rattle.pcapng_stream.specs.declared.head.Head.{Head}
-use Rattle.pcapng_stream.specs.Blocks.{Block, bytes_of, section_type, is_section, order_of, head_by, head_of}
+use Rattle.pcapng_stream.specs.declared.block_kind.BlockKind.{BlockKind}
+use Rattle.pcapng_stream.specs.Blocks.{Block, bytes_of, section_type, is_section, kind_at, order_of, head_by, head_of}
 use Rattle.pcapng_stream.specs.Flaws.{lacks_order, is_wrong_size, has_wrong_size, begins_wrong}
 use Rattle.pcapng_stream.specs.Pcapng.{IsWhole, BeginsSection}
 use Rattle.pcapng_stream.specs.Inside.{IsPart, IsFirst}
@@ -17,7 +18,7 @@ pub head-append : (o : Option Order) (xs ys : List ℕ) → 12 ≤ length xs →
 head-append o xs ys long = ap (λ (l : List ℕ). head_by (order_of o l) l) (take-append-le 12 xs ys long)
 
 pub wrong-append : (o : Option Order) (xs ys : List ℕ) → 12 ≤ length xs → begins_wrong o (xs ++ ys) ≡ begins_wrong o xs
-wrong-append o xs ys long = ap (λ (l : List ℕ). lacks_order l || has_wrong_size (head_by (order_of o l) l)) (take-append-le 12 xs ys long)
+wrong-append o xs ys long = ap (λ (l : List ℕ). lacks_order l || has_wrong_size (head_by (order_of o l) l) l) (take-append-le 12 xs ys long)
 
 -- ---- two whole blocks that begin the same bytes are one
 abbrev size_said : Option Head → ℕ
@@ -42,8 +43,8 @@ block_one o a b x y p q e =
     (block_same a.order b.order a.bytes b.bytes orders front, behind)
 
 -- ---- what may begin some bytes
-size_long : (n : ℕ) → is_wrong_size n ≡ false → 12 ≤ n
-size_long n e = ltb-false n 12 ((or_parts _ _ (or_parts _ _ e).0).0)
+size_long : (kind : BlockKind) (n : ℕ) → is_wrong_size kind n ≡ false → 12 ≤ n
+size_long kind n e = ltb-false n 12 ((or_parts _ _ (or_parts _ _ e).0).0)
 
 pub none_part : (o : Option Order) (bytes : List ℕ) → begins_wrong o bytes ≡ false → head_of o bytes ≡ None → IsPart o bytes
 none_part o bytes sound none = record {
@@ -71,9 +72,10 @@ short_part o bytes h sound head short = record {
 pub first_block : (o : Option Order) (bytes : List ℕ) (h : Head) → begins_wrong o bytes ≡ false → head_of o bytes ≡ Some h → h.size ≤ length bytes →
     IsFirst o bytes (record { order = h.order; bytes = take h.size bytes })
 first_block o bytes h sound head enough =
-    let size : is_wrong_size h.size ≡ false = sym (ap (λ (m : Option Head). has_wrong_size m) head) ∙ (or_parts _ _ sound).1 in
+    let kind : BlockKind = kind_at h.order (take 12 bytes) in
+    let size : is_wrong_size kind h.size ≡ false = sym (ap (λ (m : Option Head). has_wrong_size m (take 12 bytes)) head) ∙ (or_parts (lacks_order (take 12 bytes)) (has_wrong_size (head_of o bytes) (take 12 bytes)) sound).1 in
     let count : length (take h.size bytes) ≡ h.size = length-take-le h.size bytes enough in
-    let least : 12 ≤ h.size = size_long h.size size in
+    let least : 12 ≤ h.size = size_long kind h.size size in
     let long : 12 ≤ length (take h.size bytes) = omega (arith, count, least) in
     let joined : bytes ≡ take h.size bytes ++ drop h.size bytes = sym (take-append-drop h.size bytes) in
     let said : head_of o (take h.size bytes) ≡ Some h = sym (head-append o (take h.size bytes) (drop h.size bytes) long) ∙ ap (λ (l : List ℕ). head_of o l) (sym joined) ∙ head in
@@ -106,9 +108,9 @@ unsaid_head bytes e = ap (λ (o : Option Order). head_by o (take 12 bytes)) (no_
 
 pub unsaid_wrong : (bytes : List ℕ) → is_section bytes ≡ false → begins_wrong None bytes ≡ false
 unsaid_wrong bytes e =
-    or_from (lacks_order (take 12 bytes)) (has_wrong_size (head_of None bytes))
+    or_from (lacks_order (take 12 bytes)) (has_wrong_size (head_of None bytes) (take 12 bytes))
     (no_lack (take 12 bytes) (begin_is bytes ∙ e))
-    (ap (λ (h : Option Head). has_wrong_size h) (unsaid_head bytes e))
+    (ap (λ (h : Option Head). has_wrong_size h (take 12 bytes)) (unsaid_head bytes e))
 
 pub both : (b : Bool) → b ≡ true → b ≡ false → ⊥
 both b e f = absurd (cc (e, f))

@@ -1,11 +1,11 @@
 -- A capture of one packet, worked through.
-use Rattle.std.proofs.Common.{◌≡◌, ℕ, List, [], ◌∷◌, Some, refl, arith}
+use Rattle.std.proofs.Common.{◌≡◌, ℕ, true, false, List, [], ◌∷◌, Option, Some, ℤ, pos, negsuc, refl, arith}
 use Rattle.pcap_stream.specs.Capture.{Seen}
 use Rattle.pcapng_stream.specs.declared.order.Order.TheVariants.{Little}
 use Rattle.pcapng_stream.specs.declared.section.Interface.{Interface}
 use Rattle.pcapng_stream.specs.declared.flaw.Flaw.TheVariants.{Malformed, OtherVersion}
-use Rattle.pcapng_stream.specs.Blocks.{Block, before, interface_of, nanos, section_behind}
-use Rattle.pcapng_stream.specs.Flaws.{flaw_in}
+use Rattle.pcapng_stream.specs.Blocks.{Block, before, interface_of, nanos, section_behind, stamp_on}
+use Rattle.pcapng_stream.specs.Flaws.{begins_wrong, flaw_in}
 use Rattle.pcapng_stream.specs.Pcapng.{Blocks, AreBlocks, IsBlock, packets_of}
 
 abbrev little : List ℕ → Block
@@ -22,6 +22,20 @@ interface = little (1 ∷ 0 ∷ 0 ∷ 0 ∷ 32 ∷ 0 ∷ 0 ∷ 0 ∷ 101 ∷ 0 �
 -- a packet of the one byte 7 at 100 ns
 abbrev packet : Block
 packet = little (6 ∷ 0 ∷ 0 ∷ 0 ∷ 36 ∷ 0 ∷ 0 ∷ 0 ∷ 0 ∷ 0 ∷ 0 ∷ 0 ∷ 0 ∷ 0 ∷ 0 ∷ 0 ∷ 100 ∷ 0 ∷ 0 ∷ 0 ∷ 1 ∷ 0 ∷ 0 ∷ 0 ∷ 1 ∷ 0 ∷ 0 ∷ 0 ∷ 7 ∷ 0 ∷ 0 ∷ 0 ∷ 36 ∷ 0 ∷ 0 ∷ 0 ∷ [])
+
+-- an interface of link type 101 whose offset is -1 s, and one whose first option passes its end
+abbrev earlier : Block
+earlier = little (1 ∷ 0 ∷ 0 ∷ 0 ∷ 32 ∷ 0 ∷ 0 ∷ 0 ∷ 101 ∷ 0 ∷ 0 ∷ 0 ∷ 0 ∷ 0 ∷ 4 ∷ 0 ∷ 14 ∷ 0 ∷ 8 ∷ 0 ∷ 255 ∷ 255 ∷ 255 ∷ 255 ∷ 255 ∷ 255 ∷ 255 ∷ 255 ∷ 32 ∷ 0 ∷ 0 ∷ 0 ∷ [])
+
+abbrev cut_interface : Block
+cut_interface = little (1 ∷ 0 ∷ 0 ∷ 0 ∷ 32 ∷ 0 ∷ 0 ∷ 0 ∷ 101 ∷ 0 ∷ 0 ∷ 0 ∷ 0 ∷ 0 ∷ 4 ∷ 0 ∷ 2 ∷ 0 ∷ 9 ∷ 0 ∷ 9 ∷ 0 ∷ 1 ∷ 0 ∷ 9 ∷ 0 ∷ 0 ∷ 0 ∷ 32 ∷ 0 ∷ 0 ∷ 0 ∷ [])
+
+-- how a packet of 2^24 + 4 bytes begins, and how secrets of as many do
+abbrev long_packet : List ℕ
+long_packet = 6 ∷ 0 ∷ 0 ∷ 0 ∷ 4 ∷ 0 ∷ 0 ∷ 1 ∷ []
+
+abbrev long_secrets : List ℕ
+long_secrets = 10 ∷ 0 ∷ 0 ∷ 0 ∷ 4 ∷ 0 ∷ 0 ∷ 1 ∷ []
 
 -- a header of major version 2, and one whose last length is another
 abbrev later_header : Block
@@ -45,8 +59,21 @@ packet_is = record { whole = record { said = refl; long = omega arith }; sound =
 pub blocks_are : AreBlocks before (header ∷ interface ∷ packet ∷ [])
 blocks_are = (header_is, (interface_is, (packet_is, tt)))
 
-pub interface_says : ◌≡◌ {A = Interface} (interface_of interface) (record { link = 101; resolution = 9 })
+pub interface_says : ◌≡◌ {A = Option Interface} (interface_of interface) (Some (record { link = 101; resolution = 9; offset = pos 0 }))
 interface_says = refl
+
+pub earlier_says : ◌≡◌ {A = Option Interface} (interface_of earlier) (Some (record { link = 101; resolution = 6; offset = negsuc 0 }))
+earlier_says = refl
+
+-- the packet would be 100 us after -1 s there
+pub early_stamp : ◌≡◌ {A = ℤ} (stamp_on (record { link = 101; resolution = 6; offset = negsuc 0 }) packet) (negsuc 999899999)
+early_stamp = refl
+
+pub early_is : flaw_in (section_behind (section_behind before header) earlier) packet ≡ Some Malformed
+early_is = refl
+
+pub cut_is : flaw_in (section_behind before header) cut_interface ≡ Some Malformed
+cut_is = refl
 
 pub packets_are : ◌≡◌ {A = List Seen} (packets_of capture) (record { stamp = 100; link = 101; bytes = 7 ∷ [] } ∷ [])
 packets_are = refl
@@ -60,6 +87,12 @@ later_is = refl
 
 pub broken_is : flaw_in before broken_header ≡ Some Malformed
 broken_is = refl
+
+pub packet_too_long : begins_wrong (Some Little) long_packet ≡ true
+packet_too_long = refl
+
+pub secrets_wait : begins_wrong (Some Little) long_secrets ≡ false
+secrets_wait = refl
 
 -- stamps: 5 us, 1024 and 1 times 2^-10 s
 pub micros : nanos 6 5 ≡ 5000

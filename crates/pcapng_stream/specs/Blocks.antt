@@ -1,15 +1,17 @@
 -- Blocks: what each kind says, and what a section's blocks say of those that follow.
-use Rattle.std.specs.Prelude.{ℕ, ◌+◌, ◌-◌, ◌*◌, ◌/◌, ◌%◌, ◌^◌, Bool, ◌==◌, if◌then◌else◌, nat_lt, List, [], ◌∷◌, ◌++◌, length, take, drop, slice_index_or, Option, Some, None}
+use Rattle.std.specs.Prelude.{ℕ, ◌+◌, ◌-◌, ◌*◌, ◌/◌, ◌%◌, ◌^◌, Bool, false, ◌==◌, if◌then◌else◌, nat_lt, List, [], ◌∷◌, ◌++◌, length, take, drop, slice_index_or, Option, Some, None, unwrap_or, option_to_list, ℤ, pos, negsuc, ◌+ℤ◌, ◌*ℤ◌, unsigned_abs}
+use Rattle.std.specs.Int.{w64, cast_signed}
+use Rattle.std.specs.List.{list_any}
 use Rattle.std.specs.Str.{bytes_eq}
 use Rattle.pcap_stream.specs.Capture.{Seen}
 use Rattle.pcapng_stream.specs.declared.order.Order.{Order}
 use Rattle.pcapng_stream.specs.declared.order.Order.TheVariants.{Big, Little}
 use Rattle.pcapng_stream.specs.declared.head.Head.{Head}
-use Rattle.pcapng_stream.specs.declared.block.BlockKind.{BlockKind}
-use Rattle.pcapng_stream.specs.declared.block.BlockKind.TheVariants.{SectionHeader, InterfaceDescription, EnhancedPacket, Other}
+use Rattle.pcapng_stream.specs.declared.block_kind.BlockKind.{BlockKind}
+use Rattle.pcapng_stream.specs.declared.block_kind.BlockKind.TheVariants.{SectionHeader, InterfaceDescription, EnhancedPacket, Other}
 use Rattle.pcapng_stream.specs.declared.section.Interface.{Interface}
 use Rattle.pcapng_stream.specs.Numbers.{half_at, word_at}
-use Rattle.pcapng_stream.specs.Options.{resolution_in}
+use Rattle.pcapng_stream.specs.Options.{Opt, options_in, resolution_in, offset_in, is_wrong_offset}
 
 -- ---- sections
 -- what a section says of the blocks that follow: the order of their bytes, and its interfaces
@@ -29,6 +31,13 @@ section_type = 10 ∷ 13 ∷ 13 ∷ 10 ∷ []
 -- a section header begins these bytes
 abbrev pub is_section : List ℕ → Bool
 is_section bytes = bytes_eq section_type (take 4 bytes)
+
+-- the kind of the block that begins so in this order, by its type
+abbrev pub kind_at : Order → List ℕ → BlockKind
+kind_at order begin =
+    if is_section begin then SectionHeader
+    else if word_at order 0 begin == 1 then InterfaceDescription
+    else if word_at order 0 begin == 6 then EnhancedPacket else Other
 
 -- the order in which a section header's magic number reads as it should, if it does in one
 abbrev pub magic_order : List ℕ → Option Order
@@ -61,12 +70,9 @@ pub record Block : Type 0 where
 abbrev pub bytes_of : Block → List ℕ
 bytes_of b = b.bytes
 
--- the kind, by the type
+-- the kind
 abbrev pub kind_of : Block → BlockKind
-kind_of b =
-    if is_section b.bytes then SectionHeader
-    else if word_at b.order 0 b.bytes == 1 then InterfaceDescription
-    else if word_at b.order 0 b.bytes == 6 then EnhancedPacket else Other
+kind_of b = kind_at b.order b.bytes
 
 -- the length that stands at the end once more
 abbrev pub last_length : Block → ℕ
@@ -76,13 +82,26 @@ last_length b = word_at b.order (length b.bytes - 4) b.bytes
 abbrev pub major_version : Block → ℕ
 major_version b = half_at b.order 12 b.bytes
 
--- of an interface, its options, which stand before the last length
-abbrev pub options_of : Block → List ℕ
-options_of b = take (length b.bytes - 20) (drop 16 b.bytes)
+-- of an interface, its options, which stand before the last length, if none of them is cut
+abbrev pub options_of : Block → Option (List Opt)
+options_of b = options_in b.order (take (length b.bytes - 20) (drop 16 b.bytes))
 
--- of an interface, its link type and the byte that tells the resolution of its stamps
-abbrev pub interface_of : Block → Interface
-interface_of b = record { link = half_at b.order 8 b.bytes; resolution = resolution_in b.order (options_of b) }
+-- the interface with these options: its link type, the byte that tells the resolution of its stamps, and the seconds that are added to them
+abbrev pub interface_with : Block → List Opt → Interface
+interface_with b options = record {
+  link = half_at b.order 8 b.bytes;
+  resolution = unwrap_or (resolution_in options) 6;
+  offset = cast_signed w64 (unwrap_or (offset_in b.order options) 0);
+}
+
+-- the interface, if it has options of which none is a wrong offset
+abbrev pub interface_by : Block → Option (List Opt) → Option Interface
+interface_by b None = None
+interface_by b (Some options) = if list_any is_wrong_offset options then None else Some (interface_with b options)
+
+-- the interface that a block describes, if its options are sound
+abbrev pub interface_of : Block → Option Interface
+interface_of b = interface_by b (options_of b)
 
 -- of a packet, the number of its interface
 abbrev pub interface_number : Block → ℕ
@@ -107,25 +126,34 @@ nanos resolution time = time * 1000000000 / parts_of_second resolution
 
 -- an interface of a section, by its number
 abbrev pub interface_at : Section → ℕ → Interface
-interface_at s n = slice_index_or s.interfaces n (record { link = 0; resolution = 6 })
+interface_at s n = slice_index_or s.interfaces n (record { link = 0; resolution = 6; offset = pos 0 })
 
 -- the interface of a packet
 abbrev pub interface_for : Section → Block → Interface
 interface_for s b = interface_at s (interface_number b)
 
+-- the stamp of a packet on this interface in ns: its time, and the seconds of the offset
+abbrev pub stamp_on : Interface → Block → ℤ
+stamp_on i b = pos (nanos i.resolution (time_of b)) +ℤ i.offset *ℤ pos 1000000000
+
 -- the stamp of a packet in ns
-abbrev pub stamp_of : Section → Block → ℕ
-stamp_of s b = nanos (interface_for s b).resolution (time_of b)
+abbrev pub stamp_of : Section → Block → ℤ
+stamp_of s b = stamp_on (interface_for s b) b
+
+-- a stamp is 0 ns or more, and below 2^62
+abbrev pub is_stamp : ℤ → Bool
+is_stamp (pos n) = nat_lt n (2 ^ 62)
+is_stamp (negsuc n) = false
 
 -- the packet of an enhanced packet block
 abbrev pub packet_of : Section → Block → Seen
-packet_of s b = record { stamp = stamp_of s b; link = (interface_for s b).link; bytes = take (captured_length b) (drop 28 b.bytes) }
+packet_of s b = record { stamp = unsigned_abs (stamp_of s b); link = (interface_for s b).link; bytes = take (captured_length b) (drop 28 b.bytes) }
 
 -- ---- what a block gives
 -- the section behind a block of this kind
 abbrev pub section_by : BlockKind → Section → Block → Section
 section_by SectionHeader s b = record { order = Some b.order; interfaces = [] }
-section_by InterfaceDescription s b = record { order = s.order; interfaces = s.interfaces ++ interface_of b ∷ [] }
+section_by InterfaceDescription s b = record { order = s.order; interfaces = s.interfaces ++ option_to_list (interface_of b) }
 section_by EnhancedPacket s b = s
 section_by Other s b = s
 

@@ -1,6 +1,7 @@
 -- What the parts of a reader promise each other.
-use Rattle.std.specs.Prelude.{◌≡◌, ℕ, ◌+◌, false, true, List, ◌++◌, length, Option, Some, None, ⊤}
-use Rattle.std.specs.List.{flat_map}
+use Rattle.std.specs.Prelude.{◌≡◌, ℕ, ◌+◌, false, true, if◌then◌else◌, List, ◌++◌, length, Option, Some, None, ⊤}
+use Rattle.std.specs.Option.{option_or}
+use Rattle.std.specs.List.{flat_map, list_any}
 use Rattle.pcap_stream.specs.declared.errors.PcapError.{PcapError}
 use Rattle.pcap_stream.specs.declared.errors.PcapError.TheVariants as classic_errors
 use Rattle.pcap_stream.specs.Capture.{Seen}
@@ -13,6 +14,8 @@ use Rattle.pcapng_stream.specs.declared.flaw.Flaw.TheVariants.{Malformed, OtherV
 use Rattle.pcapng_stream.specs.declared.block.WholeBlock.{WholeBlock}
 use Rattle.pcapng_stream.specs.declared.section.OpenSection.{OpenSection}
 use Rattle.pcapng_stream.specs.declared.packet.Captured.{Captured}
+use Rattle.pcapng_stream.specs.declared.options.Stamping.{Stamping}
+use Rattle.pcapng_stream.specs.Options.{Opt, options_in, resolution_of, offset_of, resolution_in, offset_in, is_wrong_offset}
 use Rattle.pcapng_stream.specs.Blocks.{Section, Block, bytes_of, section_behind, packets_in}
 use Rattle.pcapng_stream.specs.Flaws.{begins_wrong}
 use Rattle.pcapng_stream.specs.Pcapng.{IsWhole, HasBlock, IsBlock, AreBlocks, HasFlaw, section_after, packets_after}
@@ -30,6 +33,35 @@ block_of b = record { order = b.order; bytes = b.bytes.now }
 -- the packet of the code, before it has bytes of its own
 abbrev pub seen_captured : Captured → Seen
 seen_captured c = record { stamp = c.stamp; link = c.link; bytes = c.bytes.now }
+
+-- an option of this code and with this value
+abbrev pub option_with : ℕ → List ℕ → Opt
+option_with code value = record { code = code; value = value }
+
+-- what one option says
+abbrev pub said_of : Order → Opt → Stamping
+said_of order o = record { resolution = resolution_of o; offset = offset_of order o }
+
+-- what these options say
+abbrev pub said_by : Order → List Opt → Stamping
+said_by order options = record { resolution = resolution_in options; offset = offset_in order options }
+
+-- what was said first, and else what is said then
+abbrev pub said_first : Stamping → Stamping → Stamping
+said_first first later = record { resolution = option_or first.resolution later.resolution; offset = option_or first.offset later.offset }
+
+-- what is said with one option more, unless it is a wrong offset
+abbrev pub said_with : Order → Stamping → Opt → Option Stamping
+said_with order said o = if is_wrong_offset o then None else Some (said_first said (said_of order o))
+
+-- what options say, if they are there and none is a wrong offset
+abbrev pub stamping_by : Order → Option (List Opt) → Option Stamping
+stamping_by order None = None
+stamping_by order (Some options) = if list_any is_wrong_offset options then None else Some (said_by order options)
+
+-- what the options in these bytes say, if they are sound
+abbrev pub stamping_in : Order → List ℕ → Option Stamping
+stamping_in order bytes = stamping_by order (options_in order bytes)
 
 -- why a capture is refused where the block at this place has this flaw
 abbrev pub fault_at : ℕ → Flaw → CaptureError

@@ -17,6 +17,10 @@ half_at order place bytes = number_in order 2 (drop place bytes)
 abbrev pub word_at : Order → ℕ → List ℕ → ℕ
 word_at order place bytes = number_in order 4 (drop place bytes)
 
+-- the number in the eight bytes from a place on
+abbrev pub double_at : Order → ℕ → List ℕ → ℕ
+double_at order place bytes = number_in order 8 (drop place bytes)
+
 -- so many bytes with those that fill them up to a multiple of four
 abbrev pub padded : ℕ → ℕ
 padded n = (n + 3) / 4 * 4

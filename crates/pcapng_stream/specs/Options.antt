@@ -1,34 +1,70 @@
 -- The options of a block: each is a code and a length of two bytes, and a value that is filled up to a multiple of four.
-use Rattle.std.specs.Prelude.{ℕ, zero, suc, ◌+◌, Bool, ◌&&◌, ◌||◌, ◌==◌, if◌then◌else◌, nat_lt, List, length, drop, slice_index}
+use Rattle.std.specs.Prelude.{ℕ, zero, suc, ◌+◌, Bool, not, ◌&&◌, ◌||◌, ◌==◌, if◌then◌else◌, nat_lt, List, [], ◌∷◌, length, take, drop, slice_index, Option, Some, None, option_map}
+use Rattle.std.specs.Option.{option_or}
 use Rattle.pcapng_stream.specs.declared.order.Order.{Order}
-use Rattle.pcapng_stream.specs.Numbers.{half_at, padded}
+use Rattle.pcapng_stream.specs.Numbers.{half_at, double_at, padded}
+
+-- ---- the list of options
+-- an option: its code, and the bytes of its value
+pub record Opt : Type 0 where
+  pub code : ℕ
+  pub value : List ℕ
 
 -- the code of the first option
 abbrev pub option_code : Order → List ℕ → ℕ
-option_code order options = half_at order 0 options
+option_code order bytes = half_at order 0 bytes
 
 -- how many bytes the value of the first option has
 abbrev pub option_length : Order → List ℕ → ℕ
-option_length order options = half_at order 2 options
+option_length order bytes = half_at order 2 bytes
 
--- no option begins these bytes: they are fewer than four, the code is 0, or the value passes their end
-abbrev pub has_ended : Order → List ℕ → Bool
-has_ended order options = nat_lt (length options) 4 || option_code order options == 0 || nat_lt (length options) (4 + option_length order options)
+-- the first option
+abbrev pub first_option : Order → List ℕ → Opt
+first_option order bytes = record { code = option_code order bytes; value = take (option_length order bytes) (drop 4 bytes) }
 
--- the first option is the resolution of stamps (if_tsresol), and has a byte
-abbrev pub is_resolution : Order → List ℕ → Bool
-is_resolution order options = option_code order options == 9 && nat_lt 0 (option_length order options)
-
--- the options behind the first one
+-- the bytes behind the first option
 abbrev pub more_options : Order → List ℕ → List ℕ
-more_options order options = drop (4 + padded (option_length order options)) options
+more_options order bytes = drop (4 + padded (option_length order bytes)) bytes
 
--- the byte that the first resolution among so many options gives, and 6 without one
-abbrev pub resolution_among : ℕ → Order → List ℕ → ℕ
-resolution_among zero order options = 6
-resolution_among (suc n) order options =
-    if has_ended order options then 6 else if is_resolution order options then slice_index options 4 else resolution_among n order (more_options order options)
+-- the options end here: no byte is left, or the code is 0
+abbrev pub has_ended : Order → List ℕ → Bool
+has_ended order bytes = length bytes == 0 || not (nat_lt (length bytes) 4) && option_code order bytes == 0
 
--- the byte that these options give; there are no more of them than bytes
-abbrev pub resolution_in : Order → List ℕ → ℕ
-resolution_in order options = resolution_among (length options) order options
+-- the first option is cut: fewer than four bytes are left for it, or its value passes their end
+abbrev pub is_cut : Order → List ℕ → Bool
+is_cut order bytes = nat_lt (length bytes) 4 || nat_lt (length bytes) (4 + option_length order bytes)
+
+-- the options in these bytes, if none of them is cut; there are at most so many
+abbrev pub options_among : ℕ → Order → List ℕ → Option (List Opt)
+options_among zero order bytes = Some []
+options_among (suc n) order bytes =
+    if has_ended order bytes then Some []
+    else if is_cut order bytes then None
+    else option_map (λ more. first_option order bytes ∷ more) (options_among n order (more_options order bytes))
+
+-- the options in these bytes, if none of them is cut; there are no more of them than bytes
+abbrev pub options_in : Order → List ℕ → Option (List Opt)
+options_in order bytes = options_among (length bytes) order bytes
+
+-- ---- options of an interface
+-- the byte of a resolution of stamps (if_tsresol), if it has one
+abbrev pub resolution_of : Opt → Option ℕ
+resolution_of o = if o.code == 9 && nat_lt 0 (length o.value) then Some (slice_index o.value 0) else None
+
+-- the seconds of an offset of stamps (if_tsoffset), as a number without a sign
+abbrev pub offset_of : Order → Opt → Option ℕ
+offset_of order o = if o.code == 14 then Some (double_at order 0 o.value) else None
+
+-- an offset of stamps that has not eight bytes
+abbrev pub is_wrong_offset : Opt → Bool
+is_wrong_offset o = o.code == 14 && not (length o.value == 8)
+
+-- the byte of the first resolution that has one
+abbrev pub resolution_in : List Opt → Option ℕ
+resolution_in [] = None
+resolution_in (o ∷ more) = option_or (resolution_of o) (resolution_in more)
+
+-- the seconds of the first offset
+abbrev pub offset_in : Order → List Opt → Option ℕ
+offset_in order [] = None
+offset_in order (o ∷ more) = option_or (offset_of order o) (offset_in order more)

@@ -1,18 +1,13 @@
-// Whole blocks and their kinds.
+// Whole blocks.
 ghost use Rattle.std.specs.Prelude.{◌≡◌, ◌≤◌, length, IfOk, IfErr, None};
 ghost use Rattle.pcapng_stream.specs.Blocks.{kind_of, last_length};
-ghost use Rattle.pcapng_stream.specs.Flaws.{least_length};
 ghost use Rattle.pcapng_stream.specs.Inside.{FindsBlock, IsWrong, block_of};
 
+use crate::block_kind::{BlockKind, kind_at};
 use crate::bytes::front;
 use crate::flaw::Flaw;
-use crate::head::{is_section, read_head};
+use crate::head::read_head;
 use crate::order::Order;
-
-// The types of blocks that are read, beside that of a section header.
-const INTERFACE_TYPE: u32 = 1;
-
-const PACKET_TYPE: u32 = 6;
 
 // How many bytes the last length takes.
 const LAST_BYTES: usize = 4;
@@ -24,47 +19,13 @@ pub struct WholeBlock<'a> {
     pub bytes: &'a [u8],
 }
 
-/// The kind of a block.
-#[derive(Clone, Copy, Debug, PartialEq, Eq)]
-pub enum BlockKind {
-    /// It begins a section, and tells the order of its bytes.
-    SectionHeader,
-    /// It tells the link type of an interface, and what its times count.
-    InterfaceDescription,
-    /// It has a packet.
-    EnhancedPacket,
-    /// It is skipped.
-    Other,
-}
-
-impl BlockKind {
-    /// The least length of such a block, in bytes.
-    pub(crate) fn least_length(self) -> usize
-        ensures { result ≡ least_length self }
-    {
-        match self {
-            BlockKind::SectionHeader => 28,
-            BlockKind::InterfaceDescription => 20,
-            BlockKind::EnhancedPacket => 32,
-            BlockKind::Other => 12,
-        }
-    }
-}
-
 impl WholeBlock<'_> {
     /// The kind, by the type.
     pub(crate) fn kind(&self) -> BlockKind
         requires { 12 ≤ length self.now.bytes.now }
         ensures { result ≡ kind_of (block_of self.now) }
     {
-        if is_section(self.bytes) {
-            return BlockKind::SectionHeader;
-        }
-        match self.order.word_at(self.bytes, 0) {
-            INTERFACE_TYPE => BlockKind::InterfaceDescription,
-            PACKET_TYPE => BlockKind::EnhancedPacket,
-            _ => BlockKind::Other,
-        }
+        kind_at(self.order, self.bytes)
     }
 
     /// The length that stands at its end.

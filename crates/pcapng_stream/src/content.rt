@@ -1,16 +1,17 @@
 // What a block gives: a section, an interface, a packet or nothing.
 ghost use Rattle.std.specs.Prelude.{◌≡◌, ◌≤◌, [], ◌∷◌, length, None, IfErr, OnOk};
 ghost use Rattle.pcap_stream.specs.Feeding.{Adds};
-ghost use Rattle.pcapng_stream.specs.declared.block.BlockKind.TheVariants.{SectionHeader, InterfaceDescription};
+ghost use Rattle.pcapng_stream.specs.declared.block_kind.BlockKind.TheVariants.{SectionHeader, InterfaceDescription};
 ghost use Rattle.pcapng_stream.specs.Blocks.{interface_of, kind_of, packet_of, section_by};
 ghost use Rattle.pcapng_stream.specs.Flaws.{first_flaw, packet_checks, kind_checks, least_length, length_checks, flaw_in};
 ghost use Rattle.pcapng_stream.specs.Inside.{IsTaken, IsFaultOf, block_of, section_of};
 
 use crate::CaptureError;
-use crate::block::{BlockKind, WholeBlock};
+use crate::block::WholeBlock;
+use crate::block_kind::BlockKind;
 use crate::bytes::{behind, front};
 use crate::flaw::Flaw;
-use crate::options::resolution_in;
+use crate::options::read_options;
 use crate::packet::read_packet;
 use crate::section::{Interface, OpenSection};
 use pcap_stream::FirstPackets;
@@ -28,6 +29,9 @@ const OPTIONS_PLACE: usize = 16;
 
 // The bytes of an interface beside its options.
 const OTHER_BYTES: usize = 20;
+
+// The resolution of an interface that tells none: microseconds.
+const MICROSECONDS: u8 = 6;
 
 // How many interfaces a section may have.
 const MOST_INTERFACES: usize = 65536;
@@ -67,8 +71,8 @@ fn begin_section(
     Ok(())
 }
 
-// The interface that a block describes.
-fn interface_of(block: &WholeBlock<'_>) -> Interface
+// The interface that a block describes, and `None` where its options are malformed.
+fn interface_of(block: &WholeBlock<'_>) -> Option<Interface>
     requires { 20 ≤ length block.now.bytes.now }
     ensures { result ≡ interface_of (block_of block.now) }
 {
@@ -76,10 +80,14 @@ fn interface_of(block: &WholeBlock<'_>) -> Interface
         behind(block.bytes, OPTIONS_PLACE),
         block.bytes.len() - OTHER_BYTES,
     );
-    Interface {
+    let Some(said) = read_options(block.order, options) else {
+        return None;
+    };
+    Some(Interface {
         link: block.order.half_at(block.bytes, LINK_PLACE),
-        resolution: resolution_in(block.order, options),
-    }
+        resolution: said.resolution.unwrap_or(MICROSECONDS),
+        offset: said.offset.unwrap_or(0).cast_signed(),
+    })
 }
 
 // Adds the interface that a block describes.
@@ -93,10 +101,13 @@ fn add_interface(
     ensures taken { OnOk result (section_of section.new ≡ section_by InterfaceDescription (section_of section.old) (block_of block.now)) }
     ensures fault { IfErr result (λ e. IsFaultOf (first_flaw (kind_checks InterfaceDescription (section_of section.old) (block_of block.now))) place e) }
 {
+    let Some(interface) = interface_of(block) else {
+        return Err(Flaw::Malformed.at(place));
+    };
     if section.interfaces.len() >= MOST_INTERFACES {
         return Err(Flaw::Malformed.at(place));
     }
-    section.interfaces.push(interface_of(block))?;
+    section.interfaces.push(interface)?;
     Ok(())
 }
 

@@ -20,9 +20,10 @@ pub enum CaptureError {
     #[error("a packet of more than 262144 bytes at byte {0}")]
     Length(u32),
     /// The block at this place, in bytes from the start of the capture, is malformed: its length is under 12, no multiple
-    /// of four or over 2^24, differs from that at its end, or is too small for its kind; it is a section header with
-    /// another byte-order magic, or the 65,537th interface of its section; or it is a packet of an interface that its
-    /// section has not, whose bytes pass the block, or whose stamp is 2^62 ns or more.
+    /// of four, or over 2^24 in a section header, an interface description or an enhanced packet, differs from that at its
+    /// end, or is too small for its kind; it is a section header with another byte-order magic; it is an interface whose
+    /// options are cut or have an offset of other than eight bytes, or the 65,537th of its section; or it is a packet of an
+    /// interface that its section has not, whose bytes pass the block, or whose stamp is below 0 or is 2^62 ns or more.
     #[error("a malformed block at byte {0}")]
     Block(u32),
     /// Memory ran out.

@@ -7,7 +7,7 @@ use crate::CaptureError;
 /// What is wrong with a block.
 #[derive(Clone, Copy, Debug, PartialEq, Eq)]
 pub enum Flaw {
-    /// Its lengths, its magic number, its interface or its stamp cannot be.
+    /// Its lengths, its magic number, its options, its interface or its stamp cannot be.
     Malformed,
     /// A section header of another major version than 1.
     OtherVersion,

@@ -1,16 +1,14 @@
 // How a block begins: its type and its length, and of a section header the magic number that tells the order of bytes.
-ghost use Rattle.std.specs.Prelude.{◌≡◌, ◌≤◌, ◌||◌, true, false, length, IfOk, IfErr, OnOk, IsTrue, ◌↔◌};
+ghost use Rattle.std.specs.Prelude.{◌≡◌, ◌≤◌, ◌||◌, true, false, length, IfOk, IfErr, OnOk, OnSome, IsTrue, ◌↔◌};
 ghost use Rattle.pcapng_stream.specs.declared.flaw.Flaw.TheVariants.{Malformed};
 ghost use Rattle.pcapng_stream.specs.Blocks.{is_section, magic_order, order_of, head_by, head_of};
 ghost use Rattle.pcapng_stream.specs.Flaws.{lacks_order, is_wrong_size, begins_wrong};
 ghost use Rattle.pcapng_stream.specs.Pcapng.{BeginsSection};
 
+use crate::block_kind::{BlockKind, SECTION_TYPE, is_section, kind_at};
 use crate::bytes::front;
 use crate::flaw::Flaw;
 use crate::order::Order;
-
-// The type of a section header, as it is written in either order.
-const SECTION_TYPE: [u8; 4] = [0x0a, 0x0d, 0x0d, 0x0a];
 
 // What a section header has at byte 8.
 const BYTE_ORDER_MAGIC: u32 = 0x1a2b_3c4d;
@@ -25,7 +23,7 @@ const LENGTH_END: usize = 8;
 
 const LENGTH_PLACE: usize = 4;
 
-// The length of a block without contents, and of the longest one.
+// The length of a block without contents, and of the longest one that is read.
 const LEAST_LENGTH: u32 = 12;
 
 const MOST_LENGTH: u32 = 1 << 24;
@@ -43,13 +41,6 @@ pub(crate) fn begins_section(bytes: &[u8]) -> bool
     ensures { IsTrue result ↔ BeginsSection bytes.now }
 {
     SECTION_TYPE.starts_with(front(bytes, SECTION_TYPE.len()))
-}
-
-/// Whether a section header begins these bytes.
-pub(crate) fn is_section(bytes: &[u8]) -> bool
-    ensures { result ≡ is_section bytes.now }
-{
-    bytes.starts_with(&SECTION_TYPE)
 }
 
 // The order in which the magic number reads as it should, if it does in one.
@@ -87,7 +78,8 @@ fn order_of(present: Option<Order>, begin: &[u8]) -> Result<Option<Order>, Flaw>
 
 // The order and the length, where both are there.
 fn head_by(order: Option<Order>, begin: &[u8]) -> Option<Head>
-    ensures { result ≡ head_by order begin.now }
+    ensures head { result ≡ head_by order begin.now }
+    ensures long { OnSome result (8 ≤ length begin.now) }
 {
     let Some(order) = order else {
         return None;
@@ -99,10 +91,10 @@ fn head_by(order: Option<Order>, begin: &[u8]) -> Option<Head>
     Some(Head { order, size })
 }
 
-fn is_wrong_size(size: u32) -> bool
-    ensures { result ≡ is_wrong_size size }
+fn is_wrong_size(kind: BlockKind, size: u32) -> bool
+    ensures { result ≡ is_wrong_size kind size }
 {
-    size < LEAST_LENGTH || size % 4 != 0 || size > MOST_LENGTH
+    size < LEAST_LENGTH || size % 4 != 0 || kind.is_read() && size > MOST_LENGTH
 }
 
 /// The head of the block that begins these bytes behind blocks of this order, or `None` where it is not there yet.
@@ -117,7 +109,7 @@ pub(crate) fn read_head(present: Option<Order>, bytes: &[u8]) -> Result<Option<H
     let Some(head) = head_by(order, begin) else {
         return Ok(None);
     };
-    if is_wrong_size(head.size) {
+    if is_wrong_size(kind_at(head.order, begin), head.size) {
         return Err(Flaw::Malformed);
     }
     Ok(Some(head))

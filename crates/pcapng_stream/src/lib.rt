@@ -2,6 +2,7 @@
 #![tactic(auto)]
 
 mod block;
+mod block_kind;
 mod block_stream;
 mod bytes;
 mod content;

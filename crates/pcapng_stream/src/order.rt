@@ -1,6 +1,6 @@
 // The order of the bytes of a number.
 ghost use Rattle.std.specs.Prelude.{◌≡◌, ◌+◌, ◌≤◌, length};
-ghost use Rattle.pcapng_stream.specs.Numbers.{half_at, word_at};
+ghost use Rattle.pcapng_stream.specs.Numbers.{double_at, half_at, word_at};
 
 use crate::bytes::behind;
 use byteorder::{BigEndian, ByteOrder, LittleEndian};
@@ -34,6 +34,17 @@ impl Order {
         match self {
             Order::Big => BigEndian::read_u32(behind(bytes, place)),
             Order::Little => LittleEndian::read_u32(behind(bytes, place)),
+        }
+    }
+
+    /// The number in the eight bytes from a place on.
+    pub(crate) fn double_at(self, bytes: &[u8], place: usize) -> u64
+        requires { place + 8 ≤ length bytes.now }
+        ensures { result ≡ double_at self place bytes.now }
+    {
+        match self {
+            Order::Big => BigEndian::read_u64(behind(bytes, place)),
+            Order::Little => LittleEndian::read_u64(behind(bytes, place)),
         }
     }
 }

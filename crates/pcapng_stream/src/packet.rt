@@ -1,6 +1,6 @@
 // Packets in blocks.
-ghost use Rattle.std.specs.Prelude.{◌≡◌, ◌≤◌, ◌<◌, ◌^◌, true, false, nat_lt, length, Some, None, IfSome, IfNone, IfOk, IfErr, OnOk, SomeIff};
-ghost use Rattle.pcapng_stream.specs.Blocks.{interface_number, interface_for, time_of, nanos, packet_of};
+ghost use Rattle.std.specs.Prelude.{◌≡◌, ◌≤◌, ◌<◌, ◌*◌, ◌^◌, true, false, nat_lt, length, pos, ◌+ℤ◌, ◌*ℤ◌, unsigned_abs, Some, None, IfSome, IfNone, IfOk, IfErr, OnOk, SomeIff};
+ghost use Rattle.pcapng_stream.specs.Blocks.{interface_number, interface_for, time_of, nanos, stamp_on, is_stamp, packet_of};
 ghost use Rattle.pcap_stream.specs.Feeding.{seen_packet};
 ghost use Rattle.pcapng_stream.specs.Flaws.{first_flaw, packet_checks};
 ghost use Rattle.pcapng_stream.specs.Inside.{block_of, section_of, seen_captured};
@@ -46,7 +46,8 @@ const VANISHING: u8 = 29;
 
 // A time of so many parts of a second in ns, rounded down.
 fn nanos(resolution: u8, time: u64) -> u128
-    ensures { result ≡ nanos resolution time }
+    ensures value { result ≡ nanos resolution time }
+    ensures small { result ≤ time * 1000000000 }
 {
     let billionths = u128::from(time) * NANOS_A_SECOND;
     if resolution >= BINARY {
@@ -89,17 +90,31 @@ fn time_of(block: &WholeBlock<'_>) -> u64
     u64::from(high) * HALF_TIMES + u64::from(low)
 }
 
-// The stamp, and `None` exactly from 2^62 ns on.
-fn stamp_by(resolution: u8, block: &WholeBlock<'_>) -> Option<Nano>
-    requires { 32 ≤ length block.now.bytes.now }
-    ensures { SomeIff result (nanos resolution (time_of (block_of block.now)) < 2 ^ 62) (nanos resolution (time_of (block_of block.now))) }
+// So many ns and so many seconds, in ns.
+fn with_seconds(nanos: u128, seconds: i64) -> i128
+    requires { nanos < 2 ^ 94 }
+    ensures { result ≡ pos nanos +ℤ seconds *ℤ pos 1000000000 }
 {
-    let nanos = nanos(resolution, time_of(block));
-    if nanos < 1 << 62 {
-        Nano::new(nanos as u64)
-    } else {
-        None
+    nanos as i128 + i128::from(seconds) * 1_000_000_000
+}
+
+// The stamp of so many ns, and `None` exactly where they are below 0, or from 2^62 on.
+fn stamp_at(nanos: i128) -> Option<Nano>
+    ensures { SomeIff result (is_stamp nanos ≡ true) (unsigned_abs nanos) }
+{
+    if nanos < 0 || nanos >= 1 << 62 {
+        return None;
     }
+    Nano::new(nanos as u64)
+}
+
+// The stamp of a packet on this interface, if it is one.
+fn stamp_on(interface: &Interface, block: &WholeBlock<'_>) -> Option<Nano>
+    requires { 32 ≤ length block.now.bytes.now }
+    ensures { SomeIff result (is_stamp (stamp_on interface.now (block_of block.now)) ≡ true) (unsigned_abs (stamp_on interface.now (block_of block.now))) }
+{
+    let nanos = nanos(interface.resolution, time_of(block));
+    stamp_at(with_seconds(nanos, interface.offset))
 }
 
 // The interface of a packet, and `None` where its section has no such one.
@@ -136,7 +151,7 @@ pub(crate) fn read_packet<'a>(
     if block.bytes.len() < OTHER_BYTES + padded(captured as usize) {
         return Err(Flaw::Malformed);
     }
-    let Some(stamp) = stamp_by(interface.resolution, block) else {
+    let Some(stamp) = stamp_on(&interface, block) else {
         return Err(Flaw::Malformed);
     };
     Ok(Captured {

@@ -8,6 +8,8 @@ pub struct Interface {
     pub link: u16,
     /// What their times count: 10^-n s, or 2^-n s where the upper bit is set, n being the other bits.
     pub resolution: u8,
+    /// What is added to each of their stamps, in seconds.
+    pub offset: i64,
 }
 
 /// The section that is being read.

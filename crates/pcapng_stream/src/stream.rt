@@ -31,8 +31,8 @@ enum Kind {
 /// piece may end anywhere.
 ///
 /// Of pcapng (draft-ietf-opsawg-pcapng, PCAP Next Generation Capture File Format) section headers of major version 1,
-/// interface descriptions with the option if_tsresol, and enhanced packets are read. All other options are ignored, time
-/// offsets among them, and all other blocks are skipped: simple packets have no time.
+/// interface descriptions with the options if_tsresol and if_tsoffset, and enhanced packets are read. All other options are
+/// ignored, and all other blocks are skipped: simple packets have no time.
 #[derive(Drop)]
 pub struct CaptureStream {
     alloc: Global,

@@ -12,8 +12,8 @@ nonzero_div-result c =
     let same : c.pow.result ≡ 10 ^ c.from.result = search rules in
     rw same (ten_positive c.from.result)
 
-pub returns-else-resolution-lt-VANISHING : goal.returns-else-resolution-lt-VANISHING
-returns-else-resolution-lt-VANISHING c =
+pub returns-else-resolution-lt-VANISHING-clause-value : goal.returns-else-resolution-lt-VANISHING-clause-value
+returns-else-resolution-lt-VANISHING-clause-value c =
     let small : c.args.resolution < 128 = omega (arith, c.if-resolution-ge-BINARY.false) in
     let many : 29 ≤ c.args.resolution = omega (arith, c.if-resolution-lt-VANISHING.false) in
     let fits : c.args.time < 2 ^ 64 = c.ranges.time.fits in
