@@ -1,16 +1,11 @@
 // Sections, stamps, and blocks that are skipped.
-use crate::fixtures::{CAPTURE, is_packet, read_joined};
+use crate::fixtures::{BIG_SECTION, CAPTURE, is_packet, read_joined};
 use pcap_stream::Packet;
 use pcapng_stream::CaptureError;
 use std::alloc::Global;
 use std::test::*;
 
-// A section header, an interface of link type 113 and a packet of one byte at 5 us, all big-endian.
-const BIG_SECTION: [u8; 28] = [
-    0x0a, 0x0d, 0x0d, 0x0a, 0, 0, 0, 28, 0x1a, 0x2b, 0x3c, 0x4d, 0, 1, 0, 0, //
-    0xff, 0xff, 0xff, 0xff, 0xff, 0xff, 0xff, 0xff, 0, 0, 0, 28,
-];
-
+// An interface of link type 113 and a packet of one byte at 5 us, both big-endian.
 const BIG_INTERFACE: [u8; 20] = [
     0, 0, 0, 1, 0, 0, 0, 20, 0, 113, 0, 0, 0, 4, 0, 0, 0, 0, 0, 20,
 ];

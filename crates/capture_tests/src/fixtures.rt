@@ -17,6 +17,12 @@ pub(crate) const CAPTURE: [u8; 180] = [
     0x88, 0, 8, 0, 0, 60, 0, 0, 0, // 10.0.0.2:6000 to 10.0.0.1:5000
 ];
 
+// A big-endian section header.
+pub(crate) const BIG_SECTION: [u8; 28] = [
+    0x0a, 0x0d, 0x0d, 0x0a, 0, 0, 0, 28, 0x1a, 0x2b, 0x3c, 0x4d, 0, 1, 0, 0, //
+    0xff, 0xff, 0xff, 0xff, 0xff, 0xff, 0xff, 0xff, 0, 0, 0, 28,
+];
+
 // The pieces of a capture, one after the other.
 fn joined(alloc: Global, pieces: &[&[u8]]) -> Result<Vec<u8>, CaptureError> {
     let mut bytes = Vec::new(alloc);

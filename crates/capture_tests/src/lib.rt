@@ -1,10 +1,10 @@
 //! Tests of captures and of what packets are known by, by public calls.
 //!
-//! `cuts` has captures that are cut anywhere; `blocks` sections, stamps, and blocks that are skipped; `faults` captures
-//! that are refused; `limits` captures with more packets than are wanted (`pcapng_stream`); `wide_keys` frames of IPv6
-//! or behind a Linux cooked header (`wide_headers`); `merged_captures` packets that are arranged, written and read
-//! again, those that are refused, and one whose writing fails (`mergecap`). `fixtures` and `merge_fixtures` have what
-//! several of them use.
+//! `cuts` has captures that are cut anywhere; `blocks` sections, stamps, and blocks that are skipped; `interfaces` offsets of
+//! stamps and options that are malformed; `long_blocks` blocks of more than 2^24 bytes; `faults` captures that are refused;
+//! `limits` captures with more packets than are wanted (`pcapng_stream`); `wide_keys` frames of IPv6 or behind a Linux
+//! cooked header (`wide_headers`); `merged_captures` packets that are arranged, written and read again, those that are
+//! refused, and one whose writing fails (`mergecap`). `fixtures` and `merge_fixtures` have what several of them use.
 #![tactic(auto)]
 
 #[cfg(test)]
@@ -16,7 +16,11 @@ mod faults;
 #[cfg(test)]
 mod fixtures;
 #[cfg(test)]
+mod interfaces;
+#[cfg(test)]
 mod limits;
+#[cfg(test)]
+mod long_blocks;
 #[cfg(test)]
 mod merge_fixtures;
 #[cfg(test)]
