@@ -154,7 +154,7 @@ fn cuts_between_blocks(rt: HostRuntime) {
 }
 
 // Bytes that are altered, each at its place, and the replies to `add` and to `problem`.
-const ALTERED: [(&[(usize, u8)], &str, &str); 6] = [
+const ALTERED: [(&[(usize, u8)], &str, &str); 8] = [
     // Microseconds: 5 of them.
     (
         &[(48, 6), (76, 5)],
@@ -173,7 +173,15 @@ const ALTERED: [(&[(usize, u8)], &str, &str); 6] = [
         TWO_EVENTS,
         "problem 1\nclock a 0 0 0 0\nclock b 0 0 0 0\nevent a#1 a 976562\nevent a#2 a 175781250\nend\n",
     ),
-    // A block of 13 bytes, a section of another version, and a packet of too many bytes.
+    // Microseconds, and 9 s are added to them.
+    (
+        &[(44, 14), (46, 8)],
+        TWO_EVENTS,
+        "problem 1\nclock a 0 0 0 0\nclock b 0 0 0 0\nevent a#1 a 9000100000\nevent a#2 a 9000180000\nend\n",
+    ),
+    // An option that passes the end of its block, a block of 13 bytes, a section of another version, and a packet of too many
+    // bytes.
+    (&[(46, 9)], "refused 31 28\n", NO_PROBLEM),
     (&[(32, 13)], "refused 31 28\n", NO_PROBLEM),
     (&[(12, 2)], "refused 24 2\n", NO_PROBLEM),
     (&[(82, 5)], "refused 25 60\n", NO_PROBLEM),
