@@ -14,8 +14,9 @@ MAGICS = {
 SECTION, ORDERS = b"\x0a\x0d\x0d\x0a", {b"\x1a\x2b\x3c\x4d": ">", b"\x4d\x3c\x2b\x1a": "<"}
 INTERFACE, PACKET = 1, 6
 CAPTURED_MOST = 262_144
-# Options of pcapng: of an interface its name, its addresses and what its times count, and of a packet its direction.
-NAME, ADDRESS4, ADDRESS6, RESOLUTION, FLAGS = 2, 4, 5, 9, 2
+# Options of pcapng: of an interface its name, its addresses, what its times count and the seconds that are added to them, and of a packet
+# its direction.
+NAME, ADDRESS4, ADDRESS6, RESOLUTION, OFFSET, FLAGS = 2, 4, 5, 9, 14, 2
 
 
 @dataclass(slots=True)
@@ -122,7 +123,9 @@ class Blocks:
         options = self.options(block, 16)
         count = options.get(RESOLUTION, b"\x06")[:1] or b"\x06"
         per_second = 2 ** (count[0] & 127) if count[0] & 128 else 10 ** count[0]
-        self.interfaces.append((struct.unpack_from(f"{self.order}H", block, 8)[0], per_second))
+        offset = options.get(OFFSET, b"")
+        seconds = struct.unpack(f"{self.order}q", offset)[0] if len(offset) == 8 else 0
+        self.interfaces.append((struct.unpack_from(f"{self.order}H", block, 8)[0], per_second, seconds))
         self.found.interfaces.append(options.get(NAME, b"").decode(errors="replace"))
         # (the coarsest of all interfaces)
         self.found.unit = max(self.found.unit, -(-(10**9) // per_second))
@@ -133,8 +136,8 @@ class Blocks:
         if number >= len(self.interfaces) or captured > len(block) - 28:
             self.found.odd.append(f"the packet at byte {self.at} is malformed")
             return
-        link, per_second = self.interfaces[number]
+        link, per_second, seconds = self.interfaces[number]
         flags = self.options(block, 28 + (captured + 3) // 4 * 4).get(FLAGS, b"")
         direction = struct.unpack(f"{self.order}I", flags)[0] & 3 if len(flags) == 4 else 0
-        stamp = ((high << 32) + low) * 10**9 // per_second
+        stamp = ((high << 32) + low) * 10**9 // per_second + seconds * 10**9
         self.found.packets.append(Packet(stamp, link, block[28 : 28 + captured], {1: False, 2: True}.get(direction)))
