@@ -4,3 +4,4 @@ pub mod Conducting
 pub mod OneText
 pub mod Completing
 mod MergedScripts
+mod Wholes

@@ -3,3 +3,4 @@ pub mod Trials
 pub mod Sessions
 pub mod Complete
 pub mod MergedCapture
+pub mod Runs

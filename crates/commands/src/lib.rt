@@ -1,5 +1,5 @@
 //! The commands of the program: `run` does what the words on its command line say, over whatever files, input and
-//! output it is given.
+//! output it is given, and `run_to_end` does so over an output that it passes on to its end.
 #![tactic(auto)]
 
 mod declaration;
@@ -9,5 +9,7 @@ mod merged;
 mod program;
 mod sessions;
 mod trials;
+mod whole;
 
 pub use program::run;
+pub use whole::run_to_end;

@@ -2,8 +2,8 @@
 //! certificates, and answers questions about event logs and packet captures.
 #![tactic(auto)]
 
-use commands::run;
-use ports::{DiskFiles, Gathering, Sink, StdSink, StdSource, Words};
+use commands::run_to_end;
+use ports::{DiskFiles, StdSink, StdSource, Words};
 use problem_commands::Status;
 use std::io::ErrorKind;
 use std::process::ExitCode;
@@ -18,26 +18,12 @@ fn words_of(rt: &HostRuntime) -> io::Result<Words> {
     Ok(words)
 }
 
-// Whether the command is `session DECL`, whose replies are waited for one by one.
-fn is_session(words: &Words) -> bool {
-    words.len() == 2 && words.word(0) == "session"
-}
-
-// Runs the command over the files and the standard input.
-fn run_into<O: Sink>(rt: &HostRuntime, words: &Words, out: &mut O) -> Status {
+// Runs the command over the files, the standard input and the standard output.
+fn run_over_host(rt: &HostRuntime, words: &Words) -> Status {
     let mut files = DiskFiles::new(rt.alloc(), rt);
     let mut input = StdSource::new(rt.reader());
-    run(rt.alloc(), words, &mut files, &mut input, out)
-}
-
-// Runs the command, and passes on at its end what is held of its output.
-fn run_gathered<O: Sink + Drop>(rt: &HostRuntime, words: &Words, out: O) -> Status {
-    let mut gathering = Gathering::new(rt.alloc(), out);
-    let status = run_into(rt, words, &mut gathering);
-    match gathering.finish() {
-        (_, Ok(())) => status,
-        (_, Err(_)) => Status::WriteFault,
-    }
+    let out = StdSink::new(io::writer(rt));
+    run_to_end(rt.alloc(), words, &mut files, &mut input, out).1
 }
 
 fn main(rt: HostRuntime) -> ExitCode {
@@ -49,11 +35,5 @@ fn main(rt: HostRuntime) -> ExitCode {
         }
         Err(_) => Words::new(rt.alloc()),
     };
-    let mut out = StdSink::new(io::writer(&rt));
-    let status = if is_session(&words) {
-        run_into(&rt, &words, &mut out)
-    } else {
-        run_gathered(&rt, &words, out)
-    };
-    ExitCode::from(status.code())
+    ExitCode::from(run_over_host(&rt, &words).code())
 }

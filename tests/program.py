@@ -1,0 +1,399 @@
+#!/usr/bin/env python3
+"""Runs the built program as a process, and compares its status and what it prints. The gate runs it behind the proofs.
+
+usage: tests/program.py [WORD]
+
+What no contract can say is looked at here: that the exit status is that of the run, for each status from 0 to 12; that a session answers
+a line before it reads the next one; that files, input and output are read and written whole where the host gives or takes a part at a time,
+interrupts, or fails; and that sizes just above the small ones of other tests do not end in want of memory. With WORD only cases whose names
+have it are run. PROGRAM names another program than crates/tracesync/out/tracesync.
+
+Reads and writes fail or are cut by a library of faults.c, which is built here with cc and loaded before the C library.
+"""
+
+from __future__ import annotations
+
+import argparse
+import os
+import resource
+import select
+import struct
+import subprocess
+import sys
+import tempfile
+import threading
+from collections.abc import Callable, Iterable
+from dataclasses import dataclass, field
+
+TOP = os.path.dirname(os.path.dirname(os.path.abspath(__file__)))
+PROGRAM = os.environ.get("PROGRAM", f"{TOP}/crates/tracesync/out/tracesync")
+SECONDS = 60
+
+HOSTS = """[hosts.a]
+[hosts.b]
+[labels.a]
+host = "a"
+kind = "log"
+[labels.b]
+host = "b"
+kind = "log"
+[[links]]
+from = "a"
+to = "b"
+least = 10
+most = 20
+[[links]]
+from = "b"
+to = "a"
+least = 10
+most = 20
+"""
+A_LOG, B_LOG = "100,send,m1,\n180,receive,m2,\n", "250,receive,m1,\n300,send,m2,\n"
+PROBLEM = """problem 1
+clock a 0 0 0 0
+clock b 0 0 0 0
+event a#1 a 100
+event a#2 a 180
+event b#1 b 250
+event b#2 b 300
+message a#1 b#1 10 20
+message b#2 a#2 10 20
+end
+"""
+ADDS = "add a a.csv\nadd b b.csv\n"
+ADDED = "added events 2 messages 0 withdrawn 0 pending 0 consistent\nadded events 2 messages 2 withdrawn 0 pending 0 consistent\n"
+BETWEEN = "interval 10.000000000 20.000000000\n"
+
+
+@dataclass
+class Ran:
+    """How a run ended."""
+
+    status: int
+    out: bytes
+
+
+@dataclass
+class Failed(Exception):
+    """What a case found."""
+
+    why: str
+
+
+@dataclass
+class Room:
+    """A folder with the files of a case, and the runs in it."""
+
+    folder: str
+    shim: str
+    environment: dict[str, str] = field(default_factory=dict)
+
+    def write(self, name: str, data: str | bytes) -> str:
+        with open(f"{self.folder}/{name}", "wb") as it:
+            it.write(data.encode() if isinstance(data, str) else data)
+        return name
+
+    def run(self, words: Iterable[str], script: str | bytes = b"", memory: int = 0, **faults: int) -> Ran:
+        """Runs the program; `memory` bounds its address space, `faults` are the variables of faults.c."""
+        said = {f"FAULT_{name.upper()}": str(n) for name, n in faults.items()}
+        more = {**os.environ, **said, **({"LD_PRELOAD": self.shim} if said else {})}
+        limit = (lambda: resource.setrlimit(resource.RLIMIT_AS, (memory, memory))) if memory else None
+        data = script.encode() if isinstance(script, str) else script
+        done = subprocess.run([PROGRAM, *words], input=data, capture_output=True, cwd=self.folder, env=more, timeout=SECONDS, preexec_fn=limit)
+        if done.stderr:
+            raise Failed(f"the standard error has {done.stderr[:200]!r}")
+        return Ran(done.returncode, done.stdout)
+
+
+def agree(found: Ran, status: int, out: str | bytes) -> None:
+    """Raises where a run did not end and print so."""
+    want = out.encode() if isinstance(out, str) else out
+    if found.status != status:
+        raise Failed(f"status {found.status}, not {status}; it printed {found.out[:200]!r}")
+    if found.out != want:
+        at = next((k for k, (x, y) in enumerate(zip(found.out, want)) if x != y), min(len(found.out), len(want)))
+        raise Failed(f"{len(found.out)} bytes, not {len(want)}; from byte {at} on {found.out[at:at + 80]!r}, not {want[at:at + 80]!r}")
+
+
+VALUES = """event a#1 0.000000000
+event a#2 80.000000000
+event b#1 10.000000000
+event b#2 60.000000000
+reading a 100 0.000000000
+reading a 180 80.000000000
+reading b 250 10.000000000
+reading b 300 60.000000000
+end
+"""
+SOLVED, EXECUTION = f"certificate 1\nrun\n{VALUES}", f"execution 1\n{VALUES}"
+BROKEN = EXECUTION.replace("b#1 10.", "b#1 21.").replace("250 10.", "250 21.").replace("b#2 60.", "b#2 71.").replace("300 60.", "300 71.")
+USAGE = (
+    "usage: tracesync obey PROBLEM EXEC | solve PROBLEM | ends PROBLEM P Q | verify PROBLEM CERT | session DECL | trial N"
+    " | widen PROBLEM | judge PROBLEM WIDENING | mergecap DECL\n"
+)
+EMPTY_CAPTURE = struct.pack("<IHHIIII", 0xA1B23C4D, 2, 4, 0, 0, 262144, 1)
+
+
+def logs(room: Room) -> None:
+    """The files of two logs, of their problem, and of texts about it."""
+    texts = {
+        "hosts.toml": HOSTS, "a.csv": A_LOG, "b.csv": B_LOG, "problem.txt": PROBLEM, "solved.txt": SOLVED, "execution.txt": EXECUTION,
+        "broken.txt": BROKEN, "cut.txt": EXECUTION.replace("reading b 300 60.000000000\n", ""), "bad.toml": "hosts = ", "empty.txt": "",
+    }
+    for name, text in texts.items():
+        room.write(name, text)
+
+
+# ---- the exit status
+
+
+def statuses(room: Room) -> None:
+    """Each status that words, files and input bring a run to, with all that it prints."""
+    logs(room)
+    rows: list[tuple[int, list[str], str, str | bytes]] = [
+        (0, ["session", "hosts.toml"], ADDS + "interval a#1 b#1\n", ADDED + BETWEEN),
+        (0, ["solve", "problem.txt"], "", SOLVED),
+        (0, ["obey", "problem.txt", "execution.txt"], "", "obeys\n"),
+        (0, ["ends", "problem.txt", "a#1", "b#1"], "", "10.000000000 20.000000000\nbefore\n"),
+        (0, ["verify", "problem.txt", "solved.txt"], "", "yes\n"),
+        (0, ["mergecap", "hosts.toml"], "", EMPTY_CAPTURE),
+        (1, ["obey", "problem.txt", "broken.txt"], "", "broken delay-most a#1 b#1 20.000000000 21.000000000\n"),
+        (2, [], "", USAGE),
+        (2, ["session"], ADDS, USAGE),
+        (3, ["session", "bad.toml"], ADDS, "declaration 1 top 0\n"),
+        (3, ["session", "/dev/zero"], "", "declaration 8 top 0\n"),
+        (4, ["solve", "empty.txt"], "", "problem 1 1\n"),
+        (5, ["obey", "problem.txt", "cut.txt"], "", "execution 1 9\n"),
+        (6, ["verify", "problem.txt", "empty.txt"], "", "certificate 1 1\n"),
+        (7, ["solve", "absent.txt"], "", "read fault\n"),
+        (7, ["session", "absent.toml"], "", "read fault\n"),
+        (11, ["ends", "problem.txt", "a#1", "c#1"], "", "event\n"),
+        (12, ["mergecap", "hosts.toml"], "merge\n", "refused 20\n"),
+    ]
+    for status, words, script, out in rows:
+        try:
+            agree(room.run(words, script, memory=1 << 30), status, out)
+        except Failed as found:
+            raise Failed(f"{' '.join(words) or 'no words'}: {found.why}") from found
+
+
+def full_outputs(room: Room) -> None:
+    """Status 8 where the output cannot be written, whichever command it is."""
+    logs(room)
+    for words in (["solve", "problem.txt"], ["session", "hosts.toml"], ["mergecap", "hosts.toml"], ["trial", "7"], []):
+        with open("/dev/full", "wb") as full:
+            done = subprocess.run([PROGRAM, *words], input=b"", stdout=full, cwd=room.folder, timeout=SECONDS)
+        # (a session without a line prints nothing, and so loses nothing)
+        want = 0 if words[:1] == ["session"] else 8
+        if done.returncode != want:
+            raise Failed(f"{' '.join(words) or 'no words'}: status {done.returncode}, not {want}")
+
+
+def little_memory(room: Room) -> None:
+    """Status 9 where memory runs out in a session, behind whole replies."""
+    logs(room)
+    room.write("many.csv", "".join(f"{n},local,,\n" for n in range(40_000)))
+    found = room.run(["session", "hosts.toml"], ADDS + "add a many.csv\n", memory=12 << 20)
+    agree(found, 9, ADDED)
+
+
+def long_script(room: Room) -> None:
+    """Status 10 for a script of one byte more than 2^30, behind the replies to all whole lines."""
+    logs(room)
+    line = b"x" * ((1 << 20) - 1) + b"\n"
+    with subprocess.Popen([PROGRAM, "session", "hosts.toml"], stdin=subprocess.PIPE, stdout=subprocess.PIPE, cwd=room.folder) as ran:
+        def feed() -> None:
+            for _ in range(1024):
+                ran.stdin.write(line)
+            ran.stdin.write(b"x")
+            ran.stdin.close()
+
+        feeder = threading.Thread(target=feed)
+        feeder.start()
+        out = ran.stdout.read()
+        feeder.join()
+        status = ran.wait(SECONDS)
+    agree(Ran(status, out), 10, "refused 20\n" * 1024 + "script limit\n")
+
+
+# ---- a session answers line by line
+
+
+def replies_at_once(room: Room) -> None:
+    """The reply to a line comes before the next line is given."""
+    logs(room)
+    asked = [("add a a.csv", ADDED.splitlines()[0]), ("add b b.csv", ADDED.splitlines()[1]), ("interval a#1 b#1", BETWEEN.strip()), ("x", "refused 20")]
+    with subprocess.Popen([PROGRAM, "session", "hosts.toml"], stdin=subprocess.PIPE, stdout=subprocess.PIPE, cwd=room.folder) as ran:
+        try:
+            for line, want in asked:
+                os.write(ran.stdin.fileno(), f"{line}\n".encode())
+                if not select.select([ran.stdout], [], [], 10)[0]:
+                    raise Failed(f"no reply to {line} within ten seconds")
+                found = os.read(ran.stdout.fileno(), 65536)
+                if found != f"{want}\n".encode():
+                    raise Failed(f"{line}: {found!r}, not {want}")
+        finally:
+            ran.stdin.close()
+            ran.kill() if ran.poll() is None and ran.stdin.closed is False else ran.wait(SECONDS)
+
+
+# ---- files, input and output
+
+
+def long_log(count: int) -> str:
+    return "".join(f"{n * 10},local,,\n" for n in range(1, count + 1))
+
+
+def added(count: int) -> str:
+    return f"added events {count} messages 0 withdrawn 0 pending 0 consistent\n"
+
+
+def long_inputs(room: Room) -> None:
+    """A file of over 1 MiB and a script of over 64 KiB are read whole."""
+    logs(room)
+    count = 80_000
+    room.write("long.csv", long_log(count))
+    questions = [(k * 7919 % count + 1, k * 104729 % count + 1) for k in range(3_000)]
+    script = "add a long.csv\n" + "".join(f"interval a#{p} a#{q}\n" for p, q in questions)
+    want = added(count) + "".join(f"interval {(q - p) * 10}.000000000 {(q - p) * 10}.000000000\n" for p, q in questions)
+    agree(room.run(["session", "hosts.toml"], script), 0, want)
+    cut = room.run(["session", "hosts.toml"], script, short=7)
+    agree(cut, 0, want)
+
+
+def piped_files(room: Room) -> None:
+    """Files that are pipes are read to their end, as they come."""
+    logs(room)
+    count = 20_000
+    text = long_log(count).encode()
+    os.mkfifo(f"{room.folder}/pipe")
+
+    def feed() -> None:
+        with open(f"{room.folder}/pipe", "wb", buffering=0) as it:
+            for k in range(0, len(text), 10_007):
+                it.write(text[k : k + 10_007])
+
+    feeder = threading.Thread(target=feed)
+    feeder.start()
+    found = room.run(["session", "hosts.toml"], f"add a pipe\ninterval a#1 a#{count}\n")
+    feeder.join()
+    agree(found, 0, added(count) + f"interval {(count - 1) * 10}.000000000 {(count - 1) * 10}.000000000\n")
+
+
+def failing_reads(room: Room) -> None:
+    """A file that fails behind its first 64 KiB is refused, and nothing of it is taken."""
+    logs(room)
+    room.write("long.csv", long_log(20_000))
+    found = room.run(["session", "hosts.toml"], "add a long.csv\nadd a a.csv\n", behind=65_536)
+    agree(found, 0, "refused 22\nadded events 2 messages 0 withdrawn 0 pending 0 consistent\n")
+
+
+def interrupted_calls(room: Room) -> None:
+    """A read or a write that was interrupted is made again."""
+    logs(room)
+    script = ADDS + "interval a#1 b#1\n"
+    for each in (2, 3):
+        agree(room.run(["session", "hosts.toml"], script, each=each), 0, ADDED + BETWEEN)
+        agree(room.run(["solve", "problem.txt"], each=each), 0, SOLVED)
+
+
+def cut_block(room: Room) -> None:
+    """A pending block and a piece behind it take no more memory than a few times their bytes."""
+    room.write("hosts.toml", '[hosts.a]\naddresses = ["10.0.0.1"]\n[labels.a]\nhost = "a"\nkind = "capture"\n')
+    room.write("head", struct.pack("<IIIHHqI", 0x0A0D0D0A, 28, 0x1A2B3C4D, 1, 0, -1, 28) + struct.pack("<II", 6, 1 << 23))
+    room.write("more", bytes(1 << 22))
+    found = room.run(["session", "hosts.toml"], "add a head\nadd a more\n", memory=96 << 20)
+    want = "".join(f"added events 0 messages 0 withdrawn 0 pending {n} consistent\n" for n in (8, 8 + (1 << 22)))
+    agree(found, 0, want)
+
+
+# ---- sizes above those of other tests
+
+
+def many_events(room: Room) -> None:
+    """A log of 6,000 rows is added, merged and asked; eight events are kept; and a problem of its size is solved."""
+    logs(room)
+    count = 6_000
+    room.write("long.csv", long_log(count))
+    keeps = "".join(f"keep a#{k}\n" for k in range(1, 9))
+    kept = "".join(f"kept {k}\n" for k in range(1, 9))
+    merged = f"merge {count}\n" + "".join(f"{n * 10}.000000000 a#{n + 1}\n" for n in range(count))
+    script = f"add a long.csv\n{keeps}keep a#9\nmerge\n"
+    agree(room.run(["session", "hosts.toml"], script), 0, added(count) + kept + "refused 30\n" + merged)
+    events = "".join(f"event e{n} c {n * 10}\n" for n in range(200))
+    room.write("many.txt", f"problem 1\nclock c 0 0 0 0\n{events}end\n")
+    agree(room.run(["ends", "many.txt", "e0", "e199"]), 0, "1990.000000000 1990.000000000\nbefore\n")
+    solved = room.run(["solve", "many.txt"])
+    agree(solved, 0, solved.out)
+
+
+def withdrawals(room: Room) -> None:
+    """Messages are withdrawn one by one, a contradiction comes, and goes with the message that made it."""
+    logs(room)
+    room.write("late.csv", "270,send,m2,\n")
+    sends = [f"{1000 * n},send,k{n},\n" for n in range(1, 40)]
+    room.write("sends.csv", "".join(sends))
+    room.write("receives.csv", "".join(f"{1000 * n + 150},receive,k{n},\n" for n in range(1, 40)))
+    lines, want = ["add a sends.csv", "add b receives.csv"], ["added events 39 messages 0", "added events 39 messages 39"]
+    for n in range(1, 40):
+        room.write(f"again{n}.csv", f"{50_000 + n},send,k{n},\n")
+        lines.append(f"add a again{n}.csv")
+        want.append("added events 1 messages 0 withdrawn 1")
+    found = room.run(["session", "hosts.toml"], "".join(f"{it}\n" for it in lines))
+    replies = found.out.decode().splitlines()
+    if found.status or len(replies) != len(want):
+        raise Failed(f"status {found.status}, {len(replies)} replies, the last {replies[-1:]}")
+    for line, reply, begins in zip(lines, replies, want):
+        if not reply.startswith(begins) or not reply.endswith(" consistent"):
+            raise Failed(f"{line}: {reply}")
+    contradictions(room)
+
+
+def contradictions(room: Room) -> None:
+    """A contradiction comes with a late receive, stays beside other additions, and goes with a second send."""
+    room.write("slow.csv", "100,send,m1,\n195,receive,m2,\n")
+    room.write("local.csv", "400,local,,\n")
+    room.write("second.csv", "301,send,m2,\n")
+    script = "add a slow.csv\nadd b b.csv\nadd b local.csv\nadd b second.csv\nadd b local.csv\n"
+    ends = ["consistent", "inconsistent", "inconsistent", "consistent", "consistent"]
+    found = room.run(["session", "hosts.toml"], script)
+    replies = [line.split(" ")[-1] for line in found.out.decode().splitlines()]
+    if found.status or replies != ends:
+        raise Failed(f"status {found.status}, {replies}, not {ends}")
+
+
+CASES: list[Callable[[Room], None]] = [
+    statuses, full_outputs, little_memory, long_script, replies_at_once, long_inputs, piped_files, failing_reads, interrupted_calls, cut_block,
+    many_events, withdrawals,
+]
+
+
+def tried(case: Callable[[Room], None], shim: str) -> bool:
+    """Runs a case in a folder of its own, and says what it came to."""
+    with tempfile.TemporaryDirectory() as folder:
+        try:
+            case(Room(folder, shim))
+        except (Failed, subprocess.TimeoutExpired) as found:
+            print(f"{case.__name__}: FAILED: {found.why if isinstance(found, Failed) else found}", flush=True)
+            return False
+    print(f"{case.__name__}: ok", flush=True)
+    return True
+
+
+def main() -> int:
+    arguments = argparse.ArgumentParser(description=__doc__, formatter_class=argparse.RawDescriptionHelpFormatter)
+    arguments.add_argument("word", nargs="?", default="", help="only cases whose names have it")
+    word = arguments.parse_args().word
+    if not os.access(PROGRAM, os.X_OK):
+        print(f"no program at {PROGRAM}")
+        return 1
+    with tempfile.TemporaryDirectory() as folder:
+        shim = f"{folder}/faults.so"
+        subprocess.run(["cc", "-O1", "-shared", "-fPIC", "-o", shim, f"{TOP}/tests/faults.c", "-ldl"], check=True)
+        ended = [tried(case, shim) for case in CASES if word in case.__name__]
+    print(f"the program as a process: {sum(ended)} of {len(ended)} cases hold")
+    return 0 if ended and all(ended) else 1
+
+
+if __name__ == "__main__":
+    sys.exit(main())
