@@ -1,7 +1,6 @@
-/* Makes reads and writes of the program that it is loaded into fail, or do less, as the environment says. Built and used by program.py.
+/* Makes reads and writes of the program that it is loaded into fail, or do less, as the environment says. Built and used by process.py.
  *
  *   FAULT_BEHIND=N  each read that begins N bytes or more into an opened file fails with EIO
- *   FAULT_EACH=N    each Nth read or write is interrupted: EINTR, and nothing is moved
  *   FAULT_SHORT=N   a read or write moves N bytes at most
  */
 #define _GNU_SOURCE
@@ -17,12 +16,6 @@ static long number(const char *name) {
 
 /* The bytes that each descriptor gave, as far as they were read in order. */
 static long given[1024];
-static long calls;
-
-static int is_interrupted(void) {
-    long each = number("FAULT_EACH");
-    return each > 0 && ++calls % each == 0;
-}
 
 static size_t at_most(size_t count) {
     long most = number("FAULT_SHORT");
@@ -37,10 +30,6 @@ ssize_t read(int file, void *into, size_t count) {
         errno = EIO;
         return -1;
     }
-    if (is_interrupted()) {
-        errno = EINTR;
-        return -1;
-    }
     ssize_t got = below(file, into, at_most(count));
     if (got > 0 && file >= 0 && file < 1024) given[file] += got;
     return got;
@@ -49,9 +38,5 @@ ssize_t read(int file, void *into, size_t count) {
 ssize_t write(int file, const void *from, size_t count) {
     static ssize_t (*below)(int, const void *, size_t);
     if (!below) below = (ssize_t(*)(int, const void *, size_t))dlsym(RTLD_NEXT, "write");
-    if (is_interrupted()) {
-        errno = EINTR;
-        return -1;
-    }
     return below(file, from, at_most(count));
 }

@@ -1,14 +1,14 @@
 #!/usr/bin/env python3
 """Runs the built program as a process, and compares its status and what it prints. The gate runs it behind the proofs.
 
-usage: tests/program.py [WORD]
+    tests/process.py [WORD]
 
-What no contract can say is looked at here: that the exit status is that of the run, for each status from 0 to 12; that a session answers
-a line before it reads the next one; that files, input and output are read and written whole where the host gives or takes a part at a time,
-interrupts, or fails; and that sizes just above the small ones of other tests do not end in want of memory. With WORD only cases whose names
-have it are run. PROGRAM names another program than crates/tracesync/out/tracesync.
-
-Reads and writes fail or are cut by a library of faults.c, which is built here with cc and loaded before the C library.
+What no contract can say is looked at here: that the exit status is that of the run, for each status from 0 to 12; that
+a session answers a line before it reads the next one; that files, input and output are read and written whole where the
+host gives or takes a part at a time, or fails; and that sizes just above the small ones of other tests do not end in
+want of memory. With WORD only cases whose names have it are run. PROGRAM names the program, else it is the one that is
+built here. Reads and writes fail or are cut by a library of fail_calls.c, which is built here with cc and loaded before
+the C library.
 """
 
 from __future__ import annotations
@@ -23,10 +23,11 @@ import sys
 import tempfile
 import threading
 from collections.abc import Callable, Iterable
-from dataclasses import dataclass, field
+from dataclasses import dataclass
 
-TOP = os.path.dirname(os.path.dirname(os.path.abspath(__file__)))
-PROGRAM = os.environ.get("PROGRAM", f"{TOP}/crates/tracesync/out/tracesync")
+from support.program import TOP, program
+
+PROGRAM = program()
 SECONDS = 60
 
 HOSTS = """[hosts.a]
@@ -61,7 +62,8 @@ message b#2 a#2 10 20
 end
 """
 ADDS = "add a a.csv\nadd b b.csv\n"
-ADDED = "added events 2 messages 0 withdrawn 0 pending 0 consistent\nadded events 2 messages 2 withdrawn 0 pending 0 consistent\n"
+FIRST, SECOND = (f"added events 2 messages {n} withdrawn 0 pending 0 consistent\n" for n in (0, 2))
+ADDED = FIRST + SECOND
 BETWEEN = "interval 10.000000000 20.000000000\n"
 
 
@@ -86,7 +88,6 @@ class Room:
 
     folder: str
     shim: str
-    environment: dict[str, str] = field(default_factory=dict)
 
     def write(self, name: str, data: str | bytes) -> str:
         with open(f"{self.folder}/{name}", "wb") as it:
@@ -94,12 +95,13 @@ class Room:
         return name
 
     def run(self, words: Iterable[str], script: str | bytes = b"", memory: int = 0, **faults: int) -> Ran:
-        """Runs the program; `memory` bounds its address space, `faults` are the variables of faults.c."""
+        """Runs the program; `memory` bounds its address space, `faults` are the variables of fail_calls.c."""
         said = {f"FAULT_{name.upper()}": str(n) for name, n in faults.items()}
         more = {**os.environ, **said, **({"LD_PRELOAD": self.shim} if said else {})}
         limit = (lambda: resource.setrlimit(resource.RLIMIT_AS, (memory, memory))) if memory else None
         data = script.encode() if isinstance(script, str) else script
-        done = subprocess.run([PROGRAM, *words], input=data, capture_output=True, cwd=self.folder, env=more, timeout=SECONDS, preexec_fn=limit)
+        kept = {"capture_output": True, "cwd": self.folder, "env": more, "timeout": SECONDS, "preexec_fn": limit}
+        done = subprocess.run([PROGRAM, *words], input=data, **kept)
         if done.stderr:
             raise Failed(f"the standard error has {done.stderr[:200]!r}")
         return Ran(done.returncode, done.stdout)
@@ -112,7 +114,8 @@ def agree(found: Ran, status: int, out: str | bytes) -> None:
         raise Failed(f"status {found.status}, not {status}; it printed {found.out[:200]!r}")
     if found.out != want:
         at = next((k for k, (x, y) in enumerate(zip(found.out, want)) if x != y), min(len(found.out), len(want)))
-        raise Failed(f"{len(found.out)} bytes, not {len(want)}; from byte {at} on {found.out[at:at + 80]!r}, not {want[at:at + 80]!r}")
+        told, wanted = found.out[at : at + 80], want[at : at + 80]
+        raise Failed(f"{len(found.out)} bytes, not {len(want)}; from byte {at} on {told!r}, not {wanted!r}")
 
 
 VALUES = """event a#1 0.000000000
@@ -126,10 +129,12 @@ reading b 300 60.000000000
 end
 """
 SOLVED, EXECUTION = f"certificate 1\nrun\n{VALUES}", f"execution 1\n{VALUES}"
-BROKEN = EXECUTION.replace("b#1 10.", "b#1 21.").replace("250 10.", "250 21.").replace("b#2 60.", "b#2 71.").replace("300 60.", "300 71.")
+BROKEN = EXECUTION
+for said, later in (("b#1 10.", "b#1 21."), ("250 10.", "250 21."), ("b#2 60.", "b#2 71."), ("300 60.", "300 71.")):
+    BROKEN = BROKEN.replace(said, later)
 USAGE = (
-    "usage: tracesync obey PROBLEM EXEC | solve PROBLEM | ends PROBLEM P Q | verify PROBLEM CERT | session DECL | trial N"
-    " | widen PROBLEM | judge PROBLEM WIDENING | mergecap DECL\n"
+    "usage: tracesync obey PROBLEM EXEC | solve PROBLEM | ends PROBLEM P Q | verify PROBLEM CERT | session DECL"
+    " | trial N | widen PROBLEM | judge PROBLEM WIDENING | mergecap DECL\n"
 )
 EMPTY_CAPTURE = struct.pack("<IHHIIII", 0xA1B23C4D, 2, 4, 0, 0, 262144, 1)
 
@@ -137,8 +142,9 @@ EMPTY_CAPTURE = struct.pack("<IHHIIII", 0xA1B23C4D, 2, 4, 0, 0, 262144, 1)
 def logs(room: Room) -> None:
     """The files of two logs, of their problem, and of texts about it."""
     texts = {
-        "hosts.toml": HOSTS, "a.csv": A_LOG, "b.csv": B_LOG, "problem.txt": PROBLEM, "solved.txt": SOLVED, "execution.txt": EXECUTION,
-        "broken.txt": BROKEN, "cut.txt": EXECUTION.replace("reading b 300 60.000000000\n", ""), "bad.toml": "hosts = ", "empty.txt": "",
+        "hosts.toml": HOSTS, "a.csv": A_LOG, "b.csv": B_LOG, "bad.toml": "hosts = ", "empty.txt": "",
+        "problem.txt": PROBLEM, "solved.txt": SOLVED, "execution.txt": EXECUTION, "broken.txt": BROKEN,
+        "cut.txt": EXECUTION.replace("reading b 300 60.000000000\n", ""),
     }
     for name, text in texts.items():
         room.write(name, text)
@@ -222,7 +228,7 @@ def long_script(room: Room) -> None:
 def replies_at_once(room: Room) -> None:
     """The reply to a line comes before the next line is given."""
     logs(room)
-    asked = [("add a a.csv", ADDED.splitlines()[0]), ("add b b.csv", ADDED.splitlines()[1]), ("interval a#1 b#1", BETWEEN.strip()), ("x", "refused 20")]
+    asked = [("add a a.csv", FIRST), ("add b b.csv", SECOND), ("interval a#1 b#1", BETWEEN), ("x", "refused 20\n")]
     with subprocess.Popen([PROGRAM, "session", "hosts.toml"], stdin=subprocess.PIPE, stdout=subprocess.PIPE, cwd=room.folder) as ran:
         try:
             for line, want in asked:
@@ -230,11 +236,10 @@ def replies_at_once(room: Room) -> None:
                 if not select.select([ran.stdout], [], [], 10)[0]:
                     raise Failed(f"no reply to {line} within ten seconds")
                 found = os.read(ran.stdout.fileno(), 65536)
-                if found != f"{want}\n".encode():
-                    raise Failed(f"{line}: {found!r}, not {want}")
+                if found != want.encode():
+                    raise Failed(f"{line}: {found!r}, not {want!r}")
         finally:
-            ran.stdin.close()
-            ran.kill() if ran.poll() is None and ran.stdin.closed is False else ran.wait(SECONDS)
+            ran.kill()
 
 
 # ---- files, input and output
@@ -288,15 +293,6 @@ def failing_reads(room: Room) -> None:
     agree(found, 0, "refused 22\nadded events 2 messages 0 withdrawn 0 pending 0 consistent\n")
 
 
-def interrupted_calls(room: Room) -> None:
-    """A read or a write that was interrupted is made again."""
-    logs(room)
-    script = ADDS + "interval a#1 b#1\n"
-    for each in (2, 3):
-        agree(room.run(["session", "hosts.toml"], script, each=each), 0, ADDED + BETWEEN)
-        agree(room.run(["solve", "problem.txt"], each=each), 0, SOLVED)
-
-
 def cut_block(room: Room) -> None:
     """A pending block and a piece behind it take no more memory than a few times their bytes."""
     room.write("hosts.toml", '[hosts.a]\naddresses = ["10.0.0.1"]\n[labels.a]\nhost = "a"\nkind = "capture"\n')
@@ -330,9 +326,7 @@ def many_events(room: Room) -> None:
 def withdrawals(room: Room) -> None:
     """Messages are withdrawn one by one, a contradiction comes, and goes with the message that made it."""
     logs(room)
-    room.write("late.csv", "270,send,m2,\n")
-    sends = [f"{1000 * n},send,k{n},\n" for n in range(1, 40)]
-    room.write("sends.csv", "".join(sends))
+    room.write("sends.csv", "".join(f"{1000 * n},send,k{n},\n" for n in range(1, 40)))
     room.write("receives.csv", "".join(f"{1000 * n + 150},receive,k{n},\n" for n in range(1, 40)))
     lines, want = ["add a sends.csv", "add b receives.csv"], ["added events 39 messages 0", "added events 39 messages 39"]
     for n in range(1, 40):
@@ -363,8 +357,8 @@ def contradictions(room: Room) -> None:
 
 
 CASES: list[Callable[[Room], None]] = [
-    statuses, full_outputs, little_memory, long_script, replies_at_once, long_inputs, piped_files, failing_reads, interrupted_calls, cut_block,
-    many_events, withdrawals,
+    statuses, full_outputs, little_memory, long_script, replies_at_once, long_inputs, piped_files, failing_reads,
+    cut_block, many_events, withdrawals,
 ]
 
 
@@ -384,12 +378,9 @@ def main() -> int:
     arguments = argparse.ArgumentParser(description=__doc__, formatter_class=argparse.RawDescriptionHelpFormatter)
     arguments.add_argument("word", nargs="?", default="", help="only cases whose names have it")
     word = arguments.parse_args().word
-    if not os.access(PROGRAM, os.X_OK):
-        print(f"no program at {PROGRAM}")
-        return 1
     with tempfile.TemporaryDirectory() as folder:
-        shim = f"{folder}/faults.so"
-        subprocess.run(["cc", "-O1", "-shared", "-fPIC", "-o", shim, f"{TOP}/tests/faults.c", "-ldl"], check=True)
+        shim = f"{folder}/fail_calls.so"
+        subprocess.run(["cc", "-O1", "-shared", "-fPIC", "-o", shim, f"{TOP}/tests/fail_calls.c", "-ldl"], check=True)
         ended = [tried(case, shim) for case in CASES if word in case.__name__]
     print(f"the program as a process: {sum(ended)} of {len(ended)} cases hold")
     return 0 if ended and all(ended) else 1
