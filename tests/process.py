@@ -160,7 +160,7 @@ def statuses(room: Room) -> None:
         (0, ["session", "hosts.toml"], ADDS + "interval a#1 b#1\n", ADDED + BETWEEN),
         (0, ["solve", "problem.txt"], "", SOLVED),
         (0, ["obey", "problem.txt", "execution.txt"], "", "obeys\n"),
-        (0, ["ends", "problem.txt", "a#1", "b#1"], "", "10.000000000 20.000000000\nbefore\n"),
+        (0, ["ends", "problem.txt", "a#1", "b#1"], "", "10.000000000 20.000000000 before\n"),
         (0, ["verify", "problem.txt", "solved.txt"], "", "yes\n"),
         (0, ["mergecap", "hosts.toml"], "", EMPTY_CAPTURE),
         (1, ["obey", "problem.txt", "broken.txt"], "", "broken delay-most a#1 b#1 20.000000000 21.000000000\n"),
@@ -173,7 +173,7 @@ def statuses(room: Room) -> None:
         (6, ["verify", "problem.txt", "empty.txt"], "", "certificate 1 1\n"),
         (7, ["solve", "absent.txt"], "", "read fault\n"),
         (7, ["session", "absent.toml"], "", "read fault\n"),
-        (11, ["ends", "problem.txt", "a#1", "c#1"], "", "event\n"),
+        (11, ["ends", "problem.txt", "a#1", "c#1"], "", "unknown event\n"),
         (12, ["mergecap", "hosts.toml"], "merge\n", "refused 20\n"),
     ]
     for status, words, script, out in rows:
@@ -318,7 +318,7 @@ def many_events(room: Room) -> None:
     agree(room.run(["session", "hosts.toml"], script), 0, added(count) + kept + "refused 30\n" + merged)
     events = "".join(f"event e{n} c {n * 10}\n" for n in range(200))
     room.write("many.txt", f"problem 1\nclock c 0 0 0 0\n{events}end\n")
-    agree(room.run(["ends", "many.txt", "e0", "e199"]), 0, "1990.000000000 1990.000000000\nbefore\n")
+    agree(room.run(["ends", "many.txt", "e0", "e199"]), 0, "1990.000000000 1990.000000000 before\n")
     solved = room.run(["solve", "many.txt"])
     agree(solved, 0, solved.out)
 
