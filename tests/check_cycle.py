@@ -1,129 +1,77 @@
 #!/usr/bin/env python3
 """Checks that a `cycle` certificate shows a contradiction of a problem.
 
-Each step must be a declared bound with its weight, between any two readings of a clock or of clocks
-that come after each other, each head must be the tail of the next step, the last one that of the
-first, and the sum must be negative. All of it is worked out anew from the text of the problem. Prints
-the number of steps and the sum.
+    tests/check_cycle.py PROBLEM CERTIFICATE
+
+Each step must be a declared bound with its weight, between any two readings of a clock or of clocks that come after
+each other, each head must be the tail of the next step, the last one that of the first, and the sum must be negative.
+All of it is worked out anew from the text of the problem. Prints the number of steps and the sum; where the
+certificate shows nothing, it says why, with status 1.
 """
 
 import argparse
-import re
 import sys
+from collections.abc import Sequence
 
-UNITS = 10**9
-
-
-class Problem:
-    """Clocks, events and messages by their names, the follow that leads to a clock, and the stamps that each clock shows."""
-
-    def __init__(self, lines):
-        self.clocks = {}
-        self.follows = {}
-        self.events = {}
-        self.messages = {}
-        self.readings = set()
-        for line in lines:
-            kind, *words = line.split(" ")
-            if kind == "clock":
-                self.clocks[words[0]] = [int(word) for word in words[1:]]
-            elif kind == "follow":
-                self.follows[words[1]] = (words[0], int(words[2]))
-            elif kind == "event":
-                self.events[words[0]] = (words[1], int(words[2]))
-                self.readings.add((words[1], int(words[2])))
-            elif kind == "message":
-                most = None if words[3] == "none" else int(words[3])
-                self.messages[words[0], words[1]] = (int(words[2]), most)
-
-    def comes_after(self, clock, other):
-        """Whether follows lead from the other clock to this one."""
-        while clock in self.follows:
-            clock = self.follows[clock][0]
-            if clock == other:
-                return True
-        return False
-
-    def bound(self, kind, *words):
-        """The tail, the head and the weight of a bound. Fails where it is not declared."""
-        if kind in ("span-most", "span-least"):
-            name, low, high = words[0], int(words[1]), int(words[2])
-            tail, head = (name, low), (name, high)
-            if low >= high or tail not in self.readings or head not in self.readings:
-                raise KeyError(words)
-            short, long, _, _ = self.clocks[name]
-            if kind == "span-most":
-                return tail, head, (high - low) * (UNITS + long)
-            return head, tail, (low - high) * (UNITS - short)
-        if kind in ("late", "early"):
-            (name,) = words
-            reading = self.events[name]
-            _, _, early, late = self.clocks[reading[0]]
-            if kind == "late":
-                return reading, name, late * UNITS
-            return name, reading, early * UNITS
-        if kind == "follow":
-            earlier, s, later, t = words
-            tail, head = (later, int(t)), (earlier, int(s))
-            if not self.comes_after(later, earlier) or tail not in self.readings or head not in self.readings:
-                raise KeyError(words)
-            return tail, head, -self.follows[later][1] * UNITS
-        send, receive = words
-        least, most = self.messages[send, receive]
-        if kind == "delay-most" and most is not None:
-            return send, receive, most * UNITS
-        if kind == "delay-least":
-            return receive, send, -least * UNITS
-        raise KeyError(kind)
+from support.problems import Problem, units_of
+from support.program import read
 
 
-def units_of(text):
-    """The units of an ns text."""
-    if not re.fullmatch(r"-?(0|[1-9][0-9]*)\.[0-9]{9}", text):
-        raise ValueError(text)
-    return int(text.replace(".", ""))
+class NoCycle(Exception):
+    """A certificate does not show a contradiction; the text says why."""
 
 
-def fail(why):
-    sys.exit(f"check_cycle: {why}")
-
-
-def check(problem, lines):
-    """The number of steps and the sum of a cycle, in units."""
-    if lines[:2] != ["certificate 1", "cycle"] or lines[-2:] != ["end", ""]:
-        fail("no cycle certificate")
+def check_cycle(problem: Problem, lines: Sequence[str]) -> tuple[int, int]:
+    """The number of steps and the sum, in units, of a certificate with these lines. Raises NoCycle where it shows nothing."""
+    if [*lines[:2]] != ["certificate 1", "cycle"] or lines[-1] != "end":
+        raise NoCycle("no cycle certificate")
     steps = []
-    for line in lines[2:-2]:
+    for line in lines[2:-1]:
         step, *words, weight = line.split(" ")
         try:
-            bound = problem.bound(*words)
+            bound, told = problem.bound(*words), units_of(weight)
         except (KeyError, TypeError, ValueError):
-            fail(f"no such bound: {line}")
-        if step != "step" or units_of(weight) != bound[2]:
-            fail(f"a wrong weight: {line}")
+            raise NoCycle(f"no such bound: {line}") from None
+        if step != "step" or told != bound[2]:
+            raise NoCycle(f"a wrong weight: {line}")
         steps.append(bound)
     if not steps:
-        fail("no step")
+        raise NoCycle("no step")
     for (_, head, _), (tail, _, _) in zip(steps, steps[1:] + steps[:1]):
         if head != tail:
-            fail(f"the chain does not go on: {head} {tail}")
+            raise NoCycle(f"the chain does not go on: {head} {tail}")
     total = sum(weight for _, _, weight in steps)
     if total >= 0:
-        fail(f"the sum is {total} units")
+        raise NoCycle(f"the sum is {total} units")
     return len(steps), total
 
 
-def main():
-    parser = argparse.ArgumentParser(description=__doc__.splitlines()[0])
-    parser.add_argument("problem", help="the path of the problem text")
-    parser.add_argument("certificate", help="the path of the certificate")
-    args = parser.parse_args()
-    with open(args.problem, encoding="ascii", newline="\n") as text:
-        problem = Problem(text.read().split("\n"))
-    with open(args.certificate, encoding="ascii", newline="\n") as text:
-        steps, total = check(problem, text.read().split("\n"))
+def lines_of(path: str) -> list[str]:
+    """The lines of a text that ends with a line feed."""
+    *lines, rest = read(path).decode("ascii").split("\n")
+    if rest:
+        raise NoCycle(f"{path} has no line feed at its end")
+    return lines
+
+
+def check_files(problem: str, certificate: str) -> tuple[int, int]:
+    """The same for two files."""
+    return check_cycle(Problem(lines_of(problem)), lines_of(certificate))
+
+
+def main() -> int:
+    parser = argparse.ArgumentParser(description=__doc__.split("\n\n")[0])
+    parser.add_argument("problem", metavar="PROBLEM", help="the path of the problem text")
+    parser.add_argument("certificate", metavar="CERTIFICATE", help="the path of the certificate")
+    said = parser.parse_args()
+    try:
+        steps, total = check_files(said.problem, said.certificate)
+    except NoCycle as why:
+        print(f"check_cycle: {why}", file=sys.stderr)
+        return 1
     print(f"{steps} steps, {-total} units below 0")
+    return 0
 
 
 if __name__ == "__main__":
-    main()
+    sys.exit(main())

@@ -1,13 +1,13 @@
-"""What the scripts share that talk to a session: which program they run, and where one reply ends and the next begins."""
-import os
+"""Sessions that read a whole script: what they reply, and where one reply ends and the next begins."""
+
 import subprocess
+from collections.abc import Sequence
 
-TOP = os.path.dirname(os.path.dirname(os.path.abspath(__file__)))
-PROGRAM = os.environ.get("PROGRAM", f"{TOP}/crates/tracesync/out/tracesync")
+from .program import program
 
 
-def replies_of(lines):
-    """Returns the replies that stand in these lines, each as a list of its lines."""
+def replies_of(lines: Sequence[str]) -> list[list[str]]:
+    """The replies that stand in these lines, each as a list of its lines."""
     found, at = [], 0
     while at < len(lines):
         first = lines[at].split(" ")
@@ -17,16 +17,31 @@ def replies_of(lines):
             end = at + 1 + int(first[1])
         else:
             end = at + 1
-        found.append(lines[at:end])
+        found.append(list(lines[at:end]))
         at = end
     return found
 
 
-def answered(program, script, folder):
-    """Returns the replies to the lines of a script, in a session over hosts.toml of a folder, in which the program runs."""
-    source = "".join(f"{line}\n" for line in script)
-    done = subprocess.run([program, "session", "hosts.toml"], input=source, capture_output=True, text=True, cwd=folder)
-    replies = replies_of(done.stdout.splitlines())
+def script_of(lines: Sequence[str]) -> bytes:
+    """The bytes of a script with these lines."""
+    return "".join(f"{line}\n" for line in lines).encode()
+
+
+def answered(declaration: str, script: Sequence[str], folder: str | None = None) -> list[list[str]]:
+    """The replies to the lines of a script, in a session over a declaration, which runs in a folder.
+
+    Raises RuntimeError where the session ends with another status than 0, or has not as many replies as lines."""
+    words = [program(), "session", declaration]
+    done = subprocess.run(words, input=script_of(script), capture_output=True, cwd=folder)
+    replies = replies_of(done.stdout.decode().splitlines())
     if done.returncode or len(replies) != len(script):
-        raise RuntimeError(f"status {done.returncode}, {len(replies)} replies to {len(script)} lines: {done.stderr[-300:]}")
+        said = done.stderr.decode(errors="replace")[-300:]
+        raise RuntimeError(f"status {done.returncode}, {len(replies)} replies to {len(script)} lines: {said}")
     return replies
+
+
+def added(reply: Sequence[str]) -> tuple[int, int]:
+    """How many events an addition brought, and how many bytes of its label wait for more."""
+    words = reply[0].split(" ")
+    assert words[0] == "added", reply
+    return int(words[2]), int(words[8])
