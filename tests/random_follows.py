@@ -1,45 +1,51 @@
 #!/usr/bin/env python3
-"""Runs commands over random problems with clocks that follow each other, and wants what their bounds say. It is no part of the gate.
+"""Runs commands over random problems with clocks that follow each other, and wants what their bounds say.
 
-    bench/random_follows.py [--program PATH] [--limits] [PROBLEMS [SEED]]
+    tests/random_follows.py [--limits] [PROBLEMS [SEED]]
 
-PROBLEMS, 300 if it is not said, have the numbers from SEED, 1 if it is not said, upward; `random_follows.py 1 N` runs number N alone. Each
-has up to six clocks in chains, some without readings, with gaps, drift and errors of stamps, and messages that may contradict them. The
-reference is the plainest there is, in whole numbers: a bound for every two readings of a clock, and of two clocks that come after each
-other, and the least weight from each node to each other. `solve`, `ends`, `obey` and `widen` must print what follows from it, `verify` and
-`judge` say yes to what is printed, and a line that is put wrong must be refused where it stands.
+PROBLEMS, 300 if it is not said, have the numbers from SEED, 1 if it is not said, upward; `random_follows.py 1 N` runs
+number N alone. Each has up to six clocks in chains, some without readings, with gaps, drift and errors of stamps, and
+messages that may contradict them. The reference is the plainest there is, in whole numbers: a bound for every two readings
+of a clock, and of two clocks that come after each other, and the least weight from each node to each other. `solve`,
+`ends`, `obey` and `widen` must print what follows from it, `verify` and `judge` say yes to what is printed, and a line that
+is put wrong must be refused where it stands.
 
---limits runs texts at the limits instead, with as many clocks, events and messages as there may be and with one more: some minutes, and
-memory and room for files of some GB.
+--limits runs texts at the limits instead, with as many clocks, events and messages as there may be and with one more: some
+minutes, and memory and room for files of some GB.
 
-PATH is the program to run, else PROGRAM names it, else it is the one that the gate built. The files of a problem that goes wrong stay in
-bench/out/follows-N, and what was printed stands beside what is wanted; then the status is 1.
+PROGRAM names the program, else it is the one that is built here. The files of a problem that goes wrong stay in
+tests/out/follows-N, and what was printed stands beside what is wanted; then the status is 1.
 """
+
 import argparse
 import itertools
 import os
-import random
-import re
 import shutil
 import subprocess
 import sys
 import tempfile
+from collections.abc import Iterable, Iterator
+from random import Random
 
-# (the import below leaves nothing behind)
-sys.dont_write_bytecode = True
-from replies import PROGRAM, TOP  # noqa: E402
+from check_cycle import NoCycle, check_cycle
+from support.problems import UNITS, Ends, Node, Problem, interval, ns, order
+from support.program import LEFT, program
 
-UNITS = 10**9
 ABOVE = 2**62
+# The words of a bound, its tail, its head and its weight: the value of the head is at most that of the tail and the weight.
+Named = tuple[str, Node, Node, int]
 
 
 class Chained:
     """A problem as its text says it."""
 
-    def __init__(self):
-        self.clocks, self.follows, self.events, self.messages = {}, {}, {}, {}
+    def __init__(self) -> None:
+        self.clocks: dict[str, tuple[int, int, int, int]] = {}
+        self.follows: dict[str, tuple[str, int]] = {}
+        self.events: dict[str, tuple[str, int]] = {}
+        self.messages: dict[tuple[str, str], tuple[int, int | None]] = {}
 
-    def lines(self):
+    def lines(self) -> list[str]:
         lines = [f"problem {2 if self.follows else 1}"]
         lines += [f"clock {name} {' '.join(map(str, numbers))}" for name, numbers in self.clocks.items()]
         lines += [f"follow {earlier} {later} {gap}" for later, (earlier, gap) in self.follows.items()]
@@ -48,14 +54,14 @@ class Chained:
             lines.append(f"message {send} {receive} {least} {'none' if most is None else most}")
         return [*lines, "end"]
 
-    def stamps(self, clock):
+    def stamps(self, clock: str) -> list[int]:
         return sorted({stamp for at, stamp in self.events.values() if at == clock})
 
-    def nodes(self):
+    def nodes(self) -> list[Node]:
         """The events, then the readings by clock and stamp."""
         return [*self.events, *((clock, stamp) for clock in self.clocks for stamp in self.stamps(clock))]
 
-    def before(self, clock):
+    def before(self, clock: str) -> list[str]:
         """The clocks that this one comes after, the nearest first."""
         found = []
         while clock in self.follows:
@@ -63,28 +69,28 @@ class Chained:
             found.append(clock)
         return found
 
-    def span(self, clock, low, high):
+    def span(self, clock: str, low: int, high: int) -> Iterator[Named]:
         short, long, _, _ = self.clocks[clock]
         yield f"span-most {clock} {low} {high}", (clock, low), (clock, high), (high - low) * (UNITS + long)
         yield f"span-least {clock} {low} {high}", (clock, high), (clock, low), (low - high) * (UNITS - short)
 
-    def stamped(self):
+    def stamped(self) -> Iterator[Named]:
         for event, (clock, stamp) in self.events.items():
             _, _, early, late = self.clocks[clock]
             yield f"late {event}", (clock, stamp), event, late * UNITS
             yield f"early {event}", event, (clock, stamp), early * UNITS
 
-    def follow(self, earlier, s, later, t):
+    def follow(self, earlier: str, s: int, later: str, t: int) -> Iterator[Named]:
         yield f"follow {earlier} {s} {later} {t}", (later, t), (earlier, s), -self.follows[later][1] * UNITS
 
-    def delays(self):
+    def delays(self) -> Iterator[Named]:
         for (send, receive), (least, most) in self.messages.items():
             if most is not None:
                 yield f"delay-most {send} {receive}", send, receive, most * UNITS
             yield f"delay-least {send} {receive}", receive, send, -least * UNITS
 
-    def every_bound(self):
-        """Each bound: its words, its tail, its head and its weight, which the value of the head is at most above that of the tail."""
+    def every_bound(self) -> Iterator[Named]:
+        """Each bound that is declared."""
         for clock in self.clocks:
             for low, high in itertools.combinations(self.stamps(clock), 2):
                 yield from self.span(clock, low, high)
@@ -95,7 +101,7 @@ class Chained:
                     yield from self.follow(earlier, s, later, t)
         yield from self.delays()
 
-    def short_list(self):
+    def short_list(self) -> Iterator[Named]:
         """The bounds that `obey` goes through, in its order."""
         for clock in self.clocks:
             stamps = self.stamps(clock)
@@ -108,98 +114,72 @@ class Chained:
                 yield from self.follow(near, self.stamps(near)[-1], later, self.stamps(later)[0])
         yield from self.delays()
 
-    def widened(self, more):
+    def widened(self, more: int) -> "Chained":
         """The problem with each greatest delay so much greater."""
         wide = Chained()
         wide.clocks, wide.follows, wide.events = self.clocks, self.follows, self.events
-        wide.messages = {pair: (least, None if most is None else most + more) for pair, (least, most) in self.messages.items()}
+        for pair, (least, most) in self.messages.items():
+            wide.messages[pair] = (least, None if most is None else most + more)
         return wide
 
 
 class Least:
     """The least weight from each node to each other over every bound, by R. W. Floyd, CACM 5 (6), 1962."""
 
-    def __init__(self, problem):
+    def __init__(self, problem: Chained) -> None:
         self.nodes = problem.nodes()
-        self.bounds = {words: bound for words, *bound in problem.every_bound()}
-        place = {node: at for at, node in enumerate(self.nodes)}
-        weights = [[0 if one == other else None for other in self.nodes] for one in self.nodes]
+        self.bounds = {words: (tail, head, weight) for words, tail, head, weight in problem.every_bound()}
+        self.place = place = {node: at for at, node in enumerate(self.nodes)}
+        self.weights: list[list[int | None]] = [[0 if one == other else None for other in self.nodes] for one in self.nodes]
+        weights = self.weights
         for tail, head, weight in self.bounds.values():
             row, at = weights[place[tail]], place[head]
             if row[at] is None or weight < row[at]:
                 row[at] = weight
         for middle in range(len(self.nodes)):
-            on = weights[middle]
-            for row in weights:
-                first = row[middle]
-                if first is None:
-                    continue
-                for at, second in enumerate(on):
-                    if second is not None and (row[at] is None or first + second < row[at]):
-                        row[at] = first + second
-        self.place, self.weights = place, weights
-        self.consistent = all(weights[at][at] >= 0 for at in range(len(self.nodes)))
+            self.go_through(middle)
+        self.consistent = all((row[at] or 0) >= 0 for at, row in enumerate(weights))
 
-    def earliest(self):
+    def go_through(self, middle: int) -> None:
+        """Takes the ways through one node where they are shorter."""
+        on = self.weights[middle]
+        for row in self.weights:
+            first = row[middle]
+            if first is None:
+                continue
+            for at, second in enumerate(on):
+                here = row[at]
+                if second is not None and (here is None or first + second < here):
+                    row[at] = first + second
+
+    def earliest(self) -> list[int]:
         """The least value of each node where none is below 0."""
         return [max(-weight for weight in row if weight is not None) for row in self.weights]
 
-    def ends(self, first, second):
-        """The least and the greatest units by which the second node is later than the first; None for no limit."""
-        least, most = self.weights[self.place[second]][self.place[first]], self.weights[self.place[first]][self.place[second]]
+    def ends(self, first: Node, second: Node) -> Ends:
+        """The least and the greatest units by which the second node is later than the first."""
+        one, other = self.place[first], self.place[second]
+        least, most = self.weights[other][one], self.weights[one][other]
         return None if least is None else -least, most
 
 
-# ---- texts
-def ns(units, endless="+inf"):
-    """The ns text of so many units."""
-    if units is None:
-        return endless
-    return f"{'-' if units < 0 else ''}{abs(units) // UNITS}.{abs(units) % UNITS:09}"
+def ends_line(ends: Ends) -> str:
+    """The line that `ends` prints."""
+    return f"{interval(ends)} {order(ends)}"
 
 
-def units_of(text):
-    assert re.fullmatch(r"-?(0|[1-9][0-9]*)\.[0-9]{9}", text), text
-    return int(text.replace(".", ""))
-
-
-def ends_line(ends):
-    least, most = ends
-    if least is not None and least > 0:
-        order = "before"
-    elif most is not None and most < 0:
-        order = "after"
-    else:
-        order = "same" if least == most == 0 else "open"
-    return f"{ns(least, '-inf')} {ns(most)} {order}"
-
-
-def value_lines(nodes, values):
+def value_lines(nodes: Iterable[Node], values: Iterable[int]) -> list[str]:
+    """The lines of an execution with these values."""
     words = (f"event {node}" if isinstance(node, str) else f"reading {node[0]} {node[1]}" for node in nodes)
     return [f"{word} {ns(value)}" for word, value in zip(words, values)]
 
 
-def cycle_fault(lines, bounds):
-    """Why these steps are no closed chain of bounds with a negative sum, in words, or None."""
-    steps = []
-    for line in lines:
-        step, bound, weight = line.split(" ", 1)[0], *line.split(" ", 1)[1].rsplit(" ", 1)
-        if step != "step" or bound not in bounds or units_of(weight) != bounds[bound][2]:
-            return f"no step: {line}"
-        steps.append(bounds[bound])
-    if not steps:
-        return "no step"
-    if any(one[1] != other[0] for one, other in zip(steps, steps[1:] + steps[:1])):
-        return "the chain is not closed"
-    return None if sum(weight for _, _, weight in steps) < 0 else "the sum is not below 0"
-
-
-# ---- problems at random
-def drawn_clocks(draw, problem):
+def drawn_clocks(draw: Random, problem: Chained) -> list[str]:
+    """Draws clocks and follows; the names of the clocks."""
     names = draw.sample("abcdefghijk", draw.randint(2, 6))
     for name in names:
-        drifts = [draw.choice((0, 0, 0, 20_000, 100_000_000)) for _ in range(2)]
-        problem.clocks[name] = (*drifts, draw.choice((0, 0, 3, 40)), draw.choice((0, 0, 5, 50)))
+        short, long = (draw.choice((0, 0, 0, 20_000, 100_000_000)) for _ in range(2))
+        problem.clocks[name] = (short, long, draw.choice((0, 0, 3, 40)), draw.choice((0, 0, 5, 50)))
     free = set(names)  # those that nothing follows yet
     laters = draw.sample(names[1:], draw.randint(0, len(names) - 1)) if draw.random() < 0.9 else []
     for later in laters:
@@ -212,16 +192,14 @@ def drawn_clocks(draw, problem):
     return names
 
 
-def drawn(draw):
-    """A problem whose true times are drawn first: clocks take their turns along a chain, but for those that are put wrong."""
-    problem = Chained()
-    names = drawn_clocks(draw, problem)
-    starts, offsets = {}, {name: draw.randrange(5000) for name in names}
+def drawn_times(draw: Random, problem: Chained, names: list[str], wrong: float) -> dict[str, int]:
+    """Draws events with their stamps; the true times of the events, some of which are put wrong. Clocks take their turns along a chain."""
+    starts: dict[str, int] = {}
+    offsets = {name: draw.randrange(5000) for name in names}
     for name in names:
         earlier, gap = problem.follows.get(name, (None, 0))
         starts[name] = starts[earlier] + 1000 + gap + 200 if earlier else draw.randrange(500)
     used = [name for name in names if draw.random() < 0.7] or names[:1]
-    wrong = draw.choice((0, 0, 0, 0.05, 0.3))
     times = {}
     for number in range(draw.randint(2, 12)):
         clock = draw.choice(used)
@@ -234,6 +212,14 @@ def drawn(draw):
             time += draw.randint(-3000, 3000)
         times[f"e{number}"] = time
         problem.events[f"e{number}"] = (clock, max(stamp, 0))
+    return times
+
+
+def drawn(draw: Random) -> Chained:
+    """A problem whose true times are drawn first."""
+    problem = Chained()
+    names, wrong = drawn_clocks(draw, problem), draw.choice((0, 0, 0, 0.05, 0.3))
+    times = drawn_times(draw, problem, names, wrong)
     for send, receive in itertools.permutations(times, 2):
         taken = times[receive] - times[send]
         if draw.random() < 0.12 and (taken >= 0 or draw.random() < wrong):
@@ -243,40 +229,42 @@ def drawn(draw):
     return problem
 
 
-# ---- runs
 class Runs:
     """Runs of the program in a folder, over the files of one problem."""
 
-    def __init__(self, program, folder):
-        self.program, self.folder = program, folder
+    def __init__(self, folder: str) -> None:
+        self.folder = folder
 
-    def put(self, name, lines):
+    def put(self, name: str, lines: Iterable[str]) -> str:
         with open(f"{self.folder}/{name}", "w", encoding="ascii", newline="\n") as out:
             out.writelines(f"{line}\n" for line in lines)
         return name
 
-    def run(self, *words):
+    def run(self, *words: str) -> tuple[int, list[str]]:
         """The status and the lines of a run."""
-        done = subprocess.run([self.program, *words], capture_output=True, text=True, cwd=self.folder)
+        done = subprocess.run([program(), *words], capture_output=True, text=True, cwd=self.folder)
         return done.returncode, done.stdout.split("\n")[:-1]
 
-    def want(self, words, *wanted):
-        """Wants this status and these lines."""
+    def want(self, words: list[str], status: int, lines: list[str]) -> None:
+        """Wants this status and these lines. Raises AssertionError."""
         found = self.run(*words)
-        if found != (wanted[0], [*wanted[1]]):
-            raise AssertionError(f"{' '.join(words)} printed {found}, and {wanted} is wanted")
+        if found != (status, lines):
+            raise AssertionError(f"{' '.join(words)} printed {found}, and {(status, lines)} is wanted")
 
 
-def check_contradiction(runs, least):
+def check_contradiction(runs: Runs, problem: Chained) -> None:
     """Wants that `solve` shows a contradiction that is one."""
     status, lines = runs.run("solve", "problem")
-    fault = cycle_fault(lines[2:-1], least.bounds) if lines[:2] == ["certificate 1", "cycle"] and lines[-1] == "end" else "no cycle"
-    if status or fault:
-        raise AssertionError(f"solve ended with {status} and printed {lines}: {fault}")
+    try:
+        check_cycle(Problem(problem.lines()), lines)
+    except NoCycle as why:
+        raise AssertionError(f"solve ended with {status} and printed {lines}: {why}") from None
+    if status:
+        raise AssertionError(f"solve ended with {status}")
     runs.put("certificate", lines)
 
 
-def check_obeyed(draw, runs, problem, least):
+def check_obeyed(draw: Random, runs: Runs, problem: Chained, least: Least) -> None:
     """Wants that `obey` finds the first bound that some values break, or none."""
     values = dict(zip(least.nodes, least.earliest()))
     for node in least.nodes:
@@ -292,7 +280,7 @@ def check_obeyed(draw, runs, problem, least):
     return runs.want(["obey", "problem", "moved"], 0, ["obeys"])
 
 
-def check_execution(draw, runs, problem, least):
+def check_execution(draw: Random, runs: Runs, problem: Chained, least: Least) -> None:
     """Wants the earliest execution, and the ends of some pairs of events."""
     nodes = value_lines(least.nodes, least.earliest())
     runs.put("certificate", ["certificate 1", "run", *nodes, "end"])
@@ -307,7 +295,7 @@ def check_execution(draw, runs, problem, least):
         check_obeyed(draw, runs, problem, least)
 
 
-def least_widening(problem):
+def least_widening(problem: Chained) -> int | None:
     """By how many ns the greatest delays must be greater at least; None where no number below 2^62 will do."""
     if not Least(problem.widened(ABOVE - 1)).consistent:
         return None
@@ -321,7 +309,7 @@ def least_widening(problem):
     return low
 
 
-def check_widening(runs, problem):
+def check_widening(runs: Runs, problem: Chained) -> None:
     """Wants the least widening, and what shows it."""
     extra = least_widening(problem)
     status, lines = runs.run("widen", "problem")
@@ -332,39 +320,59 @@ def check_widening(runs, problem):
     runs.want(["judge", "problem", "widening"], 0, ["yes"])
 
 
-def wrong_lines(problem):
-    """Texts with one line wrong: why, the lines, the number of the fault and the line where it stands."""
-    lines = problem.lines()
-    if not problem.follows:
-        yield "a head without follows", ["problem 2", *lines[1:]], 1, 2 + len(problem.clocks)
-        return
-    first = 1 + len(problem.clocks)
-    end = first + len(problem.follows)
+# A text with one line wrong: why, the lines, the number of the fault and the line where it stands.
+Wrong = tuple[str, list[str], int, int]
+
+
+def wrong_follows(problem: Chained, lines: list[str], first: int) -> Iterator[Wrong]:
+    """Texts whose first follow is put wrong."""
     later, (earlier, gap) = next(iter(problem.follows.items()))
-    put = lambda line: [*lines[:first], line, *lines[first + 1 :]]  # noqa: E731
+    for why, line, number in (
+        ("the other way round", f"follow {later} {earlier} {gap}", 2),
+        ("one clock", f"follow {later} {later} {gap}", 2),
+        ("an unknown clock", f"follow {earlier} zz {gap}", 2),
+        ("a gap out of range", f"follow {earlier} {later} {ABOVE}", 3),
+        ("an unknown clock and such a gap", f"follow zz {later} {ABOVE}", 2),
+        ("no gap", f"follow {earlier} {later}", 1),
+        ("a gap below 0", f"follow {earlier} {later} -1", 1),
+    ):
+        yield why, [*lines[:first], line, *lines[first + 1 :]], number, first + 1
+
+
+def lines_more(problem: Chained) -> Iterator[tuple[str, str, int]]:
+    """Lines that are wrong behind the last follow: why, the line, and the number of its fault."""
+    later, (earlier, gap) = next(iter(problem.follows.items()))
+    places = [*problem.clocks]
+    yield "twice", f"follow {earlier} {later} {gap}", 2
+    for name in places:
+        if name not in problem.follows and places.index(earlier) < places.index(name):
+            yield "an earlier clock again", f"follow {earlier} {name} 0", 2
+        if places.index(name) < places.index(later) and name != earlier:
+            yield "a later clock again", f"follow {name} {later} 0", 2
+    yield "a clock behind a follow", "clock zz 0 0 0 0", 1
+
+
+def wrong_lines(problem: Chained) -> Iterator[Wrong]:
+    """Texts with one line wrong."""
+    lines = problem.lines()
+    first = 1 + len(problem.clocks)
+    if not problem.follows:
+        yield "a head without follows", ["problem 2", *lines[1:]], 1, 1 + first
+        return
+    end = first + len(problem.follows)
     yield "the other head", ["problem 1", *lines[1:]], 1, first + 1
     yield "no follow", [*lines[:first], *lines[end:]], 1, first + 1
-    yield "the other way round", put(f"follow {later} {earlier} {gap}"), 2, first + 1
-    yield "one clock", put(f"follow {later} {later} {gap}"), 2, first + 1
-    yield "an unknown clock", put(f"follow {earlier} zz {gap}"), 2, first + 1
-    yield "a gap out of range", put(f"follow {earlier} {later} {ABOVE}"), 3, first + 1
-    yield "an unknown clock and such a gap", put(f"follow zz {later} {ABOVE}"), 2, first + 1
-    yield "no gap", put(f"follow {earlier} {later}"), 1, first + 1
-    yield "a gap below 0", put(f"follow {earlier} {later} -1"), 1, first + 1
-    yield "twice", [*lines[:end], f"follow {earlier} {later} {gap}", *lines[end:]], 2, end + 1
-    for name in problem.clocks:
-        places = [*problem.clocks]
-        if name not in problem.follows and places.index(earlier) < places.index(name):
-            yield "an earlier clock again", [*lines[:end], f"follow {earlier} {name} 0", *lines[end:]], 2, end + 1
-        if places.index(name) < places.index(later) and name != earlier:
-            yield "a later clock again", [*lines[:end], f"follow {name} {later} 0", *lines[end:]], 2, end + 1
-    yield "a clock behind a follow", [*lines[:end], "clock zz 0 0 0 0", *lines[end:]], 1, end + 1
+    yield from wrong_follows(problem, lines, first)
+    for why, line, number in lines_more(problem):
+        yield why, [*lines[:end], line, *lines[end:]], number, end + 1
     if problem.events:
+        later, (earlier, gap) = next(iter(problem.follows.items()))
         behind = end + 1
         yield "a follow behind an event", [*lines[:behind], f"follow {earlier} {later} {gap}", *lines[behind:]], 1, behind + 1
 
 
-def check_refusals(runs, problem):
+def check_refusals(runs: Runs, problem: Chained) -> None:
+    """Wants each wrong line to be refused where it stands."""
     for why, lines, number, line in wrong_lines(problem):
         runs.put("wrong", lines)
         found, wanted = runs.run("solve", "wrong"), (4, [f"problem {number} {line}"])
@@ -372,34 +380,33 @@ def check_refusals(runs, problem):
             raise AssertionError(f"{why}: {found}, and {wanted} is wanted")
 
 
-def check_problem(program, number, folder):
+def check_problem(number: int, folder: str) -> tuple[Chained, Least]:
     """Wants all of one problem."""
-    draw = random.Random(number)
-    problem, runs = drawn(draw), Runs(program, folder)
+    draw = Random(number)
+    problem, runs = drawn(draw), Runs(folder)
     runs.put("problem", problem.lines())
     least = Least(problem)
     if least.consistent:
         check_execution(draw, runs, problem, least)
     else:
-        check_contradiction(runs, least)
+        check_contradiction(runs, problem)
     runs.want(["verify", "problem", "certificate"], 0, ["yes"])
     check_widening(runs, problem)
     check_refusals(runs, problem)
     return problem, least
 
 
-# ---- texts at the limits
 CLOCKS, EVENTS, MESSAGES, BYTES = 65_536, 2**21, 2**21, 2**31
 
 
-def chain_lines(clocks, gaps=True):
+def chain_lines(clocks: int) -> Iterator[str]:
     """Clocks, each following the one before, with an event on each: a gap of its place in ns."""
     yield "problem 2"
     yield from (f"clock c{k} 0 0 0 0" for k in range(clocks))
-    yield from (f"follow c{k - 1} c{k} {k if gaps else 0}" for k in range(1, clocks))
+    yield from (f"follow c{k - 1} c{k} {k}" for k in range(1, clocks))
 
 
-def many_clocks(runs):
+def many_clocks(runs: Runs) -> None:
     """A chain of all clocks: the gaps add up where each has a reading, and the last counts where none between has one."""
     total = CLOCKS * (CLOCKS - 1) // 2
     runs.put("problem", [*chain_lines(CLOCKS), *(f"event e{k} c{k} 5" for k in range(CLOCKS)), "end"])
@@ -410,7 +417,7 @@ def many_clocks(runs):
     runs.want(["solve", "problem"], 4, [f"problem 4 {CLOCKS + 2}"])
 
 
-def many_lines(events, messages):
+def many_lines(events: int, messages: int) -> Iterator[str]:
     """Two clocks that follow each other, each with half of the events; each message goes from an event to the next one."""
     half = events // 2
     yield from ("problem 2", "clock c 0 0 0 0", "clock d 0 0 0 0", "follow c d 7")
@@ -420,13 +427,14 @@ def many_lines(events, messages):
     yield "end"
 
 
-def many_events(runs):
+def many_events(runs: Runs) -> None:
     """As many events and messages as there may be, and one more of each."""
     runs.put("problem", many_lines(EVENTS, MESSAGES))
     least = EVENTS // 2 - 1 + 7 + EVENTS // 2 - 1
     runs.want(["ends", "problem", "e0", f"e{EVENTS - 1}"], 0, [f"{ns(least * UNITS)} +inf before"])
     status, lines = runs.run("solve", "problem")
-    if status or lines[:3] != ["certificate 1", "run", "event e0 0.000000000"] or lines[1 + EVENTS] != f"event e{EVENTS - 1} {ns(least * UNITS)}":
+    first, last = "event e0 0.000000000", f"event e{EVENTS - 1} {ns(least * UNITS)}"
+    if status or lines[:3] != ["certificate 1", "run", first] or lines[1 + EVENTS] != last:
         raise AssertionError(f"solve ended with {status} and printed {lines[:3]}")
     runs.put("certificate", lines)
     runs.want(["verify", "problem", "certificate"], 0, ["yes"])
@@ -436,7 +444,7 @@ def many_events(runs):
     runs.want(["solve", "problem"], 4, [f"problem 4 {4 + EVENTS + MESSAGES + 1}"])
 
 
-def many_bytes(runs):
+def many_bytes(runs: Runs) -> None:
     """A text that is too long, and one that is as long as may be, whose second line is no line."""
     runs.put("problem", ["problem 2"])
     os.truncate(f"{runs.folder}/problem", BYTES + 1)
@@ -445,12 +453,13 @@ def many_bytes(runs):
     runs.want(["solve", "problem"], 4, ["problem 1 2"])
 
 
-def check_limits(program):
+def check_limits() -> int:
+    """Runs the texts at the limits; the status."""
     failed = 0
     for case in (many_clocks, many_events, many_bytes):
         with tempfile.TemporaryDirectory(prefix="follows-") as folder:
             try:
-                case(Runs(program, folder))
+                case(Runs(folder))
             except AssertionError as error:
                 print(f"{case.__name__}: {str(error)[:2000]}", flush=True)
                 failed += 1
@@ -458,32 +467,33 @@ def check_limits(program):
     return 1 if failed else 0
 
 
-def main():
-    parser = argparse.ArgumentParser(description=__doc__.splitlines()[0])
-    parser.add_argument("--program", default=PROGRAM, help="the program to run")
+def leave(number: int, folder: str, why: AssertionError) -> None:
+    """Tells what went wrong in a problem, and keeps its files."""
+    kept = f"{LEFT}/follows-{number}"
+    shutil.rmtree(kept, ignore_errors=True)
+    shutil.copytree(folder, kept)
+    print(f"problem {number}: {str(why)[:3000]}\nits files are in {kept}")
+
+
+def main() -> int:
+    parser = argparse.ArgumentParser(description=__doc__.split("\n\n")[0])
     parser.add_argument("--limits", action="store_true", help="run the texts at the limits")
-    parser.add_argument("problems", nargs="?", type=int, default=300, help="how many problems")
-    parser.add_argument("seed", nargs="?", type=int, default=1, help="the number of the first")
-    args = parser.parse_args()
-    program = os.path.abspath(args.program)
-    if args.limits:
-        return check_limits(program)
+    parser.add_argument("problems", metavar="PROBLEMS", nargs="?", type=int, default=300, help="how many problems; 300")
+    parser.add_argument("seed", metavar="SEED", nargs="?", type=int, default=1, help="the number of the first; 1")
+    said = parser.parse_args()
+    if said.limits:
+        return check_limits()
     counts = {"with an execution": 0, "without": 0, "with follows": 0}
-    for number in range(args.seed, args.seed + args.problems):
-        folder = tempfile.mkdtemp(prefix="follows-")
-        try:
-            problem, least = check_problem(program, number, folder)
-        except AssertionError as error:
-            kept = f"{TOP}/bench/out/follows-{number}"
-            shutil.rmtree(kept, ignore_errors=True)
-            shutil.copytree(folder, kept)
-            print(f"problem {number}: {str(error)[:3000]}\nits files are in {kept}")
-            return 1
-        finally:
-            shutil.rmtree(folder)
+    for number in range(said.seed, said.seed + said.problems):
+        with tempfile.TemporaryDirectory(prefix="follows-") as folder:
+            try:
+                problem, least = check_problem(number, folder)
+            except AssertionError as why:
+                leave(number, folder, why)
+                return 1
         counts["with an execution" if least.consistent else "without"] += 1
         counts["with follows"] += any(words.startswith("follow ") for words in least.bounds)
-    print(f"{args.problems} problems: " + ", ".join(f"{count} {what}" for what, count in counts.items()))
+    print(f"{said.problems} problems: " + ", ".join(f"{count} {what}" for what, count in counts.items()))
     return 0
 
 
