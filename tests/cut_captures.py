@@ -1,68 +1,72 @@
 #!/usr/bin/env python3
-"""Cuts the captures of examples/captures anywhere, and wants the answers that the whole files have. It is no part of the gate.
+"""Cuts the captures of examples/captures anywhere, and wants the answers that the whole files have.
 
-    cut_captures.py [RUNS [SEED]]
+    tests/cut_captures.py [RUNS [SEED]]
 
-Each of RUNS runs, 200 if it is not said, adds both captures in up to eight pieces, which come in turn from either, and then asks
-for the problem, which has every event with its stamp and every message. It must be the one of the whole captures. In the additions
-the events must add up, and behind the last piece nothing may be pending. TRACESYNC names another program to run than
-crates/tracesync/out/tracesync.
+Each of RUNS runs, 200 if it is not said, adds both captures in up to eight pieces, which come in turn from either, and then
+asks for the problem, which has every event with its stamp and every message. It must be the one of the whole captures. In
+the additions the events must add up, and behind the last piece nothing may be pending. SEED is the seed of the cuts, 1 if
+it is not said. PROGRAM names the program, else it is the one that is built here.
 """
-import os
-import random
-import subprocess
+
+import argparse
 import sys
 import tempfile
+from collections.abc import Iterator
+from random import Random
 
-TOP = os.path.dirname(os.path.dirname(os.path.abspath(__file__)))
-PROGRAM = os.environ.get("TRACESYNC", f"{TOP}/crates/tracesync/out/tracesync")
+from support.program import TOP, read, write
+from support.replies import added, answered
+
 FOLDER = f"{TOP}/examples/captures"
+NAMES = ("left", "right")
 
 
-def answers(lines):
-    script = "".join(line + "\n" for line in lines)
-    done = subprocess.run([PROGRAM, "session", f"{FOLDER}/hosts.toml"], input=script, capture_output=True, text=True, check=True)
-    return done.stdout.split("\n")
+def pieces_of(data: bytes, draw: Random) -> list[bytes]:
+    """A capture in up to eight pieces."""
+    cuts = sorted(draw.randrange(len(data) + 1) for _ in range(draw.randrange(8)))
+    return [data[a:b] for a, b in zip([0, *cuts], [*cuts, len(data)])]
 
 
-def pieces_of(data, chance):
-    cuts = sorted(chance.randrange(len(data) + 1) for _ in range(chance.randrange(8)))
-    return [data[a:b] for a, b in zip([0] + cuts, cuts + [len(data)])]
-
-
-def merged(queues, chance):
+def in_turn(queues: dict[str, list[bytes]], draw: Random) -> Iterator[tuple[str, bytes]]:
+    """The pieces of all captures, in an order that is drawn."""
     while any(queues.values()):
-        name = chance.choice([name for name, queue in queues.items() if queue])
+        name = draw.choice([name for name, queue in queues.items() if queue])
         yield name, queues[name].pop(0)
 
 
-def run(captures, whole, folder, chance):
-    script, added = [], {}
-    for n, (name, piece) in enumerate(merged({name: pieces_of(data, chance) for name, data in captures.items()}, chance)):
-        path = f"{folder}/{n}.pcap"
-        with open(path, "wb") as file:
-            file.write(piece)
-        script.append(f"add {name} {path}")
-    replies = answers(script + ["problem"])
-    for line, reply in zip(script, replies):
-        words = reply.split()
-        assert words[0] == "added", (line, reply)
-        events, pending = added.get(line.split()[1], (0, 0))
-        added[line.split()[1]] = (events + int(words[2]), int(words[8]))
-    assert replies[len(script):] == whole[1], script
-    assert added == whole[0], (script, added)
-
-
-def main():
-    runs = int(sys.argv[1]) if len(sys.argv) > 1 else 200
-    chance = random.Random(int(sys.argv[2]) if len(sys.argv) > 2 else 1)
-    captures = {name: open(f"{FOLDER}/{name}.pcap", "rb").read() for name in ("left", "right")}
-    replies = answers([f"add left {FOLDER}/left.pcap", f"add right {FOLDER}/right.pcap", "problem"])
-    events = {name: (int(reply.split()[2]), 0) for name, reply in zip(captures, replies)}
+def check_cut(captures: dict[str, bytes], counts: dict[str, int], problem: list[str], draw: Random) -> None:
+    """Adds the captures in pieces. Raises AssertionError where the answers are others than those of the whole ones."""
     with tempfile.TemporaryDirectory() as folder:
-        for _ in range(runs):
-            run(captures, (events, replies[2:]), folder, chance)
-    print(f"{runs} runs, each as the whole captures")
+        queues = {name: pieces_of(data, draw) for name, data in captures.items()}
+        pieces = [(name, write(f"{folder}/{n}", piece)) for n, (name, piece) in enumerate(in_turn(queues, draw))]
+        script = [f"add {name} {path}" for name, path in pieces]
+        *additions, found = answered(f"{FOLDER}/hosts.toml", [*script, "problem"])
+    events, pending = dict.fromkeys(captures, 0), dict.fromkeys(captures, 0)
+    for (name, _), reply in zip(pieces, additions):
+        came, waits = added(reply)
+        events[name] += came
+        pending[name] = waits
+    assert found == problem, (script, "another problem")
+    assert events == counts, (script, events)
+    assert not any(pending.values()), (script, pending)
 
 
-main()
+def main() -> int:
+    parser = argparse.ArgumentParser(description=__doc__.split("\n\n")[0])
+    parser.add_argument("runs", metavar="RUNS", nargs="?", type=int, default=200, help="how many runs; 200")
+    parser.add_argument("seed", metavar="SEED", nargs="?", type=int, default=1, help="the seed of the cuts; 1")
+    said = parser.parse_args()
+    captures = {name: read(f"{FOLDER}/{name}.pcap") for name in NAMES}
+    whole = [*(f"add {name} {FOLDER}/{name}.pcap" for name in NAMES), "problem"]
+    *additions, problem = answered(f"{FOLDER}/hosts.toml", whole)
+    counts = {name: added(reply)[0] for name, reply in zip(NAMES, additions)}
+    draw = Random(said.seed)
+    for _ in range(said.runs):
+        check_cut(captures, counts, problem, draw)
+    print(f"{said.runs} runs, each as the whole captures")
+    return 0
+
+
+if __name__ == "__main__":
+    sys.exit(main())

@@ -1,63 +1,110 @@
 #!/usr/bin/env python3
-"""Runs the sessions of examples/ with each question, and checks what they say of one another. It is no part of the gate.
+"""Runs the sessions of examples/ with each question, and checks what they say of one another.
 
-    bench/run_examples.py
+    tests/examples.py
 
-Each certificate that `prove` replies is given to `verify` with the reply to `problem`, which must print `yes`. The merge has a line for
-each event, in the order of the times; with the report's numbers each event is counted once; an event's time by the source lies between
-its ends. PROGRAM names the program, else it is the one that the gate built. It ends with status 1 where something is otherwise.
+Each certificate that `prove` replies is given to `verify` with the reply to `problem`, which must print `yes`. The merge
+has a line for each event, in the order of the times; with the report's numbers each event is counted once; an event's time
+by the source has ends in their order. PROGRAM names the program, else it is the one that is built here. It ends with status
+1 where something is otherwise.
 """
+
+import argparse
 import json
-import os
 import subprocess
 import sys
 import tempfile
+from dataclasses import dataclass
 from fractions import Fraction
 
-ROOT = os.path.dirname(os.path.dirname(os.path.abspath(__file__)))
-PROGRAM = os.environ.get("PROGRAM", f"{ROOT}/crates/tracesync/out/tracesync")
+from support.program import TOP, program, read, write
+from support.replies import answered, script_of
 
 
-def session(folder, lines, declaration):
-    script = "".join(f"{line}\n" for line in lines).encode()
-    done = subprocess.run([PROGRAM, "session", f"examples/{folder}/{declaration}"], input=script, capture_output=True, cwd=ROOT)
-    if done.returncode:
-        sys.exit(f"{folder}: status {done.returncode}")
-    return done.stdout.decode()
+@dataclass(frozen=True)
+class Example:
+    """A folder of examples/ with a session, pairs of events to prove, and events to tell the time of."""
+
+    folder: str
+    pairs: list[tuple[str, str]]
+    timed: tuple[str, ...] = ()
+    declaration: str = "hosts.toml"
+    script: str = "script.txt"
+
+    def additions(self) -> list[str]:
+        """The lines that add logs and captures."""
+        lines = read(f"{TOP}/examples/{self.folder}/{self.script}").decode().split("\n")
+        return [line for line in lines if line.startswith("add ")]
+
+    def ask(self, *lines: str) -> list[list[str]]:
+        """The replies to lines behind the additions."""
+        additions = self.additions()
+        declaration = f"examples/{self.folder}/{self.declaration}"
+        return answered(declaration, [*additions, *lines], TOP)[len(additions) :]
 
 
-def check(folder, additions, pairs, timed=(), declaration="hosts.toml"):
-    base = session(folder, additions, declaration)
-    reply = lambda line: session(folder, additions + [line], declaration)[len(base) :]
-    problem, merged, report = reply("problem"), reply("merge").splitlines(), json.loads(reply("report"))
-    events = [line.split(" ")[1] for line in problem.splitlines() if line.startswith("event ")]
-    times = [Fraction(line.split(" ")[0]) for line in merged[1:]]
-    assert merged[0] == f"merge {len(events)}", "merge has another number of events"
-    assert sorted(line.split(" ")[1] for line in merged[1:]) == sorted(events), "merge has other events"
+EXAMPLES = [
+    Example("captures", [("left#6", "right#6"), ("right#58", "left#1"), ("left#3", "left#3")]),
+    Example("session", [("db#2", "web#2"), ("web#1", "db#1")]),
+    Example("stepped", [("b-before#4", "b-after#1"), ("b-after#1", "a#5")], (), "split.toml", "split.txt"),
+    Example(
+        "restarted",
+        [("first#2", "second#1"), ("first#2", "gate#1"), ("gate#3", "first#1")],
+        ("second#1", "second#5", "gate#1"),
+    ),
+    Example("timeline", [("db#1", "app#4"), ("gate#1", "db#4")], ("gate#2", "db#1", "app#7")),
+]
+
+
+def check_merge(events: list[str], merge: list[str]) -> None:
+    """Wants a merge to have these events, in the order of their times."""
+    times = [Fraction(line.split(" ")[0]) for line in merge[1:]]
+    assert merge[0] == f"merge {len(events)}", "merge has another number of events"
+    assert sorted(line.split(" ")[1] for line in merge[1:]) == sorted(events), "merge has other events"
     assert times == sorted(times), "merge is not sorted"
+
+
+def check_report(events: list[str], text: str) -> None:
+    """Wants a report to count each event once."""
+    report = json.loads(text)
     listed = sum(len(group["sends"]) + len(group["receives"]) for group in report["ambiguous"])
-    assert report["events"] == len(events) == 2 * report["messages"] + sum(report["nokey"].values()) + report["unmatched"] + listed
-    with tempfile.TemporaryDirectory() as at:
-        with open(f"{at}/problem", "w") as it:
-            it.write(problem)
-        for first, second in pairs:
-            with open(f"{at}/certificate", "w") as it:
-                it.write(reply(f"prove {first} {second}"))
-            told = subprocess.run([PROGRAM, "verify", f"{at}/problem", f"{at}/certificate"], capture_output=True)
+    counted = 2 * report["messages"] + sum(report["nokey"].values()) + report["unmatched"] + listed
+    assert report["events"] == len(events) == counted, f"the report's numbers do not add up: {text}"
+
+
+def check_proofs(pairs: list[tuple[str, str]], problem: list[str], proofs: list[list[str]]) -> None:
+    """Wants each proof to be accepted over the problem."""
+    with tempfile.TemporaryDirectory() as folder:
+        path = write(f"{folder}/problem", script_of(problem))
+        for (first, second), proof in zip(pairs, proofs):
+            certificate = write(f"{folder}/certificate", script_of(proof))
+            told = subprocess.run([program(), "verify", path, certificate], capture_output=True)
             assert told.stdout == b"yes\n", f"prove {first} {second}: {told.stdout!r}"
-    for event in timed:
-        least, greatest = (Fraction(it) for it in reply(f"time {event}").split()[1:])
+
+
+def check(example: Example) -> None:
+    """Asks all questions of one example. Raises AssertionError where a reply is otherwise."""
+    problem, merge, report = example.ask("problem", "merge", "report")
+    events = [line.split(" ")[1] for line in problem if line.startswith("event ")]
+    check_merge(events, merge)
+    check_report(events, report[0])
+    check_proofs(example.pairs, problem, example.ask(*(f"prove {first} {second}" for first, second in example.pairs)))
+    for event, reply in zip(example.timed, example.ask(*(f"time {it}" for it in example.timed))):
+        least, greatest = (Fraction(it) for it in reply[0].split(" ")[1:])
         assert least <= greatest, f"time {event}"
-    print(f"{folder}: {len(events)} events, {len(pairs)} certificates accepted")
+    print(f"{example.folder}: {len(events)} events, {len(example.pairs)} certificates accepted, {len(example.timed)} times")
 
 
-def additions(folder, script="script.txt"):
-    with open(f"{ROOT}/examples/{folder}/{script}") as it:
-        return [line.strip() for line in it if line.startswith("add ")]
+def main() -> int:
+    argparse.ArgumentParser(description=__doc__.split("\n\n")[0]).parse_args()
+    for example in EXAMPLES:
+        try:
+            check(example)
+        except (AssertionError, RuntimeError) as why:
+            print(f"{example.folder}: {why}")
+            return 1
+    return 0
 
 
-check("captures", additions("captures"), [("left#6", "right#6"), ("right#58", "left#1"), ("left#3", "left#3")])
-check("session", additions("session"), [("db#2", "web#2"), ("web#1", "db#1")])
-check("stepped", additions("stepped", "split.txt"), [("b-before#4", "b-after#1"), ("b-after#1", "a#5")], declaration="split.toml")
-check("restarted", additions("restarted"), [("first#2", "second#1"), ("first#2", "gate#1"), ("gate#3", "first#1")], ["second#1", "second#5", "gate#1"])
-check("timeline", additions("timeline"), [("db#1", "app#4"), ("gate#1", "db#4")], ["gate#2", "db#1", "app#7"])
+if __name__ == "__main__":
+    sys.exit(main())

@@ -1,90 +1,96 @@
 #!/usr/bin/env python3
-"""Merges the captures of examples/ by `tracesync mergecap`, and reads the outcome by the tools of Wireshark. It is no part of the gate.
+"""Merges the captures of examples/ by `tracesync mergecap`, and reads the outcome by the tools of Wireshark.
 
-    bench/test_mergecap.py [--size]
+    tests/mergecap.py [--size]
 
-What editcap reads of each capture must be what the outcome has, byte for byte: each packet once, in the order of the reply to `merge` of a
-session over the same script, each with its time there, less what is below 1 ns, as its stamp. tshark must read these stamps and lengths,
-capinfos as many packets, and a session of its own as many events with these stamps. Then scripts that have no merge: the line must stand
-there alone, with its status, and a refused line be the reply that a session has. With --size it tries 2^30 bytes of packets too, which
-takes 2 GB of memory and 600 MB of disk. PROGRAM names the program, else it is the one that the gate built. It needs capinfos, editcap and
-tshark. Prints a line for each case, and with status 1 the first one that is otherwise.
+What editcap reads of each capture must be what the outcome has, byte for byte: each packet once, in the order of the reply
+to `merge` of a session over the same script, each with its time there, less what is below 1 ns, as its stamp. tshark must
+read these stamps and lengths, capinfos as many packets, and a session of its own as many events with these stamps. Then
+scripts that have no merge: the line must stand there alone, with its status, and a refused line be the reply that a session
+has. With --size it tries 2^30 bytes of packets too, which takes 2 GB of memory and 600 MB of disk. PROGRAM names the
+program, else it is the one that is built here. It needs capinfos, editcap and tshark. Prints a line for each case, and with
+status 1 the first one that is otherwise.
 """
+
+import argparse
 import os
-import shutil
 import struct
 import subprocess
 import sys
 import tempfile
+from collections.abc import Sequence
 
-# (the import below leaves nothing behind)
-sys.dont_write_bytecode = True
-from replies import PROGRAM, TOP, replies_of  # noqa: E402
+from support.captures import SECTION, block, classic_head, classic_record
+from support.program import TOP, program, read, write
+from support.replies import replies_of, script_of
+from support.wireshark import is_there, packets_of, tool
 
 EXAMPLES = f"{TOP}/examples"
 HOSTS = f"{EXAMPLES}/captures/hosts.toml"
-EMPTY = bytes.fromhex("4d3cb2a1 02000400 00000000 00000000 00000400 01000000")
-LEFT, RIGHT = f"add left {EXAMPLES}/captures/left.pcap", f"add right {EXAMPLES}/captures/right.pcap"
+# A capture without packets.
+EMPTY = classic_head()
+LEFT, RIGHT = (f"add {it} {EXAMPLES}/captures/{it}.pcap" for it in ("left", "right"))
 DUAL = [f"add left {EXAMPLES}/dual/left.pcap", f"add right {EXAMPLES}/dual/right-any2.pcap"]
 PLAIN = '[hosts.left]\n[labels.left]\nhost = "left"\nkind = "capture"\n'
 PLAIN_TWO = PLAIN + '[labels.right]\nhost = "left"\nkind = "capture"\n'
 LOGS = '[labels.app]\nhost = "left"\nkind = "log"\n[labels.web]\nhost = "right"\nkind = "log"\n'
 
 
-def run(command, declaration, lines):
-    source = b"".join(line.encode() + b"\n" for line in lines)
-    return subprocess.run([PROGRAM, command, declaration], input=source, capture_output=True)
+Record = tuple[int, int, bytes]  # the stamp in ns, the length and the bytes of a packet
 
 
-def replies(declaration, lines):
+def run(command: str, declaration: str, lines: Sequence[str]) -> subprocess.CompletedProcess[bytes]:
+    """Runs a command over a script."""
+    return subprocess.run([program(), command, declaration], input=script_of(lines), capture_output=True)
+
+
+def replies(declaration: str, lines: Sequence[str]) -> list[list[str]]:
+    """The replies of a session, which may end before its script does."""
     done = run("session", declaration, lines)
     assert done.returncode == 0, done
     return replies_of(done.stdout.decode().splitlines())
 
 
-def tool(*words):
-    return subprocess.run(words, capture_output=True, text=True, check=True).stdout
-
-
-def records(data):
-    """The link type, and the stamp in ns, the length and the bytes of each packet of a classic capture of ns."""
+def records(data: bytes) -> tuple[int, list[Record]]:
+    """The link type and the packets of a classic capture of ns."""
     assert data[:16] == EMPTY[:16], data[:24]
-    found, place = [], 24
+    found: list[Record] = []
+    place = 24
     while place < len(data):
         seconds, nanoseconds, kept, length = struct.unpack_from("<IIII", data, place)
         found.append((seconds * 10**9 + nanoseconds, length, data[place + 16 : place + 16 + kept]))
         assert nanoseconds < 10**9 and len(found[-1][2]) == kept, place
         place += 16 + kept
-    return data[20:24], found
+    return int.from_bytes(data[20:24], "little"), found
 
 
-def put(folder, name, content):
-    with open(f"{folder}/{name}", "wb" if isinstance(content, bytes) else "w") as it:
-        it.write(content)
-    return f"{folder}/{name}"
+def put(folder: str, name: str, content: bytes | str) -> str:
+    """Writes a file, and returns its path."""
+    return write(f"{folder}/{name}", content)
 
 
-def packets_of(folder, lines, captures):
+def packets_by_event(folder: str, lines: Sequence[str], captures: Sequence[str]) -> dict[str, bytes]:
     """The bytes of each packet by its event's name, as editcap reads the files that a script adds, those of a label in one."""
-    files, found = {}, {}
+    files: dict[str, bytes] = {}
+    found: dict[str, bytes] = {}
     for _, label, path in (line.split(" ") for line in lines):
         if label in captures:
-            with open(path, "rb") as it:
-                files[label] = files.get(label, b"") + it.read()
+            files[label] = files.get(label, b"") + read(path)
     for label, data in files.items():
         tool("editcap", "-F", "nsecpcap", put(folder, "original", data), f"{folder}/classic")
-        with open(f"{folder}/classic", "rb") as it:
-            found |= {f"{label}#{n}": packet for n, (_, _, packet) in enumerate(records(it.read())[1], 1)}
+        _, packets = records(read(f"{folder}/classic"))
+        found |= {f"{label}#{n}": packet for n, (_, _, packet) in enumerate(packets, 1)}
     return found
 
 
-def merges(folder, case, declaration, lines, captures=("left", "right")):
+def merges(folder: str, case: str, declaration: str, lines: Sequence[str], captures: Sequence[str] = ("left", "right")) -> None:
+    """Wants a merge of these additions. Raises AssertionError where it is otherwise."""
     done = run("mergecap", declaration, lines)
     assert done.returncode == 0, (case, done.returncode, done.stdout[:80])
-    merged = [line.split(" ") for line in replies(declaration, lines + ["merge"])[-1][1:]]
+    replied = [line.split(" ") for line in replies(declaration, [*lines, "merge"])[-1][1:]]
     # (rows of logs bound the times, and have no packets)
-    merged = [(int(time.split(".")[0]), event) for time, event in merged if event.split("#")[0] in captures]
-    packets = packets_of(folder, lines, captures)
+    merged = [(int(time.split(".")[0]), event) for time, event, *_ in replied if event.split("#")[0] in captures]
+    packets = packets_by_event(folder, lines, captures)
     link, written = records(done.stdout)
     assert done.stdout[:20] == EMPTY[:20], (case, "another header")
     assert sorted(packets) == sorted(event for _, event in merged), (case, "another set of events")
@@ -92,14 +98,15 @@ def merges(folder, case, declaration, lines, captures=("left", "right")):
     assert [packet for _, _, packet in written] == [packets[event] for _, event in merged], (case, "other packets")
     assert all(length == len(packet) for _, length, packet in written), (case, "other lengths")
     read_again(folder, case, put(folder, "merged.pcap", done.stdout), written)
-    print(f"{case}: {len(written)} packets of link type {link[0] + 256 * link[1]}, in the order of `merge`")
+    print(f"{case}: {len(written)} packets of link type {link}, in the order of `merge`")
 
 
-def read_again(folder, case, path, written):
+def read_again(folder: str, case: str, path: str, written: list[Record]) -> None:
+    """Wants tshark, capinfos and a session to read what was written."""
     told = tool("tshark", "-r", path, "-T", "fields", "-e", "frame.time_epoch", "-e", "frame.len", "-e", "frame.cap_len")
     wanted = [f"{stamp // 10**9}.{stamp % 10**9:09}\t{length}\t{len(packet)}" for stamp, length, packet in written]
     assert told.splitlines() == wanted, (case, "tshark reads something else")
-    assert int(tool("capinfos", "-c", "-M", "-T", "-r", path).split()[-1]) == len(written), (case, "capinfos counts others")
+    assert packets_of(path) == len(written), (case, "capinfos counts others")
     added, problem = replies(put(folder, "plain.toml", PLAIN), [f"add left {path}", "problem"])
     words = added[0].split(" ")
     assert words[0] == "added" and int(words[2]) == len(written) and int(words[8]) == 0, (case, added)
@@ -107,13 +114,14 @@ def read_again(folder, case, path, written):
     assert stamps == [stamp for stamp, _, _ in written], (case, "other stamps in a session")
 
 
-def no_merge(case, declaration, lines, wanted, status=12):
+def no_merge(case: str, declaration: str, lines: Sequence[str], wanted: str, status: int = 12) -> None:
+    """Wants this line in place of a merge."""
     done = run("mergecap", declaration, lines)
     assert (done.stdout, done.returncode) == (wanted.encode() + b"\n", status), (case, done.returncode, done.stdout[:80])
     print(f"{case}: `{wanted}`, status {status}")
 
 
-def refused(case, lines, number):
+def refused(case: str, lines: list[str], number: str) -> None:
     """The first line that a session refuses, by its reply there."""
     reply = next(it[0] for it in replies(HOSTS, lines) if it[0].startswith("refused"))
     assert reply.split(" ")[1] == number, (case, reply)
@@ -121,29 +129,28 @@ def refused(case, lines, number):
     no_merge(case, HOSTS, lines + ["add nosuch nosuch"], reply)
 
 
-def changed(folder, name, path, old, new):
-    with open(path) as it:
-        text = it.read()
+def changed(folder: str, name: str, path: str, old: str, new: str) -> str:
+    """Writes a text in which something stands in place of something else."""
+    text = read(path).decode()
     assert old in text, old
     return put(folder, name, text.replace(old, new))
 
 
-def pieces(folder, label, path, cuts):
-    with open(path, "rb") as it:
-        data = it.read()
+def pieces(folder: str, label: str, path: str, cuts: Sequence[int]) -> list[str]:
+    """The lines that add a capture which is cut at these bytes."""
+    data = read(path)
     ends = [0, *cuts, len(data)]
     return [f"add {label} {put(folder, f'{label}{k}', data[a:b])}" for k, (a, b) in enumerate(zip(ends, ends[1:]))]
 
 
-def blocks(stamps):
-    """A capture in pcapng of an interface that counts in ns, with an empty packet at each of these stamps."""
-    data = struct.pack("<IIIHHqI", 0x0A0D0D0A, 28, 0x1A2B3C4D, 1, 0, -1, 28) + struct.pack("<IIHHIHHB3xII", 1, 32, 1, 0, 0, 9, 1, 9, 0, 32)
-    for stamp in stamps:
-        data += struct.pack("<IIIIIIII", 6, 32, 0, stamp >> 32, stamp & 0xFFFFFFFF, 0, 0, 32)
-    return data
+def empty_packets(stamps: Sequence[int]) -> bytes:
+    """A capture in pcapng of an interface that counts in ns and has no snaplen, with an empty packet at each of these stamps."""
+    interface = struct.pack("<IIHHIHHB3xII", 1, 32, 1, 0, 0, 9, 1, 9, 0, 32)
+    return SECTION + interface + b"".join(block(stamp, b"") for stamp in stamps)
 
 
-def lawful(folder):
+def lawful(folder: str) -> None:
+    """Scripts that have a merge."""
     done = run("mergecap", HOSTS, [])
     assert (done.stdout, done.returncode) == (EMPTY, 0), done
     print("no line: a capture without packets")
@@ -158,17 +165,17 @@ def lawful(folder):
     merges(folder, "classic and pcapng", HOSTS, [LEFT, f"add right {EXAMPLES}/pcapng/right.pcapng"])
     merges(folder, "dual, left alone", f"{EXAMPLES}/dual/hosts.toml", DUAL[:1])
     merges(folder, "dual, right alone", f"{EXAMPLES}/dual/hosts.toml", DUAL[1:])
-    merges(folder, "a time of 2^32 s less 1 ns", put(folder, "plain.toml", PLAIN), [f"add left {put(folder, 'late', blocks([1, 2**32 * 10**9]))}"])
-    with open(HOSTS) as it:
-        both = put(folder, "logs.toml", it.read().replace("[[links]]", LOGS + "[[links]]", 1))
-    with open(f"{EXAMPLES}/captures/left.pcap", "rb") as it:
-        stamp = int.from_bytes(it.read(28)[24:], "little") * 10**9
+    late = put(folder, "late", empty_packets([1, 2**32 * 10**9]))
+    merges(folder, "a time of 2^32 s less 1 ns", put(folder, "plain.toml", PLAIN), [f"add left {late}"])
+    both = put(folder, "logs.toml", read(HOSTS).decode().replace("[[links]]", LOGS + "[[links]]", 1))
+    stamp = int.from_bytes(read(f"{EXAMPLES}/captures/left.pcap")[24:28], "little") * 10**9
     app = put(folder, "app.csv", f"{stamp},send,a,\n{stamp + 10**8},local,,\n")
     web = put(folder, "web.csv", f"{stamp + 10**9},receive,a,\n")
     merges(folder, "captures and logs", both, [LEFT, f"add app {app}", RIGHT, f"add web {web}"])
 
 
-def without_merge(folder):
+def without_merge(folder: str) -> None:
+    """Scripts that have none."""
     no_merge("a question of a session", HOSTS, [LEFT, "merge", "add nosuch nosuch"], "refused 20")
     refused("a word that is no command", [LEFT, "addleft"], "20")
     refused("a line that is too long", [LEFT, "add left " + "x" * 4096], "20")
@@ -181,39 +188,48 @@ def without_merge(folder):
     no_merge("two link types", f"{EXAMPLES}/dual/hosts.toml", DUAL, "links")
     far = changed(folder, "far.toml", f"{EXAMPLES}/dual/hosts.toml", "least = 1", "least = 1_000_000")
     no_merge("two link types and no execution", far, DUAL, "inconsistent")
-    plain, late = put(folder, "plain.toml", PLAIN), put(folder, "late", blocks([1, 2**32 * 10**9 + 1]))
+    plain, late = put(folder, "plain.toml", PLAIN), put(folder, "late", empty_packets([1, 2**32 * 10**9 + 1]))
     no_merge("a time of 2^32 s", plain, [f"add left {late}"], "range")
     no_merge("a time of 2^32 s and two link types", put(folder, "two.toml", PLAIN_TWO), [f"add left {late}", DUAL[1]], "links")
     no_merge("a declaration that is not there", f"{folder}/nosuch", [LEFT], "read fault", 7)
     no_merge("a declaration that is refused", LEFT.split(" ")[2], [LEFT], "declaration 1 top 0", 3)
 
 
-def large(folder):
+def large(folder: str) -> None:
     """2^30 bytes of packets, and one byte more."""
-    packet = struct.pack("<IIII", 0, 0, 2**18, 2**18) + bytes(2**18)
+    packet = classic_record(0, bytes(2**18))
     head, rest = put(folder, "head", EMPTY + 819 * packet), put(folder, "rest", 819 * packet)
     end = put(folder, "end", packet)
-    last = put(folder, "last", struct.pack("<IIII", 0, 0, 1, 1) + b"x")
-    lines = [f"add left {head}", f"add left {rest}", f"add left {rest}", f"add right {head}", f"add right {rest}", f"add left {end}"]
+    last = put(folder, "last", classic_record(0, b"x"))
+    added = [("left", head), ("left", rest), ("left", rest), ("right", head), ("right", rest), ("left", end)]
+    lines = [f"add {label} {path}" for label, path in added]
     two = put(folder, "two.toml", PLAIN_TWO)
     with open(f"{folder}/all.pcap", "wb") as output:
-        done = subprocess.run([PROGRAM, "mergecap", two], input="".join(f"{it}\n" for it in lines).encode(), stdout=output)
+        done = subprocess.run([program(), "mergecap", two], input=script_of(lines), stdout=output)
     assert done.returncode == 0 and os.path.getsize(f"{folder}/all.pcap") == 24 + 4096 * len(packet), done
-    assert int(tool("capinfos", "-c", "-M", "-T", "-r", f"{folder}/all.pcap").split()[-1]) == 4096
+    assert packets_of(f"{folder}/all.pcap") == 4096
     print("2^30 bytes of packets: 4096 packets")
     os.remove(f"{folder}/all.pcap")
     no_merge("2^30 + 1 bytes of packets", two, [*lines, f"add right {last}", "merge"], "size")
 
 
-def main():
-    for it in ("capinfos", "editcap", "tshark"):
-        if not shutil.which(it):
-            sys.exit(f"bench: there is no {it}")
+def main() -> int:
+    parser = argparse.ArgumentParser(description=__doc__.split("\n\n")[0])
+    parser.add_argument("--size", action="store_true", help="try 2^30 bytes of packets too")
+    said = parser.parse_args()
+    if not is_there("capinfos", "editcap", "tshark"):
+        sys.exit("mergecap: capinfos, editcap and tshark must be installed")
     with tempfile.TemporaryDirectory() as folder:
-        lawful(folder)
-        without_merge(folder)
-        if "--size" in sys.argv[1:]:
-            large(folder)
+        try:
+            lawful(folder)
+            without_merge(folder)
+            if said.size:
+                large(folder)
+        except AssertionError as why:
+            print(f"mergecap: {why}")
+            return 1
+    return 0
 
 
-main()
+if __name__ == "__main__":
+    sys.exit(main())
