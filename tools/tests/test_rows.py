@@ -1,15 +1,11 @@
-#!/usr/bin/env python3
-"""Runs tools/rows over a table of lines, and compares its rows with those that are wanted. It is no part of the gate.
+"""Runs tools/rows over a table of lines, and compares its rows with those that are wanted."""
 
-    bench/test_rows.py
-
-Prints a line for each case that differs, and at last 'N passed, M failed'; with status 1 if one failed.
-"""
-import os
 import subprocess
 import sys
+import unittest
 
-ROWS = f"{os.path.dirname(os.path.dirname(os.path.abspath(__file__)))}/tools/rows"
+from common import TOOLS
+
 KEY = "k" * 64
 ANY = ["--line", r"(?P<stamp>[^|]*)\|(?P<kind>[^|]*)\|(?P<key>[^|]*)\|(?P<text>.*)"]
 
@@ -70,26 +66,20 @@ CASES = [
 ]
 
 
-def differs(words, log, wanted):
-    """Returns how a run differs from what is wanted, in words, or None."""
-    ran = subprocess.run([sys.executable, ROWS, *words], input=log.encode(), capture_output=True)
-    printed, said = ran.stdout.decode(), ran.stderr.decode()
-    if isinstance(wanted, str):
-        return None if (printed, ran.returncode) == (wanted, 0) else f"{printed!r}, status {ran.returncode}, {said!r}"
-    line, why = wanted
-    return None if ran.returncode == 1 and f"line {line}: " in said and why in said else f"status {ran.returncode}, {said!r}"
-
-
-def main():
-    failed = 0
-    for words, log, wanted in CASES:
-        why = differs(words, log, wanted)
-        if why:
-            failed += 1
-            print(f"{words} over {log!r}: {why}, and {wanted!r} is wanted")
-    print(f"{len(CASES) - failed} passed, {failed} failed")
-    return 1 if failed else 0
+class Rows(unittest.TestCase):
+    def test_rows_of_lines(self) -> None:
+        for words, log, wanted in CASES:
+            with self.subTest(words=words, log=log):
+                ran = subprocess.run([sys.executable, f"{TOOLS}/rows", *words], input=log.encode(), capture_output=True)
+                said = ran.stderr.decode()
+                if isinstance(wanted, str):
+                    self.assertEqual((ran.stdout.decode(), ran.returncode), (wanted, 0), said)
+                else:
+                    line, why = wanted
+                    self.assertEqual(ran.returncode, 1, said)
+                    self.assertIn(f"line {line}: ", said)
+                    self.assertIn(why, said)
 
 
 if __name__ == "__main__":
-    sys.exit(main())
+    unittest.main()

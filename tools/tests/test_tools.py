@@ -1,22 +1,16 @@
-#!/usr/bin/env python3
-"""Runs ./tracesync and the scripts of tools/ in a copy of the repository, and looks at what they say and their statuses. It is no part
-of the gate; bench/test_rows.py has the cases of tools/rows.
+"""Runs ./tracesync and the scripts of tools/ in a copy of the repository, and looks at what they say and their statuses. Left out where
+no program is there; test_rows.py has the cases of tools/rows."""
 
-    bench/test_tools.py [--binary PATH]
-
-PATH is the program to run, else the one that tools/build makes. Prints a line for each case that differs, and at last 'N passed, M
-failed'; with status 1 if one failed.
-"""
-import argparse
-import os
 import subprocess
 import sys
 import tempfile
+import unittest
 from xml.etree import ElementTree
 
-# (the import below leaves nothing behind)
-sys.dont_write_bytecode = True
-from run_documents import PROGRAM, TOP, copy_tree  # noqa: E402
+from common import PROGRAM, TOP
+
+sys.path.insert(0, f"{TOP}/tests")
+from support.tree import copy_tree  # noqa: E402
 
 PROBLEM = "examples/obey/problem.txt"
 TIMELINE = "./tracesync session examples/timeline/hosts.toml < examples/timeline/script.txt"
@@ -67,36 +61,24 @@ CASES = [
 ]
 
 
-def differs(command, status, printed, said, folder):
-    """Returns how a command differs from what is wanted, in words, or None."""
-    ran = subprocess.run(["bash", "-c", command], cwd=folder, stdin=subprocess.DEVNULL, capture_output=True, text=True)
-    if ran.returncode != status:
-        return f"status {ran.returncode} in place of {status}; {ran.stderr.strip()[-200:]}"
-    for wanted, text in ((printed, ran.stdout), (said, ran.stderr)):
-        if wanted not in text or (not wanted and text):
-            return f"{text[:200]!r} in place of {wanted!r}"
-    if "<svg" in ran.stdout:
-        ElementTree.fromstring(ran.stdout)
-    return None
+@unittest.skipUnless(PROGRAM, "no program is there")
+class Tools(unittest.TestCase):
+    def test_commands_in_a_copy_of_the_repository(self) -> None:
+        with tempfile.TemporaryDirectory() as room:
+            copy_tree(f"{room}/repository", PROGRAM)
+            for command, status, printed, said in CASES:
+                with self.subTest(command=command):
+                    self.check(command, status, printed, said, f"{room}/repository")
 
-
-def main():
-    reader = argparse.ArgumentParser(description=__doc__.split("\n\n")[0])
-    reader.add_argument("--binary", metavar="PATH", help="the program to run; else the one that tools/build makes")
-    binary = reader.parse_args().binary
-    if not binary:
-        subprocess.run([f"{TOP}/tools/build"], check=True)
-    failed = 0
-    with tempfile.TemporaryDirectory() as room:
-        copy_tree(f"{room}/repository", binary or f"{TOP}/{PROGRAM}")
-        for case in CASES:
-            why = differs(*case, f"{room}/repository")
-            if why:
-                failed += 1
-                print(f"{case[0]}: {why}", flush=True)
-    print(f"{len(CASES) - failed} passed, {failed} failed")
-    return 1 if failed else 0
+    def check(self, command: str, status: int, printed: str, said: str, folder: str) -> None:
+        """Runs a command; wants its status, and these parts on its outputs, of which '' is nothing at all."""
+        ran = subprocess.run(["bash", "-c", command], cwd=folder, stdin=subprocess.DEVNULL, capture_output=True, text=True)
+        self.assertEqual(ran.returncode, status, ran.stderr.strip()[-200:])
+        for wanted, text in ((printed, ran.stdout), (said, ran.stderr)):
+            self.assertTrue(wanted in text and (wanted or not text), f"{text[:200]!r} in place of {wanted!r}")
+        if "<svg" in ran.stdout:
+            ElementTree.fromstring(ran.stdout)
 
 
 if __name__ == "__main__":
-    sys.exit(main())
+    unittest.main()
