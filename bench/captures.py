@@ -1,105 +1,151 @@
-#!/usr/bin/env python3
-"""Writes a large packet capture in pieces, for run_captures.sh, or the captures of two hosts, for run_mergecap.py.
+"""Large captures: how fast a session reads them beside capinfos, and `mergecap` beside Wireshark's: see runner.py."""
 
-    captures.py MEGABYTES FRAME FOLDER [pcapng]
-    captures.py pair MEGABYTES FRAME FOLDER keys|other
+import os
+import tempfile
+from collections.abc import Iterator, Sequence
+from dataclasses import dataclass
 
-FRAME is the bytes of each frame, from 64 to 262,144. The frames have an EtherType for local experiments (88b5), so that they
-are events without a key, and a session spends its time on reading and not on matching. The capture is classic pcap, or pcapng if that
-is said, and has nanoseconds, the least significant byte first. Its pieces are FOLDER/part1.pcap and so on: of 2^27 bytes each, cut wherever that falls, and the last one
-of what is left. FOLDER/whole.pcap is all of it.
+from common import OUT, beside, fail, kib, output, peak_of, program, read, want_status, write
+from support.captures import AROUND_BLOCK, AROUND_RECORD, INTERFACE, SECTION, block, classic_head, classic_record, frame
+from support.wireshark import is_there, packets_of
 
-With `pair` it writes FOLDER/left.pcap and FOLDER/right.pcap, classic and each so large. Every packet stands in both: it goes from left
-(10.9.0.1) to right (10.9.0.2) or back, in turn, one each 10 us, and arrives 2 to 5 us after it was sent; right's clock is 3 ms ahead. With
-`keys` the frames are datagrams of UDP, up to 65,549 bytes, of which each has other first bytes, so that with `payload_bytes` of 8 each is a
-message; with `other` they are those without a key.
-
-Prints how many pieces there are, which a pair has not, and the packets of a capture.
-"""
-import struct
-import sys
-
+# A large capture is added in pieces of so many bytes.
 PIECE = 2**27
-
-
-class Classic:
-    HEAD = struct.pack("<IHHiIII", 0xA1B23C4D, 2, 4, 0, 0, 262144, 1)
-    AROUND = 16
-
-    @staticmethod
-    def record(time, payload):
-        return struct.pack("<IIII", time // 10**9, time % 10**9, len(payload), len(payload)) + payload
-
-
-class Blocks:
-    # A section, and an interface of Ethernet whose option if_tsresol is 9.
-    HEAD = struct.pack("<IIIHHqI", 0x0A0D0D0A, 28, 0x1A2B3C4D, 1, 0, -1, 28) + struct.pack("<IIHHIHHB3xII", 1, 32, 1, 0, 262144, 9, 1, 9, 0, 32)
-    AROUND = 32
-
-    @staticmethod
-    def record(time, payload):
-        padding = -len(payload) % 4
-        size = 32 + len(payload) + padding
-        head = struct.pack("<IIIIIII", 6, size, 0, time >> 32, time & 0xFFFFFFFF, len(payload), len(payload))
-        return head + payload + bytes(padding) + struct.pack("<I", size)
-
-
-ADDRESSES = bytes([10, 9, 0, 1]), bytes([10, 9, 0, 2])
+# How far right's clock is ahead, in ns.
 AHEAD = 3_000_000
+CAPTURE = '[hosts.h]\n[labels.c]\nhost = "h"\nkind = "capture"\n'
+PAIR = (("left", "10.9.0.1"), ("right", "10.9.0.2"))
+HOSTS = "".join(
+    f'[hosts.{name}]\nshort = 50_000\nlong = 50_003\nearly = 0\nlate = 2\naddresses = ["{address}"]\n'
+    f'[labels.{name}]\nhost = "{name}"\nkind = "capture"\n'
+    for name, address in PAIR
+)
+LINKS = "".join(f'[[links]]\nfrom = "{one}"\nto = "{other}"\nleast = 1\n' for one, other in (("left", "right"), ("right", "left")))
 
 
-def body(size):
+@dataclass(frozen=True)
+class Options:
+    """How many runs each figure is the least of, the bytes of frames, and whether captures are pcapng."""
+
+    runs: int
+    frames: Sequence[int]
+    is_pcapng: bool
+
+
+def body(size: int) -> bytes:
     return (bytes(range(256)) * (size // 256 + 1))[:size]
 
 
-def other(frame):
-    return bytes.fromhex("02000000000202000000000188b5") + body(frame - 14)
+def without_key(size: int) -> bytes:
+    """A frame with an EtherType for local experiments (88b5), so that it is an event without a key."""
+    return bytes.fromhex("02000000000202000000000188b5") + body(size - 14)
 
 
-def datagram(k, back, tail):
-    """A frame of UDP over IPv4: the number k and what stands behind it, sent by left, or by right on the way back."""
-    size = 28 + 8 + len(tail)
-    head = struct.pack(">BBHHHBBH", 0x45, 0, size, k & 0xFFFF, 0, 64, 17, 0) + ADDRESSES[back] + ADDRESSES[1 - back]
-    return bytes.fromhex("0200000000020200000000010800") + head + struct.pack(">HHHHQ", 7000, 7000, size - 20, 0, k) + tail
+def datagram(number: int, is_back: bool, tail: bytes) -> bytes:
+    """A frame of UDP with this number and what stands behind it, from left to right or back."""
+    source, target = (2, 1) if is_back else (1, 2)
+    return frame(source, target, number.to_bytes(8, "big") + tail, number & 0xFFFF, (7000, 7000))
 
 
-def write_pair(megabytes, frame, folder, keys):
-    count = megabytes * 10**6 // (Classic.AROUND + frame)
-    tail, plain = body(frame - 50), other(frame)
-    with open(f"{folder}/left.pcap", "wb") as left, open(f"{folder}/right.pcap", "wb") as right:
-        left.write(Classic.HEAD)
-        right.write(Classic.HEAD)
-        for k in range(count):
-            back = k % 2
-            payload = datagram(k, back, tail) if keys else plain
-            sent = k * 10_000
-            received = sent + 2_000 + k * 7919 % 3_000
-            left.write(Classic.record((sent, received)[back], payload))
-            right.write(Classic.record((received, sent)[back] + AHEAD, payload))
-    print(count)
-
-
-def main():
-    if sys.argv[1] == "pair":
-        write_pair(int(sys.argv[2]), int(sys.argv[3]), sys.argv[4], sys.argv[5] == "keys")
-        return
-    megabytes, frame, folder = int(sys.argv[1]), int(sys.argv[2]), sys.argv[3]
-    form = Blocks if sys.argv[4:] == ["pcapng"] else Classic
-    count = megabytes * 10**6 // (form.AROUND + frame)
-    payload = other(frame)
-    pieces = 0
-    held = bytearray(form.HEAD)
+def write_large(megabytes: int, size: int, is_pcapng: bool, folder: str) -> tuple[list[str], int]:
+    """Writes a capture of frames without a key as whole.pcap, and its pieces, cut wherever they end; their paths, and its packets."""
+    head, record, around = classic_head(), classic_record, AROUND_RECORD
+    if is_pcapng:
+        head, record, around = SECTION + INTERFACE, block, AROUND_BLOCK
+    count = megabytes * 10**6 // (around + size)
+    payload, paths, held = without_key(size), [], bytearray(head)
     with open(f"{folder}/whole.pcap", "wb") as whole:
         for k in range(count):
-            held += form.record(k * 10**6, payload)
-            last = k + 1 == count
-            while len(held) >= PIECE or (last and held):
-                pieces += 1
-                with open(f"{folder}/part{pieces}.pcap", "wb") as part:
-                    part.write(held[:PIECE])
+            held += record(k * 10**6, payload)
+            is_last = k + 1 == count
+            while len(held) >= PIECE or (is_last and held):
+                paths.append(write(f"{folder}/part{len(paths) + 1}.pcap", bytes(held[:PIECE])))
                 whole.write(held[:PIECE])
                 del held[:PIECE]
-    print(pieces, count)
+    return paths, count
 
 
-main()
+def write_pair(megabytes: int, size: int, has_keys: bool, folder: str) -> tuple[list[str], int]:
+    """Writes left.pcap and right.pcap; their paths, and the packets of each.
+
+    Every packet stands in both: it goes from left to right or back, in turn, one each 10 us, and arrives 2 to 5 us after it was
+    sent. With keys the frames are datagrams that have other first bytes each, so that each is a message."""
+    count = megabytes * 10**6 // (AROUND_RECORD + size)
+    tail, plain = body(size - 50), without_key(size)
+    paths = [f"{folder}/{name}.pcap" for name, _ in PAIR]
+    with open(paths[0], "wb") as left, open(paths[1], "wb") as right:
+        left.write(classic_head())
+        right.write(classic_head())
+        for k in range(count):
+            is_back = k % 2 == 1
+            payload = datagram(k, is_back, tail) if has_keys else plain
+            sent, received = k * 10_000, k * 10_000 + 2_000 + k * 7919 % 3_000
+            left.write(classic_record(received if is_back else sent, payload))
+            right.write(classic_record((sent if is_back else received) + AHEAD, payload))
+    return paths, count
+
+
+class Captures:
+    """A session that adds one large capture in pieces of 128 MiB, beside capinfos, which counts the packets of the same bytes."""
+
+    head = ("MB", "frame, bytes", "packets", "tracesync, s", "capinfos, s", "tracesync, KiB")
+
+    def __init__(self, options: Options) -> None:
+        self.options = options
+
+    def rows(self, megabytes: int) -> Iterator[Sequence[object]]:
+        for size in self.options.frames:
+            with tempfile.TemporaryDirectory() as folder:
+                yield self.row(megabytes, size, folder)
+
+    def row(self, megabytes: int, size: int, folder: str) -> Sequence[object]:
+        paths, packets = write_large(megabytes, size, self.options.is_pcapng, folder)
+        words = [program(), "session", write(f"{folder}/hosts.toml", CAPTURE)]
+        script = write(f"{folder}/script", "".join(f"add c {path}\n" for path in paths))
+        found = beside(self.options.runs, {"tracesync": words}, script)
+        want_status(found, script)
+        if not read(output("tracesync")).endswith(b" pending 0 consistent\n"):
+            fail(f"a piece was not added: {read(output('tracesync'))[:300]!r}")
+        theirs = "-"
+        if is_there("capinfos"):
+            ways = {"capinfos": ["capinfos", "-c", f"{folder}/whole.pcap"]}
+            theirs = f"{beside(self.options.runs, ways)['capinfos'].processor:.2f}"
+        return [megabytes, size, packets, f"{found['tracesync'].processor:.2f}", theirs, kib(peak_of(words, script))]
+
+
+class Mergecap:
+    """`mergecap` beside Wireshark's program of this name, over the same two captures. Each writes its output to a file, and both
+    outputs must have as many packets as the two captures, by capinfos."""
+
+    head = ["MB each", "frame, bytes", "packets", "keys"]
+    head += [f"{it}, {what}" for it in ("tracesync", "Wireshark") for what in ("wall s", "processor s", "KiB")]
+
+    def __init__(self, options: Options) -> None:
+        self.options = options
+        if not is_there("mergecap", "capinfos"):
+            fail("mergecap and capinfos of Wireshark must be installed")
+
+    def rows(self, megabytes: int) -> Iterator[Sequence[object]]:
+        os.makedirs(OUT, exist_ok=True)
+        for size in self.options.frames:
+            for has_keys in (True, False):
+                with tempfile.TemporaryDirectory(dir=OUT) as folder:
+                    yield self.row(megabytes, size, has_keys, folder)
+
+    def row(self, megabytes: int, size: int, has_keys: bool, folder: str) -> Sequence[object]:
+        paths, each = write_pair(megabytes, size, has_keys, folder)
+        declaration = write(f"{folder}/hosts.toml", f"payload_bytes = 8\n{HOSTS}{LINKS}")
+        script = write(f"{folder}/script", "".join(f"add {name} {path}\n" for (name, _), path in zip(PAIR, paths)))
+        ways = {
+            "tracesync": [program(), "mergecap", declaration],
+            "wireshark": ["mergecap", "-F", "nsecpcap", "-w", "-", *paths],
+        }
+        found = beside(self.options.runs, ways, script)
+        want_status(found, script)
+        for name in ways:
+            if packets_of(output(name)) != 2 * each:
+                fail(f"{output(name)} has {packets_of(output(name))} packets instead of {2 * each}")
+        cells: list[object] = [megabytes, size, 2 * each, "all" if has_keys else "none"]
+        for name, words in ways.items():
+            cells += [f"{found[name].wall:.2f}", f"{found[name].processor:.2f}", kib(peak_of(words, script))]
+        return cells

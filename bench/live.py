@@ -1,9 +1,13 @@
-"""A session that is asked line by line over pipes, with the processor time of each line and the memory between two: see run_growth.py."""
+"""A session that is asked line by line over pipes, with the processor time of each line and the memory between two: see growth.py."""
+
 import fcntl
 import os
 import subprocess
 import sys
 import time
+from collections.abc import Sequence
+
+from workload import Piece
 
 BLOCK = 1 << 20
 
@@ -11,12 +15,15 @@ BLOCK = 1 << 20
 class Live:
     """A session of a program over a declaration."""
 
-    def __init__(self, program, declaration):
-        self.child = subprocess.Popen([program, "session", declaration], stdin=subprocess.PIPE, stdout=subprocess.PIPE, bufsize=0)
-        fcntl.fcntl(self.child.stdout, fcntl.F_SETPIPE_SZ, BLOCK)
+    def __init__(self, program: str, declaration: str) -> None:
+        words = [program, "session", declaration]
+        self.child = subprocess.Popen(words, stdin=subprocess.PIPE, stdout=subprocess.PIPE, bufsize=0)
+        assert self.child.stdin is not None and self.child.stdout is not None
+        self.stdin, self.stdout = self.child.stdin, self.child.stdout
+        fcntl.fcntl(self.stdout, fcntl.F_SETPIPE_SZ, BLOCK)
         self.events = 0
 
-    def spent(self):
+    def spent(self) -> float:
         """The seconds of processor that the program has taken, once it waits for its next line."""
         while True:
             with open(f"/proc/{self.child.pid}/stat") as it:
@@ -24,21 +31,21 @@ class Live:
                     return time.clock_gettime((~self.child.pid << 3) | 2)
             time.sleep(0.0002)
 
-    def ask(self, lines):
-        """Gives lines of one kind to the session, not above 64 KiB together; what the last reply begins with, and the seconds of processor of all."""
+    def ask(self, lines: Sequence[str]) -> tuple[bytes, float]:
+        """Gives lines of one kind to the session, not above 64 KiB together; the front of the replies, and the seconds of processor
+        of all."""
         begun = self.spent()
-        self.child.stdin.write("".join(f"{line}\n" for line in lines).encode())
+        self.stdin.write("".join(f"{line}\n" for line in lines).encode())
         said = self.read(lines[0].split(" ")[0], len(lines))
         return said, self.spent() - begun
 
-    def read(self, command, replies):
+    def read(self, command: str, replies: int) -> bytes:
         """Reads so many replies to a command; the front of them."""
-        end, wanted = {"prove": (b"\nend\n", replies), "problem": (b"\nend\n", replies)}.get(command, (b"\n", replies))
-        if command == "merge":
-            wanted = replies * (self.events + 1)
+        end = b"\nend\n" if command in ("prove", "problem") else b"\n"
+        wanted = replies * (self.events + 1) if command == "merge" else replies
         front, last, seen = b"", b"", 0
         while seen < wanted:
-            block = os.read(self.child.stdout.fileno(), BLOCK)
+            block = os.read(self.stdout.fileno(), BLOCK)
             if not block:
                 sys.exit(f"a session ended at `{command}`: {front[-300:]!r}")
             front += block[: 65536 - len(front)]
@@ -49,20 +56,22 @@ class Live:
             sys.exit(f"a session went wrong at `{command}`: {front[:300]!r}")
         return front
 
-    def add(self, pieces):
-        """Adds pieces, each of which is a label, a path and a number of events; the replies, and the seconds of processor of all."""
+    def add(self, pieces: Sequence[Piece]) -> tuple[list[str], float]:
+        """Adds pieces; the replies, and the seconds of processor of all."""
         said, taken = self.ask([f"add {label} {path}" for label, path, _ in pieces])
         self.events += sum(events for _, _, events in pieces)
         return said.decode().splitlines(), taken
 
-    def memory(self):
+    def memory(self) -> tuple[int, int]:
         """The memory in KiB that the program has now, and the most that it had."""
         with open(f"/proc/{self.child.pid}/status") as it:
             said = dict(line.split(":", 1) for line in it)
-        return tuple(int(said[name].split()[0]) for name in ("VmRSS", "VmHWM"))
+        now, most = (int(said[name].split()[0]) for name in ("VmRSS", "VmHWM"))
+        return now, most
 
-    def close(self):
+    def close(self) -> None:
+        """Ends the session, whatever it is about."""
         self.child.kill()
         self.child.wait()
-        self.child.stdin.close()
-        self.child.stdout.close()
+        self.stdin.close()
+        self.stdout.close()

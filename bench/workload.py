@@ -1,10 +1,15 @@
-"""Logs of eight hosts that send messages to one another, in pieces, for run_growth.py."""
-import random
+"""Logs of eight hosts that send messages to one another, in pieces, for growth.py, overview.py and trial.py."""
+
+from collections.abc import Callable, Sequence
+from random import Random
 
 HOSTS = 8
 
+Piece = tuple[str, str, int]  # a label, the path of a file, and how many events it has
+Happening = tuple[int, str]  # a host, and the row of its log
 
-def declaration(label="h{}"):
+
+def declaration(label: str = "h{}") -> str:
     """Eight hosts with a log each; the first is the source. The labels have names by this pattern."""
     lines = ['source = "h0"']
     for host in range(HOSTS):
@@ -17,28 +22,36 @@ def declaration(label="h{}"):
     return "\n".join(lines) + "\n"
 
 
-def happenings(events):
-    """So many events, an even number: pairs of a host and its row, a send and its receive in turn, with delays within the declared bounds."""
-    draw = random.Random(7)
-    offsets = [draw.randrange(10**9) for _ in range(HOSTS)]
-    found, time = [], 10**9
-    for number in range(events // 2):
-        time += 1 + draw.randrange(100_000)
-        send = draw.randrange(HOSTS)
-        receive = (send + 1 + draw.randrange(HOSTS - 1)) % HOSTS
+def exchanged(events: int, below: Callable[[int], int], first: int = 0) -> list[Happening]:
+    """So many events, an even number, with delays within the declared bounds: a send and its receive in turn. `below` draws a
+    number below another one, and the messages are numbered from `first` on."""
+    offsets = [below(10**9) for _ in range(HOSTS)]
+    found: list[Happening] = []
+    time = 10**9
+    for number in range(first, first + events // 2):
+        time += 1 + below(100_000)
+        send = below(HOSTS)
+        receive = (send + 1 + below(HOSTS - 1)) % HOSTS
+        delay = 1_000 + below(99_001)
         found.append((send, f"{offsets[send] + time},send,m{number},"))
-        found.append((receive, f"{offsets[receive] + time + 1_000 + draw.randrange(99_001)},receive,m{number},"))
+        found.append((receive, f"{offsets[receive] + time + delay},receive,m{number},"))
     return found
 
 
-def by_host(happened):
-    rows = [[] for _ in range(HOSTS)]
+def happenings(events: int) -> list[Happening]:
+    """So many events, an even number, the same ones each time."""
+    return exchanged(events, Random(7).randrange)
+
+
+def by_host(happened: Sequence[Happening]) -> list[list[str]]:
+    """The rows of each host."""
+    rows: list[list[str]] = [[] for _ in range(HOSTS)]
     for host, row in happened:
         rows[host].append(row)
     return rows
 
 
-def cut(rows, pieces):
+def cut(rows: list[str], pieces: int) -> list[list[str]]:
     """The rows in so many pieces of about the same size."""
     return [rows[len(rows) * n // pieces : len(rows) * (n + 1) // pieces] for n in range(pieces)]
 
@@ -46,13 +59,13 @@ def cut(rows, pieces):
 class Folder:
     """A folder with a declaration, for files of pieces."""
 
-    def __init__(self, path, declared):
+    def __init__(self, path: str, declared: str) -> None:
         self.path, self.files = path, 0
         self.declaration = f"{path}/hosts.toml"
         with open(self.declaration, "w") as it:
             it.write(declared)
 
-    def piece(self, label, rows):
+    def piece(self, label: str, rows: Sequence[str]) -> Piece:
         """Writes a piece: its label, its path, and how many events it has."""
         self.files += 1
         path = f"{self.path}/{self.files}"
@@ -64,11 +77,11 @@ class Folder:
 class Tail:
     """Rows that come behind those of a session, as one reads growing logs: each host's wait until there are enough for a piece."""
 
-    def __init__(self, folder, happened, at):
+    def __init__(self, folder: Folder, happened: Sequence[Happening], at: int) -> None:
         self.folder, self.happened, self.at = folder, happened, at
-        self.waiting = [[] for _ in range(HOSTS)]
+        self.waiting: list[list[str]] = [[] for _ in range(HOSTS)]
 
-    def piece(self, events):
+    def piece(self, events: int) -> Piece | None:
         """The next piece of so many events, or None where there are no more rows."""
         full = next((host for host in range(HOSTS) if len(self.waiting[host]) >= events), None)
         while full is None:

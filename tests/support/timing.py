@@ -79,3 +79,13 @@ def in_turn(count: int, *ways: Callable[[], Run]) -> list[Run]:
         for runs, way in zip(found, ways):
             runs.append(way())
     return [least(it) for it in found]
+
+
+def peak_of(words: Sequence[str], script: str = os.devnull) -> int | None:
+    """The peak memory of a command in KiB, from a run of its own: by /usr/bin/time where it is installed, which is small itself."""
+    if not os.access("/usr/bin/time", os.X_OK):
+        return run(words, script, said=os.devnull).peak
+    with open(script, "rb") as source:
+        measured = ["/usr/bin/time", "-q", "-f", "%M", *words]
+        done = subprocess.run(measured, stdin=source, stdout=subprocess.DEVNULL, stderr=subprocess.PIPE, text=True)
+    return int(done.stderr.split()[-1])
