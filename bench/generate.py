@@ -21,6 +21,7 @@ declared: from fifty messages on no real times obey that. No execution is writte
 
 import argparse
 import os
+from typing import TextIO
 
 CLOCKS = 8
 ALONE = 10
@@ -39,10 +40,10 @@ class Draws:
     MULTIPLIER = 48_271
     MODULUS = 2**31 - 1
 
-    def __init__(self, seed):
+    def __init__(self, seed: int) -> None:
         self.state = seed
 
-    def below(self, limit):
+    def below(self, limit: int) -> int:
         self.state = self.state * self.MULTIPLIER % self.MODULUS
         return self.state % limit
 
@@ -50,22 +51,22 @@ class Draws:
 class Trace:
     """Events in their order, each with a clock, a real time and a stamp, all in ns."""
 
-    def __init__(self, offsets, fast=0):
+    def __init__(self, offsets: list[int], fast: int = 0) -> None:
         self.offsets = offsets
         # In parts per billion, that of each second clock.
         self.fast = fast
-        self.events = []
-        self.names = []
+        self.events: list[tuple[int, int, int]] = []
+        self.names: list[str] = []
         self.counts = [0] * len(offsets)
-        self.stamps = [set() for _ in offsets]
+        self.stamps: list[set[int]] = [set() for _ in offsets]
 
-    def stamp(self, clock, time):
+    def stamp(self, clock: int, time: int) -> int:
         return self.offsets[clock] + time + time * self.fast * (clock % 2) // 10**9
 
-    def is_read(self, clock, time):
+    def is_read(self, clock: int, time: int) -> bool:
         return self.stamp(clock, time) in self.stamps[clock]
 
-    def add(self, clock, time):
+    def add(self, clock: int, time: int) -> None:
         stamp = self.stamp(clock, time)
         self.stamps[clock].add(stamp)
         self.counts[clock] += 1
@@ -73,11 +74,11 @@ class Trace:
         self.events.append((clock, time, stamp))
 
 
-def generate(count):
+def generate(count: int) -> tuple[Trace, list[int]]:
     """A trace of messages, and the delays of these: events 2 * k and 2 * k + 1 are those of message k."""
     draws = Draws(count + 1)
     trace = Trace([draws.below(10**9) for _ in range(CLOCKS)])
-    delays = []
+    delays: list[int] = []
     time = 10**9
     while len(trace.events) < count:
         time += 1 + draws.below(100_000)
@@ -93,12 +94,12 @@ def generate(count):
     return trace, delays
 
 
-def generate_one_way(count, alone_each, fast, most):
+def generate_one_way(count: int, alone_each: int, fast: int, most: int) -> tuple[Trace, list[int]]:
     """A trace of messages from h1 to h0, and the delays of these, as above; then the events of h0 alone."""
     draws = Draws(count + 1)
     trace = Trace([draws.below(10**9) for _ in range(2)], fast)
-    delays = []
-    alone = []
+    delays: list[int] = []
+    alone: list[int] = []
     time = 10**9
     while len(delays) < count:
         for _ in range(alone_each):
@@ -114,26 +115,32 @@ def generate_one_way(count, alone_each, fast, most):
     return trace, delays
 
 
-def write_problem(out, trace, delays, form):
+def bounds_of(trace: Trace, delays: list[int], form: str | None, k: int) -> tuple[int, int | str]:
+    """What a message declares of its delay, by the form of the problem."""
+    is_last = k + 1 == len(delays)
+    if form == "broken" and is_last:
+        return LEAST, delays[k] - 1
+    if form == "contradict" and is_last:
+        return 10 * MOST, "none"
+    if form == "link" and [trace.events[2 * k + end][0] for end in (0, 1)] == [1, 2]:
+        return LEAST, MOST // 4
+    return LEAST, NEAR if form == "drift" else MOST
+
+
+def write_problem(out: TextIO, trace: Trace, delays: list[int], form: str | None) -> None:
     out.write("problem 1\n")
     for clock in range(len(trace.offsets)):
         drift = DRIFT if clock > 0 else 0
         out.write(f"clock h{clock} {drift} {drift} 0 {LATE}\n")
     for name, (clock, _, stamp) in zip(trace.names, trace.events):
         out.write(f"event {name} h{clock} {stamp}\n")
-    for k, delay in enumerate(delays):
-        least, most = LEAST, NEAR if form == "drift" else MOST
-        if form == "broken" and k + 1 == len(delays):
-            most = delay - 1
-        elif form == "contradict" and k + 1 == len(delays):
-            least, most = 10 * MOST, "none"
-        elif form == "link" and [trace.events[2 * k + end][0] for end in (0, 1)] == [1, 2]:
-            most = MOST // 4
+    for k in range(len(delays)):
+        least, most = bounds_of(trace, delays, form, k)
         out.write(f"message {trace.names[2 * k]} {trace.names[2 * k + 1]} {least} {most}\n")
     out.write("end\n")
 
 
-def write_execution(out, trace):
+def write_execution(out: TextIO, trace: Trace) -> None:
     out.write("execution 1\n")
     for name, (_, time, _) in zip(trace.names, trace.events):
         out.write(f"event {name} {time}.000000000\n")
@@ -144,35 +151,46 @@ def write_execution(out, trace):
     out.write("end\n")
 
 
-def main():
-    parser = argparse.ArgumentParser(description=__doc__.splitlines()[0])
-    parser.add_argument("count", type=int, help="the number of events, even, from 2 to 2^21; of messages if --one-way or --drift")
-    parser.add_argument("folder", help="where N.problem and N.execution are written")
+FORMS = (
+    ("problem", "N.problem alone"),
+    ("broken", "break one bound: N-broken.problem and N-broken.execution"),
+    ("contradict", "N-contradict.problem alone"),
+    ("link", "N-link.problem alone"),
+    ("one-way", "N-one-way.problem alone"),
+    ("drift", "N-drift.problem alone"),
+)
+
+
+def arguments() -> argparse.ArgumentParser:
+    parser = argparse.ArgumentParser(description=__doc__.split("\n\n")[0])
+    count = "the number of events, even, from 2 to 2^21; of messages if --one-way or --drift"
+    parser.add_argument("count", metavar="N", type=int, help=count)
+    parser.add_argument("folder", metavar="FOLDER", help="where N.problem and N.execution are written")
     forms = parser.add_mutually_exclusive_group()
-    for form, what in (
-        ("problem", "N.problem alone"),
-        ("broken", "break one bound: N-broken.problem and N-broken.execution"),
-        ("contradict", "N-contradict.problem alone"),
-        ("link", "N-link.problem alone"),
-        ("one-way", "N-one-way.problem alone"),
-        ("drift", "N-drift.problem alone"),
-    ):
+    for form, what in FORMS:
         forms.add_argument(f"--{form}", dest="form", action="store_const", const=form, help=what)
-    parser.add_argument("--alone", type=int, default=ALONE, help="how many events of h0 alone come with each message of --one-way or --drift")
-    args = parser.parse_args()
-    if args.form in ("one-way", "drift"):
-        if not 0 <= args.alone <= MOST_EVENTS or not 1 <= args.count <= MOST_EVENTS // (args.alone + 2):
+    alone = "how many events of h0 alone come with each message of --one-way or --drift"
+    parser.add_argument("--alone", metavar="N", type=int, default=ALONE, help=alone)
+    return parser
+
+
+def main() -> None:
+    parser = arguments()
+    said = parser.parse_args()
+    if said.form in ("one-way", "drift"):
+        if not 0 <= said.alone <= MOST_EVENTS or not 1 <= said.count <= MOST_EVENTS // (said.alone + 2):
             parser.error(f"at most {MOST_EVENTS} events, one message at least")
-        trace, delays = generate_one_way(args.count, args.alone, *((FAST, NEAR) if args.form == "drift" else (0, MOST)))
+        fast, most = (FAST, NEAR) if said.form == "drift" else (0, MOST)
+        trace, delays = generate_one_way(said.count, said.alone, fast, most)
     else:
-        if args.count % 2 != 0 or not 2 <= args.count <= MOST_EVENTS:
+        if said.count % 2 != 0 or not 2 <= said.count <= MOST_EVENTS:
             parser.error("an even number of events from 2 to 2^21")
-        trace, delays = generate(args.count)
-    suffix = "" if args.form in (None, "problem") else f"-{args.form}"
-    stem = os.path.join(args.folder, f"{args.count}{suffix}")
+        trace, delays = generate(said.count)
+    suffix = "" if said.form in (None, "problem") else f"-{said.form}"
+    stem = os.path.join(said.folder, f"{said.count}{suffix}")
     with open(stem + ".problem", "w", encoding="ascii", newline="\n") as out:
-        write_problem(out, trace, delays, args.form)
-    if args.form in (None, "broken"):
+        write_problem(out, trace, delays, said.form)
+    if said.form in (None, "broken"):
         with open(stem + ".execution", "w", encoding="ascii", newline="\n") as out:
             write_execution(out, trace)
 
