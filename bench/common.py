@@ -1,4 +1,5 @@
-"""What the scripts of this folder share: what they take from tests/support, C++ programs, problems, and the cells of tables.
+"""What the scripts of this folder share: what they take from tests/support, C++ programs, problems, and the cells of
+tables.
 
 A script imports this module before others of tests/."""
 

@@ -3,10 +3,10 @@
 
     bench/families.py [--runs N] [FAMILY..]
 
-Without a FAMILY all of them. Each line has the processor seconds of one run at the three sizes, the least of N runs, 2 if it
-is not said, and the exponent of the growth from n to 4n, beside that of n log n. Above 1.3 the line says so, but for the three
-families that are known to grow with the square (docs/PERFORMANCE.md). PROGRAM names the program, else it is the one that is
-built here.
+Without a FAMILY all of them. Each line has the processor seconds of one run at the three sizes, the least of N runs,
+2 if it is not said, and the exponent of the growth from n to 4n, beside that of n log n. Above 1.3 the line says so,
+but for the three families that are known to grow with the square (docs/PERFORMANCE.md). PROGRAM names the program,
+else it is the one that is built here.
 """
 
 import argparse

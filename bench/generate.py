@@ -11,12 +11,13 @@ than it took, which breaks one bound, the last delay-most of all. With --contrad
 it took at least ten times the greatest delay. From a hundred events on the others tell that it took
 less, so no real times obey the problem, and no execution is written.
 
-With --link every message from h1 to h2 declares that it took at most a quarter of the greatest delay. No execution is written, and
-from a thousand events on there is none.
+With --link every message from h1 to h2 declares that it took at most a quarter of the greatest delay. No execution is
+written, and from a thousand events on there is none.
 
-With --one-way the number is that of messages, all from h1 to h0, and ten events of h0 alone come with
-each of them. --drift is the same, but that messages take 1,000 to 1,100 ns, and that the clock of h1 is 0.02% fast, where 0.002% is
-declared: from fifty messages on no real times obey that. No execution is written. With --alone another number of events of h0 comes with each message.
+With --one-way the number is that of messages, all from h1 to h0, and ten events of h0 alone come with each of them.
+--drift is the same, but that messages take 1,000 to 1,100 ns, and that the clock of h1 is 0.02% fast, where 0.002% is
+declared: from fifty messages on no real times obey that. No execution is written. With --alone another number of
+events of h0 comes with each message.
 """
 
 import argparse

@@ -1,4 +1,5 @@
-"""A session that is asked line by line over pipes, with the processor time of each line and the memory between two: see growth.py."""
+"""A session that is asked line by line over pipes, with the processor time of each line and the memory between two:
+see growth.py."""
 
 import fcntl
 import os

@@ -6,7 +6,8 @@ from collections.abc import Iterator, Sequence
 from dataclasses import dataclass, field
 
 from common import (
-    OUT, Run, beside, compiled, fail, generated, kib, milliseconds, output, peak_of, program, quotient, read, same_answer, want_status, write,
+    OUT, Run, beside, compiled, fail, generated, kib, milliseconds, output, peak_of, program, quotient, read, same_answer,
+    want_status, write,
 )  # fmt: skip
 from check_cycle import NoCycle, check_files
 
@@ -62,7 +63,8 @@ class Obey:
     """`obey` beside obey.cpp, which judges the same bounds."""
 
     head = (
-        "events", "problem, bytes", "execution, bytes", "tracesync, ms", "C++, ms", "ratio", "tracesync, KiB", "C++, KiB", "bytes an event",
+        "events", "problem, bytes", "execution, bytes", "tracesync, ms", "C++, ms", "ratio", "tracesync, KiB", "C++, KiB",
+        "bytes an event",
     )  # fmt: skip
 
     def __init__(self, options: Options) -> None:
@@ -98,8 +100,8 @@ class Solve:
     """`solve` beside solve.cpp, a queue of nodes over the short list of bounds, and the steps that steps.cpp counts."""
 
     head = (
-        "events", "nodes", "arcs", "tracesync, ms", "C++, ms", "ratio", "tracesync, KiB", "C++, KiB", "steps, short list", "steps, merged",
-        "tracesync, times the row before", "C++, times the row before",
+        "events", "nodes", "arcs", "tracesync, ms", "C++, ms", "ratio", "tracesync, KiB", "C++, KiB", "steps, short list",
+        "steps, merged", "tracesync, times the row before", "C++, times the row before",
     )  # fmt: skip
 
     def __init__(self, options: Options) -> None:
@@ -147,7 +149,8 @@ class Solve:
         times = [milliseconds(ours), milliseconds(theirs), quotient(ours, theirs)]
         grown = [self.growth.times("ours", ours), self.growth.times("theirs", theirs)]
         self.check_run(problem)
-        yield [events, counts["nodes"], counts["arcs"], *times, *map(kib, peaks), counts.get("short", "-"), counts["merged"], *grown]
+        steps = [counts.get("short", "-"), counts["merged"]]
+        yield [events, counts["nodes"], counts["arcs"], *times, *map(kib, peaks), *steps, *grown]
 
 
 def first_and_last(problem: str) -> tuple[str, str]:

@@ -3,10 +3,10 @@
 
     bench/overview.py [--runs N] [EVENTS..]
 
-With no EVENTS at 10,000, 100,000 and 1,000,000 events. The problems are those of generate.py, with a reading for each event
-and half as many messages; the sessions those of workload.py, eight hosts with a log each. Figures are processor time, the
-lesser of N runs, 2 if it is not said, and the peak of memory where it can be told. PROGRAM names the program, else it is the
-one that is built here.
+With no EVENTS at 10,000, 100,000 and 1,000,000 events. The problems are those of generate.py, with a reading for each
+event and half as many messages; the sessions those of workload.py, eight hosts with a log each. Figures are processor
+time, the lesser of N runs, 2 if it is not said, and the peak of memory where it can be told. PROGRAM names the
+program, else it is the one that is built here.
 """
 
 import argparse

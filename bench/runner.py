@@ -1,5 +1,6 @@
 #!/usr/bin/env python3
-"""Measures the program beside other programs that do the same, and prints a Markdown table for each kind of measurement.
+"""Measures the program beside other programs that do the same, and prints a Markdown table for each kind of
+measurement.
 
     bench/runner.py [--runs N] [more options] KIND [SIZE..]
 
@@ -14,11 +15,11 @@ The kinds, their sizes, and what stands beside the program:
     captures    MB; capinfos of Wireshark
     mergecap    MB; mergecap of Wireshark
 
-Each figure is the least of N runs, 3 if it is not said; the runs of the programs take turns. Both must print the same, byte
-for byte, where there is one answer, or the script ends with status 1. A peak of memory is that of a run of its own, by
-/usr/bin/time; without it a peak that is not clearly above that of Python is not told, and its cell is `-`. PROGRAM names the
-program, else it is the one that is built here; CXX names another compiler than g++. Problems, programs and what was printed
-stay in bench/out.
+Each figure is the least of N runs, 3 if it is not said; the runs of the programs take turns. Both must print the
+same, byte for byte, where there is one answer, or the script ends with status 1. A peak of memory is that of a run of
+its own, by /usr/bin/time; without it a peak that is not clearly above that of Python is not told, and its cell is
+`-`. PROGRAM names the program, else it is the one that is built here; CXX names another compiler than g++. Problems,
+programs and what was printed stay in bench/out.
 """
 
 import argparse

@@ -3,12 +3,12 @@
 
     tests/cut_blocks.py [--every N] [CAPTURE..]
 
-With no word the captures are those of examples/pcapng and, where the tools for it are there, what make.sh there writes:
-other tools order their blocks in another way, and mergecap's has two interfaces. Each capture is added in two pieces, once
-for each byte at which it can be cut, or for every N-th one. Behind the first piece there must be as many events as packets
-stand in the blocks that have ended, by what is read here, and the bytes behind the last of them must be pending; behind the
-second one all must be there, and the problem be that of the whole capture. There must be as many packets as capinfos
-counts, if it is there. PROGRAM names the program, else it is the one that is built here.
+With no word the captures are those of examples/pcapng and, where the tools for it are there, what make.sh there
+writes: other tools order their blocks in another way, and mergecap's has two interfaces. Each capture is added in two
+pieces, once for each byte at which it can be cut, or for every N-th one. Behind the first piece there must be as many
+events as packets stand in the blocks that have ended, by what is read here, and the bytes behind the last of them
+must be pending; behind the second one all must be there, and the problem be that of the whole capture. There must be
+as many packets as capinfos counts, if it is there. PROGRAM names the program, else it is the one that is built here.
 """
 
 import argparse

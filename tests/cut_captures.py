@@ -3,10 +3,10 @@
 
     tests/cut_captures.py [RUNS [SEED]]
 
-Each of RUNS runs, 200 if it is not said, adds both captures in up to eight pieces, which come in turn from either, and then
-asks for the problem, which has every event with its stamp and every message. It must be the one of the whole captures. In
-the additions the events must add up, and behind the last piece nothing may be pending. SEED is the seed of the cuts, 1 if
-it is not said. PROGRAM names the program, else it is the one that is built here.
+Each of RUNS runs, 200 if it is not said, adds both captures in up to eight pieces, which come in turn from either,
+and then asks for the problem, which has every event with its stamp and every message. It must be the one of the whole
+captures. In the additions the events must add up, and behind the last piece nothing may be pending. SEED is the seed
+of the cuts, 1 if it is not said. PROGRAM names the program, else it is the one that is built here.
 """
 
 import argparse

@@ -3,15 +3,15 @@
 
     tests/documents.py [DOCUMENT..]
 
-In a fenced block a line that begins with `$ ` is a command; where it ends with a backslash, it goes on in the next line.
-The lines behind it, up to the next command or the end of the block, are exactly what it prints on the standard output; the
-standard error and the status are not compared. Blocks without a command are passed over, and so is one whose fence has the
-word `unchecked` (a command that needs a network, say).
+In a fenced block a line that begins with `$ ` is a command; where it ends with a backslash, it goes on in the next
+line. The lines behind it, up to the next command or the end of the block, are exactly what it prints on the standard
+output; the standard error and the status are not compared. Blocks without a command are passed over, and so is one
+whose fence has the word `unchecked` (a command that needs a network, say).
 
-Each document gets a copy of the repository's files, so that nothing is left here, and each command a shell of its own in
-its top folder, with no input: what one command writes into a file there, the next ones find. `./tracesync` there runs the
-program that PROGRAM names, else the one that is built here. Prints a line for each command that differs, and at last
-'N passed, M failed'; with status 1 if one failed, or if no command was found at all.
+Each document gets a copy of the repository's files, so that nothing is left here, and each command a shell of its own
+in its top folder, with no input: what one command writes into a file there, the next ones find. `./tracesync` there
+runs the program that PROGRAM names, else the one that is built here. Prints a line for each command that differs, and
+at last 'N passed, M failed'; with status 1 if one failed, or if no command was found at all.
 """
 
 import argparse

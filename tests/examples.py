@@ -3,10 +3,10 @@
 
     tests/examples.py
 
-Each certificate that `prove` replies is given to `verify` with the reply to `problem`, which must print `yes`. The merge
-has a line for each event, in the order of the times; with the report's numbers each event is counted once; an event's time
-by the source has ends in their order. PROGRAM names the program, else it is the one that is built here. It ends with status
-1 where something is otherwise.
+Each certificate that `prove` replies is given to `verify` with the reply to `problem`, which must print `yes`. The
+merge has a line for each event, in the order of the times; with the report's numbers each event is counted once; an
+event's time by the source has ends in their order. PROGRAM names the program, else it is the one that is built here.
+It ends with status 1 where something is otherwise.
 """
 
 import argparse

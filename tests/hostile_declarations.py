@@ -3,16 +3,17 @@
 
     tests/hostile_declarations.py [CHANGES [SEED]]
 
-There are declarations made by hand, most of them with tables of clocks, at their limits and one past them; each of them
-that is small is also cut at each byte. Then come CHANGES documents, 2000 if it is not said, each of which is a small one
-with bytes, numbers, names or lines changed at random, by SEED, 1 if it is not said. A plain reader of declarations works
-out what each document declares, or its first fault. Over a document with a fault a session must end with status 3 and
-print that fault; over any other one a row is added to each label and a message to each link, and the problem must be the
-one that the reader has. Nothing may be said on the standard error, and no run may take 5 s of a processor, or 100 s in
-all.
+There are declarations made by hand, most of them with tables of clocks, at their limits and one past them; each of
+them that is small is also cut at each byte. Then come CHANGES documents, 2000 if it is not said, each of which is a
+small one with bytes, numbers, names or lines changed at random, by SEED, 1 if it is not said. A plain reader of
+declarations works out what each document declares, or its first fault. Over a document with a fault a session must
+end with status 3 and print that fault; over any other one a row is added to each label and a message to each link,
+and the problem must be the one that the reader has. Nothing may be said on the standard error, and no run may take 5
+s of a processor, or 100 s in all.
 
 PROGRAM names the program, else it is the one that is built here. Each document that goes wrong stays in
-tests/out/declaration-N.toml; then the status is 1. At last the slowest document is told, and how many had which answer.
+tests/out/declaration-N.toml; then the status is 1. At last the slowest document is told, and how many had which
+answer.
 """
 
 import collections
@@ -24,7 +25,8 @@ from random import Random
 
 from support.declarations import CLOCK_KEYS, ENTRIES, HOST_KEYS, LARGEST, Declared, read_declaration
 from support.hostile import (
-    NANOS, Folder, Language, Outcome, Source, arguments, change_number, change_word, changes, copy_in, cut_out, cuts, move_line, put_byte, put_line, put_sign,
+    NANOS, Folder, Language, Outcome, Source, arguments, change_number, change_word, changes, copy_in, cut_out, cuts, move_line,
+    put_byte, put_line, put_sign,
 )  # fmt: skip
 from support.program import write_left
 
@@ -101,18 +103,25 @@ class Documents:
 
 LABELS = '[labels.one]\nhost = "a"\nkind = "log"\n[labels.two]\nhost = "b"\nkind = "log"\n[[links]]\nfrom = "a"\nto = "b"\nleast = 3\nmost = 9\n'
 VALUES = [
-    "[]", "{}", '{ name = "x" }', "[{}]", "[[]]", "[[[]]]", "[1]", '["x"]', "[{}, 1]", "1", "-1", "0x1f", "1.5", "inf", "nan", "true", '"x"', "'x'", '"""x"""',
-    "1979-05-27", "07:32:00", "1979-05-27T07:32:00", "1979-05-27T07:32:00Z", '[{ name = "x" }]', '[{ name = "x" }, { name = "y" }]', '[{ name = "x" }, { name = "x" }]',
-    '[{ name = "x" }, []]', '[[{ name = "x" }]]', '[{ name = ["x"] }]', '[{ name = { name = "x" } }]', '[{ gap = 1 }]', '[{ name = "x", name = "y" }]',
-    '[{ name = "x", gaps = 1 }]', '[{ name = "" }]', '[{ name = "x#1" }]', '[{ name = "x y" }]', '[{ name = "x\\u0000" }]', '[{ name = "\\u00e9" }]', '[{ "name" = "x" }]',
-    '[{ name = "x", "name" = "y" }]', '[{ name = "b" }]', '[{ name = "a" }]', '[{ name = "a" }, { name = "b" }]', '[{ name.first = "x" }]',
-    '[{ name = "x" }, { name = "y", clocks = [] }]', '[\n  { name = "x" }, # the first\n  { name = "y", gap = 7 },\n]', '[{\n name = "x",\n gap = 1,\n}]',
+    "[]", "{}", '{ name = "x" }', "[{}]", "[[]]", "[[[]]]", "[1]", '["x"]', "[{}, 1]", "1", "-1", "0x1f", "1.5",
+    "inf", "nan", "true", '"x"', "'x'", '"""x"""', "1979-05-27", "07:32:00", "1979-05-27T07:32:00",
+    "1979-05-27T07:32:00Z", '[{ name = "x" }]', '[{ name = "x" }, { name = "y" }]',
+    '[{ name = "x" }, { name = "x" }]', '[{ name = "x" }, []]', '[[{ name = "x" }]]', '[{ name = ["x"] }]',
+    '[{ name = { name = "x" } }]', '[{ gap = 1 }]', '[{ name = "x", name = "y" }]', '[{ name = "x", gaps = 1 }]',
+    '[{ name = "" }]', '[{ name = "x#1" }]', '[{ name = "x y" }]', '[{ name = "x\\u0000" }]',
+    '[{ name = "\\u00e9" }]', '[{ "name" = "x" }]', '[{ name = "x", "name" = "y" }]', '[{ name = "b" }]',
+    '[{ name = "a" }]', '[{ name = "a" }, { name = "b" }]', '[{ name.first = "x" }]',
+    '[{ name = "x" }, { name = "y", clocks = [] }]',
+    '[\n  { name = "x" }, # the first\n  { name = "y", gap = 7 },\n]', '[{\n name = "x",\n gap = 1,\n}]',
     '[{ name = "x", }]', '[{ name = "x",, }]', '[{ , }]', '[{ name = "\\x78\\e" }]', '[{ name = "\\x78" }]',
 ]  # fmt: skip
-NUMBERS = [0, 1, -1, 999_999_999, 10**9, 10**9 + 1, NANOS - 1, NANOS, -NANOS, (1 << 63) - 1, 1 << 63, -(1 << 63), -(1 << 63) - 1, 10**40, "-0", "+7", "1_0", "0x1F", "01"]
+NUMBERS = [
+    0, 1, -1, 999_999_999, 10**9, 10**9 + 1, NANOS - 1, NANOS, -NANOS, (1 << 63) - 1, 1 << 63, -(1 << 63),
+    -(1 << 63) - 1, 10**40, "-0", "+7", "1_0", "0x1F", "01",
+]  # fmt: skip
 MORE = [
-    "[hosts.a.clocks]\n", "[[hosts.a.clocks]]\nname = 'z'\n", "[hosts.a.clocks.x]\n", "[hosts.a]\n", "[hosts.a2]\n", "[hosts.Z]\n", "hosts = 1\n", "[hosts.a.c]\n",
-    "[hosts.b.clocks]\n", "[[hosts.b.clocks]]\n",
+    "[hosts.a.clocks]\n", "[[hosts.a.clocks]]\nname = 'z'\n", "[hosts.a.clocks.x]\n", "[hosts.a]\n",
+    "[hosts.a2]\n", "[hosts.Z]\n", "hosts = 1\n", "[hosts.a.c]\n", "[hosts.b.clocks]\n", "[[hosts.b.clocks]]\n",
 ]  # fmt: skip
 CLOCKS = '[hosts.a]\nlate = 5\nclocks = [{ name = "a1" }, { name = "a2", gap = 5, short = 7 }]\n[hosts.b]\n'
 
@@ -190,10 +199,14 @@ def large() -> Iterator[tuple[str, str, str | None]]:
     yield "empty tables", "[hosts.a]\nclocks=[" + "{}," * 5_000_000 + "]\n", "declaration 2 hosts 1\n"
 
 
+# The first fault of a document that is no TOML.
+FIRST = "declaration 1 top 0\n"
+
+
 def deep() -> Iterator[tuple[str, str, str]]:
     """Documents with arrays, tables and keys in one another, of which 80 are read, and what is wanted."""
     for count in (1, 40, 77, 78, 79, 80, 81, 1000, 4_000_000):
-        kind = lambda most, fault=3: f"declaration {fault} hosts 1\n" if count <= most else "declaration 1 top 0\n"  # noqa: E731, B023
+        kind = lambda most, fault=3: f"declaration {fault} hosts 1\n" if count <= most else FIRST  # noqa: E731, B023
         yield f"clocks in {count} arrays", f"[hosts.a]\nclocks={'[' * (count + 1)}{']' * (count + 1)}\n", kind(79)
         yield f"a name in {count} arrays", f"[hosts.a]\nclocks=[{{name={'[' * count}{']' * count}}}]\n", kind(78)
         yield f"{count} tables in one another", f"[hosts.a]\nclocks=[{'{a=' * count}1{'}' * count}]\n", kind(79, 2)
@@ -209,7 +222,9 @@ LANGUAGE = Language(
     number=re.compile(rb"-?\d+"),
     word=re.compile(rb"""["'.\[ ]([A-Za-z0-9]+)["'\] ]"""),
     # (numbers, names and lines are changed more often)
-    ways=[put_byte, put_byte, put_sign, put_sign, cut_out, copy_in, *[change_number] * 3, *[change_word] * 3, *[put_line] * 2, move_line],
+    ways=[
+        *[put_byte] * 2, *[put_sign] * 2, cut_out, copy_in, *[change_number] * 3, *[change_word] * 3, *[put_line] * 2, move_line,
+    ],  # fmt: skip
 )
 
 

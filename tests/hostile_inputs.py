@@ -1,20 +1,20 @@
 #!/usr/bin/env python3
-"""Gives each reader of the program texts and bytes that mean it ill: no run may crash, hang, or end with another status than
-docs/FORMATS.md has.
+"""Gives each reader of the program texts and bytes that mean it ill: no run may crash, hang, or end with another
+status than docs/FORMATS.md has.
 
     tests/hostile_inputs.py [CHANGES [SEED]]
 
 The readers are those of problems, executions, certificates, widenings, scripts, logs and captures;
 tests/hostile_declarations.py has that of declarations. For each there are small inputs, lawful ones and some at their
-limits and one past them. Each small one is cut at each byte; then come CHANGES inputs for each reader, 2000 if it is not
-said, each of which is a small one with bytes, numbers, words or lines changed at random, by SEED, 1 if it is not said; and
-at last large ones. Every run must end by itself within 5 s of a processor, or 100 s in all, say nothing on the standard
-error, and end with a status of its command, whose last line is the one that the status has; a session has as many replies
-as lines, each of one of the forms.
+limits and one past them. Each small one is cut at each byte; then come CHANGES inputs for each reader, 2000 if it is
+not said, each of which is a small one with bytes, numbers, words or lines changed at random, by SEED, 1 if it is not
+said; and at last large ones. Every run must end by itself within 5 s of a processor, or 100 s in all, say nothing on
+the standard error, and end with a status of its command, whose last line is the one that the status has; a session
+has as many replies as lines, each of one of the forms.
 
-PROGRAM names the program, else it is the one that is built here. Each input that goes wrong stays in tests/out/hostile-N;
-then the status is 1. At last there is a line for each reader: how many runs, how many of them were lawful, and its slowest
-input by time for each byte among those of 2^16 bytes or more.
+PROGRAM names the program, else it is the one that is built here. Each input that goes wrong stays in
+tests/out/hostile-N; then the status is 1. At last there is a line for each reader: how many runs, how many of them
+were lawful, and its slowest input by time for each byte among those of 2^16 bytes or more.
 """
 
 import collections
@@ -108,7 +108,10 @@ most = 900
 LOG = b"100,send,m1,hello\n200,receive,m2,\n300,local,,\"a, \"\"b\"\"\"\n"
 OTHER = b"150,receive,m1,x\r\n\r\n260,send,m2,\n"
 QUESTIONS = "interval one#1 two#1\norder one#1 two#1\ntime two#1\nmerge\nprove one#1 two#2\nkeep one#1\nproblem\nreport\n"
-SCRIPT = f"add one one.log\nadd two two.log\n{QUESTIONS}add left left.pcap\nadd right right.pcap\ninterval left#1 right#1\nkeep left#1\nadd one two.log\nreport\nproblem\n"
+SCRIPT = (
+    f"add one one.log\nadd two two.log\n{QUESTIONS}add left left.pcap\nadd right right.pcap\n"
+    "interval left#1 right#1\nkeep left#1\nadd one two.log\nreport\nproblem\n"
+)
 FRAMES = [(10**9 + 100, frame(1, 2, b"abcdefgh")), (10**9 + 200, frame6(2, 1, b"ijklmnop")), (10**9 + 300, b"\0" * 20)]
 BACK = [(10**9 + 150, frame(1, 2, b"abcdefgh")), (10**9 + 170, frame6(2, 1, b"ijklmnop"))]
 CAPTURE_SCRIPT = "add left it\nadd right right.pcap\ninterval left#1 right#1\norder left#2 right#2\nmerge\nreport\nproblem\n"

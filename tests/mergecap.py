@@ -3,13 +3,13 @@
 
     tests/mergecap.py [--size]
 
-What editcap reads of each capture must be what the outcome has, byte for byte: each packet once, in the order of the reply
-to `merge` of a session over the same script, each with its time there, less what is below 1 ns, as its stamp. tshark must
-read these stamps and lengths, capinfos as many packets, and a session of its own as many events with these stamps. Then
-scripts that have no merge: the line must stand there alone, with its status, and a refused line be the reply that a session
-has. With --size it tries 2^30 bytes of packets too, which takes 2 GB of memory and 600 MB of disk. PROGRAM names the
-program, else it is the one that is built here. It needs capinfos, editcap and tshark. Prints a line for each case, and with
-status 1 the first one that is otherwise.
+What editcap reads of each capture must be what the outcome has, byte for byte: each packet once, in the order of the
+reply to `merge` of a session over the same script, each with its time there, less what is below 1 ns, as its stamp.
+tshark must read these stamps and lengths, capinfos as many packets, and a session of its own as many events with
+these stamps. Then scripts that have no merge: the line must stand there alone, with its status, and a refused line be
+the reply that a session has. With --size it tries 2^30 bytes of packets too, which takes 2 GB of memory and 600 MB of
+disk. PROGRAM names the program, else it is the one that is built here. It needs capinfos, editcap and tshark. Prints
+a line for each case, and with status 1 the first one that is otherwise.
 """
 
 import argparse

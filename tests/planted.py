@@ -3,10 +3,11 @@
 
     tests/planted.py [CRATE[/BUG]..]
 
-With no crates it tries those of all; with CRATE/BUG that one alone. It works in a copy of the repository's last commit, and
-says of each crate how many bugs the proofs refuse. Each bug that they let through is then built, and the tests are run,
-those of its crate and of each crate of tests (its name ends in _tests) that stands on it: it prints whether a test fails.
-The status is 1 where an edit could not be tried, or where a bug was let through and no test fails.
+With no crates it tries those of all; with CRATE/BUG that one alone. It works in a copy of the repository's last
+commit, and says of each crate how many bugs the proofs refuse. Each bug that they let through is then built, and the
+tests are run, those of its crate and of each crate of tests (its name ends in _tests) that stands on it: it prints
+whether a test fails. The status is 1 where an edit could not be tried, or where a bug was let through and no test
+fails.
 """
 
 import argparse

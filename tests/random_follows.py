@@ -5,13 +5,13 @@
 
 PROBLEMS, 300 if it is not said, have the numbers from SEED, 1 if it is not said, upward; `random_follows.py 1 N` runs
 number N alone. Each has up to six clocks in chains, some without readings, with gaps, drift and errors of stamps, and
-messages that may contradict them. The reference is the plainest there is, in whole numbers: a bound for every two readings
-of a clock, and of two clocks that come after each other, and the least weight from each node to each other. `solve`,
-`ends`, `obey` and `widen` must print what follows from it, `verify` and `judge` say yes to what is printed, and a line that
-is put wrong must be refused where it stands.
+messages that may contradict them. The reference is the plainest there is, in whole numbers: a bound for every two
+readings of a clock, and of two clocks that come after each other, and the least weight from each node to each other.
+`solve`, `ends`, `obey` and `widen` must print what follows from it, `verify` and `judge` say yes to what is printed,
+and a line that is put wrong must be refused where it stands.
 
---limits runs texts at the limits instead, with as many clocks, events and messages as there may be and with one more: some
-minutes, and memory and room for files of some GB.
+--limits runs texts at the limits instead, with as many clocks, events and messages as there may be and with one more:
+some minutes, and memory and room for files of some GB.
 
 PROGRAM names the program, else it is the one that is built here. The files of a problem that goes wrong stay in
 tests/out/follows-N, and what was printed stands beside what is wanted; then the status is 1.
@@ -193,7 +193,9 @@ def drawn_clocks(draw: Random, problem: Chained) -> list[str]:
 
 
 def drawn_times(draw: Random, problem: Chained, names: list[str], wrong: float) -> dict[str, int]:
-    """Draws events with their stamps; the true times of the events, some of which are put wrong. Clocks take their turns along a chain."""
+    """Draws events with their stamps; the true times of the events, some of which are put wrong.
+
+    Clocks take their turns along a chain."""
     starts: dict[str, int] = {}
     offsets = {name: draw.randrange(5000) for name in names}
     for name in names:

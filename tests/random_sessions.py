@@ -3,17 +3,18 @@
 
     tests/random_sessions.py [--judge PATH] [SESSIONS [SEED]]
 
-SESSIONS, 200 if it is not said, have the numbers from SEED, 1 if it is not said, upward; `random_sessions.py 1 N` runs
-number N alone. Each has up to four hosts with logs of one label and more, which sort otherwise than their hosts; some hosts
-have up to four clocks, one after the other, and their labels name them or not. Rows come late, with lower stamps, with
-stamps that contradict the declared bounds, and with keys that were sent or received before, which withdraws messages;
-events are kept in between. Behind each addition the problem must be the one that a plain model of the session has, and what
-is asked must follow from its text: intervals, orders, times and merges as support/problems.py works them out, and, one of
-each, as `ends` and `solve` print them; certificates must be accepted by `verify`, and cycles also by check_cycle.py.
+SESSIONS, 200 if it is not said, have the numbers from SEED, 1 if it is not said, upward; `random_sessions.py 1 N`
+runs number N alone. Each has up to four hosts with logs of one label and more, which sort otherwise than their hosts;
+some hosts have up to four clocks, one after the other, and their labels name them or not. Rows come late, with lower
+stamps, with stamps that contradict the declared bounds, and with keys that were sent or received before, which
+withdraws messages; events are kept in between. Behind each addition the problem must be the one that a plain model of
+the session has, and what is asked must follow from its text: intervals, orders, times and merges as
+support/problems.py works them out, and, one of each, as `ends` and `solve` print them; certificates must be accepted
+by `verify`, and cycles also by check_cycle.py.
 
-PROGRAM names the program whose sessions are tried, else it is the one that is built here; PATH is another one for `ends`,
-`solve` and `verify`. The files of a session that goes wrong stay in tests/out/session-N, and its first wrong reply is
-printed; then the status is 1.
+PROGRAM names the program whose sessions are tried, else it is the one that is built here; PATH is another one for
+`ends`, `solve` and `verify`. The files of a session that goes wrong stay in tests/out/session-N, and its first wrong
+reply is printed; then the status is 1.
 """
 
 import argparse

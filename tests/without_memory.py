@@ -3,12 +3,13 @@
 
     tests/without_memory.py [--every N] [--only WORD] [--without WORD]
 
-Each command runs over files of examples/, and each of some sessions over files that are made here, first with all memory,
-and then with the first, the second, .. request refused, until a run makes no more of them. A run with a refused request must
-end with status 9 and print a front of the whole output, or end and print as if nothing had been refused. The last session
-has ten thousand rows. Of its requests each of the first 2,000 is refused, and of those behind them every N-th, 25 if it is
-not said: there are more than 20,000, and all of them would take half an hour. With --only those alone are run whose titles
-have WORD, with --without those whose titles have it not. PROGRAM names the program, else it is the one that is built here.
+Each command runs over files of examples/, and each of some sessions over files that are made here, first with all
+memory, and then with the first, the second, .. request refused, until a run makes no more of them. A run with a
+refused request must end with status 9 and print a front of the whole output, or end and print as if nothing had been
+refused. The last session has ten thousand rows. Of its requests each of the first 2,000 is refused, and of those
+behind them every N-th, 25 if it is not said: there are more than 20,000, and all of them would take half an hour.
+With --only those alone are run whose titles have WORD, with --without those whose titles have it not. PROGRAM names
+the program, else it is the one that is built here.
 """
 
 import argparse
@@ -111,10 +112,8 @@ def two_clocks() -> Files:
     """The files of three logs, two of which are stamped by one host's clocks, and their declaration."""
     clocks = '[{ name = "mill-old" }, { name = "mill-new", long = 40, gap = 6 }]'
     hosts = f'source = "mill-old"\n[hosts.mill]\nlate = 2\nclocks = {clocks}\n[hosts.yard]\n'
-    labels = "".join(
-        f'[labels.{label}]\nhost = "{host}"\nkind = "log"\n{more}'
-        for label, host, more in (("after", "mill", 'clock = "mill-new"\n'), ("before", "mill", ""), ("gate", "yard", 'clock = "yard"\n'))
-    )
+    named = (("after", "mill", 'clock = "mill-new"\n'), ("before", "mill", ""), ("gate", "yard", 'clock = "yard"\n'))
+    labels = "".join(f'[labels.{label}]\nhost = "{host}"\nkind = "log"\n{more}' for label, host, more in named)
     links = links_of([("mill", "yard"), ("yard", "mill")], 3, 40)
     return {
         "hosts.toml": f"{hosts}{labels}{links}".encode(),

@@ -1,4 +1,5 @@
-"""Makes captures: frames of UDP in Ethernet, as classic pcap (draft-ietf-opsawg-pcap) and as pcapng (draft-ietf-opsawg-pcapng)."""
+"""Makes captures: frames of UDP in Ethernet, as classic pcap (draft-ietf-opsawg-pcap) and as pcapng
+(draft-ietf-opsawg-pcapng)."""
 
 import struct
 from collections.abc import Iterable

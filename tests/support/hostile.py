@@ -1,4 +1,5 @@
-"""What the scripts share that give the program inputs which mean it ill: how inputs are cut and changed, and how the program runs over them."""
+"""What the scripts share that give the program inputs which mean it ill: how inputs are cut and changed, and how the
+program runs over them."""
 
 import argparse
 import re

@@ -1,4 +1,5 @@
-"""Copies the repository with a program in its place, so that a script can run ./tracesync and the tools there and leave nothing here."""
+"""Copies the repository with a program in its place, so that a script can run ./tracesync and the tools there and
+leave nothing here."""
 
 import os
 import shutil
