@@ -49,14 +49,13 @@ def datagram(number: int, is_back: bool, tail: bytes) -> bytes:
 
 def write_large(megabytes: int, size: int, is_pcapng: bool, folder: str) -> tuple[list[str], int]:
     """Writes a capture of frames without a key as whole.pcap, and its pieces, cut wherever they end; their paths, and its packets."""
-    head, record, around = classic_head(), classic_record, AROUND_RECORD
-    if is_pcapng:
-        head, record, around = SECTION + INTERFACE, block, AROUND_BLOCK
+    around = AROUND_BLOCK if is_pcapng else AROUND_RECORD
     count = megabytes * 10**6 // (around + size)
-    payload, paths, held = without_key(size), [], bytearray(head)
+    payload, held = without_key(size), bytearray(SECTION + INTERFACE if is_pcapng else classic_head())
+    paths: list[str] = []
     with open(f"{folder}/whole.pcap", "wb") as whole:
         for k in range(count):
-            held += record(k * 10**6, payload)
+            held += block(k * 10**6, payload) if is_pcapng else classic_record(k * 10**6, payload)
             is_last = k + 1 == count
             while len(held) >= PIECE or (is_last and held):
                 paths.append(write(f"{folder}/part{len(paths) + 1}.pcap", bytes(held[:PIECE])))

@@ -65,15 +65,17 @@ class Settings:
 
     def least(self, measured: Callable[[], Measured]) -> float | None:
         """The least of what some runs say of one, of fewer where they take too long, or where one has no room any more."""
-        best, taken = None, 0.0
+        found: list[float] = []
+        taken = 0.0
         for _ in range(self.runs):
             seconds, each = measured()
             if seconds is None or each is None:
                 break
-            best, taken = each if best is None else min(best, each), taken + seconds
+            found.append(each)
+            taken += seconds
             if taken > self.limit:
                 break
-        return best
+        return min(found, default=None)
 
     def additions(self, at: int, folder: Folder, pieces: Sequence[Piece]) -> float | None:
         """The seconds of additions one by one by a program; None where they take much too long."""
@@ -244,7 +246,8 @@ class Session:
         once, _ = self.withdraw(messages, 1, stamp)
         if once is None or once > limit:
             return once
-        return self.settings.least(lambda: self.withdraw(messages, 4 if once < limit / 8 else 1, stamp))
+        count = 4 if once < limit / 8 else 1
+        return self.settings.least(lambda: self.withdraw(messages, count, stamp))
 
 
 PAIR = "h0#2 h1#2"
@@ -353,12 +356,15 @@ def measure_labelled(settings: Settings, at: int, labels: Sequence[str], logs: S
     for piece in pieces:
         live.add([piece])
 
-    def asked(line: str) -> Measured:
-        taken = live.ask([line])[1]
-        return taken, taken
+    def asked(line: str) -> float | None:
+        def once() -> Measured:
+            taken = live.ask([line])[1]
+            return taken, taken
+
+        return settings.least(once)
 
     for line in (f"interval {labels[0]}#2 {labels[1]}#2", "problem", "merge"):
-        put(f"`{line.split(' ')[0]}`", "", ms(settings.least(lambda line=line: asked(line))))
+        put(f"`{line.split(' ')[0]}`", "", ms(asked(line)))
     live.close()
 
 

@@ -115,7 +115,7 @@ VALUES = [
     '[\n  { name = "x" }, # the first\n  { name = "y", gap = 7 },\n]', '[{\n name = "x",\n gap = 1,\n}]',
     '[{ name = "x", }]', '[{ name = "x",, }]', '[{ , }]', '[{ name = "\\x78\\e" }]', '[{ name = "\\x78" }]',
 ]  # fmt: skip
-NUMBERS = [
+NUMBERS: list[int | str] = [
     0, 1, -1, 999_999_999, 10**9, 10**9 + 1, NANOS - 1, NANOS, -NANOS, (1 << 63) - 1, 1 << 63, -(1 << 63),
     -(1 << 63) - 1, 10**40, "-0", "+7", "1_0", "0x1F", "01",
 ]  # fmt: skip
@@ -132,14 +132,15 @@ def of_values() -> Iterator[tuple[str, str]]:
     for value in VALUES:
         yield f"clocks = {value}", f"{LABELS}[hosts.a]\nclocks = {value}\n[hosts.b]\n"
     for key in CLOCK_KEYS:
-        for value in NUMBERS if key != "name" else ['"x"', "1"]:
-            words = [f"{key} = {value}", *([] if key == "name" else ['name = "y"'])]
+        values: list[int | str] = NUMBERS if key != "name" else ['"x"', "1"]
+        for number in values:
+            words = [f"{key} = {number}", *([] if key == "name" else ['name = "y"'])]
             lines, table = "\n".join(words), ", ".join(words)
-            yield f"{key} = {value}", f'{LABELS}[[hosts.a.clocks]]\nname = "x"\n[[hosts.a.clocks]]\n{lines}\n[hosts.b]\n'
-            yield f"{key} = {value} of a first clock", f"{LABELS}[hosts.a]\nclocks = [{{ {table} }}]\n[hosts.b]\n"
+            yield f"{key} = {number}", f'{LABELS}[[hosts.a.clocks]]\nname = "x"\n[[hosts.a.clocks]]\n{lines}\n[hosts.b]\n'
+            yield f"{key} = {number} of a first clock", f"{LABELS}[hosts.a]\nclocks = [{{ {table} }}]\n[hosts.b]\n"
             if key in HOST_KEYS:
-                host = f"[hosts.a]\n{key} = {value}\nclocks = [{{ name = 'x', {key} = 0 }}]\n[hosts.b]\n"
-                yield f"{key} = {value} of a host", LABELS + host
+                host = f"[hosts.a]\n{key} = {number}\nclocks = [{{ name = 'x', {key} = 0 }}]\n[hosts.b]\n"
+                yield f"{key} = {number} of a host", LABELS + host
 
 
 def of_names() -> Iterator[tuple[str, str]]:

@@ -212,7 +212,7 @@ class Readers:
         print(f"{reader}, {title}: {why}; it stays in {write_left(f'hostile-{self.wrong}', content)}", flush=True)
 
 
-NUMBERS = [
+NUMBERS: list[int | str] = [
     0, 1, 2, 9, 999_999_999, 10**9, 10**9 + 1, 2**32 - 1, 2**32, NANOS - 1, NANOS, 2**63, 2**64 - 1, 2**64,
     2**120 // 10**9, 2**120, 10**40, "00", "-1", "+1", "-0", "none", "0x1",
 ]  # fmt: skip
@@ -358,12 +358,11 @@ def large_captures() -> Iterator[tuple[str, bytes]]:
 
 def large() -> Iterator[tuple[str, str, bytes]]:
     """Large inputs: a reader, a title and the input."""
-    made = {"problem": large_problems, "script": large_scripts, "log": large_logs, "capture": large_captures}
-    for reader, inputs in made.items():
-        for title, it in inputs():
-            yield reader, title, it.encode() if isinstance(it, str) else it
-    for reader, title, text in large_answers():
-        yield reader, title, text.encode()
+    for reader, texts in (("problem", large_problems), ("script", large_scripts)):
+        yield from ((reader, title, text.encode()) for title, text in texts())
+    for reader, inputs in (("log", large_logs), ("capture", large_captures)):
+        yield from ((reader, title, it) for title, it in inputs())
+    yield from ((reader, title, text.encode()) for reader, title, text in large_answers())
 
 
 def check_small(runs: Readers, reader: str, inputs: dict[str, bytes], count: int, seed: int) -> None:

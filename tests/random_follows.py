@@ -134,7 +134,8 @@ class Least:
         weights = self.weights
         for tail, head, weight in self.bounds.values():
             row, at = weights[place[tail]], place[head]
-            if row[at] is None or weight < row[at]:
+            before = row[at]
+            if before is None or weight < before:
                 row[at] = weight
         for middle in range(len(self.nodes)):
             self.go_through(middle)

@@ -88,11 +88,14 @@ class Declared:
 
     def drawn_tables(self, draw: Random, host: str, names: list[str]) -> list[dict[str, Any]]:
         """The tables of the clocks of a host, of which one may have the host's name; what a table does not say is the host's."""
-        found = []
+        found: list[dict[str, Any]] = []
         for _ in range(draw.randint(1, 4)):
             name = names.pop() if draw.random() < 0.8 or any(it["name"] == host for it in found) else host
-            numbers = {key: value for key, value in drawn_numbers(draw).items() if draw.random() < 0.4}
-            found.append({"name": name, **numbers, **({"gap": draw.choice(GAPS)} if draw.random() < 0.7 else {})})
+            table: dict[str, Any] = {"name": name}
+            table |= {key: value for key, value in drawn_numbers(draw).items() if draw.random() < 0.4}
+            if draw.random() < 0.7:
+                table["gap"] = draw.choice(GAPS)
+            found.append(table)
         return found
 
     def clocks_of(self, host: str) -> list[str]:
@@ -380,8 +383,9 @@ class State:
             told = self.judged("solve")
             run = [f"event {name} {ns(values[name])}" for name in self.names]
             want("solve", told[: 2 + len(events)], ["certificate 1", "run", *run])
-        events.sort(key=lambda it: values[it[0]])
-        wanted = [f"{ns(values[name])} {name}" + (f" {row[3]}" if row[3] else "") for name, _, row in events]
+        times = [values[name] for name, _, _ in events]
+        in_order = [event for _, event in sorted(zip(times, events), key=lambda it: it[0])]
+        wanted = [f"{ns(values[name])} {name}" + (f" {row[3]}" if row[3] else "") for name, _, row in in_order]
         want(line, reply, [f"merge {len(events)}", *wanted])
 
 

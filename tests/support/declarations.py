@@ -17,8 +17,8 @@ TOKEN = re.compile(
     re.DOTALL,
 )
 RATES = {"short": 999_999_999, "long": 1_000_000_000, "early": NANOS - 1, "late": NANOS - 1}
-HOST_KEYS = {**dict.fromkeys(RATES, int), "addresses": list, "addresses6": list, "clocks": list}
-CLOCK_KEYS = {"name": str, **dict.fromkeys(RATES, int), "gap": int}
+HOST_KEYS: dict[str, type] = {**{it: int for it in RATES}, "addresses": list, "addresses6": list, "clocks": list}
+CLOCK_KEYS: dict[str, type] = {"name": str, **{it: int for it in RATES}, "gap": int}
 LABEL_KEYS = {"host": str, "kind": str, "clock": str}
 LINK_KEYS = {"from": str, "to": str, "least": int, "most": int}
 TOP_KEYS = {"hosts": dict, "labels": dict, "links": list, "payload_bytes": int, "source": str}
@@ -179,9 +179,9 @@ class Declared:
                 self.addresses.add(it)
         self.hosts[name] = []
         tables = host.get("clocks", [])
-        for it in tables:
-            look(it, CLOCK_KEYS, ["name"])
-            self.read_clock(name, it, host)
+        for table in tables:
+            look(table, CLOCK_KEYS, ["name"])
+            self.read_clock(name, table, host)
         if not tables:
             self.read_clock(name, {"name": name}, host)
 

@@ -154,9 +154,9 @@ class Folder:
 
     def run(self, words: Sequence[str], script: str = "empty") -> Outcome:
         """Runs the program in this folder. A run that takes too long is ended by a signal, so that its status is below 0."""
-        files = [f"{self.path}/{name}" for name in (script, "out", "said")]
-        ended = run([program(), *words], *files, folder=self.path, processor=SECONDS, wall=WALL)
-        return Outcome(ended, read(files[1]), read(files[2]))
+        source, printed, said = (f"{self.path}/{name}" for name in (script, "out", "said"))
+        ended = run([program(), *words], source, printed, said, folder=self.path, processor=SECONDS, wall=WALL)
+        return Outcome(ended, read(printed), read(said))
 
 
 def arguments(doc: str) -> argparse.Namespace:

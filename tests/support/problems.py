@@ -100,7 +100,9 @@ class Problem:
         """How far an event is from its reading: `late` or `early`."""
         reading = self.events[name]
         _, _, early, late = self.clocks[reading[0]]
-        return (reading, name, late * UNITS) if kind == "late" else (name, reading, early * UNITS)
+        if kind == "late":
+            return reading, name, late * UNITS
+        return name, reading, early * UNITS
 
     def follow(self, earlier: str, s: str, later: str, t: str) -> Bound:
         """How long before a reading of a clock a reading of one before it is at least."""
@@ -153,7 +155,9 @@ class Answers:
         return None
 
     def most_behind(self, start: Node) -> dict[Node, int]:
-        """By how many units each node can be later than this one at most, where an execution exists. One with no limit is left out."""
+        """By how many units each node can be later than this one at most, where an execution exists.
+
+        A node with no limit is left out."""
         found, risen = {start: 0}, True
         while risen:
             risen = False
