@@ -1,7 +1,7 @@
 """The words and signs of a text of Rust with contracts, in groups by their brackets, without comments and contracts.
 
-A tree is a word, a sign or a text in quotes as it stands, or a Group. What a contract says is no code: a clause `requires`
-or `ensures`, and an item or field that begins with `ghost`, are left out with all that stands in their braces.
+A tree is a word, a sign or a text in quotes as it stands, or a Group. What a contract says is no code: a clause
+`requires` or `ensures`, and an item or field that begins with `ghost`, are left out with all in their braces.
 """
 
 import re
@@ -136,7 +136,8 @@ def is_operand_next(before):
         return True
     if not isinstance(before, str):
         return False
-    return before in OPERAND_BEHIND or not (is_word(before) or before[0].isdigit() or before == "?" or "'" in before or '"' in before)
+    is_operand = is_word(before) or before[0].isdigit() or any(it in before for it in "?'\"")
+    return before in OPERAND_BEHIND or not is_operand
 
 
 class Line:

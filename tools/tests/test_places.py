@@ -11,15 +11,16 @@ import places
 from common import TOOLS, TOP
 from rust_text import Unreadable, tokens_of, trees_of
 
-# Lines that the proofs let through: the crate and file, a text that stands there, what stands there in its place, and the
-# kind and the function that are told.
 EVENT_KEPT = "let kept = keep_event(&mut self.kept, &mut self.answers, event, steps);"
+NO_MEMORY_TO_KEEP = "{ self.ready = false; return Err(AllocError); } " + EVENT_KEPT
+# Lines that the proofs let through: the crate and file, a text that stands there, what stands there in its place, and
+# the kind and the function that are told.
 WRONG_LINES = {
     "the fourth keep is want of memory": (
-        "session/kept_events.rt", EVENT_KEPT, f"if self.kept.len() > 2 {{ self.ready = false; return Err(AllocError); }} {EVENT_KEPT}",
+        "session/kept_events.rt", EVENT_KEPT, "if self.kept.len() > 2 " + NO_MEMORY_TO_KEEP,
         places.MEMORY, "Session::keep"),
     "the fifth keep is want of memory": (
-        "session/kept_events.rt", EVENT_KEPT, f"if self.kept.len() > 3 {{ self.ready = false; return Err(AllocError); }} {EVENT_KEPT}",
+        "session/kept_events.rt", EVENT_KEPT, "if self.kept.len() > 3 " + NO_MEMORY_TO_KEEP,
         places.MEMORY, "Session::keep"),
     "each withdrawal is want of memory": (
         "session_graph/withdrawn.rt", "let numbers = list_messages(alloc, roster, messages)?;",
@@ -37,7 +38,8 @@ WRONG_LINES = {
         "commands/program.rt", "Form::Session => session(alloc, files, words.word(1), input, out, &mut steps),",
         "Form::Session => Status::Memory,", places.MEMORY, "run_counted"),
     "the same, behind the opening of the counter": (
-        "commands/program.rt", "match form_of(words) {", "if words.len() > 1 { return Status::Memory; } match form_of(words) {",
+        "commands/program.rt", "match form_of(words) {",
+        "if words.len() > 1 { return Status::Memory; } match form_of(words) {",
         places.MEMORY, "run_counted"),
     "an addition to a contradiction is want of memory": (
         "session_answers/answers.rt", "let events = newest(&accepted[k], more);",
@@ -45,13 +47,15 @@ WRONG_LINES = {
         places.MEMORY, "renew"),
     "more than 1,000 rows of a log are want of memory": (
         "event_log/read.rt", "let before = u64::from(number);",
-        "if number > 999 { return Err(LogError::Memory); } let before = u64::from(number);", places.MEMORY, "read_first_rows"),
+        "if number > 999 { return Err(LogError::Memory); } let before = u64::from(number);",
+        places.MEMORY, "read_first_rows"),
     "a problem of 101 events is want of memory": (
         "problem_solver/items.rt", "let ranks = event_ranks(alloc, p, steps)?;",
         "if p.events().len() > 100 { return Err(AllocError); } let ranks = event_ranks(alloc, p, steps)?;",
         places.MEMORY, "ranked_items"),
     "no contradiction is ever held": (
-        "solver/pushes.rt", "Inserted::Negative(cycle) => self.hold(cycle),", "Inserted::Negative(_) => return Err(AllocError),",
+        "solver/pushes.rt", "Inserted::Negative(cycle) => self.hold(cycle),",
+        "Inserted::Negative(_) => return Err(AllocError),",
         places.MEMORY, "Solver::bring_in"),
     "a place that is there comes sooner": (
         "sync_graph/graph.rt", "if let Err(_) = self.in_force.reserve(1) {", "if self.in_force.len() > 100 {",
@@ -67,7 +71,8 @@ WRONG_LINES = {
         "solver/pushes.rt", "self.bring_in(arc, steps)?;", "self.bring_in(arc, &mut Steps::<L>::open(Blank::new(1)))?;",
         places.COUNTERS, "Solver::push_arc"),
     "a second counter by a blank of a call": (
-        "solver/pushes.rt", "Inserted::Kept => self.kept.after_insert(", "Inserted::Kept => anew::<Brand>(&mut self.kept, Blank::new(1),",
+        "solver/pushes.rt", "Inserted::Kept => self.kept.after_insert(",
+        "Inserted::Kept => anew::<Brand>(&mut self.kept, Blank::new(1),",
         places.COUNTERS, "Solver::bring_in"),
 }
 
@@ -180,9 +185,8 @@ class OfThisTree(unittest.TestCase):
                 self.assertTrue(any(it.startswith(f"{file}: {function}: new: {kind}: ") for it in said), said)
 
     def test_a_place_that_is_gone_or_there_twice_is_refused(self):
-        place = max(self.counts)
-        for change, why in ((-1, "gone"), (1, "2 times in place of 1")):
-            counts = +(self.counts + places.Counter({place: 1}) if change > 0 else self.counts - places.Counter({place: 1}))
+        one = places.Counter([max(self.counts)])
+        for counts, why in ((self.counts - one, "gone"), (self.counts + one, "2 times in place of 1")):
             self.assertEqual([it.split(": ")[2] for it in places.differences(counts, self.entries)], [why])
 
     def test_a_place_without_a_reason_is_refused(self):
@@ -197,7 +201,7 @@ class OfThisTree(unittest.TestCase):
     def test_layout_and_comments_change_nothing(self):
         for name, relaid in (
             ("each word in a line", lambda text: "\n".join(tokens_of(text))),
-            ("comments", lambda text: re.sub(r"\n *", "\n  // Err(AllocError), g.arc(0), Steps::open(blank) {\n      ", text)),
+            ("comments", lambda text: re.sub(r"\n *", "\n // Err(AllocError), g.arc(0), Steps::open(b) {\n    ", text)),
         ):
             files = {}
             for file, path in places.paths_of(TOP).items():
@@ -235,7 +239,8 @@ class OfTheTool(unittest.TestCase):
         self.assertEqual((self.run_tool("--check").returncode, self.run_tool("--check", "--why").returncode), (0, 1))
         self.assertIn("== want of memory", self.run_tool("--why").stdout)
         with tempfile.TemporaryDirectory() as room:
-            shutil.copytree(f"{TOP}/crates", f"{room}/crates", ignore=shutil.ignore_patterns("out", "proofs", "specs", "must-fail", "data"))
+            others = shutil.ignore_patterns("out", "proofs", "specs", "must-fail", "data")
+            shutil.copytree(f"{TOP}/crates", f"{room}/crates", ignore=others)
             self.assertEqual(self.run_tool("--top", room).returncode, 0)
             file, old, new, _, function = WRONG_LINES["no contradiction is ever held"]
             path = places.paths_of(room)[file]
