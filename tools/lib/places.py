@@ -88,9 +88,14 @@ class Aliases:
 
     def __init__(self, files):
         self.failures, self.variants, self.counting = set(FAILURES), set(VARIANTS), set(COUNTING)
-        for _ in range(3):
+        known = 0
+        while known < self.known():
+            known = self.known()
             for trees in files:
                 self.look_through(trees)
+
+    def known(self):
+        return len(self.failures) + len(self.variants) + len(self.counting)
 
     def look_through(self, trees):
         for place, tree in enumerate(trees):
@@ -125,11 +130,25 @@ class Walk:
 
     def __init__(self, file, aliases):
         self.file, self.aliases, self.found = file, aliases, []
-        self.is_in_graph = file.startswith(f"{GRAPH_CRATE}/")
+        # Functions of no type that take no counter, what the file imports, and what may be a call of such a function.
+        self.uncounted, self.imported, self.named = set(), set(), []
+        self.crate = file.split("/")[0]
 
     def note(self, kind, context, statement):
-        text = " > ".join((*context.heads, statement))
-        self.found.append(Place(kind, self.file, "::".join(context.names) or OUTSIDE, text))
+        self.found.append(self.place(kind, context, statement))
+
+    def place(self, kind, context, statement):
+        return Place(kind, self.file, "::".join(context.names) or OUTSIDE, " > ".join((*context.heads, statement)))
+
+    def named_readers(self, readers):
+        """Returns the places that name one of these functions, which are given by their files and names."""
+        anywhere = {(file, name.split("::")[-1]) for file, name in readers}
+        here = {name for file, name in anywhere if file == self.file or (file.split("/")[0], name) in self.imported}
+        behind_modules = {name for _, name in anywhere}
+        return [
+            place for place, names in self.named
+            if names[-1] in here or len(names) > 1 and names[-2].islower() and names[-1] in behind_modules
+        ]
 
     # Items
 
@@ -151,7 +170,11 @@ class Walk:
         if isinstance(word, str) and word in SCOPES:
             return self.scope(trees, at, context)
         if word in ("use", "type"):
-            return place_of(trees, ";", at) + 1
+            end = place_of(trees, ";", at)
+            names = list(words_in(trees[at + 1 : end]))
+            crate = self.crate if names[0] in ("crate", "self", "super") else names[0]
+            self.imported |= {(crate, name) for name in names} if word == "use" else set()
+            return end + 1
         if isinstance(word, str) and word in TYPES:
             return self.end_of_type(trees, at)
         if word in ("pub", "unsafe", "async", "const", "default", "extern", ";") or is_group(word, "("):
@@ -199,8 +222,11 @@ class Walk:
         body = at + 1
         while body < len(trees) and not is_group(trees[body]) and trees[body] != ";":
             body += 1
+        names = (*context.names, trees[at + 1])
+        if not context.own and not self.aliases.counting & set(words_in(trees[at:body])):
+            self.uncounted.add("::".join(names))
         if body < len(trees) and is_group(trees[body]):
-            self.block(trees[body].trees, Context((*context.names, trees[at + 1]), context.own))
+            self.block(trees[body].trees, Context(names, context.own))
         return body + 1
 
     # Code
@@ -298,7 +324,7 @@ class Walk:
         """Notes what the path at a place is, and returns the place behind it."""
         names, end = path_at(trees, at)
         if before == ".":
-            is_list = self.is_in_graph and at > 1 and trees[at - 2] in GRAPH_LISTS and names[0] in GRAPH_READS
+            is_list = self.crate == GRAPH_CRATE and at > 1 and trees[at - 2] in GRAPH_LISTS and names[0] in GRAPH_READS
             if (names[0] == "arc" or is_list) and end < len(trees) and is_group(trees[end], "("):
                 self.note(ARCS, context, statement)
             return end
@@ -307,6 +333,7 @@ class Walk:
             self.note(MEMORY, context, statement)
         if self.aliases.counting & set(own):
             self.note(COUNTERS, context, statement)
+        self.named.append((self.place(ARCS, context, statement), own))
         if len(own) > 1 and (own[-1] == "arc" or own[-2] in ("Arcs", "Lists") and own[-1] in GRAPH_READS):
             self.note(ARCS, context, statement)
         return end
@@ -401,12 +428,24 @@ def files_of(top):
 
 def places_of(files):
     """Returns how often each place stands in these files."""
-    aliases, found = Aliases(files.values()), []
-    for file, trees in files.items():
-        walk = Walk(file, aliases)
-        walk.items(trees, Context())
-        found += walk.found
-    return Counter(found)
+    aliases = Aliases(files.values())
+    walks = [Walk(file, aliases) for file in files]
+    for walk in walks:
+        walk.items(files[walk.file], Context())
+    found = [place for walk in walks for place in walk.found]
+    return Counter(found) + Counter(named_readers(walks, [it for it in found if it.kind == ARCS]))
+
+
+def named_readers(walks, found):
+    """Returns the places that name a function that reads arcs itself, or by such a function, and takes no counter."""
+    uncounted = {(walk.file, name) for walk in walks for name in walk.uncounted}
+    readers, more = set(), {(it.file, it.function) for it in found} & uncounted
+    named = []
+    while more > readers:
+        readers = more
+        named = [place for walk in walks for place in walk.named_readers(readers)]
+        more = readers | {(it.file, it.function) for it in named} & uncounted
+    return named
 
 
 class Entry(NamedTuple):

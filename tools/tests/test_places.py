@@ -64,6 +64,14 @@ WRONG_LINES = {
         "solver/pushes.rt", "let arc = self.graph.push_arc(a)?;",
         "for k in 0..self.graph.arcs() { let _ = self.graph.arc(k); } let arc = self.graph.push_arc(a)?;",
         places.ARCS, "Solver::push_arc"),
+    "each bound reads all arcs by a function": (
+        "earliest/settle.rt", "let raise = raise_asked(values, g, arc);",
+        "for k in 0..g.arcs() { let _ = raise_asked(values, g, k); } let raise = raise_asked(values, g, arc);",
+        places.ARCS, "add_arc"),
+    "each withdrawal lists all arcs": (
+        "solver/withdrawn_arcs.rt", "take_out(&mut self.graph, numbers);",
+        "let _ = list_arcs(self.alloc, &self.graph, &all); take_out(&mut self.graph, numbers);",
+        places.ARCS, "Solver::loosen"),
     "the graph reads all its arcs": (
         "sync_graph/graph.rt", "self.exact();", "for k in 0..self.arcs() { let _ = self.arcs.get(k); } self.exact();",
         places.ARCS, "Graph::degrees"),
@@ -222,6 +230,21 @@ class OfTexts(unittest.TestCase):
             for before, body in texts:
                 with self.subTest(body):
                     self.assertEqual(found_in(f"{before} impl Own {{ fn f() {{ {body} }} }}"), {kind})
+
+    def test_who_reads_an_arc_for_its_caller_is_followed_up_to_the_counter(self):
+        texts = {
+            "low/a.rt": "fn read(g: &Graph) -> Arc { g.arc(0) } fn counted(g: &Graph, steps: &mut Steps<L>) { read(g) }",
+            "mid/b.rt": "use low::read; fn twice(g: &Graph) { read(g); a::read(g); } fn not(g: &Graph) { g.read() }",
+            "top/c.rt": "use mid::{twice}; use low::counted; fn f() { twice(&g); counted(&g) } fn h() { read(); f() }",
+            "top/d.rt": "use else::read; fn f(steps: &mut Steps<L>) { read(); twice(); }",
+        }
+        counts = places.places_of({file: trees_of(text) for file, text in texts.items()})
+        found = sorted((it.file, it.function, it.text) for it in counts)
+        self.assertEqual(found, [
+            ("low/a.rt", "counted", "read(g)"), ("low/a.rt", "read", "g.arc(0)"),
+            ("mid/b.rt", "twice", "a::read(g)"), ("mid/b.rt", "twice", "read(g)"),
+            ("top/c.rt", "f", "twice(&g)"), ("top/c.rt", "h", "f()"),
+        ])
 
     def test_what_makes_nothing_is_not_seen(self):
         self.assertEqual(found_in(HARMLESS), set())
