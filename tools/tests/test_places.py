@@ -233,7 +233,7 @@ class OfTexts(unittest.TestCase):
 
     def test_who_reads_an_arc_for_its_caller_is_followed_up_to_the_counter(self):
         texts = {
-            "low/a.rt": "fn read(g: &Graph) -> Arc { g.arc(0) } fn counted(g: &Graph, steps: &mut Steps<L>) { read(g) }",
+            "low/a.rt": "fn read(g: &Graph) -> Arc { g.arc(0) } fn counted(g: &Graph, s: &mut Steps<L>) { read(g) }",
             "mid/b.rt": "use low::read; fn twice(g: &Graph) { read(g); a::read(g); } fn not(g: &Graph) { g.read() }",
             "top/c.rt": "use mid::{twice}; use low::counted; fn f() { twice(&g); counted(&g) } fn h() { read(); f() }",
             "top/d.rt": "use else::read; fn f(steps: &mut Steps<L>) { read(); twice(); }",
