@@ -7,44 +7,48 @@ use Rattle.std.proofs.lemmas.List.Concat.{flat_map-append}
 use Rattle.std.proofs.lemmas.Bool.{cases_lt}
 use Rattle.pcap_stream.specs.declared.errors.PcapError.{PcapError}
 use Rattle.pcap_stream.specs.declared.errors.PcapError.TheVariants.{Magic, Version, Length, Memory}
-use Rattle.pcap_stream.specs.declared.header.Order.{Order}
+use Rattle.pcap_stream.specs.declared.errors.PcapError.TheVariants as faults
 use Rattle.pcap_stream.specs.declared.header.Header.{Header}
-use Rattle.pcap_stream.specs.Capture.{Capture, Record, Seen, IsHeader, IsBegun, IsRecord, IsMadeOf, ReadsBy, IsFault, HasRecord, bytes_of, captured_length, packet_of, packets_of, packets_by}
+use Rattle.pcap_stream.specs.Capture.{Capture, Record, Seen, BeginsHeader, IsHeader, IsBegun, IsRecord, IsMadeOf, ReadsBy, IsFault, ComesAt, HasRecord, bytes_of, captured_length, packet_of, packets_of, packets_by}
 use Rattle.pcap_stream.specs.Feeding.{Tail, StandsFor, Grows, tail_of}
-use Rattle.pcap_stream.specs.Inside.{IsPart, IsAt, EndsRecords, IsRecordsFault, AreFirst, FindsHeader, with_records}
+use Rattle.pcap_stream.specs.Inside.{IsPart, IsAt, EndsRecords, IsRecordsFault, IsLater, AreFirst, FindsHeader, with_records}
+use Rattle.pcap_stream.proofs.Headers.{begins_take}
 use Rattle.pcap_stream.proofs.Reading.{captured-take}
 use Rattle.pcap_stream.proofs.Streams.{made_longer}
 
 -- a record whose bytes all came
-pub whole_record : (o : Order) (bytes : List ℕ) → 16 ≤ length bytes → captured_length o bytes ≤ 262144 → 16 + captured_length o bytes ≤ length bytes → HasRecord o bytes
-whole_record o bytes long fits all =
-    let n : ℕ = captured_length o bytes in
+pub whole_record : (h : Header) (bytes : List ℕ) → 16 ≤ length bytes → (BeginsHeader h bytes → ⊥) → captured_length h.order bytes ≤ 262144 → 16 + captured_length h.order bytes ≤ length bytes → HasRecord h bytes
+whole_record h bytes long other fits all =
+    let n : ℕ = captured_length h.order bytes in
     let r : Record = record { head = take 16 bytes; captured = take n (drop 16 bytes) } in
     let count : length (take n (drop 16 bytes)) ≡ n = length-take-le n (drop 16 bytes) (omega (arith, all, length-drop 16 bytes)) in (
       r,
       drop n (drop 16 bytes),
-      record { size = length-take-le 16 bytes long; length_said = captured-take o bytes ∙ sym count; limit = omega (arith, count, fits) },
+      record { size = length-take-le 16 bytes long; length_said = captured-take h.order bytes ∙ sym count; limit = omega (arith, count, fits); other = λ begins. other (begins_take h bytes begins) },
       sym (append_assoc (take 16 bytes) (take n (drop 16 bytes)) (drop n (drop 16 bytes))
           ∙ ap (λ (l : List ℕ). take 16 bytes ++ l) (take-append-drop n (drop 16 bytes)) ∙ take-append-drop 16 bytes),
     )
 
 -- what is left behind all records is shorter than the longest record
-pub part_short : (o : Order) (bytes : List ℕ) → IsPart o bytes → length bytes < 262160
-part_short o bytes part =
+pub part_short : (h : Header) (bytes : List ℕ) → IsPart h bytes → length bytes < 262160
+part_short h bytes part =
     elim (cases_lt (length bytes) 262160) [
       | inl few ↦ few
-      | inr many ↦ elim (cases_lt 262144 (captured_length o bytes)) [
-        | inl long ↦ absurd (part.none_too_long (omega (arith, many), long))
-        | inr fits ↦ absurd (part.no_more (whole_record o bytes (omega (arith, many)) fits (omega (arith, many, fits))))
-      ]
+      | inr many ↦
+          let head : 16 ≤ length bytes = omega (arith, many) in
+          let other : BeginsHeader h bytes → ⊥ = λ begins. part.no_header (head, begins) in
+          elim (cases_lt 262144 (captured_length h.order bytes)) [
+            | inl long ↦ absurd (part.none_too_long (head, long, other))
+            | inr fits ↦ absurd (part.no_more (whole_record h bytes head other fits (omega (arith, many, fits))))
+          ]
     ]
 
 -- records behind others
-pub made_more : {s : List ℕ} {h : Header} {a b : List Record} {x y : List ℕ} → IsMadeOf s h a x → AreFirst h.order x b y → IsMadeOf s h (a ++ b) y
+pub made_more : {s : List ℕ} {h : Header} {a b : List Record} {x y : List ℕ} → IsMadeOf s h a x → AreFirst h x b y → IsMadeOf s h (a ++ b) y
 made_more {s} {h} {a} {b} {x} {y} m first = record {
   header = m.header;
   says = m.says;
-  are_records = All-append (IsRecord h.order) a b m.are_records first.lawful;
+  are_records = All-append (IsRecord h) a b m.are_records first.lawful;
   whole = m.whole ∙ ap (λ (l : List ℕ). m.header ++ flat_map bytes_of a ++ l) first.whole
       ∙ sym (append_assoc (m.header ++ flat_map bytes_of a) (flat_map bytes_of b) y)
       ∙ ap (λ (l : List ℕ). l ++ y) (append_assoc m.header (flat_map bytes_of a) (flat_map bytes_of b)
@@ -58,7 +62,7 @@ read_grows h s a offset bytes left old new t at ends kept =
     let b = ends.read.records in
     let fewer : length left ≤ length bytes = omega (arith, ap (λ (l : List ℕ). length l) ends.read.first.whole, length-append (flat_map bytes_of b) left) in
     let stands : StandsFor (tail_of (Some h) (offset + (length bytes - length left)) left) s (record { header = Some h; records = a ++ b; rest = left }) = record {
-      reads = record { made = made_more at.made ends.read.first; no_more = ends.part.no_more; none_too_long = ends.part.none_too_long };
+      reads = record { made = made_more at.made ends.read.first; no_more = ends.part.no_more; none_too_long = ends.part.none_too_long; no_header = ends.part.no_header };
       header = refl;
       rest = refl;
       offset = omega (arith, at.place, fewer);
@@ -71,18 +75,23 @@ read_grows h s a offset bytes left old new t at ends kept =
       more = map-append (packet_of h) a b;
     }
 
-pub records_fault : (h : Header) (s : List ℕ) (a : List Record) (offset : ℕ) (bytes : List ℕ) (e : PcapError) → IsAt h s a offset bytes → IsRecordsFault h.order bytes offset e → IsFault s e
-records_fault h s a offset bytes Magic at f = absurd f
-records_fault h s a offset bytes Version at f = absurd f
-records_fault h s a offset bytes Memory at f = tt
-records_fault h s a offset bytes (Length place) at f = record {
+-- what comes behind some of the records comes behind all of them
+later_comes : {Is : Header → List ℕ → Type 0} {h : Header} {s : List ℕ} {a : List Record} {offset : ℕ} {bytes : List ℕ} {place : ℕ} → IsAt h s a offset bytes → IsLater Is h bytes offset place → ComesAt Is s place
+later_comes {Is} {h} {s} {a} {offset} {bytes} {place} at f = record {
   header = h;
   records = a ++ f.records;
   rest = f.left;
   made = made_more at.made f.first;
-  long = f.long;
+  is = f.is;
   at = omega (arith, f.at, at.place);
 }
+
+pub records_fault : (h : Header) (s : List ℕ) (a : List Record) (offset : ℕ) (bytes : List ℕ) (e : PcapError) → IsAt h s a offset bytes → IsRecordsFault h bytes offset e → IsFault s e
+records_fault h s a offset bytes Magic at f = absurd f
+records_fault h s a offset bytes Version at f = absurd f
+records_fault h s a offset bytes Memory at f = tt
+records_fault h s a offset bytes (faults.Header place) at f = later_comes at f
+records_fault h s a offset bytes (Length place) at f = later_comes at f
 
 -- ---- the bytes behind what was kept
 -- the tail of a stream with its header
@@ -134,7 +143,7 @@ found_at h t s piece bytes c has is stands long says =
     let made : IsMadeOf bytes h [] (drop 24 bytes) = record {
       header = take 24 bytes;
       says = says;
-      are_records = All-nil (IsRecord h.order);
+      are_records = All-nil (IsRecord h);
       whole = sym (ap (λ (l : List ℕ). l ++ drop 24 bytes) (append-nil (take 24 bytes)) ∙ take-append-drop 24 bytes);
     } in
     record {

@@ -1,6 +1,7 @@
 -- Headers: which bytes are one, and which may become one.
 use Rattle.std.proofs.Common.{◌≡◌, ◌≤◌, ◌<◌, ◌+◌, ◌%◌, ℕ, List, [], ◌∷◌, ◌++◌, length, take, drop, get_or, refl, sym, ap, subst, ◌∙◌, arith, inl, inr, length-append}
 use Rattle.std.proofs.lemmas.List.{drop-take, length-drop, drop-append-le, take-append-le, drop_all, append-nil, length-take-le, take-take}
+use Rattle.std.proofs.Math.Seq.{take-add}
 use Rattle.std.proofs.lemmas.Bool.{cases_lt}
 use Rattle.byteorder.specs.Numbers.{big_from-append, big_from-take, little_from-append, little_from-take}
 use Rattle.pcap_stream.specs.declared.header.Order.{Order}
@@ -8,8 +9,8 @@ use Rattle.pcap_stream.specs.declared.header.Order.TheVariants.{Big, Little}
 use Rattle.pcap_stream.specs.declared.header.Fraction.{Fraction}
 use Rattle.pcap_stream.specs.declared.header.Fraction.TheVariants.{Micros, Nanos}
 use Rattle.pcap_stream.specs.declared.header.Header.{Header}
-use Rattle.pcap_stream.specs.Capture.{magic, version, number_in, IsHeader, IsBegun, IsFrontOf, BeginsAs, LacksMagic}
-use Rattle.pcap_stream.proofs.Lists.{fill, take_fill, drop_fill, front_take, front_drop, same_front}
+use Rattle.pcap_stream.specs.Capture.{magic, version, number_in, IsHeader, IsBegun, IsFrontOf, BeginsAs, BeginsHeader, LacksMagic}
+use Rattle.pcap_stream.proofs.Lists.{fill, take_fill, drop_fill, front_take, front_drop, same_front, same_rest}
 
 -- ---- numbers
 pub number-append : (o : Order) (n : ℕ) (xs ys : List ℕ) → n ≤ length xs → number_in o n (xs ++ ys) ≡ number_in o n xs
@@ -162,3 +163,25 @@ version_one s o p f g a b next =
           let one : magic o f ≡ magic p g = sym (whole_front (take 4 s) (magic o f) (long ∙ sym (length-magic o f)) a) ∙ whole_front (take 4 s) (magic p g) (long ∙ sym (length-magic p g)) b in
           subst (λ (q : Order). IsFrontOf (take 4 (drop 4 s)) (version q)) (magic_one o p f g one).0 next
     ]
+
+-- ---- bytes that begin as a header does
+-- the magic number and the version are there, and whole
+pub begins_again : (h : Header) (bytes : List ℕ) → 8 ≤ length bytes → BeginsAs bytes h.order h.fraction → IsFrontOf (take 4 (drop 4 bytes)) (version h.order) → BeginsHeader h bytes
+begins_again h bytes long first next =
+    let four : length (take 4 bytes) ≡ 4 = length-take-le 4 bytes (omega (arith, long)) in
+    let others : length (take 4 (drop 4 bytes)) ≡ 4 = length-take-le 4 (drop 4 bytes) (omega (arith, long, length-drop 4 bytes)) in
+    let is_magic : take 4 bytes ≡ magic h.order h.fraction = whole_front (take 4 bytes) (magic h.order h.fraction) (four ∙ sym (length-magic h.order h.fraction)) first in
+    let is_version : take 4 (drop 4 bytes) ≡ version h.order = whole_front (take 4 (drop 4 bytes)) (version h.order) (others ∙ sym (length-version h.order)) next in
+    take-add 4 4 bytes ∙ ap (λ (l : List ℕ). l ++ take 4 (drop 4 bytes)) is_magic ∙ ap (λ (l : List ℕ). magic h.order h.fraction ++ l) is_version
+
+pub again_begins : (h : Header) (bytes : List ℕ) → 8 ≤ length bytes → BeginsHeader h bytes → BeginsAs bytes h.order h.fraction × IsFrontOf (take 4 (drop 4 bytes)) (version h.order)
+again_begins h bytes long begins =
+    let split : take 4 bytes ++ take 4 (drop 4 bytes) ≡ magic h.order h.fraction ++ version h.order = sym (take-add 4 4 bytes) ∙ begins in
+    let sizes : length (take 4 bytes) ≡ length (magic h.order h.fraction) = length-take-le 4 bytes (omega (arith, long)) ∙ sym (length-magic h.order h.fraction) in
+    let first = same_front (take 4 bytes) (magic h.order h.fraction) (take 4 (drop 4 bytes)) (version h.order) sizes split in
+    let next = same_rest (take 4 bytes) (magic h.order h.fraction) (take 4 (drop 4 bytes)) (version h.order) sizes split in
+    (([], append-nil (take 4 bytes) ∙ first), ([], append-nil (take 4 (drop 4 bytes)) ∙ next))
+
+-- the first 16 bytes begin so where all do
+pub begins_take : (h : Header) (bytes : List ℕ) → BeginsHeader h (take 16 bytes) → BeginsHeader h bytes
+begins_take h bytes begins = sym (take-take 8 16 bytes (omega arith)) ∙ begins

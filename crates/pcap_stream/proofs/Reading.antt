@@ -6,11 +6,11 @@ use Rattle.std.proofs.lemmas.List.Elements.{All-push}
 use Rattle.std.proofs.lemmas.List.Concat.{flat_map-append}
 use Rattle.pcap_stream.specs.declared.header.Order.{Order}
 use Rattle.pcap_stream.specs.declared.header.Header.{Header}
-use Rattle.pcap_stream.specs.Capture.{Record, Seen, IsRecord, HasRecord, HasTooLong, bytes_of, captured_length, number_in, nanos, packet_of}
+use Rattle.pcap_stream.specs.Capture.{Record, Seen, BeginsHeader, IsRecord, HasRecord, bytes_of, captured_length, number_in, nanos, packet_of}
 use Rattle.pcap_stream.specs.declared.packet.Packet.{Packet}
 use Rattle.pcap_stream.specs.Feeding.{seen_packet}
 use Rattle.pcap_stream.specs.Inside.{IsPart, IsNext, HasRead, IsLater}
-use Rattle.pcap_stream.proofs.Headers.{number-take}
+use Rattle.pcap_stream.proofs.Headers.{begins_take, number-take}
 use Rattle.pcap_stream.proofs.Records.{record_long, captured-append}
 
 -- ---- one record
@@ -22,11 +22,11 @@ pub captured-take : (o : Order) (bytes : List ℕ) → captured_length o (take 1
 captured-take o bytes = ap (λ (l : List ℕ). number_in o 4 l) (drop-take 8 8 bytes) ∙ number-take o 4 8 (drop 8 bytes) (omega arith)
 
 -- a record has as many bytes as it says
-pub has_length : (o : Order) (bytes : List ℕ) → (has : HasRecord o bytes) → 16 + captured_length o bytes ≤ length bytes
-has_length o bytes has =
+pub has_length : (h : Header) (bytes : List ℕ) → (has : HasRecord h bytes) → 16 + captured_length h.order bytes ≤ length bytes
+has_length h bytes has =
     let r : Record = has.0 in
-    let is : IsRecord o r = has.2 in
-    let said : captured_length o bytes ≡ length r.captured = ap (λ (l : List ℕ). captured_length o l) has.3 ∙ captured-append o r has.1 is.size ∙ is.length_said in
+    let is : IsRecord h r = has.2 in
+    let said : captured_length h.order bytes ≡ length r.captured = ap (λ (l : List ℕ). captured_length h.order l) has.3 ∙ captured-append h.order r has.1 is.size ∙ is.length_said in
     let all : length bytes ≡ length (bytes_of r ++ has.1) = ap (λ (l : List ℕ). length l) has.3 in
     omega (arith, said, all, record_long r has.1, is.size)
 
@@ -42,22 +42,23 @@ pub packet_said : (h : Header) (bytes head captured : List ℕ) (stamp : ℕ) �
 packet_said h bytes head captured stamp is said = ap (λ (n : ℕ). seen_with n h.link captured) (said ∙ ap (λ (l : List ℕ). stamp_by h l) is)
 
 -- the head is whole, and more bytes are to come
-pub part_of : (o : Order) (bytes : List ℕ) (n : ℕ) → n ≡ captured_length o (take 16 bytes) → n ≤ 262144 → length (drop 16 bytes) < n → IsPart o bytes
-part_of o bytes n is few short =
-    let said : n ≡ captured_length o bytes = is ∙ captured-take o bytes in
+pub part_of : (h : Header) (bytes : List ℕ) (n : ℕ) → (BeginsHeader h bytes → ⊥) → n ≡ captured_length h.order (take 16 bytes) → n ≤ 262144 → length (drop 16 bytes) < n → IsPart h bytes
+part_of h bytes n other is few short =
+    let said : n ≡ captured_length h.order bytes = is ∙ captured-take h.order bytes in
     record {
-      no_more = λ has. omega (arith, said, short, length-drop 16 bytes, has_length o bytes has);
+      no_more = λ has. omega (arith, said, short, length-drop 16 bytes, has_length h bytes has);
       none_too_long = λ long. omega (arith, said, few, long.1);
+      no_header = λ second. other second.1;
     }
 
-pub next_of : (h : Header) (bytes captured : List ℕ) (n : ℕ) (packet : Seen) → 16 ≤ length bytes → n ≡ captured_length h.order (take 16 bytes) → n ≤ 262144 → n ≤ length (drop 16 bytes) →
+pub next_of : (h : Header) (bytes captured : List ℕ) (n : ℕ) (packet : Seen) → 16 ≤ length bytes → (BeginsHeader h bytes → ⊥) → n ≡ captured_length h.order (take 16 bytes) → n ≤ 262144 → n ≤ length (drop 16 bytes) →
     captured ≡ take n (drop 16 bytes) → packet ≡ packet_of h (record { head = take 16 bytes; captured = captured }) → IsNext h bytes packet
-next_of h bytes captured n packet long is few enough cut said =
+next_of h bytes captured n packet long other is few enough cut said =
     let count : length captured ≡ n = ap (λ (l : List ℕ). length l) cut ∙ length-take-le n (drop 16 bytes) enough in
     record {
       «record» = record { head = take 16 bytes; captured = captured };
       after = drop n (drop 16 bytes);
-      lawful = record { size = length-take-le 16 bytes long; length_said = sym is ∙ sym count; limit = omega (arith, count, few) };
+      lawful = record { size = length-take-le 16 bytes long; length_said = sym is ∙ sym count; limit = omega (arith, count, few); other = λ begins. other (begins_take h bytes begins) };
       whole = sym (append_assoc (take 16 bytes) captured (drop n (drop 16 bytes))
           ∙ ap (λ (l : List ℕ). take 16 bytes ++ l) (ap (λ (l : List ℕ). l ++ drop n (drop 16 bytes)) cut ∙ take-append-drop n (drop 16 bytes)) ∙ take-append-drop 16 bytes);
       said = said;
@@ -84,20 +85,20 @@ one_read {h} {bytes} {left} {old} {new} {packet} read next =
     map-append (packet_of h) before (r ∷ []) ∙ ap (λ (p : Seen). map (packet_of h) before ++ p ∷ []) (sym next.said) in
     record {
       records = before ++ r ∷ [];
-      first = record { lawful = All-push (IsRecord h.order) before r read.first.lawful next.lawful; whole = whole };
+      first = record { lawful = All-push (IsRecord h) before r read.first.lawful next.lawful; whole = whole };
       added = ap (λ (l : List Seen). l ++ packet ∷ []) read.added ∙ append_assoc old (map (packet_of h) before) (packet ∷ []) ∙ ap (λ (l : List Seen). old ++ l) (sym packets);
     }
 
 pub read_short : {h : Header} {bytes left : List ℕ} {old new : List Seen} → HasRead h bytes left old new → length left ≤ length bytes
 read_short {h} {bytes} {left} {old} {new} read = omega (arith, ap (λ (l : List ℕ). length l) read.first.whole, length-append (flat_map bytes_of read.records) left)
 
-pub later_of : {h : Header} {bytes left : List ℕ} {old new : List Seen} (start place : ℕ) → HasRead h bytes left old new → HasTooLong h.order left → place ≡ start + (length bytes - length left) →
-    IsLater h.order bytes start place
-later_of {h} {bytes} {left} {old} {new} start place read long is = record {
+pub later_of : {Is : Header → List ℕ → Type 0} {h : Header} {bytes left : List ℕ} {old new : List Seen} (start place : ℕ) → HasRead h bytes left old new → Is h left → place ≡ start + (length bytes - length left) →
+    IsLater Is h bytes start place
+later_of {Is} {h} {bytes} {left} {old} {new} start place read here is = record {
   records = read.records;
   left = left;
   first = read.first;
-  long = long;
+  is = here;
   at = omega (arith, is, read_short read);
 }
 

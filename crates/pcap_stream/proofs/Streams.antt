@@ -4,14 +4,15 @@ use Rattle.std.specs.List.{flat_map}
 use Rattle.std.proofs.lemmas.List.{append-nil, map-append}
 use Rattle.pcap_stream.specs.declared.errors.PcapError.{PcapError}
 use Rattle.pcap_stream.specs.declared.errors.PcapError.TheVariants.{Magic, Version, Length, Memory}
+use Rattle.pcap_stream.specs.declared.errors.PcapError.TheVariants as faults
 use Rattle.pcap_stream.specs.declared.header.Order.TheVariants.{Big}
 use Rattle.pcap_stream.specs.declared.header.Fraction.TheVariants.{Micros}
 use Rattle.pcap_stream.specs.declared.header.Header.{Header}
-use Rattle.pcap_stream.specs.Capture.{Capture, Record, Seen, IsHeader, IsRecord, IsMadeOf, HasRecord, HasTooLong, Reads, ReadsBy, IsFault, LacksVersion, IsTooLongAt, bytes_of, packet_of, packets_of, packets_by, magic, version, nothing}
+use Rattle.pcap_stream.specs.Capture.{Capture, Record, Seen, IsHeader, IsRecord, IsMadeOf, IsRead, HasRecord, HasSecondHeader, HasTooLong, Reads, ReadsBy, IsFault, LacksVersion, ComesAt, bytes_of, packet_of, packets_of, packets_by, magic, version, nothing}
 use Rattle.pcap_stream.specs.Feeding.{Tail, StandsFor, IsNew, tail_of}
 use Rattle.pcap_stream.proofs.Lists.{same_front, same_rest}
 use Rattle.pcap_stream.proofs.Headers.{Begins, begins_front, begins_whole, begun, header_one, version_one}
-use Rattle.pcap_stream.proofs.Records.{More, nothing_more, not_both, records_go_on}
+use Rattle.pcap_stream.proofs.Records.{More, nothing_more, no_record, not_both, records_go_on}
 
 -- ---- a header and records
 joined : {s : List ℕ} {h : Header} {a : List Record} {x : List ℕ} (m : IsMadeOf s h a x) → s ≡ m.header ++ (flat_map bytes_of a ++ x)
@@ -35,16 +36,16 @@ made_longer {s} {h} {a} {x} t m = record {
 -- one header, and the records of the stream that goes further begin with those of the other
 record Goes (h g : Header) (a b : List Record) (x y : List ℕ) : Type 0 where
   pub header : h ≡ g
-  pub more : More g.order a b x y
+  pub more : More g a b x y
 
-made_goes : {s : List ℕ} {h g : Header} {a b : List Record} {x y : List ℕ} → IsMadeOf s h a x → IsMadeOf s g b y → (HasRecord g.order y → ⊥) → Goes h g a b x y
+made_goes : {s : List ℕ} {h g : Header} {a b : List Record} {x y : List ℕ} → IsMadeOf s h a x → IsMadeOf s g b y → (HasRecord g y → ⊥) → Goes h g a b x y
 made_goes {s} {h} {g} {a} {b} {x} {y} m n none =
     let e : m.header ++ (flat_map bytes_of a ++ x) ≡ n.header ++ (flat_map bytes_of b ++ y) = sym (joined m) ∙ joined n in
     let sizes : length m.header ≡ length n.header = m.says.size ∙ sym n.says.size in
     let heads : m.header ≡ n.header = same_front m.header n.header _ _ sizes e in
     let one : h ≡ g = header_one n.header h g (subst (λ (l : List ℕ). IsHeader l h) heads m.says) n.says in
-    let lawful : All (IsRecord g.order) a = subst (λ (k : Header). All (IsRecord k.order) a) one m.are_records in
-    record { header = one; more = records_go_on g.order a b x y lawful n.are_records (same_rest m.header n.header _ _ sizes e) none }
+    let lawful : All (IsRecord g) a = subst (λ (k : Header). All (IsRecord k) a) one m.are_records in
+    record { header = one; more = records_go_on g a b x y lawful n.are_records (same_rest m.header n.header _ _ sizes e) none }
 
 -- with no record more on either side, all is one
 record Same (h g : Header) (a b : List Record) (x y : List ℕ) : Type 0 where
@@ -52,11 +53,11 @@ record Same (h g : Header) (a b : List Record) (x y : List ℕ) : Type 0 where
   pub records : a ≡ b
   pub rest : x ≡ y
 
-made_same : {s : List ℕ} {h g : Header} {a b : List Record} {x y : List ℕ} → IsMadeOf s h a x → IsMadeOf s g b y → (HasRecord h.order x → ⊥) → (HasRecord g.order y → ⊥) → Same h g a b x y
+made_same : {s : List ℕ} {h g : Header} {a b : List Record} {x y : List ℕ} → IsMadeOf s h a x → IsMadeOf s g b y → (HasRecord h x → ⊥) → (HasRecord g y → ⊥) → Same h g a b x y
 made_same {s} {h} {g} {a} {b} {x} {y} m n left right =
     let goes = made_goes m n right in
-    let none : HasRecord g.order x → ⊥ = subst (λ (k : Header). HasRecord k.order x → ⊥) goes.header left in
-    let end : goes.more.more ≡ [] = nothing_more g.order goes.more.more x y goes.more.lawful goes.more.rest none in
+    let none : HasRecord g x → ⊥ = subst (λ (k : Header). HasRecord k x → ⊥) goes.header left in
+    let end : goes.more.more ≡ [] = nothing_more g goes.more.more x y goes.more.lawful goes.more.rest none in
     record {
       header = goes.header;
       records = sym (goes.more.records ∙ ap (λ (r : List Record). a ++ r) end ∙ append-nil a);
@@ -130,12 +131,21 @@ reads_begin s (Some h) a x p = (h, made_begins p.made)
 not_version : (s : List ℕ) (h : Header) → Begins s h → LacksVersion s → ⊥
 not_version s h begins lacks = lacks.other (version_one s h.order lacks.order h.fraction lacks.fraction begins.first lacks.begins begins.next)
 
-not_long : (s : List ℕ) (h : Option Header) (a : List Record) (x : List ℕ) (place : ℕ) → ReadsBy h s a x → IsTooLongAt s place → ⊥
+-- what is no record does not come where a stream is read to its end
+not_there : (Is : Header → List ℕ → Type 0) → ((h : Header) (rest : List ℕ) → Is h rest → HasRecord h rest → ⊥) → (s : List ℕ) (h : Header) (a : List Record) (x : List ℕ) (place : ℕ) →
+    IsRead s h a x → (Is h x → ⊥) → ComesAt Is s place → ⊥
+not_there Is none s h a x place p other f =
+    let same = made_same f.made p.made (none f.header f.rest f.is) p.no_more in
+    let here : Is h f.rest = subst (λ (k : Header). Is k f.rest) same.header f.is in
+    other (subst (λ (l : List ℕ). Is h l) same.rest here)
+
+not_long : (s : List ℕ) (h : Option Header) (a : List Record) (x : List ℕ) (place : ℕ) → ReadsBy h s a x → ComesAt HasTooLong s place → ⊥
 not_long s None a x place p f = omega (arith, p.0.short, made_long f.made)
-not_long s (Some h) a x place p f =
-    let same = made_same f.made p.made (not_both f.header.order f.rest f.long) p.no_more in
-    let long : HasTooLong h.order f.rest = subst (λ (k : Header). HasTooLong k.order f.rest) same.header f.long in
-    p.none_too_long (subst (λ (l : List ℕ). HasTooLong h.order l) same.rest long)
+not_long s (Some h) a x place p f = not_there HasTooLong not_both s h a x place p p.none_too_long f
+
+not_second : (s : List ℕ) (h : Option Header) (a : List Record) (x : List ℕ) (place : ℕ) → ReadsBy h s a x → ComesAt HasSecondHeader s place → ⊥
+not_second s None a x place p f = omega (arith, p.0.short, made_long f.made)
+not_second s (Some h) a x place p f = not_there HasSecondHeader no_record s h a x place p p.no_header f
 
 pub read_or_refused : (s : List ℕ) (c : Capture) (e : PcapError) → Reads s c → IsFault s e → e ≢ Memory → ⊥
 read_or_refused s c Magic p f ne =
@@ -144,13 +154,24 @@ read_or_refused s c Magic p f ne =
 read_or_refused s c Version p f ne =
     let begins = reads_begin s c.header c.records c.rest p in
     not_version s begins.0 begins.1 f
+read_or_refused s c (faults.Header place) p f ne = not_second s c.header c.records c.rest place p f
 read_or_refused s c (Length place) p f ne = not_long s c.header c.records c.rest place p f
 read_or_refused s c Memory p f ne = ne refl
 
-places_one : (s : List ℕ) (p q : ℕ) → IsTooLongAt s p → IsTooLongAt s q → p ≡ q
-places_one s p q a b =
-    let same = made_same a.made b.made (not_both a.header.order a.rest a.long) (not_both b.header.order b.rest b.long) in
-    omega (arith, a.at, b.at, ap (λ (l : List ℕ). length l) same.rest)
+-- bytes that are no record come at one place
+places_one : (Is Other : Header → List ℕ → Type 0) → ((h : Header) (rest : List ℕ) → Is h rest → HasRecord h rest → ⊥) → ((h : Header) (rest : List ℕ) → Other h rest → HasRecord h rest → ⊥) →
+    (s : List ℕ) (p q : ℕ) (a : ComesAt Is s p) (b : ComesAt Other s q) → (p ≡ q) × (a.header ≡ b.header) × (a.rest ≡ b.rest)
+places_one Is Other none nor s p q a b =
+    let same = made_same a.made b.made (none a.header a.rest a.is) (nor b.header b.rest b.is) in
+    (omega (arith, a.at, b.at, ap (λ (l : List ℕ). length l) same.rest), same.header, same.rest)
+
+-- a record that is too long is no second header
+not_either : (s : List ℕ) (p q : ℕ) → ComesAt HasSecondHeader s p → ComesAt HasTooLong s q → ⊥
+not_either s p q a b =
+    let one = places_one HasSecondHeader HasTooLong no_record not_both s p q a b in
+    let there : HasSecondHeader b.header a.rest = subst (λ (k : Header). HasSecondHeader k a.rest) one.1 a.is in
+    let here : HasSecondHeader b.header b.rest = subst (λ (l : List ℕ). HasSecondHeader b.header l) one.2 there in
+    b.is.2 here.1
 
 pub one_fault : (s : List ℕ) (e f : PcapError) → IsFault s e → IsFault s f → e ≢ Memory → f ≢ Memory → e ≡ f
 one_fault s Memory f a b ne nf = absurd (ne refl)
@@ -158,9 +179,16 @@ one_fault s e Memory a b ne nf = absurd (nf refl)
 one_fault s Magic Magic a b ne nf = refl
 one_fault s Magic Version a b ne nf = absurd (a b.order b.fraction b.begins)
 one_fault s Magic (Length q) a b ne nf = absurd (a b.header.order b.header.fraction (made_begins b.made).first)
+one_fault s Magic (faults.Header q) a b ne nf = absurd (a b.header.order b.header.fraction (made_begins b.made).first)
 one_fault s Version Magic a b ne nf = absurd (b a.order a.fraction a.begins)
 one_fault s Version Version a b ne nf = refl
 one_fault s Version (Length q) a b ne nf = absurd (not_version s b.header (made_begins b.made) a)
+one_fault s Version (faults.Header q) a b ne nf = absurd (not_version s b.header (made_begins b.made) a)
 one_fault s (Length p) Magic a b ne nf = absurd (b a.header.order a.header.fraction (made_begins a.made).first)
 one_fault s (Length p) Version a b ne nf = absurd (not_version s a.header (made_begins a.made) b)
-one_fault s (Length p) (Length q) a b ne nf = ap (λ (n : ℕ). Length n) (places_one s p q a b)
+one_fault s (Length p) (Length q) a b ne nf = ap (λ (n : ℕ). Length n) (places_one HasTooLong HasTooLong not_both not_both s p q a b).0
+one_fault s (Length p) (faults.Header q) a b ne nf = absurd (not_either s q p b a)
+one_fault s (faults.Header p) Magic a b ne nf = absurd (b a.header.order a.header.fraction (made_begins a.made).first)
+one_fault s (faults.Header p) Version a b ne nf = absurd (not_version s a.header (made_begins a.made) b)
+one_fault s (faults.Header p) (Length q) a b ne nf = absurd (not_either s p q a b)
+one_fault s (faults.Header p) (faults.Header q) a b ne nf = ap (λ (n : ℕ). faults.Header n) (places_one HasSecondHeader HasSecondHeader no_record no_record s p q a b).0

@@ -4,6 +4,7 @@ use Rattle.std.specs.List.{flat_map}
 use Rattle.byteorder.specs.Endian.{big_number, little_number}
 use Rattle.pcap_stream.specs.declared.errors.PcapError.{PcapError}
 use Rattle.pcap_stream.specs.declared.errors.PcapError.TheVariants.{Magic, Version, Length, Memory}
+use Rattle.pcap_stream.specs.declared.errors.PcapError.TheVariants as faults
 use Rattle.pcap_stream.specs.declared.header.Order.{Order}
 use Rattle.pcap_stream.specs.declared.header.Order.TheVariants.{Big, Little}
 use Rattle.pcap_stream.specs.declared.header.Fraction.{Fraction}
@@ -49,19 +50,28 @@ bytes_of r = r.head ++ r.captured
 abbrev pub captured_length : Order → List ℕ → ℕ
 captured_length order head = number_in order 4 (drop 8 head)
 
--- the head says how many bytes follow, and that is at most 262,144
-pub record IsRecord (order : Order) (r : Record) : Type 0 where
+-- these bytes begin as the capture itself does, with its magic number and version
+abbrev pub BeginsHeader : Header → List ℕ → Type 0
+BeginsHeader h bytes = take 8 bytes ≡ magic h.order h.fraction ++ version h.order
+
+-- the head says how many bytes follow, that is at most 262,144, and it is no file header once more
+pub record IsRecord (h : Header) (r : Record) : Type 0 where
   pub size : length r.head ≡ 16
-  pub length_said : captured_length order r.head ≡ length r.captured
+  pub length_said : captured_length h.order r.head ≡ length r.captured
   pub limit : length r.captured ≤ 262144
+  pub other : BeginsHeader h r.head → ⊥
 
 -- a whole record begins these bytes
-abbrev pub HasRecord : Order → List ℕ → Type 0
-HasRecord order bytes = (r : Record) × (after : List ℕ) × IsRecord order r × (bytes ≡ bytes_of r ++ after)
+abbrev pub HasRecord : Header → List ℕ → Type 0
+HasRecord h bytes = (r : Record) × (after : List ℕ) × IsRecord h r × (bytes ≡ bytes_of r ++ after)
 
--- the head of a record begins these bytes, and says that more than 262,144 bytes were captured
-abbrev pub HasTooLong : Order → List ℕ → Type 0
-HasTooLong order bytes = (16 ≤ length bytes) × (262144 < captured_length order bytes)
+-- these bytes are as many as the head of a record at least, and begin a second file header
+abbrev pub HasSecondHeader : Header → List ℕ → Type 0
+HasSecondHeader h bytes = (16 ≤ length bytes) × BeginsHeader h bytes
+
+-- the head of a record begins these bytes, says that more than 262,144 bytes were captured, and is no second file header
+abbrev pub HasTooLong : Header → List ℕ → Type 0
+HasTooLong h bytes = (16 ≤ length bytes) × (262144 < captured_length h.order bytes) × (BeginsHeader h bytes → ⊥)
 
 -- ---- packets
 -- a packet: its stamp in ns, its link type and its bytes
@@ -99,14 +109,15 @@ pub record IsBegun (s : List ℕ) : Type 0 where
 pub record IsMadeOf (s : List ℕ) (h : Header) (records : List Record) (rest : List ℕ) : Type 0 where
   pub header : List ℕ
   pub says : IsHeader header h
-  pub are_records : All (IsRecord h.order) records
+  pub are_records : All (IsRecord h) records
   pub whole : s ≡ header ++ flat_map bytes_of records ++ rest
 
--- the stream is a header, these records, and then neither a whole record nor one that is too long
+-- the stream is a header, these records, and then neither a whole record, nor one that is too long, nor a second header
 pub record IsRead (s : List ℕ) (h : Header) (records : List Record) (rest : List ℕ) : Type 0 where
   pub made : IsMadeOf s h records rest
-  pub no_more : HasRecord h.order rest → ⊥
-  pub none_too_long : HasTooLong h.order rest → ⊥
+  pub no_more : HasRecord h rest → ⊥
+  pub none_too_long : HasTooLong h rest → ⊥
+  pub no_header : HasSecondHeader h rest → ⊥
 
 -- the records of a stream with this header, if that is whole
 abbrev pub ReadsBy : Option Header → List ℕ → List Record → List ℕ → Type 0
@@ -150,18 +161,19 @@ pub record LacksVersion (s : List ℕ) : Type 0 where
   pub begins : BeginsAs s order fraction
   pub other : IsFrontOf (take 4 (drop 4 s)) (version order) → ⊥
 
--- behind a header and whole records, at this place, a record says that it is too long
-pub record IsTooLongAt (s : List ℕ) (place : ℕ) : Type 0 where
+-- behind a header and whole records, the bytes from this place on are so
+pub record ComesAt (Is : Header → List ℕ → Type 0) (s : List ℕ) (place : ℕ) : Type 0 where
   pub header : Header
   pub records : List Record
   pub rest : List ℕ
   pub made : IsMadeOf s header records rest
-  pub long : HasTooLong header.order rest
+  pub is : Is header rest
   pub at : place + length rest ≡ length s
 
 -- why a stream is refused
 abbrev pub IsFault : List ℕ → PcapError → Type 0
 IsFault s Magic = LacksMagic s
 IsFault s Version = LacksVersion s
-IsFault s (Length place) = IsTooLongAt s place
+IsFault s (faults.Header place) = ComesAt HasSecondHeader s place
+IsFault s (Length place) = ComesAt HasTooLong s place
 IsFault s Memory = ⊤

@@ -3,10 +3,10 @@ use Rattle.std.specs.Prelude.{◌≡◌, ℕ, ◌+◌, ◌≤◌, List, [], ◌+
 use Rattle.std.specs.List.{flat_map}
 use Rattle.pcap_stream.specs.declared.errors.PcapError.{PcapError}
 use Rattle.pcap_stream.specs.declared.errors.PcapError.TheVariants.{Magic, Version, Length, Memory}
-use Rattle.pcap_stream.specs.declared.header.Order.{Order}
+use Rattle.pcap_stream.specs.declared.errors.PcapError.TheVariants as faults
 use Rattle.pcap_stream.specs.declared.header.Header.{Header}
 use Rattle.pcap_stream.specs.declared.packet.Packet.{Packet}
-use Rattle.pcap_stream.specs.Capture.{Capture, Record, Seen, IsHeader, IsBegun, IsRecord, IsMadeOf, HasRecord, HasTooLong, bytes_of, packet_of}
+use Rattle.pcap_stream.specs.Capture.{Capture, Record, Seen, IsHeader, IsBegun, IsRecord, IsMadeOf, HasRecord, HasSecondHeader, HasTooLong, bytes_of, packet_of}
 use Rattle.pcap_stream.specs.Feeding.{seen_packet}
 
 -- the bytes begin with this header, or may still become one
@@ -14,61 +14,64 @@ abbrev pub FindsHeader : List ℕ → Option Header → Type 0
 FindsHeader bytes None = IsBegun bytes
 FindsHeader bytes (Some h) = (24 ≤ length bytes) × IsHeader (take 24 bytes) h
 
--- no whole record begins these bytes, and none that is too long
-pub record IsPart (order : Order) (bytes : List ℕ) : Type 0 where
-  pub no_more : HasRecord order bytes → ⊥
-  pub none_too_long : HasTooLong order bytes → ⊥
+-- no whole record begins these bytes, none that is too long, and no second header
+pub record IsPart (h : Header) (bytes : List ℕ) : Type 0 where
+  pub no_more : HasRecord h bytes → ⊥
+  pub none_too_long : HasTooLong h bytes → ⊥
+  pub no_header : HasSecondHeader h bytes → ⊥
 
 -- a record begins these bytes, and this is its packet
 pub record IsNext (h : Header) (bytes : List ℕ) (packet : Seen) : Type 0 where
   pub «record» : Record
   pub after : List ℕ
-  pub lawful : IsRecord h.order «record»
+  pub lawful : IsRecord h «record»
   pub whole : bytes ≡ bytes_of «record» ++ after
   pub said : packet ≡ packet_of h «record»
 
 -- the packet of the record that begins these bytes, if one does
 abbrev pub FindsRecord : Header → List ℕ → Option Packet → Type 0
-FindsRecord h bytes None = IsPart h.order bytes
+FindsRecord h bytes None = IsPart h bytes
 FindsRecord h bytes (Some packet) = IsNext h bytes (seen_packet packet)
 
--- a record at this place says that it is too long
-abbrev pub IsRecordFault : Order → List ℕ → ℕ → PcapError → Type 0
-IsRecordFault order bytes place Magic = ⊥
-IsRecordFault order bytes place Version = ⊥
-IsRecordFault order bytes place (Length p) = HasTooLong order bytes × (p ≡ place)
-IsRecordFault order bytes place Memory = ⊤
+-- a record at this place is a second header, or says that it is too long
+abbrev pub IsRecordFault : Header → List ℕ → ℕ → PcapError → Type 0
+IsRecordFault h bytes place Magic = ⊥
+IsRecordFault h bytes place Version = ⊥
+IsRecordFault h bytes place (faults.Header p) = HasSecondHeader h bytes × (p ≡ place)
+IsRecordFault h bytes place (Length p) = HasTooLong h bytes × (p ≡ place)
+IsRecordFault h bytes place Memory = ⊤
 
 -- the bytes are these records and what is left
-pub record AreFirst (order : Order) (bytes : List ℕ) (records : List Record) (left : List ℕ) : Type 0 where
-  pub lawful : All (IsRecord order) records
+pub record AreFirst (h : Header) (bytes : List ℕ) (records : List Record) (left : List ℕ) : Type 0 where
+  pub lawful : All (IsRecord h) records
   pub whole : bytes ≡ flat_map bytes_of records ++ left
 
 -- the packets of the records before what is left were appended
 pub record HasRead (h : Header) (bytes left : List ℕ) (old new : List Seen) : Type 0 where
   pub records : List Record
-  pub first : AreFirst h.order bytes records left
+  pub first : AreFirst h bytes records left
   pub added : new ≡ old ++ map (packet_of h) records
 
 -- the packets of all whole records were appended
 pub record EndsRecords (h : Header) (bytes left : List ℕ) (old new : List Seen) : Type 0 where
   pub read : HasRead h bytes left old new
-  pub part : IsPart h.order left
+  pub part : IsPart h left
 
--- behind some records, one at this place says that it is too long
-pub record IsLater (order : Order) (bytes : List ℕ) (start place : ℕ) : Type 0 where
+-- behind some records, the bytes from this place on are so
+pub record IsLater (Is : Header → List ℕ → Type 0) (h : Header) (bytes : List ℕ) (start place : ℕ) : Type 0 where
   pub records : List Record
   pub left : List ℕ
-  pub first : AreFirst order bytes records left
-  pub long : HasTooLong order left
+  pub first : AreFirst h bytes records left
+  pub is : Is h left
   pub at : place + length left ≡ start + length bytes
 
 -- why records that start at this place are refused
-abbrev pub IsRecordsFault : Order → List ℕ → ℕ → PcapError → Type 0
-IsRecordsFault order bytes start Magic = ⊥
-IsRecordsFault order bytes start Version = ⊥
-IsRecordsFault order bytes start (Length place) = IsLater order bytes start place
-IsRecordsFault order bytes start Memory = ⊤
+abbrev pub IsRecordsFault : Header → List ℕ → ℕ → PcapError → Type 0
+IsRecordsFault h bytes start Magic = ⊥
+IsRecordsFault h bytes start Version = ⊥
+IsRecordsFault h bytes start (faults.Header place) = IsLater HasSecondHeader h bytes start place
+IsRecordsFault h bytes start (Length place) = IsLater HasTooLong h bytes start place
+IsRecordsFault h bytes start Memory = ⊤
 
 -- these bytes end the stream, at this place, behind its header and these records
 pub record IsAt (h : Header) (s : List ℕ) (records : List Record) (offset : ℕ) (bytes : List ℕ) : Type 0 where

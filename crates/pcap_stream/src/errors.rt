@@ -13,7 +13,12 @@ pub enum PcapError {
     /// The version is another than 2.4.
     #[error("a version other than 2.4")]
     Version,
-    /// The record at this place, in bytes from the start of the capture, says that more than 262,144 bytes were captured.
+    /// At this place, in bytes from the start of the capture, the 16 bytes of a record's head begin with the magic number and
+    /// the version of the capture itself: a second file header, as where two captures were put one behind the other.
+    #[error("a second file header at byte {0}")]
+    Header(u32),
+    /// The record at this place, in bytes from the start of the capture, says that more than 262,144 bytes were captured,
+    /// and is no second file header.
     #[error("a record of more than 262144 bytes at byte {0}")]
     Length(u32),
     /// Memory ran out.

@@ -1,6 +1,6 @@
 // What the header of a capture says: 24 bytes, of which the magic number, the version and the link type count.
 ghost use Rattle.std.specs.Prelude.{◌≡◌, ◌≤◌, ◌%◌, ◌↔◌, length, take, drop, IfOk, IfErr, IfSome, IfNone, IsTrue};
-ghost use Rattle.pcap_stream.specs.Capture.{version, number_in, BeginsAs, LacksMagic, IsFault, IsFrontOf};
+ghost use Rattle.pcap_stream.specs.Capture.{version, number_in, BeginsAs, BeginsHeader, LacksMagic, IsFault, IsFrontOf};
 ghost use Rattle.pcap_stream.specs.Inside.{FindsHeader};
 
 use crate::PcapError;
@@ -89,18 +89,30 @@ fn begin(bytes: &[u8], whole: &[u8]) -> bool
     whole.starts_with(first_four(bytes))
 }
 
+// Whether the first four bytes, as far as they are there, begin the magic number of this order and fraction.
+fn has_magic(order: Order, fraction: Fraction, bytes: &[u8]) -> bool
+    ensures { IsTrue result ↔ BeginsAs bytes.now order fraction }
+{
+    match (order, fraction) {
+        (Order::Big, Fraction::Micros) => begin(bytes, &BIG_MICROS),
+        (Order::Little, Fraction::Micros) => begin(bytes, &LITTLE_MICROS),
+        (Order::Big, Fraction::Nanos) => begin(bytes, &BIG_NANOS),
+        (Order::Little, Fraction::Nanos) => begin(bytes, &LITTLE_NANOS),
+    }
+}
+
 // The first of the magic numbers that these bytes begin.
 fn read_magic(bytes: &[u8]) -> Option<(Order, Fraction)>
     ensures some { IfSome result (λ found. BeginsAs bytes.now found.0 found.1) }
     ensures none { IfNone result (LacksMagic bytes.now) }
 {
-    if begin(bytes, &BIG_MICROS) {
+    if has_magic(Order::Big, Fraction::Micros, bytes) {
         Some((Order::Big, Fraction::Micros))
-    } else if begin(bytes, &LITTLE_MICROS) {
+    } else if has_magic(Order::Little, Fraction::Micros, bytes) {
         Some((Order::Little, Fraction::Micros))
-    } else if begin(bytes, &BIG_NANOS) {
+    } else if has_magic(Order::Big, Fraction::Nanos, bytes) {
         Some((Order::Big, Fraction::Nanos))
-    } else if begin(bytes, &LITTLE_NANOS) {
+    } else if has_magic(Order::Little, Fraction::Nanos, bytes) {
         Some((Order::Little, Fraction::Nanos))
     } else {
         None
@@ -115,6 +127,16 @@ fn has_version(order: Order, bytes: &[u8]) -> bool
     match order {
         Order::Big => begin(behind, &BIG_VERSION),
         Order::Little => begin(behind, &LITTLE_VERSION),
+    }
+}
+
+impl Header {
+    /// Whether these bytes begin as a capture with this header does, with its magic number and version.
+    pub(crate) fn begins(self, bytes: &[u8]) -> bool
+        requires { 8 ≤ length bytes.now }
+        ensures { IsTrue result ↔ BeginsHeader self bytes.now }
+    {
+        has_magic(self.order, self.fraction, bytes) && has_version(self.order, bytes)
     }
 }
 

@@ -36,8 +36,9 @@ fn stamp_of(header: Header, head: &[u8]) -> Nano
     Nano::new(seconds * NANOS_A_SECOND + nanos).unwrap()
 }
 
-// The packet of the record that begins these bytes, or `None` where they begin no whole record. `Length` of this place
-// comes where a record says that more than 262,144 bytes were captured.
+// The packet of the record that begins these bytes, or `None` where they begin no whole record. `Header` of this place
+// comes where the 16 bytes of its head begin a second file header, and `Length` where it is none and says that more than
+// 262,144 bytes were captured.
 fn read_record(
     alloc: Global,
     header: Header,
@@ -45,10 +46,13 @@ fn read_record(
     bytes: &[u8],
 ) -> Result<Option<Packet>, PcapError>
     ensures ok { IfOk result (λ found. FindsRecord header bytes.now found) }
-    ensures fault { IfErr result (λ e. IsRecordFault header.order bytes.now place e) }
+    ensures fault { IfErr result (λ e. IsRecordFault header bytes.now place e) }
 {
     if bytes.len() < HEAD_BYTES {
         return Ok(None);
+    }
+    if header.begins(bytes) {
+        return Err(PcapError::Header(place));
     }
     let (head, behind) = bytes.split_at(HEAD_BYTES);
     let captured = header.order.number(&head[CAPTURED_PLACE..]);
@@ -67,7 +71,8 @@ fn read_record(
 }
 
 /// Takes the packets of the whole records that begin these bytes, which stand at this place of a capture, and answers what
-/// is left. `Length` has the place of the first record of more than 262,144 bytes.
+/// is left. `Header` has the place of a second file header behind them, and `Length` that of a record of more than 262,144
+/// bytes.
 pub(crate) fn read_records<'a>(
     alloc: Global,
     header: Header,
@@ -77,7 +82,7 @@ pub(crate) fn read_records<'a>(
 ) -> Result<&'a [u8], PcapError>
     requires { place + length bytes.now ≤ 2 ^ 30 }
     ensures ok { IfOk result (λ left. Adds (λ added. EndsRecords header bytes.now left.now [] added) packets.old packets.new) }
-    ensures fault { IfErr result (λ e. IsRecordsFault header.order bytes.now place e) }
+    ensures fault { IfErr result (λ e. IsRecordsFault header bytes.now place e) }
 {
     let mut left = bytes;
     'records: while let Some(packet) = read_record(

@@ -17,7 +17,7 @@ pub keep-requires : goal.keep-requires
 keep-requires c =
     let ends = c.in_ok-rest.ensures.ok.are in
     let fewer : length c.in_ok-rest.rest.now ≤ length c.args.bytes.now = read_short ends.read in
-    record { short = part_short c.args.header.order c.in_ok-rest.rest.now ends.part; early = omega (arith, fewer, c.requires) }
+    record { short = part_short c.args.header c.in_ok-rest.rest.now ends.part; early = omega (arith, fewer, c.requires) }
 
 pub returns-clause-ok : goal.returns-clause-ok
 returns-clause-ok c =
