@@ -97,11 +97,14 @@ class Refusals:
         return f"{path or 'the file'} is neither classic pcap nor pcapng: `file {path or 'X'}` may tell what it is"
 
     def no_packet(self, path: str | None, rest: list[str], label: str) -> str:
+        """Returns what stands where no packet does: a file's own header, as the reply says of most, or nothing that is known."""
+        place = f"at byte {rest[0] if rest else '?'} of {label}"
+        alone = "which only the first file of a label may have: mergecap -a -F nsecpcap -w ALL.pcap joins files"
         if path and start_of(path)[:4] in MAGICS and self.added.get(label):
-            again = path in self.added[label]
-            return f"{path} {'was added before' if again else 'begins with a header of its own, which only the first file of a label may have'}" + (
-                "" if again else ": mergecap -a -F nsecpcap -w ALL.pcap joins files")
-        return f"at byte {rest[0] if rest else '?'} of {label} stands no record of a packet: is the file damaged, or are its parts in another order?"
+            return f"{path} was added before" if path in self.added[label] else f"{path} begins with a header of its own, {alone}"
+        if rest[1:] == ["header"]:
+            return f"{place} begins the header of another capture, {alone}"
+        return f"{place} stands no record of a packet: is the file damaged, or are its parts in another order?"
 
     def no_block(self, path: str | None, rest: list[str]) -> str:
         told = packed(start_of(path)) if path else None

@@ -81,7 +81,7 @@ class Replies(unittest.TestCase):
         capture = making.classic([(1, making.framed(1, making.udp("10.0.0.1", "10.0.0.2")))])
         cases = (
             (b"\x1f\x8b123", "24 1", "compressed by gzip: gunzip"), (b"1,local,,\n", "24 1", 'kind = "log"'), (b"\x00\x01\x02\x03", "24 1", "neither classic pcap nor pcapng"),
-            (capture, "26 1 1", 'kind = "capture"'), (b"1,local,,\n2,SEND,a,\n", "26 2 3", "It is: 2,SEND,a,"), (capture, "25 9", "at byte 9"), (b"\x28\xb5\x2f\xfd", "31 12", "compressed by zstd"),
+            (capture, "26 1 1", 'kind = "capture"'), (b"1,local,,\n2,SEND,a,\n", "26 2 3", "It is: 2,SEND,a,"), (capture, "25 9", "at byte 9"), (capture, "25 9 header", "header of another capture"), (b"\x28\xb5\x2f\xfd", "31 12", "compressed by zstd"),
         )  # fmt: skip
         for data, numbers, wanted in cases:
             with tempfile.NamedTemporaryFile(delete=False) as it:
@@ -95,7 +95,7 @@ class Replies(unittest.TestCase):
         for second, wanted in ((path, "was added before"), (other, "begins with a header of its own")):
             explainer = Explainer()
             explainer.reply(f"add left {path}", ["added events 58 messages 0 withdrawn 0 pending 0 consistent"])
-            self.assertIn(wanted, explainer.reply(f"add left {second}", ["refused 25 4636"]).words[0])
+            self.assertIn(wanted, explainer.reply(f"add left {second}", ["refused 25 4636 header"]).words[0])
 
     def test_an_event_that_is_not_there_yet(self) -> None:
         explainer = Explainer(declaration=DECLARED)

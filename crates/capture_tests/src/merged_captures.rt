@@ -155,6 +155,48 @@ const TWO_LINKS: [Frame; 2] = [
     },
 ];
 
+// The time at which a record would begin as the header does, and almost a ns later.
+const AS_HEADER: [Frame; 2] = [
+    Frame {
+        place: 0,
+        seconds: 2_712_812_621,
+        units: 262_146 * NANO,
+        link: 101,
+        bytes: &[],
+    },
+    Frame {
+        place: 0,
+        seconds: 2_712_812_621,
+        units: 262_147 * NANO - 1,
+        link: 101,
+        bytes: &[],
+    },
+];
+
+// Just before that time, and a ns behind it.
+const BESIDE_HEADER: [Frame; 2] = [
+    Frame {
+        place: 0,
+        seconds: 2_712_812_621,
+        units: 262_146 * NANO - 1,
+        link: 101,
+        bytes: &[],
+    },
+    Frame {
+        place: 0,
+        seconds: 2_712_812_621,
+        units: 262_147 * NANO,
+        link: 101,
+        bytes: &[],
+    },
+];
+
+const BESIDE_HEADER_MERGED: [u8; 56] = [
+    0x4d, 0x3c, 0xb2, 0xa1, 2, 0, 4, 0, 0, 0, 0, 0, 0, 0, 0, 0, 0, 0, 4, 0, 101, 0, 0, 0, //
+    0x4d, 0x3c, 0xb2, 0xa1, 1, 0, 4, 0, 0, 0, 0, 0, 0, 0, 0, 0, //
+    0x4d, 0x3c, 0xb2, 0xa1, 3, 0, 4, 0, 0, 0, 0, 0, 0, 0, 0, 0,
+];
+
 #[test]
 fn two_hosts(rt: HostRuntime) {
     let alloc = rt.alloc();
@@ -183,6 +225,23 @@ fn refused(rt: HostRuntime) {
             are_merged_so(rt.alloc(), &TWO_LINKS[..count], &[], Err(error), &[]) == Some(true)
         );
     }
+}
+
+#[test]
+fn a_record_as_a_header(rt: HostRuntime) {
+    let range = Err(ArrangeError::Range);
+    let alloc = rt.alloc();
+    assert!(rt; are_merged_so(alloc, &AS_HEADER[..1], &[], range, &[]) == Some(true));
+    assert!(rt; are_merged_so(alloc, &AS_HEADER[1..], &[], range, &[]) == Some(true));
+    assert!(rt;
+        are_merged_so(
+            alloc,
+            &BESIDE_HEADER,
+            &[],
+            Ok(Ok(())),
+            &BESIDE_HEADER_MERGED
+        ) == Some(true)
+    );
 }
 
 #[test]

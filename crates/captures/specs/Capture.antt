@@ -4,7 +4,7 @@ use Rattle.pcapng_stream.specs.declared.errors.CaptureError.TheVariants as fault
 use Rattle.pcapng_stream.specs.Capture as format
 pub use Rattle.pcap_stream.specs.Capture.{Seen}
 use Rattle.captures.specs.declared.errors.CaptureError.{CaptureError}
-use Rattle.captures.specs.declared.errors.CaptureError.TheVariants.{Magic, Version, Length, Block, Memory}
+use Rattle.captures.specs.declared.errors.CaptureError.TheVariants.{Magic, Version, Header, Length, Block, Memory}
 
 -- what a stream says: its packets, and the bytes behind them, which wait for more
 pub record Capture : Type 0 where
@@ -25,10 +25,11 @@ pub record Reads (s : List ℕ) (c : Capture) : Type 0 where
   pub reads : format.Reads s read
   pub says : c ≡ of_format read
 
--- why a stream is refused, in the format that its first byte tells; a fault of a record or block is told by its place
+-- why a stream is refused, in the format that its first byte tells; a fault of a record, a second header or a block is told by its place
 abbrev pub IsFault : List ℕ → CaptureError → Type 0
 IsFault s Magic = format.IsFault s faults.Magic
 IsFault s Version = format.IsFault s faults.Version
+IsFault s (Header place) = format.IsFault s (faults.Header place)
 IsFault s (Length place) = format.IsFault s (faults.Length place)
 IsFault s (Block place) = format.IsFault s (faults.Block place)
 IsFault s Memory = ⊤

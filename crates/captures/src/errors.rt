@@ -11,6 +11,10 @@ pub enum CaptureError {
     /// The capture, or a section of it, is of a version that is not read.
     #[error("a version that is not read")]
     Version,
+    /// At this place, in bytes from the start of a classic capture, a second file header begins: the 16 bytes of a record's
+    /// head begin with the magic number and the version of the capture itself.
+    #[error("a second file header at byte {0}")]
+    Header(u32),
     /// The record or block at this place, in bytes from the start of the capture, says that more than 262,144 bytes were
     /// captured.
     #[error("a packet of more than 262144 bytes at byte {0}")]
@@ -30,6 +34,7 @@ impl From<pcapng_stream::CaptureError> for CaptureError {
         match e {
             pcapng_stream::CaptureError::Magic => CaptureError::Magic,
             pcapng_stream::CaptureError::Version => CaptureError::Version,
+            pcapng_stream::CaptureError::Header(place) => CaptureError::Header(place),
             pcapng_stream::CaptureError::Length(place) => CaptureError::Length(place),
             pcapng_stream::CaptureError::Block(place) => CaptureError::Block(place),
             pcapng_stream::CaptureError::Memory => CaptureError::Memory,

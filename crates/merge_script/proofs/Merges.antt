@@ -93,7 +93,7 @@ module _ (seen : List (List Seen)) (times : Times) where
 module _ (d : Declaration) (seen : List (List Seen)) (all new : List Timed) (at_times : AreSettled d seen all new) (consistent : IsConsistent (problem_of_seen d seen) true) where
   pub lacks_merge : (e : ArrangeError) → IsFault new e → LacksMerge d seen all (unarranged e)
   lacks_merge errors.Links fault = (consistent, links_before seen at_times.times all (subst HasTwoLinks at_times.are fault))
-  lacks_merge errors.Range fault = record { one_link = one_before seen at_times.times all (subst HasOneLink at_times.are fault.0); settled = new; at_times = at_times; late = fault.1 }
+  lacks_merge errors.Range fault = record { one_link = one_before seen at_times.times all (subst HasOneLink at_times.are fault.0); settled = new; at_times = at_times; without = fault.1 }
   lacks_merge errors.Memory fault = tt
 
   pub lacks_so : (why : Unmerged) → IsUnarranged new why → LacksMerge d seen all why

@@ -3,13 +3,12 @@ use Rattle.std.proofs.Common.{◌≡◌, ◌==◌, ℕ, ◌+◌, ◌^◌, ◌≤
 use Rattle.std.specs.List.{AllByRecursion}
 use Rattle.std.proofs.lemmas.List.Elements.{recursion_from_All}
 use Rattle.pcap_stream.specs.declared.header.Header.{Header}
-use Rattle.pcap_stream.specs.declared.header.Order.{Order}
 use Rattle.pcap_stream.specs.Capture as classic
 use Rattle.pcap_stream.specs.Capture.{Seen, Record, IsRecord}
-use Rattle.pcapng_stream.specs.declared.block.BlockKind.{BlockKind}
-use Rattle.pcapng_stream.specs.declared.block.BlockKind.TheVariants.{SectionHeader, InterfaceDescription, EnhancedPacket, Other}
+use Rattle.pcapng_stream.specs.declared.block_kind.BlockKind.{BlockKind}
+use Rattle.pcapng_stream.specs.declared.block_kind.BlockKind.TheVariants.{SectionHeader, InterfaceDescription, EnhancedPacket, Other}
 use Rattle.pcapng_stream.specs.declared.flaw.Flaw.{Flaw}
-use Rattle.pcapng_stream.specs.Blocks.{Section, Block, before, section_behind, kind_of, packets_by, captured_length, last_length, interface_number, stamp_of}
+use Rattle.pcapng_stream.specs.Blocks.{Section, Block, before, section_behind, kind_of, packets_by, captured_length, last_length, interface_number, stamp_of, is_stamp}
 use Rattle.pcapng_stream.specs.declared.flaw.Flaw.TheVariants.{Malformed, TooLong}
 use Rattle.pcapng_stream.specs.Numbers.{padded}
 use Rattle.pcapng_stream.specs.Flaws.{Check, refuse, first_flaw, least_length, length_checks, kind_checks}
@@ -29,13 +28,13 @@ both_short [] b x y = y
 both_short (p ∷ a) b x y = (x.0, both_short a b x.1 y)
 
 -- ---- classic captures
-records_short : (h : Header) (order : Order) (rs : List Record) → AllByRecursion (IsRecord order) rs → AreShort (map (classic.packet_of h) rs)
-records_short h order [] are = tt
-records_short h order (r ∷ rs) are = (are.0.limit, records_short h order rs are.1)
+records_short : (h : Header) (rs : List Record) → AllByRecursion (IsRecord h) rs → AreShort (map (classic.packet_of h) rs)
+records_short h [] are = tt
+records_short h (r ∷ rs) are = (are.0.limit, records_short h rs are.1)
 
 classic_short : (s : List ℕ) (header : Option Header) (rs : List Record) (rest : List ℕ) → classic.ReadsBy header s rs rest → AreShort (classic.packets_by header rs)
 classic_short s None rs rest reads = tt
-classic_short s (Some h) rs rest reads = records_short h h.order rs (recursion_from_All (IsRecord h.order) rs reads.made.are_records)
+classic_short s (Some h) rs rest reads = records_short h rs (recursion_from_All (IsRecord h) rs reads.made.are_records)
 
 -- ---- captures in blocks
 none_if : (b : Bool) (flaw : Flaw) (more : Option Flaw) → (if b then Some flaw else more) ≡ None → (b ≡ false) × (more ≡ None)
@@ -66,7 +65,7 @@ kind_short EnhancedPacket s b none =
     let two = refuse (nat_lt (length b.bytes) (least_length (kind_of b))) Malformed in
     let three = refuse (not (nat_lt (interface_number b) (length s.interfaces))) Malformed in
     let four = refuse (nat_lt 262144 (captured_length b)) TooLong in
-    let more = refuse (nat_lt (length b.bytes) (32 + padded (captured_length b))) Malformed ∷ refuse (not (nat_lt (stamp_of s b) (2 ^ 62))) Malformed ∷ [] in
+    let more = refuse (nat_lt (length b.bytes) (32 + padded (captured_length b))) Malformed ∷ refuse (not (is_stamp (stamp_of s b))) Malformed ∷ [] in
     (taken_short (captured_length b) 262144 (drop 28 b.bytes) (not_above (captured_length b) 262144 (fourth_not one two three four more none)), tt)
 kind_short Other s b none = tt
 

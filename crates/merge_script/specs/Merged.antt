@@ -1,9 +1,9 @@
 -- The packets of a script, merged.
-use Rattle.std.specs.Prelude.{◌≡◌, ℕ, List, true, false, Any, ◌≤ℤ◌}
+use Rattle.std.specs.Prelude.{◌≡◌, ℕ, List, true, false, Any}
 use Rattle.decl.specs.Declaration.{Declaration}
 use Rattle.mergecap.specs.declared.errors.ArrangeError.{ArrangeError}
 use Rattle.mergecap.specs.declared.errors.ArrangeError.TheVariants as errors
-use Rattle.mergecap.specs.MergedCapture.{Timed, IsArranged, IsFault, HasOneLink, HasTwoLinks, time_limit}
+use Rattle.mergecap.specs.MergedCapture.{Timed, HasNoRecord, IsArranged, IsFault, HasOneLink, HasTwoLinks}
 use Rattle.traces.specs.Seen.{Seen}
 use Rattle.traces.specs.Traces.{seen_by}
 use Rattle.traces.specs.Messages.{problem_of_seen}
@@ -22,12 +22,12 @@ pub record IsMergeOf (d : Declaration) (seen : List (List Seen)) (all ordered : 
   pub at_times : AreSettled d seen all settled
   pub arranged : IsArranged settled ordered
 
--- some packet's time is 2^32 s or more, and all have one link type
-pub record PassesLimit (d : Declaration) (seen : List (List Seen)) (all : List Timed) : Type 0 where
+-- some packet's time has no record, and all have one link type
+pub record LacksRecord (d : Declaration) (seen : List (List Seen)) (all : List Timed) : Type 0 where
   pub one_link : HasOneLink all
   pub settled : List Timed
   pub at_times : AreSettled d seen all settled
-  pub late : Any (λ (t : Timed). time_limit ≤ℤ t.key.value) settled
+  pub without : Any HasNoRecord settled
 
 -- why these packets have no merge: no execution, or one and two link types, or one link type and a late time; want of
 -- memory says nothing
@@ -36,7 +36,7 @@ LacksMerge d seen all (ends.Refused said) = ⊥
 LacksMerge d seen all ends.Size = ⊥
 LacksMerge d seen all ends.Inconsistent = IsConsistent (problem_of_seen d seen) false
 LacksMerge d seen all ends.Links = IsConsistent (problem_of_seen d seen) true × HasTwoLinks all
-LacksMerge d seen all ends.Range = PassesLimit d seen all
+LacksMerge d seen all ends.Range = LacksRecord d seen all
 LacksMerge d seen all ends.ReadFault = ⊥
 LacksMerge d seen all ends.Limit = ⊥
 LacksMerge d seen all ends.Memory = Unit {0}

@@ -94,7 +94,8 @@ fn merge_lines<F: Files, I: Source, L: Ledger>(
 /// which the packets have more than 2^30 bytes; `ReadFault` where the script could not be read on, and `Limit` where it has more
 /// than 2^30 bytes, if the lines that are whole before that are accepted. Where all lines are accepted, `Inconsistent` comes
 /// exactly where no execution exists, then `Links` exactly where two packets have different link types, then `Range` exactly
-/// where a time is 2^32 s or more. `Memory` comes where memory runs out.
+/// where a time has no record: it is 2^32 s or more, or the one at which a record would begin as a file header does (see
+/// `mergecap::ArrangeError::Range`). `Memory` comes where memory runs out.
 pub fn merge_script<F: Files, I: Source, L: Ledger>(
     alloc: Global,
     decl: Decl,

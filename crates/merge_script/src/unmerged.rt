@@ -16,7 +16,8 @@ pub enum Unmerged {
     Inconsistent,
     /// Two packets have different link types.
     Links,
-    /// The time of a packet is 2^32 s or more.
+    /// The time of a packet has no record: it is 2^32 s or more, or the one at which a record would begin as the header of
+    /// the merged capture does (`mergecap::ArrangeError::Range`).
     Range,
     /// The script could not be read on.
     ReadFault,

@@ -6,7 +6,7 @@ use Rattle.std.proofs.lemmas.List.{get_or-map, length-map}
 use Rattle.std.proofs.lemmas.List.Elements.{All-map, All-nil, All-cons, All-contains}
 use Rattle.std.proofs.lemmas.List.Sorted.{All-permutation, Contains-permutation, IsPermutation-sym}
 use Rattle.mergecap.specs.declared.stored.Stored.{Stored}
-use Rattle.mergecap.specs.MergedCapture.{AreWritable, HasOneLink, HasTwoLinks, IsArranged, IsInRange, Timed, link_of, time_limit}
+use Rattle.mergecap.specs.MergedCapture.{AreWritable, HasOneLink, HasTwoLinks, HasNoRecord, IsArranged, IsInRange, Timed, header_nanos, link_of, time_limit, whole_nanos}
 use Rattle.mergecap.specs.Packets.{timed, all_timed}
 
 timed_at : (kept : List Stored) (k : ℕ) (s : Stored) → k < length kept → get_or kept k s ≡ s → Contains (all_timed kept) (timed s)
@@ -57,19 +57,29 @@ one_of kept now true is told so = subst (λ (l : List Stored). HasOneLink (all_t
 one_of kept now false is told so = absurd (true≢false (sym so))
 
 -- ---- times
-early_or_late : (value limit : ℤ) → (value <ℤ limit) ⊎ (limit ≤ℤ value)
-early_or_late value limit = by_lt_z value limit (λ less. inl less) (λ over. inr over)
+-- the code's test of a time that is not below 0
+abbrev pub IsHeld : Stored → Type 0
+IsHeld s = (s.value <ℤ time_limit) × (whole_nanos s.value ≢ header_nanos)
 
-late : (kept : List Stored) → Any (λ (s : Stored). time_limit ≤ℤ s.value) kept → Any (λ (t : Timed). time_limit ≤ℤ t.key.value) (all_timed kept)
-late kept (k, s, inside, at, over) =
+held_or_not : (s : Stored) → IsHeld s ⊎ HasNoRecord (timed s)
+held_or_not s =
+    by_lt_z s.value time_limit
+    (λ less. elim (same_or_other (whole_nanos s.value) header_nanos) [
+      | inl same ↦ inr (inr same)
+      | inr other ↦ inl (less, other)
+    ])
+    (λ over. inr (inl over))
+
+without : (kept : List Stored) → Any (λ (s : Stored). HasNoRecord (timed s)) kept → Any HasNoRecord (all_timed kept)
+without kept (k, s, inside, at, over) =
     let there = timed_at kept k s inside at in
     (there.0, timed s, there.1, there.2, over)
 
-pub late_told : (kept : List Stored) → (All (λ (s : Stored). s.value <ℤ time_limit) kept → ⊥) → Any (λ (t : Timed). time_limit ≤ℤ t.key.value) (all_timed kept)
-late_told kept none = late kept (one_not_so (λ (s : Stored). s.value <ℤ time_limit) (λ (s : Stored). time_limit ≤ℤ s.value) (λ s. early_or_late s.value time_limit) kept none)
+pub late_told : (kept : List Stored) → (All IsHeld kept → ⊥) → Any HasNoRecord (all_timed kept)
+late_told kept none = without kept (one_not_so IsHeld (λ (s : Stored). HasNoRecord (timed s)) held_or_not kept none)
 
-pub in_range : (kept : List Stored) → All (λ (s : Stored). pos 0 ≤ℤ s.value) kept → All (λ (s : Stored). s.value <ℤ time_limit) kept → All IsInRange (all_timed kept)
-in_range kept low high = All-map IsInRange timed kept (λ k d inside. record { low = low k d inside; high = high k d inside })
+pub in_range : (kept : List Stored) → All (λ (s : Stored). pos 0 ≤ℤ s.value) kept → All IsHeld kept → All IsInRange (all_timed kept)
+in_range kept low held = All-map IsInRange timed kept (λ k d inside. let is = held k d inside in record { low = low k d inside; high = is.0; other = is.1 })
 
 -- ---- arranged packets
 pub still_writable : (old new : List Timed) → IsArranged old new → HasOneLink old → All IsInRange old → AreWritable new

@@ -9,8 +9,8 @@ use Rattle.byteorder.specs.Numbers.{little_number-reads_back}
 use Rattle.pcap_stream.specs.declared.header.Order.TheVariants.{Little}
 use Rattle.pcap_stream.specs.declared.header.Fraction.TheVariants.{Nanos}
 use Rattle.pcap_stream.specs.declared.header.Header.{Header}
-use Rattle.pcap_stream.specs.Capture.{HasRecord, IsHeader, IsRecord, Seen, packet_of}
-use Rattle.mergecap.specs.MergedCapture.{AreWritable, HasOneLink, IsInRange, IsShort, Timed, four_bytes, header, link_of, merged_capture, record_head, record_of, whole_nanos}
+use Rattle.pcap_stream.specs.Capture.{BeginsHeader, HasRecord, IsHeader, IsRecord, Seen, magic, packet_of, version}
+use Rattle.mergecap.specs.MergedCapture.{AreWritable, HasOneLink, IsInRange, IsShort, Timed, four_bytes, header, header_nanos, link_of, merged_capture, record_head, record_of, whole_nanos}
 use Rattle.mergecap.specs.Reading.{HasLinkType, IsReadBack, stamped}
 
 -- ---- numbers
@@ -32,15 +32,31 @@ seconds_small t is = in_seconds (unsigned_abs t.key.value) 1000000000 (2 ^ 32) (
 abbrev header_of : ℕ → Header
 header_of link = record { order = Little; fraction = Nanos; link = link }
 
-record_is : (t : Timed) → IsShort t → IsRecord Little (record_of t)
-record_is t short = record {
+stamp_said : (nanos seconds rest : ℕ) → seconds ≡ nanos / 1000000000 → rest ≡ nanos % 1000000000 → seconds * 1000000000 + rest ≡ nanos
+stamp_said nanos seconds rest is left = omega (arith, is, left)
+
+-- the magic number and the version, as seconds and ns
+header_said : little_number 4 (magic Little Nanos ++ version Little) * 1000000000 + little_number 4 (drop 4 (magic Little Nanos ++ version Little)) ≡ header_nanos
+header_said = refl
+
+-- a record does not begin as a header does, since its time is another
+no_header : (link : ℕ) (t : Timed) → IsInRange t → BeginsHeader (header_of link) (record_of t).head → ⊥
+no_header link t is begins =
+    let nanos : ℕ = whole_nanos t.key.value in
+    let both : List ℕ = four_bytes (nanos / 1000000000) ++ four_bytes (nanos % 1000000000) in
+    let same : both ≡ magic Little Nanos ++ version Little = begins in
+    let seconds : little_number 4 both ≡ nanos / 1000000000 = read_four (nanos / 1000000000) (four_bytes (nanos % 1000000000)) (seconds_small t is) in
+    let rest : little_number 4 (drop 4 both) ≡ nanos % 1000000000 = read_four (nanos % 1000000000) [] (omega arith) in
+    let said : little_number 4 both * 1000000000 + little_number 4 (drop 4 both) ≡ nanos = stamp_said nanos _ _ seconds rest in
+    is.other (sym said ∙ ap (λ (l : List ℕ). little_number 4 l * 1000000000 + little_number 4 (drop 4 l)) same ∙ header_said)
+
+record_is : (link : ℕ) (t : Timed) → IsInRange t → IsShort t → IsRecord (header_of link) (record_of t)
+record_is link t is short = record {
   size = refl;
   length_said = read_four (length t.packet.bytes) (four_bytes (length t.packet.bytes)) (omega (arith, short));
   limit = short;
+  other = no_header link t is;
 }
-
-stamp_said : (nanos seconds rest : ℕ) → seconds ≡ nanos / 1000000000 → rest ≡ nanos % 1000000000 → seconds * 1000000000 + rest ≡ nanos
-stamp_said nanos seconds rest is left = omega (arith, is, left)
 
 abbrev seen_with : ℕ → ℕ → List ℕ → Seen
 seen_with stamp link bytes = record { stamp = stamp; link = link; bytes = bytes }
@@ -57,8 +73,9 @@ packet_is link t same is =
     seen_one _ nanos link t.packet.link t.packet.bytes (stamp_said nanos _ _ seconds rest) (sym same)
 
 -- ---- all records
-records_are : (ts : List Timed) → All IsShort ts → All (IsRecord Little) (map record_of ts)
-records_are ts short = All-map (IsRecord Little) record_of ts (λ k d inside. record_is (get_or ts k d) (short k d inside))
+records_are : (link : ℕ) (ts : List Timed) → All IsInRange ts → All IsShort ts → All (IsRecord (header_of link)) (map record_of ts)
+records_are link ts range short =
+    All-map (IsRecord (header_of link)) record_of ts (λ k d inside. record_is link (get_or ts k d) (range k d inside) (short k d inside))
 
 packets_are : (link : ℕ) (ts : List Timed) → All (λ (t : Timed). t.packet.link ≡ link) ts → All IsInRange ts → map (packet_of (header_of link)) (map record_of ts) ≡ map stamped ts
 packets_are link [] same is = refl
@@ -83,8 +100,8 @@ header_is link small = record {
   link = said_link link _ small (read_four link [] (omega (arith, small)));
 }
 
-nothing_left : HasRecord Little [] → ⊥
-nothing_left (r, after, is, whole) =
+nothing_left : (link : ℕ) → HasRecord (header_of link) [] → ⊥
+nothing_left link (r, after, is, whole) =
     omega (arith, is.size, ap (λ (l : List ℕ). length l) whole, length-append (r.head ++ r.captured) after, length-append r.head r.captured)
 
 pub read_back : (ts : List Timed) → AreWritable ts → All IsShort ts → HasLinkType ts → IsReadBack ts
@@ -96,11 +113,12 @@ read_back ts writable short links =
         made = record {
           header = header link;
           says = header_is link links;
-          are_records = records_are ts short;
+          are_records = records_are link ts writable.in_range short;
           whole = sym (append-nil (merged_capture ts));
         };
-        no_more = nothing_left;
+        no_more = nothing_left link;
         none_too_long = λ long. omega (arith, long.0);
+        no_header = λ second. omega (arith, second.0);
       };
       packets = packets_are link ts (links_are ts writable.one_link) writable.in_range;
       no_rest = refl;

@@ -1,8 +1,8 @@
 -- Packets of two captures, worked out: their capture byte for byte, and their order.
-use Rattle.std.proofs.Common.{◌≡◌, ◌*◌, ℕ, List, [], ◌∷◌, ◌++◌, pos, length, refl, inl, inr, arith}
+use Rattle.std.proofs.Common.{◌≡◌, ◌*◌, ℕ, List, [], ◌∷◌, ◌++◌, pos, length, take, refl, inl, inr, arith}
 use Rattle.std.proofs.lemmas.Int.{ints}
 use Rattle.report.specs.Merging.{ComesFirst}
-use Rattle.mergecap.specs.MergedCapture.{Timed, merged_capture, record_head, whole_nanos}
+use Rattle.mergecap.specs.MergedCapture.{Timed, header_nanos, merged_capture, record_head, whole_nanos}
 
 -- two datagrams of UDP, one each way
 abbrev there : List ℕ
@@ -42,6 +42,13 @@ worked-nanos = refl
 
 worked-head : record_head 5000000007 300 ≡ 5 ∷ 0 ∷ 0 ∷ 0 ∷ 7 ∷ 0 ∷ 0 ∷ 0 ∷ 44 ∷ 1 ∷ 0 ∷ 0 ∷ 44 ∷ 1 ∷ 0 ∷ 0 ∷ []
 worked-head = refl
+
+-- the one time whose record would begin as the capture does
+worked-header : take 8 (record_head header_nanos 60) ≡ take 8 (header_with 1)
+worked-header = refl
+
+worked-header-nanos : whole_nanos (pos 2712812621000262146999999999) ≡ header_nanos
+worked-header-nanos = refl
 
 -- a lower time comes first whatever the labels are, then the first label whatever the numbers are
 worked-earlier : ComesFirst (packet_at 10 1 2 there).key (packet_at 11 0 1 there).key

@@ -1,5 +1,5 @@
 -- The packets of several captures as one, in the order of their times: its bytes, and when there can be one.
-use Rattle.std.specs.Prelude.{◌≡◌, ◌≢◌, ℕ, ◌*◌, ◌/◌, ◌%◌, ◌^◌, ◌≤◌, List, [], ◌∷◌, ◌++◌, length, map, All, AllPairs, Any, Contains, ℤ, pos, ◌≤ℤ◌, ◌<ℤ◌, unsigned_abs}
+use Rattle.std.specs.Prelude.{◌≡◌, ◌≢◌, ◌⊎◌, ℕ, ◌+◌, ◌*◌, ◌/◌, ◌%◌, ◌^◌, ◌≤◌, List, [], ◌∷◌, ◌++◌, length, map, All, AllPairs, Any, Contains, ℤ, pos, ◌≤ℤ◌, ◌<ℤ◌, unsigned_abs}
 use Rattle.std.specs.List.{flat_map}
 use Rattle.std.specs.List.Sorted.{IsPermutation}
 use Rattle.byteorder.specs.Endian.{little_bytes}
@@ -70,10 +70,20 @@ HasOneLink ts = (a b : Timed) → Contains ts a → Contains ts b → a.packet.l
 abbrev pub HasTwoLinks : List Timed → Type 0
 HasTwoLinks ts = (a : Timed) × (b : Timed) × Contains ts a × Contains ts b × (a.packet.link ≢ b.packet.link)
 
--- the time is not below 0, and its seconds have 32 bits
+-- the whole ns at which the head of a record begins with the magic number and the version, as the capture itself does:
+-- 2,712,812,621 s and 262,146 ns
+abbrev pub header_nanos : ℕ
+header_nanos = 2712812621 * 1000000000 + 262146
+
+-- the time has a record: it is not below 0, its seconds have 32 bits, and the record does not begin as the capture does
 pub record IsInRange (t : Timed) : Type 0 where
   pub low : pos 0 ≤ℤ t.key.value
   pub high : t.key.value <ℤ time_limit
+  pub other : whole_nanos t.key.value ≢ header_nanos
+
+-- the time, which is not below 0, has no record
+abbrev pub HasNoRecord : Timed → Type 0
+HasNoRecord t = (time_limit ≤ℤ t.key.value) ⊎ (whole_nanos t.key.value ≡ header_nanos)
 
 -- at most 262,144 bytes, as a record may have
 abbrev pub IsShort : Timed → Type 0
@@ -83,7 +93,7 @@ IsShort t = length t.packet.bytes ≤ 262144
 abbrev pub IsWritable : Timed → Type 0
 IsWritable t = IsInRange t × IsShort t
 
--- the packets have one link type, and times of which 32 bits hold the seconds
+-- the packets have one link type, and times that have records
 pub record AreWritable (ts : List Timed) : Type 0 where
   pub one_link : HasOneLink ts
   pub in_range : All IsInRange ts
@@ -91,5 +101,5 @@ pub record AreWritable (ts : List Timed) : Type 0 where
 -- why packets can't be arranged; memory runs out only where there is no other cause
 abbrev pub IsFault : List Timed → ArrangeError → Type 0
 IsFault ts Links = HasTwoLinks ts
-IsFault ts Range = HasOneLink ts × Any (λ (t : Timed). time_limit ≤ℤ t.key.value) ts
+IsFault ts Range = HasOneLink ts × Any HasNoRecord ts
 IsFault ts Memory = AreWritable ts

@@ -10,8 +10,9 @@ pub enum ArrangeError {
     /// Two packets have different link types, and a classic capture has one for all.
     #[error("packets of two link types")]
     Links,
-    /// A time is 2^32 s or more, and a record has 32 bits for its seconds.
-    #[error("a time of 4294967296 s or more")]
+    /// A time has no record. It is 2^32 s or more, and a record has 32 bits for its seconds; or it is 2,712,812,621 s and
+    /// 262,146 ns, rounded down to whole ns, at which the head of a record begins as a file header does.
+    #[error("a time that no record of a capture can have")]
     Range,
     /// Memory ran out.
     #[error("out of memory")]

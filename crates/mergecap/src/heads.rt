@@ -1,7 +1,7 @@
 // What stands before the packets of a capture, and before the bytes of each.
-ghost use Rattle.std.specs.Prelude.{◌≡◌, ◌≤◌, ◌<◌, ◌+◌, ◌++◌, length};
+ghost use Rattle.std.specs.Prelude.{◌≡◌, ◌≤◌, ◌<◌, ◌+◌, ◌++◌, ◌↔◌, length, IsTrue};
 ghost use Rattle.byteorder.specs.Endian.{little_bytes};
-ghost use Rattle.mergecap.specs.MergedCapture.{header, link_of, record_of, IsWritable};
+ghost use Rattle.mergecap.specs.MergedCapture.{header, header_nanos, link_of, record_of, whole_nanos, IsWritable};
 ghost use Rattle.mergecap.specs.Packets.{timed, all_timed};
 ghost use Rattle.mergecap.specs.Reading.{HasLinkType};
 
@@ -30,6 +30,9 @@ const ETHERNET: u16 = 1;
 const UNITS_A_NANO: u128 = 1_000_000_000;
 
 const NANOS_A_SECOND: u128 = 1_000_000_000;
+
+// The whole ns of the time whose seconds are the magic number, and whose ns are version 2.4 as one number of 32 bits.
+const HEADER_NANOS: u128 = 0xa1b2_3c4d * NANOS_A_SECOND + 0x0004_0002;
 
 // The link type of a packet, which has 16 bits.
 fn link_type(stored: &Stored) -> u16
@@ -83,13 +86,27 @@ pub(crate) fn header(link: u16) -> ArrayVec<u8, HEADER_BYTES>
     header
 }
 
+// The whole ns of a time in units of 1e-9 ns that is not below 0.
+fn whole_nanos(units: i128) -> u128
+    ensures { result ≡ whole_nanos units }
+{
+    units.unsigned_abs() / UNITS_A_NANO
+}
+
+/// Whether the head of a record at this time, which is not below 0, begins as the header does.
+pub(crate) fn is_header_time(units: i128) -> bool
+    ensures { IsTrue result ↔ (whole_nanos units ≡ header_nanos) }
+{
+    whole_nanos(units) == HEADER_NANOS
+}
+
 /// What stands before the bytes of a packet: its time in seconds and ns, rounded down to whole ns, and twice how many bytes
 /// were captured.
 pub(crate) fn record_head(stored: &Stored) -> ArrayVec<u8, HEAD_BYTES>
     requires { IsWritable (timed stored.now) }
     ensures { result.items ≡ (record_of (timed stored.now)).head }
 {
-    let nanos = stored.value.unsigned_abs() / UNITS_A_NANO;
+    let nanos = whole_nanos(stored.value);
     let captured = stored.packet.bytes.len() as u32;
     let mut head = ArrayVec::new();
     push_number(&mut head, (nanos / NANOS_A_SECOND) as u32);

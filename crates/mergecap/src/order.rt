@@ -1,10 +1,10 @@
 // Packets in the order of their times.
-ghost use Rattle.std.specs.Prelude.{◌≡◌, ◌≤ℤ◌, ◌<ℤ◌, ◌↔◌, pos, length, All, IsTrue, MatchBool, IfOk, IfErr, OnOk};
+ghost use Rattle.std.specs.Prelude.{◌≡◌, ◌≢◌, ◌≤ℤ◌, ◌<ℤ◌, ◌↔◌, pos, length, All, IsTrue, MatchBool, IfOk, IfErr, OnOk};
 ghost use Rattle.report.specs.Merging.{AreApart};
-ghost use Rattle.mergecap.specs.MergedCapture.{AreWritable, HasOneLink, HasTwoLinks, IsArranged, IsFault, keys_of, time_limit};
+ghost use Rattle.mergecap.specs.MergedCapture.{AreWritable, HasOneLink, HasTwoLinks, IsArranged, IsFault, header_nanos, keys_of, time_limit, whole_nanos};
 ghost use Rattle.mergecap.specs.Packets.{timed, all_timed};
 
-use crate::heads::link_of;
+use crate::heads::{is_header_time, link_of};
 use crate::{ArrangeError, Stored};
 use report::MergeKey;
 use std::alloc::{AllocError, Global};
@@ -26,11 +26,18 @@ fn have_one_link(kept: &[Stored]) -> bool
     all_have_link(kept, link_of(kept))
 }
 
-// Whether each time is below 2^32 s.
-fn are_in_range(kept: &[Stored]) -> bool
-    ensures { IsTrue result ↔ All (λ (s : Stored). s.value <ℤ time_limit) kept.now }
+// Whether a time that is not below 0 has a record: it is below 2^32 s, and a record at it does not begin as a header does.
+fn has_record(value: i128) -> bool
+    ensures { IsTrue result ↔ (value <ℤ time_limit) × (whole_nanos value ≢ header_nanos) }
 {
-    kept.iter().all(|stored| stored.value < TIME_LIMIT)
+    value < TIME_LIMIT && !is_header_time(value)
+}
+
+// Whether each time has a record.
+fn are_in_range(kept: &[Stored]) -> bool
+    ensures { IsTrue result ↔ All (λ (s : Stored). (s.value <ℤ time_limit) × (whole_nanos s.value ≢ header_nanos)) kept.now }
+{
+    kept.iter().all(|stored| has_record(stored.value))
 }
 
 // What a packet is merged by.
@@ -57,8 +64,9 @@ fn sort(alloc: Global, kept: &mut [Stored]) -> Result<(), AllocError>
 /// events are merged. No packet is copied.
 ///
 /// No two have the same place and the same number, and no time is below 0. `Links` comes exactly where two packets have
-/// different link types, `Range` exactly where none have, and a time is 2^32 s or more, `Memory` only where neither is so.
-/// With an error the packets are dropped.
+/// different link types, `Range` exactly where none have, and a time has no record: 2^32 s or more, or, in whole ns, the
+/// 2,712,812,621 s and 262,146 ns at which a record would begin as a file header does. `Memory` comes only where neither is
+/// so. With an error the packets are dropped.
 pub fn arrange(alloc: Global, kept: Vec<Stored>) -> Result<Vec<Stored>, ArrangeError>
     requires differ { AreApart (keys_of (all_timed kept.items)) }
     requires times { All (λ (s : Stored). pos 0 ≤ℤ s.value) kept.items }

@@ -36,8 +36,8 @@ fn write_records<O: Sink>(kept: &[Stored], out: &mut O) -> Result<(), Failed>
 /// link type, or that of Ethernet where there is none. A packet's stamp is its time, rounded down to whole ns; as its
 /// original length stands how many bytes were captured.
 ///
-/// All packets have one link type, each time is at least 0 and below 2^32 s, and each packet has at most 262,144 bytes. It
-/// takes no memory. Read as a capture, the whole of it says these packets with these stamps, in their order, and nothing is
+/// All packets have one link type, each time has a record (`ArrangeError::Range`), and each packet has at most 262,144
+/// bytes. It takes no memory. Read as a capture, the whole of it says these packets with these stamps, in their order, and nothing is
 /// left. `Failed` comes only where the sink's count of faults rose, or stands at its last value; a front of the capture is
 /// then written.
 pub fn write_capture<O: Sink>(kept: &[Stored], out: &mut O) -> Result<(), Failed>

@@ -7,7 +7,7 @@ use Rattle.pcap_stream.specs.Capture.{Seen, packets_by}
 use Rattle.pcap_stream.specs.Capture as classic
 use Rattle.pcap_stream.specs.Feeding as classic_feeding
 use Rattle.pcapng_stream.specs.declared.errors.CaptureError.{CaptureError}
-use Rattle.pcapng_stream.specs.declared.errors.CaptureError.TheVariants.{Magic, Version, Length, Block, Memory}
+use Rattle.pcapng_stream.specs.declared.errors.CaptureError.TheVariants.{Magic, Version, Header, Length, Block, Memory}
 use Rattle.pcapng_stream.specs.Pcapng as pcapng
 use Rattle.pcapng_stream.specs.Capture.{Capture, Classic, Pcapng, IsPcapng, Reads, IsFault, IsClassicFault, packets_of, nothing, rest_of}
 use Rattle.pcapng_stream.specs.Feeding.{Tail, ClassicTail, PcapngTail, BlockTail, StandsFor, IsNew, rest_in, size_of}
@@ -51,18 +51,21 @@ stays (x ∷ s) t some other p = other (first_byte x s (first_ten x (s ++ t) p.0
 pub from_classic : (s : List ℕ) (e : PcapError) → classic.IsFault s e → IsClassicFault s (of_classic e)
 from_classic s classic_errors.Magic f = f
 from_classic s classic_errors.Version f = f
+from_classic s (classic_errors.Header place) f = f
 from_classic s (classic_errors.Length place) f = f
 from_classic s classic_errors.Memory f = tt
 
 pub stays_memory : (e : PcapError) → of_classic e ≢ Memory → e ≢ classic_errors.Memory
 stays_memory classic_errors.Magic ne is = absurd (cc (is))
 stays_memory classic_errors.Version ne is = absurd (cc (is))
+stays_memory (classic_errors.Header place) ne is = absurd (cc (is))
 stays_memory (classic_errors.Length place) ne is = absurd (cc (is))
 stays_memory classic_errors.Memory ne is = ne refl
 
 stays_other : (e : PcapError) → e ≢ classic_errors.Memory → of_classic e ≢ Memory
 stays_other classic_errors.Magic ne is = absurd (cc (is))
 stays_other classic_errors.Version ne is = absurd (cc (is))
+stays_other (classic_errors.Header place) ne is = absurd (cc (is))
 stays_other (classic_errors.Length place) ne is = absurd (cc (is))
 stays_other classic_errors.Memory ne is = ne refl
 
@@ -75,6 +78,7 @@ record Cause (s : List ℕ) (e : CaptureError) : Type 0 where
 cause_of : (s : List ℕ) (e : CaptureError) → IsClassicFault s e → e ≢ Memory → Cause s e
 cause_of s Magic f ne = record { error = classic_errors.Magic; fault = f; other = λ is. absurd (cc (is)); said = refl }
 cause_of s Version f ne = record { error = classic_errors.Version; fault = f; other = λ is. absurd (cc (is)); said = refl }
+cause_of s (Header place) f ne = record { error = classic_errors.Header place; fault = f; other = λ is. absurd (cc (is)); said = refl }
 cause_of s (Length place) f ne = record { error = classic_errors.Length place; fault = f; other = λ is. absurd (cc (is)); said = refl }
 cause_of s (Block place) f ne = absurd f
 cause_of s Memory f ne = absurd (ne refl)

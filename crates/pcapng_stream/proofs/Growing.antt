@@ -121,6 +121,7 @@ later_flawed t s piece bytes c flaw place is stands f =
 pub blocks_fault : (t : BlockTail) (s piece bytes : List ℕ) (c : Blocks) (e : CaptureError) → bytes ≡ t.rest ++ piece → StandsForBlocks t s c → IsBlocksFault t.section bytes t.offset e → IsFault (s ++ piece) e
 blocks_fault t s piece bytes c Magic is stands f = absurd f
 blocks_fault t s piece bytes c Version is stands f = (f.0, later_flawed t s piece bytes c _ f.0 is stands f.1)
+blocks_fault t s piece bytes c (errors.Header place) is stands f = absurd f
 blocks_fault t s piece bytes c (Length place) is stands f = later_flawed t s piece bytes c _ place is stands f
 blocks_fault t s piece bytes c (errors.Block place) is stands f = later_flawed t s piece bytes c _ place is stands f
 blocks_fault t s piece bytes c Memory is stands f = tt

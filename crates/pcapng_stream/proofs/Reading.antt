@@ -26,6 +26,7 @@ first_flaw_is s bytes b flaw first e = inr (record { sound = first_sound s bytes
 pub flaw_here : (s : Section) (bytes : List ℕ) (place : ℕ) (b : Block) (e : CaptureError) → IsFirst s.order bytes b → IsFaultOf (flaw_in s b) place e → IsHereFault s bytes place e
 flaw_here s bytes place b Magic first f = absurd f
 flaw_here s bytes place b Version first f = first_flaw_is s bytes b OtherVersion first f
+flaw_here s bytes place b (errors.Header p) first f = absurd f
 flaw_here s bytes place b (Length p) first f = (first_flaw_is s bytes b TooLong first f.0, f.1)
 flaw_here s bytes place b (errors.Block p) first f = (first_flaw_is s bytes b Malformed first f.0, f.1)
 flaw_here s bytes place b Memory first f = tt
@@ -96,6 +97,7 @@ pub later_fault : (s : Section) (bytes left : List ℕ) (mid : Section) (old new
     IsBlocksFault s bytes start e
 later_fault s bytes left mid old new start place Magic read f is = absurd f
 later_fault s bytes left mid old new start place Version read f is = (place, later_of s bytes left mid old new start place OtherVersion read f is)
+later_fault s bytes left mid old new start place (errors.Header p) read f is = absurd f
 later_fault s bytes left mid old new start place (Length p) read f is = later_of s bytes left mid old new start p TooLong read f.0 (f.1 ∙ is)
 later_fault s bytes left mid old new start place (errors.Block p) read f is = later_of s bytes left mid old new start p Malformed read f.0 (f.1 ∙ is)
 later_fault s bytes left mid old new start place Memory read f is = tt

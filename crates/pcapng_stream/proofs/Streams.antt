@@ -98,6 +98,7 @@ data Cause (s : List ℕ) (e : CaptureError) : Type 0 where
 cause_of : (s : List ℕ) (e : CaptureError) → IsFault s e → e ≢ Memory → Cause s e
 cause_of s Magic f ne = magic f refl
 cause_of s Version f ne = flawed OtherVersion f.0 f.1 refl
+cause_of s (errors.Header place) f ne = absurd f
 cause_of s (Length place) f ne = flawed TooLong place f refl
 cause_of s (errors.Block place) f ne = flawed Malformed place f refl
 cause_of s Memory f ne = absurd (ne refl)

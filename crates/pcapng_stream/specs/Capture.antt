@@ -4,7 +4,7 @@ use Rattle.pcap_stream.specs.declared.errors.PcapError.TheVariants as classic_er
 use Rattle.pcap_stream.specs.Capture.{Seen}
 use Rattle.pcap_stream.specs.Capture as classic
 use Rattle.pcapng_stream.specs.declared.errors.CaptureError.{CaptureError}
-use Rattle.pcapng_stream.specs.declared.errors.CaptureError.TheVariants.{Magic, Version, Length, Block, Memory}
+use Rattle.pcapng_stream.specs.declared.errors.CaptureError.TheVariants.{Magic, Version, Header, Length, Block, Memory}
 use Rattle.pcapng_stream.specs.Pcapng.{Blocks}
 use Rattle.pcapng_stream.specs.Pcapng as pcapng
 
@@ -40,6 +40,7 @@ nothing = Classic classic.nothing
 abbrev pub IsClassicFault : List ℕ → CaptureError → Type 0
 IsClassicFault s Magic = classic.IsFault s classic_errors.Magic
 IsClassicFault s Version = classic.IsFault s classic_errors.Version
+IsClassicFault s (Header place) = classic.IsFault s (classic_errors.Header place)
 IsClassicFault s (Length place) = classic.IsFault s (classic_errors.Length place)
 IsClassicFault s (Block place) = ⊥
 IsClassicFault s Memory = ⊤

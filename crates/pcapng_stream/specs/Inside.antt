@@ -73,6 +73,7 @@ fault_at place TooLong = Length place
 abbrev pub of_classic : PcapError → CaptureError
 of_classic classic_errors.Magic = Magic
 of_classic classic_errors.Version = Version
+of_classic (classic_errors.Header place) = errors.Header place
 of_classic (classic_errors.Length place) = Length place
 of_classic classic_errors.Memory = Memory
 
@@ -103,6 +104,7 @@ FindsBlock order bytes (Some b) = IsFirst order bytes (block_of b)
 abbrev pub IsFaultOf : Option Flaw → ℕ → CaptureError → Type 0
 IsFaultOf flaw place Magic = ⊥
 IsFaultOf flaw place Version = flaw ≡ Some OtherVersion
+IsFaultOf flaw place (errors.Header p) = ⊥
 IsFaultOf flaw place (Length p) = (flaw ≡ Some TooLong) × (p ≡ place)
 IsFaultOf flaw place (errors.Block p) = (flaw ≡ Some Malformed) × (p ≡ place)
 IsFaultOf flaw place Memory = ⊤
@@ -135,6 +137,7 @@ FindsNext s bytes (Some size) next old new = IsNext s bytes size next old new
 abbrev pub IsHereFault : Section → List ℕ → ℕ → CaptureError → Type 0
 IsHereFault s bytes place Magic = ⊥
 IsHereFault s bytes place Version = HasFlaw s bytes OtherVersion
+IsHereFault s bytes place (errors.Header p) = ⊥
 IsHereFault s bytes place (Length p) = HasFlaw s bytes TooLong × (p ≡ place)
 IsHereFault s bytes place (errors.Block p) = HasFlaw s bytes Malformed × (p ≡ place)
 IsHereFault s bytes place Memory = ⊤
@@ -166,6 +169,7 @@ pub record IsLater (s : Section) (bytes : List ℕ) (start : ℕ) (flaw : Flaw) 
 abbrev pub IsBlocksFault : Section → List ℕ → ℕ → CaptureError → Type 0
 IsBlocksFault s bytes start Magic = ⊥
 IsBlocksFault s bytes start Version = (place : ℕ) × IsLater s bytes start OtherVersion place
+IsBlocksFault s bytes start (errors.Header place) = ⊥
 IsBlocksFault s bytes start (Length place) = IsLater s bytes start TooLong place
 IsBlocksFault s bytes start (errors.Block place) = IsLater s bytes start Malformed place
 IsBlocksFault s bytes start Memory = ⊤

@@ -99,6 +99,7 @@ pub record IsFlawedAt (s : List ℕ) (flaw : Flaw) (place : ℕ) : Type 0 where
 abbrev pub IsFault : List ℕ → CaptureError → Type 0
 IsFault s Magic = BeginsSection s → ⊥
 IsFault s Version = (place : ℕ) × IsFlawedAt s OtherVersion place
+IsFault s (errors.Header place) = ⊥
 IsFault s (Length place) = IsFlawedAt s TooLong place
 IsFault s (errors.Block place) = IsFlawedAt s Malformed place
 IsFault s Memory = ⊤

@@ -15,6 +15,10 @@ pub enum CaptureError {
     /// The version is another than 2.4, or the major version of a section header of pcapng is another than 1.
     #[error("a version other than 2.4 of pcap or 1 of pcapng")]
     Version,
+    /// At this place, in bytes from the start of a classic capture, a second file header begins: the 16 bytes of a record's
+    /// head begin with the magic number and the version of the capture itself.
+    #[error("a second file header at byte {0}")]
+    Header(u32),
     /// The record or block at this place, in bytes from the start of the capture, says that more than 262,144 bytes were
     /// captured.
     #[error("a packet of more than 262144 bytes at byte {0}")]
@@ -54,6 +58,7 @@ impl From<PcapError> for CaptureError {
         match fault {
             PcapError::Magic => CaptureError::Magic,
             PcapError::Version => CaptureError::Version,
+            PcapError::Header(place) => CaptureError::Header(place),
             PcapError::Length(place) => CaptureError::Length(place),
             PcapError::Memory => CaptureError::Memory,
         }

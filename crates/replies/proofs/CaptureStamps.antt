@@ -1,5 +1,5 @@
 -- The packets of captures: their stamps are below 2^62, and they stay the first of all where a capture goes on.
-use Rattle.std.proofs.Common.{◌≡◌, ℕ, zero, suc, ◌+◌, ◌*◌, ◌<◌, ◌^◌, List, [], ◌∷◌, ◌++◌, map, drop, slice_index, Bool, true, false, not, nat_lt, Option, Some, None, All, refl, sym, ap, subst, ◌∙◌, arith}
+use Rattle.std.proofs.Common.{◌≡◌, ℕ, zero, suc, ◌+◌, ◌*◌, ◌<◌, ◌^◌, List, [], ◌∷◌, ◌++◌, map, drop, slice_index, Bool, true, false, not, nat_lt, ℤ, pos, negsuc, unsigned_abs, Option, Some, None, All, refl, sym, ap, subst, ◌∙◌, arith}
 use Rattle.std.specs.List.{flat_map}
 use Rattle.std.proofs.lemmas.List.Elements.{All-append, All-cons, All-drop, All-head, All-nil, All-tail}
 use Rattle.pcap_stream.specs.declared.header.Order.{Order}
@@ -11,10 +11,10 @@ use Rattle.pcap_stream.specs.Capture as classic
 use Rattle.pcap_stream.specs.Capture.{Record, Seen, bytes_of, nanos, packet_of, number_in}
 use Rattle.pcapng_stream.specs.declared.flaw.Flaw.{Flaw}
 use Rattle.pcapng_stream.specs.declared.flaw.Flaw.TheVariants.{Malformed}
-use Rattle.pcapng_stream.specs.declared.block.BlockKind.{BlockKind}
-use Rattle.pcapng_stream.specs.declared.block.BlockKind.TheVariants as kinds
+use Rattle.pcapng_stream.specs.declared.block_kind.BlockKind.{BlockKind}
+use Rattle.pcapng_stream.specs.declared.block_kind.BlockKind.TheVariants as kinds
 use Rattle.pcapng_stream.specs.Blocks as blocks
-use Rattle.pcapng_stream.specs.Blocks.{Section, Block, kind_of, packets_by, packets_in, section_behind, stamp_of}
+use Rattle.pcapng_stream.specs.Blocks.{Section, Block, kind_of, packets_by, packets_in, section_behind, stamp_of, is_stamp}
 use Rattle.pcapng_stream.specs.Flaws.{Check, first_flaw, kind_checks, length_checks, packet_checks, refuse}
 use Rattle.pcapng_stream.specs.Pcapng.{AreBlocks, packets_after}
 use Rattle.pcapng_stream.specs.Capture as format
@@ -88,6 +88,10 @@ sound_more false flaw more none = none
 below_limit : (n most : ℕ) → not (nat_lt n most) ≡ false → n < most
 below_limit n most is = grind (arith, is)
 
+stamp_small : (z : ℤ) → not (is_stamp z) ≡ false → unsigned_abs z < 2 ^ 62
+stamp_small (pos n) last = below_limit n (2 ^ 62) last
+stamp_small (negsuc n) last = absurd cc
+
 -- a check that finds nothing wrong
 abbrev IsSound : Check → Type 0
 IsSound c = c.so ≡ false
@@ -100,8 +104,8 @@ kind_stamped : (kind : BlockKind) (s : Section) (b : Block) → first_flaw (leng
 kind_stamped kinds.SectionHeader s b none = All-nil IsStamped
 kind_stamped kinds.InterfaceDescription s b none = All-nil IsStamped
 kind_stamped kinds.EnhancedPacket s b none =
-    let last : not (nat_lt (stamp_of s b) (2 ^ 62)) ≡ false = all_sound (length_checks b ++ packet_checks s b) none 5 (refuse false Malformed) (omega arith) in
-    All-cons IsStamped (blocks.packet_of s b) [] (below_limit (stamp_of s b) (2 ^ 62) last) (All-nil IsStamped)
+    let last : not (is_stamp (stamp_of s b)) ≡ false = all_sound (length_checks b ++ packet_checks s b) none 5 (refuse false Malformed) (omega arith) in
+    All-cons IsStamped (blocks.packet_of s b) [] (stamp_small (stamp_of s b) last) (All-nil IsStamped)
 kind_stamped kinds.Other s b none = All-nil IsStamped
 
 blocks_stamped : (s : Section) (all : List Block) → AreBlocks s all → All IsStamped (packets_after s all)

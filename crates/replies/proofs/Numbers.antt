@@ -3,7 +3,7 @@ use Rattle.std.proofs.Common.{◌≤◌, ◌<◌, ◌^◌, length, arith}
 use Rattle.atto.specs.Decimal.{decimal_of}
 use Rattle.atto.proofs.DecimalLemmas.{length-decimal_of-le}
 use Rattle.replies.specs.declared.refusal.Refusal.{Refusal}
-use Rattle.replies.specs.declared.refusal.Refusal.TheVariants.{NoCommand, UnknownLabel, UnreadFile, TooManyBytes, CaptureMagic, CaptureVersion, CaptureRecord, CaptureBlock, LogRow, TooManyEvents, UnknownEvent, NoSourceTime, EightAreKept}
+use Rattle.replies.specs.declared.refusal.Refusal.TheVariants.{NoCommand, UnknownLabel, UnreadFile, TooManyBytes, CaptureMagic, CaptureVersion, CaptureHeader, CaptureRecord, CaptureBlock, LogRow, TooManyEvents, UnknownEvent, NoSourceTime, EightAreKept}
 use Rattle.replies.specs.Refusals.{number_of}
 
 number_small : (r : Refusal) → number_of r < 10 ^ 2
@@ -13,6 +13,7 @@ number_small UnreadFile = omega arith
 number_small TooManyBytes = omega arith
 number_small CaptureMagic = omega arith
 number_small CaptureVersion = omega arith
+number_small (CaptureHeader place) = omega arith
 number_small (CaptureRecord place) = omega arith
 number_small (CaptureBlock place) = omega arith
 number_small (LogRow row lack) = omega arith

@@ -7,7 +7,7 @@ use Rattle.event_log.specs.declared.errors.LogError.TheVariants as faults
 use Rattle.captures.specs.declared.errors.CaptureError.{CaptureError}
 use Rattle.captures.specs.declared.errors.CaptureError.TheVariants as refused
 use Rattle.replies.specs.declared.refusal.Refusal.{Refusal}
-use Rattle.replies.specs.declared.refusal.Refusal.TheVariants.{NoCommand, UnknownLabel, UnreadFile, TooManyBytes, CaptureMagic, CaptureVersion, CaptureRecord, CaptureBlock, LogRow, TooManyEvents, UnknownEvent, NoSourceTime, EightAreKept}
+use Rattle.replies.specs.declared.refusal.Refusal.TheVariants.{NoCommand, UnknownLabel, UnreadFile, TooManyBytes, CaptureMagic, CaptureVersion, CaptureHeader, CaptureRecord, CaptureBlock, LogRow, TooManyEvents, UnknownEvent, NoSourceTime, EightAreKept}
 
 -- the number of a refusal
 abbrev pub number_of : Refusal → ℕ
@@ -17,6 +17,7 @@ number_of UnreadFile = 22
 number_of TooManyBytes = 23
 number_of CaptureMagic = 24
 number_of CaptureVersion = 24
+number_of (CaptureHeader place) = 25
 number_of (CaptureRecord place) = 25
 number_of (CaptureBlock place) = 31
 number_of (LogRow row lack) = 26
@@ -25,7 +26,7 @@ number_of UnknownEvent = 28
 number_of NoSourceTime = 29
 number_of EightAreKept = 30
 
--- the numbers that say where and why
+-- the words that say where and why
 abbrev pub details : Refusal → List (List ℕ)
 details NoCommand = []
 details UnknownLabel = []
@@ -33,6 +34,7 @@ details UnreadFile = []
 details TooManyBytes = []
 details CaptureMagic = decimal_of 1 ∷ []
 details CaptureVersion = decimal_of 2 ∷ []
+details (CaptureHeader place) = decimal_of place ∷ codes "header" ∷ []
 details (CaptureRecord place) = decimal_of place ∷ []
 details (CaptureBlock place) = decimal_of place ∷ []
 details (LogRow row lack) = decimal_of row ∷ decimal_of lack ∷ []
@@ -57,6 +59,7 @@ log_refusal faults.Memory = None
 abbrev pub capture_refusal : CaptureError → Option Refusal
 capture_refusal refused.Magic = Some CaptureMagic
 capture_refusal refused.Version = Some CaptureVersion
+capture_refusal (refused.Header place) = Some (CaptureHeader place)
 capture_refusal (refused.Length place) = Some (CaptureRecord place)
 capture_refusal (refused.Block place) = Some (CaptureBlock place)
 capture_refusal refused.Memory = None

@@ -1,5 +1,5 @@
 // Refusals, and the lines that tell them.
-ghost use Rattle.std.specs.Prelude.{◌≡◌, ◌≤◌, ◌+◌, ◌++◌, ◌∷◌, [], ℕ, List, length};
+ghost use Rattle.std.specs.Prelude.{◌≡◌, ◌≤◌, ◌+◌, ◌++◌, ◌∷◌, [], ℕ, List, length, codes};
 ghost use Rattle.atto.specs.Decimal.{decimal_of};
 ghost use Rattle.line_format.specs.Words.{words};
 ghost use Rattle.ports.specs.Room.{HasRoom};
@@ -8,7 +8,7 @@ ghost use Rattle.replies.specs.Refusals.{number_of, details, refusal_line, log_r
 
 use captures::CaptureError;
 use event_log::LogError;
-use ports::fixed_line::{Line, first_word, push_decimal};
+use ports::fixed_line::{Line, first_word, push_decimal, push_word};
 use ports::{Failed, Sink, write_whole};
 
 /// Why a line changes nothing, in the order in which the causes are looked for.
@@ -26,6 +26,11 @@ pub enum Refusal {
     CaptureMagic,
     /// The capture is of a version that is not read.
     CaptureVersion,
+    /// A second file header begins in the capture.
+    CaptureHeader {
+        /// Its place, in bytes from the start of the capture.
+        place: u32,
+    },
     /// A packet of the capture is too long.
     CaptureRecord {
         /// The place of its record or block, in bytes from the start of the capture.
@@ -65,6 +70,7 @@ impl Refusal {
             Refusal::TooManyBytes => 23,
             Refusal::CaptureMagic => 24,
             Refusal::CaptureVersion => 24,
+            Refusal::CaptureHeader { .. } => 25,
             Refusal::CaptureRecord { .. } => 25,
             Refusal::CaptureBlock { .. } => 31,
             Refusal::LogRow { .. } => 26,
@@ -75,7 +81,7 @@ impl Refusal {
         }
     }
 
-    /// The line that tells it: its number, and the numbers that say where and why.
+    /// The line that tells it: its number, and the words that say where and why.
     pub(crate) fn line(self) -> Line
         ensures { result.items ≡ refusal_line self }
     {
@@ -87,7 +93,7 @@ impl Refusal {
     }
 }
 
-// Appends the numbers that say where and why.
+// Appends the words that say where and why.
 fn push_details(line: &mut Line, refusal: Refusal)
     requires room { HasRoom line.old.items 98 }
     ensures appended { (first : List ℕ) (ws : List (List ℕ)) → line.old.items ≡ words (first ∷ ws) → line.new.items ≡ words (first ∷ ws ++ details refusal) }
@@ -96,11 +102,22 @@ fn push_details(line: &mut Line, refusal: Refusal)
     match refusal {
         Refusal::CaptureMagic => push_decimal(line, 1),
         Refusal::CaptureVersion => push_decimal(line, 2),
+        Refusal::CaptureHeader { place } => push_header(line, place),
         Refusal::CaptureRecord { place } => push_decimal(line, u64::from(place)),
         Refusal::CaptureBlock { place } => push_decimal(line, u64::from(place)),
         Refusal::LogRow { row, lack } => push_both(line, u64::from(row), u64::from(lack)),
         _ => {}
     }
+}
+
+// Appends the place of a second file header, and the word for one.
+fn push_header(line: &mut Line, place: u32)
+    requires room { HasRoom line.old.items 98 }
+    ensures appended { (first : List ℕ) (ws : List (List ℕ)) → line.old.items ≡ words (first ∷ ws) → line.new.items ≡ words (first ∷ ws ++ decimal_of place ∷ codes "header" ∷ []) }
+    ensures grown { length line.new.items ≤ length line.old.items + 98 }
+{
+    push_decimal(line, u64::from(place));
+    push_word(line, b"header");
 }
 
 // Appends two decimals.
@@ -140,6 +157,7 @@ pub fn capture_refusal(e: CaptureError) -> Option<Refusal>
     match e {
         CaptureError::Magic => Some(Refusal::CaptureMagic),
         CaptureError::Version => Some(Refusal::CaptureVersion),
+        CaptureError::Header(place) => Some(Refusal::CaptureHeader { place }),
         CaptureError::Length(place) => Some(Refusal::CaptureRecord { place }),
         CaptureError::Block(place) => Some(Refusal::CaptureBlock { place }),
         CaptureError::Memory => None,

@@ -9,7 +9,7 @@ use crate::refusal::Refusal;
 use arrayvec::ArrayVec;
 use atto::{NsText, write_decimal};
 
-/// How many bytes such a text has at most: `refused`, a number of two digits, and two numbers of at most 20 digits, with
+/// How many bytes such a text has at most: `refused`, a number of two digits, and two words of at most 20 bytes, with
 /// spaces between them, are fewer.
 pub const REFUSED_ROOM: usize = 64;
 
@@ -36,6 +36,17 @@ fn digits_of(number: u64) -> NsText
     digits
 }
 
+// Appends a word of at most 20 bytes behind a space.
+fn push_word(text: &mut RefusedText, word: &[u8])
+    requires short { length word.now ≤ 20 }
+    requires room { length text.old.items + 21 ≤ 64 }
+    ensures appended { (first : List ℕ) (ws : List (List ℕ)) → text.old.items ≡ words (first ∷ ws) → text.new.items ≡ words (first ∷ ws ++ word.now ∷ []) }
+    ensures exact { length text.new.items ≡ length text.old.items + 1 + length word.now }
+{
+    text.push(b' ');
+    push_bytes(text, word);
+}
+
 // Appends a decimal behind a space.
 fn push_number(text: &mut RefusedText, number: u64)
     requires { length text.old.items + 21 ≤ 64 }
@@ -43,8 +54,16 @@ fn push_number(text: &mut RefusedText, number: u64)
     ensures grown { length text.new.items ≤ length text.old.items + 21 }
     ensures exact { length text.new.items ≡ length text.old.items + 1 + length (decimal_of number) }
 {
-    text.push(b' ');
-    push_bytes(text, digits_of(number).as_slice());
+    push_word(text, digits_of(number).as_slice());
+}
+
+// Appends the place of a second file header, and the word for one.
+fn push_header(text: &mut RefusedText, place: u32)
+    requires { length text.old.items + 42 ≤ 64 }
+    ensures { (first : List ℕ) (ws : List (List ℕ)) → text.old.items ≡ words (first ∷ ws) → text.new.items ≡ words (first ∷ ws ++ decimal_of place ∷ codes "header" ∷ []) }
+{
+    push_number(text, u64::from(place));
+    push_word(text, b"header");
 }
 
 // Appends two decimals.
@@ -56,7 +75,7 @@ fn push_both(text: &mut RefusedText, first: u64, second: u64)
     push_number(text, second);
 }
 
-// Appends the numbers that say where and why.
+// Appends the words that say where and why.
 fn push_details(text: &mut RefusedText, refusal: Refusal)
     requires { length text.old.items + 42 ≤ 64 }
     ensures { (first : List ℕ) (ws : List (List ℕ)) → text.old.items ≡ words (first ∷ ws) → text.new.items ≡ words (first ∷ ws ++ details refusal) }
@@ -64,6 +83,7 @@ fn push_details(text: &mut RefusedText, refusal: Refusal)
     match refusal {
         Refusal::CaptureMagic => push_number(text, 1),
         Refusal::CaptureVersion => push_number(text, 2),
+        Refusal::CaptureHeader { place } => push_header(text, place),
         Refusal::CaptureRecord { place } => push_number(text, u64::from(place)),
         Refusal::CaptureBlock { place } => push_number(text, u64::from(place)),
         Refusal::LogRow { row, lack } => push_both(text, u64::from(row), u64::from(lack)),

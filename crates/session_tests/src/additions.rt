@@ -97,9 +97,9 @@ const FILES: [(&str, &str); 11] = [
     ("empty.csv", ""),
 ];
 
-// Pieces of captures by their paths: no magic number in either format, version 2.3, a record of 2^32 - 1 bytes, a byte, and two bytes
-// that may begin a section header.
-const PIECES: [(&str, &[u8]); 6] = [
+// Pieces of captures by their paths: no magic number in either format, version 2.3, a record of 2^32 - 1 bytes, the front of a
+// second header behind the first one, a byte, and two bytes that may begin a section header.
+const PIECES: [(&str, &[u8]); 7] = [
     ("no.pcap", &[0x0b, 0x0d]),
     ("no.pcapng", &[0x0a, 0x0d, 0x0d, 0x0d]),
     ("old.pcap", &[0x4d, 0x3c, 0xb2, 0xa1, 2, 0, 3, 0]),
@@ -108,6 +108,13 @@ const PIECES: [(&str, &[u8]); 6] = [
         &[
             0x4d, 0x3c, 0xb2, 0xa1, 2, 0, 4, 0, 0, 0, 0, 0, 0, 0, 0, 0, 0, 0, 4, 0, 101, 0, 0, 0, //
             0, 0, 0, 0, 100, 0, 0, 0, 255, 255, 255, 255, 255, 255, 255, 255, //
+        ],
+    ),
+    (
+        "twice.pcap",
+        &[
+            0x4d, 0x3c, 0xb2, 0xa1, 2, 0, 4, 0, 0, 0, 0, 0, 0, 0, 0, 0, 0, 0, 4, 0, 101, 0, 0, 0, //
+            0x4d, 0x3c, 0xb2, 0xa1, 2, 0, 4, 0, 0, 0, 0, 0, 0, 0, 0, 0, //
         ],
     ),
     ("zero.pcap", &[0]),
@@ -232,6 +239,7 @@ const CASES: [Case; 10] = [
             ("add c old.pcap", "refused 24 2\n"),
             ("add c endless.pcap", "refused 25 24\n"),
             ("add c toolong.pcap", "refused 25 68\n"),
+            ("add c twice.pcap", "refused 25 24 header\n"),
             (
                 "add c begun.pcap",
                 "added events 0 messages 0 withdrawn 0 pending 23 consistent\n",

@@ -1,9 +1,7 @@
 use Rattle.std.proofs.Common.{◌∷◌, [], ◌++◌, ◌∙◌, ap, ℕ, List}
 use Rattle.line_format.specs.Words.{words}
-use Rattle.ports.proofs.Composing.{words_more}
 use Rattle.replies.proofs.refused.push_number.Goals as goal
 
 pub returns-clause-appended : goal.returns-clause-appended
 returns-clause-appended c = λ first ws is.
-    c.push_bytes.ensures ∙ ap (λ (l : List ℕ). l ++ c.as_slice.result.now) c.push.ensures.items ∙ words_more first ws c.as_slice.result.now c.args.text.now.items is
-    ∙ ap (λ (digits : List ℕ). words (first ∷ ws ++ digits ∷ [])) (c.as_slice.ensures.value ∙ c.digits_of.ensures.digits)
+    c.push_word.ensures.appended first ws is ∙ ap (λ (digits : List ℕ). words (first ∷ ws ++ digits ∷ [])) (c.as_slice.ensures.value ∙ c.digits_of.ensures.digits)
