@@ -3,7 +3,7 @@ use Rattle.std.proofs.Common.{◌≡◌, ◌<◌, ◌≤◌, ◌+◌, ◌-◌, �
 use Rattle.std.specs.Prelude.{◌==◌}
 use Rattle.std.proofs.lemmas.Bool.{cases_Bool, false≢true}
 use Rattle.csv.specs.Machine.{Read, ends_at_end, fields_after, in_field, is_end, next_record, start_record, step}
-use Rattle.csv.specs.Reading.{Reached, default_config, is_bom, records_from, strip_bom}
+use Rattle.csv.specs.Reading.{Reached, default_config, is_bom, records, records_from, strip_bom}
 use Rattle.csv.specs.declared.parser.State.{State}
 use Rattle.csv.specs.declared.parser.State.TheVariants as st
 use Rattle.csv.specs.Reading.{ReadRecord, is_flexible, reader_state, took_first}
@@ -128,21 +128,21 @@ reached_records n s s2 xs ys (r ∷ rs) h = first ∙ ap (λ (more : List (List 
 pub given_few : (piece ys : List ℕ) (s : State) (given : List (List (List ℕ))) → Reached default_config st.StartRecord (strip_bom piece) given s ys → length given ≤ length piece
 given_few piece ys s given h = omega (arith, reached_counts st.StartRecord s (strip_bom piece) ys given refl h, strip_shorter piece)
 
--- the piece's records are those reached and then others
-pub given_front : (piece ys : List ℕ) (s : State) (given : List (List (List ℕ))) → Reached default_config st.StartRecord (strip_bom piece) given s ys
-    → (n : ℕ) × (records_of piece ≡ given ++ records_from default_config (suc n) s ys)
-given_front piece ys s given h =
-    let few : length given + length ys ≤ length (strip_bom piece) = reached_counts st.StartRecord s (strip_bom piece) ys given refl h in
-    let n : ℕ = length (strip_bom piece) - length given in
-    let count : length (strip_bom piece) + 1 ≡ length given + suc n = omega (arith, few) in
-    (n, ap (λ (k : ℕ). records_from default_config k st.StartRecord (strip_bom piece)) count ∙ reached_records (suc n) st.StartRecord s (strip_bom piece) ys given h)
+-- a text's records are those reached and then others
+pub text_front : (xs ys : List ℕ) (s : State) (given : List (List (List ℕ))) → Reached default_config st.StartRecord xs given s ys
+    → (n : ℕ) × (records default_config xs ≡ given ++ records_from default_config (suc n) s ys)
+text_front xs ys s given h =
+    let few : length given + length ys ≤ length xs = reached_counts st.StartRecord s xs ys given refl h in
+    let n : ℕ = length xs - length given in
+    let count : length xs + 1 ≡ length given + suc n = omega (arith, few) in
+    (n, ap (λ (k : ℕ). records_from default_config k st.StartRecord xs) count ∙ reached_records (suc n) st.StartRecord s xs ys given h)
 
--- at the end of the piece they are all
-pub given_all : (piece ys : List ℕ) (s : State) (given : List (List (List ℕ))) → Reached default_config st.StartRecord (strip_bom piece) given s ys → next_record default_config s [] [] ys ≡ None
-    → records_of piece ≡ given
+-- at its end they are all
+pub text_all : (xs ys : List ℕ) (s : State) (given : List (List (List ℕ))) → Reached default_config st.StartRecord xs given s ys → next_record default_config s [] [] ys ≡ None
+    → records default_config xs ≡ given
 unfolding records_from
-given_all piece ys s given h none =
-    let front = given_front piece ys s given h in
+text_all xs ys s given h none =
+    let front = text_front xs ys s given h in
     front.1 ∙ ap (λ (more : List (List (List ℕ))). given ++ more) (nothing front.0) ∙ append_nil_of given
   where
     nothing : (n : ℕ) → records_from default_config (suc n) s ys ≡ []
@@ -151,6 +151,15 @@ given_all piece ys s given h none =
     append_nil_of : (rs : List (List (List ℕ))) → rs ++ [] ≡ rs
     append_nil_of [] = refl
     append_nil_of (r ∷ rs) = ap (λ (more : List (List (List ℕ))). r ∷ more) (append_nil_of rs)
+
+-- the same of a piece
+pub given_front : (piece ys : List ℕ) (s : State) (given : List (List (List ℕ))) → Reached default_config st.StartRecord (strip_bom piece) given s ys
+    → (n : ℕ) × (records_of piece ≡ given ++ records_from default_config (suc n) s ys)
+given_front piece ys s given h = text_front (strip_bom piece) ys s given h
+
+pub given_all : (piece ys : List ℕ) (s : State) (given : List (List (List ℕ))) → Reached default_config st.StartRecord (strip_bom piece) given s ys → next_record default_config s [] [] ys ≡ None
+    → records_of piece ≡ given
+given_all piece ys s given h none = text_all (strip_bom piece) ys s given h none
 
 -- a read that finds a record gives it
 pub read_more : (piece : List ℕ) (given : List (List (List ℕ))) (a b : Reader (Bor (List ℕ))) (fields : List (List ℕ)) → HasGiven piece given a → ReadRecord (λ (s : Bor (List ℕ)). Some s.now) a b true fields

@@ -4,3 +4,6 @@ mod Records
 mod Given
 mod Rows
 mod OneAnswer
+mod Fifth
+mod Fronts
+mod Marks

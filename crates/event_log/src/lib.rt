@@ -3,6 +3,7 @@
 
 mod errors;
 mod fields;
+mod front;
 mod law;
 mod log_text;
 mod read;

@@ -7,6 +7,7 @@ ghost use Rattle.event_log.specs.declared.errors.LogError.TheVariants.{Memory};
 ghost use Rattle.event_log.specs.declared.row.Row as rows;
 
 use crate::fields::read_row;
+use crate::front::short_front;
 use crate::{LogError, Row};
 use csv::{ByteRecord, Reader, ReaderBuilder};
 use std::alloc::{AllocError, Global};
@@ -69,6 +70,15 @@ pub fn read_rows(alloc: Global, piece: &[u8]) -> Result<Vec<Row>, LogError>
 /// The first rows of a piece, at most so many of those that `read_rows` gives, and how many rows it has in all; or why it is
 /// refused, as `read_rows` does. A row behind those that are kept is read and judged as any other.
 pub fn read_first_rows(alloc: Global, piece: &[u8], most: u64) -> Result<FirstRows, LogError>
+    requires { length piece.now ≤ 2 ^ 28 }
+    ensures rows { IfOk result (λ read. AreFirstRows piece.now most read) }
+    ensures fault { IfErr result (λ e. IsLogFault piece.now e) }
+{
+    read_records(alloc, short_front(piece), most)
+}
+
+// The same, by records that are kept whole, one after another.
+fn read_records(alloc: Global, piece: &[u8], most: u64) -> Result<FirstRows, LogError>
     requires { length piece.now ≤ 2 ^ 28 }
     ensures rows { IfOk result (λ read. AreFirstRows piece.now most read) }
     ensures fault { IfErr result (λ e. IsLogFault piece.now e) }

@@ -1,5 +1,5 @@
 use event_log::{Kind, LogError, Row, read_first_rows, read_rows};
-use std::alloc::Global;
+use std::alloc::{AllocError, Global};
 use std::test::*;
 
 // What a row is to have: its stamp, kind, key (empty for none) and text.
@@ -101,6 +101,10 @@ fn faults(rt: HostRuntime) {
     let cases = [
         ("1,send,a\n", LogError::Fields(1)),
         ("1,send,a,b,c", LogError::Fields(1)),
+        ("1,local,,,x\n2,local,,\n", LogError::Fields(1)),
+        ("\u{feff}\"1\",send,a,\",\",,\n1\n", LogError::Fields(1)),
+        ("1,local,,\"\n,\"\",\",", LogError::Fields(1)),
+        ("1,local,,\"\n,\"\",\"\n2", LogError::Text(1)),
         ("1,local,,\n\n\r\nx\n", LogError::Fields(2)),
         ("1;local;;\n", LogError::Fields(1)),
         ("\u{feff}\u{feff}1,local,,\n", LogError::Stamp(1)),
@@ -160,5 +164,33 @@ fn few_rows(rt: HostRuntime) {
             first_rows(rt.alloc(), log, most) == Some((kept, 3)),
             "{most}"
         );
+    }
+}
+
+// Why a log is refused of a good row and one with so many commas.
+fn fault_of_commas(alloc: Global, count: usize) -> Result<Option<LogError>, AllocError> {
+    let mut piece = Vec::new(alloc);
+    piece.extend_from_slice(b"1,local,,\n")?;
+    for _ in 0..count {
+        piece.push(b',')?;
+    }
+    if piece.len() > 1 << 28 {
+        return Ok(None);
+    }
+    Ok(read_rows(alloc, &piece).err())
+}
+
+#[test]
+fn many_fields(rt: HostRuntime) {
+    for (count, wanted) in [
+        (3, LogError::Stamp(2)),
+        (4, LogError::Fields(2)),
+        (5, LogError::Fields(2)),
+        (1_000_000, LogError::Fields(2)),
+    ] {
+        match fault_of_commas(rt.alloc(), count) {
+            Ok(fault) => assert!(rt; fault == Some(wanted), "{count}"),
+            Err(_) => assert!(rt; false, "{count}"),
+        }
     }
 }
