@@ -249,7 +249,7 @@ has_more s fields field (c ∷ rest) i =
 front_ends : (x : List ℕ) (s : State) (n : ℕ) → ends_at_end s ≡ true → (w : Walked x s n) → records default_config x ≡ w.given ++ (w.fields ++ w.field ∷ []) ∷ []
 front_ends x s n ends w =
     let all : Reached default_config st.StartRecord (x ++ []) (w.given ++ (w.fields ++ w.field ∷ []) ∷ []) st.StartRecord [] =
-        reached-more default_config st.StartRecord w.start (x ++ []) (w.held ++ []) w.given (w.fields ++ w.field ∷ [], st.StartRecord, []) (w.reached []) (w.goes_on [] ∙ next_last s w.fields w.field ends) in
+    reached-more default_config st.StartRecord w.start (x ++ []) (w.held ++ []) w.given (w.fields ++ w.field ∷ [], st.StartRecord, []) (w.reached []) (w.goes_on [] ∙ next_last s w.fields w.field ends) in
     text_all x [] st.StartRecord (w.given ++ (w.fields ++ w.field ∷ []) ∷ [])
     (subst (λ (t : List ℕ). Reached default_config st.StartRecord t (w.given ++ (w.fields ++ w.field ∷ []) ∷ []) st.StartRecord []) (append-nil x) all)
     (next_none st.StartRecord [] [] refl)
@@ -274,7 +274,7 @@ fifth_front : (x zs : List ℕ) (s : State) → IsInside s → Walked x s 4 → 
 fifth_front x zs s i w =
     let more = has_more s w.fields w.field zs i in
     let whole : Reached default_config st.StartRecord (x ++ zs) (w.given ++ more.0.0 ∷ []) more.0.1 more.0.2 =
-        reached-more default_config st.StartRecord w.start (x ++ zs) (w.held ++ zs) w.given more.0 (w.reached zs) (w.goes_on zs ∙ more.1) in
+    reached-more default_config st.StartRecord w.start (x ++ zs) (w.held ++ zs) w.given more.0 (w.reached zs) (w.goes_on zs ∙ more.1) in
     let front = text_front (x ++ zs) more.0.2 more.0.1 _ whole in
     record {
       before = w.given;
