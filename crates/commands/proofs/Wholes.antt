@@ -19,5 +19,6 @@ some_of (Some written) held now (k, longer, within, is) = (k, within, is)
 pub passes_on : {E : Type 0} (below now : SinkTold) (held : List ℕ) (passed : Result (Unit {0}) E) (status result : Status)
     → Finishes below (with_held below held) now passed → (is_ok passed ≡ true → result ≡ status) → (is_ok passed ≡ false → result ≡ WriteFault)
     → PassesOn (with_held below held) status now result
-passes_on below now held (Ok it) status result finishes same lost = inl (same refl, finishes.whole)
-passes_on below now held (Err why) status result finishes same lost = inr (lost refl, some_of below.written held now.written finishes.front, finishes.cause)
+passes_on below now held (Ok it) status result finishes same lost = record { ends = inl (same refl, finishes.whole); no_fall = finishes.no_fall }
+passes_on below now held (Err why) status result finishes same lost =
+    record { ends = inr (lost refl, some_of below.written held now.written finishes.front, finishes.cause); no_fall = finishes.no_fall }

@@ -44,10 +44,12 @@ abbrev pub HasSome : Option (List ℕ) → Option (List ℕ) → Type 0
 HasSome None now = Unit {0}
 HasSome (Some told) now = (k : ℕ) × (k ≤ length told) × (now ≡ Some (take k told))
 
--- all that was printed stands written, and the status is the run's; or a write failed behind a front of it, and the status says so
-abbrev pub PassesOn : SinkTold → Status → SinkTold → Status → Type 0
-PassesOn printed status now result = ((result ≡ status) × HasWhole printed.written now.written)
-    ⊎ ((result ≡ WriteFault) × HasSome printed.written now.written × Rose printed.faults now.faults)
+-- all that was printed stands written, and the status is the run's; or a write failed behind a front of it, and the status says so;
+-- no fault that the run met is forgotten
+pub record PassesOn (printed : SinkTold) (status : Status) (now : SinkTold) (result : Status) : Type 0 where
+  pub ends : ((result ≡ status) × HasWhole printed.written now.written)
+      ⊎ ((result ≡ WriteFault) × HasSome printed.written now.written × Rose printed.faults now.faults)
+  pub no_fall : printed.faults ≤ now.faults
 
 -- the run printed this with this status, and its output has all of it, or a front where a write failed
 pub record EndsSo (ws : List (List ℕ)) (old new : Devices) (result : Status) : Type 0 where

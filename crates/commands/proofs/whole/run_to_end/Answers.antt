@@ -1,4 +1,4 @@
-use Rattle.std.proofs.Common.{◌≡◌, inl, refl, subst, ◌∙◌}
+use Rattle.std.proofs.Common.{◌≡◌, inl, refl, subst, ◌∙◌, arith}
 use Rattle.ports.specs.Content.{SinkTold}
 use Rattle.ports.specs.Gathered.{with_held}
 use Rattle.session.specs.Script.{devices}
@@ -27,7 +27,7 @@ returns-then-is_session g c = record {
     input = c.run-status.ensures.input;
     complete = c.run-status.ensures.complete;
   };
-  ends = inl (refl, whole_same (g.O.Sink.told c.run-status.new.out).written);
+  ends = record { ends = inl (refl, whole_same (g.O.Sink.told c.run-status.new.out).written); no_fall = omega arith };
 }
 
 pub returns : goal.returns
