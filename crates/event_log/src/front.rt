@@ -1,6 +1,6 @@
 // The front of a piece in which no record has more than five fields. A record with more is no row, and to keep it whole
 // would take the memory of a place for each of them.
-ghost use Rattle.std.specs.Prelude.{◌≡◌, ◌<◌, ◌≤◌, ◌+◌, ℕ, length, take, drop, true, false, All};
+ghost use Rattle.std.specs.Prelude.{◌≡◌, ◌<◌, ◌≤◌, ◌+◌, ℕ, length, take, drop, All};
 ghost use Rattle.csv.specs.Machine.{in_field, start_field, start_record, step};
 ghost use Rattle.csv.specs.Reading.{default_config, is_bom, records, strip_bom};
 ghost use Rattle.event_log.specs.Front.{IsFrontOf, ended_after, state_of};
