@@ -1,5 +1,5 @@
 -- Link types and times of packets, and what arranged packets keep of them.
-use Rattle.std.proofs.Common.{◌≡◌, ◌≢◌, ◌<◌, ◌↔◌, ℕ, ℤ, suc, ◌⊎◌, Bool, true, false, List, [], ◌∷◌, length, get_or, All, Any, Contains, pos, ◌≤ℤ◌, ◌<ℤ◌, IsTrue, MatchBool, refl, sym, ◌∙◌, ap, subst, arith, inl, inr, true≢false}
+use Rattle.std.proofs.Common.{◌≡◌, ◌≢◌, ◌<◌, ◌↔◌, ℕ, suc, ◌⊎◌, Bool, true, false, List, [], ◌∷◌, length, get_or, All, Any, Contains, pos, ◌≤ℤ◌, ◌<ℤ◌, IsTrue, MatchBool, refl, sym, ◌∙◌, ap, subst, arith, inl, inr, true≢false}
 use Rattle.std.proofs.lemmas.Bool.{cases_lt}
 use Rattle.std.proofs.lemmas.Int.{by_lt_z}
 use Rattle.std.proofs.lemmas.List.{get_or-map, length-map}
