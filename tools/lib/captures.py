@@ -113,7 +113,10 @@ class Blocks:
         found: dict[int, bytes] = {}
         while at + 4 <= len(data):
             code, length = struct.unpack_from(f"{self.order}HH", data, at)
-            if code == 0 or at + 4 + length > len(data):
+            if code == 0:
+                break
+            if at + 4 + length > len(data):
+                self.found.odd.append(f"the block at byte {self.at} has an option that is cut")
                 break
             found.setdefault(code, data[at + 4 : at + 4 + length])
             at += 4 + (length + 3) // 4 * 4
