@@ -254,16 +254,16 @@ def added(count: int) -> str:
 
 
 def long_inputs(room: Room) -> None:
-    """A file of over 1 MiB and a script of over 64 KiB are read whole."""
+    """A file of over 1 MiB and a script of over 64 KiB are read whole, also where few bytes come at a time."""
     logs(room)
     count = 80_000
     room.write("long.csv", long_log(count))
-    questions = [(k * 7919 % count + 1, k * 104729 % count + 1) for k in range(3_000)]
-    script = "add a long.csv\n" + "".join(f"interval a#{p} a#{q}\n" for p, q in questions)
-    want = added(count) + "".join(f"interval {(q - p) * 10}.000000000 {(q - p) * 10}.000000000\n" for p, q in questions)
+    asked = [k * 7919 % count + 1 for k in range(4_000)]
+    script = "add a long.csv\nkeep a#1\n" + "".join(f"interval a#1 a#{k}\n" for k in asked)
+    ends = [f"{(k - 1) * 10}.000000000" for k in asked]
+    want = added(count) + "kept 1\n" + "".join(f"interval {end} {end}\n" for end in ends)
     agree(room.run(["session", "hosts.toml"], script), 0, want)
-    cut = room.run(["session", "hosts.toml"], script, short=7)
-    agree(cut, 0, want)
+    agree(room.run(["session", "hosts.toml"], script, short=1021), 0, want)
 
 
 def piped_files(room: Room) -> None:
