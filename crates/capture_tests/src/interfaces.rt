@@ -116,8 +116,11 @@ fn shifted_stamp(
     let first = shifted_interface(big, seconds[0]);
     let second = shifted_interface(big, seconds[1]);
     let packet = packet(big, interface, time);
-    let section: &[u8] = if big { &BIG_SECTION } else { &CAPTURE[..28] };
-    let pieces: [&[u8]; 4] = [section, &first, &second, &packet];
+    if big {
+        let pieces: [&[u8]; 4] = [&BIG_SECTION, &first, &second, &packet];
+        return stamp_in(alloc, &pieces);
+    }
+    let pieces: [&[u8]; 4] = [&CAPTURE[..28], &first, &second, &packet];
     stamp_in(alloc, &pieces)
 }
 

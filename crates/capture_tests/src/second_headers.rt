@@ -1,8 +1,8 @@
 // Classic captures that were put one behind the other: the second header is refused.
-ghost use Rattle.std.specs.Prelude.{◌≤◌};
+ghost use Rattle.std.specs.Prelude.{◌≤◌, length};
 
 use pcapng_stream::{CaptureError, CaptureStream};
-use std::alloc::Global;
+use std::alloc::{AllocError, Global};
 use std::test::*;
 
 // How many bytes each of the captures has, and so the place of a second header behind it.
@@ -36,12 +36,13 @@ const CAPTURES: [[u8; 62]; 4] = [
 ];
 
 // The capture twice in a row, with this byte wherever the time zone and the accuracy stand in the second header.
-fn twice(capture: &[u8; 62], byte: u8) -> [u8; 124] {
-    let mut bytes = [byte; 124];
-    bytes[..SIZE].copy_from_slice(capture);
-    bytes[SIZE..70].copy_from_slice(&capture[..8]);
-    bytes[SECOND_HEAD..].copy_from_slice(&capture[16..]);
-    bytes
+fn twice(alloc: Global, capture: &[u8; 62], byte: u8) -> Result<Vec<u8>, AllocError> {
+    let mut bytes = Vec::new(alloc);
+    bytes.extend_from_slice(capture)?;
+    bytes.extend_from_slice(&capture[..8])?;
+    bytes.extend_from_slice(&[byte; 8])?;
+    bytes.extend_from_slice(&capture[16..])?;
+    Ok(bytes)
 }
 
 // Whether a second header is the fault.
@@ -62,8 +63,8 @@ fn packets_at(cut: usize) -> usize {
 }
 
 // Whether the bytes, cut here, are refused as soon as the first 16 bytes of the second header are there, with no other packets.
-fn is_refused_when_cut(alloc: Global, bytes: &[u8; 124], cut: usize) -> bool
-    requires { cut ≤ 124 }
+fn is_refused_when_cut(alloc: Global, bytes: &[u8], cut: usize) -> bool
+    requires { cut ≤ length bytes.now }
 {
     let (first, second) = bytes.split_at(cut);
     let mut packets = Vec::new(alloc);
@@ -75,13 +76,15 @@ fn is_refused_when_cut(alloc: Global, bytes: &[u8; 124], cut: usize) -> bool
 }
 
 #[test]
-fn cut_anywhere(rt: HostRuntime) {
+fn cut_anywhere(rt: HostRuntime) -> Result<(), Fail> {
     for capture in CAPTURES.iter() {
         for byte in [0, 0xff] {
-            let bytes = twice(capture, byte);
-            for cut in 0..=124 {
+            let bytes = twice(rt.alloc(), capture, byte)?;
+            assert_eq!(rt; bytes.len(), 2 * SIZE);
+            for cut in 0..=bytes.len() {
                 assert!(rt; is_refused_when_cut(rt.alloc(), &bytes, cut), "at {cut}");
             }
         }
     }
+    Ok(())
 }
