@@ -2,9 +2,12 @@
 
 import os
 from collections import Counter
+from collections.abc import Iterable, Mapping, Sequence
 from typing import NamedTuple
 
-from rust_text import Unreadable, end_of_angles, is_group, is_operand_next, is_word, text_of, trees_of, words_in
+from rust_text import (
+    Group, Tree, Unreadable, end_of_angles, is_group, is_operand_next, is_word, text_of, trees_in, trees_of, words_in,
+)
 
 MEMORY, COUNTERS, ARCS = "want of memory", "counters of steps", "arcs read without a step"
 KINDS = (MEMORY, COUNTERS, ARCS)
@@ -28,7 +31,7 @@ class Place(NamedTuple):
     text: str
 
 
-def end_of_pattern(trees, at):
+def end_of_pattern(trees: Sequence[Tree], at: int) -> int:
     """Returns the place of the `=` behind the pattern and the type of a `let`, or of the end where it has no value."""
     depth = 0
     for place in range(at + 1, len(trees)):
@@ -39,13 +42,13 @@ def end_of_pattern(trees, at):
     return len(trees)
 
 
-def place_of(trees, wanted, at, end=None):
+def place_of(trees: Sequence[Tree], wanted: str, at: int, end: int | None = None) -> int:
     """Returns the first place of a sign or word from a place on, or the end."""
     end = len(trees) if end is None else end
     return next((place for place in range(at, end) if trees[place] == wanted), end)
 
 
-def group_behind(trees, at):
+def group_behind(trees: Sequence[Tree], at: int) -> int | None:
     """Returns the place of the braces behind the head of an `if`, a loop or a `match`, or None where there are none."""
     place = place_of(trees, "in", at) if trees[at] == "for" else at + 1
     while place < len(trees):
@@ -57,25 +60,22 @@ def group_behind(trees, at):
     return None
 
 
-def path_at(trees, at):
+def path_at(trees: Sequence[Tree], at: int) -> tuple[list[str], int]:
     """Returns the names of the path that begins at a place, without arguments of types, and the place behind it."""
-    names = []
-    if trees[at] == "<":
-        behind = end_of_angles(trees, at)
-        names, at = list(words_in(trees[at:behind])), behind
-    else:
-        names, at = [trees[at]], at + 1
+    behind = end_of_angles(trees, at) if trees[at] == "<" else at + 1
+    names, at = list(words_in(trees[at:behind])), behind
     while at + 1 < len(trees) and trees[at] == "::":
-        if trees[at + 1] == "<":
+        after = trees[at + 1]
+        if after == "<":
             at = end_of_angles(trees, at + 1)
-        elif is_word(trees[at + 1]):
-            names, at = [*names, trees[at + 1]], at + 2
+        elif is_word(after):
+            names, at = [*names, after], at + 2
         else:
             break
     return names, at
 
 
-def is_item(trees, at):
+def is_item(trees: Sequence[Tree], at: int) -> bool:
     """Whether an item begins at a place among statements."""
     after = trees[at + 1] if at + 1 < len(trees) else None
     if not isinstance(trees[at], str) or trees[at] not in ITEMS or after is None:
@@ -86,7 +86,7 @@ def is_item(trees, at):
 class Aliases:
     """Other names that `use .. as` and `type` give to what is looked for, in any file."""
 
-    def __init__(self, files):
+    def __init__(self, files: Iterable[Sequence[Tree]]) -> None:
         self.failures, self.variants, self.counting = set(FAILURES), set(VARIANTS), set(COUNTING)
         known = 0
         while known < self.known():
@@ -94,12 +94,12 @@ class Aliases:
             for trees in files:
                 self.look_through(trees)
 
-    def known(self):
+    def known(self) -> int:
         return len(self.failures) + len(self.variants) + len(self.counting)
 
-    def look_through(self, trees):
+    def look_through(self, trees: Sequence[Tree]) -> None:
         for place, tree in enumerate(trees):
-            if hasattr(tree, "trees"):
+            if isinstance(tree, Group):
                 self.look_through(tree.trees)
             elif tree == "as" and 0 < place < len(trees) - 1:
                 self.note(trees[place - 1], trees[place + 1])
@@ -108,7 +108,7 @@ class Aliases:
                 if value < len(trees) and is_word(trees[value]):
                     self.note(path_at(trees, value)[0][-1], trees[place + 1])
 
-    def note(self, name, other):
+    def note(self, name: Tree, other: Tree) -> None:
         for known in (self.failures, self.variants, self.counting):
             if name in known and is_word(other) and other != "_":
                 known.add(other)
@@ -117,30 +117,32 @@ class Aliases:
 class Context(NamedTuple):
     """Where the walk is: the modules and functions around, the type of the `impl`, and the heads of the blocks."""
 
-    names: tuple = ()
+    names: tuple[str, ...] = ()
     own: str = ""
-    heads: tuple = ()
+    heads: tuple[str, ...] = ()
 
-    def under(self, *heads):
+    def under(self, *heads: str) -> "Context":
         return self._replace(heads=(*self.heads, *(it for it in heads if it)))
 
 
 class Walk:
     """Finds the places of one file."""
 
-    def __init__(self, file, aliases):
-        self.file, self.aliases, self.found = file, aliases, []
+    def __init__(self, file: str, aliases: Aliases) -> None:
+        self.file, self.crate, self.aliases = file, file.split("/")[0], aliases
+        self.found: list[Place] = []
         # Functions of no type that take no counter, what the file imports, and what may be a call of such a function.
-        self.uncounted, self.imported, self.named = set(), set(), []
-        self.crate = file.split("/")[0]
+        self.uncounted: set[str] = set()
+        self.imported: set[tuple[str, str]] = set()
+        self.named: list[tuple[Place, list[str]]] = []
 
-    def note(self, kind, context, statement):
+    def note(self, kind: str, context: Context, statement: str) -> None:
         self.found.append(self.place(kind, context, statement))
 
-    def place(self, kind, context, statement):
+    def place(self, kind: str, context: Context, statement: str) -> Place:
         return Place(kind, self.file, "::".join(context.names) or OUTSIDE, " > ".join((*context.heads, statement)))
 
-    def named_readers(self, readers):
+    def named_readers(self, readers: set[tuple[str, str]]) -> list[Place]:
         """Returns the places that name one of these functions, which are given by their files and names."""
         anywhere = {(file, name.split("::")[-1]) for file, name in readers}
         here = {name for file, name in anywhere if file == self.file or (file.split("/")[0], name) in self.imported}
@@ -152,13 +154,13 @@ class Walk:
 
     # Items
 
-    def items(self, trees, context):
+    def items(self, trees: Sequence[Tree], context: Context) -> None:
         """Walks through the items of a file, module, trait or `impl`."""
         at = 0
         while at < len(trees):
             at = self.item(trees, at, context)
 
-    def item(self, trees, at, context):
+    def item(self, trees: Sequence[Tree], at: int, context: Context) -> int:
         """Walks through the item that begins at a place, and returns the place behind it."""
         word, after = trees[at], trees[at + 1] if at + 1 < len(trees) else ";"
         if word == "#":
@@ -181,31 +183,26 @@ class Walk:
             return at + 1
         return self.other_item(trees, at, context)
 
-    def constant(self, trees, at, context):
+    def constant(self, trees: Sequence[Tree], at: int, context: Context) -> int:
         """Walks through the value of a constant."""
         end = place_of(trees, ";", at)
         inner = context._replace(names=(*context.names, f"{trees[at]} {trees[at + 1]}"))
         self.block(trees[end_of_pattern(trees, at) + 1 : end], inner)
         return end + 1
 
-    def other_item(self, trees, at, context):
+    def other_item(self, trees: Sequence[Tree], at: int, context: Context) -> int:
         """Walks through what is no known item, as code."""
         end = self.end_of_type(trees, at)
         self.block(trees[at:end], context)
         return end
 
-    def end_of_type(self, trees, at):
+    def end_of_type(self, trees: Sequence[Tree], at: int) -> int:
         """Returns the place behind the braces or the `;` of a struct or an enum, whose variants are no values."""
-        end = at
-        while end < len(trees) and trees[end] != ";" and not is_group(trees[end]):
-            end += 1
-        return end + 1
+        return end_of_head(trees, at) + 1
 
-    def scope(self, trees, at, context):
+    def scope(self, trees: Sequence[Tree], at: int, context: Context) -> int:
         """Walks through an `impl`, a trait, a module or a macro."""
-        body = at + 1
-        while body < len(trees) and not is_group(trees[body]) and trees[body] != ";":
-            body += 1
+        body = end_of_head(trees, at + 1)
         if body == len(trees) or trees[body] == ";":
             return body + 1
         head = trees[at + 1 : body]
@@ -214,24 +211,22 @@ class Walk:
         else:
             name = own = next((it for it in head if is_word(it)), "")
         inner = Context((*context.names, name), own)
-        (self.block if trees[at] == "macro_rules" else self.items)(trees[body].trees, inner)
+        (self.block if trees[at] == "macro_rules" else self.items)(trees_in(trees[body]), inner)
         return body + 1
 
-    def function(self, trees, at, context):
+    def function(self, trees: Sequence[Tree], at: int, context: Context) -> int:
         """Walks through the body of a function."""
-        body = at + 1
-        while body < len(trees) and not is_group(trees[body]) and trees[body] != ";":
-            body += 1
-        names = (*context.names, trees[at + 1])
+        body = end_of_head(trees, at + 1)
+        names = (*context.names, text_of(trees[at + 1 : at + 2]))
         if not context.own and not self.aliases.counting & set(words_in(trees[at:body])):
             self.uncounted.add("::".join(names))
-        if body < len(trees) and is_group(trees[body]):
-            self.block(trees[body].trees, Context(names, context.own))
+        if body < len(trees):
+            self.block(trees_in(trees[body]), Context(names, context.own))
         return body + 1
 
     # Code
 
-    def block(self, trees, context):
+    def block(self, trees: Sequence[Tree], context: Context) -> None:
         """Walks through statements, or the fields of a value."""
         at = 0
         while at < len(trees):
@@ -245,9 +240,11 @@ class Walk:
                 self.code(statement, context, text_of(statement))
                 at = end + (end < len(trees) and trees[end] in (";", ","))
 
-    def code(self, trees, context, statement):
+    def code(self, trees: Sequence[Tree], context: Context, statement: str) -> None:
         """Walks through what is no more than one statement."""
-        at, before, chain = 0, None, ()
+        before: Tree | None = None
+        chain: tuple[str, ...] = ()
+        at = 0
         while at < len(trees):
             tree = trees[at]
             head = group_behind(trees, at) if tree in HEADS else None
@@ -258,27 +255,29 @@ class Walk:
                 continue
             if tree == "else" and at + 1 < len(trees) and is_group(trees[at + 1]):
                 heads = chain or (text_of(trees[: at + 1]),)
-                self.block(trees[at + 1].trees, context.under(*heads))
+                self.block(trees_in(trees[at + 1]), context.under(*heads))
                 at += 1
             elif is_group(tree):
                 self.block(tree.trees, context.under(text_of(trees[:at])))
-            elif hasattr(tree, "trees"):
+            elif isinstance(tree, Group):
                 self.code(tree.trees, context, statement)
             elif tree == "let":
                 at = end_of_pattern(trees, at)
             elif tree in ("|", "||") and is_operand_next(before):
                 at = self.end_of_parameters(trees, at) - 1
             elif tree == "matches" and at + 2 < len(trees) and trees[at + 1] == "!":
-                self.matched(trees[at + 2].trees, context, statement)
+                self.matched(trees_in(trees[at + 2]), context, statement)
                 at += 2
             elif is_word(tree) or tree == "<" and is_operand_next(before):
                 at = self.path(trees, at, before, context, statement) - 1
             before = trees[at] if at < len(trees) else None
             at += 1
 
-    def headed(self, trees, at, head, context, chain):
+    def headed(
+        self, trees: Sequence[Tree], at: int, head: int, context: Context, chain: tuple[str, ...]
+    ) -> tuple[str, ...]:
         """Walks through an `if`, a loop or a `match`, and returns what an `else` behind it stands for."""
-        text, inner = text_of(trees[at:head]), trees[head].trees
+        text, inner = text_of(trees[at:head]), trees_in(trees[head])
         start = place_of(trees, "in", at, head) if trees[at] == "for" else at
         self.code(trees[start + 1 : head], context.under(*chain), text)
         if trees[at] == "match" and "=>" in inner:
@@ -287,7 +286,7 @@ class Walk:
             self.block(inner, context.under(*chain, text))
         return (*chain, f"else of {text}")
 
-    def arms(self, trees, context, head):
+    def arms(self, trees: Sequence[Tree], context: Context, head: str) -> None:
         """Walks through the arms of a `match`: left of each `=>` is a pattern, but for what stands behind an `if`."""
         at = 0
         while at < len(trees):
@@ -300,19 +299,19 @@ class Walk:
             end = arrow + 2
             goes_on = end < len(trees) and trees[end] in (".", "?")
             if arrow + 1 < len(trees) and is_group(trees[arrow + 1]) and not goes_on:
-                self.block(trees[arrow + 1].trees, inner)
+                self.block(trees_in(trees[arrow + 1]), inner)
             else:
                 end = end_of_arm(trees, arrow + 1)
                 self.code(trees[arrow + 1 : end], inner, text_of(trees[arrow + 1 : end]))
             at = end + (end < len(trees) and trees[end] == ",")
 
-    def matched(self, trees, context, statement):
+    def matched(self, trees: Sequence[Tree], context: Context, statement: str) -> None:
         """Walks through what `matches!` is given: a value, a pattern, and what stands behind an `if`."""
         comma = place_of(trees, ",", 0)
         self.code(trees[:comma], context, statement)
         self.code(trees[place_of(trees, "if", comma) + 1 :], context, statement)
 
-    def end_of_parameters(self, trees, at):
+    def end_of_parameters(self, trees: Sequence[Tree], at: int) -> int:
         """Returns the place behind the parameters of a closure, and the type of its answer."""
         end = at + 1 if trees[at] == "||" else place_of(trees, "|", at + 1) + 1
         if end < len(trees) and trees[end] == "->":
@@ -320,7 +319,7 @@ class Walk:
                 end += 1
         return end
 
-    def path(self, trees, at, before, context, statement):
+    def path(self, trees: Sequence[Tree], at: int, before: Tree | None, context: Context, statement: str) -> int:
         """Notes what the path at a place is, and returns the place behind it."""
         names, end = path_at(trees, at)
         if before == ".":
@@ -339,7 +338,14 @@ class Walk:
         return end
 
 
-def end_of_statement(trees, at):
+def end_of_head(trees: Sequence[Tree], at: int) -> int:
+    """Returns the place of the braces or the `;` behind the head of an item, or the end."""
+    while at < len(trees) and trees[at] != ";" and not is_group(trees[at]):
+        at += 1
+    return at
+
+
+def end_of_statement(trees: Sequence[Tree], at: int) -> int:
     """Returns the place of the `;` or `,` behind a statement, or behind its last braces where it needs none."""
     before = None
     while at < len(trees):
@@ -363,14 +369,14 @@ def end_of_statement(trees, at):
     return len(trees)
 
 
-def begins_angles(trees, at, before):
+def begins_angles(trees: Sequence[Tree], at: int, before: Tree | None) -> bool:
     """Whether brackets with types begin at a place, or behind the `::` there."""
     if trees[at] == "::":
         return at + 1 < len(trees) and trees[at + 1] == "<"
     return trees[at] == "<" and is_operand_next(before)
 
 
-def goes_no_further(trees, at):
+def goes_no_further(trees: Sequence[Tree], at: int) -> bool:
     """Whether a statement ends where braces did: a word or a bracket stands there, and no `else`."""
     if at == len(trees):
         return False
@@ -378,7 +384,7 @@ def goes_no_further(trees, at):
     return not isinstance(after, str) or (is_word(after) or after[0] in "'#*") and after not in ("else", "as")
 
 
-def end_of_arm(trees, at):
+def end_of_arm(trees: Sequence[Tree], at: int) -> int:
     """Returns the place of the `,` behind the right side of an arm."""
     before = None
     while at < len(trees) and trees[at] != ",":
@@ -391,7 +397,7 @@ def end_of_arm(trees, at):
     return at
 
 
-def name_of_impl(head):
+def name_of_impl(head: Sequence[Tree]) -> tuple[str, str]:
     """Returns the name of an `impl` and the type that it is of, by what stands before its braces."""
     at = end_of_angles(head, 0) if head and head[0] == "<" else 0
     head = head[at : place_of(head, "where", at)]
@@ -402,7 +408,7 @@ def name_of_impl(head):
     return (f"<{text_of(own)} as {text_of(head[:parted])}>" if parted < len(head) else plain), plain
 
 
-def paths_of(top):
+def paths_of(top: str) -> dict[str, str]:
     """Returns the path of each file of code by its crate and name; crates of tests are left out."""
     paths = {}
     for crate in sorted(os.listdir(f"{top}/crates")):
@@ -414,7 +420,7 @@ def paths_of(top):
     return dict(sorted(paths.items()))
 
 
-def files_of(top):
+def files_of(top: str) -> dict[str, list[Tree]]:
     """Returns the trees of each file of code."""
     files = {}
     for file, path in paths_of(top).items():
@@ -426,7 +432,7 @@ def files_of(top):
     return files
 
 
-def places_of(files):
+def places_of(files: Mapping[str, Sequence[Tree]]) -> Counter[Place]:
     """Returns how often each place stands in these files."""
     aliases = Aliases(files.values())
     walks = [Walk(file, aliases) for file in files]
@@ -436,11 +442,12 @@ def places_of(files):
     return Counter(found) + Counter(named_readers(walks, [it for it in found if it.kind == ARCS]))
 
 
-def named_readers(walks, found):
+def named_readers(walks: Sequence[Walk], found: Iterable[Place]) -> list[Place]:
     """Returns the places that name a function that reads arcs itself, or by such a function, and takes no counter."""
     uncounted = {(walk.file, name) for walk in walks for name in walk.uncounted}
-    readers, more = set(), {(it.file, it.function) for it in found} & uncounted
-    named = []
+    more = {(it.file, it.function) for it in found} & uncounted
+    readers: set[tuple[str, str]] = set()
+    named: list[Place] = []
     while more > readers:
         readers = more
         named = [place for walk in walks for place in walk.named_readers(readers)]
@@ -451,13 +458,14 @@ def named_readers(walks, found):
 class Entry(NamedTuple):
     """What the list says of a place: how often it stands there, and why it may, in the words of one who looked."""
 
-    count: int
+    times: int
     reason: str
 
 
-def list_of(lines):
+def list_of(lines: Iterable[str]) -> dict[Place, Entry]:
     """Returns the entries of a list by their places; of a line that is of no form it says which."""
-    entries, kind, file, function, text = {}, "", "", "", ""
+    entries: dict[Place, Entry] = {}
+    kind, file, function, text = "", "", "", ""
     for number, line in enumerate(lines, 1):
         body = line.strip()
         blanks = len(line) - len(line.lstrip())
@@ -470,16 +478,16 @@ def list_of(lines):
         elif blanks == 2:
             text = body
         elif blanks == 4 and body.partition(":")[0].isdigit():
-            count, _, reason = body.partition(":")
-            entries[Place(kind, file, function, text)] = Entry(int(count), reason.strip())
+            times, _, reason = body.partition(":")
+            entries[Place(kind, file, function, text)] = Entry(int(times), reason.strip())
         else:
             raise Unreadable(f"line {number} of the list is of no form that it has")
     return entries
 
 
-def lines_of(counts, entries):
+def lines_of(counts: Mapping[Place, int], entries: Mapping[Place, Entry]) -> list[str]:
     """Returns the lines of a list of these places, with the reasons that other entries have for them."""
-    lines = []
+    lines: list[str] = []
     for kind in KINDS:
         lines += ["", f"== {kind}"]
         before = None
@@ -492,7 +500,7 @@ def lines_of(counts, entries):
     return lines
 
 
-def differences(counts, entries):
+def differences(counts: Mapping[Place, int], entries: Mapping[Place, Entry]) -> list[str]:
     """Returns a line for each place that the list has otherwise than the code."""
     said = []
     for place in sorted({*counts, *entries}):
@@ -500,8 +508,8 @@ def differences(counts, entries):
             why = "new"
         elif place not in counts:
             why = "gone"
-        elif counts[place] != entries[place].count:
-            why = f"{counts[place]} times in place of {entries[place].count}"
+        elif counts[place] != entries[place].times:
+            why = f"{counts[place]} times in place of {entries[place].times}"
         elif not entries[place].reason:
             why = "no reason is written"
         else:

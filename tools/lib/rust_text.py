@@ -5,6 +5,8 @@ A tree is a word, a sign or a text in quotes as it stands, or a Group. What a co
 """
 
 import re
+from collections.abc import Iterable, Iterator, Sequence
+from typing import TypeGuard, Union
 
 TOKEN = re.compile(
     r"""(?P<gap>\s+|//[^\n]*)
@@ -27,19 +29,22 @@ class Unreadable(Exception):
 class Group:
     """What stands between two brackets."""
 
-    def __init__(self, opening, trees):
+    def __init__(self, opening: str, trees: list["Tree"]) -> None:
         self.opening, self.trees = opening, trees
 
 
-def is_group(tree, opening="{"):
+Tree = Union[str, Group]
+
+
+def is_group(tree: Tree | None, opening: str = "{") -> TypeGuard[Group]:
     return isinstance(tree, Group) and tree.opening == opening
 
 
-def is_word(tree):
+def is_word(tree: Tree | None) -> TypeGuard[str]:
     return isinstance(tree, str) and (tree[0].isalpha() or tree[0] == "_") and '"' not in tree and "'" not in tree
 
 
-def end_of_comment(text, at):
+def end_of_comment(text: str, at: int) -> int:
     """Returns where a comment between signs ends; such comments may stand in one another."""
     depth = 0
     for found in re.compile(r"/\*|\*/").finditer(text, at):
@@ -49,7 +54,7 @@ def end_of_comment(text, at):
     raise Unreadable("a comment has no end")
 
 
-def end_of_ghost(text, at, is_clause):
+def end_of_ghost(text: str, at: int, is_clause: bool) -> int:
     """Returns where a clause ends, at the end of its braces, or an item or field, at a `;` or `,` outside of them."""
     depth = 0
     for found in re.compile(r"//[^\n]*|[{};,]").finditer(text, at):
@@ -62,11 +67,13 @@ def end_of_ghost(text, at, is_clause):
     raise Unreadable("a ghost clause has no end")
 
 
-def tokens_of(text):
+def tokens_of(text: str) -> list[str]:
     """Returns the words, signs and texts of the code."""
-    tokens, at = [], 0
+    tokens: list[str] = []
+    at = 0
     while at < len(text):
         found = TOKEN.match(text, at)
+        assert found, "each character is a sign, if nothing else"
         kind, token, before = found.lastgroup, found[0], tokens[-1] if tokens else ";"
         at = found.end()
         if kind == "comment":
@@ -80,12 +87,12 @@ def tokens_of(text):
     return tokens
 
 
-def ends_type(token):
+def ends_type(token: str) -> bool:
     """Whether this may be the last word or sign of a signature, or of the parameters of a closure."""
     return token in (")", "]", ">", "|", "||", "}") or (is_word(token) or token[0] == "'") and token not in BEFORE_NAMES
 
 
-def trees_of(text):
+def trees_of(text: str) -> list[Tree]:
     """Returns the trees of a text."""
     open_groups = [Group("", [])]
     for token in tokens_of(text):
@@ -103,7 +110,7 @@ def trees_of(text):
     return open_groups[0].trees
 
 
-def end_of_angles(trees, at):
+def end_of_angles(trees: Sequence[Tree], at: int) -> int:
     """Returns the place behind the bracket `>` that closes the one at a place, or the next place if none does."""
     depth = 0
     for place in range(at, len(trees)):
@@ -114,7 +121,12 @@ def end_of_angles(trees, at):
     return at + 1
 
 
-def words_in(trees):
+def trees_in(tree: Tree) -> list[Tree]:
+    """Returns the trees of a group, and none of a word or sign."""
+    return tree.trees if isinstance(tree, Group) else []
+
+
+def words_in(trees: Iterable[Tree]) -> Iterator[str]:
     """Returns all words of trees, also those in their groups."""
     for tree in trees:
         if isinstance(tree, Group):
@@ -130,7 +142,7 @@ UNARY = {"&", "*", "-", "!"}
 OPERAND_BEHIND = {"if", "while", "for", "match", "return", "break", "in", "else", "move", "let", "mut", "loop", "as"}
 
 
-def is_operand_next(before):
+def is_operand_next(before: Tree | None) -> bool:
     """Whether an operand begins behind this tree; None stands for the begin of a statement."""
     if before is None:
         return True
@@ -143,10 +155,11 @@ def is_operand_next(before):
 class Line:
     """A line that grows by words, signs and groups, with blanks where a reader expects them."""
 
-    def __init__(self):
-        self.text, self.before, self.is_tight, self.depth, self.is_in_parameters = "", None, True, 0, False
+    def __init__(self) -> None:
+        self.text, self.is_tight, self.depth, self.is_in_parameters = "", True, 0, False
+        self.before: Tree | None = None
 
-    def add(self, tree):
+    def add(self, tree: Tree) -> None:
         is_first = is_operand_next(self.before)
         if isinstance(tree, Group):
             self.put(group_text(tree), tree.opening != "{" and not is_first, False)
@@ -167,16 +180,16 @@ class Line:
             self.put(tree, is_tight, tree in TIGHT_BEHIND or tree in UNARY and is_first)
         self.before = tree
 
-    def put(self, shown, is_tight_before, is_tight_behind):
+    def put(self, shown: str, is_tight_before: bool, is_tight_behind: bool) -> None:
         self.text += shown if self.is_tight or is_tight_before else f" {shown}"
         self.is_tight = is_tight_behind
 
 
-def group_text(group):
+def group_text(group: Group) -> str:
     return "{..}" if group.opening == "{" else f"{group.opening}{text_of(group.trees)}{CLOSING[group.opening]}"
 
 
-def text_of(trees):
+def text_of(trees: Sequence[Tree]) -> str:
     """Returns one line for trees, the same for each layout; `{..}` stands for braces and all that is in them."""
     line = Line()
     for tree in trees[:-1] if trees and trees[-1] == "," else trees:
