@@ -20,7 +20,10 @@ HOSTS = "".join(
     f'[labels.{name}]\nhost = "{name}"\nkind = "capture"\n'
     for name, address in PAIR
 )
-LINKS = "".join(f'[[links]]\nfrom = "{one}"\nto = "{other}"\nleast = 1\n' for one, other in (("left", "right"), ("right", "left")))
+LINKS = "".join(
+    f'[[links]]\nfrom = "{one}"\nto = "{other}"\nleast = 1\n'
+    for one, other in (("left", "right"), ("right", "left"))
+)
 
 
 @dataclass(frozen=True)
@@ -48,7 +51,9 @@ def datagram(number: int, is_back: bool, tail: bytes) -> bytes:
 
 
 def write_large(megabytes: int, size: int, is_pcapng: bool, folder: str) -> tuple[list[str], int]:
-    """Writes a capture of frames without a key as whole.pcap, and its pieces, cut wherever they end; their paths, and its packets."""
+    """Writes a capture of frames without a key as whole.pcap, and its pieces, cut wherever they end.
+
+    Returns the paths of the pieces, and the packets of the capture."""
     around = AROUND_BLOCK if is_pcapng else AROUND_RECORD
     count = megabytes * 10**6 // (around + size)
     payload, held = without_key(size), bytearray(SECTION + INTERFACE if is_pcapng else classic_head())
@@ -67,8 +72,9 @@ def write_large(megabytes: int, size: int, is_pcapng: bool, folder: str) -> tupl
 def write_pair(megabytes: int, size: int, has_keys: bool, folder: str) -> tuple[list[str], int]:
     """Writes left.pcap and right.pcap; their paths, and the packets of each.
 
-    Every packet stands in both: it goes from left to right or back, in turn, one each 10 us, and arrives 2 to 5 us after it was
-    sent. With keys the frames are datagrams that have other first bytes each, so that each is a message."""
+    Every packet stands in both: it goes from left to right or back, in turn, one each 10 us, and arrives 2 to 5 us
+    after it was sent. With keys the frames are datagrams that have other first bytes each, so that each is a
+    message."""
     count = megabytes * 10**6 // (AROUND_RECORD + size)
     tail, plain = body(size - 50), without_key(size)
     paths = [f"{folder}/{name}.pcap" for name, _ in PAIR]
@@ -85,7 +91,8 @@ def write_pair(megabytes: int, size: int, has_keys: bool, folder: str) -> tuple[
 
 
 class Captures:
-    """A session that adds one large capture in pieces of 128 MiB, beside capinfos, which counts the packets of the same bytes."""
+    """A session that adds one large capture in pieces of 128 MiB, beside capinfos, which counts the packets of the
+    same bytes."""
 
     head = ("MB", "frame, bytes", "packets", "tracesync, s", "capinfos, s", "tracesync, KiB")
 
@@ -113,8 +120,8 @@ class Captures:
 
 
 class Mergecap:
-    """`mergecap` beside Wireshark's program of this name, over the same two captures. Each writes its output to a file, and both
-    outputs must have as many packets as the two captures, by capinfos."""
+    """`mergecap` beside Wireshark's program of this name, over the same two captures. Each writes its output to a file,
+    and both outputs must have as many packets as the two captures, by capinfos."""
 
     head = ["MB each", "frame, bytes", "packets", "keys"]
     head += [f"{it}, {what}" for it in ("tracesync", "Wireshark") for what in ("wall s", "processor s", "KiB")]

@@ -15,8 +15,9 @@ from support.program import TOP, program, read, write  # noqa: E402
 from support.timing import Run, in_turn, least, peak_of, run  # noqa: E402
 
 __all__ = [
-    "BENCH", "MOST_EVENTS", "OUT", "TOP", "Run", "beside", "compiled", "fail", "generated", "in_turn", "kib", "least", "milliseconds",
-    "output", "peak_of", "program", "quotient", "read", "run", "same_answer", "table_head", "table_row", "want_status", "write",
+    "BENCH", "MOST_EVENTS", "OUT", "TOP", "Run", "beside", "compiled", "fail", "generated", "in_turn", "kib", "least",
+    "milliseconds", "output", "peak_of", "program", "quotient", "read", "run", "same_answer", "table_head", "table_row",
+    "want_status", "write",
 ]  # fmt: skip
 
 BENCH, OUT = f"{TOP}/bench", f"{TOP}/bench/out"
@@ -41,8 +42,8 @@ def compiled(name: str) -> str:
 def generated(count: int, form: str = "", folder: str = OUT, alone: int = 10) -> str:
     """Writes a problem of generate.py in one of its forms; its path without `.problem`."""
     os.makedirs(folder, exist_ok=True)
-    words = [f"--{form}"] if form else []
-    subprocess.run([sys.executable, f"{BENCH}/generate.py", *words, "--alone", str(alone), str(count), folder], check=True)
+    words = [*([f"--{form}"] if form else []), "--alone", str(alone), str(count), folder]
+    subprocess.run([sys.executable, f"{BENCH}/generate.py", *words], check=True)
     return f"{folder}/{count}" + (f"-{form}" if form not in ("", "problem") else "")
 
 
@@ -52,7 +53,9 @@ def output(name: str) -> str:
 
 
 def beside(count: int, commands: Mapping[str, Sequence[str]], script: str = os.devnull) -> dict[str, Run]:
-    """Runs commands by their names in turn, so many times each: what each takes at least. What each printed stands in its output."""
+    """Runs commands by their names in turn, so many times each: what each takes at least.
+
+    What each printed stands in its output."""
     os.makedirs(OUT, exist_ok=True)
 
     def once(name: str) -> Run:

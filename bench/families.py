@@ -47,7 +47,8 @@ def put(name: str, content: bytes | str) -> str:
 
 def problem(lines: Iterable[str], version: int = 1) -> Words:
     """`solve` of a problem with these lines."""
-    return ["solve", put("it", f"problem {version}\n" + "".join(f"{it}\n" for it in lines) + "end\n")], put("script", "")
+    text = f"problem {version}\n" + "".join(f"{it}\n" for it in lines) + "end\n"
+    return ["solve", put("it", text)], put("script", "")
 
 
 def session(declaration: str, script: Iterable[str]) -> Words:
@@ -109,7 +110,8 @@ def by_halves(n: int) -> Iterator[int]:
 
 
 def obeyed(n: int, places: Iterable[int], stamped: Sequence[int]) -> Words:
-    """`obey` of a chain whose follows stand in this order, with an event on each of these clocks, and times with gaps of 1 ns."""
+    """`obey` of a chain whose follows stand in this order, with an event on each of these clocks, and times with gaps
+    of 1 ns."""
     events = [f"event e{at} {at}.000000000" for at in stamped]
     readings = [f"reading c{at} 0 {at}.000000000" for at in stamped]
     put("times", "".join(f"{it}\n" for it in ["execution 1", *events, *readings, "end"]))
@@ -135,8 +137,8 @@ def chain_of_two_events(n: int) -> Words:
 
 
 def cycle_of_follows(n: int) -> Words:
-    """`verify` of a cycle with the most steps that a certificate may have, each a follow from the first clock of a chain to one
-    somewhere behind it."""
+    """`verify` of a cycle with the most steps that a certificate may have, each a follow from the first clock of a
+    chain to one somewhere behind it."""
     words, script = problem([*clocks(n), *follows(range(n - 1)), *(f"event e{at} c{at} 0" for at in range(n))], 2)
     with open("cycle", "w", encoding="ascii") as it:
         it.write("certificate 1\ncycle\n")
@@ -232,7 +234,8 @@ def sender_at_half_rate(n: int) -> Words:
     """One-way messages of a clock that may run at half the rate, and does."""
     pairs = ((f"event a{at} a {1000 + 50 * at}", f"event b{at} b {1001 + 100 * at}") for at in range(n))
     messages = [f"message a{at} b{at} 0 1" for at in range(n)]
-    return problem(["clock a 0 1000000000 0 0", "clock b 0 0 0 0", *(line for pair in pairs for line in pair), *messages])
+    events = (line for pair in pairs for line in pair)
+    return problem(["clock a 0 1000000000 0 0", "clock b 0 0 0 0", *events, *messages])
 
 
 FAMILIES: dict[Callable[[int], Words], int] = {

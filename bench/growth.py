@@ -64,7 +64,8 @@ class Settings:
     limit: float
 
     def least(self, measured: Callable[[], Measured]) -> float | None:
-        """The least of what some runs say of one, of fewer where they take too long, or where one has no room any more."""
+        """The least of what some runs say of one, of fewer where they take too long, or where one has no room any
+        more."""
         found: list[float] = []
         taken = 0.0
         for _ in range(self.runs):
@@ -142,7 +143,9 @@ def in_turn(folder: Folder, logs: Sequence[list[str]], pieces: int) -> list[Piec
 class Session:
     """A session that holds so many events, none or eight of which are kept, and what may come behind them."""
 
-    def __init__(self, settings: Settings, at: int, events: int, happened: Sequence[Happening], has_kept: bool, path: str) -> None:
+    def __init__(
+        self, settings: Settings, at: int, events: int, happened: Sequence[Happening], has_kept: bool, path: str
+    ) -> None:
         self.settings, self.at = settings, at
         self.events, self.happened, self.has_kept = events, happened, has_kept
         self.folder = Folder(path, declaration())
@@ -153,8 +156,9 @@ class Session:
         self.open(events)
 
     def open(self, events: int) -> float:
-        """Begins anew with so many events; the seconds that all additions took. They come in pieces, since whole logs may take
-        long; where pieces take long, as they do where each addition costs what all events cost, they come in whole logs."""
+        """Begins anew with so many events; the seconds that all additions took. They come in pieces, since whole logs
+        may take long; where pieces take long, as they do where each addition costs what all events cost, they come in
+        whole logs."""
         taken = self.load(events, max(1, events // 16_000)) if self.is_by_pieces else None
         if taken is None:
             self.is_by_pieces = False
@@ -165,8 +169,8 @@ class Session:
         return taken
 
     def load(self, events: int, pieces: int) -> float | None:
-        """Begins anew with the logs of so many events, each in so many pieces; the seconds, or None where many pieces take more
-        than 10 for 100,000 events."""
+        """Begins anew with the logs of so many events, each in so many pieces; the seconds, or None where many pieces
+        take more than 10 for 100,000 events."""
         self.live.close()
         self.live, taken = Live(self.settings.programs[self.at], self.folder.declaration), 0.0
         for piece in self.logs(events, pieces):
@@ -194,8 +198,9 @@ class Session:
         return self.live.add(pieces)[1]
 
     def some_additions(self, events: int) -> Measured:
-        """The seconds that a run of additions of so many events takes, and those of one. Small sessions begin anew, and have as
-        many events as they should behind the first additions: those tell little, since the other ends of their messages wait."""
+        """The seconds that a run of additions of so many events takes, and those of one. Small sessions begin anew, and
+        have as many events as they should behind the first additions: those tell little, since the other ends of their
+        messages wait."""
         begun = 0.0
         if self.events <= AFRESH:
             if self.events <= HOSTS * events:
@@ -229,7 +234,8 @@ class Session:
         return self.settings.least(run)
 
     def withdraw(self, messages: list[int], count: int, stamp: int) -> Measured:
-        """Sends so many of these messages a second time, which it takes from the list; the seconds of all, and of one."""
+        """Sends so many of these messages a second time, which it takes from the list; the seconds of all, and of
+        one."""
         if len(messages) < count or not self.has_room(count):
             return None, None
         chosen = [messages.pop() for _ in range(count)]
@@ -255,7 +261,10 @@ PAIR = "h0#2 h1#2"
 
 def measure_questions(session: Session, put: Put) -> None:
     """All additions, and each question, where none is kept."""
-    ways = (("additions of whole logs", 1), ("additions of 2,000 events of each host in turn", session.events // 16_000))
+    ways = (
+        ("additions of whole logs", 1),
+        ("additions of 2,000 events of each host in turn", session.events // 16_000),
+    )
     for what, pieces in ways:
         if pieces:
             logs = by_host(session.happened[: session.events])
@@ -340,11 +349,15 @@ def measure_labels(events: int, settings: Settings, figures: Figures) -> None:
         for at in range(len(settings.programs)):
             for what, labels in names.items():
                 with tempfile.TemporaryDirectory() as path:
-                    put: Put = lambda said, _, it: figures.put("labels", f"{said}, {what}", size, at, it)  # noqa: E731, B023
+                    put: Put = lambda said, _, it: figures.put(  # noqa: E731
+                        "labels", f"{said}, {what}", size, at, it  # noqa: B023
+                    )
                     measure_labelled(settings, at, labels, logs, path, put)
 
 
-def measure_labelled(settings: Settings, at: int, labels: Sequence[str], logs: Sequence[list[str]], path: str, put: Put) -> None:
+def measure_labelled(
+    settings: Settings, at: int, labels: Sequence[str], logs: Sequence[list[str]], path: str, put: Put
+) -> None:
     """Measures a session over logs with these labels."""
     declared = declaration("{}")
     for host, label in enumerate(labels):
@@ -397,10 +410,12 @@ def arguments() -> argparse.Namespace:
     )
     sizes = [1000, 10_000, 100_000, 1_000_000]
     numbers = lambda text: [int(it) for it in text.split(",")]  # noqa: E731
-    parser.add_argument("--sizes", metavar="N,N..", type=numbers, default=sizes, help="how many events; 1000,10000,100000,1000000")
+    counts = "how many events; 1000,10000,100000,1000000"
+    parser.add_argument("--sizes", metavar="N,N..", type=numbers, default=sizes, help=counts)
     parser.add_argument("--runs", metavar="N", type=int, default=3, help="of how many runs the least counts; 3")
     parser.add_argument("--other", metavar="PATH", help="a second program, whose figures stand beside")
-    parser.add_argument("--limit", metavar="SECONDS", type=float, default=10, help="when a figure takes no further run; 10")
+    limit = "when a figure takes no further run; 10"
+    parser.add_argument("--limit", metavar="SECONDS", type=float, default=10, help=limit)
     parser.add_argument("--labels", metavar="N", type=int, default=10_000, help="the events of `labels`; 10,000")
     parser.add_argument("--downward", metavar="N", type=int, default=2500, help="the events of `downward`; 2,500")
     parser.add_argument("parts", metavar="PART", nargs="*", help=", ".join(TITLES))

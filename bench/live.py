@@ -33,8 +33,8 @@ class Live:
             time.sleep(0.0002)
 
     def ask(self, lines: Sequence[str]) -> tuple[bytes, float]:
-        """Gives lines of one kind to the session, not above 64 KiB together; the front of the replies, and the seconds of processor
-        of all."""
+        """Gives lines of one kind to the session, not above 64 KiB together; the front of the replies, and the seconds
+        of processor of all."""
         begun = self.spent()
         self.stdin.write("".join(f"{line}\n" for line in lines).encode())
         said = self.read(lines[0].split(" ")[0], len(lines))

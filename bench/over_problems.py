@@ -6,8 +6,8 @@ from collections.abc import Iterator, Sequence
 from dataclasses import dataclass, field
 
 from common import (
-    OUT, Run, beside, compiled, fail, generated, kib, milliseconds, output, peak_of, program, quotient, read, same_answer,
-    want_status, write,
+    OUT, Run, beside, compiled, fail, generated, kib, milliseconds, output, peak_of, program, quotient, read,
+    same_answer, want_status, write,
 )  # fmt: skip
 from check_cycle import NoCycle, check_files
 
@@ -16,8 +16,8 @@ Cells = Sequence[object]
 
 @dataclass(frozen=True)
 class Options:
-    """How many runs each figure is the least of, up to how many events a slow reference runs, and how many messages of a
-    drift there are at most."""
+    """How many runs each figure is the least of, up to how many events a slow reference runs, and how many messages of
+    a drift there are at most."""
 
     runs: int
     reference_up_to: int
@@ -63,8 +63,8 @@ class Obey:
     """`obey` beside obey.cpp, which judges the same bounds."""
 
     head = (
-        "events", "problem, bytes", "execution, bytes", "tracesync, ms", "C++, ms", "ratio", "tracesync, KiB", "C++, KiB",
-        "bytes an event",
+        "events", "problem, bytes", "execution, bytes", "tracesync, ms", "C++, ms", "ratio",
+        "tracesync, KiB", "C++, KiB", "bytes an event",
     )  # fmt: skip
 
     def __init__(self, options: Options) -> None:
@@ -100,8 +100,8 @@ class Solve:
     """`solve` beside solve.cpp, a queue of nodes over the short list of bounds, and the steps that steps.cpp counts."""
 
     head = (
-        "events", "nodes", "arcs", "tracesync, ms", "C++, ms", "ratio", "tracesync, KiB", "C++, KiB", "steps, short list",
-        "steps, merged", "tracesync, times the row before", "C++, times the row before",
+        "events", "nodes", "arcs", "tracesync, ms", "C++, ms", "ratio", "tracesync, KiB", "C++, KiB",
+        "steps, short list", "steps, merged", "tracesync, times the row before", "C++, times the row before",
     )  # fmt: skip
 
     def __init__(self, options: Options) -> None:
@@ -175,8 +175,8 @@ class Ends:
     """`ends` of the first and the last event beside ends.cpp: by the same algorithm and by a plain one."""
 
     head = (
-        "events", "tracesync, ms", "C++, ms", "ratio", "plain, ms", "tracesync, KiB", "C++, KiB", "tracesync, times the row before",
-        "C++, times the row before",
+        "events", "tracesync, ms", "C++, ms", "ratio", "plain, ms", "tracesync, KiB", "C++, KiB",
+        "tracesync, times the row before", "C++, times the row before",
     )  # fmt: skip
 
     def __init__(self, options: Options) -> None:
@@ -194,7 +194,8 @@ class Ends:
         shows_contradiction(self.run(1, True, problem, *first_and_last(problem)), problem)
 
     def check_pairs(self, events: int) -> None:
-        """Wants the same answer for events in the other order, for an event and itself, and for one that is not there."""
+        """Wants the same answer for events in the other order, for an event and itself, and for one that is not
+        there."""
         problem = f"{generated(events, 'problem')}.problem"
         first, last = first_and_last(problem)
         for pair in ((last, first), (last, last), (first, "none")):
@@ -224,16 +225,21 @@ class Ends:
 
 
 class Widen:
-    """`widen` beside rounds.cpp, which searches in the same way, over three kinds of traces: one without a contradiction, one
-    in which a link declares too small a greatest delay, and one-way messages to a clock that declares too small a drift."""
+    """`widen` beside rounds.cpp, which searches in the same way, over three kinds of traces: one without a
+    contradiction, one in which a link declares too small a greatest delay, and one-way messages to a clock that
+    declares too small a drift."""
 
-    head = ("events", "contradiction", "least, ns", "rounds", "tracesync, ms", "C++, ms", "ratio", "tracesync, KiB", "C++, KiB")
+    head = (
+        "events", "contradiction", "least, ns", "rounds", "tracesync, ms", "C++, ms", "ratio",
+        "tracesync, KiB", "C++, KiB",
+    )  # fmt: skip
 
     def __init__(self, options: Options) -> None:
         self.options, self.reference = options, compiled("rounds")
 
     def problem(self, events: int, trace: str) -> str:
-        """Writes a trace; the problem's path. Of a drift there is a message for each twelve events, and not too many of them."""
+        """Writes a trace; the problem's path. Of a drift there is a message for each twelve events, and not too many of
+        them."""
         if trace != "drift":
             return f"{generated(events, 'problem' if trace == 'none' else trace)}.problem"
         count = min(events // 12, self.options.drifting)

@@ -105,7 +105,8 @@ def lines(events: int, path: str) -> Iterator[tuple[str, Figure]]:
 def main() -> None:
     parser = argparse.ArgumentParser(description=__doc__.split("\n\n")[0])
     parser.add_argument("--runs", metavar="N", type=int, default=2, help="of how many runs the lesser counts; 2")
-    parser.add_argument("sizes", metavar="EVENTS", nargs="*", type=int, help="10000, 100000 and 1000000, if none is named")
+    which = "10000, 100000 and 1000000, if none is named"
+    parser.add_argument("sizes", metavar="EVENTS", nargs="*", type=int, help=which)
     said = parser.parse_args()
     sizes = said.sizes or [10_000, 100_000, 1_000_000]
     figures: dict[str, list[Figure]] = {}

@@ -86,13 +86,15 @@ def arguments() -> argparse.ArgumentParser:
         "--reference-up-to", metavar="N", type=int, default=100_000,
         help="above so many events solve.cpp and the plain algorithm of ends.cpp are left out; 100,000",
     )  # fmt: skip
-    parser.add_argument("--drifting", metavar="N", type=int, default=833, help="the most messages of a drift in `widen`; 833")
+    drifting = "the most messages of a drift in `widen`; 833"
+    parser.add_argument("--drifting", metavar="N", type=int, default=833, help=drifting)
     parser.add_argument("--other", metavar="PATH", help="a second tracesync beside, in `trial` and `additions`")
     frames = "the bytes of a frame, which may be said again; 60000 and 1500"
     parser.add_argument("--frame", metavar="N", dest="frames", type=int, action="append", help=frames)
     parser.add_argument("--pcapng", action="store_true", help="captures are in pcapng, in `captures`")
     parser.add_argument("kind", metavar="KIND", choices=KINDS, help=", ".join(KINDS))
-    parser.add_argument("sizes", metavar="SIZE", nargs="*", type=int, help="events, numbers or MB, for each of which there are rows")
+    sizes = "events, numbers or MB, for each of which there are rows"
+    parser.add_argument("sizes", metavar="SIZE", nargs="*", type=int, help=sizes)
     return parser
 
 

@@ -26,7 +26,8 @@ class Options:
 
 
 class Draws:
-    """The generator of a trial: the linear congruential one of D. E. Knuth, MMIX, of which the upper 31 bits are taken."""
+    """The generator of a trial: the linear congruential one of D. E. Knuth, MMIX, of which the upper 31 bits are
+    taken."""
 
     def __init__(self, seed: int) -> None:
         self.state = seed
@@ -56,8 +57,8 @@ class Trial:
 
 
 class Additions:
-    """The steps of an addition in both ways of trial.cpp, and how long one takes in a session: the time of a script as far as a
-    batch, less that of one as far as the batch before, by the additions of the batch."""
+    """The steps of an addition in both ways of trial.cpp, and how long one takes in a session: the time of a script as
+    far as a batch, less that of one as far as the batch before, by the additions of the batch."""
 
     def __init__(self, options: Options) -> None:
         self.options, self.reference = options, compiled("trial")

@@ -14,7 +14,8 @@ def declaration(label: str = "h{}") -> str:
     lines = ['source = "h0"']
     for host in range(HOSTS):
         drift = "short = 20_000\nlong = 20_000\n" if host else ""
-        lines.append(f'[hosts.h{host}]\n{drift}late = 50\n[labels.{label.format(host)}]\nhost = "h{host}"\nkind = "log"')
+        lines.append(f"[hosts.h{host}]\n{drift}late = 50")
+        lines.append(f'[labels.{label.format(host)}]\nhost = "h{host}"\nkind = "log"')
     for one in range(HOSTS):
         for other in range(HOSTS):
             if one != other:
@@ -23,8 +24,8 @@ def declaration(label: str = "h{}") -> str:
 
 
 def exchanged(events: int, below: Callable[[int], int], first: int = 0) -> list[Happening]:
-    """So many events, an even number, with delays within the declared bounds: a send and its receive in turn. `below` draws a
-    number below another one, and the messages are numbered from `first` on."""
+    """So many events, an even number, with delays within the declared bounds: a send and its receive in turn. `below`
+    draws a number below another one, and the messages are numbered from `first` on."""
     offsets = [below(10**9) for _ in range(HOSTS)]
     found: list[Happening] = []
     time = 10**9
@@ -75,7 +76,8 @@ class Folder:
 
 
 class Tail:
-    """Rows that come behind those of a session, as one reads growing logs: each host's wait until there are enough for a piece."""
+    """Rows that come behind those of a session, as one reads growing logs: each host's wait until there are enough for
+    a piece."""
 
     def __init__(self, folder: Folder, happened: Sequence[Happening], at: int) -> None:
         self.folder, self.happened, self.at = folder, happened, at

@@ -22,7 +22,9 @@ class NoCycle(Exception):
 
 
 def check_cycle(problem: Problem, lines: Sequence[str]) -> tuple[int, int]:
-    """The number of steps and the sum, in units, of a certificate with these lines. Raises NoCycle where it shows nothing."""
+    """The number of steps and the sum, in units, of a certificate with these lines.
+
+    Raises NoCycle where it shows nothing."""
     if [*lines[:2]] != ["certificate 1", "cycle"] or lines[-1] != "end":
         raise NoCycle("no cycle certificate")
     steps = []

@@ -41,7 +41,8 @@ class Command:
 
 @dataclass
 class Block:
-    """A fenced block: the number of its first line, the words behind its fence, and its lines without the fence's indentation."""
+    """A fenced block: the number of its first line, the words behind its fence, and its lines without the fence's
+    indentation."""
 
     first: int
     words: list[str]

@@ -92,7 +92,8 @@ def check(example: Example) -> None:
     for event, reply in zip(example.timed, example.ask(*(f"time {it}" for it in example.timed))):
         least, greatest = (Fraction(it) for it in reply[0].split(" ")[1:])
         assert least <= greatest, f"time {event}"
-    print(f"{example.folder}: {len(events)} events, {len(example.pairs)} certificates accepted, {len(example.timed)} times")
+    found = f"{len(events)} events, {len(example.pairs)} certificates accepted, {len(example.timed)} times"
+    print(f"{example.folder}: {found}")
 
 
 def main() -> int:

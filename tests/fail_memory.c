@@ -1,4 +1,6 @@
-/* Lets one request for memory fail: the one with the number FAIL_MEMORY, counted from 1. For without_memory.py, by LD_PRELOAD. */
+/* Lets one request for memory fail: the one with the number FAIL_MEMORY, counted from 1. For without_memory.py, by
+ * LD_PRELOAD.
+ */
 #define _GNU_SOURCE
 #include <dlfcn.h>
 #include <errno.h>

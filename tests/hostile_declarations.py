@@ -25,8 +25,8 @@ from random import Random
 
 from support.declarations import CLOCK_KEYS, ENTRIES, HOST_KEYS, LARGEST, Declared, read_declaration
 from support.hostile import (
-    NANOS, Folder, Language, Outcome, Source, arguments, change_number, change_word, changes, copy_in, cut_out, cuts, move_line,
-    put_byte, put_line, put_sign,
+    NANOS, Folder, Language, Outcome, Source, arguments, change_number, change_word, changes, copy_in, cut_out, cuts,
+    move_line, put_byte, put_line, put_sign,
 )  # fmt: skip
 from support.program import write_left
 
@@ -101,7 +101,18 @@ class Documents:
         print(f"{title}: {why}; it stays in {write_left(f'declaration-{self.wrong}.toml', document)}", flush=True)
 
 
-LABELS = '[labels.one]\nhost = "a"\nkind = "log"\n[labels.two]\nhost = "b"\nkind = "log"\n[[links]]\nfrom = "a"\nto = "b"\nleast = 3\nmost = 9\n'
+LABELS = """[labels.one]
+host = "a"
+kind = "log"
+[labels.two]
+host = "b"
+kind = "log"
+[[links]]
+from = "a"
+to = "b"
+least = 3
+most = 9
+"""
 VALUES = [
     "[]", "{}", '{ name = "x" }', "[{}]", "[[]]", "[[[]]]", "[1]", '["x"]', "[{}, 1]", "1", "-1", "0x1f", "1.5",
     "inf", "nan", "true", '"x"', "'x'", '"""x"""', "1979-05-27", "07:32:00", "1979-05-27T07:32:00",
@@ -136,7 +147,8 @@ def of_values() -> Iterator[tuple[str, str]]:
         for number in values:
             words = [f"{key} = {number}", *([] if key == "name" else ['name = "y"'])]
             lines, table = "\n".join(words), ", ".join(words)
-            yield f"{key} = {number}", f'{LABELS}[[hosts.a.clocks]]\nname = "x"\n[[hosts.a.clocks]]\n{lines}\n[hosts.b]\n'
+            hosts = f'[[hosts.a.clocks]]\nname = "x"\n[[hosts.a.clocks]]\n{lines}\n[hosts.b]\n'
+            yield f"{key} = {number}", f"{LABELS}{hosts}"
             yield f"{key} = {number} of a first clock", f"{LABELS}[hosts.a]\nclocks = [{{ {table} }}]\n[hosts.b]\n"
             if key in HOST_KEYS:
                 host = f"[hosts.a]\n{key} = {number}\nclocks = [{{ name = 'x', {key} = 0 }}]\n[hosts.b]\n"
@@ -181,18 +193,22 @@ def clocks(first: int, count: int, more: str = "") -> str:
 def large() -> Iterator[tuple[str, str, str | None]]:
     """The large documents, and what is wanted of one that Python reads slowly."""
     half = ENTRIES // 2
+    of_two = f"[hosts.zy]\nclocks={clocks(0, half)}\n[hosts.zz]\nclocks="
     yield "65,536 clocks of one host", f"[hosts.zz]\nclocks={clocks(0, ENTRIES, ',gap=1')}\n", None
-    yield "65,536 clocks of two hosts", f"[hosts.zy]\nclocks={clocks(0, half)}\n[hosts.zz]\nclocks={clocks(half, half)}\n", None
+    yield "65,536 clocks of two hosts", f"{of_two}{clocks(half, half)}\n", None
     yield "65,537 clocks of one host", f"[hosts.zz]\nclocks={clocks(0, ENTRIES + 1)}\n", None
-    yield "65,537 clocks of two hosts", f"[hosts.zy]\nclocks={clocks(0, half)}\n[hosts.zz]\nclocks={clocks(half, half + 1)}\n", None
+    yield "65,537 clocks of two hosts", f"{of_two}{clocks(half, half + 1)}\n", None
     yield "65,536 clocks and a host", f"[hosts.zy]\nclocks={clocks(0, ENTRIES)}\n[hosts.zz]\n", None
-    yield "65,536 clocks in tables", "".join(f'[[hosts.zz.clocks]]\nname="{it:x}"\nlate={it}\n' for it in range(ENTRIES)), None
-    yield "65,536 hosts of one clock", "".join(f'[hosts.z{it:x}]\nclocks=[{{name="{it:x}"}}]\n' for it in range(ENTRIES)), None
+    in_tables = "".join(f'[[hosts.zz.clocks]]\nname="{it:x}"\nlate={it}\n' for it in range(ENTRIES))
+    yield "65,536 clocks in tables", in_tables, None
+    of_one_clock = "".join(f'[hosts.z{it:x}]\nclocks=[{{name="{it:x}"}}]\n' for it in range(ENTRIES))
+    yield "65,536 hosts of one clock", of_one_clock, None
     yield "65,536 hosts", "".join(f"[hosts.z{it:x}]\n" for it in range(ENTRIES)), None
     yield "65,537 hosts", "".join(f"[hosts.z{it:x}]\n" for it in range(ENTRIES + 1)), None
     labels = "".join(f'[labels.{it:x}]\nhost="zz"\nkind="log"\nclock="{ENTRIES - 1 - it:x}"\n' for it in range(ENTRIES))
     yield "65,536 labels of 65,536 clocks", f"[hosts.zz]\nclocks={clocks(0, ENTRIES)}\n{labels}", None
-    yield "the last clock has the first one's name", f"[hosts.zz]\nclocks={clocks(0, ENTRIES - 1)[:-1]},{{name='0'}}]\n", None
+    all_but_one = clocks(0, ENTRIES - 1)[:-1]
+    yield "the last clock has the first one's name", f"[hosts.zz]\nclocks={all_but_one},{{name='0'}}]\n", None
     yield "2^24 bytes", (CLOCKS + LABELS).ljust(LARGEST - 1) + "\n", None
     yield "2^24 + 1 bytes", (CLOCKS + LABELS).ljust(LARGEST) + "\n", None
     yield "one name of 2^24 bytes", ('[hosts.a]\nclocks=[{name="' + "n" * LARGEST)[: LARGEST - 4] + '"}]\n', None
@@ -224,7 +240,8 @@ LANGUAGE = Language(
     word=re.compile(rb"""["'.\[ ]([A-Za-z0-9]+)["'\] ]"""),
     # (numbers, names and lines are changed more often)
     ways=[
-        *[put_byte] * 2, *[put_sign] * 2, cut_out, copy_in, *[change_number] * 3, *[change_word] * 3, *[put_line] * 2, move_line,
+        *[put_byte] * 2, *[put_sign] * 2, cut_out, copy_in, *[change_number] * 3, *[change_word] * 3,
+        *[put_line] * 2, move_line,
     ],  # fmt: skip
 )
 

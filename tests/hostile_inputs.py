@@ -46,7 +46,8 @@ NS = r"-?\d+\.\d{9}"
 # The first line of a reply.
 REPLY = re.compile(
     rf"added events \d+ messages \d+ withdrawn \d+ pending \d+ (in)?consistent|interval ({NS}|-inf) ({NS}|\+inf)"
-    rf"|order (before|after|same|open)|time ({NS}|-inf) ({NS}|\+inf)|kept [1-8]|merge \d+|certificate 1|problem [12]|\{{.*\}}"
+    rf"|order (before|after|same|open)|time ({NS}|-inf) ({NS}|\+inf)"
+    r"|kept [1-8]|merge \d+|certificate 1|problem [12]|\{.*\}"
     r"|refused (2[01237-9]|30|24 [12]|2[56] \d+( [1-4])?|31 \d+)"
 )
 
@@ -107,14 +108,29 @@ most = 900
 """
 LOG = b"100,send,m1,hello\n200,receive,m2,\n300,local,,\"a, \"\"b\"\"\"\n"
 OTHER = b"150,receive,m1,x\r\n\r\n260,send,m2,\n"
-QUESTIONS = "interval one#1 two#1\norder one#1 two#1\ntime two#1\nmerge\nprove one#1 two#2\nkeep one#1\nproblem\nreport\n"
+QUESTIONS = """interval one#1 two#1
+order one#1 two#1
+time two#1
+merge
+prove one#1 two#2
+keep one#1
+problem
+report
+"""
 SCRIPT = (
     f"add one one.log\nadd two two.log\n{QUESTIONS}add left left.pcap\nadd right right.pcap\n"
     "interval left#1 right#1\nkeep left#1\nadd one two.log\nreport\nproblem\n"
 )
 FRAMES = [(10**9 + 100, frame(1, 2, b"abcdefgh")), (10**9 + 200, frame6(2, 1, b"ijklmnop")), (10**9 + 300, b"\0" * 20)]
 BACK = [(10**9 + 150, frame(1, 2, b"abcdefgh")), (10**9 + 170, frame6(2, 1, b"ijklmnop"))]
-CAPTURE_SCRIPT = "add left it\nadd right right.pcap\ninterval left#1 right#1\norder left#2 right#2\nmerge\nreport\nproblem\n"
+CAPTURE_SCRIPT = """add left it
+add right right.pcap
+interval left#1 right#1
+order left#2 right#2
+merge
+report
+problem
+"""
 FILES: dict[str, bytes | str] = {
     "p": PROBLEM,
     "bad": BAD,
@@ -131,7 +147,8 @@ FILES: dict[str, bytes | str] = {
 
 @dataclass(frozen=True)
 class Command:
-    """A command that reads an input, which stands in the file `it`: its words, its script, and the statuses that it may have."""
+    """A command that reads an input, which stands in the file `it`: its words, its script, and the statuses that it may
+    have."""
 
     words: Sequence[str]
     script: str
@@ -204,8 +221,9 @@ class Readers:
             script = read(path) if command.script == "it" else FILES.get(command.script, "")
             why = fault_of(command, outcome, script.encode() if isinstance(script, str) else script)
             if why:
+                ended = f"{' '.join(command.words)}: status {outcome.run.status}"
                 shown = f"{outcome.text[-200:]!r} {outcome.said[-200:]!r}"
-                self.tell(reader, title, content, f"{' '.join(command.words)}: status {outcome.run.status}, {why}: {shown}")
+                self.tell(reader, title, content, f"{ended}, {why}: {shown}")
 
     def tell(self, reader: str, title: str, content: bytes, why: str) -> None:
         self.wrong += 1
@@ -225,7 +243,9 @@ LANGUAGE = Language(
 )
 LIMITS = [0, NANOS - 1, NANOS, 2**64 - 1, 2**64]
 # The greatest real time that a text may have, one above it, and two below 0.
-TIMES = ["1329227995784915872903807060.280344576", "1329227995784915872903807060.280344577", "-0.000000000", "-1.000000000"]
+TIMES = [
+    "1329227995784915872903807060.280344576", "1329227995784915872903807060.280344577", "-0.000000000", "-1.000000000",
+]  # fmt: skip
 
 Inputs = dict[str, bytes | str]
 
@@ -306,7 +326,8 @@ def large_problems() -> Iterator[tuple[str, str]]:
     """Large problems, by their titles."""
     clocks = ["".join(f"clock c{it:x} 0 0 0 0\n" for it in range(count)) for count in (1 << 16, (1 << 16) + 1)]
     upward = "".join(f"follow c{it - 1:x} c{it:x} 1\n" for it in range((1 << 16) - 1, 0, -1))
-    yield "many events", "problem 1\nclock a 0 0 0 0\n" + "".join(f"event e{it:x} a {it}\n" for it in range(MANY)) + "end\n"
+    events = "".join(f"event e{it:x} a {it}\n" for it in range(MANY))
+    yield "many events", f"problem 1\nclock a 0 0 0 0\n{events}end\n"
     yield "many clocks", f"problem 1\n{clocks[0]}end\n"
     yield "one clock too many", f"problem 1\n{clocks[1]}end\n"
     yield "a long chain, from its end", f"problem 2\n{clocks[0]}{upward}end\n"

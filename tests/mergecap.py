@@ -70,7 +70,8 @@ def put(folder: str, name: str, content: bytes | str) -> str:
 
 
 def packets_by_event(folder: str, lines: Sequence[str], captures: Sequence[str]) -> dict[str, bytes]:
-    """The bytes of each packet by its event's name, as editcap reads the files that a script adds, those of a label in one."""
+    """The bytes of each packet by its event's name, as editcap reads the files that a script adds, those of a label in
+    one."""
     files: dict[str, bytes] = {}
     found: dict[str, bytes] = {}
     for _, label, path in (line.split(" ") for line in lines):
@@ -83,7 +84,9 @@ def packets_by_event(folder: str, lines: Sequence[str], captures: Sequence[str])
     return found
 
 
-def merges(folder: str, case: str, declaration: str, lines: Sequence[str], captures: Sequence[str] = ("left", "right")) -> None:
+def merges(
+    folder: str, case: str, declaration: str, lines: Sequence[str], captures: Sequence[str] = ("left", "right")
+) -> None:
     """Wants a merge of these additions. Raises AssertionError where it is otherwise."""
     done = run("mergecap", declaration, lines)
     assert done.returncode == 0, (case, done.returncode, done.stdout[:80])
@@ -103,7 +106,8 @@ def merges(folder: str, case: str, declaration: str, lines: Sequence[str], captu
 
 def read_again(folder: str, case: str, path: str, written: list[Record]) -> None:
     """Wants tshark, capinfos and a session to read what was written."""
-    told = tool("tshark", "-r", path, "-T", "fields", "-e", "frame.time_epoch", "-e", "frame.len", "-e", "frame.cap_len")
+    fields = ("-e", "frame.time_epoch", "-e", "frame.len", "-e", "frame.cap_len")
+    told = tool("tshark", "-r", path, "-T", "fields", *fields)
     wanted = [f"{stamp // 10**9}.{stamp % 10**9:09}\t{length}\t{len(packet)}" for stamp, length, packet in written]
     assert told.splitlines() == wanted, (case, "tshark reads something else")
     assert packets_of(path) == len(written), (case, "capinfos counts others")
@@ -117,7 +121,8 @@ def read_again(folder: str, case: str, path: str, written: list[Record]) -> None
 def no_merge(case: str, declaration: str, lines: Sequence[str], wanted: str, status: int = 12) -> None:
     """Wants this line in place of a merge."""
     done = run("mergecap", declaration, lines)
-    assert (done.stdout, done.returncode) == (wanted.encode() + b"\n", status), (case, done.returncode, done.stdout[:80])
+    found = (done.stdout, done.returncode)
+    assert found == (wanted.encode() + b"\n", status), (case, done.returncode, done.stdout[:80])
     print(f"{case}: `{wanted}`, status {status}")
 
 
@@ -144,7 +149,8 @@ def pieces(folder: str, label: str, path: str, cuts: Sequence[int]) -> list[str]
 
 
 def empty_packets(stamps: Sequence[int]) -> bytes:
-    """A capture in pcapng of an interface that counts in ns and has no snaplen, with an empty packet at each of these stamps."""
+    """A capture in pcapng of an interface that counts in ns and has no snaplen, with an empty packet at each of these
+    stamps."""
     interface = struct.pack("<IIHHIHHB3xII", 1, 32, 1, 0, 0, 9, 1, 9, 0, 32)
     return SECTION + interface + b"".join(block(stamp, b"") for stamp in stamps)
 
@@ -190,7 +196,8 @@ def without_merge(folder: str) -> None:
     no_merge("two link types and no execution", far, DUAL, "inconsistent")
     plain, late = put(folder, "plain.toml", PLAIN), put(folder, "late", empty_packets([1, 2**32 * 10**9 + 1]))
     no_merge("a time of 2^32 s", plain, [f"add left {late}"], "range")
-    no_merge("a time of 2^32 s and two link types", put(folder, "two.toml", PLAIN_TWO), [f"add left {late}", DUAL[1]], "links")
+    two = put(folder, "two.toml", PLAIN_TWO)
+    no_merge("a time of 2^32 s and two link types", two, [f"add left {late}", DUAL[1]], "links")
     no_merge("a declaration that is not there", f"{folder}/nosuch", [LEFT], "read fault", 7)
     no_merge("a declaration that is refused", LEFT.split(" ")[2], [LEFT], "declaration 1 top 0", 3)
 

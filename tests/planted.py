@@ -127,7 +127,8 @@ def try_crate(copy: str, name: str, bugs: list[str] | None) -> bool:
 
 def main() -> int:
     parser = argparse.ArgumentParser(description=__doc__.split("\n\n")[0])
-    parser.add_argument("bugs", metavar="CRATE[/BUG]", nargs="*", help="the crates or bugs; all of them, if none is named")
+    which = "the crates or bugs; all of them, if none is named"
+    parser.add_argument("bugs", metavar="CRATE[/BUG]", nargs="*", help=which)
     folders = sorted(it for it in os.listdir(f"{TOP}/bench/planted") if it != "README.md")
     with tempfile.TemporaryDirectory() as folder:
         copy = f"{folder}/repository"

@@ -32,7 +32,8 @@ from support.problems import UNITS, Ends, Node, Problem, interval, ns, order
 from support.program import LEFT, program
 
 ABOVE = 2**62
-# The words of a bound, its tail, its head and its weight: the value of the head is at most that of the tail and the weight.
+# The words of a bound, its tail, its head and its weight: the value of the head is at most that of the tail and the
+# weight.
 Named = tuple[str, Node, Node, int]
 
 
@@ -130,8 +131,9 @@ class Least:
         self.nodes = problem.nodes()
         self.bounds = {words: (tail, head, weight) for words, tail, head, weight in problem.every_bound()}
         self.place = place = {node: at for at, node in enumerate(self.nodes)}
-        self.weights: list[list[int | None]] = [[0 if one == other else None for other in self.nodes] for one in self.nodes]
-        weights = self.weights
+        weights: list[list[int | None]]
+        weights = [[0 if one == other else None for other in self.nodes] for one in self.nodes]
+        self.weights = weights
         for tail, head, weight in self.bounds.values():
             row, at = weights[place[tail]], place[head]
             before = row[at]
@@ -371,7 +373,8 @@ def wrong_lines(problem: Chained) -> Iterator[Wrong]:
     if problem.events:
         later, (earlier, gap) = next(iter(problem.follows.items()))
         behind = end + 1
-        yield "a follow behind an event", [*lines[:behind], f"follow {earlier} {later} {gap}", *lines[behind:]], 1, behind + 1
+        late = f"follow {earlier} {later} {gap}"
+        yield "a follow behind an event", [*lines[:behind], late, *lines[behind:]], 1, behind + 1
 
 
 def check_refusals(runs: Runs, problem: Chained) -> None:
@@ -410,7 +413,8 @@ def chain_lines(clocks: int) -> Iterator[str]:
 
 
 def many_clocks(runs: Runs) -> None:
-    """A chain of all clocks: the gaps add up where each has a reading, and the last counts where none between has one."""
+    """A chain of all clocks: the gaps add up where each has a reading, and the last counts where none between has
+    one."""
     total = CLOCKS * (CLOCKS - 1) // 2
     runs.put("problem", [*chain_lines(CLOCKS), *(f"event e{k} c{k} 5" for k in range(CLOCKS)), "end"])
     runs.want(["ends", "problem", "e0", f"e{CLOCKS - 1}"], 0, [f"{ns(total * UNITS)} +inf before"])
@@ -421,7 +425,8 @@ def many_clocks(runs: Runs) -> None:
 
 
 def many_lines(events: int, messages: int) -> Iterator[str]:
-    """Two clocks that follow each other, each with half of the events; each message goes from an event to the next one."""
+    """Two clocks that follow each other, each with half of the events; each message goes from an event to the next
+    one."""
     half = events // 2
     yield from ("problem 2", "clock c 0 0 0 0", "clock d 0 0 0 0", "follow c d 7")
     yield from (f"event e{k} {'c' if k < half else 'd'} {k % half}" for k in range(events))

@@ -87,7 +87,8 @@ class Declared:
         self.labels = {label: found[label] for label in sorted(found)}
 
     def drawn_tables(self, draw: Random, host: str, names: list[str]) -> list[dict[str, Any]]:
-        """The tables of the clocks of a host, of which one may have the host's name; what a table does not say is the host's."""
+        """The tables of the clocks of a host, of which one may have the host's name; what a table does not say is the
+        host's."""
         found: list[dict[str, Any]] = []
         for _ in range(draw.randint(1, 4)):
             name = names.pop() if draw.random() < 0.8 or any(it["name"] == host for it in found) else host
@@ -151,7 +152,9 @@ class Traces:
                 until = 2000 * (at + 1) // len(names) - gaps[names[at + 1]] - 100 if at + 1 < len(names) else 10**9
                 self.spans[name] = (2000 * at // len(names), until)
         # (a clock may begin at any number, or start with almost nothing again)
-        self.offsets = {name: 100 + draw.choice((draw.randrange(3000), -first)) for name, (first, _) in self.spans.items()}
+        self.offsets = {
+            name: 100 + draw.choice((draw.randrange(3000), -first)) for name, (first, _) in self.spans.items()
+        }
         self.wrong = draw.choice((0, 0, 0.05, 0.3))
         self.rows: dict[str, list[Row]] = {label: [] for label in declared.labels}
         for number in range(draw.randint(1, 14)):
@@ -187,7 +190,8 @@ class Traces:
             self.put(send, time, "send", key)
         for _ in range(5 if draw.random() < 0.9 else 0):
             receive = draw.choice([*self.rows])
-            least, most = self.declared.links.get((self.declared.labels[send], self.declared.labels[receive]), (0, None))
+            hosts = (self.declared.labels[send], self.declared.labels[receive])
+            least, most = self.declared.links.get(hosts, (0, None))
             arrival = time + draw.randint(least, least + 300 if most is None else most)
             # (what arrives while another clock is the host's is wrong)
             if self.holds(receive, arrival) or draw.random() < self.wrong:
@@ -263,12 +267,16 @@ class Held:
         ambiguous = [(key, *it) for key, it in groups.items() if all(it) and len(it[0]) + len(it[1]) > 2]
         local = sum(row[1] == "local" for _, _, row in self.events())
         return {
-            "ambiguous": [{"key": f"log {key}", "receives": receives, "sends": sends} for key, sends, receives in ambiguous],
+            "ambiguous": [
+                {"key": f"log {key}", "receives": receives, "sends": sends} for key, sends, receives in ambiguous
+            ],
             "consistent": consistent,
             "events": len(self.events()),
             "messages": len(self.messages()),
             "nokey": {it: local if it == "local" else 0 for it in NO_KEYS},
-            "unmatched": sum(len(sends) + len(receives) for sends, receives in groups.values() if not (sends and receives)),
+            "unmatched": sum(
+                len(sends) + len(receives) for sends, receives in groups.values() if not (sends and receives)
+            ),
         }
 
 
@@ -307,7 +315,9 @@ class State:
         return subprocess.run(command, capture_output=True, text=True, cwd=self.folder).stdout.splitlines()
 
     def check(self, line: str, reply: list[str], command: str, *events: str) -> None:
-        """Compares the reply to a question, which stands in this line. Raises AssertionError where it is another one."""
+        """Compares the reply to a question, which stands in this line.
+
+        Raises AssertionError where it is another one."""
         refusal = None if command in ("problem", "report") else self.refusal(command, events)
         if command == "problem":
             want(line, reply, self.lines)

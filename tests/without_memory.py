@@ -44,7 +44,8 @@ COMMANDS: list[tuple[list[str], str | None]] = [
 
 QUESTIONS = ["interval a#1 b#1", "order a#1 b#1", "merge", "problem", "prove a#1 b#1", "report", "time a#1"]
 CLOCK_QUESTIONS = [
-    "interval before#1 after#1", "order before#3 after#2", "merge", "problem", "prove before#3 after#1", "report", "time after#3",
+    "interval before#1 after#1", "order before#3 after#2", "merge", "problem", "prove before#3 after#1", "report",
+    "time after#3",
 ]  # fmt: skip
 
 Files = dict[str, bytes]  # the files of a session by their names
@@ -59,7 +60,8 @@ def links_of(pairs: list[tuple[str, str]], least: int, most: int) -> str:
 def declaration(kind: str, first: str = "", second: str = "") -> bytes:
     """Two hosts with a label each, the first of which is the source, and links of 10 to 20 ns."""
     hosts = "".join(
-        f'[hosts.{it}]\n{more}[labels.{it}]\nhost = "{it}"\nkind = "{kind}"\n' for it, more in (("a", first), ("b", second))
+        f'[hosts.{it}]\n{more}[labels.{it}]\nhost = "{it}"\nkind = "{kind}"\n'
+        for it, more in (("a", first), ("b", second))
     )
     links = links_of([("a", "b"), ("b", "a")], 10, 20)
     return f'source = "a"\n{hosts}{links}'.encode()
@@ -160,7 +162,10 @@ SESSIONS = [
         two_clocks(),
         ["add before before.csv", "add gate gate.csv", "add after after.csv", "keep after#1", *CLOCK_QUESTIONS],
     ),
-    *(Session(f"a capture cut at {cut}", captures(cut), ["add a front", "add a rest", "add b b", *QUESTIONS]) for cut in CUTS),
+    *(
+        Session(f"a capture cut at {cut}", captures(cut), ["add a front", "add a rest", "add b b", *QUESTIONS])
+        for cut in CUTS
+    ),
     Session(MANY, many_rows(), [*TWO, "keep a#1", "interval a#1 b#5000", "merge", "report", "problem"]),
 ]
 

@@ -54,8 +54,8 @@ def is_newer(token: str, before: str, behind: str) -> bool:
 
 
 def older(text: str) -> str:
-    """The same document without what TOML 1.1 has and 1.0 has not: lines and a last comma in a table in braces, two escapes, and
-    times without seconds."""
+    """The same document without what TOML 1.1 has and 1.0 has not: lines and a last comma in a table in braces, two
+    escapes, and times without seconds."""
     tokens, found, open_ones = TOKEN.findall(text), [], []
     for at, token in enumerate(tokens):
         if token in "[{":
@@ -68,8 +68,8 @@ def older(text: str) -> str:
             token += ":00"
         elif open_ones[-1:] == ["{"] and token.startswith("#"):
             token = " "
-        elif open_ones[-1:] == ["{"] and token in ",\n" and is_newer(token, near(tokens[:at][::-1]), near(tokens[at + 1 :])):
-            token = " "
+        elif open_ones[-1:] == ["{"] and token in ",\n":
+            token = " " if is_newer(token, near(tokens[:at][::-1]), near(tokens[at + 1 :])) else token
         found.append(token)
     return "".join(found)
 
@@ -198,7 +198,8 @@ class Declared:
         look(label, LABEL_KEYS, ["host", "kind"])
         clocks = self.hosts.get(label["host"], [""])
         clock = label.get("clock", clocks[0])
-        want(is_name(name) and label["host"] in self.hosts and label["kind"] in ("log", "capture") and clock in clocks, 4)
+        is_label = is_name(name) and label["host"] in self.hosts and label["kind"] in ("log", "capture")
+        want(is_label and clock in clocks, 4)
         want(place <= ENTRIES, 5)
         self.labels[name] = (label["host"], label["kind"], clock)
 

@@ -98,7 +98,8 @@ def change_count(source: Source, content: bytes) -> bytes:
 def put_line(source: Source, content: bytes) -> bytes:
     """A line of another input."""
     lines = content.split(b"\n")
-    lines.insert(source.draw.randrange(len(lines) + 1), source.draw.choice(source.draw.choice(source.others).split(b"\n")))
+    place = source.draw.randrange(len(lines) + 1)
+    lines.insert(place, source.draw.choice(source.draw.choice(source.others).split(b"\n")))
     return b"\n".join(lines)
 
 
@@ -153,7 +154,9 @@ class Folder:
         return write(f"{self.path}/{name}", content)
 
     def run(self, words: Sequence[str], script: str = "empty") -> Outcome:
-        """Runs the program in this folder. A run that takes too long is ended by a signal, so that its status is below 0."""
+        """Runs the program in this folder.
+
+        A run that takes too long is ended by a signal, so that its status is below 0."""
         source, printed, said = (f"{self.path}/{name}" for name in (script, "out", "said"))
         ended = run([program(), *words], source, printed, said, folder=self.path, processor=SECONDS, wall=WALL)
         return Outcome(ended, read(printed), read(said))
@@ -162,6 +165,7 @@ class Folder:
 def arguments(doc: str) -> argparse.Namespace:
     """How many changes are asked for, and their seed."""
     parser = argparse.ArgumentParser(description=doc.split("\n\n")[0])
-    parser.add_argument("changes", metavar="CHANGES", nargs="?", type=int, default=2000, help="how many changed inputs; 2000")
+    changes = "how many changed inputs; 2000"
+    parser.add_argument("changes", metavar="CHANGES", nargs="?", type=int, default=2000, help=changes)
     parser.add_argument("seed", metavar="SEED", nargs="?", type=int, default=1, help="the seed of the changes; 1")
     return parser.parse_args()

@@ -44,7 +44,8 @@ def order(ends: Ends) -> str:
 
 
 class Problem:
-    """Clocks, events and messages by their names, the follow that leads to a clock, and the stamps that each clock shows."""
+    """Clocks, events and messages by their names, the follow that leads to a clock, and the stamps that each clock
+    shows."""
 
     def __init__(self, lines: Sequence[str]) -> None:
         self.clocks: dict[str, list[int]] = {}

@@ -44,10 +44,12 @@ def run(
     processor: int | None = None,
     wall: int | None = None,
 ) -> Run:
-    """Runs a command over the file `script`; what it prints goes to the file `printed`, what it says on the standard error to `said`.
+    """Runs a command over the file `script`; what it prints goes to the file `printed`, what it says on the standard
+    error to `said`.
 
-    A command that takes more than `processor` seconds of a processor, or `wall` seconds, is ended by a signal. A process
-    begins with the peak of the one that starts it, so a peak that is not clearly above that of this Python is not told."""
+    A command that takes more than `processor` seconds of a processor, or `wall` seconds, is ended by a signal. A
+    process begins with the peak of the one that starts it, so a peak that is not clearly above that of this Python is
+    not told."""
     with open(script, "rb") as source, open(printed, "wb") as out, open(said or os.devnull, "wb") as errors:
         begun = time.perf_counter()
         stderr = errors if said else None
@@ -73,7 +75,9 @@ def least(runs: Sequence[Run]) -> Run:
 
 
 def in_turn(count: int, *ways: Callable[[], Run]) -> list[Run]:
-    """What each of some ways takes, the least of so many runs. The ways take turns, so that a busy machine is in the way of all."""
+    """What each of some ways takes, the least of so many runs.
+
+    The ways take turns, so that a busy machine is in the way of all."""
     found: list[list[Run]] = [[] for _ in ways]
     for _ in range(count):
         for runs, way in zip(found, ways):
@@ -82,7 +86,8 @@ def in_turn(count: int, *ways: Callable[[], Run]) -> list[Run]:
 
 
 def peak_of(words: Sequence[str], script: str = os.devnull) -> int | None:
-    """The peak memory of a command in KiB, from a run of its own: by /usr/bin/time where it is installed, which is small itself."""
+    """The peak memory of a command in KiB, from a run of its own: by /usr/bin/time where it is installed, which is
+    small itself."""
     if not os.access("/usr/bin/time", os.X_OK):
         return run(words, script, said=os.devnull).peak
     with open(script, "rb") as source:
