@@ -48,7 +48,7 @@ WRONG_LINES = {
     "more than 1,000 rows of a log are want of memory": (
         "event_log/read.rt", "let before = u64::from(number);",
         "if number > 999 { return Err(LogError::Memory); } let before = u64::from(number);",
-        places.MEMORY, "read_first_rows"),
+        places.MEMORY, "read_records"),
     "a problem of 101 events is want of memory": (
         "problem_solver/items.rt", "let ranks = event_ranks(alloc, p, steps)?;",
         "if p.events().len() > 100 { return Err(AllocError); } let ranks = event_ranks(alloc, p, steps)?;",
@@ -259,7 +259,7 @@ class OfTheTool(unittest.TestCase):
         return subprocess.run([sys.executable, f"{TOOLS}/places", *words], capture_output=True, text=True)
 
     def test_this_tree_and_a_copy_with_a_wrong_line(self):
-        self.assertEqual((self.run_tool("--check").returncode, self.run_tool("--check", "--why").returncode), (0, 1))
+        self.assertEqual((self.run_tool("--check").returncode, self.run_tool("--check", "--why").returncode), (0, 2))
         self.assertIn("== want of memory", self.run_tool("--why").stdout)
         with tempfile.TemporaryDirectory() as room:
             others = shutil.ignore_patterns("out", "proofs", "specs", "must-fail", "data")
