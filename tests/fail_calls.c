@@ -1,4 +1,5 @@
-/* Makes reads and writes of the program that it is loaded into fail, or do less, as the environment says. Built and used by process.py.
+/* Makes reads and writes of the program that it is loaded into fail, or do less, as the environment says. Built and
+ * used by process.py.
  *
  *   FAULT_BEHIND=N  each read that begins N bytes or more into an opened file fails with EIO
  *   FAULT_SHORT=N   a read or write moves N bytes at most
@@ -14,9 +15,6 @@ static long number(const char *name) {
     return said ? atol(said) : 0;
 }
 
-/* The bytes that each descriptor gave, as far as they were read in order. */
-static long given[1024];
-
 static size_t at_most(size_t count) {
     long most = number("FAULT_SHORT");
     return most > 0 && count > (size_t)most ? (size_t)most : count;
@@ -26,13 +24,11 @@ ssize_t read(int file, void *into, size_t count) {
     static ssize_t (*below)(int, void *, size_t);
     if (!below) below = (ssize_t(*)(int, void *, size_t))dlsym(RTLD_NEXT, "read");
     long behind = number("FAULT_BEHIND");
-    if (behind > 0 && file > 2 && file < 1024 && given[file] >= behind) {
+    if (behind > 0 && file > 2 && lseek(file, 0, SEEK_CUR) >= behind) {
         errno = EIO;
         return -1;
     }
-    ssize_t got = below(file, into, at_most(count));
-    if (got > 0 && file >= 0 && file < 1024) given[file] += got;
-    return got;
+    return below(file, into, at_most(count));
 }
 
 ssize_t write(int file, const void *from, size_t count) {
