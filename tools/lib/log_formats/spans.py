@@ -19,7 +19,7 @@ HOSTS = ("host.name", "hostname", "service.name")
 @dataclass
 class Span:
     """A span: its ids, those of its parent ('' if it has none) and of the spans that it is linked to, what it is, and its stamps in ns. `raw` is the object
-    that it was read from."""
+    that it was read from, and `decimals` how many of a second its stamps have."""
 
     host: str
     service: str
@@ -33,6 +33,7 @@ class Span:
     events: list[tuple[int, str]] = field(default_factory=list)
     links: list[tuple[str, str]] = field(default_factory=list)
     raw: Any = None
+    decimals: int = 9
 
 
 @dataclass
@@ -153,7 +154,7 @@ def jaeger_span(raw: dict[str, Any], processes: dict[str, Any], named: str | Non
     links = [(trace, span) for kind, trace, span in references if kind == "FOLLOWS_FROM"]
     host = host_of({"service.name": service, **about}, named)
     return Span(host, service, trace, own, parent, text_in(raw, "operationName"), kind if kind in KINDS else "internal", start,
-                start + ns_in(raw, "duration", 1000), events, links, raw)  # fmt: skip
+                start + ns_in(raw, "duration", 1000), events, links, raw, 6)  # fmt: skip
 
 
 def jaeger_spans(document: Any, named: str | None) -> Iterator[Span]:
@@ -205,9 +206,9 @@ def rows_of(span: Span) -> Iterator[SpanRow]:
     about: dict[str, str | None] = {"host": span.host, "service": span.service, "name": span.name}
     for place, ns, kind, role, (trace, own) in ends_of(span):
         fields = Fields({**about, "trace": trace, "span": own, "role": role, "text": f"{span.name} {place}"})
-        yield SpanRow(span, place, Moment(Decimal(ns), 9, kind, fields, KEY))
+        yield SpanRow(span, place, Moment(Decimal(ns), span.decimals, kind, fields, KEY))
     for number, (ns, name) in enumerate(span.events):
-        yield SpanRow(span, number, Moment(Decimal(ns), 9, "local", Fields({**about, "text": f"{span.name}: {name}"})))
+        yield SpanRow(span, number, Moment(Decimal(ns), span.decimals, "local", Fields({**about, "text": f"{span.name}: {name}"})))
 
 
 def rows_by_host(spans: list[Span]) -> dict[str, list[SpanRow]]:

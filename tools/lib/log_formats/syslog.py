@@ -65,7 +65,7 @@ class Syslog:
             tag = TAG.fullmatch(found["rest"])
             message = tag["message"] if tag else found["rest"]
             fields.update(tag.groupdict() if tag else {})
-        fields.update(message=message, text=message)
+        fields.update(message=message, text=message.strip())
         if fields["stamp"] is None:
             return []
         try:
