@@ -4,7 +4,7 @@ from __future__ import annotations
 
 import re
 
-from .fields import Fields, Moment, moved, need
+from .fields import Fields, Moment, moved, need, stamped
 from .stamps import Stamps, span_of
 
 QUOTED = r'(?:[^"\\]|\\.)*'
@@ -44,8 +44,7 @@ class Common:
         found = need(COMMON.fullmatch(line), 'a line `HOST IDENT USER [30/Nov/2026:02:24:55 +0000] "REQUEST" STATUS BYTES`')
         fields = known(found.groupdict())
         fields.update(message=line, text=told(fields))
-        made = Fields(fields)
-        return [Moment(*need(made.stamp(self.stamp, self.stamps), f"the fields of `{self.stamp}`"), fields=made)]
+        return stamped(Fields(fields), self.stamp, self.stamps)
 
 
 def pattern_of(log_format: str) -> re.Pattern[str]:

@@ -117,3 +117,12 @@ def need(found: Any, wanted: str) -> Any:
     if found is None or found is False:
         raise Unreadable(f"expected {wanted}")
     return found
+
+
+def stamped(fields: Fields, named: str, stamps: Stamps) -> list[Moment]:
+    """Returns the moment of a line, by the stamp that a name says; nothing where that is not there. Raises Unreadable where it is none."""
+    try:
+        found = fields.stamp(named, stamps)
+    except Unreadable as why:
+        raise Unreadable(f"the stamp cannot be taken: {why}")
+    return [Moment(found[0], found[1], fields=fields)] if found else []

@@ -4,8 +4,8 @@ from __future__ import annotations
 
 import re
 
-from .fields import Fields, Moment, json_of, need, text_of
-from .stamps import Stamps, Unreadable
+from .fields import Fields, Moment, json_of, need, stamped, text_of
+from .stamps import Stamps
 
 FIELDS = ("stamp", "kind", "key", "text")
 
@@ -17,15 +17,6 @@ def patterned(fields: Fields, text: str, patterns: list[re.Pattern[str]]) -> Fie
         if found:
             return fields.with_fields(found.groupdict())
     return None
-
-
-def stamped(fields: Fields, named: str, stamps: Stamps) -> list[Moment]:
-    """Returns the moment of a line, by the stamp that a name says; nothing where that is not there."""
-    try:
-        found = fields.stamp(named, stamps)
-    except Unreadable as why:
-        raise Unreadable(f"the stamp cannot be taken: {why}")
-    return [Moment(*found, fields=fields)] if found else []
 
 
 class PatternLines:

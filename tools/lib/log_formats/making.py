@@ -25,8 +25,8 @@ def reader_of(said: argparse.Namespace) -> Any:
         "common": lambda: Common(stamps, said.stamp),
         "journald": lambda: Journal(stamps, said.stamp),
         "nginx": lambda: Nginx(stamps, said.log_format),
-        "strace": lambda: Strace(stamps),
-        "zeek": lambda: Zeek(stamps, said.addresses),
+        "strace": lambda: Strace(),
+        "zeek": lambda: Zeek(stamps, said.address),
     }
     return makers[said.format]()
 

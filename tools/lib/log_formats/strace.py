@@ -5,7 +5,7 @@ from __future__ import annotations
 import re
 
 from .fields import Fields, Moment, moved, need
-from .stamps import Stamps, span_of
+from .stamps import span_of
 
 SENDS = {"send", "sendto", "sendmsg", "sendmmsg", "write", "writev"}
 RECEIVES = {"recv", "recvfrom", "recvmsg", "recvmmsg", "read", "readv"}
@@ -23,7 +23,7 @@ RESUMED = re.compile(r"<\.\.\. (?P<call>\w+) resumed>,? *(?P<rest>.*)", re.S | r
 class Strace:
     """Reads the calls of strace. Fields: pid, call, descriptor, result, took, and message, which is what stands between the parentheses."""
 
-    def __init__(self, stamps: Stamps, stamp: str | None = None) -> None:
+    def __init__(self) -> None:
         # (by its process, the stamp and the call that is not ended yet)
         self.begun: dict[str, tuple[str, str, str]] = {}
 

@@ -4,8 +4,8 @@ from __future__ import annotations
 
 import re
 
-from .fields import Fields, Moment, need
-from .stamps import Stamps, Unreadable
+from .fields import Fields, Moment, need, stamped
+from .stamps import Stamps
 
 WANTED = "a line of syslog, as `Nov 30 02:24:55.103755 HOST TAG[PID]: TEXT` or `<34>1 2026-11-30T02:24:55Z HOST APP PID MSGID - TEXT`"
 LATER = re.compile(r"<(?P<pri>\d{1,3})>\d{1,2} (?P<stamp>\S+) (?P<host>\S+) (?P<app>\S+) (?P<pid>\S+) (?P<msgid>\S+) (?P<rest>[-\[].*)", re.S | re.A)
@@ -48,8 +48,8 @@ def known(fields: dict[str, str | None]) -> dict[str, str | None]:
 class Syslog:
     """Reads lines of syslog. Fields: host, app, pid, msgid, facility, severity, message, and ID.NAME of structured data."""
 
-    def __init__(self, stamps: Stamps, stamp: str | None = None) -> None:
-        self.stamps, self.stamp = stamps, stamp
+    def __init__(self, stamps: Stamps) -> None:
+        self.stamps = stamps
 
     def moments(self, line: str) -> list[Moment]:
         """Returns what a line tells, nothing where it is empty or has no stamp. Raises Unreadable where it is no line of syslog."""
@@ -66,9 +66,4 @@ class Syslog:
             message = tag["message"] if tag else found["rest"]
             fields.update(tag.groupdict() if tag else {})
         fields.update(message=message, text=message.strip())
-        if fields["stamp"] is None:
-            return []
-        try:
-            return [Moment(*self.stamps.read(found["stamp"]), fields=Fields(fields))]
-        except Unreadable as why:
-            raise Unreadable(f"the stamp cannot be taken: {why}")
+        return stamped(Fields(fields), "stamp", self.stamps)

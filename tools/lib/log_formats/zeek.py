@@ -4,10 +4,15 @@ from __future__ import annotations
 
 import re
 
-from .fields import Fields, Moment, json_of, moved, need, text_of
-from .stamps import Stamps, Unreadable, span_of
+from .fields import Fields, Moment, json_of, moved, need, stamped, text_of
+from .stamps import Stamps, span_of
 
 KEY = "{proto}-{id.orig_h}:{id.orig_p}-{id.resp_h}:{id.resp_p}"
+
+
+def end_text(fields: Fields, end: str) -> str:
+    """Returns an end of a connection as a text: its address and its port."""
+    return ":".join(it for it in (fields.get(f"id.{end}_h"), fields.get(f"id.{end}_p")) if it) or "an unknown end"
 
 
 class Zeek:
@@ -62,13 +67,11 @@ class Zeek:
 
     def packets(self, fields: Fields) -> list[Moment]:
         """Returns the first packet of a connection and, where it lasted, the last one."""
-        try:
-            ns, decimals = self.stamps.read(need(fields.get("ts"), "a stamp `ts`"))
-        except Unreadable as why:
-            raise Unreadable(f"the stamp cannot be taken: {why}")
-        ends = f"{fields.get('id.orig_h')}:{fields.get('id.orig_p')} to {fields.get('id.resp_h')}:{fields.get('id.resp_p')}"
-        text = f"{fields.get('proto')} {ends}"
-        found = [Moment(ns, decimals, self.kind(fields), fields.with_fields({"text": text}), KEY)]
+        text = f"{fields.get('proto') or 'unknown'} {end_text(fields, 'orig')} to {end_text(fields, 'resp')}"
+        need(fields.get("ts"), "a stamp `ts`")
+        first = stamped(fields.with_fields({"text": text}), "ts", self.stamps)[0]
+        first.kind, first.key, ns, decimals = self.kind(fields), KEY, first.ns, first.decimals
+        found = [first]
         if fields.get("duration"):
             took, more = span_of(fields.get("duration") or "", "s")
             found.append(Moment(moved(ns, took), max(decimals, more), "local", fields.with_fields({"text": f"{text}: its last packet"})))
