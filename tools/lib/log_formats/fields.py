@@ -8,10 +8,11 @@ import re
 import unicodedata
 from dataclasses import dataclass, field
 from decimal import Decimal
-from typing import Any
+from typing import Any, TypeVar
 
 from .stamps import EXACT, UNITS, Ns, Stamps, Unreadable, span_of
 
+T = TypeVar("T")
 KEY_MOST, TEXT_MOST = 64, 200
 PLACE = re.compile(r"\{([^{}]+)\}")
 SUM = re.compile(rf"(?P<stamp>\S+) (?P<sign>[+-]) (?P<span>\S+)(?: (?P<unit>{'|'.join(UNITS)}))?")
@@ -112,8 +113,8 @@ class Moment:
     key: str = ""
 
 
-def need(found: Any, wanted: str) -> Any:
-    """Returns what was found. Raises Unreadable, which says what was expected, where that is nothing."""
+def need(found: T | None, wanted: str) -> T:
+    """Returns what was found. Raises Unreadable, which says what was expected, where that is None or False."""
     if found is None or found is False:
         raise Unreadable(f"expected {wanted}")
     return found

@@ -3,7 +3,7 @@
 from __future__ import annotations
 
 import argparse
-from typing import Any
+from typing import Any, Callable
 
 from .access import Common, Nginx
 from .fields import KEY_MOST, Fields, Moment, escaped_key, lawful_key, lawful_text
@@ -19,7 +19,7 @@ KINDS = ("send", "receive", "local")
 def reader_of(said: argparse.Namespace) -> Any:
     """Returns what reads the lines of the log that the options name. Raises ValueError where a log_format cannot be read."""
     stamps = Stamps(said.unit, said.zone, said.year)
-    makers = {
+    makers: dict[str | None, Callable[[], Any]] = {
         None: lambda: JsonLines(stamps, said.stamp or "stamp") if said.is_json else PatternLines(stamps, said.stamp or "stamp", said.patterns),
         "syslog": lambda: Syslog(stamps),
         "common": lambda: Common(stamps, said.stamp),
@@ -90,7 +90,7 @@ class Rows:
     def kind_of(self, fields: Fields) -> str:
         """Returns the kind of a row whose format does not say it."""
         word = (fields.filled(self.said.kind) or "").strip().casefold()
-        return "send" if word in self.said.sends else "receive" if word in self.said.receives else self.said.all_kind
+        return "send" if word in self.said.sends else "receive" if word in self.said.receives else str(self.said.all_kind)
 
     def keyed(self, kind: str, key: str | None) -> tuple[str, str]:
         """Returns a kind and a key as a row has them: what has no key is local."""

@@ -69,7 +69,7 @@ def objects(value: Any, *names: str) -> list[dict[str, Any]]:
     """Returns the objects in the array of an object that has one of these names; none where there is none. Raises Unreadable where it is no such array."""
     found: Any = next((value[name] for name in names if value.get(name) is not None), [])
     need(isinstance(found, list) and all(isinstance(it, dict) for it in found), f"an array of objects as `{names[0]}`")
-    return found
+    return list(found)
 
 
 def text_in(value: dict[str, Any], name: str, pattern: str = r".*") -> str:
@@ -161,7 +161,7 @@ def jaeger_spans(document: Any, named: str | None) -> Iterator[Span]:
     """Yields the spans of a document of Jaeger."""
     need(isinstance(document, dict) and "data" in document, "Jaeger's JSON, an object with `data`")
     for at, trace in enumerate(objects(document, "data")):
-        processes = need(trace.get("processes") if isinstance(trace.get("processes"), dict) else None, "an object as `processes`")
+        processes: dict[str, Any] = need(trace.get("processes") if isinstance(trace.get("processes"), dict) else None, "an object as `processes`")
         for number, raw in enumerate(objects(trace, "spans")):
             try:
                 yield jaeger_span(raw, processes, named)
