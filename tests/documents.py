@@ -1,5 +1,5 @@
 #!/usr/bin/env python3
-"""Runs each command of README.md and of the guide, and compares what it prints with what is written there.
+"""Runs each command of README.md and of the pages for users, and compares what it prints with what is written there.
 
     tests/documents.py [DOCUMENT..]
 

@@ -65,6 +65,7 @@ CASES = [
     ([*NGINX, "--log-format", '[$time_local] ${msec}/$request_time up=$upstream_response_time "$request" id="$http_x_id"', "--key", "{http_x_id}.{role}", "--text", "{upstream_response_time}|{path}"],
      '[30/Nov/2026:02:24:55 +0000] 1796005495.123/0.001 up=0.001, 0.002 : 0.004 "GET /a?b=1 HTTP/1.1" id="7f3a"', '1796005495122000000,receive,7f3a.request,"0.001, 0.002 : 0.004|/a?b=1"\n1796005495123000000,send,7f3a.reply,"0.001, 0.002 : 0.004|/a?b=1"\n'),
     (NGINX, '1796005495.123 0.030 - "GET /a HTTP/1.1" 200', "1796005495093000000,local,,GET /a HTTP/1.1 200\n1796005495123000000,local,,GET /a HTTP/1.1 200\n"),
+    ([*NGINX, "--also", "local,msec + request_time,"], '2.000 0.500 a "-" 400', "1500000000,receive,a-request,400\n2500000000,local,,400\n2000000000,send,a-reply,400\n"),
     ([*NGINX, "--key", "{request_id}", "--prefix", "out-,in-"], '2.000 1.500 a "-" 400', "500000000,receive,in-a,400\n2000000000,send,out-a,400\n"),
     # strace: a receive is stamped at its end, a send at its start; no bytes, no socket and failed calls are no messages
     ([*STRACE, "--line", r"id=(?P<key>\w+)"], f'1796005495.103755 recvfrom({TCP}, "id=7", 16, 0, NULL, NULL) = 4 <0.000034>', f'1796005495103789000,receive,7,"recvfrom({TCP}, ""id=7"", 16, 0, NULL, NULL) = 4"\n'),
@@ -139,6 +140,11 @@ WRONG = [
     ([*NGINX, "--key", "{request_id}"], "the key needs {role}"),
     (["--format", "otlp", "x"], "say --folder DIR"),
     (["--format", "otlp", "--folder", "x", "--line", "x", "y"], "spans have no --line"),
+    (["--format", "otlp", "--folder", "x", "--leave-out", "y"], "spans have no --line, --also or --leave-out"),
+    ([*NGINX, "--stamp", "msec"], "--stamp is not for --format nginx"),
+    ([*STRACE, "--all", "send"], "--send, --receive and --all are not for --format strace"),
+    ([*ZEEK, "--receive", "got"], "--send, --receive and --all are not for --format zeek"),
+    ([*NGINX, "--folder", "x"], "--folder is for --format otlp or jaeger"),
     (["--json", "--also", "sent,a,b"], "not of the form KIND,STAMP,KEY"),
     (["--line", "x"], "has no group (?P<stamp>..)"),
 ]
@@ -191,6 +197,12 @@ class LogFormats(unittest.TestCase):
         self.assertEqual(said, "rows: 2 rows made, 0 lines left out\nrows: 1 rows send or receive and have no key: they are local\n"
                          "rows: 1 keys have more than 64 bytes: they were cut, and their sums put behind\n"
                          "rows: no stamp is finer than 1000 ns: where a log cuts off the rest, add that much, and the drift over it, to the host's `late`\n")  # fmt: skip
+
+    def test_help(self) -> None:
+        status, printed, _ = run(["--help"])
+        self.assertEqual(status, 0)
+        for name in ("syslog", "common", "journald", "nginx", "strace", "zeek", "otlp", "jaeger"):
+            self.assertRegex(printed, rf"\n(Formats | {{8}}){name} ")
 
     def test_a_log_that_is_not_there(self) -> None:
         self.assertEqual(run([*SYSLOG, "/nosuch/log"]), (1, "", "rows: /nosuch/log: No such file or directory\n"))

@@ -51,7 +51,8 @@ class Rows:
             fields = self.fields(moment.fields)
             if fields:
                 found.append(self.row(moment, fields, self.said.key or moment.key or "key"))
-                found += self.second(fields)
+                # (once for a line, however many moments the format tells of)
+                found += self.second(fields) if moment is moments[0] else []
         self.left_out += not found
         return found
 
