@@ -15,7 +15,8 @@ from log_formats.making import Rows
 from log_formats.spans import Span
 from log_formats.stamps import Unreadable
 from program import Session
-from replies import UNITS, ns_text, read_merge
+from replies import UNITS, ns_text, read_merge, read_ns, read_problem
+from timeline import AFTER, BEFORE, is_apart, order_of
 
 # How a row of a span is made: by its kind and its ids alone.
 PLAIN = argparse.Namespace(key=None, text=None, prefixes=["", ""], kind="kind", all_kind="local", sends=[], receives=[], also=None)
@@ -49,16 +50,19 @@ class Placed:
 class SpanTimes:
     """The spans of a session: their rows, their times, and what it replies about their order."""
 
-    def __init__(self, session: Session, spans: list[Span], explainer: Explainer) -> None:
-        self.session, self.explainer = session, explainer
+    def __init__(self, spans: list[Span], explainer: Explainer) -> None:
+        self.explainer = explainer
         self.placed = {id(it): Placed(it) for it in spans}
         self.times: dict[str, int] = {}
         self.stamps: dict[str, int] = {}
         self.base = 0
+        self.inputs: list[Input] = []
+        # (ends of messages that take more than no time)
+        self.lasting: set[tuple[str, str]] = set()
 
-    def add(self, folder: str) -> None:
-        """Adds the rows of each host. Raises Told where one is refused, or where the declaration is contradicted."""
-        rows, inputs = Rows(PLAIN), []
+    def write_rows(self, folder: str) -> None:
+        """Writes the rows of each host into a folder."""
+        rows = Rows(PLAIN)
         for _, label, found in written_hosts([it.span for it in self.placed.values()]):
             path = os.path.join(folder, f"{label}.csv")
             with open(path, "x", encoding="utf-8") as out:
@@ -67,18 +71,22 @@ class SpanTimes:
                 # (of a start that has several rows, as that of a consumer with links, the first one is its event)
                 self.placed[id(it.span)].names.setdefault(it.place, f"{label}#{number}")
                 self.stamps[f"{label}#{number}"] = int(it.moment.ns)
-            line = f"add {label} {path}"
-            reply = self.session.ask(line)[0].split(" ")
+            self.inputs.append(open_input(Input(label, label, path)))
+
+    def add(self, session: Session) -> None:
+        """Adds the rows of all hosts. Raises Told where a file is refused."""
+        for it in self.inputs:
+            line = f"add {it.label} {it.path}"
+            reply = session.ask(line)[0].split(" ")
             if reply[0] == "refused":
                 raise Told([f"{' '.join(reply)}: {self.explainer.refusals.told(line, reply[1:])}"])
-            inputs.append(open_input(Input(label, label, path)))
-        self.take_merge(inputs)
 
-    def take_merge(self, inputs: list[Input]) -> None:
-        """Takes the times of the earliest execution, in which the first event keeps its stamp."""
-        problem, merged = self.session.ask("problem"), self.session.ask("merge")
+    def take_merge(self, session: Session) -> None:
+        """Takes the times of the earliest execution, in which the first event keeps its stamp. Raises Told where the declaration is contradicted."""
+        problem, merged = session.ask("problem"), session.ask("merge")
         if merged[0].startswith("certificate"):
-            raise Told(["The declaration is contradicted, so there are no times.", *self.explainer.told_cycle(merged, problem, dict(enumerate(inputs)))])
+            raise Told(["The declaration is contradicted, so there are no times.", *self.explainer.told_cycle(merged, problem, dict(enumerate(self.inputs)))])
+        self.lasting = {ends for ends, (least, _) in read_problem(problem).messages.items() if least > 0}
         self.times = {name: time for name, (time, _) in read_merge(merged).items()}
         first = next(iter(self.times), None)
         self.base = self.stamps[first] * UNITS - self.times[first] if first else 0
@@ -87,48 +95,12 @@ class SpanTimes:
         """Returns the ns since 1970 of an event, by the clock of the first one; what is below is cut off."""
         return (self.base + self.times[name]) // UNITS
 
-    def ask_spans(self) -> dict[int, dict[str, str]]:
-        """Returns the attributes of each span, by its number in memory."""
-        traces: dict[str, list[Placed]] = {}
-        for it in self.placed.values():
-            traces.setdefault(it.span.trace, []).append(it)
-        found: dict[int, dict[str, str]] = {}
-        for number, spans in enumerate(traces.values()):
-            spans.sort(key=lambda it: self.times[it.start])
-            first = spans[0]
-            if number < KEPT_MOST:
-                self.session.ask(f"keep {first.start}")
-            for it in spans:
-                found[id(it.span)] = {"tracesync.since": f"{first.span.id} start", **self.ends(first.start, it), **self.parent(it, spans), **self.sibling(it, spans)}
-        return found
-
-    def ends(self, first: str, it: Placed) -> dict[str, str]:
-        """Returns how much later than the first event of its trace a span began and ended, at least and at most."""
-        found = {}
-        for place in ("start", "end"):
-            words = self.session.ask(f"interval {first} {it.names[place]}")[0].split(" ")
-            found |= {f"tracesync.{place}.least_ns": words[1], f"tracesync.{place}.most_ns": words[2]}
-        return found
-
-    def order(self, one: str, other: str) -> str:
-        """Returns how one event lies to another in each execution: before, after, same or open."""
-        return self.session.ask(f"order {one} {other}")[0].split(" ")[1]
-
-    def parent(self, it: Placed, spans: list[Placed]) -> dict[str, str]:
-        """Returns how the ends of a span's parent lie to those of the span."""
-        parent = next((other for other in spans if other.span.id == it.span.parent and other is not it), None)
-        if not parent:
-            return {}
-        return {"tracesync.order.parent_start": self.order(parent.start, it.start), "tracesync.order.parent_end": self.order(parent.end, it.end)}
-
-    def sibling(self, it: Placed, spans: list[Placed]) -> dict[str, str]:
-        """Returns how a span lies to the next one of the same parent, as they begin in this execution."""
-        siblings = [other for other in spans if other.span.parent == it.span.parent]
-        at = next(number for number, other in enumerate(siblings) if other is it)
-        if not it.span.parent or at + 1 == len(siblings):
-            return {}
-        other = siblings[at + 1]
-        return {"tracesync.next": other.span.id, "tracesync.order.next_start": self.order(other.start, it.start), "tracesync.order.next_start_end": self.order(other.start, it.end)}
+    def traces(self) -> list[list[Placed]]:
+        """Returns the spans of each trace, as they begin in this execution."""
+        found: dict[str, list[Placed]] = {}
+        for it in sorted(self.placed.values(), key=lambda it: self.times[it.start]):
+            found.setdefault(it.span.trace, []).append(it)
+        return list(found.values())
 
     def move(self, it: Placed, told: dict[str, str]) -> bool:
         """Writes times and attributes into the object that a span was read from. Returns whether its end had to be put to its start."""
@@ -139,6 +111,55 @@ class SpanTimes:
         exact = {f"tracesync.{place}.ns": ns_text(self.times[it.names[place]]) for place in ("start", "end")}
         raw["attributes"] = [*(raw.get("attributes") or []), *attributes({**exact, **told})]
         return self.times[it.end] < self.times[it.start]
+
+
+class Trace:
+    """What a session replies about the spans of one trace, which stand as they begin in the earliest execution."""
+
+    def __init__(self, session: Session, spans: list[Placed], lasting: set[tuple[str, str]]) -> None:
+        self.session, self.spans, self.lasting, self.first = session, spans, lasting, spans[0].start
+        session.ask(f"keep {self.first}")
+        self.words = {name: session.ask(f"interval {self.first} {name}")[0].split(" ") for it in spans for name in (it.start, it.end)}
+
+    def told(self, it: Placed) -> dict[str, str]:
+        """Returns the attributes of a span."""
+        return {"tracesync.since": f"{self.spans[0].span.id} start", **self.ends(it), **self.parent(it), **self.sibling(it)}
+
+    def ends(self, it: Placed) -> dict[str, str]:
+        """Returns how much later than the first event of its trace a span began and ended, at least and at most."""
+        found = {}
+        for place in ("start", "end"):
+            words = self.words[it.names[place]]
+            found |= {f"tracesync.{place}.least_ns": words[1], f"tracesync.{place}.most_ns": words[2]}
+        return found
+
+    def order(self, one: str, other: str) -> str:
+        """Returns how one event lies to another in each execution: before, after, same or open. It is asked where neither the intervals since the
+        first one show it, nor that both are the ends of a message whose least delay is above 0."""
+        ends = {name: (read_ns(self.words[name][1]), read_ns(self.words[name][2])) for name in (one, other)}
+        if one == self.first:
+            return order_of(ends[other])
+        if (one, other) in self.lasting or is_apart(ends[one], ends[other]):
+            return BEFORE
+        if (other, one) in self.lasting or is_apart(ends[other], ends[one]):
+            return AFTER
+        return self.session.ask(f"order {one} {other}")[0].split(" ")[1]
+
+    def parent(self, it: Placed) -> dict[str, str]:
+        """Returns how the ends of a span's parent lie to those of the span."""
+        parent = next((other for other in self.spans if other.span.id == it.span.parent and other is not it), None)
+        if not parent:
+            return {}
+        return {"tracesync.order.parent_start": self.order(parent.start, it.start), "tracesync.order.parent_end": self.order(parent.end, it.end)}
+
+    def sibling(self, it: Placed) -> dict[str, str]:
+        """Returns how a span lies to the next one of the same parent, as they begin in this execution."""
+        siblings = [other for other in self.spans if other.span.parent == it.span.parent]
+        at = next(number for number, other in enumerate(siblings) if other is it)
+        if not it.span.parent or at + 1 == len(siblings):
+            return {}
+        other = siblings[at + 1]
+        return {"tracesync.next": other.span.id, "tracesync.order.next_start": self.order(other.start, it.start), "tracesync.order.next_start_end": self.order(other.start, it.end)}
 
 
 def attributes(found: dict[str, str]) -> list[dict[str, Any]]:
@@ -162,10 +183,18 @@ def check(spans: Iterable[Span]) -> None:
 def move_spans(declaration: str, program: str, spans: list[Span]) -> tuple[int, int]:
     """Moves spans, and returns how many there are, and how many end before they begin in this execution. Raises Told where there are no times."""
     check(spans)
-    explainer = Explainer(declaration, program)
-    with tempfile.TemporaryDirectory(prefix="tracesync-") as folder, Session(declaration, program) as session:
-        found = SpanTimes(session, spans, explainer)
-        found.add(folder)
-        told = found.ask_spans()
-        turned = [found.move(it, told[id(it.span)]) for it in found.placed.values()]
+    found, told = SpanTimes(spans, Explainer(declaration, program)), {}
+    with tempfile.TemporaryDirectory(prefix="tracesync-") as folder:
+        found.write_rows(folder)
+        with Session(declaration, program) as session:
+            found.add(session)
+            found.take_merge(session)
+        traces = found.traces()
+        # (a session keeps so many events, and to add all once more is less work than to ask from an event that is not kept)
+        for at in range(0, len(traces), KEPT_MOST):
+            with Session(declaration, program) as session:
+                found.add(session)
+                for trace in (Trace(session, it, found.lasting) for it in traces[at : at + KEPT_MOST]):
+                    told |= {id(it.span): trace.told(it) for it in trace.spans}
+    turned = [found.move(it, told[id(it.span)]) for it in found.placed.values()]
     return len(turned), sum(turned)
