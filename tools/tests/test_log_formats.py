@@ -44,6 +44,7 @@ CASES = [
     (SYSLOG, "<165>1 2003-08-24T05:14:15.000003-07:00 192.0.2.1 myproc 8710 - - %% It's time to make the do-nuts.", "1061727255000003000,local,,%% It's time to make the do-nuts.\n"),
     ([*SYSLOG, "--text", "{app}/{msgid}/{exampleSDID@32473.iut}/{exampleSDID@32473.eventSource}/{exampleSDID@32473.eventID}/{facility}.{severity}"],
      f"<165>1 2003-10-11T22:14:15.003Z mymachine.example.com evntslog - ID47 {ELEMENT}[examplePriority@32473 class=\"high\"]", '1065910455003000000,local,,"evntslog/ID47/3/Appli""cation]/\\1\\0/20.5"\n'),
+    ([*SYSLOG, "--text", "{facility}.{severity}"], "<191>1 1970-01-01T00:00:00Z h a - - -", "0,local,,23.7\n"),
     (SYSLOG, "<34>1 - h a - - - no stamp\n\n<34>1 1970-01-01T00:00:01Z h a - - -", "1000000000,local,,\n"),
     # what a message has to be, and its key
     ([*EARLIER, "--send", "sent", "--receive", "got", "--line", r"(?P<kind>sent|got) id=(?P<id>\S+)", "--key", "{host}/{id}", "--prefix", "request-,reply-"],
@@ -71,8 +72,8 @@ CASES = [
     ([*STRACE, "--line", r"id=(?P<key>\w+)"], f'1796005495.103755 recvfrom({TCP}, "id=7", 16, 0, NULL, NULL) = 4 <0.000034>', f'1796005495103789000,receive,7,"recvfrom({TCP}, ""id=7"", 16, 0, NULL, NULL) = 4"\n'),
     ([*STRACE, "--line", r"id=(?P<key>\w+)", "--text", "call"], f'411 1796005495.103755 sendto({TCP}, "id=7) = 3", 9, 0, NULL, 0) = 9 <0.000034>\n[pid   411] 1.5 write({TCP}, "id=8", 4) = 4 <0.25>', "1796005495103755000,send,7,sendto\n1500000000,send,8,write\n"),
     ([*STRACE, "--text", "{call} {result}", "--key", "result"],
-     f'1.5 read({TCP}, "", 16) = 0 <0.1>\n1.5 read(3</etc/hosts>, "id", 16) = 2 <0.1>\n1.5 read(3, "id", 16) = 2 <0.1>\n1.5 recvmsg(3, 0x7ffe, 0) = -1 EAGAIN (Resource temporarily unavailable) <0.1>\n1.5 fsync(4) = 0 <0.1>\n1.5 exit_group(0) = ?\n',
-     "1500000000,local,,read 0\n1500000000,local,,read 2\n1500000000,local,,read 2\n1500000000,local,,recvmsg -1\n1500000000,local,,fsync 0\n1500000000,local,,exit_group ?\n"),
+     f'1.5 read({TCP}, "", 16) = 0 <0.1>\n1.5 read(3</etc/hosts>, "id", 16) = 2 <0.1>\n1.5 read(3, "id", 16) = 2 <0.1>\n1.5 recvmsg(3, 0x7ffe, 0) = -1 EAGAIN (Resource temporarily unavailable) <0.1>\n1.5 fsync(4) = 0 <0.1>\n1.5 openat(3, "a") = 4 <0.1>\n1.5 exit_group(0) = ?\n',
+     "1500000000,local,,read 0\n1500000000,local,,read 2\n1500000000,local,,read 2\n1500000000,local,,recvmsg -1\n1500000000,local,,fsync 0\n1500000000,local,,openat 4\n1500000000,local,,exit_group ?\n"),
     ([*STRACE, "--line", r"id=(?P<key>\w+)", "--text", "{call} {descriptor} {result}"],
      '7 1.000000 recvmsg(3<socket:[9]>,  <unfinished ...>\n8 1.100000 sendmsg(4, {msg_iov="id=b"}, 0 <unfinished ...>\n7 1.200000 <... recvmsg resumed>{msg_iov="id=a"}, 0) = 4 <0.150001>\n8 1.300000 <... sendmsg resumed>) = 4 <0.2>\n7 1.4 +++ exited with 0 +++\nstrace: Process 9 attached\n9 1.5 <... recvmsg resumed>"id=c", 0) = 4 <0.1>\n',
      "1150001000,receive,a,recvmsg 3<socket:[9]> 4\n1100000000,send,b,sendmsg 4 4\n"),
@@ -102,6 +103,9 @@ REFUSED = [
     ([*SYSLOG, "--year", "2026", "--zone", "Z"], "Nov 30 02:24:55 h a: b\nFeb 29 02:24:55 h a: b", "line 2: the stamp cannot be taken: no such day"),
     (EARLIER, "Abc 30 02:24:55 h a: b", "line 1: the stamp cannot be taken: Abc is no month"),
     (EARLIER, "hello", "line 1: expected a line of syslog"),
+    (["--json"], '{"stamp":"2026-00-10T00:00:00Z"}', "line 1: the stamp cannot be taken: no such day"),
+    (["--json"], '{"stamp":"1969-12-31T23:59:59Z"}', "line 1: the stamp cannot be taken: it is before 1970"),
+    (["--json", "--unit", "ns"], '{"stamp":4611686018427387904}', "line 1: the stamp cannot be taken: it is before 1970, or its ns since then pass 2^62"),
     (SYSLOG, "<192>1 2026-11-30T02:24:55Z h a - - - x", "line 1: expected a priority from <0> to <191>"),
     (SYSLOG, '<34>1 2026-11-30T02:24:55Z h a - - [id name="x] y', "line 1: expected structured data"),
     (SYSLOG, "<34>1 2026-11-30T02:24:55Z h a - - -x", "line 1: expected structured data"),
@@ -197,6 +201,13 @@ class LogFormats(unittest.TestCase):
         self.assertEqual(said, "rows: 2 rows made, 0 lines left out\nrows: 1 rows send or receive and have no key: they are local\n"
                          "rows: 1 keys have more than 64 bytes: they were cut, and their sums put behind\n"
                          "rows: no stamp is finer than 1000 ns: where a log cuts off the rest, add that much, and the drift over it, to the host's `late`\n")  # fmt: skip
+
+    def test_how_fine_stamps_are(self) -> None:
+        for stamp, wanted in (("1.5", "no stamp is finer than 100000000 ns"), ("1.123456789", ""), ("1.1234567891", "some stamps are finer than 1 ns")):
+            with self.subTest(stamp=stamp):
+                _, _, said = self.run_log(["--json"], f'{{"stamp":{stamp}}}')
+                self.assertTrue(said.startswith(f"rows: 1 rows made, 0 lines left out\n{'rows: ' if wanted else ''}{wanted}"), said)
+                self.assertEqual(said.count("\n"), 2 if wanted else 1)
 
     def test_help(self) -> None:
         status, printed, _ = run(["--help"])

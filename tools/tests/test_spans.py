@@ -109,7 +109,7 @@ class Spans(unittest.TestCase):
 
     def test_labels(self) -> None:
         # (the sums are SHA-256 of the name)
-        for host, label in (("web-1.example_", "web-1.example_"), ("dB", "dB"), ("h" * 32, "h" * 32), ("h" * 33, "hhhhhhhhhhhhhhhhhhhhhhh_d48b942c"), ("../db", "___db_6fc99c01"),
+        for host, label in (("web-1.example_", "web-1.example_"), ("dB", "dB"), ("a", "a"), ("h" * 32, "h" * 32), ("h" * 33, "hhhhhhhhhhhhhhhhhhhhhhh_d48b942c"), ("../db", "___db_6fc99c01"),
                             ("-x", "_x_a4209624"), (".", "__cdb4ee2a"), ("web\u00e9", "web__062d59df")):  # fmt: skip
             with self.subTest(host=host):
                 self.assertEqual(label_of(host), label)
