@@ -93,6 +93,7 @@ CASES = [
     ([*SYSLOG, "--leave-out", "--zone", "Z", "--year", "2026"], "???\nNov 30 02:24:55 h a: b\nFeb 30 02:24:55 h a: b\n", "1796005495000000000,local,,b\n"),
     # keys: what no key may have is written as %XX, and one of more than 64 bytes has its sum
     ([*JOURNAL, "--all", "send", "--key", "{MESSAGE}"], '{"__REALTIME_TIMESTAMP":"1","MESSAGE":"a b"}', "1000,send,a%20b,a b\n"),
+    ([*JOURNAL, "--all", "send", "--key", "MESSAGE", "--text", "none"], '{"__REALTIME_TIMESTAMP":"1","MESSAGE":"!~%\u007f\u00f6"}', "1000,send,!~%25%7F%C3%B6,\n"),
     ([*JOURNAL, "--all", "send", "--key", "{MESSAGE}k", "--text", "none"], json.dumps({"__REALTIME_TIMESTAMP": "1", "MESSAGE": "k" * 64}), "1000,send,kkkkkkkkkkkkkkkkkkkkkkkkkkkkkkk~f39cdc2584758c99cf81c1f41d2572f5,\n"),
 ]
 

@@ -107,6 +107,16 @@ class Spans(unittest.TestCase):
         self.assertEqual(list(self.rows("otlp", text, "--host", "service.name")), [f"{label_of('../db')}.csv", "shop.csv"])
         self.assertEqual(list(self.rows("otlp", text, "--key", "{span}.{role}").values())[1].split(",")[2], "s.request")
 
+    def test_what_is_told_of_hosts(self) -> None:
+        with tempfile.TemporaryDirectory() as room:
+            with open(f"{room}/log", "w", encoding="utf-8") as it:
+                it.write("\n".join(json.dumps(document) for document in (otlp(span()), otlp(span(spanId="x", kind=1), span(spanId="y", kind=1), host_name="a b"))))
+            with contextlib.redirect_stdout(io.StringIO()) as printed, contextlib.redirect_stderr(io.StringIO()) as said:
+                ROWS.main(["--format", "otlp", "--folder", room, f"{room}/log"])
+        label = label_of("a b")
+        self.assertEqual(printed.getvalue().replace(room, "DIR"), f"{label}=DIR/{label}.csv: 4 rows of the host 'a b'\nweb=DIR/web.csv: 2 rows\n")
+        self.assertEqual(said.getvalue(), "rows: 6 rows made, 0 lines left out\n")
+
     def test_labels(self) -> None:
         # (the sums are SHA-256 of the name)
         for host, label in (("web-1.example_", "web-1.example_"), ("dB", "dB"), ("a", "a"), ("h" * 32, "h" * 32), ("h" * 33, "hhhhhhhhhhhhhhhhhhhhhhh_d48b942c"), ("../db", "___db_6fc99c01"),
