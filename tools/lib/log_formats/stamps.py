@@ -7,7 +7,7 @@ from decimal import Context, Decimal
 from typing import Tuple
 
 UNITS = {"s": 9, "ms": 6, "us": 3, "ns": 0}
-STAMP_LIMIT = 2**62
+STAMP_LIMIT, DECIMALS_MOST = 2**62, 500
 # More digits than any line has.
 EXACT = Context(prec=1_000_000)
 MONTHS = ("jan", "feb", "mar", "apr", "may", "jun", "jul", "aug", "sep", "oct", "nov", "dec")
@@ -64,9 +64,11 @@ def span_of(text: str, unit: str) -> Ns:
     if not NUMBER.fullmatch(text):
         raise Unreadable(f"`{text[:60]}` is no number")
     number = Decimal(text)
-    # (a number of 30 digits is out of range in each unit, and none has 500 decimals)
-    if number.adjusted() > 30 or int(number.as_tuple().exponent) < -500:
-        raise Unreadable(f"`{text[:60]}` is out of range")
+    # (a number of 30 digits is out of range in each unit)
+    if number.adjusted() > 30:
+        raise Unreadable(f"`{text[:60]}` is out of range: its ns pass 2^62")
+    if int(number.as_tuple().exponent) < -DECIMALS_MOST:
+        raise Unreadable(f"`{text[:60]}` has more than {DECIMALS_MOST} decimals")
     return number.scaleb(UNITS[unit], EXACT), 9 - UNITS[unit] + max(-int(number.as_tuple().exponent), 0)
 
 
@@ -93,10 +95,7 @@ class Stamps:
             return self.read_dated(dated)
         if not NUMBER.fullmatch(text):
             raise Unreadable("it is neither an ISO stamp nor a number")
-        try:
-            return span_of(text, self.unit)
-        except Unreadable:
-            return Decimal(STAMP_LIMIT), 0
+        return span_of(text, self.unit)
 
     def read_dated(self, found: re.Match[str]) -> Ns:
         """Returns the ns of a stamp that one of DATED matched."""
