@@ -188,6 +188,17 @@ class Moved(unittest.TestCase):
         self.assertNotIn("tracesync.next", found["d"])
         self.assertNotIn("tracesync.order.parent_start", found["root"])
 
+    def test_a_span_that_ends_before_it_begins(self) -> None:
+        # App's stamps are 100 ns off, so its end may be 190 ns before its start. No time is below 0: web's start is at 0, app's at 3, and app's end at 0. Of two
+        # events at one time the merge lists app's first, which keeps its stamp of 1010.
+        declaration = '[hosts.web]\n[hosts.app]\nearly = 100\nlate = 100\n' + "".join(f'[labels.{it}]\nhost = "{it}"\nkind = "log"\n' for it in ("web", "app"))
+        declaration += '[[links]]\nfrom = "web"\nto = "app"\nleast = 3\n'
+        web = otlp(span(spanId="c", startTimeUnixNano="100", endTimeUnixNano="300"))
+        found = self.moved(declaration, web, otlp(span(spanId="s", parentSpanId="c", kind=2, startTimeUnixNano="1000", endTimeUnixNano="1010"), host_name="app"))
+        self.assertEqual({name: (it["start"], it["end"], it["tracesync.start.ns"], it["tracesync.end.ns"]) for name, it in found.items()},
+                         {"c": ("1010", "1210", "0.000000000", "200.000000000"), "s": ("1013", "1013", "3.000000000", "0.000000000")})  # fmt: skip
+        self.assertEqual((found["s"]["tracesync.since"], found["s"]["tracesync.order.parent_end"]), ("c start", "open"))
+
     def test_what_is_refused(self) -> None:
         with tempfile.TemporaryDirectory() as room:
             for name, text in (("web.toml", '[hosts.web]\n[labels.web]\nhost = "web"\nkind = "log"\n'), ("bad.toml", "[hosts"), ("late.json", json.dumps(otlp(span(), span())))):
