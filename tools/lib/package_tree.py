@@ -11,7 +11,7 @@ from elf import needs_of, packages_of
 from front import Command, commands_of, filled, front_of
 from manual_pages import main_pages, tool_page
 from proof import Proof, proof_text, read
-from tool_help import PYTHON, RUNNING, TOOLS, Help, help_of, told_by
+from tool_help import PYTHON, RUNNING, TOOLS, Help, help_of, renamed, told_by
 
 # Here the modules of the tools look for the program, since it stands above them as ./tracesync does in a clone.
 PROGRAM = "lib/tracesync/tracesync"
@@ -73,11 +73,12 @@ class Tree:
             self.put(f"bin/tracesync-{it}", text, True)
 
     def add_tools(self) -> None:
+        """Adds the tools and what they stand on; what they say names the tools as they are installed."""
         for it in TOOLS:
-            self.found[f"lib/tracesync/tools/{it}"] = File(read(f"{self.top}/tools/{it}"), True)
+            self.put(f"lib/tracesync/tools/{it}", renamed(text_of(f"{self.top}/tools/{it}")), True)
             self.put(f"lib/tracesync/help/{it}", self.texts[it])
         for it in modules_of(self.top, self.files):
-            self.found[f"lib/tracesync/tools/lib/{it}"] = File(read(f"{self.top}/tools/lib/{it}"))
+            self.put(f"lib/tracesync/tools/lib/{it}", renamed(text_of(f"{self.top}/tools/lib/{it}")))
 
     def add_pages(self) -> None:
         """Adds the manual pages."""

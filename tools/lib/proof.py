@@ -23,9 +23,11 @@ kit      {kit}
 program  {program}
 gate     {gate}
 
-The sums are SHA-256. In a clone at this commit `grep ' crates' PROOF.txt | sha256sum -c` compares those of the sources;
-in the folder that the package is in, which is /usr for a .deb, `grep ' lib/' share/doc/tracesync/PROOF.txt |
-sha256sum -c` compares that of the program.
+The sums below are SHA-256, of the program and of the sources. In a clone at this commit this compares the sources, and
+in the folder that the package is in, which is /usr for a .deb, the program:
+
+    grep '^[0-9a-f]* *crates' PROOF.txt | sha256sum -c --quiet
+    grep '^[0-9a-f]* *lib' share/doc/tracesync/PROOF.txt | sha256sum -c
 
 """
 

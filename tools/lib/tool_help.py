@@ -50,15 +50,19 @@ class Help:
         return sorted(it.flag for own in self.groups.values() for it in own if it.flag)
 
 
+def renamed(text: str) -> str:
+    """Returns a text of the tools with the names that things have where the tools are installed."""
+    for pattern, name in NAMES:
+        text = pattern.sub(name, text)
+    return text
+
+
 def told_by(top: str, tool: str) -> str:
     """Returns what a tool of a clone prints for --help, as it is where it is installed. Raises ValueError where it fails."""
     ran = subprocess.run([sys.executable, f"{top}/tools/{tool}", "--help"], stdin=subprocess.DEVNULL, capture_output=True, text=True)
     if ran.returncode:
         raise ValueError(f"tools/{tool} --help fails, which a package takes its help from")
-    text = LOOK.sub("", ran.stdout)
-    for pattern, name in NAMES:
-        text = pattern.sub(name, text)
-    return text
+    return renamed(LOOK.sub("", ran.stdout))
 
 
 def entries_of(lines: str) -> list[Entry]:
