@@ -82,8 +82,10 @@ def deb_bytes(files: dict[str, File], control: str, seconds: int, folder: str) -
             os.chmod(f"{tree}/{path}", 0o755)
             os.utime(f"{tree}/{path}", (seconds, seconds))
         words = ["dpkg-deb", "--root-owner-group", "-Zgzip", "-z9", "--build", tree, made]
+        # (dpkg-deb has its own files for a while in TMPDIR)
+        variables = {**os.environ, "SOURCE_DATE_EPOCH": str(seconds), "TMPDIR": room, "LC_ALL": "C"}
         try:
-            ran = subprocess.run(words, env={**os.environ, "SOURCE_DATE_EPOCH": str(seconds), "TMPDIR": room, "LC_ALL": "C"}, stdin=subprocess.DEVNULL, capture_output=True, text=True)
+            ran = subprocess.run(words, env=variables, stdin=subprocess.DEVNULL, capture_output=True, text=True)
         except OSError as why:
             raise ValueError(f"dpkg-deb does not start ({why.strerror}): it makes the .deb") from None
         if ran.returncode:

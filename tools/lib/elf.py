@@ -35,7 +35,7 @@ class Executable:
             raise ValueError("it is no executable of Linux on x86-64")
         first, = struct.unpack_from("<Q", data, 32)  # fmt: skip
         size, count = struct.unpack_from("<HH", data, 54)
-        self.segments = [struct.unpack_from("<IIQQQQ", data, first + size * at) for at in range(count)]
+        self.segments: list[tuple[int, ...]] = [struct.unpack_from("<IIQQQQ", data, first + size * at) for at in range(count)]
         self.entries = list(self.dynamic())
         self.strings = next((self.offset(value) for tag, value in self.entries if tag == STRINGS), 0)
 
@@ -50,8 +50,10 @@ class Executable:
         """Returns the tags and values of the table for the loader, none where there is no such table."""
         for kind, _, offset, _, _, length in self.segments:
             if kind == DYNAMIC:
-                found = list(struct.iter_unpack("<qQ", self.data[offset : offset + length // 16 * 16]))
-                yield from found[: next((at for at, (tag, _) in enumerate(found) if tag == 0), len(found))]
+                for tag, value in struct.iter_unpack("<qQ", self.data[offset : offset + length // 16 * 16]):
+                    if tag == 0:
+                        return
+                    yield tag, value
 
     def text(self, at: int) -> str:
         """Returns the text at a place, up to its zero byte."""
@@ -59,7 +61,8 @@ class Executable:
 
     def versions(self) -> dict[str, list[str]]:
         """Returns the versions of symbols that are needed of each library."""
-        table, found = dict(self.entries), {}
+        table = dict(self.entries)
+        found: dict[str, list[str]] = {}
         at = self.offset(table[VERSIONS]) if VERSIONS in table else 0
         for _ in range(table.get(VERSION_COUNT, 0)):
             _, count, file, first, onward = struct.unpack_from("<HHIII", self.data, at)

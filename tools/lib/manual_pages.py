@@ -86,8 +86,8 @@ def paragraph(text: str) -> list[str]:
 def tool_page(tool: str, told: Help, version: str, day: str, tools: list[str]) -> str:
     """Returns the page of a tool, by the parts of its help."""
     body = [".SH SYNOPSIS", *code([line.strip() for line in told.usage.split("\n")])[1:], ".SH DESCRIPTION", *filled(told.about, CODE)]
-    for it in told.paragraphs:
-        body += paragraph(it)
+    for text in told.paragraphs:
+        body += paragraph(text)
     for head, entries in told.groups.items():
         body.append(f'.SH "{escaped(head.capitalize(), PROSE)}"')
         for it in entries:
