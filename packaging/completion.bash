@@ -1,7 +1,7 @@
 # What bash completes behind tracesync: its commands, their files, and the events that a problem names.
 
 _tracesync() {
-  local word=${COMP_WORDS[COMP_CWORD]} kinds=()
+  local word=${COMP_WORDS[COMP_CWORD]} kinds=() kind
   COMPREPLY=()
   if ((COMP_CWORD == 1)); then
     mapfile -t COMPREPLY < <(compgen -W '@NAMES@ --help --version' -- "$word")
@@ -10,7 +10,11 @@ _tracesync() {
   case ${COMP_WORDS[1]} in
 @KINDS@
   esac
-  case ${kinds[COMP_CWORD - 2]-} in
+  kind=${kinds[COMP_CWORD - 2]-}
+  case ${COMP_WORDS[COMP_CWORD - 1]} in
+    '<' | '>' | '>>') kind=SCRIPT ;;
+  esac
+  case $kind in
     '' | N) ;;
     P | Q)
       # The first megabyte of a problem, and no device, is looked into.

@@ -28,7 +28,8 @@ PAGES = (
          ("Numbers", "Texts of lines", "Problem text", "Nodes", "Bounds and the short list", "Execution text", "Certificate text", "Widening text")),
 )  # fmt: skip
 FILES = """below the folder that the package is in, which is /usr for a .deb: the guide and the formats in docs, examples, and
-PROOF.txt, which has the sums of all sources. Paths of examples are relative to this folder."""
+PROOF.txt, which has the sums of all sources. Paths in the pages and the examples are relative to this folder: copy it
+to try them."""
 # Words in two columns.
 COLUMNS = re.compile(r"\S+ {2,}\S")
 

@@ -16,8 +16,9 @@ from tool_help import PYTHON, RUNNING, TOOLS, Help, help_of, renamed, told_by
 # Here the modules of the tools look for the program, since it stands above them as ./tracesync does in a clone.
 PROGRAM = "lib/tracesync/tracesync"
 DOCUMENTS = "share/doc/tracesync"
-# What is packed as it is, beside the examples.
-PAGES = ("CHANGELOG.md", "docs/FORMATS.md", "docs/GUIDE.md", "docs/PROBLEMS.md", "docs/contradiction.svg", "docs/timeline-page.png", "docs/timeline.svg")
+# Pages for whoever uses the program, with the names that things have where they are installed; and what is packed as it is.
+PAGES = ("docs/FORMATS.md", "docs/GUIDE.md", "docs/PROBLEMS.md")
+KEPT = ("CHANGELOG.md", "docs/contradiction.svg", "docs/timeline-page.png", "docs/timeline.svg")
 
 
 def text_of(path: str) -> str:
@@ -83,12 +84,13 @@ class Tree:
     def add_pages(self) -> None:
         """Adds the manual pages."""
         version, day, tools = self.commit.version, self.commit.day, list(TOOLS)
-        pages = main_pages(text_of(f"{self.top}/docs/FORMATS.md"), self.script, version, day, tools)
+        pages = main_pages(renamed(text_of(f"{self.top}/docs/FORMATS.md")), self.script, version, day, tools)
         pages |= {f"tracesync-{it}.1": tool_page(it, self.helps[it], version, day, tools) for it in TOOLS}
         for name, text in pages.items():
             self.found[f"share/man/man{name[-1]}/{name}.gz"] = File(gzip.compress(text.encode(), 9, mtime=0))
 
     def add_completions(self) -> None:
+        """Adds the completions; bash looks for a file of the name of what is completed."""
         flags = {it: own.flags for it, own in self.helps.items()}
         folder = "share/bash-completion/completions"
         self.put(f"{folder}/tracesync", bash_of(self.template("completion.bash"), self.commands))
@@ -97,7 +99,10 @@ class Tree:
         self.put("share/zsh/vendor-completions/_tracesync", zsh_of(self.template("completion.zsh"), self.commands, flags))
 
     def add_documents(self, proof: Proof) -> None:
-        for it in (*PAGES, *(it for it in self.files if it.startswith("examples/"))):
+        """Adds the pages, the examples that they name, and what is known of the proof."""
+        for it in PAGES:
+            self.put(f"{DOCUMENTS}/{it}", renamed(text_of(f"{self.top}/{it}")))
+        for it in (*KEPT, *(it for it in self.files if it.startswith("examples/"))):
             self.found[f"{DOCUMENTS}/{it}"] = File(read(f"{self.top}/{it}"))
         self.put(f"{DOCUMENTS}/PROOF.txt", proof_text(self.top, self.files, self.commit, proof, self.program, PROGRAM))
 

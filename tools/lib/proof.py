@@ -19,7 +19,7 @@ TEXT = """What is known of the proof of this package. It was written when the pa
 
 commit   {commit}
 version  {version}
-kit      {kit}
+kit      {kit} (that on the PATH when the package was made)
 program  {program}
 gate     {gate}
 
@@ -55,7 +55,7 @@ def kit_line() -> str:
     try:
         ran = subprocess.run(["rt", "version"], stdin=subprocess.DEVNULL, capture_output=True, check=True)
     except (OSError, subprocess.CalledProcessError):
-        return "the kit is not on the PATH"
+        return "unknown: there is no rt"
     return plain(os.fsdecode(ran.stdout).strip())[:LINE_MOST]
 
 

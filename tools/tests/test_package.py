@@ -12,7 +12,7 @@ import tempfile
 import unittest
 from pathlib import Path
 
-from commit import ENTRY
+from commit import ENTRY, Commit
 from common import PROGRAM, TOP
 from elf import needs_of, packages_of, version_of
 from manual import macros
@@ -196,7 +196,7 @@ class Package(unittest.TestCase):
     def test_bash_completes_commands_files_and_events(self) -> None:
         (self.room / "problem.txt").write_text("problem 1\nclock c 0 0 0 0\nevent c#1 c 5\nevent d#1 c 6\nend\n")
         path = self.own / "share/bash-completion/completions/tracesync"
-        for words, wanted in (("me", "mergecap"), ("ends prob", "problem.txt"), ("ends problem.txt d", "d#1"), ("trial x", ""), ("--v", "--version"), ("what x", "")):
+        for words, wanted in (("me", "mergecap"), ("ends prob", "problem.txt"), ("ends problem.txt d", "d#1"), ("trial x", ""), ("--v", "--version"), ("what x", ""), ("session x '<' prob", "problem.txt")):
             script = f'. "$0"; COMP_WORDS=(tracesync {words}); COMP_CWORD={len(words.split())}; _tracesync; echo "${{COMPREPLY[*]}}"'
             ran = subprocess.run(["bash", "-c", script, path], cwd=self.room, capture_output=True, text=True)
             self.assertEqual((ran.stdout, ran.stderr), (f"{wanted}\n", ""), words)
@@ -302,6 +302,12 @@ class Parts(unittest.TestCase):
     def test_versions_are_numbers(self) -> None:
         self.assertEqual(version_of(["GLIBC_2.9", "GLIBC_2.34", "GLIBC_2.2.5", "GLIBC_PRIVATE"]), (2, 34))
         self.assertEqual(version_of([]), ())
+
+    @unittest.skipUnless(shutil.which("dpkg"), "dpkg is not there")
+    def test_later_commits_have_greater_versions(self) -> None:
+        versions = [Commit(name * 40, seconds, number).version for name, seconds, number in (("f", SECONDS, "9"), ("a", SECONDS + 60, "9"), ("0", SECONDS, "10"))]
+        for early, late in zip(versions, versions[1:]):
+            self.assertEqual(subprocess.run(["dpkg", "--compare-versions", early, "lt", late]).returncode, 0, versions)
 
     def test_texts_become_macros(self) -> None:
         cases = (
