@@ -15,11 +15,12 @@ LINE_MOST = 400
 BUILT = "the one that this clone built: it is newer than each source"
 NAMED = "one that was named: which sources it was built from was not looked at"
 
-TEXT = """What is known of the proof of this package. It was written when the package was made.
+TEXT = """What is known of the proof of this package. It was written when the package was made, and the kit is the one that was
+then on the PATH.
 
 commit   {commit}
 version  {version}
-kit      {kit} (that on the PATH when the package was made)
+kit      {kit}
 program  {program}
 gate     {gate}
 
@@ -55,7 +56,7 @@ def kit_line() -> str:
     try:
         ran = subprocess.run(["rt", "version"], stdin=subprocess.DEVNULL, capture_output=True, check=True)
     except (OSError, subprocess.CalledProcessError):
-        return "unknown: there is no rt"
+        return "no kit was on the PATH"
     return plain(os.fsdecode(ran.stdout).strip())[:LINE_MOST]
 
 
