@@ -12,8 +12,8 @@ from texts import plain
 # A source of a crate: what the compiler and the proofs read. Edits that must be refused are none.
 SOURCE = re.compile(r"crates/[^/]+/(?:src|specs|proofs)/.+\.(?:rt|antt)")
 LINE_MOST = 400
-BUILT = "the one that this clone built: it is newer than each source"
-NAMED = "one that was named: which sources it was built from was not looked at"
+BUILT = "crates/tracesync/out/tracesync of the clone: it is newer than each source of its crates"
+NAMED = "one that was named: from which sources it was built was not looked at"
 
 TEXT = """What is known of the proof of this package. It was written when the package was made, and the kit is the one that was
 then on the PATH.
