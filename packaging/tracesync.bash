@@ -4,22 +4,22 @@
 # says before which named file is not there or cannot be read, or that the input or the output is none.
 set -u
 top=$(cd "$(dirname "$(readlink -f "${BASH_SOURCE[0]}")")/.." && pwd) || exit 126
+binary=$top/lib/tracesync/tracesync
 
-@FUNCTIONS@
-
-case ${1-} in
-  --help)
-    text=$(print_help)
-    printf '%s\n' "${text//docs\//"$top/share/doc/tracesync/docs/"}"
-    exit
-    ;;
-  --version)
-    cat <<'TEXT'
+print_version() {
+  cat <<'TEXT'
 @VERSION@
 TEXT
-    exit
-    ;;
-esac
-look_before "$@" >&2
-{ : 3>&1; } 2>/dev/null || echo "tracesync: the standard output is closed" >&2
-exec "$top/lib/tracesync/tracesync" "$@"
+}
+
+@FUNCTIONS@
+print_help() {
+  local text
+  text=$(print_text)
+  printf '%s\n' "${text//docs\//"$top/share/doc/tracesync/docs/"}"
+}
+
+# Where there is no Python, an input that was set not to wait stays as it is.
+command -v python3 >/dev/null || is_hasty() { return 1; }
+
+@REST@

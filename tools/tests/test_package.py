@@ -15,6 +15,7 @@ from pathlib import Path
 from commit import ENTRY, Commit
 from common import PROGRAM, TOP
 from elf import needs_of, packages_of, version_of
+from front import front_of
 from manual import macros
 from manual_pages import PAGES, main_pages
 from tool_help import TOOLS, entries_of
@@ -126,6 +127,12 @@ class Package(unittest.TestCase):
         self.assertTrue(told.startswith("usage: tracesync COMMAND"))
         for it in re.findall(r"(\S+\.md)", told):
             self.assertTrue(os.path.isfile(it), it)
+
+    def test_the_front_builds_nothing(self) -> None:
+        text = (self.own / "bin/tracesync").read_text()
+        for it in ("is_old", "crates", "tools/build", "git "):
+            self.assertNotIn(it, text)
+        self.assertEqual(subprocess.run(["bash", "-n", self.own / "bin/tracesync"], capture_output=True).returncode, 0)
 
     @unittest.skipIf(PROGRAM, "the real program stands in the package")
     def test_the_front_becomes_the_program(self) -> None:
@@ -308,6 +315,12 @@ class Parts(unittest.TestCase):
         versions = [Commit(name * 40, seconds, number).version for name, seconds, number in (("f", SECONDS, "9"), ("a", SECONDS + 60, "9"), ("0", SECONDS, "10"))]
         for early, late in zip(versions, versions[1:]):
             self.assertEqual(subprocess.run(["dpkg", "--compare-versions", early, "lt", late]).returncode, 0, versions)
+
+    def test_a_front_is_the_script_without_what_builds(self) -> None:
+        script = "set -u\ntop=x\n\nprint_help() {\n  cat\n}\n\n# Old.\nis_old() {\n  a\n}\n\n# New.\nlook() {\n  if b; then\n    c\n  fi\n}\n\ncase $1 in\nesac\nif is_old; then build; fi\nexec d\n"
+        self.assertEqual(front_of(script, "@FUNCTIONS@@REST@/@VERSION@", "7"), "print_text() {\n  cat\n}\n\n# New.\nlook() {\n  if b; then\n    c\n  fi\n}\ncase $1 in\nesac\nexec d/7")
+        with self.assertRaisesRegex(ValueError, "no line if is_old"):
+            front_of(script.replace("if is_old;", "is_old &&"), "@FUNCTIONS@@REST@", "7")
 
     def test_texts_become_macros(self) -> None:
         cases = (
