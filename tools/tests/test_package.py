@@ -243,6 +243,13 @@ class Refusals(unittest.TestCase):
         path.write_bytes(Path(ECHO).read_bytes().replace(old, new))
         return str(path)
 
+    def test_the_words_of_the_tool(self) -> None:
+        ran = package(self.top, "--help")
+        self.assertEqual((ran.returncode, ran.stderr, "tools/package" in ran.stdout), (0, "", True))
+        for words in (["--what"], ["a"], ["--folder"]):
+            ran = package(self.top, *words)
+            self.assertEqual((ran.returncode, ran.stdout, len(ran.stderr.splitlines())), (2, "", 1), ran.stderr)
+
     def test_a_program_that_is_none(self) -> None:
         self.refused("no program is built")
         self.refused("nosuch: No such file", "--program", f"{self.room}/nosuch")
