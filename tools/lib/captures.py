@@ -21,12 +21,14 @@ NAME, ADDRESS4, ADDRESS6, RESOLUTION, OFFSET, FLAGS = 2, 4, 5, 9, 14, 2
 
 @dataclass(slots=True)
 class Packet:
-    """A packet: its stamp in ns, the number of its link type, its bytes, and whether it went out, where the file says so."""
+    """A packet: its stamp in ns, the number of its link type, its bytes, whether it went out, where the file says so, and the number of
+    its interface in a file that has several."""
 
     stamp: int
     link: int
     data: bytes
     is_sent: bool | None = None
+    interface: int = 0
 
 
 @dataclass
@@ -143,4 +145,4 @@ class Blocks:
         flags = self.options(block, 28 + (captured + 3) // 4 * 4).get(FLAGS, b"")
         direction = struct.unpack(f"{self.order}I", flags)[0] & 3 if len(flags) == 4 else 0
         stamp = ((high << 32) + low) * 10**9 // per_second + seconds * 10**9
-        self.found.packets.append(Packet(stamp, link, block[28 : 28 + captured], {1: False, 2: True}.get(direction)))
+        self.found.packets.append(Packet(stamp, link, block[28 : 28 + captured], {1: False, 2: True}.get(direction), number))

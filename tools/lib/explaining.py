@@ -13,7 +13,7 @@ from program import PROGRAM, Ended, Session
 from refusals import Refusals
 from replies import UNITS, read_cycle, read_ns, read_problem
 from texts import plain
-from words import REASONS, count_text, greatest_text, least_text, time_text
+from words import REASONS, count_text, greatest_text, least_text, span_text, time_text
 
 
 @dataclass
@@ -112,11 +112,11 @@ class Explainer:
 
     def interval(self, least: int | None, greatest: int | None, one: str, other: str) -> str:
         if least is not None and least >= 0:
-            more = "or more" if greatest is None else f"to {greatest_text(greatest)}"
-            return f"{other} came {least_text(least)} {more} after {one}"
+            told = f"{least_text(least)} or more" if greatest is None else span_text(least, greatest)
+            return f"{other} came {told} after {one}"
         if greatest is not None and greatest <= 0:
-            more = "or more" if least is None else f"to {greatest_text(-least)}"
-            return f"{other} came {least_text(-greatest)} {more} before {one}"
+            told = f"{least_text(-greatest)} or more" if least is None else span_text(-greatest, -least)
+            return f"{other} came {told} before {one}"
         early = "any time" if least is None else f"{time_text(-least, 1)} at most"
         late = "any time" if greatest is None else f"{time_text(greatest, 1)} at most"
         return f"{other} came {early} before or {late} after {one}: which was first is open"

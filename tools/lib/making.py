@@ -3,6 +3,7 @@
 import argparse
 import os
 import sys
+from typing import Any
 
 import neighbours
 import picture
@@ -11,12 +12,15 @@ from chain_picture import chain_svg
 from chrony import read_all_chrony
 from declaration import read_declaration
 from declaring import Declaring
+from event_count import LOOK_MOST, LOOK_TIME, count_events
 from explaining import Explainer
 from files import read_own, write_own
 from inputs import Input, read_inputs
 from page import page
 from program import PROGRAM, Ended, Look, Session
+from progress import Progress
 from replies import read_cycle, read_problem
+from shortfall import Shortfall, unknown_lines
 from texts import plain
 from timeline import FROM_MOST, Timeline, make_timeline, plain_path
 from words import Words, list_lines
@@ -50,18 +54,27 @@ class Making:
         # (questions for orders come last, and would have the program compiled once more)
         self.pairs = said.pairs if said.pairs is not None or self.program else 0
         self.outputs = {name: getattr(said, name) for name in OUTPUTS if getattr(said, name)}
-        self.words = said.files
+        self.words, self.progress = said.files, Progress(sys.stderr)
 
     def make(self) -> int:
         """Makes all outputs, and returns the status."""
+        try:
+            return self.make_all()
+        finally:
+            self.progress.end()
+
+    def make_all(self) -> int:
+        self.progress.begin("reading the files")
         inputs = read_inputs(self.words)
+        if not self.program:
+            self.refuse_look(inputs)
         os.makedirs(self.folder, exist_ok=True)
         for at, it in enumerate(inputs, 1):
             it.path = plain_path(it.path, self.folder, at)
         self.declare(inputs)
-        session: Session | Look = Session(self.declaration, self.program) if self.program else Look(self.declaration)
+        session: Session | Look = Session(self.declaration, self.program, self.progress) if self.program else Look(self.declaration)
         try:
-            found = make_timeline(session, inputs, self.chosen, self.delays, self.pairs, self.declared_source())
+            found = make_timeline(session, inputs, self.chosen, self.delays, self.pairs, self.declared_source(), self.progress)
         except Ended as why:
             self.say(f"The session ended with status {why.status}{': ' if why.lines else ''}{' '.join(why.lines)}")
             self.say(*Explainer(declaration=self.declaration).told_end(why.lines))
@@ -73,17 +86,28 @@ class Making:
         self.keep("replies.txt", "".join(f"{line}\n" for reply in session.replies for line in reply))
         return self.write(found)
 
+    def refuse_look(self, inputs: list[Input]) -> None:
+        """Raises ValueError where tools/first-look would be asked about too many events."""
+        count = sum(count_events(it.path) for it in inputs)
+        if count > LOOK_MOST:
+            raise ValueError(f"--look draws {LOOK_MOST} events at most, and these are {count}: {LOOK_TIME}. Build the program (tools/build), or cut the files")
+
     def declared_source(self) -> str | None:
         """Returns the source that the declaration names, or None where there is none, or where the program will refuse the declaration."""
+        return self.declared().get("source")
+
+    def declared(self) -> dict[str, Any]:
+        """Returns the tables of the declaration, none where the program will refuse it."""
         try:
-            return read_declaration(self.declaration).get("source")
+            return read_declaration(self.declaration)
         except ValueError:
-            return None
+            return {}
 
     def declare(self, inputs: list[Input]) -> None:
         """Writes a declaration, if none was named; one that is there and was changed is left alone."""
         if self.declaration:
             return
+        self.progress.begin("looking for what is to be declared")
         declaring = Declaring(inputs, read_all_chrony(self.chrony), self.source, self.reference)
         text, self.declaration = declaring.text(), f"{self.folder}/hosts.toml"
         last = f"{self.folder}/.hosts.toml"
@@ -93,6 +117,7 @@ class Making:
             write_own(path, text)
         self.say(f"Wrote {self.declaration}: every answer follows from it, so look at each line.")
         self.say(*(f"{it[0].upper()}{it[1:]}." for it in declaring.notes()))
+        self.say(*unknown_lines(declaring.ends.open.items(), self.declaration))
 
     def write(self, found: Timeline) -> int:
         """Tells what was found, and writes the outputs. Returns the status."""
@@ -111,17 +136,20 @@ class Making:
         if not found.events:
             self.say("There are no events, and nothing to draw.")
             return 1
+        self.progress.begin("writing what was found")
+        self.say(*Shortfall([it for it, _ in found.added], self.declared(), found.report, self.declaration).lines())
         for name, path in self.outputs.items():
             self.output_to(path, self.output(name, found))
         for name in () if self.outputs else ("html", "svg"):
             self.keep(f"timeline.{name}", self.output(name, found))
             self.say(f"Wrote {self.folder}/timeline.{name}.")
-        return 1 if refused else 0
+        return 1 if refused or not found.report["messages"] else 0
 
     def output_to(self, path: str, text: str) -> None:
         """Writes an output to where the command line says, be it a link, a device or `-`."""
         if path == "-":
-            sys.stdout.write(text)
+            with self.progress.wiped():
+                sys.stdout.write(text)
             return
         with open(path, "w", encoding="utf-8") as it:
             it.write(text)
@@ -149,7 +177,8 @@ class Making:
         """Says lines on the standard output, or on the standard error where an output goes there: without signs that cannot be seen."""
         out = sys.stderr if "-" in self.outputs.values() else sys.stdout
         try:
-            print("\n".join(plain(it) for it in lines), end="\n" if lines else "", file=out, flush=True)
+            with self.progress.wiped():
+                print("\n".join(plain(it) for it in lines), end="\n" if lines else "", file=out, flush=True)
         except BrokenPipeError:
             # (nobody reads on: the outputs are written all the same)
             os.dup2(os.open(os.devnull, os.O_WRONLY), out.fileno())

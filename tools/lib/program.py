@@ -4,6 +4,7 @@ import os
 import subprocess
 from typing import Self
 
+from progress import Progress
 from replies import is_texted, split_replies
 
 TOP = os.path.dirname(os.path.dirname(os.path.dirname(os.path.realpath(__file__))))
@@ -21,7 +22,8 @@ class Ended(Exception):
 class Session:
     """A session of the program. What it is asked and what it replies is kept in `script` and `replies`."""
 
-    def __init__(self, declaration: str, program: str = PROGRAM) -> None:
+    def __init__(self, declaration: str, program: str = PROGRAM, progress: Progress | None = None) -> None:
+        self.progress = progress or Progress()
         self.script: list[str] = []
         self.replies: list[list[str]] = []
         self.ran = subprocess.Popen([program, "session", declaration], stdin=subprocess.PIPE, stdout=subprocess.PIPE, text=True)
@@ -36,7 +38,9 @@ class Session:
             self.input.flush()
         except BrokenPipeError:
             pass
-        return self.read_reply()
+        reply = self.read_reply()
+        self.progress.step()
+        return reply
 
     def ask_all(self, lines: list[str]) -> list[list[str]]:
         """Returns the replies to lines."""

@@ -13,6 +13,7 @@ from typing import Any, Protocol, TypeVar
 from headers import described
 from inputs import Input
 from program import Look, Session
+from progress import Progress
 from replies import Interval, Problem, read_merge, read_ns, read_problem
 
 K = TypeVar("K")
@@ -21,8 +22,9 @@ T = TypeVar("T")
 Question = tuple[str, Callable[[list[str]], None]]
 
 FROM_MOST = 8
-# How many messages of a link are asked for their delays, and how many questions about orders times events are asked, if not said.
-DELAYS_MOST, PAIRS_WORK = 1000, 3_000_000
+# How many messages of a link, or events of a host, are asked for if not said, at most and at least: an answer may take a search over all
+# events, so questions times events are kept below a number; the same of questions about orders.
+DELAYS_MOST, DELAYS_LEAST, DELAYS_WORK, PAIRS_WORK = 1000, 4, 8_000_000, 3_000_000
 BEFORE, AFTER, SAME, OPEN = "before", "after", "same", "open"
 
 
@@ -94,24 +96,38 @@ class Asked(Protocol):
 class Asking:
     """Asks a session for a timeline."""
 
-    def __init__(self, session: Asked, inputs: list[Input], chosen: Iterable[str] = (), delays: int = DELAYS_MOST, pairs: int | None = None, source: str | None = None) -> None:
+    def __init__(self, session: Asked, inputs: list[Input], chosen: Iterable[str] = (), delays: int | None = None, pairs: int | None = None,
+                 source: str | None = None, progress: Progress | None = None) -> None:  # fmt: skip
         self.session, self.inputs, self.chosen, self.delays, self.pairs, self.source = session, inputs, list(chosen), delays, pairs, source
+        self.progress = progress or Progress()
         self.found = Timeline()
 
     def timeline(self) -> Timeline:
         """Returns the timeline. Of a contradiction it has the cycle, the problem and the report alone."""
         found = self.found
-        *added, report, found.problem, merged = self.session.ask_all([*(f"add {it.label} {it.path}" for it in self.inputs), "report", "problem", "merge"])
+        lines = [*(f"add {it.label} {it.path}" for it in self.inputs), "report", "problem", "merge"]
+        self.progress.begin("adding the files, and merging them", len(lines))
+        *added, report, found.problem, merged = self.session.ask_all(lines)
         found.added = [(it, reply[0]) for it, reply in zip(self.inputs, added)]
         found.report = json.loads(report[0])
         problem = read_problem(found.problem)
         if merged[0].startswith("certificate"):
             found.cycle = merged
         elif problem.events:
+            self.progress.begin("reading what the packets are")
             self.take_events(problem, read_merge(merged))
-            self.ask_round([*self.ends(), *self.delays_of(problem), *self.times()])
+            questions = [list(self.ends()), list(self.delays_of(problem)), list(self.times())]
+            self.ask_rounds(dict(zip(("asking when events were", "asking for delays", "asking when events were by the source"), questions)))
             self.ask_orders()
         return found
+
+    def ask_rounds(self, rounds: dict[str, list[Question]]) -> None:
+        """Asks rounds of questions, each with what it is told as: one by one, or all at once where a session reads its script to the end."""
+        if isinstance(self.session, Look):
+            rounds = {"asking for all": [it for questions in rounds.values() for it in questions]}
+        for told, questions in rounds.items():
+            self.progress.begin(told, len(questions))
+            self.ask_round(questions)
 
     def ask_round(self, questions: list[Question]) -> None:
         """Asks questions, each a line and what takes the words of its reply."""
@@ -159,19 +175,34 @@ class Asking:
         asked = 0
         for it in self.found.messages:
             links.setdefault((problem.events[it.send][0], problem.events[it.receive][0]), []).append(it)
+        most = self.most(len(links))
         for messages in links.values():
-            for it in evenly(messages, self.delays):
+            for it in evenly(messages, most):
                 asked += 1
                 yield f"interval {it.send} {it.receive}", setting(it, "delay", ends_of)
         if asked < len(self.found.messages):
-            self.found.notes.append(f"{asked} of {len(self.found.messages)} messages were asked for their delays, of each link some evenly among all")
+            told = f"{asked} of {len(self.found.messages)} messages were asked for their delays, of each link some evenly among all"
+            self.found.notes.append(f"{told}; --delays N asks N of each link" if self.delays is None else told)
+
+    def most(self, groups: int) -> int:
+        """Returns how many questions are asked of each of so many groups: what was said, or so many that all stay quick."""
+        if self.delays is not None:
+            return self.delays
+        each = DELAYS_WORK // max(len(self.found.events), 1) // max(groups, 1)
+        return min(max(each, DELAYS_LEAST), DELAYS_MOST)
 
     def times(self) -> Iterator[Question]:
         """Yields the questions when the events of other hosts were by the clock of the source, if there is one; of a great many, of some."""
+        most, asked, others = self.delays if self.delays is not None else DELAYS_MOST, 0, 0
         for host in self.found.hosts if self.source else []:
-            for it in evenly([it for it in self.found.events if it.host == host != self.source], self.delays):
+            own = [it for it in self.found.events if it.host == host != self.source]
+            others += len(own)
+            for it in evenly(own, most):
+                asked += 1
                 # (it is refused where the source has no event)
                 yield f"time {it.name}", setting(it, "source_time", lambda words: ends_of(words) if words[0] == "time" else None)
+        if asked < others:
+            self.found.notes.append(f"{asked} of {others} events were asked when they were by the source, of each host some evenly among all")
 
     def ask_orders(self) -> None:
         """Asks for the order of pairs whose bars lie over one another, those nearest in the merge first."""
@@ -187,9 +218,11 @@ class Asking:
             elif len(questions) < most:
                 questions.append((f"order {pair[0]} {pair[1]}", putting(found.orders, pair, lambda words: words[1])))
             else:
-                found.notes.append("not all pairs whose bars lie over one another were asked for their order, only those nearest in the list")
+                told = f"of the pairs whose bars lie over one another only {len(questions)} were asked for their order"
+                found.notes.append(f"{told}, the nearest in the list; --pairs N asks N")
                 break
         if questions:
+            self.progress.begin("asking for orders", len(questions))
             self.ask_round(questions)
 
 
@@ -244,10 +277,11 @@ def near_pairs(names: list[str], ends: dict[str, Interval]) -> Iterator[tuple[st
                 yield names[at], names[at + apart]
 
 
-def make_timeline(session: Session | Look, inputs: list[Input], chosen: Iterable[str] = (), delays: int = DELAYS_MOST, pairs: int | None = None, source: str | None = None) -> Timeline:
+def make_timeline(session: Session | Look, inputs: list[Input], chosen: Iterable[str] = (), delays: int | None = None, pairs: int | None = None,
+                  source: str | None = None, progress: Progress | None = None) -> Timeline:  # fmt: skip
     """Returns the timeline that a session over inputs gives."""
     with session:
-        return Asking(session, inputs, chosen, delays, pairs, source).timeline()
+        return Asking(session, inputs, chosen, delays, pairs, source, progress).timeline()
 
 
 def plain_path(path: str, folder: str, number: int) -> str:

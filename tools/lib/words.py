@@ -6,6 +6,10 @@ from replies import UNITS, Interval
 from texts import plain
 from timeline import Timeline
 
+# Ends lose digits where what is rounded off is more than one part in so many of how far they are apart; below so many ns none are great.
+LOSS, GREAT = 10, 10**6
+# How many decimals behind the point a number has in units, in seconds and in milliseconds.
+DECIMALS = {"s": 18, "ms": 15}
 REASONS = {
     "fragment": "of fragments of datagrams",
     "header": "with a header that cannot be one",
@@ -18,9 +22,14 @@ REASONS = {
 }
 
 
+def unit_of(units: int) -> tuple[int, str]:
+    """Returns the ns of a unit in which a span of time has few digits, and its name."""
+    return next(((size, name) for size, name in ((10**9, "s"), (10**6, "ms"), (10**3, "us")) if abs(units) >= size * UNITS), (1, "ns"))
+
+
 def time_text(units: int, way: int = 0) -> str:
     """Returns a span of time in a unit in which it has few digits, three behind the point at most: rounded down, up or to the nearest one."""
-    size, name = next(((size, name) for size, name in ((10**9, "s"), (10**6, "ms"), (10**3, "us")) if abs(units) >= size * UNITS), (1, "ns"))
+    size, name = unit_of(units)
     return f"{decimal_text(units, size * UNITS, way)} {name}"
 
 
@@ -31,6 +40,41 @@ def decimal_text(units: int, size: int, way: int = 0, digits: int = 3) -> str:
     whole, rest = divmod(abs(scaled), 10**digits)
     text = f"{whole}.{rest:0{digits}}".rstrip("0").rstrip(".")
     return f"-{text}" if scaled < 0 else text
+
+
+def anchor(least: int, greatest: int) -> int:
+    """Returns the number between two, in units, that has the fewest decimals as seconds; of several the one nearest to the middle."""
+    size = 10 ** len(str(max(abs(least), abs(greatest))))
+    while -(-least // size) * size > greatest:
+        size //= 10
+    near = (least + greatest + size) // (2 * size) * size
+    return min(max(near, -(-least // size) * size), greatest // size * size)
+
+
+def loses(least: int, greatest: int) -> bool:
+    """Returns whether ends as `time_text` writes them would say little of how far they are apart."""
+    size = max(abs(least), abs(greatest))
+    return size >= GREAT * UNITS and unit_of(size)[0] * UNITS // 1000 * LOSS > greatest - least >= 0
+
+
+def span_text(least: int | None, greatest: int | None) -> str:
+    """Returns what lies between two ends, `least to greatest`; where they are great and near to each other, a number with what is less and more."""
+    if least is None or greatest is None or not loses(least, greatest):
+        return f"{least_text(least)} to {greatest_text(greatest)}"
+    middle = anchor(least, greatest)
+    size, name = unit_of(max(abs(least), abs(greatest)))
+    told = f"{decimal_text(middle, size * UNITS, digits=DECIMALS[name])} {name}"
+    return told if least == greatest else f"{told}, less {time_text(middle - least, 1)}, plus {time_text(greatest - middle, 1)}"
+
+
+def ends_texts(least: int | None, greatest: int | None) -> tuple[str, str]:
+    """Returns two ends one by one, with so many digits that how far they are apart is not lost."""
+    if least is None or greatest is None or not loses(least, greatest):
+        return least_text(least), greatest_text(greatest)
+    size, name = unit_of(max(abs(least), abs(greatest)))
+    digits = DECIMALS[name] + 1 - len(str(max((greatest - least) // 1000, 1)))
+    one, other = (decimal_text(it, size * UNITS, way, digits) for it, way in ((least, -1), (greatest, 1)))
+    return f"{one} {name}", f"{other} {name}"
 
 
 def least_text(units: int | None) -> str:
@@ -96,7 +140,7 @@ class Words:
                 least, greatest = it.stamp * UNITS - late, it.stamp * UNITS - early
                 if it.host not in found or greatest - least < found[it.host][1] - found[it.host][0]:
                     found[it.host] = (least, greatest, it.name)
-        lines = [f"{host}: {time_text(least, -1)} to {time_text(greatest, 1)}, at {name}" for host, (least, greatest, name) in found.items()]
+        lines = [f"{host}: {span_text(least, greatest)}, at {name}" for host, (least, greatest, name) in found.items()]
         return ["How far stamps are ahead of the clock of the source, where that is known best:", *lines, ""] if lines else []
 
     def delay_rows(self) -> list[tuple[str, ...]]:
@@ -135,6 +179,6 @@ def list_lines(found: Timeline) -> list[str]:
     base = found.find(name).time
     lines = [f"{'time since ' + name:>24}  {'at least':>16}  {'at most':>16}  event"]
     for it in found.events:
-        least, greatest = ends[it.name]
-        lines.append(f"{time_text(it.time - base):>24}  {least_text(least):>16}  {greatest_text(greatest):>16}  {it.name}  {plain(it.text)}".rstrip())
+        least, greatest = ends_texts(*ends[it.name])
+        lines.append(f"{time_text(it.time - base):>24}  {least:>16}  {greatest:>16}  {it.name}  {plain(it.text)}".rstrip())
     return lines

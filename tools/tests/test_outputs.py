@@ -46,6 +46,14 @@ class Outputs(unittest.TestCase):
             self.assertIn("2 messages among 5 events.", self.timeline().stdout)
         self.assertEqual(sorted(os.listdir(f"{self.room}/kept")), [".hosts.toml", "hosts.toml", "replies.txt", "script.txt", "timeline.html", "timeline.svg"])
 
+    def test_without_messages_the_page_is_drawn_and_the_status_is_1(self) -> None:
+        with open(f"{self.room}/program", "w", encoding="utf-8") as it:
+            it.write(STAND_IN.replace("import MERGE", "import REPORT, MERGE").replace("Replies(", "Replies(report=[REPORT.replace('messages\\\":2', 'messages\\\":0')], "))
+        said = self.timeline(status=1).stdout
+        self.assertIn("THERE ARE NO MESSAGES", said)
+        self.assertIn("No row of a log is a `send`", said)
+        self.assertIn("Wrote kept/timeline.html", said)
+
     def test_a_cell_is_no_formula_and_a_line_no_escape(self) -> None:
         said = self.timeline("--csv", "out.csv", "--list", "-")
         rows = list(csv.reader(self.read("out.csv").splitlines()))

@@ -104,7 +104,7 @@ class Whole(unittest.TestCase):
     def test_a_path_with_a_blank(self) -> None:
         with open(f"{EXAMPLES}/session/web.csv", "rb") as one, open(f"{self.room.name}/my web.csv", "wb") as other:
             other.write(one.read())
-        self.assertIn("0 messages among 3 events.", self.run_tool("timeline", "web=my web.csv").stdout)
+        self.assertIn("0 messages among 3 events.", self.run_tool("timeline", "web=my web.csv", status=1).stdout)
 
     def test_explain_copies_replies_and_tells_a_contradiction(self) -> None:
         folder = f"{EXAMPLES}/session"
