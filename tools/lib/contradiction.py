@@ -80,13 +80,24 @@ class Contradiction:
 
     def stretches(self, spans: Iterable[Step]) -> str:
         """Returns the stretches of stamps that spans make together."""
+        return " and ".join(f"from {first} to {last}" for first, last in self.joined(spans))
+
+    def joined(self, spans: Iterable[Step]) -> list[list[int]]:
+        """Returns the first and the last stamp of each stretch that spans make together."""
         found: list[list[int]] = []
         for first, last in sorted((int(it.names[1]), int(it.names[2])) for it in spans):
             if found and found[-1][1] == first:
                 found[-1][1] = last
             else:
                 found.append([first, last])
-        return " and ".join(f"from {first} to {last}" for first, last in found)
+        return found
+
+    def cuts(self, clock: str) -> str:
+        """Returns between which events a clock was set, if it was: the ends of each of its stretches, by stamps where events are not known."""
+        own = {stamp: name for name in event_names(self.steps) if self.problem and name in self.problem.events
+               for its, stamp in [self.problem.events[name]] if its == clock}  # fmt: skip
+        spans = [it for it in self.steps if it.kind.startswith("span") and it.names[0] == clock]
+        return ", or ".join(f"{own.get(first, f'stamp {first}')} and {own.get(last, f'stamp {last}')}" for first, last in self.joined(spans))
 
     def events(self) -> list[str]:
         """Returns what the events of the chain are: the packets' addresses, ports and stamps, or the rows' texts."""
@@ -117,7 +128,8 @@ class Contradiction:
             # (units over ns are parts per billion)
             if lack < shown * 10**9:
                 off = -(-lack // shown)
-                lines.append(f"  {clock}'s clock, if its rate is off by {decimal_text(off, 1000, 1)} ppm more than declared{', as no quartz is' if off > QUARTZ_MOST else ''}")
+                told = ", as no quartz is" if off > QUARTZ_MOST else " (another chain may need more)"
+                lines.append(f"  {clock}'s clock, if its rate is off by {decimal_text(off, 1000, 1)} ppm more{told}; or it was set: cut between {self.cuts(clock)}")
         for it in (it for it in self.steps if it.kind == "follow"):
             # (the later clock never comes before the earlier one)
             if lack <= -it.weight:

@@ -142,6 +142,16 @@ class Contradictions(unittest.TestCase):
         cycle = FOLLOWED_CYCLE.replace("step late p#1 0.", "step delay-most x#1 p#1 3.")
         self.assertIn("  a2's clock, if it came 4 ns less behind a1's clock than its gap is", told_cycle(cycle.split("\n")))
 
+    def test_a_clock_that_was_set_is_cut_between_two_events(self) -> None:
+        problem = read_problem(["problem 1", "event b#1 b 100", "event b#2 b 300", "event a#1 a 50", "event a#2 a 150"])
+        told = Contradiction(read_cycle(CYCLE.split("\n")), problem).cures(74 * 10**9)
+        self.assertIn("  b's clock, if its rate is off by 370000 ppm more, as no quartz is; or it was set: cut between b#1 and b#2", told)
+        self.assertIn("; or it was set: cut between stamp 100 and stamp 300", "\n".join(Contradiction(read_cycle(CYCLE.split("\n"))).cures(74 * 10**9)))
+
+    def test_a_rate_may_mend_one_chain_alone(self) -> None:
+        told = "\n".join(Contradiction(read_cycle(CYCLE.split("\n"))).cures(2 * 10**5))
+        self.assertIn("b's clock, if its rate is off by 1 ppm more (another chain may need more); or it was set", told)
+
     def test_a_long_contradiction_has_no_picture(self) -> None:
         self.assertIsNone(chain_svg(read_cycle(CYCLE.split("\n")) * 8, read_problem([])))
 
