@@ -4,6 +4,7 @@ import contextlib
 import os
 import secrets
 import stat
+from collections.abc import Iterable
 
 
 def refuse_others(path: str) -> None:
@@ -18,13 +19,19 @@ def refuse_others(path: str) -> None:
 
 def write_own(path: str, text: str) -> None:
     """Writes a file as a whole: under a name that is new, which is then put in its place. Raises ValueError as refuse_others does."""
+    write_parts(path, [text.encode()])
+
+
+def write_parts(path: str, parts: Iterable[bytes]) -> None:
+    """Writes a file of these parts, one after the other, as write_own does; where they end with an error, nothing is left of it."""
     refuse_others(path)
     folder, name = os.path.split(path)
     part = os.path.join(folder, f".{name}.{secrets.token_hex(8)}")
     handle = os.open(part, os.O_WRONLY | os.O_CREAT | os.O_EXCL | os.O_NOFOLLOW | os.O_CLOEXEC, 0o666)
     try:
-        with open(handle, "w", encoding="utf-8") as it:
-            it.write(text)
+        with open(handle, "wb") as it:
+            for data in parts:
+                it.write(data)
         os.replace(part, path)
     except BaseException:
         with contextlib.suppress(FileNotFoundError):

@@ -77,7 +77,11 @@ def open_input(it: Input) -> Input:
 
 def read_inputs(words: Iterable[str]) -> list[Input]:
     """Returns the inputs that words name, with their files read; hosts of one label are one host."""
-    found = [open_input(parse_input(word)) for word in words]
+    return checked([open_input(parse_input(word)) for word in words])
+
+
+def checked(found: list[Input]) -> list[Input]:
+    """Returns the inputs, whose files of one label are of one host and one kind. Raises ValueError where they are not."""
     for one in found:
         for other in found:
             if one.label == other.label and (one.host, one.kind) != (other.host, other.kind):

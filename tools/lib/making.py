@@ -15,14 +15,15 @@ from declaring import Declaring
 from event_count import LOOK_MOST, LOOK_TIME, count_events
 from explaining import Explainer
 from files import read_own, write_own
-from inputs import Input, read_inputs
+from gathering import Gathering
+from inputs import Input
 from page import page
 from program import PROGRAM, Ended, Look, Session
 from progress import Progress
 from replies import read_cycle, read_problem
 from shortfall import Shortfall, unknown_lines
 from texts import plain
-from timeline import FROM_MOST, Timeline, make_timeline, plain_path
+from timeline import FROM_MOST, Timeline, make_timeline
 from words import Words, list_lines
 
 FOLDER = "tracesync-timeline"
@@ -65,12 +66,10 @@ class Making:
 
     def make_all(self) -> int:
         self.progress.begin("reading the files")
-        inputs = read_inputs(self.words)
+        inputs = Gathering(self.folder, self.say).inputs(self.words)
         if not self.program:
             self.refuse_look(inputs)
         os.makedirs(self.folder, exist_ok=True)
-        for at, it in enumerate(inputs, 1):
-            it.path = plain_path(it.path, self.folder, at)
         self.declare(inputs)
         session: Session | Look = Session(self.declaration, self.program, self.progress) if self.program else Look(self.declaration)
         try:

@@ -5,7 +5,6 @@ Nothing here is worked out that the program could answer: differences of real ti
 """
 
 import json
-import os
 from collections.abc import Callable, Iterable, Iterator
 from dataclasses import dataclass, field
 from typing import Any, Protocol, TypeVar
@@ -282,16 +281,3 @@ def make_timeline(session: Session | Look, inputs: list[Input], chosen: Iterable
     """Returns the timeline that a session over inputs gives."""
     with session:
         return Asking(session, inputs, chosen, delays, pairs, source, progress).timeline()
-
-
-def plain_path(path: str, folder: str, number: int) -> str:
-    """Returns a path that a line of a script can name: this one, or a link in the folder."""
-    if all(33 <= it <= 126 for it in os.fsencode(path)):
-        return path
-    link = os.path.join(folder, f"file-{number}")
-    if os.path.islink(link):
-        os.remove(link)
-    os.symlink(os.path.realpath(path), link)
-    if not all(33 <= it <= 126 for it in os.fsencode(link)):
-        raise ValueError(f"no script can name {path}, nor the folder {folder}: both have signs that are none of ASCII, or blanks")
-    return link
