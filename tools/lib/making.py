@@ -9,6 +9,7 @@ import neighbours
 import picture
 import tables
 from chain_picture import chain_svg
+from charts import delay_chart, offset_chart
 from chrony import read_all_chrony
 from declaration import read_declaration
 from declaring import Declaring
@@ -31,12 +32,18 @@ EVENTS_MOST = 400
 OUTPUTS = {
     "html": "a page that zooms and pans, and needs nothing from a network",
     "svg": "a picture of at most --events events, those around the first event of --from, or else the first ones",
+    "offsets": "a picture of how far each clock was ahead over time, both ends",
+    "ways": "a picture of one-way delays over time for each link, both ends, with how often each was",
     "json": "all that was asked, with each number as the program printed it",
     "csv": "a row for each event; a text that a spreadsheet would take for a formula stands behind a single quote",
     "chrome": "trace events, which Perfetto (ui.perfetto.dev) and chrome://tracing open",
     "shiviz": "a log for ShiViz",
     "list": "the events in words, in the order of the earliest execution; `-` is the standard output",
 }
+
+
+# What is written into the folder where no output is named.
+KEPT = {"html": "timeline.html", "svg": "timeline.svg", "offsets": "offsets.svg", "ways": "delays.svg"}
 
 
 class Making:
@@ -139,10 +146,17 @@ class Making:
         self.say(*Shortfall([it for it, _ in found.added], self.declared(), found.report, self.declaration).lines())
         for name, path in self.outputs.items():
             self.output_to(path, self.output(name, found))
-        for name in () if self.outputs else ("html", "svg"):
-            self.keep(f"timeline.{name}", self.output(name, found))
-            self.say(f"Wrote {self.folder}/timeline.{name}.")
+        if not self.outputs:
+            self.keep_all(found)
         return 1 if refused or not found.report["messages"] else 0
+
+    def keep_all(self, found: Timeline) -> None:
+        """Writes the page and the pictures into the folder, those in which something is drawn."""
+        texts = {file: self.output(name, found) for name, file in KEPT.items()}
+        for name, text in texts.items():
+            if text:
+                self.keep(name, text)
+        self.say(f"Wrote {', '.join(f'{self.folder}/{name}' for name, text in texts.items() if text)}.")
 
     def output_to(self, path: str, text: str) -> None:
         """Writes an output to where the command line says, be it a link, a device or `-`."""
@@ -165,7 +179,7 @@ class Making:
             return picture.svg(found, self.events, self.chosen[:1])
         if name == "list":
             return "".join(f"{it}\n" for it in list_lines(found))
-        makers = {"json": tables.as_json, "csv": tables.as_csv, "chrome": neighbours.chrome, "shiviz": neighbours.shiviz}
+        makers = {"offsets": offset_chart, "ways": delay_chart, "json": tables.as_json, "csv": tables.as_csv, "chrome": neighbours.chrome, "shiviz": neighbours.shiviz}
         return makers[name](found)
 
     def keep(self, name: str, text: str) -> None:

@@ -6,6 +6,7 @@ import re
 from html import escape
 from typing import Any
 
+from charts import delay_chart, offset_chart
 from replies import short_ns
 from timeline import Timeline
 from words import Words
@@ -47,5 +48,6 @@ def page(found: Timeline, title: str) -> str:
     """Returns the page."""
     # (no text can end the script)
     data = json.dumps(page_data(found), separators=(",", ":")).replace("<", "\\u003c")
-    parts = {"TITLE": escape(title), "DATA": data, "SCRIPT": "".join(part(it) for it in SCRIPTS)}
+    charts = offset_chart(found, is_file=False) + delay_chart(found, is_file=False)
+    parts = {"TITLE": escape(title), "DATA": data, "CHARTS": charts or "<p>Nothing is known of clocks or delays.</p>", "SCRIPT": "".join(part(it) for it in SCRIPTS)}
     return re.sub("@@([A-Z]+)@@", lambda it: parts[it[1]], part("page.html"))

@@ -7,7 +7,7 @@ const row = (name, text) => `<tr><td>${name}</td><td>${text}</td></tr>`;
 function details(it) {
   const rows = [row("host", safe(DATA.hosts[it.host])), row("stamp", safe(it.stamp))];
   if (it.text) rows.push(row("what", safe(it.text)));
-  const since = it === base.event ? "the event itself" : `between ${exact(base.least[it.index])} and ${exact(base.greatest[it.index])}`;
+  const since = it === base.event ? "the event itself" : between(base.least[it.index], base.greatest[it.index]);
   rows.push(row("since " + safe(base.event.name), since), row("drawn at", exact(it.time - base.event.time)));
   for (const { send, receive, least, greatest } of it.peers) {
     const delay = least === undefined ? "not asked" : `${exact(units(least))} to ${exact(units(greatest))}`;
@@ -50,7 +50,7 @@ function showTip(event) {
   const told = !other ? "" : !found ? `<br><span class="grey">order with ${safe(other.name)}: not asked</span>`
     : found[0] === "open" ? `<br><span class="open">order with ${safe(other.name)} is open</span>`
       : `<br>certainly ${found[0] === "before" ? "after" : found[0] === "after" ? "before" : "at the time of"} ${safe(other.name)} <span class="grey">(by ${found[1]})</span>`;
-  tip.innerHTML = `<b>${safe(hovered.name)}</b> ${safe(hovered.text)}<br>${exact(base.least[hovered.index])} to ${exact(base.greatest[hovered.index])} since ${safe(base.event.name)}${told}`;
+  tip.innerHTML = `<b>${safe(hovered.name)}</b> ${safe(hovered.text)}<br>${between(base.least[hovered.index], base.greatest[hovered.index])} since ${safe(base.event.name)}${told}`;
   tip.style.display = "block";
   const px = Math.min(event.offsetX + 14, wide - tip.offsetWidth - 8), py = event.offsetY + 16;
   tip.style.left = Math.max(px, 4) + "px"; tip.style.top = (py + tip.offsetHeight > tall ? event.offsetY - tip.offsetHeight - 10 : py) + "px";
@@ -140,9 +140,17 @@ layTimes(); view = [low, high];
 const isPart = knots.length > 150;
 if (isPart) view = [place(knots[0]) - (place(knots[80]) - place(knots[0])) * 0.03, place(knots[80])];
 el("said").textContent = `${events.length} events, ${messages.length} messages${isPart ? "; it begins with the first 80: `all` shows all" : ""}`;
-window.addEventListener("resize", resize);
-resize();
-// #event=NAME chooses an event, and #scale=true draws distances to scale.
+window.addEventListener("resize", () => { if (!el("main").hidden) resize(); });
+// The clocks and delays over time stand in the place of the events, and these in theirs.
+function turn(isCharts) {
+  el("charts").hidden = !isCharts; el("main").hidden = isCharts;
+  el("turn").textContent = isCharts ? "events" : "clocks and delays";
+  if (!isCharts) resize();
+}
+el("turn").onclick = () => turn(el("charts").hidden);
+turn(false);
+// #event=NAME chooses an event, #scale=true draws distances to scale, and #charts=true shows clocks and delays.
 const wanted = new URLSearchParams(location.hash.slice(1));
 if (wanted.get("scale") === "true") { el("scale").value = "true"; el("scale").onchange(); }
 if (byName.has(wanted.get("event"))) goTo(byName.get(wanted.get("event"))); else tell();
+if (wanted.get("charts") === "true") turn(true);

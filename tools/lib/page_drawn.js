@@ -101,11 +101,18 @@ function drawAxis(xs) {
     if (at < LEFT || at > wide - 34 || at - last < 92) return;
     last = at; line(at, AXIS - 6, at, tall); pen.fillText(text, at, AXIS - 12);
   };
-  if (isSqueezed) { for (let k = 0; k < knots.length; k++) { const at = x(knots[k]); if (at > last + 92) mark(at, inShort(knots[k])); } return; }
+  if (isSqueezed) {
+    // (marks have so many digits that neighbours differ, however far the first event is)
+    const shown = [];
+    for (let k = 0, end = -Infinity; k < knots.length; k++) { const at = x(knots[k]); if (at >= LEFT && at <= wide - 34 && at >= end) { shown.push(k); end = at + 92; } }
+    const gaps = shown.slice(1).map((k, n) => knots[k] - knots[shown[n]]);
+    for (const k of shown) mark(x(knots[k]), inShort(knots[k], Math.min(...gaps)));
+    return;
+  }
   const span = (view[1] - view[0]) / Math.max((wide - LEFT) / 110, 1), size = 10 ** Math.floor(Math.log10(span));
   const step = [1, 2, 5, 10].map((it) => it * size).find((it) => it >= span);
   const from = view[0] + knots[0], to = view[1] + knots[0];
-  for (let k = Math.ceil(from / step); k * step <= to && k - from / step < 200; k++) mark(x(k * step), inShort(k * step));
+  for (let k = Math.ceil(from / step); k * step <= to && k - from / step < 200; k++) mark(x(k * step), inShort(k * step, step));
 }
 
 // Bars lie below their host's line, in lanes, so that they do not cover one another while there is room.

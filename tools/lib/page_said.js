@@ -20,9 +20,21 @@ const exact = (value) => {
   const whole = (value < 0n ? -value : value), rest = String(whole % UNITS).padStart(9, "0").replace(/0+$/, "");
   return (value < 0n ? "-" : "") + String(whole / UNITS).replace(/\B(?=(\d{3})+$)/g, "\u202f") + (rest ? "." + rest : "") + "\u00a0ns";
 };
-const inShort = (ns) => {
+// Returns ns in few digits: six, and more where a neighbour is only `gap` ns away.
+const inShort = (ns, gap = Infinity) => {
   const [size, name] = Math.abs(ns) >= 1e9 ? [1e9, "s"] : Math.abs(ns) >= 1e6 ? [1e6, "ms"] : Math.abs(ns) >= 1e3 ? [1e3, "µs"] : [1, "ns"];
-  return String(Number((ns / size).toPrecision(6))) + " " + name;
+  const digits = isFinite(gap) && gap > 0 ? Math.min(Math.max(6, Math.ceil(Math.log10(Math.abs(ns) / gap || 1)) + 2), 15) : 6;
+  return String(Number((ns / size).toPrecision(digits))) + " " + name;
+};
+// Returns what lies between two ends; of great ones that are near to each other, a number and what is less and more. No digit is lost.
+const between = (least, greatest) => {
+  if (least === null || greatest === null || greatest < least) return `between ${exact(least)} and ${exact(greatest)}`;
+  const wide = greatest - least, far = least < 0n ? -greatest : least;
+  if (far < 1000n * wide || far < 1000000n * UNITS) return `between ${exact(least)} and ${exact(greatest)}`;
+  let size = 1n, next = 10n;
+  for (; (greatest - (greatest % next + next) % next) >= least; next *= 10n) size = next;
+  const middle = greatest - (greatest % size + size) % size;
+  return wide === 0n ? exact(middle) : `${exact(middle)}, less ${exact(middle - least)}, plus ${exact(greatest - middle)}`;
 };
 const safe = (text) => text.replace(/[&<>"]/g, (it) => ({ "&": "&amp;", "<": "&lt;", ">": "&gt;", '"': "&quot;" })[it]);
 

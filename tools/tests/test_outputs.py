@@ -44,7 +44,7 @@ class Outputs(unittest.TestCase):
     def test_the_page_and_the_picture_are_kept_in_the_folder(self) -> None:
         for _ in range(2):
             self.assertIn("2 messages among 5 events.", self.timeline().stdout)
-        self.assertEqual(sorted(os.listdir(f"{self.room}/kept")), [".hosts.toml", "hosts.toml", "replies.txt", "script.txt", "timeline.html", "timeline.svg"])
+        self.assertEqual(sorted(os.listdir(f"{self.room}/kept")), [".hosts.toml", "delays.svg", "hosts.toml", "offsets.svg", "replies.txt", "script.txt", "timeline.html", "timeline.svg"])
 
     def test_without_messages_the_page_is_drawn_and_the_status_is_1(self) -> None:
         with open(f"{self.room}/program", "w", encoding="utf-8") as it:
@@ -62,7 +62,7 @@ class Outputs(unittest.TestCase):
         self.assertNotIn("\x1b", said.stdout + said.stderr)
 
     def test_no_link_in_the_folder_is_followed(self) -> None:
-        for name in (".hosts.toml", "hosts.toml", "script.txt", "replies.txt", "timeline.html", "timeline.svg"):
+        for name in (".hosts.toml", "hosts.toml", "script.txt", "replies.txt", "timeline.html", "timeline.svg", "offsets.svg", "delays.svg"):
             with self.subTest(name), tempfile.TemporaryDirectory() as other:
                 with open(f"{other}/victim", "w", encoding="utf-8") as it:
                     it.write("precious")

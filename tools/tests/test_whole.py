@@ -50,7 +50,7 @@ class Whole(unittest.TestCase):
     def test_two_captures_become_a_page_and_a_picture_in_one_call(self) -> None:
         said = self.run_tool("timeline", LEFT, RIGHT).stdout
         self.assertIn("56 messages among 116 events.", said)
-        self.assertEqual({it for it in os.listdir(f"{self.room.name}/tracesync-timeline") if it[0] != "."}, {"hosts.toml", "script.txt", "replies.txt", "timeline.html", "timeline.svg"})
+        self.assertEqual({it for it in os.listdir(f"{self.room.name}/tracesync-timeline") if it[0] != "."}, {"delays.svg", "hosts.toml", "offsets.svg", "script.txt", "replies.txt", "timeline.html", "timeline.svg"})
 
     def test_the_script_that_is_kept_gives_the_same_replies(self) -> None:
         self.run_tool("timeline", LEFT, RIGHT)
