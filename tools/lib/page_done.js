@@ -136,10 +136,14 @@ function fit() { view = [low, high]; redraw(); }
 
 for (const at of bases) el("from").add(new Option(at.event.name));
 layTimes(); view = [low, high];
-// A great timeline begins with its first events, for all at once would lie on one another.
+// A great timeline begins with its first messages, for all at once would lie on one another, and before them is mostly noise of the network.
 const isPart = knots.length > 150;
-if (isPart) view = [place(knots[0]) - (place(knots[80]) - place(knots[0])) * 0.03, place(knots[80])];
-el("said").textContent = `${events.length} events, ${messages.length} messages${isPart ? "; it begins with the first 80: `all` shows all" : ""}`;
+if (isPart) {
+  const first = Math.min(...finite(messages.map((it) => times[it.send.index]))), from = messages.length ? Math.max(knots.findIndex((it) => it >= first) - 2, 0) : 0;
+  const to = Math.min(from + 80, knots.length - 1);
+  view = [place(knots[from]) - (place(knots[to]) - place(knots[from])) * 0.03, place(knots[to])];
+}
+el("said").textContent = `${events.length} events, ${messages.length} messages${isPart ? "; it begins with the first messages: `all` shows all" : ""}`;
 window.addEventListener("resize", () => { if (!el("main").hidden) resize(); });
 // The clocks and delays over time stand in the place of the events, and these in theirs.
 function turn(isCharts) {

@@ -7,7 +7,7 @@ from math import ceil, log2
 
 from replies import UNITS, short_ns
 from timeline import Event, Timeline
-from words import time_text
+from words import decimal_text, unit_of
 
 # A line from one place to another, and a box: left, top, right and foot.
 Line = tuple[float, float, float, float]
@@ -129,13 +129,16 @@ class Picture:
         return "\n".join([*out, "</svg>"]) + "\n"
 
     def marks(self, first: float, last: float) -> list[str]:
-        """Returns times at the foot, where there is room, with lines up."""
-        out, before = [], first - MARK
+        """Returns times at the foot, where there is room, with lines up; neighbours have so many digits that they differ."""
+        shown: list[tuple[int, float]] = []
         for time, at in zip(self.places.times, self.places.across):
-            if first <= at < last - 40 and at - before >= MARK:
-                before = at
-                out.append(f'<line x1="{at:.1f}" y1="{TOP}" x2="{at:.1f}" y2="{self.high - FOOT + 6}" stroke="#eee"/>')
-                out.append(f'<text x="{at:.1f}" y="{self.high - FOOT + 18}" fill="#777" text-anchor="middle">{escape(time_text(time))}</text>')
+            if first <= at < last - 40 and (not shown or at - shown[-1][1] >= MARK):
+                shown.append((time, at))
+        gap = min((late - early for (early, _), (late, _) in zip(shown, shown[1:])), default=0)
+        out = []
+        for time, at in shown:
+            out.append(f'<line x1="{at:.1f}" y1="{TOP}" x2="{at:.1f}" y2="{self.high - FOOT + 6}" stroke="#eee"/>')
+            out.append(f'<text x="{at:.1f}" y="{self.high - FOOT + 18}" fill="#777" text-anchor="middle">{escape(mark_text(time, gap))}</text>')
         return out
 
     def lines(self, first: float, last: float) -> list[str]:
@@ -218,6 +221,15 @@ class Picture:
                     out.append(f'<text x="{box[0]:.1f}" y="{box[3] - 3:.1f}" fill="{self.ink[it.host]}">{escape(text)}</text>')
                     break
         return out
+
+
+def mark_text(time: int, gap: int) -> str:
+    """Returns a time as `time_text` does, with more digits where a neighbour is so near that these would be the same."""
+    size, name = unit_of(time)
+    digits = 3
+    while gap and size * UNITS > gap * 10**digits:
+        digits += 1
+    return f"{decimal_text(time, size * UNITS, digits=digits)} {name}"
 
 
 def is_free(box: Box, taken: list[Box], points: list[tuple[float, float]], lines: list[Line]) -> bool:
