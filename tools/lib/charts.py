@@ -187,8 +187,8 @@ class Drawing:
 
 def best_known(points: list[Point]) -> tuple[int | None, int | None]:
     """Returns both ends of the point whose ends are nearest to each other; infinite ones where none has both."""
-    found = [(least, greatest) for _, least, greatest in points if least is not None and greatest is not None]
-    return min(found, key=lambda it: it[1] - it[0], default=(None, None))
+    found = [(greatest - least, least, greatest) for _, least, greatest in points if least is not None and greatest is not None]
+    return min(found)[1:] if found else (None, None)
 
 
 def chart(panels: list[Panel], title: str, is_proved: bool, is_file: bool) -> str:

@@ -13,7 +13,7 @@ from program import PROGRAM, Ended, Session
 from refusals import Refusals
 from replies import UNITS, read_cycle, read_ns, read_problem
 from texts import plain
-from words import REASONS, count_text, greatest_text, least_text, span_text, time_text
+from words import REASONS, count_text, least_text, span_text, time_text
 
 
 @dataclass

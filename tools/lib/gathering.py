@@ -11,17 +11,20 @@ import subprocess
 import zlib
 from collections.abc import Callable, Iterable, Iterator
 from dataclasses import replace
-from typing import BinaryIO
+from typing import Any
 
 from captures import CAPTURED_MOST, MAGICS, SECTION, Blocks, classic
 from files import write_parts
 from inputs import Input, checked, open_input, parse_input, start_of
 
+# What opens a file to be read unpacked, by its path.
+Opener = Callable[[str], Any]
+
 # A file of a session has so many bytes at most, and parts of so many are unpacked at once.
 BYTES_MOST, PART = 1 << 28, 1 << 20
 HEADER = 24
 # What unpacks a file with these first bytes: a module of Python, or a command with the package that brings it.
-OPENERS: dict[bytes, Callable[[str], BinaryIO]] = {b"\x1f\x8b": gzip.open, b"\xfd7zXZ": lzma.open, b"BZh": bz2.open}
+OPENERS: dict[bytes, Opener] = {b"\x1f\x8b": gzip.open, b"\xfd7zXZ": lzma.open, b"BZh": bz2.open}
 COMMANDS = {b"\x28\xb5\x2f\xfd": "zstd", b"\x04\x22\x4d\x18": "lz4"}
 
 
@@ -48,7 +51,7 @@ def limited(parts: Iterable[bytes], path: str) -> Iterator[bytes]:
         yield part
 
 
-def by_python(path: str, opener: Callable[[str], BinaryIO]) -> Iterator[bytes]:
+def by_python(path: str, opener: Opener) -> Iterator[bytes]:
     try:
         with opener(path) as it:
             while part := it.read(PART):

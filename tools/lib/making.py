@@ -3,6 +3,7 @@
 import argparse
 import os
 import sys
+from collections.abc import Callable
 from typing import Any
 
 import neighbours
@@ -19,7 +20,7 @@ from files import read_own, write_own
 from gathering import Gathering
 from inputs import Input
 from page import page
-from program import PROGRAM, Ended, Look, Session
+from program import BUILT, PROGRAM, Ended, Look, Session
 from progress import Progress
 from replies import read_cycle, read_problem
 from shortfall import Shortfall, unknown_lines
@@ -62,7 +63,11 @@ class Making:
         # (questions for orders come last, and would have the program compiled once more)
         self.pairs = said.pairs if said.pairs is not None or self.program else 0
         self.outputs = {name: getattr(said, name) for name in OUTPUTS if getattr(said, name)}
-        self.words, self.progress = said.files, Progress(sys.stderr)
+        self.words, self.progress = said.files, Progress(sys.stderr if self.is_quick() else None)
+
+    def is_quick(self) -> bool:
+        """Returns whether the program answers at once: one that is not there yet is built first, with lines of its own."""
+        return self.program != PROGRAM or os.path.exists(BUILT)
 
     def make(self) -> int:
         """Makes all outputs, and returns the status."""
@@ -78,7 +83,7 @@ class Making:
             self.refuse_look(inputs)
         os.makedirs(self.folder, exist_ok=True)
         self.declare(inputs)
-        session: Session | Look = Session(self.declaration, self.program, self.progress) if self.program else Look(self.declaration)
+        session: Session | Look = Session(self.declaration, self.program, self.progress) if self.program else Look(self.declaration, self.progress)
         try:
             found = make_timeline(session, inputs, self.chosen, self.delays, self.pairs, self.declared_source(), self.progress)
         except Ended as why:
@@ -179,7 +184,7 @@ class Making:
             return picture.svg(found, self.events, self.chosen[:1])
         if name == "list":
             return "".join(f"{it}\n" for it in list_lines(found))
-        makers = {"offsets": offset_chart, "ways": delay_chart, "json": tables.as_json, "csv": tables.as_csv, "chrome": neighbours.chrome, "shiviz": neighbours.shiviz}
+        makers: dict[str, Callable[[Timeline], str]] = {"offsets": offset_chart, "ways": delay_chart, "json": tables.as_json, "csv": tables.as_csv, "chrome": neighbours.chrome, "shiviz": neighbours.shiviz}
         return makers[name](found)
 
     def keep(self, name: str, text: str) -> None:

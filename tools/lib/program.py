@@ -2,13 +2,14 @@
 
 import os
 import subprocess
+import sys
 from typing import Self
 
 from progress import Progress
 from replies import is_texted, split_replies
 
 TOP = os.path.dirname(os.path.dirname(os.path.dirname(os.path.realpath(__file__))))
-PROGRAM = f"{TOP}/tracesync"
+PROGRAM, BUILT = f"{TOP}/tracesync", f"{TOP}/crates/tracesync/out/tracesync"
 
 
 class Ended(Exception):
@@ -89,8 +90,8 @@ class Session:
 class Look:
     """A session that tools/first-look answers: it reads a script to its end, so each time from the beginning. Nothing of it is proved."""
 
-    def __init__(self, declaration: str) -> None:
-        self.declaration = declaration
+    def __init__(self, declaration: str, progress: Progress | None = None) -> None:
+        self.declaration, self.progress = declaration, progress or Progress()
         self.script: list[str] = []
         self.replies: list[list[str]] = []
 
@@ -98,7 +99,12 @@ class Look:
         """Returns the replies to lines."""
         self.script += lines
         words = [f"{TOP}/tools/first-look", "session", self.declaration]
-        ran = subprocess.run(words, input="".join(f"{line}\n" for line in self.script), stdout=subprocess.PIPE, text=True)
+        script = "".join(f"{line}\n" for line in self.script)
+        # (its lines would stand in the line that is written over)
+        errors = subprocess.PIPE if self.progress.out else None
+        ran = subprocess.run(words, input=script, stdout=subprocess.PIPE, stderr=errors, text=True)
+        with self.progress.wiped():
+            sys.stderr.write(ran.stderr or "")
         self.replies = split_replies(ran.stdout.splitlines())
         if ran.returncode or len(self.replies) != len(self.script):
             raise Ended(self.replies[-1] if self.replies else [], ran.returncode)

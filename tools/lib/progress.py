@@ -1,4 +1,7 @@
-"""What a tool is doing, told on a terminal: one line of the standard error that is written over. Where that is no terminal, nothing is told."""
+"""What a tool is doing, told on a terminal: one line of the standard error that is written over. Where that is no terminal, nothing is told.
+This module is written for each Python from 3.8 on, as tools/first-look."""
+
+from __future__ import annotations
 
 import os
 from collections.abc import Iterator
