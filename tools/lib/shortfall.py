@@ -1,8 +1,9 @@
 """Why a session has no messages, or far fewer than its packets could be, and what would mend it: by a look at the files and the declaration."""
 
 from collections import Counter, defaultdict
-from collections.abc import Iterable
+from collections.abc import Collection, Iterable
 from ipaddress import ip_address
+from shlex import quote
 from typing import Any
 
 from headers import COOKED, COOKED2, TCP, Headers, Key, address_text, decode, end_text
@@ -19,10 +20,11 @@ TWICE_PART = 0.2
 
 
 class Shortfall:
-    """Finds causes in inputs that have their hosts; `declared` is the declaration's tables, `path` is where it stands."""
+    """Finds causes in inputs that have their hosts; `declared` is the declaration's tables, `path` is where it stands, and of the hosts in
+    `asked` it was said before that their addresses are not known."""
 
-    def __init__(self, inputs: list[Input], declared: dict[str, Any], report: dict[str, Any], path: str) -> None:
-        self.declared, self.report, self.path = declared, report, path
+    def __init__(self, inputs: list[Input], declared: dict[str, Any], report: dict[str, Any], path: str, asked: Collection[str] = ()) -> None:
+        self.declared, self.report, self.path, self.asked = declared, report, path, asked
         labels = declared.get("labels", {})
         self.host_of = {it.label: labels.get(it.label, {}).get("host", it.host) for it in inputs}
         self.captures = [it for it in inputs if it.kind == "capture"]
@@ -71,8 +73,7 @@ class Shortfall:
         best = max(numbers, key=lambda number: (counts[number], -number))
         shown = ", ".join(str(number) for number in numbers)
         field = "sll.ifindex" if it.content.packets[0].link == COOKED2 else "frame.interface_id"
-        path = plain(it.path)
-        cure = f"keep one of them: tshark -r {path} -Y '{field} == {best}' -w {it.label}-one.pcapng"
+        cure = f"keep one of them: tshark -r {quote(it.path)} -Y '{field} == {best}' -w {it.label}-one.pcapng"
         return f"{it.label}: {twice} packets are there more than once, on the interfaces {shown}, so their keys are ambiguous: {cure}"
 
     def short(self) -> list[str]:
@@ -96,7 +97,7 @@ class Shortfall:
             for (source, target), count in self.ways[host].items():
                 if (source in own) == (target in own):
                     rest.update({source: count, target: count})
-            if rest:
+            if rest and host not in self.asked:
                 shown = ", ".join(f"{address_text(address)} ({count})" for address, count in rest.most_common(4))
                 told = f"its addresses are {', '.join(address_text(it) for it in sorted(own))}" if own else "no address of it is declared"
                 first = [it for it, _ in rest.most_common(2) if it not in own][:1] or [rest.most_common(1)[0][0]]

@@ -18,7 +18,7 @@ REASONS = {
     "local": "of one host alone, as its log says",
     "other": "of neither TCP nor UDP, as ARP and ICMP",
     "short": "captured too short",
-    "side": "neither to nor from its host, or both: are all addresses declared?",
+    "side": "neither to nor from its host, or both (are all addresses declared?)",
 }
 
 
