@@ -24,6 +24,8 @@ FROM_MOST = 8
 # How many messages of a link, or events of a host, are asked for if not said, at most and at least: an answer may take a search over all
 # events, so questions times events are kept below a number; the same of questions about orders.
 DELAYS_MOST, DELAYS_LEAST, DELAYS_WORK, PAIRS_WORK = 1000, 4, 8_000_000, 3_000_000
+# Of so few lines it is not told how many were answered.
+FEW = 20
 BEFORE, AFTER, SAME, OPEN = "before", "after", "same", "open"
 
 
@@ -104,9 +106,8 @@ class Asking:
     def timeline(self) -> Timeline:
         """Returns the timeline. Of a contradiction it has the cycle, the problem and the report alone."""
         found = self.found
-        lines = [*(f"add {it.label} {it.path}" for it in self.inputs), "report", "problem", "merge"]
-        self.progress.begin("adding the files, and merging them", len(lines))
-        *added, report, found.problem, merged = self.session.ask_all(lines)
+        additions = [f"add {it.label} {it.path}" for it in self.inputs]
+        *added, report, found.problem, merged = self.ask_parts({"adding the files": additions, "finding one timeline of all": ["report", "problem", "merge"]})
         found.added = [(it, reply[0]) for it, reply in zip(self.inputs, added)]
         found.report = json.loads(report[0])
         problem = read_problem(found.problem)
@@ -120,17 +121,22 @@ class Asking:
             self.ask_orders()
         return found
 
-    def ask_rounds(self, rounds: dict[str, list[Question]]) -> None:
-        """Asks rounds of questions, each with what it is told as: one by one, or all at once where a session reads its script to the end."""
+    def ask_parts(self, parts: dict[str, list[str]]) -> list[list[str]]:
+        """Returns the replies to the lines of all parts, each told as what it is; all at once where a session reads its script to the end."""
         if isinstance(self.session, Look):
-            rounds = {"asking for all": [it for questions in rounds.values() for it in questions]}
-        for told, questions in rounds.items():
-            self.progress.begin(told, len(questions))
-            self.ask_round(questions)
+            parts = {"asking for all": [line for lines in parts.values() for line in lines]}
+        replies = []
+        for told, lines in parts.items():
+            if lines:
+                # (how long a file or a merge takes, the one before does not say)
+                self.progress.begin(told, len(lines) if len(lines) > FEW else 0)
+                replies += self.session.ask_all(lines)
+        return replies
 
-    def ask_round(self, questions: list[Question]) -> None:
-        """Asks questions, each a line and what takes the words of its reply."""
-        for (_, take), reply in zip(questions, self.session.ask_all([line for line, _ in questions])):
+    def ask_rounds(self, rounds: dict[str, list[Question]]) -> None:
+        """Asks rounds of questions, each a line and what takes the words of its reply."""
+        replies = self.ask_parts({told: [line for line, _ in questions] for told, questions in rounds.items()})
+        for (_, take), reply in zip([it for questions in rounds.values() for it in questions], replies):
             take(reply[0].split(" "))
 
     def take_events(self, problem: Problem, merged: dict[str, tuple[int, str]]) -> None:
@@ -220,9 +226,7 @@ class Asking:
                 told = f"of the pairs whose bars lie over one another only {len(questions)} were asked for their order"
                 found.notes.append(f"{told}, the nearest in the list; --pairs N asks N")
                 break
-        if questions:
-            self.progress.begin("asking for orders", len(questions))
-            self.ask_round(questions)
+        self.ask_rounds({"asking for orders": questions})
 
 
 def ends_of(words: list[str]) -> Interval:
