@@ -172,6 +172,9 @@ class Making:
             with self.progress.wiped():
                 sys.stdout.write(text)
             return
+        if not text:
+            self.say(f"Nothing is known that {path} would show: it was not written.")
+            return
         with open(path, "w", encoding="utf-8") as it:
             it.write(text)
         self.say(f"Wrote {path}.")

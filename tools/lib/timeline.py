@@ -23,7 +23,7 @@ Question = tuple[str, Callable[[list[str]], None]]
 FROM_MOST = 8
 # How many messages of a link, or events of a host, are asked for if not said, at most and at least: an answer may take a search over all
 # events, so questions times events are kept below a number; the same of questions about orders.
-DELAYS_MOST, DELAYS_LEAST, DELAYS_WORK, PAIRS_WORK = 1000, 4, 8_000_000, 3_000_000
+DELAYS_MOST, DELAYS_LEAST, DELAYS_WORK, PAIRS_WORK = 1000, 4, 6_000_000, 3_000_000
 # Of so few lines it is not told how many were answered.
 FEW = 20
 BEFORE, AFTER, SAME, OPEN = "before", "after", "same", "open"

@@ -86,10 +86,10 @@ class Size(unittest.TestCase):
         return asking.most(links)
 
     def test_fewer_delays_of_many_events(self) -> None:
-        self.assertEqual([self.most(events, 2) for events in (100, 4000, 43_206, 2_000_000)], [1000, 1000, 92, timeline.DELAYS_LEAST])
+        self.assertEqual([self.most(events, 2) for events in (100, 4000, 43_206, 2_000_000)], [1000, 750, 69, timeline.DELAYS_LEAST])
 
     def test_fewer_delays_of_many_links(self) -> None:
-        self.assertEqual([self.most(11_631, links) for links in (1, 2, 20)], [687, 343, 34])
+        self.assertEqual([self.most(11_631, links) for links in (1, 2, 20)], [515, 257, 25])
 
     def test_a_number_that_was_said_holds(self) -> None:
         self.assertEqual(self.most(2_000_000, 2, 5000), 5000)
