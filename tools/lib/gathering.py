@@ -70,8 +70,11 @@ def by_command(path: str, command: str) -> Iterator[bytes]:
             while part := ran.stdout.read(PART):
                 yield part
             why = ran.stderr.read().decode(errors="replace").strip()
+            ran.wait()
         finally:
-            ran.kill()
+            # (where nobody reads on, it would wait for ever)
+            if ran.poll() is None:
+                ran.kill()
     if ran.returncode:
         raise ValueError(f"{path} cannot be unpacked to its end: {why}")
 
