@@ -132,10 +132,12 @@ class Drawing:
         for value, text in marks(self.low, self.high, MARKS_UP, self.zero):
             y = self.y(value, 0)
             if HEAD - 0.5 <= y <= foot + 0.5:
-                out.append(f'<line x1="{LEFT}" y1="{y:.1f}" x2="{self.right}" y2="{y:.1f}" stroke="#eee"/><text x="{LEFT - 5}" y="{y + 4:.1f}" text-anchor="end" fill="#666">{text}</text>')
+                out.append(f'<line x1="{LEFT}" y1="{y:.1f}" x2="{self.right}" y2="{y:.1f}" stroke="#eee"/>')
+                out.append(f'<text x="{LEFT - 5}" y="{y + 4:.1f}" text-anchor="end" fill="#666">{text}</text>')
         for value, text in marks(self.first, self.last, MARKS_ACROSS, 0):
             x = self.x(value)
-            out.append(f'<line x1="{x:.1f}" y1="{foot}" x2="{x:.1f}" y2="{foot + 4}" stroke="#999"/><text x="{x:.1f}" y="{foot + 16}" text-anchor="middle" fill="#666">{text}</text>')
+            out.append(f'<line x1="{x:.1f}" y1="{foot}" x2="{x:.1f}" y2="{foot + 4}" stroke="#999"/>')
+            out.append(f'<text x="{x:.1f}" y="{foot + 16}" text-anchor="middle" fill="#666">{text}</text>')
         out.append(f'<text transform="translate(14 {HEAD + HIGH / 2}) rotate(-90)" text-anchor="middle" fill="#444">{escape(name)}</text>')
         across = axis_unit(self.first, self.last, 0)[1]
         return [*out, f'<text x="{(LEFT + self.right) / 2}" y="{foot + 30}" text-anchor="middle" fill="#444">time in the earliest execution, {across}</text>']

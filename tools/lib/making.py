@@ -190,7 +190,10 @@ class Making:
             return picture.svg(found, self.events, self.chosen[:1])
         if name == "list":
             return "".join(f"{it}\n" for it in list_lines(found))
-        makers: dict[str, Callable[[Timeline], str]] = {"offsets": offset_chart, "ways": delay_chart, "json": tables.as_json, "csv": tables.as_csv, "chrome": neighbours.chrome, "shiviz": neighbours.shiviz}
+        makers: dict[str, Callable[[Timeline], str]] = {
+            "offsets": offset_chart, "ways": delay_chart, "json": tables.as_json, "csv": tables.as_csv,
+            "chrome": neighbours.chrome, "shiviz": neighbours.shiviz,
+        }  # fmt: skip
         return makers[name](found)
 
     def keep(self, name: str, text: str) -> None:

@@ -36,11 +36,13 @@ def texts(svg: str) -> list[str]:
 class Offsets(unittest.TestCase):
     def test_ends_are_the_stamp_less_its_time(self) -> None:
         panels = charts.offset_panels(timeline.Asking(Replies(), [], source="a").timeline())
-        self.assertEqual([(it.title, it.points) for it in panels], [("b", [(10 * UNITS, None, 0), (60 * UNITS, -10 * UNITS, -UNITS // 2), (61 * UNITS, -9 * UNITS, UNITS // 2)])])
+        points = [(10 * UNITS, None, 0), (60 * UNITS, -10 * UNITS, -UNITS // 2), (61 * UNITS, -9 * UNITS, UNITS // 2)]
+        self.assertEqual([(it.title, it.points) for it in panels], [("b", points)])
 
     def test_without_a_source_they_are_since_the_first_chosen_event(self) -> None:
         panels = charts.offset_panels(made()[0])
-        self.assertEqual([(it.title, it.points) for it in panels], [("a", [(0, 0, 0), (80 * UNITS, 0, 0)]), ("b", [(10 * UNITS, 130 * UNITS, 140 * UNITS), (60 * UNITS, 130 * UNITS, 140 * UNITS), (61 * UNITS, None, 140 * UNITS)])])
+        points = [(10 * UNITS, 130 * UNITS, 140 * UNITS), (60 * UNITS, 130 * UNITS, 140 * UNITS), (61 * UNITS, None, 140 * UNITS)]
+        self.assertEqual([(it.title, it.points) for it in panels], [("a", [(0, 0, 0), (80 * UNITS, 0, 0)]), ("b", points)])
 
     def test_a_great_offset_keeps_its_digits(self) -> None:
         shown = texts(charts.offset_chart(many(5)))
@@ -59,7 +61,8 @@ class Offsets(unittest.TestCase):
 class Delays(unittest.TestCase):
     def test_a_panel_for_each_link_has_both_ends(self) -> None:
         panels = charts.delay_panels(made()[0])
-        self.assertEqual([(it.title, it.points) for it in panels], [("a to b: 1 message", [(0, 10 * UNITS, 20 * UNITS)]), ("b to a: 1 message", [(60 * UNITS, 10 * UNITS, 20 * UNITS)])])
+        wanted = [("a to b: 1 message", [(0, 10 * UNITS, 20 * UNITS)]), ("b to a: 1 message", [(60 * UNITS, 10 * UNITS, 20 * UNITS)])]
+        self.assertEqual([(it.title, it.points) for it in panels], wanted)
 
     def test_what_was_not_asked_and_what_has_no_greatest_is_told(self) -> None:
         found = many(5)

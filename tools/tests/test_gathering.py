@@ -110,7 +110,8 @@ class Rings(Room):
 
     def test_headers_that_differ_are_refused(self) -> None:
         one = self.ring()[1]
-        others = {"resolution": making.classic(packets(9, 1), magic=0xA1B2C3D4, unit=1000), "byte order": making.classic(packets(9, 1), order=">"), "link type": making.classic(packets(9, 1), making.RAW)}
+        last = packets(9, 1)
+        others = {"resolution": making.classic(last, magic=0xA1B2C3D4, unit=1000), "byte order": making.classic(last, order=">"), "link type": making.classic(last, making.RAW)}
         for what, data in others.items():
             with self.assertRaisesRegex(ValueError, f"another .*{what}.* than"):
                 self.gather(f"a={one},{self.write('other.pcap', data)}")

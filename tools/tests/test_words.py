@@ -52,7 +52,8 @@ class Spans(unittest.TestCase):
         self.assertIn("3600.499999048 s  3600.500001003 s  b#1", list_lines(found)[2])
 
     def test_an_interval_that_is_explained(self) -> None:
-        told = [Explainer().reply("interval a#1 b#1", [f"interval {ends}"]).words[0] for ends in ("3600499999048.000000000 3600500001003.000000000", "-3600500001003.000000000 -3600499999048.000000000")]
+        replies = ("3600499999048.000000000 3600500001003.000000000", "-3600500001003.000000000 -3600499999048.000000000")
+        told = [Explainer().reply("interval a#1 b#1", [f"interval {ends}"]).words[0] for ends in replies]
         self.assertEqual(told, [f"b#1 came 3600.5 s, less 952 ns, plus 1.003 us {way} a#1" for way in ("after", "before")])
 
 
