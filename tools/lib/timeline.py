@@ -21,9 +21,11 @@ T = TypeVar("T")
 Question = tuple[str, Callable[[list[str]], None]]
 
 FROM_MOST = 8
-# How many messages of a link, or events of a host, are asked for if not said, at most and at least: an answer may take a search over all
-# events, so questions times events are kept below a number; the same of questions about orders.
+# How many messages of a link are asked for if not said, at most and at least: an answer may take a search over all events, so questions
+# times events are kept below a number; the same of questions about orders.
 DELAYS_MOST, DELAYS_LEAST, DELAYS_WORK, PAIRS_WORK = 1000, 4, 6_000_000, 3_000_000
+# How many events of a host are asked when they were by the source: that is answered at once.
+TIMES_MOST = 4000
 # Of so few lines it is not told how many were answered.
 FEW = 20
 BEFORE, AFTER, SAME, OPEN = "before", "after", "same", "open"
@@ -198,11 +200,11 @@ class Asking:
 
     def times(self) -> Iterator[Question]:
         """Yields the questions when the events of other hosts were by the clock of the source, if there is one; of a great many, of some."""
-        most, asked, others = self.delays if self.delays is not None else DELAYS_MOST, 0, 0
+        asked = others = 0
         for host in self.found.hosts if self.source else []:
             own = [it for it in self.found.events if it.host == host != self.source]
             others += len(own)
-            for it in evenly(own, most):
+            for it in evenly(own, TIMES_MOST):
                 asked += 1
                 # (it is refused where the source has no event)
                 yield f"time {it.name}", setting(it, "source_time", lambda words: ends_of(words) if words[0] == "time" else None)
@@ -223,8 +225,8 @@ class Asking:
             elif len(questions) < most:
                 questions.append((f"order {pair[0]} {pair[1]}", putting(found.orders, pair, lambda words: words[1])))
             else:
-                told = f"of the pairs whose bars lie over one another only {len(questions)} were asked for their order"
-                found.notes.append(f"{told}, the nearest in the list; --pairs N asks N")
+                told = f"of the pairs whose bars lie over one another {f'only {most}' if most else 'none'} were asked for their order"
+                found.notes.append(f"{told}{', the nearest in the list' if most else ''}; --pairs N asks N")
                 break
         self.ask_rounds({"asking for orders": questions})
 

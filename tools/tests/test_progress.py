@@ -9,6 +9,7 @@ import sys
 import tempfile
 import time
 import unittest
+from unittest import mock
 
 import timeline
 from common import TOOLS
@@ -95,9 +96,10 @@ class Size(unittest.TestCase):
         self.assertEqual(self.most(2_000_000, 2, 5000), 5000)
 
     def test_what_was_asked_of_how_many_is_told(self) -> None:
-        found = timeline.Asking(Replies(), [], delays=0, pairs=0, source="a").timeline()
+        with mock.patch("timeline.TIMES_MOST", 2):
+            found = timeline.Asking(Replies(), [], delays=0, pairs=0, source="a").timeline()
         self.assertEqual(found.notes[:2], ["0 of 2 messages were asked for their delays, of each link some evenly among all",
-                                           "0 of 3 events were asked when they were by the source, of each host some evenly among all"])  # fmt: skip
+                                           "2 of 3 events were asked when they were by the source, of each host some evenly among all"])  # fmt: skip
 
 
 if __name__ == "__main__":
