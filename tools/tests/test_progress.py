@@ -54,18 +54,18 @@ class Line(unittest.TestCase):
         with open(write, "w", encoding="utf-8") as out:
             progress = Progress(out, 0.01)
             progress.begin("asking", 3)
-            time.sleep(0.2)
+            time.sleep(0.4)
             progress.end()
         said = read_all(read)
-        self.assertTrue(said.startswith("\rasking: 0 of 3, 0 s\rasking: 0 of 3, 0 s"), said)
-        self.assertTrue(said.endswith("\r" + " " * len("asking: 0 of 3, 0 s") + "\r"), said)
+        self.assertTrue(said.startswith("\rasking: 0 of 3, 0 s\rasking: 0 of 3, "), said)
+        self.assertRegex(said, "\r {19,}\r$")
         self.assertNotIn("\n", said)
 
 
 class Tool(unittest.TestCase):
     def test_a_slow_program_is_told_on_a_terminal(self) -> None:
         with tempfile.TemporaryDirectory() as room:
-            slow = STAND_IN.replace("for line in sys.stdin:", "import time\nfor line in sys.stdin:\n    time.sleep(0.15)")
+            slow = STAND_IN.replace("for line in sys.stdin:", "import time\nfor line in sys.stdin:\n    time.sleep(0.25)")
             for name, text in (("program", slow), ("a.csv", "100,local,,\n180,local,,\n"), ("b.csv", "250,local,,\n300,local,,\n301,local,,\n")):
                 with open(f"{room}/{name}", "w", encoding="utf-8") as it:
                     it.write(text)
@@ -75,7 +75,6 @@ class Tool(unittest.TestCase):
             os.close(write)
             said = read_all(read)
         self.assertEqual(ran.returncode, 0)
-        self.assertIn("adding the files: 0 s", said)
         self.assertIn("asking when events were: ", said)
 
 
