@@ -34,7 +34,7 @@ OUTPUTS = {
     "html": "a page that zooms and pans, and needs nothing from a network",
     "svg": "a picture of at most --events events, those around the first event of --from, or else the first ones",
     "offsets": "a picture of how far each clock was ahead over time, both ends",
-    "ways": "a picture of one-way delays over time for each link, both ends, with how often each was",
+    "one_way": "a picture of one-way delays over time for each link, both ends, with how often each was",
     "json": "all that was asked, with each number as the program printed it",
     "csv": "a row for each event; a text that a spreadsheet would take for a formula stands behind a single quote",
     "chrome": "trace events, which Perfetto (ui.perfetto.dev) and chrome://tracing open",
@@ -44,7 +44,7 @@ OUTPUTS = {
 
 
 # What is written into the folder where no output is named.
-KEPT = {"html": "timeline.html", "svg": "timeline.svg", "offsets": "offsets.svg", "ways": "delays.svg"}
+KEPT = {"html": "timeline.html", "svg": "timeline.svg", "offsets": "offsets.svg", "one_way": "delays.svg"}
 
 
 class Making:
@@ -191,7 +191,7 @@ class Making:
         if name == "list":
             return "".join(f"{it}\n" for it in list_lines(found))
         makers: dict[str, Callable[[Timeline], str]] = {
-            "offsets": offset_chart, "ways": delay_chart, "json": tables.as_json, "csv": tables.as_csv,
+            "offsets": offset_chart, "one_way": delay_chart, "json": tables.as_json, "csv": tables.as_csv,
             "chrome": neighbours.chrome, "shiviz": neighbours.shiviz,
         }  # fmt: skip
         return makers[name](found)

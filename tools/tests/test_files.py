@@ -9,7 +9,7 @@ from argparse import Namespace
 import files
 from inputs import Input
 from logs import Log
-from making import Making
+from making import OUTPUTS, Making
 
 
 class Room(unittest.TestCase):
@@ -74,7 +74,7 @@ class Own(Room):
 
 class Declaring(Room):
     def making(self) -> Making:
-        names = ("declaration", "source", "reference", "pairs", "html", "svg", "json", "csv", "chrome", "shiviz", "list")
+        names = ("declaration", "source", "reference", "pairs", *OUTPUTS)
         said = Namespace(**dict.fromkeys(names), folder=self.room, look=False, program="true", chrony=[], chosen=[], delays=1, events=1, files=[])
         return Making(said)
 
@@ -92,7 +92,7 @@ class Declaring(Room):
             os.remove(f"{self.room}/{name}")
 
     def test_nothing_that_is_kept_follows_a_link(self) -> None:
-        for name in ("script.txt", "replies.txt", "timeline.html", "contradiction.svg"):
+        for name in ("script.txt", "replies.txt", "timeline.html", "contradiction.svg", "offsets.svg"):
             os.symlink("victim", f"{self.room}/{name}")
             with self.assertRaisesRegex(ValueError, f"{name} is a symbolic link"):
                 self.making().keep(name, "mine\n")

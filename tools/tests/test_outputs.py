@@ -74,6 +74,11 @@ class Outputs(unittest.TestCase):
                     self.assertEqual(it.read(), "precious")
                 os.remove(f"{self.room}/kept/{name}")
 
+    def test_pictures_over_time_go_to_where_the_command_line_says(self) -> None:
+        said = self.timeline("--offsets", "clocks.svg", "--one-way", "delays.svg").stdout
+        self.assertEqual([self.read(name).count("<svg xmlns") for name in ("clocks.svg", "delays.svg")], [1, 1])
+        self.assertNotIn("timeline.html", said)
+
     def test_an_output_goes_to_where_the_command_line_says(self) -> None:
         os.symlink("elsewhere", f"{self.room}/out.json")
         self.timeline("--json", "out.json")
