@@ -37,14 +37,20 @@ def imported(path: str) -> set[str]:
     return found
 
 
+def modules_behind(names: set[str], library: set[str]) -> set[str]:
+    """Returns the files of the library that these names of modules mean: one file, or all of a folder of modules."""
+    folders = tuple(f"{name.split('.')[0]}/" for name in names)
+    return {f"{name}.py" for name in names} & library | {it for it in library if it.startswith(folders)}
+
+
 def modules_of(top: str, files: list[str]) -> list[str]:
     """Returns the files of tools/lib that the tools stand on: the modules that they name, and other files whose names those have."""
-    library = {os.path.basename(it) for it in files if os.path.dirname(it) == "tools/lib"}
+    library = {it.removeprefix("tools/lib/") for it in files if it.startswith("tools/lib/")}
     found: set[str] = set()
-    more = {f"{name}.py" for it in TOOLS for name in imported(f"{top}/tools/{it}")} & library
+    more = modules_behind({name for it in TOOLS for name in imported(f"{top}/tools/{it}")}, library)
     while more:
         found |= more
-        more = {f"{name}.py" for it in more for name in imported(f"{top}/tools/lib/{it}")} & library - found
+        more = modules_behind({name for it in more for name in imported(f"{top}/tools/lib/{it}")}, library) - found
     texts = [text_of(f"{top}/tools/lib/{it}") for it in found]
     return sorted(found | {it for it in library if not it.endswith(".py") and any(f'{it}"' in text for text in texts)})
 
