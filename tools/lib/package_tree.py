@@ -2,7 +2,6 @@
 
 import ast
 import gzip
-import os
 
 from archives import File
 from commit import Commit
