@@ -32,11 +32,11 @@ abbrev pub TellsAbsent : Content → List ℕ → Type 0
 TellsAbsent None path = ⊥
 TellsAbsent (Some files) path = files path ≡ None
 
--- a read at a path that the files do not have raised no count of faults
+-- a read at a path that the files tell to be absent raised no count of faults
 abbrev pub RaisesNoFault : List ℕ → FilesTold → FilesTold → Type 0
 RaisesNoFault path old new = TellsAbsent old.content path → new.faults ≡ old.faults
 
--- a path has these bytes, where the files tell it
+-- a path has bytes of which this holds, where the files tell it
 abbrev pub HasBytes : Content → List ℕ → (List ℕ → Type 0) → Type 0
 HasBytes None path P = Unit {0}
 HasBytes (Some files) path P = (bytes : List ℕ) × (files path ≡ Some bytes) × P bytes
@@ -45,7 +45,8 @@ HasBytes (Some files) path P = (bytes : List ℕ) × (files path ≡ Some bytes)
 abbrev pub ReadsAt : ℕ → ℕ → List ℕ → List ℕ → Type 0
 ReadsAt at n buf bytes = (take n buf ≡ take n (drop at bytes)) × (n ≤ length (drop at bytes)) × (n ≡ 0 → 0 < length buf → length bytes ≤ at)
 
--- why a read of a file failed
+-- why a read of a file failed: nothing is at the path, where the files tell it, and the count of that rose; or the read
+-- failed, and its count did
 abbrev pub IsFailOf : List ℕ → FilesTold → FilesTold → FileFail → Type 0
 IsFailOf path old new Absent = Rose old.absences new.absences × IsAbsent old.content path
 IsFailOf path old new Failed = Rose old.faults new.faults
@@ -59,7 +60,7 @@ abbrev pub ReadSoFar : Content → List ℕ → List ℕ → Type 0
 ReadSoFar None path front = Unit {0}
 ReadSoFar (Some files) path front = (bytes : List ℕ) → files path ≡ Some bytes → front ≡ take (length front) bytes
 
--- why a file was not read
+-- why a whole file was not read: a read of it failed (`IsFailOf`), or there was no memory
 abbrev pub IsFaultOf : List ℕ → FilesTold → FilesTold → FileFault → Type 0
 IsFaultOf path old new faults.Absent = Rose old.absences new.absences × IsAbsent old.content path
 IsFaultOf path old new faults.Read = Rose old.faults new.faults

@@ -31,7 +31,8 @@ abbrev pub HasFront : Option (List ℕ) → Option (List ℕ) → Option (List �
 HasFront (Some before) (Some told) now = (k : ℕ) × (length before ≤ k) × (k ≤ length told) × (now ≡ Some (take k told))
 HasFront before told now = Unit {0}
 
--- what is held is passed on: the sink below has all that was told, or a front of it where a write failed
+-- what is held is passed on: the sink below has all that was told, or a front of it where a write failed, and then its
+-- count of faults rose. It never falls
 pub record Finishes {E : Type 0} (before told now : SinkTold) (result : Result (Unit {0}) E) : Type 0 where
   pub whole : OnOk result (HasWhole told.written now.written)
   pub front : OnErr result (HasFront before.written told.written now.written)

@@ -2,11 +2,11 @@
 use Rattle.std.specs.Prelude.{◌^◌, ◌≢◌, ℕ, List, [], ◌∷◌, ◌==◌}
 use Rattle.std.specs.List.{slice_split}
 
--- the most bytes of a line that is given
+-- the most bytes of a line that is given: 4,096
 abbrev pub most_line : ℕ
 most_line = 4096
 
--- the most bytes that a reader takes
+-- the most bytes that a reader takes: 2^30
 abbrev pub most_taken : ℕ
 most_taken = 2 ^ 30
 
@@ -36,10 +36,10 @@ with_last [] = []
 with_last (last ∷ []) = last_line last
 with_last (line ∷ next ∷ more) = line ∷ with_last (next ∷ more)
 
--- the lines that end with a line feed
+-- the lines that end with a line feed: of `a`, LF, LF, `b` these are `a` and the empty one
 abbrev pub whole_lines : List ℕ → List (List ℕ)
 whole_lines bytes = before_last (parts bytes)
 
--- these, and a last one that has bytes and no line feed
+-- these, and a last one that has bytes and no line feed, here `b`
 abbrev pub lines_of : List ℕ → List (List ℕ)
 lines_of bytes = with_last (parts bytes)

@@ -75,7 +75,7 @@ pub record Answers (old new : Reader) (before after : SourceTold) (line : List �
   pub cause : IsErrOf result Read → Rose before.faults after.faults
   pub no_fall : before.faults ≤ after.faults
 
--- a line feed is held, or the end was found
+-- a line feed is held, and so a whole line, or the end of the source was found
 abbrev pub NeedsNoRead : Reader → Type 0
 NeedsNoRead r = Contains r.held 10 ⊎ (r.ended ≡ true)
 

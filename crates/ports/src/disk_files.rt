@@ -1,6 +1,7 @@
 // The real files of the host.
 ghost use Rattle.std.specs.Prelude.{◌≡◌, ◌≤◌, None, IfOk, length};
 
+use crate::again::read_again;
 use crate::{FileFail, Files};
 use std::alloc::Global;
 use std::fs::File;
@@ -32,7 +33,7 @@ impl<F: Read + Seek + Drop> Reading<F> {
         if at != self.next {
             self.file.seek(SeekFrom::Start(at))?;
         }
-        let n = self.file.read(buf)?;
+        let n = read_again(&mut self.file, buf)?;
         self.next = at.saturating_add(n as u64);
         Ok(n)
     }

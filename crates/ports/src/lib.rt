@@ -1,12 +1,8 @@
-//! What the program reads from and writes to, and lines in and out.
-//!
-//! What the program reads from and writes to.
-//!
-//! Lines of a script, read from a source one after another, in memory of a fixed size.
-//!
-//! Output that goes out in large pieces: a sink over a sink.
+//! What the program reads from and writes to: sources, sinks and files, lines of a script in memory of a fixed size, and
+//! output that goes out in large pieces.
 #![tactic(auto)]
 
+mod again;
 mod arguments;
 mod block;
 mod buffered_sink;

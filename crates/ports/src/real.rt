@@ -1,10 +1,11 @@
 // The real streams of the host.
 ghost use Rattle.std.specs.Prelude.{◌≡◌, None};
 
+use crate::again::{read_again, write_again};
 use crate::{Failed, Sink, Source};
 use std::io::{Read, Write};
 
-/// A writer of the host, as the standard output. What was written is not told.
+/// A writer of the host, as the standard output. What was written is not told. A write that a signal interrupted is made again.
 #[derive(Drop)]
 pub struct StdSink<W: Write + Drop> {
     writer: W,
@@ -24,7 +25,7 @@ impl<W: Write + Drop> Sink for StdSink<W> {
     ghost told = { λ s. record { written = None; faults = s.faults } };
 
     fn write(&mut self, piece: &[u8]) -> Result<usize, Failed> {
-        match self.writer.write(piece) {
+        match write_again(&mut self.writer, piece) {
             Ok(n) if n > 0 || piece.is_empty() => Ok(n),
             _ => {
                 self.faults = self.faults.saturating_add(1);
@@ -34,7 +35,7 @@ impl<W: Write + Drop> Sink for StdSink<W> {
     }
 }
 
-/// A reader of the host, as the standard input. The bytes left are not told.
+/// A reader of the host, as the standard input. The bytes left are not told. A read that a signal interrupted is made again.
 #[derive(Drop)]
 pub struct StdSource<I: Read + Drop> {
     reader: I,
@@ -54,7 +55,7 @@ impl<I: Read + Drop> Source for StdSource<I> {
     ghost told = { λ s. record { left = None; faults = s.faults } };
 
     fn read(&mut self, buf: &mut [u8]) -> Result<usize, Failed> {
-        match self.reader.read(buf) {
+        match read_again(&mut self.reader, buf) {
             Ok(n) => Ok(n),
             Err(_) => {
                 self.faults = self.faults.saturating_add(1);
