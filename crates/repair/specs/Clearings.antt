@@ -1,4 +1,6 @@
--- The clearing of the cells that a withdrawal affects.
+-- The clearing of the cells that a withdrawal affects. Where arc 1 of the example in Facing of `distances` is
+-- withdrawn, the cells of nodes 2 and 1 in the row from 0 are cleared; node 1 is pulled along arc 0, and the row is 0,
+-- 5, unknown.
 use Rattle.std.specs.Prelude.{◌≡◌, ◌≢◌, ℕ, ◌+◌, ◌<◌, ◌⊎◌, Bool, true, List, length, slice_index_or, slice_set}
 use Rattle.problem_model.specs.Parents.{Cells, IsRow}
 use Rattle.row_pool.specs.declared.cell.Cell.{Cell}
@@ -17,14 +19,15 @@ pub record IsRowBefore (g : GraphLists) (outward : Bool) (was : ℕ → Bool) (r
   pub below : (j : ℕ) → was j ≡ true → j < length g.arcs
   pub row : IsRow (length g.nodes) (earlier (facing outward g) was) p old
 
+-- how far the search for affected cells has come
 abbrev pub IsMarkingOf : GraphLists → Bool → List Arc → ℕ → Cells → List Cell → (ℕ → Bool) → List ℕ → ℕ → ℕ → Type 0
 IsMarkingOf g outward removed p old row marked found count done = IsMarkingIn (length g.nodes) (facing outward g) (IsRemoved g removed) p old (cells_of row) marked (found_at found) count done
 
--- the node has the arc of this number as parent
+-- the node is known, and has the arc of this number as parent
 abbrev pub IsChildBy : List Cell → ℕ → ℕ → Type 0
 IsChildBy row node arc = ((cell_at row node).known ≡ true) × ((cell_at row node).parent ≡ arc)
 
--- the node has a parent that equals this arc
+-- the node is known, and has a parent that equals this arc
 abbrev pub IsChildOf : GraphLists → List Cell → ℕ → Arc → Type 0
 IsChildOf g row node a = ((cell_at row node).known ≡ true) × ((cell_at row node).parent < length g.arcs) × (arc_at g.arcs (cell_at row node).parent ≡ a)
 
@@ -34,6 +37,7 @@ pub record IsClearedAt (row row' : List Cell) (found found' : List ℕ) (count n
   pub found_is : found' ≡ slice_set found count node
   pub one_more : result ≡ count + 1
 
+-- nothing changes
 pub record IsLeft (row row' : List Cell) (found found' : List ℕ) (count result : ℕ) : Type 0 where
   pub row_is : row' ≡ row
   pub found_is : found' ≡ found

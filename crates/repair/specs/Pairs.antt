@@ -9,7 +9,7 @@ use Rattle.row_pool.specs.Pool.{Pool, row_of}
 use Rattle.distances.specs.Reaches.{IsReachIn}
 use Rattle.repair.specs.declared.slot.Slot.{Slot}
 
--- the greatest differences in both directions; there are none to what is no node of the graph
+-- the greatest differences of two nodes in both directions; where the second is no node of the graph, none in either
 pub record IsPairIn (g : GraphLists) (p q : ℕ) (pair : Pair) : Type 0 where
   pub up : q < length g.nodes → IsReachIn g p q pair.up
   pub down : q < length g.nodes → IsReachIn g q p pair.down

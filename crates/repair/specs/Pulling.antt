@@ -30,8 +30,10 @@ pub record IsPulledBy (g : GraphLists) (outward : Bool) (arc : ℕ) (row row' : 
   pub rests : waits_of front ((facing outward g).arc arc).from ≡ false
   pub relaxed : IsRelaxedBy (facing outward g) (cell_at row ((facing outward g).arc arc).from).value arc row row' front front'
 
+-- the first so many of the arcs to a node are tried
 abbrev pub IsTryingIn : GraphLists → Bool → ℕ → ℕ → List Cell → List Cell → List (Option ℤ) → List (Option ℤ) → Type 0
 IsTryingIn g outward node count row row' front front' = IsTrying (facing outward g) node (list_at (followed (not outward) g) node) count (cells_of row) (cells_of row') (waits_of front) (waits_of front')
 
+-- the first so many of the cleared nodes are pulled
 abbrev pub IsPullingIn : GraphLists → Bool → List ℕ → ℕ → List Cell → List Cell → List (Option ℤ) → Type 0
 IsPullingIn g outward found count old row front = IsPulling (facing outward g) (found_at found) count (cells_of old) (cells_of row) (waits_of front)

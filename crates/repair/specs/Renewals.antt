@@ -1,4 +1,6 @@
--- What becomes of kept rows, and the steps that it takes.
+-- What becomes of kept rows, and the steps that it takes. Where node 0 is kept and arc 2 comes last in the example in
+-- Facing of `distances`, its row 0, 5, 2 becomes 0, 1, 2, and the one towards it stays 0, unknown, unknown: one cell
+-- differs, and no arc leaves node 1, so that this takes at most 2 + 4 steps.
 use Rattle.std.specs.Prelude.{ℕ, ◌+◌, ◌≤◌, List, length, sum_by, All}
 use Rattle.sync_graph.specs.Graph.{GraphLists, table_of}
 use Rattle.row_pool.specs.Pool.{Pool, row_of}
@@ -17,7 +19,7 @@ abbrev pub insertion_steps : GraphLists → Pool → Pool → Slot → ℕ
 insertion_steps g old new slot =
     steps_of_changes g.leaving (row_of old slot.from) (row_of new slot.from) + steps_of_changes g.arriving (row_of old slot.to) (row_of new slot.to) + 4
 
--- the steps before and after are that far apart at most
+-- the steps before and after are no further apart than that for all slots
 abbrev pub TakesFewSteps : GraphLists → List Slot → Pool → Pool → ℕ → ℕ → Type 0
 TakesFewSteps g slots old new before after = after ≤ (before + sum_by (insertion_steps g old new) slots)
 

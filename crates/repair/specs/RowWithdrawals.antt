@@ -16,7 +16,7 @@ pub record AreWithdrawn (before : GraphLists) (removed : List Arc) (after : Grap
   pub gone : (j : ℕ) → slice_index_or before.in_force j false ≡ true
       → (slice_index_or after.in_force j false ≡ true) ⊎ Contains removed (arc_at before.arcs j)
 
--- the arc of this number equals one of those removed
+-- the arc of this number equals one of those removed, name and all
 abbrev pub IsRemoved : GraphLists → List Arc → ℕ → Type 0
 IsRemoved g removed j = Contains removed (arc_at g.arcs j)
 

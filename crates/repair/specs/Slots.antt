@@ -8,7 +8,7 @@ use Rattle.row_pool.specs.Pool.{Pool, row_at, row_of, IsTaken}
 use Rattle.distances.specs.Changes.{AreBlank}
 use Rattle.repair.specs.declared.slot.Slot.{Slot}
 
--- the slots that are there
+-- the slots that are there, in their order
 abbrev pub slots_in : List (Option Slot) → List Slot
 slots_in [] = []
 slots_in (None ∷ rest) = slots_in rest
@@ -21,15 +21,15 @@ pub record KeptRows : Type 0 where
   pub present : Bool
   pub room : ℕ
 
--- nothing is kept
+-- no slot is kept, the rows are those of the graph, and the room is 0
 abbrev pub nothing_kept : KeptRows
 nothing_kept = record { slots = []; source = None; present = true; room = 0 }
 
--- the rows are those of the graph, or they are not
+-- the same slots, of which the rows are those of the graph, or are not
 abbrev pub with_presence : KeptRows → Bool → KeptRows
 with_presence kept present = record { slots = kept.slots; source = kept.source; present = present; room = kept.room }
 
--- another room
+-- the same slots with another room
 abbrev pub with_room : KeptRows → ℕ → KeptRows
 with_room kept room = record { slots = kept.slots; source = kept.source; present = kept.present; room = room }
 

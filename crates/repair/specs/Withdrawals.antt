@@ -1,4 +1,6 @@
--- Kept rows once arcs are withdrawn, and the steps that it takes.
+-- Kept rows once arcs are withdrawn, and the steps that it takes. Where arc 2 of the example in Renewals is withdrawn
+-- again, node 1 alone is affected, in the row from node 0 alone, and arc 0 alone is in force at it: this takes at most
+-- 2 + 7 + 2 steps, and both rows are as at first.
 use Rattle.std.specs.Prelude.{◌≡◌, ℕ, ◌+◌, ◌*◌, ◌≤◌, Bool, true, List, length, sum_by, All}
 use Rattle.withdrawals.specs.Withdrawals.{flagged_sum}
 use Rattle.sync_graph.specs.declared.arc.Arc.{Arc}
@@ -13,7 +15,8 @@ use Rattle.repair.specs.Renewals.{Renews}
 abbrev pub WereRows : GraphLists → List Arc → Pool → List Slot → Type 0
 WereRows g removed pool slots = (before : GraphLists) × AreWithdrawn before removed g × All (IsRowsOf (length before.nodes) (table_of before) pool) slots
 
--- the flags of the row of this number mark each node whose path by parents there has a removed arc
+-- flags by the number of a row and a node: in both rows of the slot they mark each node whose path by parents has a
+-- removed arc
 pub record MarksAffected (g : GraphLists) (removed : List Arc) (pool : Pool) (marks : ℕ → ℕ → Bool) (slot : Slot) : Type 0 where
   pub from : (k : ℕ) → IsAffectedFrom g removed slot.node (row_of pool slot.from) k → marks slot.from k ≡ true
   pub to : (k : ℕ) → IsAffectedTo g removed slot.node (row_of pool slot.to) k → marks slot.to k ≡ true
@@ -22,11 +25,12 @@ pub record MarksAffected (g : GraphLists) (removed : List Arc) (pool : Pool) (ma
 abbrev pub steps_of_marked : GraphLists → (ℕ → Bool) → ℕ
 steps_of_marked g marked = flagged_sum (length g.nodes) (λ k. 2 * (reaching g k + departing g k) + 5) marked + 2
 
--- so many for each of both rows
+-- so many for each row of a slot
 abbrev pub withdrawal_steps : GraphLists → (ℕ → ℕ → Bool) → Slot → ℕ
 withdrawal_steps g marks slot = steps_of_marked g (marks slot.from) + steps_of_marked g (marks slot.to)
 
--- the steps before and after are that far apart at most, whichever flags mark the affected nodes of each row
+-- the steps before and after are no further apart than that for all slots, whichever flags mark the affected nodes of
+-- each row
 abbrev pub TakesFewToWithdraw : GraphLists → List Arc → List Slot → Pool → ℕ → ℕ → Type 0
 TakesFewToWithdraw g removed slots old before after =
     (marks : ℕ → ℕ → Bool) → All (MarksAffected g removed old marks) slots → after ≤ (before + sum_by (withdrawal_steps g marks) slots)

@@ -18,7 +18,7 @@ use crate::keep::{KeepError, new_slot};
 use crate::look::look_in;
 use crate::renew::{make_all, make_source, repair_all, repair_source};
 use crate::slot::{Slot, find_slot, place_of};
-use crate::withdrawal::{lay_out, withdraw_all, withdraw_source};
+use crate::withdrawal::{withdraw_all, withdraw_source};
 use arrayvec::ArrayVec;
 use atto::Steps;
 use earliest::Earliest;
@@ -36,19 +36,21 @@ pub struct Kept {
     slots: ArrayVec<Option<Slot>, 8>,
     source: Option<Slot>,
     present: bool,
+    // A place for each node that there is room for, in which affected nodes are listed. It stays laid out: a withdrawal
+    // writes no more places than nodes that it finds.
     found: Vec<u32>,
     room: u32,
 }
 
 impl Model for Kept {
-    ghost use Rattle.std.specs.Prelude.{◌≡◌, ◌≤◌, [], length, vec_capacity};
+    ghost use Rattle.std.specs.Prelude.{◌≡◌, ◌≤◌, length};
     ghost use Rattle.repair.specs.Slots.{KeptRows, slots_in};
 
     ghost Value = { KeptRows };
 
     ghost view = { λ k. record { slots = slots_in k.slots.items; source = k.source; present = k.present; room = k.room } };
 
-    ghost invariant = { λ k. (length (slots_in k.slots.items) ≡ length k.slots.items) × (k.found.items ≡ []) × (k.room ≤ vec_capacity k.found) };
+    ghost invariant = { λ k. (length (slots_in k.slots.items) ≡ length k.slots.items) × (k.room ≤ length k.found.items) };
 }
 
 impl Kept {
@@ -89,7 +91,7 @@ impl Kept {
         if nodes <= self.room {
             return Ok(());
         }
-        self.found.reserve(nodes as usize)?;
+        self.found.resize(nodes as usize, 0)?;
         self.room = nodes;
         Ok(())
     }
@@ -282,7 +284,7 @@ impl Kept {
 
     /// Repairs the rows of all slots once arcs were withdrawn: they were those of the graph before, and are those of the
     /// graph now. `removed` are these arcs, or more; `e` is the earliest execution of the graph. It takes no memory, since
-    /// room was reserved for all nodes.
+    /// room was reserved for all nodes, and nothing is laid out or cleared for a node that is not affected.
     ///
     /// A node is affected in a row where its path by parents had an arc that equals one of those removed. There are few
     /// steps: for each row two, and for each node that is affected in it five and two for each arc in force that reaches or
@@ -312,8 +314,6 @@ impl Kept {
         ensures empty { IsEmpty front.new }
         ensures front { length front.new ≡ length front.old }
     {
-        g.exact();
-        lay_out(&mut self.found, g.nodes());
         withdraw_source(
             &self.source,
             g,
@@ -334,7 +334,6 @@ impl Kept {
             front,
             steps,
         );
-        self.found.clear();
         self.present = true;
     }
 }

@@ -1,5 +1,5 @@
 // Rows that are repaired once arcs are withdrawn.
-ghost use Rattle.std.specs.Prelude.{◌≡◌, ◌≤◌, ◌∷◌, [], true, length, vec_capacity};
+ghost use Rattle.std.specs.Prelude.{◌≡◌, ◌≤◌, ◌∷◌, [], true, length};
 ghost use Rattle.frontier.specs.Keys.{IsEmpty};
 ghost use Rattle.sync_graph.specs.Graph.{table_of};
 ghost use Rattle.earliest.specs.Values.{IsEarliestOf};
@@ -14,18 +14,6 @@ use frontier::Frontier;
 use row_pool::RowPool;
 use std::sync::ledger::Ledger;
 use sync_graph::{Arc, Graph};
-
-/// Makes so many places in a list that has room for them.
-pub fn lay_out(found: &mut Vec<u32>, nodes: u32)
-    requires empty { found.old.items ≡ [] }
-    requires room { nodes ≤ vec_capacity found.old }
-    ensures places { length found.new.items ≡ nodes }
-    ensures capacity { vec_capacity found.old ≤ vec_capacity found.new }
-{
-    let Ok(()) = found.resize(nodes as usize, 0) else {
-        unreachable!()
-    };
-}
 
 // Repairs both rows of a slot.
 fn withdraw_rows<L: Ledger>(

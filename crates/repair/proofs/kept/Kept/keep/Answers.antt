@@ -23,7 +23,6 @@ pub invariant_of-self : goal.invariant_of-self
 invariant_of-self g c = (
   subst (λ (xs : List (Option Slot)). length (slots_in xs) ≡ length xs) (sym c.push.ensures.items) (whole_push c.self.inside.slots.items c.new_slot-slot.result c.self.invariant.0),
   c.self.invariant.1,
-  c.self.invariant.2,
 )
 
 pub returns-clause-takes : goal.returns-clause-takes
