@@ -39,7 +39,8 @@ pub record IsSoonest (p : ProblemLists) (first : Node) (earliest : Times) (K : �
 abbrev pub HasPath : ProblemLists → Node → Node → Type 0
 HasPath p m n = (steps : List WeighedBound) × Leads p m steps n
 
--- just those clocks are inside that have a node which a path from the first reaches
+-- just those clocks are inside that have a node which a path from the first reaches: where p on clock c sends to q on
+-- clock d with no greatest delay, and nothing else joins them, c alone
 abbrev pub IsUpperCut : ProblemLists → Node → List ℕ → Type 0
 IsUpperCut p first inside = (clock : ℕ) → Contains inside clock ↔ ((n : Node) × IsNodeOf p n × IsOnClock p n clock × HasPath p first n)
 
@@ -58,7 +59,8 @@ IsSmallEnd (Limited value path execution) = IsUnder 116 value × All (λ s. IsUn
 IsSmallEnd (Unlimited inside execution) = All (IsUnder 117) execution
 
 -- ---- ends
--- at a limit the latest execution, with a path of fewer steps than there are nodes; else the earliest execution and the cut
+-- how the upper end is shown: at a limit by the latest execution, with a path of fewer steps than there are nodes; else
+-- by the earliest execution and the cut
 abbrev pub IsUpperAs : ProblemLists → List Reading → ℕ → EndLists → Type 0
 IsUpperAs p readings first (Limited value path execution) = (earliest : Times) × (K : ℤ) × (x : Times)
     × IsEarliestExecution p earliest × IsGreatestLeadOf p (nodes.Event first) earliest K × IsLatest p (nodes.Event first) earliest K x
@@ -66,7 +68,7 @@ IsUpperAs p readings first (Limited value path execution) = (earliest : Times) �
 IsUpperAs p readings first (Unlimited inside execution) = (earliest : Times)
     × IsEarliestExecution p earliest × (execution ≡ map earliest (nodes_of p readings)) × IsUpperCut p (nodes.Event first) inside
 
--- the same with the soonest execution
+-- how the lower end is shown: the same with the soonest execution
 abbrev pub IsLowerAs : ProblemLists → List Reading → ℕ → EndLists → Type 0
 IsLowerAs p readings first (Limited value path execution) = (earliest : Times) × (K : ℤ) × (x : Times)
     × IsEarliestExecution p earliest × IsLeastLeadOf p (nodes.Event first) earliest K × IsSoonest p (nodes.Event first) earliest K x

@@ -14,8 +14,8 @@ use Rattle.problem.specs.Listing.{Listed, name_at}
 use Rattle.cert.specs.Listed.{IsNamed, listed_step, listed_values, certified}
 
 -- ---- text
--- one end: where it is, the steps of a path, and a real time for the number of each node; or the clocks inside a cut, and
--- real times
+-- one end as it is written: where it is, the steps of a path, and a real time for the number of each node; or the
+-- clocks inside a cut, and real times
 pub data WrittenEnd : Type 0 where
   Limit : ℤ → List (Bound × ℤ) → (ℕ → ℤ) → WrittenEnd
   NoLimit : List ℕ → (ℕ → ℤ) → WrittenEnd

@@ -1,10 +1,10 @@
-//! Certificates, written as they are made: a contradiction bound by bound, an execution value by value, the ends of an
-//! interval path by path and cut by cut. No call takes memory.
+//! That arcs, and problems, have an outcome, an earliest execution or a contradiction; and certificates, written as
+//! they are made: a contradiction bound by bound, an execution value by value, the ends of an interval path by path and
+//! cut by cut.
 //!
-//! That arcs, and problems, have an outcome: an earliest execution or a contradiction.
-//!
-//! Arcs are taken one after the other, with a table of the least sums of paths. Where one more arc closes a cycle of negative
-//! sum, that is a contradiction; and where none does, the earliest execution is read off the table.
+//! To write a certificate no call takes memory. For an outcome arcs are taken one after the other, with a table of the
+//! least sums of paths. Where one more arc closes a cycle of negative sum, that is a contradiction; and where none
+//! does, the earliest execution is read off the table.
 #![tactic(auto)]
 
 mod cut;

@@ -97,7 +97,8 @@ abbrev pub IsDeclared : ProblemLists → Bound → Type 0
 IsDeclared p b = (c : Constraint) × Declares p b c
 
 -- ---- lines
--- numbers are as large as they are written; an end without a limit has no value
+-- a line of a certificate, where numbers are as large as they are written; an end without a limit has no value; the
+-- lines of nodes and the end are those of an execution
 pub data CertLine : Type 0 where
   CycleLine : CertLine
   RunLine : CertLine
@@ -220,7 +221,7 @@ abbrev pub HasRoomIn : List Step → CertLine → Type 0
 HasRoomIn steps (StepLine bound weight) = length steps < most_steps
 HasRoomIn steps line = Unit {0}
 
--- steps of the problem, not too many
+-- steps of the problem, with weights in range, and not too many
 pub record AreSteps (p : ProblemLists) (steps : List Step) : Type 0 where
   pub declared : All (IsStepOf p) steps
   pub weights : All (λ s. FitsUnits s.weight) steps
@@ -245,7 +246,7 @@ side_line side value = line_of (side_word side ∷ limit_word side value ∷ [])
 
 -- ---- the format
 module _ (p : ProblemLists) (readings : List Reading) where
-  -- steps, or clocks inside, come before the real times of an end
+  -- the line may follow in the part of an end: steps, or clocks inside, come before its real times
   abbrev pub MayStandIn : EndLists → CertLine → Type 0
   MayStandIn (Limited value path values) (StepLine bound weight) = values ≡ []
   MayStandIn (Unlimited inside values) (InsideLine clock) = values ≡ []
@@ -256,7 +257,7 @@ module _ (p : ProblemLists) (readings : List Reading) where
   abbrev pub IsWhole : EndLists → Type 0
   IsWhole end = length (end_values end) ≡ length (nodes_of p readings)
 
-  -- a certificate's kind first; the upper end before the lower, and the end behind it
+  -- the line may follow: a certificate's kind first; the upper end before the lower, and the end behind it
   abbrev pub MayStand : Said → CertLine → Type 0
   MayStand NoneSaid CycleLine = Unit {0}
   MayStand NoneSaid RunLine = Unit {0}
@@ -271,7 +272,8 @@ module _ (p : ProblemLists) (readings : List Reading) where
   MayStand (EndsSaid a b upper lower) line = MayStandIn lower line
   MayStand said line = ⊥
 
-  -- events of the problem; a bound that it declares; a clock behind those inside so far; the node whose turn it is
+  -- the names may stand there: events of the problem; a bound that it declares; a clock behind those inside so far; the
+  -- node whose turn it is
   abbrev pub NamesFitIn : List ℕ → List ℤ → CertLine → Type 0
   NamesFitIn inside values (EndsLine a b) = (j : ℕ) × (k : ℕ) × HasEvent p j a × HasEvent p k b
   NamesFitIn inside values (StepLine bound weight) = (b : Bound) × Names p bound b × IsDeclared p b
@@ -279,12 +281,12 @@ module _ (p : ProblemLists) (readings : List Reading) where
   NamesFitIn inside values (NodeLine line) = executions.NamesFit p readings values line
   NamesFitIn inside values line = Unit {0}
 
-  -- the end so far is lawful
+  -- what the end has so far is of the problem, in range and not too much
   abbrev pub IsSoundEnd : EndLists → Type 0
   IsSoundEnd (Limited value path values) = FitsUnits value × AreSteps p path × AreValues (length (nodes_of p readings)) values
   IsSoundEnd (Unlimited inside values) = AreInside p inside × AreValues (length (nodes_of p readings)) values
 
-  -- all so far is lawful
+  -- all that is said so far is of the problem, in range and not too much
   abbrev pub IsSound : Said → Type 0
   IsSound NoneSaid = Unit {0}
   IsSound (CycleSaid steps) = AreSteps p steps
@@ -307,7 +309,7 @@ module _ (p : ProblemLists) (readings : List Reading) where
   said_lines (UpperSaid a b upper) = events_line p a b ++ side_lines Upper upper
   said_lines (EndsSaid a b upper lower) = events_line p a b ++ side_lines Upper upper ++ side_lines Lower lower
 
-  -- the format of certificate texts
+  -- all of these as a `Format`, whose state is what is said so far
   abbrev pub certificate_format : Format Said CertLine
   certificate_format = record {
     head = certificate_head;

@@ -33,10 +33,11 @@ end_text p nodes part unlimited (Limited value path execution) =
 end_text p nodes part unlimited (Unlimited inside execution) =
     line_of (part ∷ unlimited ∷ []) ++ flat_map (inside_line p) inside ++ value_lines p nodes execution
 
+-- the same of an end as the code holds it
 abbrev pub end_lines : ProblemLists → List Node → List ℕ → List ℕ → EndProof → List ℕ
 end_lines p nodes part unlimited end = end_text p nodes part unlimited (lists_of end)
 
--- two events and both ends
+-- the line of two events, and the parts of both ends
 abbrev pub ends_lines : ProblemLists → List Node → ℕ → ℕ → EndLists → EndLists → List ℕ
 ends_lines problem nodes p q upper lower =
     line_of (codes "ends" ∷ event_name problem.events p ∷ event_name problem.events q ∷ [])
@@ -67,10 +68,12 @@ AreListsOf p (Limited value path execution) = All (IsStepOf p) path × HasOneEac
 AreListsOf p (Unlimited inside execution) =
     All (λ k. k < length p.clocks) inside × AllPairs (λ j k. j < k) inside × HasOneEach p execution
 
+-- the same of an end as the code holds it
 abbrev pub IsEndOf : ProblemLists → EndProof → Type 0
 IsEndOf p end = AreListsOf p (lists_of end)
 
--- bounds, events, clocks and nodes are those of the problem
+-- bounds, events, clocks and nodes are those of the problem; nothing is said of weights, of sums, or whether an
+-- execution is one
 abbrev pub IsCertOf : ProblemLists → Cert → Type 0
 IsCertOf p (Cycle steps) = All (IsStepOf p) steps
 IsCertOf p (Run execution) = HasOneEach p execution

@@ -4,12 +4,13 @@ use Rattle.cert.specs.declared.chain.Step.{Step}
 use Rattle.cert.specs.declared.certificate.EndProof.{EndProof}
 use Rattle.cert.specs.declared.certificate.EndProof.TheVariants.{At, Unbounded}
 
--- where it is, with a path and an execution; or that it is nowhere, with the clocks inside a cut and an execution
+-- one end of an interval: its value, the steps of a path and the values of an execution; or that it is nowhere, with
+-- the clocks inside a cut and the values of an execution
 pub data EndLists : Type 0 where
   Limited : ℤ → List Step → List ℤ → EndLists
   Unlimited : List ℕ → List ℤ → EndLists
 
--- what an end says
+-- what an end says, but not how its list of clocks lies in memory
 abbrev pub lists_of : EndProof → EndLists
 lists_of (At value path execution) = Limited value path execution
 lists_of (Unbounded inside execution) = Unlimited inside.items execution

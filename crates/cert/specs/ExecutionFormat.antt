@@ -13,7 +13,7 @@ use Rattle.problem_model.specs.Nodes.{Reading, nodes_of}
 use Rattle.problem_model.specs.ProblemText.{clock_name, event_name}
 use Rattle.problem_model.specs.ExecutionText.{execution_head, value_lines}
 
--- numbers are as large as they are written
+-- a line of an execution's text; numbers are as large as they are written
 pub data ExecutionLine : Type 0 where
   EventLine : List ℕ → ℤ → ExecutionLine
   ReadingLine : List ℕ → ℕ → ℤ → ExecutionLine
@@ -31,7 +31,7 @@ IsSpelled (EventLine name value) = IsEventName name
 IsSpelled (ReadingLine clock stamp value) = IsClockName clock
 IsSpelled EndLine = Unit {0}
 
--- each number is in its range
+-- the real time is in its range
 abbrev pub NumbersFit : ExecutionLine → Type 0
 NumbersFit (EventLine name value) = FitsUnits value
 NumbersFit (ReadingLine clock stamp value) = FitsUnits value
@@ -47,7 +47,7 @@ module _ (p : ProblemLists) (readings : List Reading) where
   abbrev pub IsNext : List ℤ → Node → Type 0
   IsNext values node = slice_get (nodes_of p readings) (length values) ≡ Some node
 
-  -- the form is fixed by the place
+  -- the line may follow: its form is fixed by the place
   abbrev pub MayStand : List ℤ → ExecutionLine → Type 0
   MayStand values (EventLine name value) = (event : ℕ) × IsNext values (nodes.Event event)
   MayStand values (ReadingLine clock stamp value) = (place : ℕ) × (at : ℕ) × IsNext values (nodes.Reading place at)
@@ -59,7 +59,7 @@ module _ (p : ProblemLists) (readings : List Reading) where
   NamesFit values (ReadingLine clock stamp value) = (place : ℕ) × IsNext values (nodes.Reading place stamp) × (clock ≡ clock_name p.clocks place)
   NamesFit values EndLine = Unit {0}
 
-  -- a state is the list of the values so far
+  -- all of these as a `Format`, whose state is the list of the values so far
   abbrev pub execution_format : Format (List ℤ) ExecutionLine
   execution_format = record {
     head = execution_head;

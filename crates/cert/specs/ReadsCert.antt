@@ -50,6 +50,6 @@ module _ (p : ProblemLists) (readings : List Reading) where
   ReadsCertOver text (Err errors.Long) = most_bytes < length text
   ReadsCertOver text (Err errors.Memory) = Unit {0}
 
--- over the readings of p, of which there is one list
+-- what `read_cert` answers for a text: as above, over the readings of p, of which there is one list
 abbrev pub ReadsCert : ProblemLists → List ℕ → Result Cert CertError → Type 0
 ReadsCert p text result = (readings : List Reading) → AreReadings p readings → ReadsCertOver p readings text result

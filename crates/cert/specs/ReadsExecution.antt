@@ -41,6 +41,6 @@ module _ (p : ProblemLists) (readings : List Reading) where
   ReadsOver text (Err errors.Long) = most_bytes < length text
   ReadsOver text (Err errors.Memory) = Unit {0}
 
--- over the readings of p, of which there is one list
+-- what `read_execution` answers for a text: as above, over the readings of p, of which there is one list
 abbrev pub Reads : ProblemLists → List ℕ → Result (List ℤ) CertError → Type 0
 Reads p text result = (readings : List Reading) → AreReadings p readings → ReadsOver p readings text result

@@ -8,13 +8,13 @@ use Rattle.problem_model.specs.Name.{IsEventName, IsClockName}
 use Rattle.cert.specs.declared.words.EventWords.{EventWords}
 use Rattle.cert.specs.declared.words.ReadingWords.{ReadingWords}
 
--- the text spells z units, which are held as v
+-- the text spells z units, which are held as v: as `None` where they are out of range
 pub record SpellsValue (text : List ℕ) (v : Option ℤ) : Type 0 where
   pub z : ℤ
   pub is : text ≡ ns_text z
   pub held : SomeIff v (FitsUnits z) z
 
--- the text spells m, which is held as n
+-- the text spells m, which is held as n: as `None` where it is too large
 pub record SpellsNumber (text : List ℕ) (n : Option ℕ) : Type 0 where
   pub m : ℕ
   pub is : text ≡ decimal_of m

@@ -49,20 +49,24 @@ abbrev pub NoSpan : List ℕ → Type 0
 NoSpan rest = (clock : List ℕ) (x y : ℕ) (z : ℤ) → IsClockName clock → rest ≡ span_rest clock x y z → ⊥
 
 -- ---- bounds on stamps
+-- what the words behind `step late` or `step early` say
 pub record StampParts (event weight : List ℕ) (w : StampWords) : Type 0 where
   pub event_is : event ≡ w.event
   pub named : IsEventName w.event
   pub weight_is : SpellsValue weight w.weight
 
+-- these words
 abbrev pub stamp_rest : List ℕ → ℤ → List ℕ
 stamp_rest event z = words (event ∷ ns_text z ∷ [])
 
+-- they are those of w
 pub record SaysStamp (rest : List ℕ) (w : StampWords) : Type 0 where
   pub z : ℤ
   pub named : IsEventName w.event
   pub is : rest ≡ stamp_rest w.event z
   pub held : SomeIff w.weight (FitsUnits z) z
 
+-- they are no such words
 abbrev pub NoStamp : List ℕ → Type 0
 NoStamp rest = (event : List ℕ) (z : ℤ) → IsEventName event → rest ≡ stamp_rest event z → ⊥
 
@@ -77,9 +81,11 @@ pub record FollowParts (earlier s later t weight : List ℕ) (w : FollowWords) :
   pub t_is : SpellsNumber t w.t
   pub weight_is : SpellsValue weight w.weight
 
+-- these words
 abbrev pub follow_rest : List ℕ → ℕ → List ℕ → ℕ → ℤ → List ℕ
 follow_rest earlier s later t z = words (earlier ∷ decimal_of s ∷ later ∷ decimal_of t ∷ ns_text z ∷ [])
 
+-- they are those of w
 pub record SaysFollow (rest : List ℕ) (w : FollowWords) : Type 0 where
   pub x : ℕ
   pub y : ℕ
@@ -91,10 +97,12 @@ pub record SaysFollow (rest : List ℕ) (w : FollowWords) : Type 0 where
   pub t_held : Counts (2 ^ 64) y w.t
   pub held : SomeIff w.weight (FitsUnits z) z
 
+-- they are no such words
 abbrev pub NoFollow : List ℕ → Type 0
 NoFollow rest = (earlier later : List ℕ) (x y : ℕ) (z : ℤ) → IsClockName earlier → IsClockName later → rest ≡ follow_rest earlier x later y z → ⊥
 
 -- ---- bounds on delays
+-- what the words behind `step delay-most` or `step delay-least` say
 pub record DelayParts (send receive weight : List ℕ) (w : DelayWords) : Type 0 where
   pub send_is : send ≡ w.send
   pub send_named : IsEventName w.send
@@ -102,9 +110,11 @@ pub record DelayParts (send receive weight : List ℕ) (w : DelayWords) : Type 0
   pub receive_named : IsEventName w.receive
   pub weight_is : SpellsValue weight w.weight
 
+-- these words
 abbrev pub delay_rest : List ℕ → List ℕ → ℤ → List ℕ
 delay_rest send receive z = words (send ∷ receive ∷ ns_text z ∷ [])
 
+-- they are those of w
 pub record SaysDelay (rest : List ℕ) (w : DelayWords) : Type 0 where
   pub z : ℤ
   pub send_named : IsEventName w.send
@@ -112,6 +122,7 @@ pub record SaysDelay (rest : List ℕ) (w : DelayWords) : Type 0 where
   pub is : rest ≡ delay_rest w.send w.receive z
   pub held : SomeIff w.weight (FitsUnits z) z
 
+-- they are no such words
 abbrev pub NoDelay : List ℕ → Type 0
 NoDelay rest = (send receive : List ℕ) (z : ℤ) → IsEventName send → IsEventName receive → rest ≡ delay_rest send receive z → ⊥
 
@@ -203,6 +214,7 @@ FindsNoNamed p n = (b : Bound) → Names p n b → IsDeclared p b → ⊥
 abbrev pub FindsSpan : ProblemLists → Extreme → SpanWords → Bound → Type 0
 FindsSpan p extreme w b = (x y : ℕ) → Counts (2 ^ 64) x w.s → Counts (2 ^ 64) y w.t → FindsNamed p (Span extreme w.clock x y) b
 
+-- the problem declares no such bound over a span
 abbrev pub FindsNoSpan : ProblemLists → Extreme → SpanWords → Type 0
 FindsNoSpan p extreme w = (x y : ℕ) → Counts (2 ^ 64) x w.s → Counts (2 ^ 64) y w.t → FindsNoNamed p (Span extreme w.clock x y)
 
@@ -210,6 +222,7 @@ FindsNoSpan p extreme w = (x y : ℕ) → Counts (2 ^ 64) x w.s → Counts (2 ^ 
 abbrev pub FindsFollow : ProblemLists → FollowWords → Bound → Type 0
 FindsFollow p w b = (x y : ℕ) → Counts (2 ^ 64) x w.s → Counts (2 ^ 64) y w.t → FindsNamed p (Follow w.earlier x w.later y) b
 
+-- it declares no such bound between clocks that follow each other
 abbrev pub FindsNoFollow : ProblemLists → FollowWords → Type 0
 FindsNoFollow p w = (x y : ℕ) → Counts (2 ^ 64) x w.s → Counts (2 ^ 64) y w.t → FindsNoNamed p (Follow w.earlier x w.later y)
 
@@ -217,5 +230,6 @@ FindsNoFollow p w = (x y : ℕ) → Counts (2 ^ 64) x w.s → Counts (2 ^ 64) y 
 abbrev pub Finds : ProblemLists → StepWords → Bound → Type 0
 Finds p w b = (n : NamedBound) (z : ℤ) → HoldsStep w n z → FindsNamed p n b
 
+-- it declares no bound that is held as w
 abbrev pub FindsNone : ProblemLists → StepWords → Type 0
 FindsNone p w = (n : NamedBound) (z : ℤ) → HoldsStep w n z → FindsNoNamed p n

@@ -28,8 +28,8 @@ Attains p from to value values = (x : Times) × lists.Lists p x values × IsExec
 abbrev pub weighed_bounds : List Step → List WeighedBound
 weighed_bounds steps = map (λ s. (s.bound, s.weight)) steps
 
--- the problem declares the bounds with these weights; the first leads to m, each next one to where the one before it comes
--- from, and the last comes from n
+-- declared bounds with these weights lead from m to n against their direction: the first leads to m, each next one to
+-- where the one before it comes from, and the last comes from n
 abbrev pub LeadsAgainst : ProblemLists → Node → List WeighedBound → Node → Type 0
 LeadsAgainst p m [] n = m ≡ n
 LeadsAgainst p m (s ∷ steps) n = (c : Constraint) × Declares p s.0 c × (c.weight ≡ s.1) × (c.to ≡ m) × LeadsAgainst p c.from steps n
@@ -55,23 +55,25 @@ pub record Parts (p : ProblemLists) (inside : List ℕ) (from to : ℕ) : Type 0
   pub cut : IsCutOf p inside
 
 -- ---- certificates
--- where the greatest difference from p to q is: a path from p to q, walked back from q, with this sum and an execution with
--- this difference; or that there is none: a cut with p inside, and an execution
+-- where the greatest difference from p to q is: a path from p to q, walked back from q, with this sum and an execution
+-- with this difference; or that there is none: a cut with p inside and q outside, and an execution
 abbrev pub IsUpperEnd : ProblemLists → ℕ → ℕ → EndLists → Type 0
 IsUpperEnd problem p q (Limited value path execution) = LeadsAgainst problem (nodes.Event q) (weighed_bounds path) (nodes.Event p)
     × (weight_of (weighed_bounds path) ≡ value) × Attains problem p q value execution
 IsUpperEnd problem p q (Unlimited inside execution) = Parts problem inside p q × IsExecutionOf problem execution
 
--- where the least difference from p to q is: a path from q to p with the negative as its sum, and an execution with this
--- difference; or that there is none: a cut with q inside, and an execution
+-- where the least difference from p to q is: a path from q to p with the negative as its sum, and an execution with
+-- this difference; or that there is none: a cut with q inside and p outside, and an execution
 abbrev pub IsLowerEnd : ProblemLists → ℕ → ℕ → EndLists → Type 0
 IsLowerEnd problem p q (Limited value path execution) = Leads problem (nodes.Event q) (weighed_bounds path) (nodes.Event p)
     × (weight_of (weighed_bounds path) ≡ neg_ℤ value) × Attains problem p q value execution
 IsLowerEnd problem p q (Unlimited inside execution) = Parts problem inside q p × IsExecutionOf problem execution
 
+-- an upper end as the code holds it shows where the greatest difference is, or that there is none
 abbrev pub ShowsUpper : ProblemLists → ℕ → ℕ → EndProof → Type 0
 ShowsUpper problem p q end = IsUpperEnd problem p q (lists_of end)
 
+-- a lower end as the code holds it shows where the least difference is, or that there is none
 abbrev pub ShowsLower : ProblemLists → ℕ → ℕ → EndProof → Type 0
 ShowsLower problem p q end = IsLowerEnd problem p q (lists_of end)
 

@@ -25,7 +25,7 @@ abbrev pub FindsFault : Part → (Reason → Type 0) → Type 0 → Option Reaso
 FindsFault part So Shown None = Shown
 FindsFault part So Shown (Some reason) = IsFirstOf part So reason
 
--- what one end of the interval from the first event to the second should show
+-- what one end of the interval from the first event to the second should show, with its path as a walk
 abbrev pub ShowsEnd : ProblemLists → Part → ℕ → ℕ → EndProof → Type 0
 ShowsEnd p part first second (At value path execution) = Goes p part (nodes.Event second) (weighed_bounds path) (nodes.Event first)
     × (weight_of (weighed_bounds path) ≡ sum_for part value) × Attains p first second value execution

@@ -47,7 +47,8 @@ abbrev pub IsLooseAt : ProblemLists → List Step → ℕ → Type 0
 IsLooseAt p steps k = (s : Step) × (t : Step) × (c : Constraint) × (d : Constraint)
     × IsStep steps k s × IsNextStep steps k t × Declares p s.bound c × Declares p t.bound d × (c.to ≢ d.from)
 
--- what is wrong with a cycle
+-- what is wrong with a cycle, each reason by itself: `DelayMost 0 1` with 1004 ns and `DelayLeast 0 1` with -1000 ns of
+-- the problem that docs/DEFINITIONS.md works have the sum 4 ns, a wrong one
 abbrev pub CycleIs : ProblemLists → List Step → Reason → Type 0
 CycleIs p steps Empty = steps ≡ []
 CycleIs p steps (Weight k) = IsMisweighedAt p steps k
@@ -178,7 +179,8 @@ abbrev pub IsNoLater : Part → Reason → Part → Reason → Type 0
 IsNoLater part reason other_part other = (part_turn part < part_turn other_part) ⊎ ((part_turn part ≡ part_turn other_part)
     × ((kind_turn reason < kind_turn other) ⊎ ((kind_turn reason ≡ kind_turn other) × (step_turn part reason ≤ step_turn other_part other))))
 
--- this is wrong, and nothing that is wrong comes before it
+-- this is wrong, and nothing that is wrong comes before it: with -1003 ns in the cycle of `CycleIs` the sum 1 ns is
+-- wrong too, but `Weight 2` comes first
 pub record IsFirstReason (p : ProblemLists) (c : Cert) (part : Part) (reason : Reason) : Type 0 where
   pub is_so : IsSo p c part reason
   pub first : (other_part : Part) (other : Reason) → IsSo p c other_part other → IsNoLater part reason other_part other

@@ -26,7 +26,8 @@ HasMessageBetween p send receive = (m : Message) × Contains p.messages m × (m.
 abbrev pub LeadsTo : ProblemLists → Follow → ℕ → Type 0
 LeadsTo p f later = Contains p.follows f × (f.later ≡ later)
 
--- the node where a walk enters a bound: in the upper part the bound's last one
+-- the node where a walk enters a bound: in the upper part, where it goes against bounds, the bound's last one, else its
+-- first
 abbrev pub entry_of : Part → Constraint → Node
 entry_of Upper c = c.to
 entry_of _ c = c.from

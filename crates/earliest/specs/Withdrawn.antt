@@ -57,6 +57,7 @@ pub record IsLeft (values : List ℤ) (a : Arc) (front front' : List (Option ℤ
   pub found_is : found' ≡ found
   pub why : IsExact (at values) (unnamed a) → waits_at front a.from ≡ true
 
+-- what one arc adds to the search: nothing, or its tail
 abbrev pub IsMarkedBy : List ℤ → Arc → List (Option ℤ) → List (Option ℤ) → List ℕ → List ℕ → ℕ → ℕ → Type 0
 IsMarkedBy values a front front' found found' count count' = IsLeft values a front front' found found' count count' ⊎ IsMarkedTail values a front front' found found' count count'
 
@@ -66,7 +67,8 @@ pub record AreLow (nodes : ℕ) (values : List ℤ) : Type 0 where
   pub non_negative : IsNonNegative (at values)
   pub low : (k : ℕ) → at values k ≤ℤ pos (2 ^ 115)
 
--- the marks and the list of those found, of which the first so many are done; each is to fall to 0
+-- how far the search for affected nodes has come: the marks and the list of those found, of which the first so many are
+-- done; each is to fall to 0
 pub record IsMarkingIn (g : GraphLists) (before gone : List bounds.Arc) (values : List ℤ) (front : List (Option ℤ)) (found : List ℕ) (count done : ℕ) : Type 0 where
   pub arcs : (j : ℕ) → (table_of g).in_force j ≡ true → Contains before ((table_of g).arc j)
   pub marking : IsMarking (length g.nodes) (table_of g) before gone (at values) (waits_at front) (found_at found) count done
@@ -86,7 +88,8 @@ pub record IsLoweredTo (node : ℕ) (fall : ℤ) (front front' : List (Option �
 abbrev pub AreNodes : ℕ → List (Option ℤ) → Type 0
 AreNodes nodes front = (node : ℕ) → waits_at front node ≡ true → node < nodes
 
--- marked nodes wait at their old values; of the first so many found, the arcs that leave them hold them
+-- marked nodes wait at their old values; the first so many found are held by the arcs that lead from them to nodes that
+-- rest
 pub record IsPulledIn (g : GraphLists) (values : List ℤ) (front : List (Option ℤ)) (found : List ℕ) (count done : ℕ) : Type 0 where
   pub poised : IsPoised (table_of g) (pos 0) (at values) (falls_of values front)
   pub held : (i : ℕ) → i < done → (j : ℕ) → (table_of g).in_force j ≡ true → ((table_of g).arc j).from ≡ found_at found i → IsHeld (table_of g) (falls_of values front) j

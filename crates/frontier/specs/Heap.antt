@@ -1,4 +1,5 @@
 -- A heap: a list of nodes as a binary tree. Its root is at place 0, and the places 2p + 1 and 2p + 2 are below place p.
+-- It stands in the view and the invariant of `Frontier`; no clause of a call that the crate hands out cites it.
 use Rattle.std.specs.Prelude.{◌≡◌, ◌≢◌, ℕ, ◌-◌, ◌/◌, ◌<◌, ◌≤◌, ◌^◌, ◌==◌, if◌then◌else◌, List, [], ◌∷◌, length, ℤ, pos, Option, Some, None, unwrap_or, slice_index_or}
 use Rattle.frontier.specs.Keys.{Waits, ComesFirst}
 
@@ -44,7 +45,8 @@ IsWaiting keys node = (key : ℤ) × Waits keys node key
 abbrev pub IsAhead : List (Option ℤ) → ℕ → ℕ → Type 0
 IsAhead keys node other = ComesFirst (key_of keys node) node (key_of keys other) other
 
--- the heap holds the nodes that wait, each once and at its place, and none is below one that comes out after it
+-- the heap holds the nodes that wait, each once and at its place, and none is below one that comes out after it: of the
+-- keys 4, none, 2, 2 one is 2, 0, 3, with the places 1, any, 0, 2
 pub record IsHeap (keys : List (Option ℤ)) (heap places : List ℕ) : Type 0 where
   pub room : length keys ≤ length places
   pub ordered : (place : ℕ) → place < length heap → 0 < place → IsAhead keys (node_at heap (above place)) (node_at heap place)

@@ -17,7 +17,8 @@ IsEmpty front = (node : ℕ) (key : ℤ) → Waits front node key → ⊥
 abbrev pub ComesFirst : ℤ → ℕ → ℤ → ℕ → Type 0
 ComesFirst key node other_key other = (key <ℤ other_key) ⊎ ((key ≡ other_key) × (node ≤ other))
 
--- the node waits with this key, and whatever waits does not come before it
+-- the node waits with this key, and whatever waits does not come before it: with the keys 4, none, 2, 2 it is node 2,
+-- since 2 is less than 4, and node 3 with the same key comes later
 pub record IsLeastEntry (front : List (Option ℤ)) (node : ℕ) (key : ℤ) : Type 0 where
   pub waits : Waits front node key
   pub least : (other : ℕ) (other_key : ℤ) → Waits front other other_key → ComesFirst key node other_key other

@@ -8,7 +8,7 @@ abbrev pub value_at : {T : Type 0} → List (T × ℕ) → ℕ → Option T
 value_at [] k = None
 value_at (e ∷ es) k = if nat_eq k e.1 then Some e.0 else value_at es k
 
--- the values in the order of their numbers
+-- the values in the order of their numbers, in which they came: 30, 10, 20 where 10 has 1, 20 has 2 and 30 has 0
 abbrev pub by_number : {T : Type 0} → List (T × ℕ) → List T
 by_number es = filter_map (value_at es) (range_with_len 0 (length es))
 

@@ -29,12 +29,12 @@ FitsEnd Unbounded = Unit {0}
 abbrev pub FitsEnds : Ends → Type 0
 FitsEnds e = FitsEnd e.least × FitsEnd e.greatest
 
--- the end above, of the greatest x_q - x_p
+-- the end above, of the greatest x_q - x_p; none where executions pass every number
 abbrev pub greatest_end : Reach → End
 greatest_end (reaches.At h) = At h
 greatest_end reaches.Never = Unbounded
 
--- the end below, the negative of the greatest x_p - x_q
+-- the end below, the negative of the greatest x_p - x_q; none where executions pass every number
 abbrev pub least_end : Reach → End
 least_end (reaches.At h) = At (neg_ℤ h)
 least_end reaches.Never = Unbounded
@@ -43,7 +43,7 @@ least_end reaches.Never = Unbounded
 abbrev pub ends_of : Pair → Ends
 ends_of pair = record { least = least_end pair.down; greatest = greatest_end pair.up }
 
--- an end, so many units later
+-- an end, so many units later; where there is none, there is none later
 abbrev pub shifted_end : ℤ → End → End
 shifted_end by (At h) = At (by +ℤ h)
 shifted_end by Unbounded = Unbounded

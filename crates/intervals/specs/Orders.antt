@@ -27,7 +27,7 @@ AreInOrder (At least) (At greatest) = least ≤ℤ greatest
 AreInOrder (At least) Unbounded = Unit {0}
 AreInOrder Unbounded greatest = Unit {0}
 
--- some number lies between the ends
+-- the least is not above the greatest, where both are there: some number lies between the ends
 abbrev pub IsInterval : Ends → Type 0
 IsInterval e = AreInOrder e.least e.greatest
 

@@ -8,7 +8,7 @@ abbrev pub onto_cut : ℕ → Option (List ℕ × List ℕ) → Option (List ℕ
 onto_cut x None = None
 onto_cut x (Some p) = Some (x ∷ p.0, p.1)
 
--- what stands before and after the first d
+-- what stands before and after the first byte d, and `None` where there is none
 abbrev pub cut : ℕ → List ℕ → Option (List ℕ × List ℕ)
 cut d [] = None
 cut d (x ∷ xs) = cond (x == d) (Some ([], xs)) (onto_cut x (cut d xs))
@@ -22,6 +22,7 @@ abbrev pub seen_cut : Option (Bor (List ℕ) × Bor (List ℕ)) → Option (List
 seen_cut None = None
 seen_cut (Some p) = Some (p.0.now, p.1.now)
 
+-- goes on where there is a value
 infixl 10 ◌>>=◌
 abbrev pub ◌>>=◌ : {A B : Type 0} → Option A → (A → Option B) → Option B
 None >>= f = None

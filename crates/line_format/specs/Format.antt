@@ -50,21 +50,22 @@ module _ {State Line : Type 0} (f : Format State Line) where
   abbrev pub whole_text : State → List ℕ
   whole_text s = f.text_of s ++ end_line
 
-  -- the rest begins with this line, which may stand there by its form
+  -- the rest begins with this line, which may stand there by its form and is spelled right
   pub record Begins (s : State) (rest : List ℕ) (line : Line) : Type 0 where
     pub may : f.MayStand s line
     pub spelled : f.IsSpelled line
     pub more : List ℕ
     pub is : rest ≡ line_of (f.line_words line) ++ more
 
-  -- what is wrong with the line at the front of the rest: the first that is so of form, names, ranges and limits
+  -- what is wrong with the line at the front of the rest: none that may stand there by its form and is spelled right
+  -- (`Syntax`), or one that is so and whose names, numbers or room fail, in this order
   abbrev pub FaultBehind : State → List ℕ → FaultKind → Type 0
   FaultBehind s rest Syntax = (line : Line) → Begins s rest line → ⊥
   FaultBehind s rest Name = (line : Line) × Begins s rest line × (f.NamesFit s line → ⊥)
   FaultBehind s rest Range = (line : Line) × Begins s rest line × f.NamesFit s line × (f.NumbersFit line → ⊥)
   FaultBehind s rest Limit = (line : Line) × Begins s rest line × f.NamesFit s line × f.NumbersFit line × (f.HasRoom s line → ⊥)
 
--- the lines before the first faulty one: none, some without the end, or all
+-- the lines before the first faulty one: none, some without the end (`Open`), or all (`Closed`)
 pub data Front (State : Type 0) : Type 0 where
   Nothing : Front State
   Open : State → Front State
@@ -95,7 +96,8 @@ module _ {State Line : Type 0} (f : Format State Line) where
   FaultAt (Open s) rest kind = FaultBehind f s rest kind
   FaultAt (Closed s) rest kind = (kind ≡ Syntax) × (rest ≢ [])
 
-  -- line n of the text is the first faulty one, with this fault
+  -- line n of the text is the first faulty one, with this fault: the text is lawful lines, then a rest that begins with
+  -- it
   pub record IsFirstFault (text : List ℕ) (kind : FaultKind) (n : ℕ) : Type 0 where
     pub front : Front State
     pub sound : IsFront front
@@ -104,14 +106,15 @@ module _ {State Line : Type 0} (f : Format State Line) where
     pub number : n ≡ front_lines front + 1
     pub fault : FaultAt front rest kind
 
--- what reading a text answers
+-- what reading a text answers: what it says, its first fault with the number of the line, or that it is too long
 pub data Answer (State : Type 0) : Type 0 where
   Found : State → Answer State
   Faulty : FaultKind → ℕ → Answer State
   Long : Answer State
 
 module _ {State Line : Type 0} (f : Format State Line) where
-  -- a text that is short enough says something or has a first faulty line; a longer one is too long
+  -- the answer is right: a text of at most 2^31 bytes is that of a lawful state or has this first fault, and a longer
+  -- one is too long
   abbrev pub Answers : List ℕ → Answer State → Type 0
   Answers text (Found s) = (length text ≤ most_bytes) × f.IsSound s × f.MayStand s f.end × (text ≡ whole_text f s)
   Answers text (Faulty kind n) = (length text ≤ most_bytes) × IsFirstFault f text kind n

@@ -9,7 +9,7 @@ use Rattle.problem.specs.declared.errors.PushError.TheVariants as pushes
 use Rattle.problem.specs.declared.errors.ProblemError.{ProblemError}
 use Rattle.problem.specs.declared.errors.ProblemError.TheVariants as problems
 
--- why a line is refused whose item was not added
+-- the error of a push as that of its line: why a line is refused whose item was not added
 abbrev pub line_error : PushError → LineError
 line_error pushes.Name = Fault kinds.Name
 line_error pushes.Limit = Fault kinds.Limit
@@ -22,7 +22,7 @@ kind_at kinds.Name n = problems.Name n
 kind_at kinds.Range n = problems.Range n
 kind_at kinds.Limit n = problems.Limit n
 
--- why a text is refused whose line n is
+-- the error of a line as that of its text: why a text is refused whose line n is
 abbrev pub fault_at : LineError → ℕ → ProblemError
 fault_at Memory n = problems.Memory
 fault_at (Fault kind) n = kind_at kind n

@@ -1,4 +1,4 @@
--- What may be added to a problem, and what it then is.
+-- What may be added to a problem, by its names and places (`IsNew..`) and by the room, and what the problem then is.
 use Rattle.std.specs.Prelude.{ℕ, ◌≡◌, ◌≢◌, ◌<◌, ◌⊎◌, Contains, List, [], ◌∷◌, ◌++◌, All, length, Result, Ok, Err}
 use Rattle.problem_model.specs.declared.items.Clock.{Clock}
 use Rattle.problem_model.specs.declared.items.Follow.{Follow}
@@ -48,13 +48,15 @@ HasRoomForEvent p = length p.events < most_events
 abbrev pub HasRoomForMessage : ProblemLists → Type 0
 HasRoomForMessage p = length p.messages < most_messages
 
--- the problem with one clock, event or message more
+-- the problem with one clock more, at the end of its list
 abbrev pub with_clock : ProblemLists → Clock → ProblemLists
 with_clock p c = record p { clocks = p.clocks ++ c ∷ [] }
 
+-- the problem with one event more, at the end of its list
 abbrev pub with_event : ProblemLists → Event → ProblemLists
 with_event p e = record p { events = p.events ++ e ∷ [] }
 
+-- the problem with one message more, at the end of its list
 abbrev pub with_message : ProblemLists → Message → ProblemLists
 with_message p m = record p { messages = p.messages ++ m ∷ [] }
 

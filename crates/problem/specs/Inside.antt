@@ -11,7 +11,7 @@ use Rattle.problem.specs.declared.chains.Link.{Link}
 abbrev pub follow_from : List Follow → ℕ → Option Follow
 follow_from follows c = find (λ f. f.earlier == c) follows
 
--- what is held of clock k; past the last clock nothing
+-- what is held of clock k: the follows to it and from it, the number of its chain, and a size; nothing past the last
 abbrev pub link_at : List Link → ℕ → Link
 link_at links k = slice_index_or links k (record { before = None; after = None; number = 0; size = 0 })
 
@@ -24,7 +24,8 @@ pub record AreCounted (links : List Link) : Type 0 where
   pub places : (k : ℕ) → k < length links → (link_at links k).number < length links
   pub sizes : (k : ℕ) → k < length links → (link_at links (link_at links k).number).size ≡ chain_size links (link_at links k).number
 
--- of each clock its follows are held and the number of its chain
+-- of each clock of the problem its follows are held and the number of its chain (`AreChainNumbers`), and the clocks of
+-- each number are counted
 pub record AreLinks (p : ProblemLists) (links : List Link) : Type 0 where
   pub each : length links ≡ length p.clocks
   pub befores : (k : ℕ) → (link_at links k).before ≡ follow_to p.follows k
@@ -39,22 +40,23 @@ pub record IsNext (links : List Link) (k l : ℕ) : Type 0 where
   pub one_number : (link_at links l).number ≡ (link_at links k).number
   pub nearest : (m : ℕ) → k < m → m < l → (link_at links m).number ≢ (link_at links k).number
 
--- follows lead over the clocks of each number in the order of their places
+-- a follow leads from each clock to the next one of its number, and one to it from the one before; a clock without a
+-- follow from it is the last of its number, and one without a follow to it the first
 pub record LeadInOrder (links : List Link) : Type 0 where
   pub onward : (k : ℕ) (f : Follow) → (link_at links k).after ≡ Some f → IsNext links k f.later
   pub back : (k : ℕ) (f : Follow) → (link_at links k).before ≡ Some f → IsNext links f.earlier k
   pub last : (k l : ℕ) → (link_at links k).after ≡ None → k < l → l < length links → (link_at links l).number ≢ (link_at links k).number
   pub first : (k l : ℕ) → (link_at links l).before ≡ None → k < l → l < length links → (link_at links k).number ≢ (link_at links l).number
 
--- what is held of a clock, but the one number in the place of the other
+-- what is held of a clock, with the number `new` in the place of `old`
 abbrev pub renumber : ℕ → ℕ → Link → Link
 renumber old new l = if l.number == old then record l { number = new } else l
 
--- the clocks of the one number have the other
+-- the clocks of the number `old` have `new`
 abbrev pub renumbered : List Link → ℕ → ℕ → List Link
 renumbered links old new = map (renumber old new) links
 
--- so they have, and both chains are counted as one
+-- so they have, and as many clocks are counted there as had either number
 abbrev pub merged : List Link → ℕ → ℕ → List Link
 merged links old new =
     let all = renumbered links old new in
@@ -64,7 +66,7 @@ merged links old new =
 abbrev pub AreMerged : List Link → List Link → ℕ → ℕ → Type 0
 AreMerged old new a b = ((chain_size old a ≤ chain_size old b) × (new ≡ merged old a b)) ⊎ ((chain_size old b ≤ chain_size old a) × (new ≡ merged old b a))
 
--- the look-ups are those of the lists
+-- the problem is lawful, the look-ups are those of its lists, and so is what is held of each clock
 pub record AreItems (p : ProblemLists) (clock_names event_names : List (List ℕ)) (pairs : List (ℕ × ℕ)) (links : List Link) : Type 0 where
   pub lawful : IsProblem p
   pub clock_names_are : clock_names ≡ map (λ c. c.name) p.clocks

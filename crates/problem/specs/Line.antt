@@ -11,7 +11,8 @@ use Rattle.problem.specs.declared.version.Version.{Version}
 use Rattle.problem.specs.declared.version.Version.TheVariants.{First, Second}
 use Rattle.problem.specs.Growing.{HasRoomForClock, HasRoomForEvent, HasRoomForMessage}
 
--- a line: NAME SHORT LONG EARLY LATE; EARLIER LATER GAP; NAME CLOCK STAMP; SEND RECEIVE LEAST MOST; the end
+-- a line of a problem text, with numbers as large as they are written: NAME SHORT LONG EARLY LATE; EARLIER LATER GAP;
+-- NAME CLOCK STAMP; SEND RECEIVE LEAST MOST; the end
 pub data Line : Type 0 where
   ClockLine : List ℕ → ℕ → ℕ → ℕ → ℕ → Line
   FollowLine : List ℕ → List ℕ → ℕ → Line
@@ -55,12 +56,13 @@ MayStand version p (EventLine name clock stamp) = HasFollow version p × (p.mess
 MayStand version p (MessageLine send receive least most) = HasFollow version p
 MayStand version p EndLine = HasFollow version p
 
--- follows stand in the second version alone, and there nothing but clocks comes before the first of them
+-- how the lines of a version stand so far: follows stand in the second version alone, and there nothing but clocks
+-- comes before the first of them
 abbrev pub IsInOrder : Version → ProblemLists → Type 0
 IsInOrder First p = p.follows ≡ []
 IsInOrder Second p = p.follows ≡ [] → (p.events ≡ []) × (p.messages ≡ [])
 
--- a problem that the lines of a version may say
+-- a lawful problem that the lines of a version may say
 abbrev pub IsSaid : Version → ProblemLists → Type 0
 IsSaid version p = IsProblem p × IsInOrder version p
 
@@ -116,7 +118,7 @@ open_text version p = line_of (head_with version) ++ flat_map clock_line p.clock
 abbrev pub open_lines : ProblemLists → ℕ
 open_lines p = 1 + length p.clocks + length p.follows + length p.events + length p.messages
 
--- the format of problem texts of a version
+-- the format of problem texts of version First or Second; of a line it asks: spelling, place, names, numbers, room
 abbrev pub problem_format : Version → Format ProblemLists Line
 problem_format version = record {
   head = head_with version;

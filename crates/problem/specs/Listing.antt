@@ -23,7 +23,7 @@ abbrev pub put : Reading → List Reading → List Reading
 put r [] = r ∷ []
 put r (x ∷ xs) = put_by (reading_order r x) r x xs (put r xs)
 
--- the readings of the events, each once, in their order
+-- the readings of the events, each once, in their order: the one list that `AreReadings` allows, as a function
 abbrev pub all_readings : List Event → List Reading
 all_readings [] = []
 all_readings (e ∷ events) = put (reading_of e) (all_readings events)
@@ -38,8 +38,8 @@ abbrev pub reading_places : ℕ → List Reading → List (ℕ × ℕ × ℕ)
 reading_places k [] = []
 reading_places k (r ∷ readings) = (r.0, r.1, k) ∷ reading_places (k + 1) readings
 
--- the names of clocks and of events by their numbers; the events by place, each with its number and node; the readings by
--- place, each with clock, stamp and node
+-- what a listing lists: the names of clocks and of events by their numbers; the events by place, each with its number
+-- and node; the readings by place, each with clock, stamp and node
 pub record Listed : Type 0 where
   pub clock_names : List (List ℕ)
   pub event_names : List (List ℕ)

@@ -6,7 +6,7 @@ use Rattle.problem_model.specs.declared.items.Bound.TheVariants as bounds
 use Rattle.problem_model.specs.Bounds.{Constraint}
 use Rattle.problem.specs.declared.nearest.NearestFollow.{NearestFollow}
 
--- the bound that leads to a clock from the nearest reading before it, where there is one
+-- the bound of the short list that `nearest_follow` found for a clock, from the nearest reading before it, or none
 abbrev pub listed_follow : ℕ → Option NearestFollow → List Bound
 listed_follow later None = []
 listed_follow later (Some f) = bounds.Follow f.earlier f.s later f.t ∷ []

@@ -20,7 +20,8 @@ pub record AnswersProblem (text : List ℕ) (answer : Answer ProblemLists) : Typ
   pub second : IsSecond text → Answers (problem_format Second) text answer
   pub first : (IsSecond text → ⊥) → Answers (problem_format First) text answer
 
--- the problem of this text, or its first fault; want of memory says nothing
+-- what `read_problem` answers: the lawful problem of this text, its first fault, or that it is too long; want of memory
+-- says nothing
 abbrev pub Reads : List ℕ → Result ProblemLists ProblemError → Type 0
 Reads text (Ok p) = (length text ≤ most_bytes) × IsProblem p × (text ≡ problem_text p)
 Reads text (Err (errors.Syntax n)) = AnswersProblem text (Faulty Syntax n)

@@ -1,4 +1,4 @@
--- What the code holds of a line: a number of 2 ^ 64 or more is held as None.
+-- What the code holds of a line: a number of 2 ^ 64 or more is held as None, so its text is still a lawful spelling.
 use Rattle.std.specs.Prelude.{◌≡◌, ℕ, ◌^◌, ◌<◌, List, [], ◌∷◌, ◌++◌, codes, Option, Some, None, SomeIff, IfSome, Err}
 use Rattle.atto.specs.Decimal.{decimal_of}
 use Rattle.atto.specs.Number.{Counts}
@@ -29,7 +29,7 @@ pub record Spells (text : List ℕ) (n : Option ℕ) : Type 0 where
 abbrev pub SpellsNone : List ℕ → Type 0
 SpellsNone text = (m : ℕ) → text ≡ decimal_of m → ⊥
 
--- what the words behind `clock` say
+-- what the words behind `clock` say, word by word
 pub record ClockParts (name short long early late : List ℕ) (w : ClockWords) : Type 0 where
   pub name_is : name ≡ w.name
   pub named : IsClockName w.name
@@ -59,7 +59,7 @@ pub record ClockSays (rest : List ℕ) (w : ClockWords) : Type 0 where
 abbrev pub NoClock : List ℕ → Type 0
 NoClock rest = (name : List ℕ) (s l e t : ℕ) → IsClockName name → rest ≡ clock_rest name s l e t → ⊥
 
--- what the words behind `follow` say
+-- what the words behind `follow` say, word by word
 pub record FollowParts (earlier later gap : List ℕ) (w : FollowWords) : Type 0 where
   pub earlier_is : earlier ≡ w.earlier
   pub earlier_named : IsClockName w.earlier
@@ -83,7 +83,7 @@ pub record FollowSays (rest : List ℕ) (w : FollowWords) : Type 0 where
 abbrev pub NoFollow : List ℕ → Type 0
 NoFollow rest = (earlier later : List ℕ) (gap : ℕ) → IsClockName earlier → IsClockName later → rest ≡ follow_rest earlier later gap → ⊥
 
--- what the words behind `event` say
+-- what the words behind `event` say, word by word
 pub record EventParts (name clock stamp : List ℕ) (w : EventWords) : Type 0 where
   pub name_is : name ≡ w.name
   pub named : IsEventName w.name
@@ -107,7 +107,7 @@ pub record EventSays (rest : List ℕ) (w : EventWords) : Type 0 where
 abbrev pub NoEvent : List ℕ → Type 0
 NoEvent rest = (name clock : List ℕ) (stamp : ℕ) → IsEventName name → IsClockName clock → rest ≡ event_rest name clock stamp → ⊥
 
--- the bound m of a message is held as n
+-- the greatest delay m of a message, or that there is none, is held as n
 abbrev pub MostCounts : Option ℕ → Option (Option ℕ) → Type 0
 MostCounts None n = n ≡ None
 MostCounts (Some m) n = (k : Option ℕ) × (n ≡ Some k) × Counts (2 ^ 64) m k
@@ -118,7 +118,7 @@ pub record SpellsMost (text : List ℕ) (n : Option (Option ℕ)) : Type 0 where
   pub is : text ≡ most_word m
   pub counts : MostCounts m n
 
--- what the words behind `message` say
+-- what the words behind `message` say, word by word
 pub record MessageParts (send receive least most : List ℕ) (w : MessageWords) : Type 0 where
   pub send_is : send ≡ w.send
   pub send_named : IsEventName w.send
@@ -146,6 +146,7 @@ abbrev pub NoMessage : List ℕ → Type 0
 NoMessage rest = (send receive : List ℕ) (l : ℕ) (m : Option ℕ) → IsEventName send → IsEventName receive → rest ≡ message_rest send receive l m → ⊥
 
 -- ---- the numbers in their ranges
+-- w holds these numbers of a clock
 abbrev pub SaysClock : ClockWords → ℕ → ℕ → ℕ → ℕ → Type 0
 SaysClock w s l e t = Counts (2 ^ 64) s w.short × Counts (2 ^ 64) l w.long × Counts (2 ^ 64) e w.early × Counts (2 ^ 64) t w.late
 
@@ -180,14 +181,18 @@ RefusesGap p c d e = (version : Version) (x y : List ℕ) (gap : ℕ) → HasClo
     → TakesLine (problem_format version) p (FollowLine x y gap) (Err e) p
 
 -- ---- the texts of the forms, by what follows their first word
+-- the line of a clock
 abbrev pub clock_body : List ℕ → List ℕ
 clock_body rest = codes "clock" ++ 32 ∷ rest
 
+-- the line of a follow
 abbrev pub follow_body : List ℕ → List ℕ
 follow_body rest = codes "follow" ++ 32 ∷ rest
 
+-- the line of an event
 abbrev pub event_body : List ℕ → List ℕ
 event_body rest = codes "event" ++ 32 ∷ rest
 
+-- the line of a message
 abbrev pub message_body : List ℕ → List ℕ
 message_body rest = codes "message" ++ 32 ∷ rest

@@ -8,7 +8,8 @@ use Rattle.problem_model.specs.Problem.{ProblemLists}
 use Rattle.problem_model.specs.Nodes.{Reading}
 use Rattle.problem.specs.Listing.{Listed, name_at}
 
--- the clocks have the listed names in their order, and at each place stands the listed event, by its name, or the listed reading
+-- the problem's clocks have the listed names in their order, and at each place stands the listed event, by its name, or
+-- the listed reading
 pub record IsListedBy (l : Listed) (p : ProblemLists) (readings : List Reading) : Type 0 where
   pub clocks : l.clock_names ≡ map (λ (c : Clock). c.name) p.clocks
   pub events : map (λ (e : ℕ × ℕ). name_at l.event_names e.0) l.events ≡ map (λ (e : Event). e.name) p.events

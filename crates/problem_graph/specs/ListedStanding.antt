@@ -17,7 +17,7 @@ use Rattle.problem_graph.specs.ListedProblem.{IsListedBy, IsCarried}
 abbrev pub IsNodeBy : Listed → ProblemLists → List Reading → ℕ → Node → Type 0
 IsNodeBy l p readings number node = (place : ℕ) × (slice_get (listed_nodes l) place ≡ Some number) × IsNodeAt p readings place node
 
--- the arc stands for this bound: it joins the same nodes, weighs the same, and carries its name
+-- the arc stands for this bound of the problem: it joins the same nodes, weighs the same, and carries its name
 pub record IsBoundBy (l : Listed) (p : ProblemLists) (readings : List Reading) (b : Bound) (a : Arc) : Type 0 where
   pub constraint : Constraint
   pub declares : Declares p b constraint

@@ -24,7 +24,7 @@ follow_words earlier s later t = codes "follow" ∷ earlier ∷ decimal_of s ∷
 abbrev pub delay_words : List ℕ → List ℕ → List ℕ → List (List ℕ)
 delay_words kind send receive = kind ∷ send ∷ receive ∷ []
 
--- the words that name a bound, where clocks and events have these names
+-- the words that name a bound, where these functions give the names of clocks and of events by their places
 abbrev pub named_bound : (ℕ → List ℕ) → (ℕ → List ℕ) → Bound → List (List ℕ)
 named_bound clock event (SpanMost k s t) = span_words (codes "span-most") (clock k) s t
 named_bound clock event (SpanLeast k s t) = span_words (codes "span-least") (clock k) s t

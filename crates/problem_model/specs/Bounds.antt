@@ -39,7 +39,8 @@ LinesLead p c (f ∷ lines) d = Contains p.follows f × (f.earlier ≡ c) × Lin
 abbrev pub ComesAfter : ProblemLists → ℕ → ℕ → Type 0
 ComesAfter p c d = (f : Follow) × (lines : List Follow) × LinesLead p c (f ∷ lines) d
 
--- the problem declares the constraint a under the name b
+-- the problem declares the constraint a under the name b: spans for every two readings of a clock; a follow for every
+-- reading of a clock and every one of a clock that comes after it, with the gap of the line that leads to the later one
 abbrev pub Declares : ProblemLists → Bound → Constraint → Type 0
 Declares p (SpanMost clock s t) a = (c : Clock) × ClockAt p clock c × IsReading p clock s × IsReading p clock t × (s < t)
     × (a ≡ record { from = nodes.Reading clock s; to = nodes.Reading clock t; weight = pos (most_of c.rate (t - s)) })
@@ -60,7 +61,7 @@ Declares p (DelayLeast send receive) a = (m : Message) × Contains p.messages m 
 abbrev pub Times : Type 0
 Times = Node → ℤ
 
--- the real times obey the constraint
+-- the real times obey the constraint: that of `to` less that of `from` is at most the weight
 abbrev pub Obeys : Times → Constraint → Type 0
 Obeys x a = (x a.to -ℤ x a.from) ≤ℤ a.weight
 

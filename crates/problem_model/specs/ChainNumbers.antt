@@ -8,7 +8,7 @@ use Rattle.problem_model.specs.Bounds.{ComesAfter}
 abbrev pub AreChainNumbers : ProblemLists → (ℕ → ℕ) → Type 0
 AreChainNumbers p number = (c d : ℕ) → c < d → d < length p.clocks → (number c ≡ number d) ↔ ComesAfter p c d
 
--- the problem with one follow more
+-- the problem with one follow more, at the end of its list
 abbrev pub with_follow : ProblemLists → Follow → ProblemLists
 with_follow p f = record p { follows = p.follows ++ f ∷ [] }
 

@@ -2,7 +2,8 @@
 use Rattle.std.specs.Prelude.{◌≡◌, ℕ, ◌<◌, map, ℤ, pos, ◌-ℤ◌, ◌≤ℤ◌, List, length, slice_index_or, All}
 use Rattle.std.specs.List.{range_with_len}
 
--- a difference constraint: x_to - x_from ≤ weight
+-- a difference constraint: x_to - x_from ≤ weight, as an arc from its tail to its head. From 0 to 1 with weight 5: node
+-- 1 comes at most 5 after node 0. From 1 to 0 with weight -2: it comes at least 2 after node 0
 pub record Arc : Type 0 where
   pub from : ℕ
   pub to : ℕ
@@ -16,7 +17,7 @@ at xs node = slice_index_or xs node (pos 0)
 abbrev pub difference : (ℕ → ℤ) → ℕ → ℕ → ℤ
 difference x p q = x q -ℤ x p
 
--- the values obey the arc
+-- the values obey the arc: that of its head less that of its tail is at most its weight
 abbrev pub Obeys : (ℕ → ℤ) → Arc → Type 0
 Obeys x a = difference x a.from a.to ≤ℤ a.weight
 

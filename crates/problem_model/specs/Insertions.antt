@@ -1,4 +1,5 @@
--- The insertion of an arc into the earliest execution: the arc asks its tail to rise, and raises are given out, the greatest first.
+-- The insertion of an arc into the earliest execution: the arc asks its tail to rise, raises are given out, the
+-- greatest first, and a node that got its raise asks the tails of the arcs that arrive at it.
 use Rattle.std.specs.Prelude.{◌≡◌, ◌≢◌, ℕ, ◌<◌, ◌≤◌, ◌⊎◌, true, ℤ, pos, ◌+ℤ◌, ◌-ℤ◌, ◌≤ℤ◌, ◌<ℤ◌, List, [], ◌∷◌, length, slice_index_or}
 use Rattle.problem_model.specs.Executions.{Arc}
 use Rattle.problem_model.specs.Paths.{sum_of}
@@ -66,7 +67,8 @@ FollowsParents table old s head k [] = k ≡ head
 FollowsParents table old s head k (a ∷ steps) =
     (table.in_force (s.parent k) ≡ true) × (table.arc (s.parent k) ≡ a) × (a.from ≡ k) × GoesOn old s a.to steps × FollowsParents table old s head a.to steps
 
--- parents lead from k to the head; their weights are what k rose by, and they are at most one more than the nodes that have risen
+-- parents lead from k to the head; the value that k rises to and their weights make the head's old value; they are at
+-- most one more than the nodes that have risen. Where the head itself is to rise, this is a contradiction
 pub record HasChain (nodes : ℕ) (table : ArcTable) (old : ℕ → ℤ) (s : Raises) (head k : ℕ) : Type 0 where
   pub first : Arc
   pub rest : List Arc

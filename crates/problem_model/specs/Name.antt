@@ -21,6 +21,6 @@ pub record IsClockName (text : List ℕ) : Type 0 where
   pub short : length text ≤ 32
   pub bytes : All (λ c. IsTrue (is_clock_byte c)) text
 
--- a text in 48 bytes
+-- a text in 48 bytes, with zeros behind it
 abbrev pub padded : List ℕ → List ℕ
 padded text = text ++ replicate (48 - length text) 0

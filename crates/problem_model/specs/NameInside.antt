@@ -1,4 +1,4 @@
--- A name gives its fields back.
+-- A name that is made of its text gives its fields back.
 use Rattle.std.specs.Prelude.{◌≡◌, ℕ, ◌-◌, ◌≤◌, List, length, take, replicate, refl}
 use Rattle.std.proofs.Common.{arith, length-append, ap, sym}
 use Rattle.std.proofs.lemmas.List.{length-take, length-replicate}
@@ -20,6 +20,7 @@ taken n bytes short is fits =
 same : (bytes bytes' : List ℕ) (len len' : ℕ) → bytes ≡ bytes' → len ≡ len' → (let a : Inside = record { bytes = bytes; len = len } in a) ≡ (let a : Inside = record { bytes = bytes'; len = len' } in a)
 same bytes bytes' len len' e f = rw (e, f) refl
 
+-- made of its own text a name has the same bytes and the same length again
 pub name_back : (a : Inside) → a.len ≤ 48 → IsEventName (take a.len a.bytes) → a.bytes ≡ padded (take a.len a.bytes) →
     (let b : Inside = record { bytes = padded (take a.len a.bytes); len = length (take a.len a.bytes) } in b) ≡ a
 name_back a short named is = same _ _ _ _ (sym is) (taken a.len a.bytes short is named.short)

@@ -10,7 +10,7 @@ use Rattle.problem_model.specs.Bounds.{IsReading, Times}
 abbrev pub most_nodes : ℕ
 most_nodes = 2 ^ 22
 
--- a clock and a stamp
+-- the place of a clock, and a stamp
 abbrev pub Reading : Type 0
 Reading = ℕ × ℕ
 

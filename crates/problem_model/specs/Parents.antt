@@ -32,8 +32,8 @@ abbrev pub LeadsBack : ArcTable → ℕ → Cells → ℕ → ℕ → Type 0
 LeadsBack table p c zero k = k ≡ p
 LeadsBack table p c (suc n) k = (k ≢ p) × IsTight table c k × LeadsBack table p c n (table.arc (c.parent k)).from
 
--- a finished row of distances from p: relaxing any arc in force would change nothing, every known node goes back to p by
--- its parents without passing all nodes, and there are no known cells behind those of nodes
+-- a finished row of distances from p, which has 0 and no parent: relaxing any arc in force changes nothing, every known
+-- node goes back to p by its parents without passing all nodes, and no cells behind those of nodes are known
 pub record IsRow (nodes : ℕ) (table : ArcTable) (p : ℕ) (c : Cells) : Type 0 where
   pub own : (c.known p ≡ true) × (c.value p ≡ pos 0) × (c.parent p ≡ no_parent)
   pub along : (j : ℕ) → table.in_force j ≡ true → c.known (table.arc j).from ≡ true → IsRelaxed table c j

@@ -6,7 +6,8 @@ use Rattle.problem_model.specs.declared.items.Event.{Event}
 use Rattle.problem_model.specs.declared.items.Message.{Message}
 use Rattle.problem_model.specs.Name.{IsEventName, IsClockName}
 
--- what a problem says
+-- what a problem says: clocks, follows, events, messages. A follow has the places of two clocks and a gap, an event the
+-- place of its clock, a message the places of its two events
 pub record ProblemLists : Type 0 where
   pub clocks : List Clock
   pub follows : List Follow
@@ -29,18 +30,20 @@ MessageFits m = (m.least < 2 ^ 62) × IfSome m.most (λ most. most < 2 ^ 62)
 abbrev pub LeadsOn : List Clock → Follow → Type 0
 LeadsOn clocks f = (f.earlier < f.later) × (f.later < length clocks)
 
--- follows make chains: they lead on in the list of clocks, and no clock is the later of two
+-- follows make chains, as the short list needs: they lead on in the list of clocks, and no clock is the later of two
 pub record IsChained (p : ProblemLists) : Type 0 where
   pub follow_ends : All (LeadsOn p.clocks) p.follows
   pub laters_differ : AllPairs (λ a b. a.later ≢ b.later) p.follows
 
--- the most clocks, events and messages of a problem
+-- the most clocks of a problem: 65,536
 abbrev pub most_clocks : ℕ
 most_clocks = 65536
 
+-- the most events of a problem: 2^21, which is 2,097,152
 abbrev pub most_events : ℕ
 most_events = 2 ^ 21
 
+-- the most messages of a problem: 2^21
 abbrev pub most_messages : ℕ
 most_messages = 2 ^ 21
 

@@ -9,13 +9,15 @@ use Rattle.problem_model.specs.declared.items.Event.{Event}
 use Rattle.problem_model.specs.declared.items.Message.{Message}
 use Rattle.problem_model.specs.Problem.{ProblemLists}
 
--- the words of the first line: of a problem in which no clock follows another, and of one with follows
+-- the words of the first line, where no clock follows another
 abbrev pub problem_head : List (List ℕ)
 problem_head = codes "problem" ∷ codes "1" ∷ []
 
+-- the words of the first line, where some clock follows another
 abbrev pub followed_head : List (List ℕ)
 followed_head = codes "problem" ∷ codes "2" ∷ []
 
+-- the words of the first line of a problem with these follows
 abbrev pub head_of : List Follow → List (List ℕ)
 head_of [] = problem_head
 head_of (f ∷ follows) = followed_head

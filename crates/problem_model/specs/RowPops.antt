@@ -4,7 +4,7 @@ use Rattle.problem_model.specs.Tables.{ArcTable, ObeysAll}
 use Rattle.problem_model.specs.Parents.{Cells, no_parent, IsTight, LeadsBack, IsRelaxed, IsReached}
 use Rattle.problem_model.specs.Sums.{done_sum}
 
--- a distance less the potential of the node
+-- the reduced cost: a distance less the node's potential, its value in an execution, so along an arc it never falls
 abbrev pub reduced : (ℕ → ℤ) → Cells → ℕ → ℤ
 reduced e c k = c.value k -ℤ e k
 
@@ -12,7 +12,7 @@ reduced e c k = c.value k -ℤ e k
 abbrev pub IsFresh : Cells → Cells → ℕ → Type 0
 IsFresh old c k = (old.known k ≡ false) ⊎ (c.value k <ℤ old.value k)
 
--- nothing can bring the node nearer: it lies below the top, or some execution attains its value
+-- nothing can bring the node nearer: its reduced cost is at most the top, or some execution attains its distance
 abbrev pub IsFinal : ArcTable → ℕ → (ℕ → ℤ) → ℤ → Cells → ℕ → Type 0
 IsFinal table p e top c k = (reduced e c k ≤ℤ top) ⊎ ((x : ℕ → ℤ) × ObeysAll table x × (x k -ℤ x p ≡ c.value k))
 
@@ -23,7 +23,7 @@ pub record IsUntouched (old c : Cells) (waits : ℕ → Bool) (k : ℕ) : Type 0
   pub parent : c.parent k ≡ old.parent k
   pub rests : waits k ≡ false
 
--- the parent's tail is final, and of lower rank if it is fresh
+-- the parent gives the node, which is not p, its value; the tail rests, is final, and is of lower rank if it is fresh
 pub record IsGiven (table : ArcTable) (p : ℕ) (e : ℕ → ℤ) (top : ℤ) (rank : ℕ → ℕ) (old c : Cells) (waits : ℕ → Bool) (k : ℕ) : Type 0 where
   pub away : k ≢ p
   pub tight : IsTight table c k
@@ -31,13 +31,14 @@ pub record IsGiven (table : ArcTable) (p : ℕ) (e : ℕ → ℤ) (top : ℤ) (r
   pub final : IsFinal table p e top c (table.arc (c.parent k)).from
   pub ranked : IsFresh old c (table.arc (c.parent k)).from → rank (table.arc (c.parent k)).from < rank k
 
--- the node has a new cell
+-- the node has a new cell: it is known and fresh, and it is p itself or given by its parent
 pub record IsTouched (table : ArcTable) (p : ℕ) (e : ℕ → ℤ) (top : ℤ) (rank : ℕ → ℕ) (old c : Cells) (waits : ℕ → Bool) (k : ℕ) : Type 0 where
   pub known : c.known k ≡ true
   pub fresh : IsFresh old c k
   pub given : (k ≡ p) ⊎ IsGiven table p e top rank old c waits k
 
--- what holds between two pops, over the old row: all unknown for a new row, the row before for a repair
+-- what holds between two pops, over the old row: all unknown for a new row, the row before for a repair. The top is the
+-- reduced cost of the last popped node; ranks rise along parents that begin at nodes with new cells
 pub record IsRelaxing (table : ArcTable) (p : ℕ) (e : ℕ → ℤ) (top : ℤ) (rank : ℕ → ℕ) (old c : Cells) (waits : ℕ → Bool) : Type 0 where
   pub own : (c.known p ≡ true) × (c.value p ≡ pos 0) × (c.parent p ≡ no_parent)
   pub each : (k : ℕ) → IsUntouched old c waits k ⊎ IsTouched table p e top rank old c waits k
@@ -63,7 +64,7 @@ pub record IsNearer (table : ArcTable) (node : ℕ) (c c' : Cells) (waits' : ℕ
   pub value : c'.value k ≡ c.value node +ℤ (table.arc (c'.parent k)).weight
   pub nearer : (c.known k ≡ false) ⊎ (c'.value k <ℤ c.value k)
 
--- one pop of the node, and the relaxing of its arcs
+-- one pop of the node: each cell is as before or nearer by an arc from it, and its arcs are relaxed
 pub record IsRowStep (table : ArcTable) (node : ℕ) (c c' : Cells) (waits waits' : ℕ → Bool) : Type 0 where
   pub each : (k : ℕ) → IsSameCell node c c' waits waits' k ⊎ IsNearer table node c c' waits' k
   pub met : (j : ℕ) → table.in_force j ≡ true → (table.arc j).from ≡ node → IsReached table c' (c.value node) j
@@ -93,7 +94,7 @@ pub record IsArcCandidate (table : ArcTable) (p : ℕ) (old : Cells) (node : ℕ
   pub tail_known : old.known (table.arc parent).from ≡ true
   pub value_is : value ≡ old.value (table.arc parent).from +ℤ (table.arc parent).weight
 
--- a candidate for the cell of one node, over a row that all other arcs leave as it is; for a new row it is p itself
+-- a candidate for the cell of one node, over a row that all other arcs leave as it is; for a new row it is 0 at p
 pub record IsCandidate (table : ArcTable) (p : ℕ) (old : Cells) (node : ℕ) (value : ℤ) (parent : ℕ) : Type 0 where
   pub from : ((node ≡ p) × (value ≡ pos 0) × (parent ≡ no_parent) × ((k : ℕ) → old.known k ≡ false)) ⊎ IsArcCandidate table p old node value parent
   pub met : (j : ℕ)

@@ -19,10 +19,11 @@ pub record IsLeastLead (nodes : ℕ) (known : ℕ → Bool) (least : ℕ → ℤ
   pub attained : (k : ℕ) × (k < nodes) × (known k ≡ true) × (least k -ℤ at xs k ≡ K)
   pub least_lead : (k : ℕ) → k < nodes → known k ≡ true → K ≤ℤ (least k -ℤ at xs k)
 
--- each known node has its difference, and every other its value and K
+-- each known node has its difference, and every other its value and K: an execution that has all these differences,
+-- where K is the greatest or least lead
 abbrev pub attaining : (ℕ → Bool) → (ℕ → ℤ) → List ℤ → ℤ → ℕ → ℤ
 attaining known differences xs K k = if known k then differences k else (at xs k +ℤ K)
 
--- the least differences of a row of distances towards a node
+-- the least differences from a node, by a row of distances towards it: that is a row of the reversed arcs
 abbrev pub least_differences : (ℕ → ℤ) → ℕ → ℤ
 least_differences distance k = pos 0 -ℤ distance k

@@ -23,7 +23,7 @@ span_bounds [] = []
 span_bounds (a ∷ []) = []
 span_bounds (a ∷ b ∷ readings) = neighbour_bounds a b ++ span_bounds (b ∷ readings)
 
--- the bounds on the stamps of events, by their numbers from k on
+-- the bounds on the stamps of events: late and early of each, by their numbers from k on
 abbrev pub event_bounds : ℕ → List Event → List Bound
 event_bounds k [] = []
 event_bounds k (e ∷ events) = Late k ∷ Early k ∷ event_bounds (k + 1) events
@@ -56,7 +56,8 @@ follow_bound None b = []
 follow_bound (Some a) None = []
 follow_bound (Some a) (Some b) = bounds.Follow a.0 a.1 b.0 b.1 ∷ []
 
--- for each clock, from place k on, the follow of the nearest reading before it in its chain and its first reading
+-- for each clock, from place k on, the follow of the nearest reading before it in its chain and its first reading. A
+-- follow past a clock with readings is declared too, and not listed
 abbrev pub follow_bounds : List Follow → List Reading → ℕ → List Clock → List Bound
 follow_bounds follows readings k [] = []
 follow_bounds follows readings k (c ∷ clocks) =
@@ -71,7 +72,7 @@ most_bound m (Some most) = DelayMost m.send m.receive ∷ []
 abbrev pub message_bounds : Message → List Bound
 message_bounds m = most_bound m m.most ++ DelayLeast m.send m.receive ∷ []
 
--- spans, then stamps, then follows, then delays
+-- the spans of neighbours, then late and early of each event, then the follows of neighbours, then the delays
 abbrev pub short_list : ProblemLists → List Reading → List Bound
 short_list p readings = span_bounds readings ++ event_bounds 0 p.events ++ follow_bounds p.follows readings 0 p.clocks ++ flat_map message_bounds p.messages
 

@@ -1,13 +1,10 @@
-//! What a problem is: its types, and in specs/ the definitions that contracts cite.
+//! What a problem is: its types, the difference constraints `x_to - x_from <= weight` between numbered nodes that its
+//! bounds come to, and in `specs/` the definitions that contracts cite.
 //!
-//! Declared bounds are difference constraints on real times, as in B. Patt-Shamir and S. Rajsbaum, "A Theory of Clock
+//! These define executions, paths and contradictions, greatest differences, cuts, the earliest execution and rows of
+//! distances. `differences` says what is proved of them, and `numbers` has the few sums that solvers make. Declared
+//! bounds are difference constraints on real times, as in B. Patt-Shamir and S. Rajsbaum, "A Theory of Clock
 //! Synchronization", STOC 1994.
-//!
-//! Difference constraints `x_to - x_from <= weight` between numbered nodes.
-//!
-//! Their executions, paths and contradictions, greatest differences, cuts, the earliest execution and rows of distances
-//! are defined in `specs/`. `laws` says what is proved of them, and `numbers` has the few sums that solvers make.
-//! See B. Patt-Shamir and S. Rajsbaum, "A Theory of Clock Synchronization", STOC 1994.
 #![tactic(auto)]
 
 mod bounds;

@@ -10,14 +10,16 @@ use Rattle.problem_solver.specs.declared.items.Item.{Item}
 use Rattle.problem_solver.specs.declared.items.Item.TheVariants as items
 use Rattle.problem_solver.specs.declared.items.Ranked.{Ranked}
 
--- the reading and the message at a place
+-- the reading at a place
 abbrev pub reading_at : List Reading → ℕ → Reading
 reading_at readings k = slice_index_or readings k (0, 0)
 
+-- the message at a place
 abbrev pub message_at : List Message → ℕ → Message
 message_at messages k = slice_index_or messages k (record { send = 0; receive = 0; least = 0; most = None })
 
--- two neighbouring readings of one clock, a clock, an event, or a message of the problem
+-- what is brought in at once: the span of two neighbouring readings of one clock, the follow to a clock, the stamp of
+-- an event, or the delay of a message
 abbrev pub IsItem : ProblemLists → List Reading → Item → Type 0
 IsItem p readings (items.Span k) = (k + 1 < length readings) × ((reading_at readings k).0 ≡ (reading_at readings (k + 1)).0)
 IsItem p readings (items.Follow d) = d < length p.clocks
@@ -31,10 +33,11 @@ bounds_of p readings (items.Follow d) = follow_bound (nearest_reading readings (
 bounds_of p readings (items.Event e) = Late e ∷ Early e ∷ []
 bounds_of p readings (items.Message m) = message_bounds (message_at p.messages m)
 
--- the bounds over the span of the reading at a place and the next one
+-- the bound on the greatest span from the reading at a place to the next one
 abbrev pub most_span : List Reading → ℕ → Bound
 most_span readings k = SpanMost (reading_at readings k).0 (reading_at readings k).1 (reading_at readings (k + 1)).1
 
+-- the bound on the least span there
 abbrev pub least_span : List Reading → ℕ → Bound
 least_span readings k = SpanLeast (reading_at readings k).0 (reading_at readings k).1 (reading_at readings (k + 1)).1
 
@@ -42,8 +45,8 @@ least_span readings k = SpanLeast (reading_at readings k).0 (reading_at readings
 abbrev pub items_of : List Ranked → List Item
 items_of ranked = map (λ r. r.item) ranked
 
--- items of the problem, among them the spans, the follows to the clocks, the events and the messages at the first so many
--- places, and no more than these
+-- items of the problem, among them the spans, the follows that have a bound, the events and the messages at the first
+-- so many places, and no more than these
 pub record AreItems (p : ProblemLists) (readings : List Reading) (spans follows events messages : ℕ) (all : List Item) : Type 0 where
   pub each : All (IsItem p readings) all
   pub spans_in : (k : ℕ) → k < spans → IsItem p readings (items.Span k) → Contains all (items.Span k)

@@ -14,7 +14,7 @@ use Rattle.solver.specs.Current.{IsCurrent}
 abbrev pub HasNodesOf : ProblemLists → SolverLists → Type 0
 HasNodesOf p s = (readings : List Reading) → AreReadings p readings → s.graph.nodes ≡ nodes_of p readings
 
--- the arc of a bound
+-- the arc of a bound, by its ends and its weight
 abbrev pub arc_of : Bound → ℕ → ℕ → ℤ → Arc
 arc_of name from to weight = record { from = from; to = to; weight = weight; name = name }
 

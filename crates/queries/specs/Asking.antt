@@ -28,7 +28,7 @@ IsPairAtHand s first second = IsAtHand s first ⊎ IsAtHand s second
 abbrev pub IsHeldContradiction : Listed → ProblemLists → List Arc → Type 0
 IsHeldContradiction l p cycle = (s : SolverLists) × IsSolutionBy l p s × HoldsContradiction s × (s.contradiction ≡ cycle)
 
--- the reading of this stamp on this clock is the node of the graph with this number
+-- the listed reading of this stamp on this clock is the node of the graph with this number
 abbrev pub IsReadingAt : Listed → ℕ → ℕ → ℕ → Type 0
 IsReadingAt l clock stamp number = (place : ℕ) × (slice_get l.readings place ≡ Some (clock, stamp, number))
 

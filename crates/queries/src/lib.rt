@@ -1,15 +1,15 @@
-//! What is asked of a problem and of its events, of an engine that holds the problem's answer: whether some execution obeys
-//! the bounds, the interval of the difference of two real times and its certificate, their order, and the time of an event by
-//! a clock.
+//! What is asked of a problem and of its events, of an engine that holds the problem's answer, the earliest execution
+//! or a contradiction: whether some execution obeys the bounds, the interval of the difference of two real times and
+//! its certificate, their order, and the time of an event by a clock.
 //!
-//! Events are named by their nodes in the engine's graph, and a listing tells which event of which name a node is. No call
-//! takes memory. What is kept is read and not computed, without a step; what is not is computed in rows that the engine has
-//! free, and then a step is counted for each node that is asked for at the frontier and each arc that is asked for at a node.
+//! Events are named by their nodes in the engine's graph, and a listing tells which event of which name a node is. No
+//! call takes memory. What is kept is read and not computed, without a step; what is not is computed in rows that the
+//! engine has free, and then a step is counted for each node that is asked for at the frontier and each arc that is
+//! asked for at a node.
 //!
-//! What an engine holds of a problem: the earliest execution, or a contradiction where there is none.
-//!
-//! `IsSolutionBy` says that the engine's graph stands for a problem, by whatever listing. The laws carry over what it holds:
-//! its values, its contradiction, greatest differences of its nodes. How a graph of the problem came about they do not ask.
+//! `IsSolutionBy` says that the engine's graph stands for a problem, by whatever listing. The laws carry over what it
+//! holds: its values, its contradiction, greatest differences of its nodes. How a graph of the problem came about they
+//! do not ask.
 #![tactic(auto)]
 
 mod consistent;

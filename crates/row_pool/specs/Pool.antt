@@ -14,7 +14,7 @@ pub record Pool : Type 0 where
   pub width : ℕ
   pub rows : List PoolRow
 
--- each row is as wide as the pool says, and neither rows nor cells are too many
+-- each row is as wide as the pool says; there are at most 32 rows, of at most as many cells as a graph may have nodes
 pub record IsPool (pool : Pool) : Type 0 where
   pub even : All (λ row. length row.cells ≡ pool.width) pool.rows
   pub few : length pool.rows ≤ 32
@@ -53,7 +53,7 @@ laid_over width cells (row ∷ rows) = record { taken = row.taken; cells = take 
 abbrev pub written : Pool → ℕ → List Cell → Pool
 written pool number cells = record { width = pool.width; rows = take number pool.rows ++ laid_over pool.width cells (drop number pool.rows) }
 
--- the pool with one row taken or free
+-- the pool with one row taken, or given back
 abbrev pub marked : Pool → ℕ → Bool → Pool
 marked pool number taken = record { width = pool.width; rows = slice_set pool.rows number (record { taken = taken; cells = (row_at pool number).cells }) }
 

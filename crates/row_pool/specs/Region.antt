@@ -14,7 +14,7 @@ rows_cut width (taken ∷ flags) cells = record { taken = taken; cells = take wi
 abbrev pub pool_of : ℕ → List Bool → List Cell → Pool
 pool_of width flags cells = record { width = width; rows = rows_cut width flags cells }
 
--- there are as many cells as rows of this width have, and neither rows nor cells are too many
+-- there are as many cells as rows of this width have, and no more rows and no wider ones than a pool may have
 pub record IsRegion (width : ℕ) (flags : List Bool) (cells : List Cell) : Type 0 where
   pub whole : length cells ≡ length flags * width
   pub few : length flags ≤ 32

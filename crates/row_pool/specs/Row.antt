@@ -11,7 +11,8 @@ unknown = record { value = pos 0; parent = no_parent; known = false }
 abbrev pub cell_at : List Cell → ℕ → Cell
 cell_at row node = slice_index_or row node unknown
 
--- what the list says of each node
+-- what the list says of each node: of two cells at 0 and 5, of which the second is not known, that node 0 is known at 0
+-- and no other node is
 abbrev pub cells_of : List Cell → Cells
 cells_of row = record { known = λ k. (cell_at row k).known; value = λ k. (cell_at row k).value; parent = λ k. (cell_at row k).parent }
 

@@ -9,7 +9,7 @@ use Rattle.row_pool.specs.Pool.{Pool, row_of, with_cells}
 abbrev pub Two : Type 0
 Two = MutBor (List Cell) × (MutBor (List Cell) × Unit {0})
 
--- it may be called with these two rows
+-- the function may be called with these two rows
 abbrev pub TakesBoth : {F R : Type 0} → Once F Two R → F → List Cell → List Cell → Type 0
 TakesBoth g f one two = (p q : MutBor (List Cell)) → p.now ≡ one → q.now ≡ two → g.pre f (p, (q, tt))
 

@@ -4,7 +4,8 @@ use Rattle.row_pool.specs.Pool.{Pool, row_at, row_of, IsTaken, free_rows}
 use Rattle.repair.specs.Slots.{all_slots, ChangesRowsOf}
 use Rattle.solver.specs.Solver.{SolverLists}
 
--- the same nodes are kept with the same rows, no other row is changed, and there is as much room as before
+-- the same nodes are kept with the same rows, no other row is changed, as many rows are free, and there is as much room
+-- as before
 pub record KeepsSlots (old new : SolverLists) : Type 0 where
   pub slots : new.kept.slots ≡ old.kept.slots
   pub source : new.kept.source ≡ old.kept.source
@@ -13,7 +14,7 @@ pub record KeepsSlots (old new : SolverLists) : Type 0 where
   pub rows : ChangesRowsOf (all_slots old.kept) old.pool new.pool
   pub free : free_rows new.pool ≡ free_rows old.pool
 
--- the graph and what is held of it are as before
+-- the graph, its values and the contradiction are as before
 pub record KeepsAnswer (old new : SolverLists) : Type 0 where
   pub graph : new.graph ≡ old.graph
   pub earliest : new.earliest ≡ old.earliest

@@ -9,13 +9,15 @@ use Rattle.repair.specs.Renewals.{insertion_steps}
 use Rattle.repair.specs.Withdrawals.{MarksAffected, steps_of_marked, withdrawal_steps}
 use Rattle.solver.specs.Solver.{SolverLists}
 
--- two, two and the arcs in force that reach it for each node whose value differs, and what each kept node's two rows may take
+-- where there is an execution before and after: two, two and the arcs in force that reach it for each node whose value
+-- differs, and what each kept node's two rows may take
 abbrev pub repair_steps : SolverLists → SolverLists → ℕ
 repair_steps old new =
     differing_sum (length new.graph.nodes) (λ k. reaching new.graph k + 2) old.earliest.values new.earliest.values + 2
     + sum_by (insertion_steps new.graph old.pool new.pool) (all_slots old.kept)
 
--- none where there was no execution; where there is none any more, two, two for each node, and the arcs in force
+-- what an arc more may take: none where there was no execution; where there is none any more, two, two for each node,
+-- and the arcs in force; else what repairing takes
 abbrev pub pushing_steps : SolverLists → SolverLists → ℕ
 pushing_steps old new =
     if old.earliest.is_solved
@@ -32,7 +34,8 @@ pub record MarksAll (old new : SolverLists) (removed : List Arc) (marked : ℕ �
 abbrev pub withdrawing_steps : SolverLists → SolverLists → (ℕ → Bool) → (ℕ → ℕ → Bool) → ℕ
 withdrawing_steps old new marked marks = steps_of_marked new.graph marked + sum_by (withdrawal_steps new.graph marks) (all_slots old.kept)
 
--- the steps before and after are that far apart at most, whichever flags mark the affected nodes
+-- a withdrawal takes no more: the steps before and after are that far apart at most, whichever flags mark the affected
+-- nodes
 abbrev pub TakesFewToWithdrawAll : SolverLists → SolverLists → List Arc → ℕ → ℕ → Type 0
 TakesFewToWithdrawAll old new removed before after =
     (marked : ℕ → Bool) (marks : ℕ → ℕ → Bool) → MarksAll old new removed marked marks → after ≤ (before + withdrawing_steps old new marked marks)

@@ -30,7 +30,7 @@ pub record IsSetUp (s : SolverLists) : Type 0 where
   pub room : HasRoom (length s.graph.nodes) s
   pub idle : IsEmpty s.front
 
--- what is held is the answer for the graph as it is now
+-- the solver is set up, and what it holds is one of the two answers, for the graph as it is now
 pub record IsCurrent (s : SolverLists) : Type 0 where
   pub set_up : IsSetUp s
   pub answer : IsSolvedNow s ⊎ IsContradicted s

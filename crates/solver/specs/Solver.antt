@@ -7,7 +7,8 @@ use Rattle.earliest.specs.Values.{Values}
 use Rattle.row_pool.specs.Pool.{Pool}
 use Rattle.repair.specs.Slots.{KeptRows}
 
--- a graph, its values, a contradiction of it or no arc, a pool with the rows of kept nodes, and the frontier
+-- a graph, its values and whether they are solved, a contradiction of it or no arc, a pool with the rows of kept nodes,
+-- and the frontier
 pub record SolverLists : Type 0 where
   pub graph : GraphLists
   pub earliest : Values

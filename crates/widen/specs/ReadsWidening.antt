@@ -45,6 +45,6 @@ module _ (p : ProblemLists) (readings : List Reading) where
   ReadsWideningOver text (Ok w) = IsWideningTextOf w text
   ReadsWideningOver text (Err e) = RefusesText text e
 
--- over the readings of p, of which there is one list
+-- what reading a text answers: as above, over the readings of p, of which there is one list
 abbrev pub ReadsWidening : ProblemLists → List ℕ → Result Widening CertError → Type 0
 ReadsWidening p text result = (readings : List Reading) → AreReadings p readings → ReadsWideningOver p readings text result

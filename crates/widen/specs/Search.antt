@@ -6,7 +6,7 @@ use Rattle.widen.specs.declared.tried.Tried.TheVariants.{Run, Cycle}
 use Rattle.widen.specs.declared.known.Known.{Known}
 use Rattle.widen.specs.Found.{IsRunAt, IsCycleAt, IsFoundBelow}
 
--- the execution where the problem is widened by e ns, or a contradiction that is there up to a last widening
+-- what trying a widening by e ns shows: the execution there, or a contradiction that is there up to a last widening
 abbrev pub IsTried : ProblemLists → ℕ → Tried → Type 0
 IsTried p e (Run execution) = IsRunAt p e execution
 IsTried p e (Cycle last cycle) = (e ≤ last) × (last < 2 ^ 62) × IsCycleAt p last cycle

@@ -31,7 +31,8 @@ abbrev pub ShowsBelow : ProblemLists → ℕ → Option (List Step) → Type 0
 ShowsBelow p extra None = Unit {0}
 ShowsBelow p extra (Some cycle) = IsContradictionOf (widened p (extra - 1)) (weighed_bounds cycle)
 
--- the execution is one of the widened problem, and the cycle shows that less does not heal; or that nothing does
+-- the execution is one of the widened problem, and the cycle shows that less does not heal; or that nothing does: it is
+-- a contradiction where the problem is widened as far as can be
 abbrev pub ShowsWidening : ProblemLists → Widening → Type 0
 ShowsWidening p (Least extra execution cycle) = IsExecutionOf (widened p extra) execution × ShowsBelow p extra cycle
 ShowsWidening p (Never cycle) = IsContradictionOf (widened p most_extra) (weighed_bounds cycle)

@@ -94,7 +94,7 @@ module _ (p : ProblemLists) (readings : List Reading) where
   MayRun (Some extra) values EndLine = (extra ≡ 0) × IsWhole values
   MayRun (Some extra) values line = executions.MayStand p readings values line
 
-  -- the widening first, then its real times, then its cycle
+  -- the line may follow: the widening first, then its real times, then its cycle
   abbrev pub MayStand : WideningSaid → WideningLine → Type 0
   MayStand NoneSaid (LeastLine extra) = Unit {0}
   MayStand (Said extra values None) (NodeLine line) = MayRun extra values line

@@ -1,5 +1,7 @@
--- How a row is repaired once arcs are withdrawn: the cells whose paths had one of them are cleared, pulled from the cells
--- that are left, and settled.
+-- How a row is repaired once arcs are withdrawn: the cells whose paths had one of them are cleared, pulled from the
+-- cells that are left, and settled. With arcs of 5 from node 0 to 1, of 2 from 0 to 2 and of -1 from 2 to 1 the path of
+-- node 1 in the row from 0 has the last two: without the first nothing changes, without the last node 1 is pulled along
+-- the first.
 use Rattle.std.specs.Prelude.{◌≡◌, ◌≢◌, ℕ, zero, suc, ◌<◌, ◌⊎◌, Bool, true, false, ℤ, pos, ◌+ℤ◌, ◌-ℤ◌, ◌≤ℤ◌, List, length, slice_index_or, Contains}
 use Rattle.problem_model.specs.Executions.{Arc}
 use Rattle.problem_model.specs.Tables.{ArcTable, ObeysAll}
@@ -69,7 +71,8 @@ pub record AreMarksIn (table : ArcTable) (removed : ℕ → Type 0) (p : ℕ) (r
   pub seeds : (k : ℕ) → k ≢ p → row.known k ≡ true → removed (row.parent k) → marked k ≡ true
   pub closed : (k : ℕ) → k ≢ p → row.known k ≡ true → table.in_force (row.parent k) ≡ true → marked (table.arc (row.parent k)).from ≡ true → marked k ≡ true
 
--- what the cells that are left say of the arcs that are left
+-- what the cells that are left say of the arcs that are left: parents lead back to p, each distance is a bound of the
+-- difference and is attained, and no arc between two of them shortens one
 pub record IsRemnant (table : ArcTable) (p : ℕ) (c : Cells) : Type 0 where
   pub own : (c.known p ≡ true) × (c.value p ≡ pos 0) × (c.parent p ≡ no_parent)
   pub chains : (k : ℕ) → c.known k ≡ true → (n : ℕ) × LeadsBack table p c n k
