@@ -1,5 +1,6 @@
 // Blocks of more than 2^24 bytes.
 use crate::fixtures::{CAPTURE, are_both, read_joined};
+use pcap_stream::Packet;
 use pcapng_stream::{CaptureError, CaptureStream};
 use std::alloc::Global;
 use std::test::*;
@@ -19,6 +20,20 @@ const BEGINNINGS: [([u8; 4], Result<u32, CaptureError>); 5] = [
     ([4, 0, 0, 0], Ok(8)),
     ([1, 0, 0, 0], Err(CaptureError::Block(60))),
     ([6, 0, 0, 0], Err(CaptureError::Block(60))),
+];
+
+// A block of 2 MiB that comes in pieces. A capture that ends with it behind a section header is cut in the head of the block
+// and in its last four bytes, and so many bytes are then pending.
+const CUT: usize = 1 << 21;
+
+const CUT_BYTES: [u8; 4] = [0, 0, 0x20, 0];
+
+const CUTS: [(usize, usize, u32); 5] = [
+    (31, 38, 10),
+    (39, 41, 13),
+    (1000, 1 << 20, (1 << 20) - 28),
+    (1 << 20, CUT + 25, (1 << 21) - 3),
+    (CUT + 25, CUT + 27, (1 << 21) - 1),
 ];
 
 // How many bytes are pending where a long block of this type begins.
@@ -43,6 +58,70 @@ fn long_block(alloc: Global) -> Result<Vec<u8>, CaptureError> {
     block.resize(LONG - 4, 0xff)?;
     block.extend_from_slice(&LONG_BYTES)?;
     Ok(block)
+}
+
+// How many bytes are pending behind the second of three pieces, and at the end.
+fn feed_three(
+    alloc: Global,
+    pieces: [&[u8]; 3],
+    packets: &mut Vec<Packet>,
+) -> Result<(u32, u32), CaptureError> {
+    let [first, second, third] = pieces;
+    if first.len() > 1 << 25 || second.len() > 1 << 25 || third.len() > 1 << 25 {
+        return Err(CaptureError::Memory);
+    }
+    let begun = CaptureStream::new(alloc).feed(first, packets)?;
+    let more = begun.feed(second, packets)?;
+    let whole = more.feed(third, packets)?;
+    Ok((more.pending(), whole.pending()))
+}
+
+// A section header and such a block, whose last length is written so.
+fn cut_capture(alloc: Global, last: &[u8; 4]) -> Result<Vec<u8>, CaptureError> {
+    let mut bytes = Vec::with_capacity(alloc, 28 + CUT)?;
+    bytes.extend_from_slice(&CAPTURE[..28])?;
+    bytes.extend_from_slice(&OWN)?;
+    bytes.extend_from_slice(&CUT_BYTES)?;
+    bytes.resize(28 + CUT - 4, 0xff)?;
+    bytes.extend_from_slice(last)?;
+    Ok(bytes)
+}
+
+// The same where these bytes are cut here and there.
+fn read_cut(
+    alloc: Global,
+    bytes: &[u8],
+    cuts: &(usize, usize, u32),
+) -> Result<(u32, u32), CaptureError> {
+    let (first, second, _) = *cuts;
+    if first > second || second > bytes.len() {
+        return Err(CaptureError::Memory);
+    }
+    let mut packets = Vec::new(alloc);
+    let pieces = [&bytes[..first], &bytes[first..second], &bytes[second..]];
+    feed_three(alloc, pieces, &mut packets)
+}
+
+// Whether the capture is read as it should be, wherever it is cut.
+fn reads_cut(alloc: Global) -> Result<bool, CaptureError> {
+    let bytes = cut_capture(alloc, &CUT_BYTES)?;
+    for cuts in CUTS.iter() {
+        if read_cut(alloc, &bytes, cuts)? != (cuts.2, 0) {
+            return Ok(false);
+        }
+    }
+    Ok(true)
+}
+
+// Whether it is refused where the last length is another, wherever it is cut.
+fn refuses_cut(alloc: Global) -> Result<bool, CaptureError> {
+    let bytes = cut_capture(alloc, &[0, 0, 0x21, 0])?;
+    for cuts in CUTS.iter() {
+        if read_cut(alloc, &bytes, cuts) != Err(CaptureError::Block(28)) {
+            return Ok(false);
+        }
+    }
+    Ok(true)
 }
 
 // Whether both packets are read where this block stands in front of them, in a piece of its own.
@@ -76,4 +155,10 @@ fn beginnings(rt: HostRuntime) {
 #[test]
 fn long_blocks(rt: HostRuntime) {
     assert!(rt; skips_long_block(rt.alloc()).unwrap_or(false));
+}
+
+#[test]
+fn cut_blocks(rt: HostRuntime) {
+    assert!(rt; reads_cut(rt.alloc()).unwrap_or(false));
+    assert!(rt; refuses_cut(rt.alloc()).unwrap_or(false));
 }

@@ -8,8 +8,9 @@ use Rattle.pcapng_stream.specs.Feeding.{ClassicTail, PcapngTail}
 use Rattle.captures.specs.declared.errors.CaptureError.{CaptureError}
 use Rattle.captures.specs.declared.errors.CaptureError.TheVariants.{Memory}
 use Rattle.captures.specs.Errors.{capture_error}
-use Rattle.captures.specs.Capture.{Capture, Seen, Reads, IsFault, of_format}
-use Rattle.captures.specs.Feeding.{Tail, StandsFor, IsNew, Grows, taken, rest_of}
+use Rattle.captures.specs.Capture.{Capture, Passed, Seen, Reads, IsFault, of_format}
+use Rattle.captures.specs.Feeding.{Tail, StandsFor, IsNew, Grows, taken, passed_of, waiting_of}
+use Rattle.pcapng_stream.proofs.Skipping.{waiting_stands}
 use Rattle.captures.proofs.Faults.{fault_here}
 
 -- ---- what its format keeps
@@ -19,18 +20,27 @@ format_reads (ClassicTail t) s (format.Pcapng c) stands = absurd stands
 format_reads (PcapngTail t) s (format.Classic c) stands = absurd stands
 format_reads (PcapngTail t) s (format.Pcapng c) stands = (stands.0, stands.1.reads)
 
-format_rest : (t : feeding.Tail) (s : List ℕ) (c : format.Capture) → feeding.StandsFor t s c → feeding.rest_in t ≡ format.rest_of c
-format_rest (ClassicTail t) s (format.Classic c) stands = stands.1.rest
-format_rest (ClassicTail t) s (format.Pcapng c) stands = absurd stands
-format_rest (PcapngTail t) s (format.Classic c) stands = absurd stands
-format_rest (PcapngTail t) s (format.Pcapng c) stands = stands.1.rest
+format_passed : (t : feeding.Tail) (s : List ℕ) (c : format.Capture) → feeding.StandsFor t s c → feeding.passed_in t ≡ format.passed_of c
+format_passed (ClassicTail t) s (format.Classic c) stands = refl
+format_passed (ClassicTail t) s (format.Pcapng c) stands = absurd stands
+format_passed (PcapngTail t) s (format.Classic c) stands = absurd stands
+format_passed (PcapngTail t) s (format.Pcapng c) stands = stands.1.passed
+
+format_waiting : (t : feeding.Tail) (s : List ℕ) (c : format.Capture) → feeding.StandsFor t s c → feeding.waiting_in t ≡ length (format.rest_of c)
+format_waiting (ClassicTail t) s (format.Classic c) stands = ap (λ (l : List ℕ). length l) stands.1.rest
+format_waiting (ClassicTail t) s (format.Pcapng c) stands = absurd stands
+format_waiting (PcapngTail t) s (format.Classic c) stands = absurd stands
+format_waiting (PcapngTail t) s (format.Pcapng c) stands = waiting_stands t s c stands.1
 
 -- ---- what callers learn of what stands
 pub stands_reads : (t : Tail) (s : List ℕ) (c : Capture) → StandsFor t s c → Reads s c
 stands_reads t s c stands = record { read = stands.read; reads = format_reads t s stands.read stands.stands; says = stands.says }
 
-pub stands_rest : (t : Tail) (s : List ℕ) (c : Capture) → StandsFor t s c → rest_of t ≡ c.rest
-stands_rest t s c stands = format_rest t s stands.read stands.stands ∙ ap (λ (x : Capture). x.rest) (sym stands.says)
+pub stands_waiting : (t : Tail) (s : List ℕ) (c : Capture) → StandsFor t s c → waiting_of t ≡ length c.rest
+stands_waiting t s c stands = format_waiting t s stands.read stands.stands ∙ ap (λ (x : Capture). length x.rest) (sym stands.says)
+
+pub stands_passed : (t : Tail) (s : List ℕ) (c : Capture) → StandsFor t s c → passed_of t ≡ c.passed
+stands_passed t s c stands = format_passed t s stands.read stands.stands ∙ ap (λ (x : Capture). x.passed) (sym stands.says)
 
 -- ---- a tail of nothing
 pub new_taken : (t : Tail) → IsNew t → taken t ≡ 0

@@ -5,7 +5,7 @@ use Rattle.pcapng_stream.specs.Feeding as format_feeding
 pub use Rattle.pcap_stream.specs.declared.packet.Packet.{Packet}
 pub use Rattle.pcap_stream.specs.declared.first_packets.FirstPackets.{FirstPackets}
 pub use Rattle.pcap_stream.specs.Feeding.{seen_packet, seen_packets, KeepsFirst, Adds, IsSame}
-use Rattle.captures.specs.Capture.{Capture, Seen, of_format}
+use Rattle.captures.specs.Capture.{Capture, Passed, Seen, of_format}
 
 -- what is kept of a stream
 abbrev pub Tail : Type 0
@@ -15,9 +15,13 @@ Tail = format_feeding.Tail
 abbrev pub taken : Tail → ℕ
 taken tail = format_feeding.size_of tail
 
--- those of them that wait for more
-abbrev pub rest_of : Tail → List ℕ
-rest_of tail = format_feeding.rest_in tail
+-- how many packets were passed over
+abbrev pub passed_of : Tail → Passed
+passed_of tail = format_feeding.passed_in tail
+
+-- how many of the bytes wait for more
+abbrev pub waiting_of : Tail → ℕ
+waiting_of tail = format_feeding.waiting_in tail
 
 -- the tail is that of nothing
 abbrev pub IsNew : Tail → Type 0

@@ -2,10 +2,11 @@
 ghost use Rattle.std.specs.Prelude.{◌≡◌, ◌≢◌, ◌≤◌, ◌+◌, ◌^◌, ◌++◌, [], ℕ, List, length, IfOk, IfErr, OnErr};
 ghost use Rattle.captures.specs.declared.errors.CaptureError.TheVariants as errors;
 ghost use Rattle.captures.specs.Capture.{Capture, IsFault};
-ghost use Rattle.captures.specs.Feeding.{StandsFor, IsNew, Grows, Adds, IsSame, taken, rest_of, seen_packets};
+ghost use Rattle.captures.specs.Feeding.{StandsFor, IsNew, Grows, Adds, IsSame, taken, passed_of, seen_packets, waiting_of};
 
 use crate::CaptureError;
 use pcap_stream::{FirstPackets, Packet};
+use pcapng_stream::Passed;
 use std::alloc::Global;
 use std::marker::Model;
 
@@ -40,9 +41,17 @@ impl CaptureStream {
 
     /// How many bytes came that wait for more.
     pub fn pending(&self) -> u32
-        ensures { result ≡ length (rest_of self.now) }
+        ensures { result ≡ waiting_of self.now }
     {
         self.stream.pending()
+    }
+
+    /// How many packets were passed over, by cause: of a capture in pcapng those that have no time, or stand in blocks that
+    /// are not read.
+    pub fn passed(&self) -> Passed
+        ensures { result ≡ passed_of self.now }
+    {
+        self.stream.passed()
     }
 
     /// Reads the next piece of a capture of at most 2^30 bytes: answers what is then kept of it, and appends the packets

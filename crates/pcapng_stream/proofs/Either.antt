@@ -9,11 +9,12 @@ use Rattle.pcap_stream.specs.Feeding as classic_feeding
 use Rattle.pcapng_stream.specs.declared.errors.CaptureError.{CaptureError}
 use Rattle.pcapng_stream.specs.declared.errors.CaptureError.TheVariants.{Magic, Version, Header, Length, Block, Memory}
 use Rattle.pcapng_stream.specs.Pcapng as pcapng
-use Rattle.pcapng_stream.specs.Capture.{Capture, Classic, Pcapng, IsPcapng, Reads, IsFault, IsClassicFault, packets_of, nothing, rest_of}
-use Rattle.pcapng_stream.specs.Feeding.{Tail, ClassicTail, PcapngTail, BlockTail, StandsFor, IsNew, rest_in, size_of}
+use Rattle.pcapng_stream.specs.Capture.{Capture, Classic, Pcapng, IsPcapng, Reads, IsFault, IsClassicFault, packets_of, nothing, passed_of, rest_of}
+use Rattle.pcapng_stream.specs.Feeding.{Tail, ClassicTail, PcapngTail, BlockTail, StandsFor, IsNew, passed_in, waiting_in, size_of}
 use Rattle.pcapng_stream.specs.Inside.{of_classic}
 use Rattle.pcapng_stream.proofs.Streams as blocks
 use Rattle.pcapng_stream.proofs.Judging as judging
+use Rattle.pcapng_stream.proofs.Skipping.{waiting_stands}
 
 -- ---- the first byte
 pub not_nothing : IsPcapng [] → ⊥
@@ -182,14 +183,20 @@ stood_read (ClassicTail t) s (Pcapng c) stands = absurd stands
 stood_read (PcapngTail t) s (Classic c) stands = absurd stands
 stood_read (PcapngTail t) s (Pcapng c) stands = (stands.0, stands.1.reads)
 
-pub stood_rest : (t : Tail) (s : List ℕ) (c : Capture) → StandsFor t s c → rest_in t ≡ rest_of c
-stood_rest (ClassicTail t) s (Classic c) stands = stands.1.rest
-stood_rest (ClassicTail t) s (Pcapng c) stands = absurd stands
-stood_rest (PcapngTail t) s (Classic c) stands = absurd stands
-stood_rest (PcapngTail t) s (Pcapng c) stands = stands.1.rest
+pub stood_passed : (t : Tail) (s : List ℕ) (c : Capture) → StandsFor t s c → passed_in t ≡ passed_of c
+stood_passed (ClassicTail t) s (Classic c) stands = refl
+stood_passed (ClassicTail t) s (Pcapng c) stands = absurd stands
+stood_passed (PcapngTail t) s (Classic c) stands = absurd stands
+stood_passed (PcapngTail t) s (Pcapng c) stands = stands.1.passed
+
+pub stood_waiting : (t : Tail) (s : List ℕ) (c : Capture) → StandsFor t s c → waiting_in t ≡ length (rest_of c)
+stood_waiting (ClassicTail t) s (Classic c) stands = ap (λ (l : List ℕ). length l) stands.1.rest
+stood_waiting (ClassicTail t) s (Pcapng c) stands = absurd stands
+stood_waiting (PcapngTail t) s (Classic c) stands = absurd stands
+stood_waiting (PcapngTail t) s (Pcapng c) stands = waiting_stands t s c stands.1
 
 pub stood_size : (t : Tail) (s : List ℕ) (c : Capture) → StandsFor t s c → size_of t ≡ length s
 stood_size (ClassicTail t) s (Classic c) stands = stands.1.offset
 stood_size (ClassicTail t) s (Pcapng c) stands = absurd stands
 stood_size (PcapngTail t) s (Classic c) stands = absurd stands
-stood_size (PcapngTail t) s (Pcapng c) stands = stands.1.offset
+stood_size (PcapngTail t) s (Pcapng c) stands = omega (arith, waiting_stands t s c stands.1, stands.1.offset)

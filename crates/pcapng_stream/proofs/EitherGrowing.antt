@@ -12,9 +12,10 @@ use Rattle.pcapng_stream.specs.declared.errors.CaptureError.TheVariants.{Memory}
 use Rattle.pcapng_stream.specs.declared.stream.Kind.{Kind}
 use Rattle.pcapng_stream.specs.declared.stream.Kind.TheVariants as kinds
 use Rattle.pcapng_stream.specs.Blocks.{before}
+use Rattle.pcapng_stream.specs.Passed.{none_passed}
 use Rattle.pcapng_stream.specs.Pcapng as pcapng
 use Rattle.pcapng_stream.specs.Capture.{Capture, Classic, Pcapng, IsPcapng, IsFault, packets_of}
-use Rattle.pcapng_stream.specs.Feeding.{Tail, ClassicTail, PcapngTail, BlockTail, StandsFor, StandsForBlocks, Grows, GrowsBlocks}
+use Rattle.pcapng_stream.specs.Feeding.{Tail, ClassicTail, PcapngTail, BlockTail, StandsFor, StandsForBlocks, Grows, GrowsBlocks, waiting_blocks}
 use Rattle.pcapng_stream.specs.Inside.{of_classic, tail_of}
 use Rattle.pcapng_stream.specs.Kept.{Begins, GoesOn, IsRefused, kept_in}
 use Rattle.pcapng_stream.proofs.Either.{ClassicNew, from_classic, longer, not_nothing, stays, stays_memory}
@@ -64,7 +65,7 @@ blocks_grow t next piece old new all s (Pcapng c) stands =
     record { then = Pcapng grows.then; stands = (longer s piece stands.0, grows.stands); added = grows.added; grown = grows.grown; more = grows.more }
 blocks_grow t next piece old new all s (Classic c) stands = absurd stands
 
-pub blocks_on : (t next : BlockTail) (piece : List ℕ) (old new : List Seen) → BlocksGrow t piece old new next → next.offset + length next.rest ≡ t.offset + length t.rest + length piece →
+pub blocks_on : (t next : BlockTail) (piece : List ℕ) (old new : List Seen) → BlocksGrow t piece old new next → next.offset + waiting_blocks next ≡ t.offset + waiting_blocks t + length piece →
     GoesOn (PcapngTail t) piece old new (kinds.Pcapng next)
 blocks_on t next piece old new all size = record { kept = tt; grows = blocks_grow t next piece old new all; size = size }
 
@@ -89,7 +90,7 @@ classic_begins t next piece old new law fresh some other all size =
 pub classic_begins_refused : (t : classic_feeding.Tail) (piece : List ℕ) (e : PcapError) → ClassicNew → classic_feeding.IsNew t → (IsPcapng piece → ⊥) → ClassicRefuses t piece e → of_classic e ≢ Memory → IsFault piece (of_classic e)
 classic_begins_refused t piece e law fresh other all ne = inr (other, from_classic piece e (all (stays_memory e ne) [] classic.nothing (law t fresh)))
 
-pub blocks_new : StandsForBlocks (tail_of before 0 []) [] (record { blocks = []; rest = [] })
+pub blocks_new : StandsForBlocks (tail_of before none_passed 0 None []) [] (record { blocks = []; rest = [] })
 blocks_new = record {
   reads = record {
     made = record { are_blocks = tt; whole = refl };
@@ -98,16 +99,18 @@ blocks_new = record {
     sound = refl;
   };
   section = refl;
-  rest = refl;
+  passed = refl;
+  skipped = refl;
+  held = refl;
   offset = refl;
 }
 
-pub blocks_begin : (t next : BlockTail) (piece : List ℕ) (old new : List Seen) → t ≡ tail_of before 0 [] → IsPcapng piece → BlocksGrow t piece old new next →
-    next.offset + length next.rest ≡ t.offset + length t.rest + length piece → Begins piece old new (kinds.Pcapng next)
+pub blocks_begin : (t next : BlockTail) (piece : List ℕ) (old new : List Seen) → t ≡ tail_of before none_passed 0 None [] → IsPcapng piece → BlocksGrow t piece old new next →
+    next.offset + waiting_blocks next ≡ t.offset + waiting_blocks t + length piece → Begins piece old new (kinds.Pcapng next)
 blocks_begin t next piece old new fresh is all size =
     let stood : StandsForBlocks t [] (record { blocks = []; rest = [] }) = subst (λ (u : BlockTail). StandsForBlocks u [] (record { blocks = []; rest = [] })) (sym fresh) blocks_new in
     let grows = all [] (record { blocks = []; rest = [] }) stood in
-    let none : t.offset + length t.rest ≡ 0 = ap (λ (u : BlockTail). u.offset + length u.rest) fresh in
+    let none : t.offset + waiting_blocks t ≡ 0 = ap (λ (u : BlockTail). u.offset + waiting_blocks u) fresh in
     record {
       kept = tt;
       then = Pcapng grows.then;
@@ -116,7 +119,7 @@ blocks_begin t next piece old new fresh is all size =
       size = omega (arith, size, none);
     }
 
-pub blocks_begin_refused : (t : BlockTail) (piece : List ℕ) (e : CaptureError) → t ≡ tail_of before 0 [] → IsPcapng piece → BlocksRefuse t piece e → e ≢ Memory → IsFault piece e
+pub blocks_begin_refused : (t : BlockTail) (piece : List ℕ) (e : CaptureError) → t ≡ tail_of before none_passed 0 None [] → IsPcapng piece → BlocksRefuse t piece e → e ≢ Memory → IsFault piece e
 blocks_begin_refused t piece e fresh is all ne =
     let stood : StandsForBlocks t [] (record { blocks = []; rest = [] }) = subst (λ (u : BlockTail). StandsForBlocks u [] (record { blocks = []; rest = [] })) (sym fresh) blocks_new in
     inl (is, all ne [] (record { blocks = []; rest = [] }) stood)

@@ -43,7 +43,7 @@ block_one o a b x y p q e =
     (block_same a.order b.order a.bytes b.bytes orders front, behind)
 
 -- ---- what may begin some bytes
-size_long : (kind : BlockKind) (n : ℕ) → is_wrong_size kind n ≡ false → 12 ≤ n
+pub size_long : (kind : BlockKind) (n : ℕ) → is_wrong_size kind n ≡ false → 12 ≤ n
 size_long kind n e = ltb-false n 12 ((or_parts _ _ (or_parts _ _ e).0).0)
 
 pub none_part : (o : Option Order) (bytes : List ℕ) → begins_wrong o bytes ≡ false → head_of o bytes ≡ None → IsPart o bytes
@@ -93,7 +93,7 @@ section_begins bytes is =
     let same : section_type ≡ take 4 bytes = (bytes_eq-Decides section_type (take 4 bytes)).0 is in
     ([], append-nil (take 4 bytes) ∙ sym same)
 
-begin_is : (bytes : List ℕ) → is_section (take 12 bytes) ≡ is_section bytes
+pub begin_is : (bytes : List ℕ) → is_section (take 12 bytes) ≡ is_section bytes
 begin_is bytes = ap (λ (l : List ℕ). bytes_eq section_type l) (take-take 4 12 bytes (omega arith))
 
 -- before the first section header nothing is said of other bytes

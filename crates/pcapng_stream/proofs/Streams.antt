@@ -2,6 +2,7 @@
 use Rattle.std.proofs.Common.{◌≡◌, ◌≢◌, ◌≤◌, ℕ, false, List, [], ◌∷◌, ◌++◌, length, None, refl, sym, ap, subst, inl, inr, ◌∙◌, arith, append_assoc}
 use Rattle.std.specs.List.{flat_map}
 use Rattle.std.proofs.lemmas.List.{append-nil}
+use Rattle.std.proofs.lemmas.List.Concat.{flat_map-append}
 use Rattle.pcap_stream.specs.Capture.{Seen}
 use Rattle.pcapng_stream.specs.declared.errors.CaptureError.{CaptureError}
 use Rattle.pcapng_stream.specs.declared.errors.CaptureError.TheVariants.{Magic, Version, Length, Memory}
@@ -10,11 +11,13 @@ use Rattle.pcapng_stream.specs.declared.flaw.Flaw.{Flaw}
 use Rattle.pcapng_stream.specs.declared.flaw.Flaw.TheVariants.{Malformed, OtherVersion, TooLong}
 use Rattle.pcapng_stream.specs.Blocks.{Block, before, bytes_of}
 use Rattle.pcapng_stream.specs.Flaws.{begins_wrong}
+use Rattle.pcapng_stream.specs.Passed.{passed_over}
+use Rattle.pcapng_stream.specs.Skipping.{held_of, skipped_in}
 use Rattle.pcapng_stream.specs.Pcapng.{Blocks, IsWhole, HasBlock, IsBlock, AreBlocks, IsMadeOf, Reads, IsFault, IsFlawedAt, HasFlaw, BeginsSection, section_after, packets_after, packets_of, present}
 use Rattle.pcapng_stream.specs.Feeding.{BlockTail, StandsForBlocks}
 use Rattle.pcapng_stream.specs.Inside.{fault_at, tail_of}
 use Rattle.pcapng_stream.proofs.Heads.{begins_longer, section_begins, whole_section, wrong_section, both}
-use Rattle.pcapng_stream.proofs.Rows.{Ends, More, blocks_go_on, ends_flaw, ends_part, flaw_one, nothing_more, packets-append}
+use Rattle.pcapng_stream.proofs.Rows.{Ends, More, blocks-append, blocks_go_on, ends_flaw, ends_part, flaw_one, nothing_more, packets-append}
 
 -- ---- streams that are made of blocks
 -- more bytes come behind what is left
@@ -22,6 +25,15 @@ pub made_longer : (s t : List ℕ) (c : Blocks) → IsMadeOf s c → IsMadeOf (s
 made_longer s t c m = record {
   are_blocks = m.are_blocks;
   whole = ap (λ (l : List ℕ). l ++ t) m.whole ∙ append_assoc (flat_map bytes_of c.blocks) c.rest t;
+}
+
+-- more blocks come behind others
+pub made_more : (s : List ℕ) (a b : List Block) (x y : List ℕ) → IsMadeOf s (record { blocks = a; rest = x }) → AreBlocks (section_after before a) b → x ≡ flat_map bytes_of b ++ y →
+    IsMadeOf s (record { blocks = a ++ b; rest = y })
+made_more s a b x y m lawful whole = record {
+  are_blocks = blocks-append before a b m.are_blocks lawful;
+  whole = m.whole ∙ ap (λ (l : List ℕ). flat_map bytes_of a ++ l) whole ∙ sym (append_assoc (flat_map bytes_of a) (flat_map bytes_of b) y)
+      ∙ ap (λ (l : List ℕ). l ++ y) (sym (flat_map-append bytes_of a b));
 }
 
 made_goes : (s : List ℕ) (a b : Blocks) → IsMadeOf s a → IsMadeOf s b → Ends (present b) b.rest → More before a.blocks b.blocks a.rest b.rest
@@ -48,16 +60,18 @@ reads_end s c r = ends_part (present c) c.rest r.no_more
 pub captures_one : (s : List ℕ) (a b : Blocks) → Reads s a → Reads s b → a ≡ b
 captures_one s a b p q = made_same s a b p.made q.made (reads_end s a p) (reads_end s b q)
 
-tail_one : {A B C D : Type 0} (h : A → B → C → D) (a a' : A) (b b' : B) (c c' : C) → a ≡ a' → b ≡ b' → c ≡ c' → h a b c ≡ h a' b' c'
-tail_one h a a' b b' c c' p q r = cc
+pub tail_one : {A B C D E F : Type 0} (h : A → B → C → D → E → F) (a a' : A) (b b' : B) (c c' : C) (d d' : D) (e e' : E) → a ≡ a' → b ≡ b' → c ≡ c' → d ≡ d' → e ≡ e' → h a b c d e ≡ h a' b' c' d' e'
+tail_one h a a' b b' c c' d d' e e' p q r s t = cc
 
 pub tails_one : (t u : BlockTail) (s : List ℕ) (a b : Blocks) → StandsForBlocks t s a → StandsForBlocks u s b → t ≡ u
 tails_one t u s a b p q =
     let same : a ≡ b = captures_one s a b p.reads q.reads in
     let sections : t.section ≡ u.section = p.section ∙ ap (λ (c : Blocks). present c) same ∙ sym q.section in
-    let rests : t.rest ≡ u.rest = p.rest ∙ ap (λ (c : Blocks). c.rest) same ∙ sym q.rest in
-    let offsets : t.offset ≡ u.offset = omega (arith, p.offset, q.offset, ap (λ (l : List ℕ). length l) rests) in
-    tail_one tail_of t.section u.section t.offset u.offset t.rest u.rest sections offsets rests
+    let counts : t.passed ≡ u.passed = p.passed ∙ ap (λ (c : Blocks). passed_over c.blocks) same ∙ sym q.passed in
+    let skips : t.skipped ≡ u.skipped = p.skipped ∙ ap (λ (c : Blocks). skipped_in (present c).order c.rest) same ∙ sym q.skipped in
+    let held : t.held ≡ u.held = p.held ∙ ap (λ (c : Blocks). held_of (skipped_in (present c).order c.rest) c.rest) same ∙ sym q.held in
+    let offsets : t.offset ≡ u.offset = omega (arith, p.offset, q.offset, ap (λ (c : Blocks). length c.rest) same) in
+    tail_one tail_of t.section u.section t.passed u.passed t.offset u.offset t.skipped u.skipped t.held u.held sections counts offsets skips held
 
 pub packets_stay : (s t : List ℕ) (a b : Blocks) → Reads s a → Reads (s ++ t) b → (more : List Seen) × (packets_of b ≡ packets_of a ++ more)
 packets_stay s t a b p q =

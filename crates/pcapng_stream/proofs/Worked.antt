@@ -1,11 +1,15 @@
 -- A capture of one packet, worked through.
-use Rattle.std.proofs.Common.{◌≡◌, ℕ, true, false, List, [], ◌∷◌, Option, Some, ℤ, pos, negsuc, refl, arith}
+use Rattle.std.proofs.Common.{◌≡◌, ℕ, true, false, List, [], ◌∷◌, Option, Some, None, ℤ, pos, negsuc, refl, arith}
 use Rattle.pcap_stream.specs.Capture.{Seen}
 use Rattle.pcapng_stream.specs.declared.order.Order.TheVariants.{Little}
 use Rattle.pcapng_stream.specs.declared.section.Interface.{Interface}
 use Rattle.pcapng_stream.specs.declared.flaw.Flaw.TheVariants.{Malformed, OtherVersion}
+use Rattle.pcapng_stream.specs.declared.passed.Passed.{Passed}
 use Rattle.pcapng_stream.specs.Blocks.{Block, before, interface_of, nanos, section_behind, stamp_on}
 use Rattle.pcapng_stream.specs.Flaws.{begins_wrong, flaw_in}
+use Rattle.pcapng_stream.specs.Passed.{passed_over}
+use Rattle.pcapng_stream.specs.declared.skipped.Skipped.{Skipped}
+use Rattle.pcapng_stream.specs.Skipping.{held_of, skipped_in}
 use Rattle.pcapng_stream.specs.Pcapng.{Blocks, AreBlocks, IsBlock, packets_of}
 
 abbrev little : List ℕ → Block
@@ -37,12 +41,29 @@ long_packet = 6 ∷ 0 ∷ 0 ∷ 0 ∷ 4 ∷ 0 ∷ 0 ∷ 1 ∷ []
 abbrev long_secrets : List ℕ
 long_secrets = 10 ∷ 0 ∷ 0 ∷ 0 ∷ 4 ∷ 0 ∷ 0 ∷ 1 ∷ []
 
+-- secrets of 20 bytes, of which the last two did not come yet, and as many bytes of a packet
+abbrev cut_secrets : List ℕ
+cut_secrets = 10 ∷ 0 ∷ 0 ∷ 0 ∷ 20 ∷ 0 ∷ 0 ∷ 0 ∷ 1 ∷ 2 ∷ 3 ∷ 4 ∷ 5 ∷ 6 ∷ 7 ∷ 8 ∷ 20 ∷ 0 ∷ []
+
+abbrev cut_packet : List ℕ
+cut_packet = 6 ∷ 0 ∷ 0 ∷ 0 ∷ 36 ∷ 0 ∷ 0 ∷ 0 ∷ 0 ∷ 0 ∷ 0 ∷ 0 ∷ 0 ∷ 0 ∷ 0 ∷ 0 ∷ 100 ∷ 0 ∷ []
+
 -- a header of major version 2, and one whose last length is another
 abbrev later_header : Block
 later_header = little (10 ∷ 13 ∷ 13 ∷ 10 ∷ 28 ∷ 0 ∷ 0 ∷ 0 ∷ 77 ∷ 60 ∷ 43 ∷ 26 ∷ 2 ∷ 0 ∷ 0 ∷ 0 ∷ 255 ∷ 255 ∷ 255 ∷ 255 ∷ 255 ∷ 255 ∷ 255 ∷ 255 ∷ 28 ∷ 0 ∷ 0 ∷ 0 ∷ [])
 
 abbrev broken_header : Block
 broken_header = little (10 ∷ 13 ∷ 13 ∷ 10 ∷ 28 ∷ 0 ∷ 0 ∷ 0 ∷ 77 ∷ 60 ∷ 43 ∷ 26 ∷ 1 ∷ 0 ∷ 0 ∷ 0 ∷ 255 ∷ 255 ∷ 255 ∷ 255 ∷ 255 ∷ 255 ∷ 255 ∷ 255 ∷ 32 ∷ 0 ∷ 0 ∷ 0 ∷ [])
+
+-- a simple packet of no byte, an entry of a journal, and names
+abbrev simple : Block
+simple = little (3 ∷ 0 ∷ 0 ∷ 0 ∷ 16 ∷ 0 ∷ 0 ∷ 0 ∷ 0 ∷ 0 ∷ 0 ∷ 0 ∷ 16 ∷ 0 ∷ 0 ∷ 0 ∷ [])
+
+abbrev entry : Block
+entry = little (9 ∷ 0 ∷ 0 ∷ 0 ∷ 12 ∷ 0 ∷ 0 ∷ 0 ∷ 12 ∷ 0 ∷ 0 ∷ 0 ∷ [])
+
+abbrev names : Block
+names = little (4 ∷ 0 ∷ 0 ∷ 0 ∷ 12 ∷ 0 ∷ 0 ∷ 0 ∷ 12 ∷ 0 ∷ 0 ∷ 0 ∷ [])
 
 abbrev capture : Blocks
 capture = record { blocks = header ∷ interface ∷ packet ∷ []; rest = [] }
@@ -78,6 +99,9 @@ cut_is = refl
 pub packets_are : ◌≡◌ {A = List Seen} (packets_of capture) (record { stamp = 100; link = 101; bytes = 7 ∷ [] } ∷ [])
 packets_are = refl
 
+pub passed_are : ◌≡◌ {A = Passed} (passed_over (header ∷ simple ∷ interface ∷ entry ∷ names ∷ packet ∷ simple ∷ [])) (record { simple = 2; obsolete = 0; other = 1 })
+passed_are = refl
+
 -- a packet before its interface
 pub packet_alone : flaw_in (section_behind before header) packet ≡ Some Malformed
 packet_alone = refl
@@ -93,6 +117,15 @@ packet_too_long = refl
 
 pub secrets_wait : begins_wrong (Some Little) long_secrets ≡ false
 secrets_wait = refl
+
+pub secrets_skipped : ◌≡◌ {A = Option Skipped} (skipped_in (Some Little) cut_secrets) (Some (record { order = Little; block_type = 10; size = 20; came = 18 }))
+secrets_skipped = refl
+
+pub secrets_held : held_of (skipped_in (Some Little) cut_secrets) cut_secrets ≡ 20 ∷ 0 ∷ []
+secrets_held = refl
+
+pub packet_not_skipped : ◌≡◌ {A = Option Skipped} (skipped_in (Some Little) cut_packet) None
+packet_not_skipped = refl
 
 -- stamps: 5 us, 1024 and 1 times 2^-10 s
 pub micros : nanos 6 5 ≡ 5000

@@ -5,6 +5,8 @@ use Rattle.pcap_stream.specs.Capture.{Seen}
 use Rattle.pcap_stream.specs.Capture as classic
 use Rattle.pcapng_stream.specs.declared.errors.CaptureError.{CaptureError}
 use Rattle.pcapng_stream.specs.declared.errors.CaptureError.TheVariants.{Magic, Version, Header, Length, Block, Memory}
+use Rattle.pcapng_stream.specs.declared.passed.Passed.{Passed}
+use Rattle.pcapng_stream.specs.Passed.{none_passed, passed_over}
 use Rattle.pcapng_stream.specs.Pcapng.{Blocks}
 use Rattle.pcapng_stream.specs.Pcapng as pcapng
 
@@ -31,6 +33,11 @@ packets_of (Pcapng c) = pcapng.packets_of c
 abbrev pub rest_of : Capture → List ℕ
 rest_of (Classic c) = c.rest
 rest_of (Pcapng c) = c.rest
+
+-- how many packets are passed over; of a classic capture none are
+abbrev pub passed_of : Capture → Passed
+passed_of (Classic c) = none_passed
+passed_of (Pcapng c) = passed_over c.blocks
 
 -- nothing yet
 abbrev pub nothing : Capture

@@ -18,6 +18,10 @@ use Rattle.pcapng_stream.specs.declared.options.Stamping.{Stamping}
 use Rattle.pcapng_stream.specs.Options.{Opt, options_in, resolution_of, offset_of, resolution_in, offset_in, is_wrong_offset}
 use Rattle.pcapng_stream.specs.Blocks.{Section, Block, bytes_of, section_behind, packets_in}
 use Rattle.pcapng_stream.specs.Flaws.{begins_wrong}
+use Rattle.pcapng_stream.specs.declared.passed.Passed.{Passed}
+use Rattle.pcapng_stream.specs.Passed.{counted, passed_over, passed_with, type_of}
+use Rattle.pcapng_stream.specs.declared.skipped.Skipped.{Skipped}
+use Rattle.pcapng_stream.specs.Skipping.{held_of, skipped_in}
 use Rattle.pcapng_stream.specs.Pcapng.{IsWhole, HasBlock, IsBlock, AreBlocks, HasFlaw, section_after, packets_after}
 use Rattle.pcapng_stream.specs.Feeding.{BlockTail}
 
@@ -114,24 +118,26 @@ pub record IsTaken (s : Section) (b : Block) (next : Section) (old new : List Se
   pub section : next ≡ section_behind s b
   pub packets : new ≡ old ++ packets_in s b
 
--- a block without a flaw begins these bytes, has this size, and was taken
-pub record IsNext (s : Section) (bytes : List ℕ) (size : ℕ) (next : Section) (old new : List Seen) : Type 0 where
+-- a block without a flaw begins these bytes, has this size, and was taken and counted
+pub record IsNext (s : Section) (bytes : List ℕ) (size : ℕ) (next : Section) (earlier later : Passed) (old new : List Seen) : Type 0 where
   pub block : Block
   pub after : List ℕ
   pub lawful : IsBlock s block
   pub said : size ≡ length block.bytes
   pub joined : bytes ≡ bytes_of block ++ after
   pub taken : IsTaken s block next old new
+  pub counts : later ≡ passed_with earlier (counted (type_of block))
 
 -- nothing changed
-pub record IsSame (s next : Section) (old new : List Seen) : Type 0 where
+pub record IsSame (s next : Section) (earlier later : Passed) (old new : List Seen) : Type 0 where
   pub section : next ≡ s
+  pub counts : later ≡ earlier
   pub packets : new ≡ old
 
 -- the block that begins these bytes was taken, if one does
-abbrev pub FindsNext : Section → List ℕ → Option ℕ → Section → List Seen → List Seen → Type 0
-FindsNext s bytes None next old new = IsPart s.order bytes × IsSame s next old new
-FindsNext s bytes (Some size) next old new = IsNext s bytes size next old new
+abbrev pub FindsNext : Section → List ℕ → Option ℕ → Section → Passed → Passed → List Seen → List Seen → Type 0
+FindsNext s bytes None next earlier later old new = IsPart s.order bytes × IsSame s next earlier later old new
+FindsNext s bytes (Some size) next earlier later old new = IsNext s bytes size next earlier later old new
 
 -- the block that begins these bytes, at this place, has a flaw
 abbrev pub IsHereFault : Section → List ℕ → ℕ → CaptureError → Type 0
@@ -143,17 +149,18 @@ IsHereFault s bytes place (errors.Block p) = HasFlaw s bytes Malformed × (p ≡
 IsHereFault s bytes place Memory = ⊤
 
 -- ---- blocks in a row
--- the blocks before what is left were taken
-pub record HasRead (s : Section) (bytes left : List ℕ) (next : Section) (old new : List Seen) : Type 0 where
+-- the blocks before what is left were taken and counted
+pub record HasRead (s : Section) (bytes left : List ℕ) (next : Section) (earlier later : Passed) (old new : List Seen) : Type 0 where
   pub blocks : List Block
   pub lawful : AreBlocks s blocks
   pub whole : bytes ≡ flat_map bytes_of blocks ++ left
   pub section : next ≡ section_after s blocks
+  pub counts : later ≡ passed_with earlier (passed_over blocks)
   pub added : new ≡ old ++ packets_after s blocks
 
 -- all whole blocks were taken
-pub record EndsBlocks (s : Section) (bytes left : List ℕ) (next : Section) (old new : List Seen) : Type 0 where
-  pub read : HasRead s bytes left next old new
+pub record EndsBlocks (s : Section) (bytes left : List ℕ) (next : Section) (earlier later : Passed) (old new : List Seen) : Type 0 where
+  pub read : HasRead s bytes left next earlier later old new
   pub part : IsPart next.order left
 
 -- behind some blocks, the one at this place has this flaw
@@ -175,6 +182,10 @@ IsBlocksFault s bytes start (errors.Block place) = IsLater s bytes start Malform
 IsBlocksFault s bytes start Memory = ⊤
 
 -- ---- streams
--- the tail of a section, an offset and a rest
-abbrev pub tail_of : Section → ℕ → List ℕ → BlockTail
-tail_of section offset rest = record { section = section; offset = offset; rest = rest }
+-- the tail of a section, counts, an offset, a skipped block and bytes that are held
+abbrev pub tail_of : Section → Passed → ℕ → Option Skipped → List ℕ → BlockTail
+tail_of section passed offset skipped held = record { section = section; passed = passed; offset = offset; skipped = skipped; held = held }
+
+-- the tail of these bytes behind the last whole block
+abbrev pub tail_with : Section → Passed → ℕ → List ℕ → BlockTail
+tail_with section passed offset rest = tail_of section passed offset (skipped_in section.order rest) (held_of (skipped_in section.order rest) rest)

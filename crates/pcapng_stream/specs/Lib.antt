@@ -2,6 +2,8 @@ pub mod Numbers
 pub mod Options
 pub mod Blocks
 pub mod Flaws
+pub mod Passed
+pub mod Skipping
 pub mod Pcapng
 pub mod Capture
 pub mod Feeding

@@ -3,8 +3,8 @@ ghost use Rattle.std.specs.Prelude.{◌≡◌, ◌≢◌, ◌⊎◌, ◌++◌, [
 ghost use Rattle.pcap_stream.specs.Capture.{Seen};
 ghost use Rattle.pcapng_stream.specs.declared.errors.CaptureError.{CaptureError};
 ghost use Rattle.pcapng_stream.specs.declared.errors.CaptureError.TheVariants.{Memory};
-ghost use Rattle.pcapng_stream.specs.Capture.{Capture, Reads, IsFault, packets_of, rest_of, nothing};
-ghost use Rattle.pcapng_stream.specs.Feeding.{Tail, StandsFor, IsNew, rest_in, size_of};
+ghost use Rattle.pcapng_stream.specs.Capture.{Capture, Reads, IsFault, packets_of, passed_of, rest_of, nothing};
+ghost use Rattle.pcapng_stream.specs.Feeding.{Tail, StandsFor, IsNew, passed_in, waiting_in, size_of};
 
 /// A law, which does nothing when it runs: a stream stands for one capture at most.
 pub fn captures_are_one()
@@ -64,9 +64,11 @@ pub fn new_stands()
     pcap_stream::new_stands();
 }
 
-/// A law: what is kept of a stream tells what the stream says, which bytes of it are pending, and how many came.
+/// A law: what is kept of a stream tells what the stream says, how many of its packets are passed over, how many of its
+/// bytes are pending, and how many came.
 pub fn kept_streams_are_read()
     ensures reads { (t : Tail) (s : List ℕ) (c : Capture) → StandsFor t s c → Reads s c }
-    ensures rest { (t : Tail) (s : List ℕ) (c : Capture) → StandsFor t s c → rest_in t ≡ rest_of c }
+    ensures passed { (t : Tail) (s : List ℕ) (c : Capture) → StandsFor t s c → passed_in t ≡ passed_of c }
+    ensures waiting { (t : Tail) (s : List ℕ) (c : Capture) → StandsFor t s c → waiting_in t ≡ length (rest_of c) }
     ensures size { (t : Tail) (s : List ℕ) (c : Capture) → StandsFor t s c → size_of t ≡ length s }
 {}

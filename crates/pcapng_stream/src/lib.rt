@@ -13,7 +13,9 @@ mod laws;
 mod options;
 mod order;
 mod packet;
+mod passed;
 mod section;
+mod skipped;
 mod stream;
 
 pub use errors::CaptureError;
@@ -21,4 +23,5 @@ pub use laws::{
     captures_are_one, faults_are_one, kept_streams_are_read, new_stands, nothing_reads,
     old_packets_stay, refused_or_read, streams_are_judged, tails_are_one,
 };
+pub use passed::Passed;
 pub use stream::CaptureStream;

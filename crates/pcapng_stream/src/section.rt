@@ -1,5 +1,11 @@
 // What a section says of the blocks that follow.
+ghost use Rattle.std.specs.Prelude.{◌≡◌, IfOk, IfErr};
+ghost use Rattle.pcapng_stream.specs.declared.errors.CaptureError.TheVariants.{Memory};
+ghost use Rattle.pcapng_stream.specs.Inside.{section_of};
+
+use crate::CaptureError;
 use crate::order::Order;
+use std::alloc::Global;
 
 /// An interface on which packets were captured.
 #[derive(Clone, Copy, Debug, PartialEq, Eq)]
@@ -19,4 +25,17 @@ pub struct OpenSection {
     pub order: Option<Order>,
     /// Its interfaces, by their numbers.
     pub interfaces: Vec<Interface>,
+}
+
+impl OpenSection {
+    /// The same section, in a list of its own.
+    pub(crate) fn copied(&self, alloc: Global) -> Result<OpenSection, CaptureError>
+        ensures ok { IfOk result (λ copy. section_of copy ≡ section_of self.now) }
+        ensures fault { IfErr result (λ e. e ≡ Memory) }
+    {
+        Ok(OpenSection {
+            order: self.order,
+            interfaces: Vec::from_slice(alloc, &self.interfaces)?,
+        })
+    }
 }

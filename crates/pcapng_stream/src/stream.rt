@@ -3,11 +3,12 @@ ghost use Rattle.std.specs.Prelude.{◌≡◌, ◌≢◌, ◌≤◌, ◌<◌, �
 ghost use Rattle.pcap_stream.specs.Feeding.{Adds, IsSame, seen_packets};
 ghost use Rattle.pcapng_stream.specs.declared.errors.CaptureError.TheVariants.{Memory};
 ghost use Rattle.pcapng_stream.specs.Capture.{Capture, IsPcapng, IsFault};
-ghost use Rattle.pcapng_stream.specs.Feeding.{ClassicTail, PcapngTail, StandsFor, IsNew, Grows, rest_in, size_of};
+ghost use Rattle.pcapng_stream.specs.Feeding.{ClassicTail, PcapngTail, StandsFor, IsNew, Grows, passed_in, size_of, waiting_blocks, waiting_in};
 ghost use Rattle.pcapng_stream.specs.Kept.{Begins, GoesOn, IsKept, IsRefused, kept_in};
 
 use crate::CaptureError;
 use crate::block_stream::BlockStream;
+use crate::passed::Passed;
 use pcap_stream::{FirstPackets, Packet, PcapStream, new_stands};
 use std::alloc::Global;
 use std::marker::Model;
@@ -32,7 +33,8 @@ enum Kind {
 ///
 /// Of pcapng (draft-ietf-opsawg-pcapng, PCAP Next Generation Capture File Format) section headers of major version 1,
 /// interface descriptions with the options if_tsresol and if_tsoffset, and enhanced packets are read. All other options are
-/// ignored, and all other blocks are skipped: simple packets have no time.
+/// ignored, and all other blocks are skipped: simple packets have no time. Those of them that Wireshark numbers as frames
+/// are counted.
 #[derive(Drop)]
 pub struct CaptureStream {
     alloc: Global,
@@ -64,12 +66,23 @@ impl CaptureStream {
 
     /// How many bytes came behind the last whole record or block, or of a header that is not whole.
     pub fn pending(&self) -> u32
-        ensures { result ≡ length (rest_in self.now) }
+        ensures { result ≡ waiting_in self.now }
     {
         match &self.kind {
             Kind::Unknown => 0,
             Kind::Classic(stream) => stream.pending(),
             Kind::Pcapng(stream) => stream.pending(),
+        }
+    }
+
+    /// How many packets were passed over, by cause. Of a classic capture none are.
+    pub fn passed(&self) -> Passed
+        ensures { result ≡ passed_in self.now }
+    {
+        match &self.kind {
+            Kind::Unknown => Passed::none(),
+            Kind::Classic(_) => Passed::none(),
+            Kind::Pcapng(stream) => stream.passed(),
         }
     }
 
@@ -135,7 +148,7 @@ fn feed_blocks(
     piece: &[u8],
     out: &mut FirstPackets,
 ) -> Result<Kind, CaptureError>
-    requires { stream.now.offset + length stream.now.rest + length piece.now ≤ 2 ^ 30 }
+    requires { stream.now.offset + waiting_blocks stream.now + length piece.now ≤ 2 ^ 30 }
     ensures ok { IfOk result (λ next. Adds (λ added. GoesOn (PcapngTail stream.now) piece.now [] added next) out.old out.new) }
     ensures fault { IfErr result (λ e. IsRefused (PcapngTail stream.now) piece.now e) }
     ensures unchanged { OnErr result (IsSame out.old out.new) }

@@ -1,13 +1,26 @@
--- The events of what is held under the labels.
+-- What is held under the labels: its events, and how many packets were passed over.
 use Rattle.std.specs.Prelude.{List, map}
+use Rattle.captures.specs.Capture.{Passed, none_passed}
+use Rattle.captures.specs.Feeding as feeding
 use Rattle.traces.specs.Seen.{Seen, seen_event, seen_events}
 use Rattle.traces.specs.declared.event_id.PlacedEvent.{PlacedEvent}
 use Rattle.traces.specs.declared.accepted.Accepted.{Accepted}
+use Rattle.traces.specs.declared.accepted.Stream.{Stream}
+use Rattle.traces.specs.declared.accepted.Stream.TheVariants as streams
 use Rattle.traces.specs.Traces.{Placed}
 
 -- the events that are held under each label
 abbrev pub seen_in : List Accepted → List (List Seen)
 seen_in accepted = map (λ (a : Accepted). seen_events a.events.items) accepted
+
+-- how many packets were passed over, by what is kept of the bytes under a label; of a log none are
+abbrev pub passed_by : Stream → Passed
+passed_by streams.Log = none_passed
+passed_by (streams.Capture tail) = feeding.passed_of tail
+
+-- the same under each label
+abbrev pub passed_in : List Accepted → List Passed
+passed_in accepted = map (λ (a : Accepted). passed_by a.stream) accepted
 
 -- a placed event, by what is seen of it
 abbrev pub placed_of : PlacedEvent → Placed

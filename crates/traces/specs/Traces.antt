@@ -7,7 +7,7 @@ use Rattle.decl.specs.declared.items.TraceKind.{TraceKind}
 use Rattle.decl.specs.declared.items.TraceKind.TheVariants.{Capture, Log}
 use Rattle.decl.specs.Declaration.{Declaration}
 use Rattle.captures.specs.Capture as captures
-use Rattle.captures.specs.Capture.{Reads, nothing}
+use Rattle.captures.specs.Capture.{Passed, Reads, none_passed, nothing}
 use Rattle.traces.specs.Seen.{Seen, seen_row, event_of_packet}
 use Rattle.traces.specs.declared.event_id.EventId.{EventId}
 
@@ -25,6 +25,11 @@ Traces = List Trace
 abbrev pub size_of : Trace → ℕ
 size_of (Captured bytes capture) = length bytes
 size_of (Logged rows size) = size
+
+-- how many packets under a label were passed over; of a log none are
+abbrev pub passed_of : Trace → Passed
+passed_of (Captured bytes capture) = capture.passed
+passed_of (Logged rows size) = none_passed
 
 -- nothing was accepted yet
 abbrev pub nothing_for : TraceKind → Trace

@@ -1,6 +1,9 @@
 // What was accepted under a label.
+ghost use Rattle.std.specs.Prelude.{◌≡◌};
+ghost use Rattle.traces.specs.Held.{passed_by};
+
 use crate::Event;
-use captures::CaptureStream;
+use captures::{CaptureStream, Passed};
 
 /// What is kept of the bytes that were accepted under a label, by its kind, so that the next piece can be read.
 #[derive(Drop)]
@@ -9,6 +12,22 @@ pub enum Stream {
     Log,
     /// How far a capture was read.
     Capture(CaptureStream),
+}
+
+impl Stream {
+    /// How many packets were passed over, by cause. Of a log none are.
+    pub fn passed(&self) -> Passed
+        ensures { result ≡ passed_by self.now }
+    {
+        match self {
+            Stream::Log => Passed {
+                simple: 0,
+                obsolete: 0,
+                other: 0,
+            },
+            Stream::Capture(stream) => stream.passed(),
+        }
+    }
 }
 
 /// What was accepted under a label: its events, in their order, and how many bytes they came in.
