@@ -22,7 +22,7 @@ use Rattle.traces.specs.Making.{StampsFit}
 use Rattle.queries.specs.Replies.{IsIntervalLine, IsOrderLine, IsProofText}
 use Rattle.replies.specs.declared.refusal.Refusal.TheVariants.{NoCommand, TooManyBytes, TooManyEvents}
 use Rattle.replies.specs.Commands.{Command, Add, Interval, Order, Time, Merge, Prove, Keep, Problem, Report, Asks}
-use Rattle.replies.specs.Reply.{State, Found, Unread, Bytes, Absent, Failed, count_by, IsAdded, pending_of, Refuses, AcceptReply, with_rows, bytes_of, KindReply, PieceReply, AddReply, OfTwo, fits_label, label_at, IsPlacedAt, SlotReply, KeepReply, Reply, AreKept}
+use Rattle.replies.specs.Reply.{State, Found, Unread, Bytes, Absent, Failed, count_by, IsAdded, aside_of, Refuses, AcceptReply, with_rows, bytes_of, KindReply, PieceReply, AddReply, OfTwo, fits_label, label_at, IsPlacedAt, SlotReply, KeepReply, Reply, AreKept}
 use Rattle.replies.specs.Sessions.{CommandReply, LineReply, start}
 use Rattle.replies.specs.OneReply.{IsState}
 use Rattle.replies.specs.Lawful.{AreBytes, FindsBytes, IsOfBytes, IsLawful}
@@ -111,7 +111,7 @@ module _ (d : Declaration) (s : State) (k : ℕ) (label : Label) (old new : Trac
 
   -- whether it is accepted or refused
   accept_lawful : (b : Bool) (text : List ℕ) (after : State) → nat_le (count_by d (slice_set s.traces k new)) (2 ^ 21) ≡ b →
-      MatchBool b ((after ≡ record s { traces = slice_set s.traces k new }) × IsAdded d s.traces (slice_set s.traces k new) (pending_of new) text) (Refuses s TooManyEvents text after) → IsLawful d after
+      MatchBool b ((after ≡ record s { traces = slice_set s.traces k new }) × IsAdded d s.traces (slice_set s.traces k new) (aside_of new) text) (Refuses s TooManyEvents text after) → IsLawful d after
   accept_lawful true text after is_few reply =
       let few : count_by d (slice_set s.traces k new) ≤ 2 ^ 21 = le_true (count_by d (slice_set s.traces k new)) (2 ^ 21) is_few in
       subst (IsLawful d) (sym reply.0) (record { state = then_state few; bytes = All-set IsOfBytes s.traces k new is.bytes lawful.bytes })

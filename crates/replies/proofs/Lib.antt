@@ -4,6 +4,7 @@ pub mod Placing
 pub mod KeptEvents
 pub mod Asking
 pub mod OneCommand
+mod LineLengths
 mod Numbers
 mod GreatestOrNone
 mod OneProof

@@ -15,25 +15,26 @@ use Rattle.event_log.specs.Log.{records_of, AreRows, IsLogFault}
 use Rattle.captures.specs.declared.errors.CaptureError.{CaptureError}
 use Rattle.captures.specs.declared.errors.CaptureError.TheVariants as refused
 use Rattle.captures.specs.Capture as captures
-use Rattle.captures.specs.Capture.{Reads, IsFault}
+use Rattle.captures.specs.Capture.{Passed, Reads, IsFault}
 use Rattle.decl.specs.declared.items.Label.{Label}
 use Rattle.decl.specs.declared.items.TraceKind.{TraceKind}
 use Rattle.decl.specs.declared.items.TraceKind.TheVariants.{Capture, Log}
 use Rattle.decl.specs.Declaration.{Declaration, IsDeclaration}
 use Rattle.traces.specs.Seen.{Seen}
 use Rattle.traces.specs.declared.event_id.EventId.{EventId}
-use Rattle.traces.specs.Traces.{Trace, Captured, Traces, seen_under, seen_by}
+use Rattle.traces.specs.Traces.{Trace, Captured, Traces, passed_of, seen_under, seen_by}
 use Rattle.traces.specs.Messages.{missing, problem_of, problem_of_seen}
 use Rattle.traces.proofs.Seen.{problem_lawful}
 use Rattle.queries.specs.Consistent.{IsConsistent}
 use Rattle.queries.specs.Replies.{HasReading, IsIntervalLine, IsOrderLine, IsProofText, IsTimeLine, Replies}
 use Rattle.replies.specs.Merged.{IsMergeText}
 use Rattle.report.specs.Reports.{report_text}
+use Rattle.replies.specs.declared.outcome.Aside.{Aside}
 use Rattle.replies.specs.declared.refusal.Refusal.{Refusal}
 use Rattle.replies.specs.declared.refusal.Refusal.TheVariants.{NoCommand, UnknownLabel, UnreadFile, TooManyBytes, TooManyEvents, UnknownEvent}
 use Rattle.replies.specs.Refusals.{log_refusal, capture_refusal}
 use Rattle.replies.specs.Commands.{Command, Add, Interval, Order, Time, Merge, Prove, Keep, Problem, Report, Asks}
-use Rattle.replies.specs.Reply.{State, Found, Unread, Bytes, Absent, Failed, Refuses, OfTwo, OfOne, IsTimeReply, IsReport, added_line, messages_by, count_by, IsAdded, pending_of, AcceptReply, with_rows, IsLogRefusal, LogReply, bytes_of, IsCaptureRefusal, CaptureReply, KindReply, fits_label, PieceReply, label_at, AddReply, IsPlacedAt, kept_line, SlotReply, KeepReply, Reply, AreKept}
+use Rattle.replies.specs.Reply.{State, Found, Unread, Bytes, Absent, Failed, Refuses, OfTwo, OfOne, IsTimeReply, IsReport, added_line, messages_by, count_by, IsAdded, aside_of, AcceptReply, with_rows, IsLogRefusal, LogReply, bytes_of, IsCaptureRefusal, CaptureReply, KindReply, fits_label, PieceReply, label_at, AddReply, IsPlacedAt, kept_line, SlotReply, KeepReply, Reply, AreKept}
 use Rattle.replies.specs.Sessions.{CommandReply, LineReply}
 use Rattle.replies.specs.OneReply.{IsState, AreContradictions, MayDiffer, LineMayDiffer}
 use Rattle.replies.proofs.Elements.{some_same}
@@ -79,16 +80,16 @@ one_state p true false some none = absurd (none some.0 some.1)
 one_state p false true none some = absurd (none some.0 some.1)
 one_state p false false none none' = refl
 
-one_added : (d : Declaration) (old new : Traces) (pending : ℕ) (a b : List ℕ) → IsAdded d old new pending a → IsAdded d old new pending b → a ≡ b
-one_added d old new pending a b x y =
-    let line : Bool → List ℕ = added_line (count_by d new - count_by d old) (missing (messages_by d new) (messages_by d old)) (missing (messages_by d old) (messages_by d new)) pending in
+one_added : (d : Declaration) (old new : Traces) (aside : Aside) (a b : List ℕ) → IsAdded d old new aside a → IsAdded d old new aside b → a ≡ b
+one_added d old new aside a b x y =
+    let line : Bool → List ℕ = added_line (count_by d new - count_by d old) (missing (messages_by d new) (messages_by d old)) (missing (messages_by d old) (messages_by d new)) aside in
     x.2 ∙ ap line (one_state (problem_of d new) x.0 y.0 x.1 y.1) ∙ sym y.2
 
 one_acceptance : (Differ : Differences) (d : Declaration) (s : State) (k : ℕ) (trace : Trace) → AreOne Differ (AcceptReply d s k trace)
 one_acceptance Differ d s k trace =
     let traces = slice_set s.traces k trace in
-    by_test Differ (nat_le (count_by d traces) (2 ^ 21)) (λ text s'. (s' ≡ record s { traces = traces }) × IsAdded d s.traces traces (pending_of trace) text) (Refuses s TooManyEvents)
-    (λ a b after other x y. (inl (one_added d s.traces traces (pending_of trace) a b x.1 y.1), x.0 ∙ sym y.0)) (one_refusal Differ s TooManyEvents)
+    by_test Differ (nat_le (count_by d traces) (2 ^ 21)) (λ text s'. (s' ≡ record s { traces = traces }) × IsAdded d s.traces traces (aside_of trace) text) (Refuses s TooManyEvents)
+    (λ a b after other x y. (inl (one_added d s.traces traces (aside_of trace) a b x.1 y.1), x.0 ∙ sym y.0)) (one_refusal Differ s TooManyEvents)
 
 -- ---- pieces of logs
 log_not_memory : (e : LogError) (r : Refusal) → log_refusal e ≡ Some r → e ≢ faults.Memory
@@ -155,8 +156,8 @@ one_of_one p Differ event Says lawful one a b (inl (i, at, x)) (inr (none, y)) =
 one_of_one p Differ event Says lawful one a b (inr (none, x)) (inl (i, at, y)) = absurd (none i at)
 one_of_one p Differ event Says lawful one a b (inr (none, x)) (inr (none', y)) = inl (x ∙ sym y)
 
-one_report : (d : Declaration) (seen : List (List Seen)) (a b : List ℕ) → IsReport d seen a → IsReport d seen b → a ≡ b
-one_report d seen a b (x, is_x, is) (y, is_y, is') = is ∙ ap (λ (consistent : Bool). report_text d seen consistent) (one_state (problem_of_seen d seen) x y is_x is_y) ∙ sym is'
+one_report : (d : Declaration) (seen : List (List Seen)) (passed : List Passed) (a b : List ℕ) → IsReport d seen passed a → IsReport d seen passed b → a ≡ b
+one_report d seen passed a b (x, is_x, is) (y, is_y, is') = is ∙ ap (λ (consistent : Bool). report_text d seen passed consistent) (one_state (problem_of_seen d seen) x y is_x is_y) ∙ sym is'
 
 -- ---- events that are kept
 one_slot : (seen : List (List Seen)) (kept : List EventId) (event : EventId) → AreKept seen kept → (a b : List ℕ) (after other : List EventId) → SlotReply kept event a after →
@@ -290,7 +291,7 @@ module _ (below : Below) where
       let one = one_keeping (problem_of d s.traces) (seen_by d s.traces) s.kept event lawful kept a b after.kept other.kept x.2 y.2 in
       (inl one.0, one_state_of after other (x.1 ∙ sym y.1) one.1)
   one_reply d s Problem found lawful kept = λ a b after other x y. (inl (x.2 ∙ sym y.2), x.1 ∙ sym y.1)
-  one_reply d s Report found lawful kept = λ a b after other x y. (inl (one_report d (seen_by d s.traces) a b x.2 y.2), x.1 ∙ sym y.1)
+  one_reply d s Report found lawful kept = λ a b after other x y. (inl (one_report d (seen_by d s.traces) (map passed_of s.traces) a b x.2 y.2), x.1 ∙ sym y.1)
 
   one_of_command : (d : Declaration) (files : Content) (s : State) (line : List ℕ) (c : Option Command) (found : Found) → IsProblem (problem_of d s.traces) → AreKept (seen_by d s.traces) s.kept →
       Asks line c → AreOne (LineMayDiffer (problem_of d s.traces) line) (CommandReply d files s c found)

@@ -7,7 +7,7 @@ use Rattle.replies.specs.Reply.{added_line, kept_line}
 
 -- the line that tells it
 abbrev pub outcome_line : Outcome → List ℕ
-outcome_line (Added a) = added_line a.events a.messages a.withdrawn a.pending a.consistent
+outcome_line (Added a) = added_line a.events a.messages a.withdrawn a.aside a.consistent
 outcome_line (Kept slot) = kept_line slot
 outcome_line (Refused r) = refusal_line r
 

@@ -1,5 +1,5 @@
 -- What a session may reply to a command, and what it then has.
-use Rattle.std.specs.Prelude.{◌≡◌, ℕ, ◌+◌, ◌-◌, ◌^◌, ◌<◌, ◌≤◌, ◌⊎◌, List, [], ◌∷◌, ◌++◌, length, map, slice_get, slice_set, Option, Some, None, Bool, true, false, nat_le, ◌&&◌, codes, MatchBool, position}
+use Rattle.std.specs.Prelude.{◌≡◌, ℕ, zero, suc, ◌+◌, ◌-◌, ◌^◌, ◌<◌, ◌≤◌, ◌⊎◌, List, [], ◌∷◌, ◌++◌, length, map, slice_get, slice_set, Option, Some, None, Bool, true, false, nat_le, ◌&&◌, codes, MatchBool, position}
 use Rattle.std.specs.Str.{bytes_eq}
 use Rattle.atto.specs.Decimal.{decimal_of}
 use Rattle.line_format.specs.Words.{line_of}
@@ -11,7 +11,7 @@ use Rattle.event_log.specs.declared.row.Row.{Row}
 use Rattle.event_log.specs.Log.{records_of, AreRows, IsLogFault}
 use Rattle.captures.specs.declared.errors.CaptureError.{CaptureError}
 use Rattle.captures.specs.Capture as captures
-use Rattle.captures.specs.Capture.{Reads, IsFault}
+use Rattle.captures.specs.Capture.{Passed, Reads, IsFault, passed_count}
 use Rattle.decl.specs.declared.items.Label.{Label}
 use Rattle.decl.specs.declared.items.TraceKind.{TraceKind}
 use Rattle.decl.specs.declared.items.TraceKind.TheVariants.{Capture, Log}
@@ -19,12 +19,13 @@ use Rattle.decl.specs.Declaration.{Declaration}
 use Rattle.traces.specs.Seen.{Seen}
 use Rattle.traces.specs.declared.event_id.EventId.{EventId}
 use Rattle.traces.specs.declared.event_id.Couple.{Couple}
-use Rattle.traces.specs.Traces.{Trace, Captured, Logged, Traces, Placed, seen_by, size_of, events_of, event_count}
+use Rattle.traces.specs.Traces.{Trace, Captured, Logged, Traces, Placed, passed_of, seen_by, size_of, events_of, event_count}
 use Rattle.traces.specs.Messages.{messages_of, missing, problem_of, problem_of_seen}
 use Rattle.queries.specs.Consistent.{IsConsistent}
 use Rattle.queries.specs.Replies.{HasReading, IsIntervalLine, IsOrderLine, IsProofText, IsTimeLine, Replies}
 use Rattle.replies.specs.Merged.{IsMergeText}
 use Rattle.report.specs.Reports.{report_text}
+use Rattle.replies.specs.declared.outcome.Aside.{Aside}
 use Rattle.replies.specs.declared.refusal.Refusal.{Refusal}
 use Rattle.replies.specs.declared.refusal.Refusal.TheVariants.{UnknownLabel, UnreadFile, TooManyBytes, TooManyEvents, UnknownEvent, NoSourceTime, EightAreKept}
 use Rattle.replies.specs.Refusals.{refusal_line, log_refusal, capture_refusal}
@@ -68,9 +69,10 @@ IsTimeReply p None event text = text ≡ refusal_line NoSourceTime
 IsTimeReply p (Some clock) event text = (HasReading p clock × Replies p (IsTimeLine p clock event) text)
     ⊎ ((HasReading p clock → ⊥) × (text ≡ refusal_line NoSourceTime))
 
--- the report on the events of all labels, by whether their problem has an execution
-abbrev pub IsReport : Declaration → List (List Seen) → List ℕ → Type 0
-IsReport d seen text = (b : Bool) × IsConsistent (problem_of_seen d seen) b × (text ≡ report_text d seen b)
+-- the report on the events of all labels and on the packets that were passed over under each, by whether the problem of the events
+-- has an execution
+abbrev pub IsReport : Declaration → List (List Seen) → List Passed → List ℕ → Type 0
+IsReport d seen passed text = (b : Bool) × IsConsistent (problem_of_seen d seen) b × (text ≡ report_text d seen passed b)
 
 -- ---- additions
 -- whether there is an execution, as a word
@@ -78,11 +80,17 @@ abbrev pub state_word : Bool → List ℕ
 state_word true = codes "consistent"
 state_word false = codes "inconsistent"
 
--- the line of an addition: new events, new messages, messages that are none any more, bytes that wait
-abbrev pub added_line : ℕ → ℕ → ℕ → ℕ → Bool → List ℕ
-added_line events messages withdrawn pending consistent =
+-- how many packets were passed over, in words; where none were, there are none
+abbrev pub passed_words : ℕ → List (List ℕ)
+passed_words zero = []
+passed_words (suc n) = codes "passed" ∷ decimal_of (suc n) ∷ []
+
+-- the line of an addition: new events, new messages, messages that are none any more, bytes that wait, and packets that were
+-- passed over
+abbrev pub added_line : ℕ → ℕ → ℕ → Aside → Bool → List ℕ
+added_line events messages withdrawn aside consistent =
     line_of (codes "added" ∷ codes "events" ∷ decimal_of events ∷ codes "messages" ∷ decimal_of messages ∷ codes "withdrawn" ∷ decimal_of withdrawn
-    ∷ codes "pending" ∷ decimal_of pending ∷ state_word consistent ∷ [])
+    ∷ codes "pending" ∷ decimal_of aside.pending ∷ (passed_words aside.passed ++ state_word consistent ∷ []))
 
 -- the messages of traces
 abbrev pub messages_by : Declaration → Traces → List Couple
@@ -92,23 +100,27 @@ messages_by d traces = messages_of (events_of (seen_by d traces))
 abbrev pub count_by : Declaration → Traces → ℕ
 count_by d traces = event_count (seen_by d traces)
 
--- the line of an addition by the traces before and after, where so many bytes wait
-abbrev pub IsAdded : Declaration → Traces → Traces → ℕ → List ℕ → Type 0
-IsAdded d old new pending text =
+-- the line of an addition by the traces before and after, and by what under its label gives no events
+abbrev pub IsAdded : Declaration → Traces → Traces → Aside → List ℕ → Type 0
+IsAdded d old new aside text =
     (b : Bool) × IsConsistent (problem_of d new) b
-    × (text ≡ added_line (count_by d new - count_by d old) (missing (messages_by d new) (messages_by d old)) (missing (messages_by d old) (messages_by d new)) pending b)
+    × (text ≡ added_line (count_by d new - count_by d old) (missing (messages_by d new) (messages_by d old)) (missing (messages_by d old) (messages_by d new)) aside b)
 
 -- how many bytes under a label wait for the rest of their record or header; of a log none do
 abbrev pub pending_of : Trace → ℕ
 pending_of (Captured bytes capture) = length capture.rest
 pending_of (Logged rows size) = 0
 
+-- what under a label gives no events: the bytes that wait, and the packets that were passed over in all its pieces
+abbrev pub aside_of : Trace → Aside
+aside_of trace = record { pending = pending_of trace; passed = passed_count (passed_of trace) }
+
 -- what was accepted under the label at a place becomes this, unless there would be too many events
 abbrev pub AcceptReply : Declaration → State → ℕ → Trace → List ℕ → State → Type 0
 AcceptReply d s k trace text s' =
     let traces = slice_set s.traces k trace in
     MatchBool (nat_le (count_by d traces) (2 ^ 21))
-    ((s' ≡ record s { traces = traces }) × IsAdded d s.traces traces (pending_of trace) text)
+    ((s' ≡ record s { traces = traces }) × IsAdded d s.traces traces (aside_of trace) text)
     (Refuses s TooManyEvents text s')
 
 -- ---- pieces of logs
@@ -231,4 +243,4 @@ Reply d s (Prove first second) found text s' =
     (found ≡ Unread) × OfTwo p first second (IsProofText p) s text s'
 Reply d s (Keep event) found text s' = (found ≡ Unread) × (s'.traces ≡ s.traces) × KeepReply (problem_of d s.traces) (seen_by d s.traces) s.kept event text s'.kept
 Reply d s Problem found text s' = (found ≡ Unread) × (s' ≡ s) × (text ≡ problem_text (problem_of d s.traces))
-Reply d s Report found text s' = (found ≡ Unread) × (s' ≡ s) × IsReport d (seen_by d s.traces) text
+Reply d s Report found text s' = (found ≡ Unread) × (s' ≡ s) × IsReport d (seen_by d s.traces) (map passed_of s.traces) text

@@ -26,6 +26,6 @@ pub use laws::{
 };
 pub use merge::write_merge;
 pub use merge_laws::merges_are_one;
-pub use outcome::{Added, Outcome};
+pub use outcome::{Added, Aside, Outcome};
 pub use refusal::{Refusal, capture_refusal, log_refusal, write_refusal};
 pub use refused::{RefusedText, refused_text, too_long_text};

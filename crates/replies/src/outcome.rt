@@ -3,11 +3,20 @@ ghost use Rattle.std.specs.Prelude.{◌≡◌, ◌≤◌, ◌+◌, ◌∷◌, []
 ghost use Rattle.atto.specs.Decimal.{decimal_of};
 ghost use Rattle.line_format.specs.Words.{words};
 ghost use Rattle.ports.specs.Room.{HasRoom};
-ghost use Rattle.replies.specs.Reply.{added_line, kept_line, state_word};
+ghost use Rattle.replies.specs.Reply.{added_line, kept_line, passed_words, state_word};
 ghost use Rattle.replies.specs.Outcomes.{outcome_line};
 
 use crate::refusal::Refusal;
 use ports::fixed_line::{Line, first_word, push_decimal, push_word};
+
+/// What under a label gives no events.
+#[derive(Clone, Copy, Debug)]
+pub struct Aside {
+    /// How many bytes wait for more.
+    pub pending: u64,
+    /// How many packets were passed over, in all pieces so far.
+    pub passed: u64,
+}
 
 /// What an addition changed.
 #[derive(Clone, Copy, Debug)]
@@ -18,8 +27,8 @@ pub struct Added {
     pub messages: u64,
     /// How many messages are none any more.
     pub withdrawn: u64,
-    /// How many bytes under the label wait for more.
-    pub pending: u64,
+    /// What under the label gives no events.
+    pub aside: Aside,
     /// Whether some execution obeys all bounds.
     pub consistent: bool,
 }
@@ -51,12 +60,24 @@ impl Outcome {
 // Appends a word of at most 20 bytes and a decimal.
 fn push_count(line: &mut Line, word: &[u8], number: u64)
     requires short { length word.now ≤ 20 }
-    requires room { HasRoom line.old.items 98 }
+    requires room { HasRoom line.old.items 70 }
     ensures appended { (first : List ℕ) (ws : List (List ℕ)) → line.old.items ≡ words (first ∷ ws) → line.new.items ≡ words (first ∷ ws ++ word.now ∷ decimal_of number ∷ []) }
-    ensures grown { length line.new.items ≤ length line.old.items + 98 }
+    ensures grown { length line.new.items ≤ length line.old.items + 70 }
 {
     push_word(line, word);
     push_decimal(line, number);
+}
+
+// Appends how many packets were passed over, where any were.
+fn push_passed(line: &mut Line, passed: u64)
+    requires room { HasRoom line.old.items 70 }
+    ensures appended { (first : List ℕ) (ws : List (List ℕ)) → line.old.items ≡ words (first ∷ ws) → line.new.items ≡ words (first ∷ ws ++ passed_words passed) }
+    ensures grown { length line.new.items ≤ length line.old.items + 70 }
+{
+    match passed {
+        0 => {}
+        _ => push_count(line, b"passed", passed),
+    }
 }
 
 fn state_word(consistent: bool) -> &'static [u8]
@@ -72,13 +93,14 @@ fn state_word(consistent: bool) -> &'static [u8]
 
 // The line of what an addition changed.
 fn added_line(added: Added) -> Line
-    ensures { result.items ≡ added_line added.events added.messages added.withdrawn added.pending added.consistent }
+    ensures { result.items ≡ added_line added.events added.messages added.withdrawn added.aside added.consistent }
 {
     let mut line = first_word(b"added");
     push_count(&mut line, b"events", added.events);
     push_count(&mut line, b"messages", added.messages);
     push_count(&mut line, b"withdrawn", added.withdrawn);
-    push_count(&mut line, b"pending", added.pending);
+    push_count(&mut line, b"pending", added.aside.pending);
+    push_passed(&mut line, added.aside.passed);
     push_word(&mut line, state_word(added.consistent));
     line.push(b'\n');
     line

@@ -4,6 +4,7 @@ use Rattle.std.specs.Prelude.{filter, sum_by}
 use Rattle.std.proofs.lemmas.Bool.{cases_Bool, false≢true}
 use Rattle.std.proofs.lemmas.List.{length-map}
 use Rattle.std.proofs.lemmas.List.Sums.{sum_by-cons}
+use Rattle.captures.specs.Capture.{Passed}
 use Rattle.decl.specs.Declaration.{Declaration}
 use Rattle.traces.specs.declared.event.NoKey.{NoKey}
 use Rattle.traces.specs.declared.event.NoKey.TheVariants as without
@@ -161,8 +162,8 @@ listed_in d ends =
     ∙ ap (λ (t : Tallies). t.ambiguous) (sums_are (items_in ends))
 
 -- the counts of each report make up its events
-pub added_up : (d : Declaration) (seen : List (List Seen)) (consistent : Bool) → AddUp (report_of d seen consistent)
-added_up d seen consistent =
+pub added_up : (d : Declaration) (seen : List (List Seen)) (passed : List Passed) (consistent : Bool) → AddUp (report_of d seen passed consistent)
+added_up d seen passed consistent =
     let events : List Placed = events_of seen in
     let ends : List End = ends_of events in
     omega (arith, keyed_or_not events, told ends, messages_many events, listed_in d ends)

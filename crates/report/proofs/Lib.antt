@@ -13,3 +13,4 @@ mod Whole
 mod Adding
 mod WorkedViews
 mod Joined
+mod PassedLabels

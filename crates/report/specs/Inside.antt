@@ -1,5 +1,6 @@
 -- What the parts of a report promise each other.
-use Rattle.std.specs.Prelude.{ℕ, ◌<◌, List, length, map, count_by, All}
+use Rattle.std.specs.Prelude.{ℕ, ◌+◌, ◌*◌, ◌^◌, ◌<◌, ◌≤◌, List, length, map, count_by, All}
+use Rattle.captures.specs.Capture.{Passed}
 use Rattle.decl.specs.Declaration.{Declaration}
 use Rattle.traces.specs.declared.event.NoKey.{NoKey}
 use Rattle.traces.specs.Seen.{Seen, key_of}
@@ -7,6 +8,7 @@ use Rattle.traces.specs.declared.event_id.EventId.{EventId}
 use Rattle.roster.specs.Roster.{RosterLists, id_of}
 use Rattle.msg_match.specs.Ambiguous.{EndGroup}
 use Rattle.report.specs.declared.ambiguous.Ambiguous.{Ambiguous}
+use Rattle.report.specs.declared.view.PassedSums.{PassedSums}
 use Rattle.report.specs.Reports.{lacks_key}
 
 -- the names of all events, as they came
@@ -32,3 +34,13 @@ HasLabels d g = AreLabelled d g.sends × AreLabelled d g.receives
 -- how many events of a label have no key for this reason
 abbrev pub lacking : NoKey → List Seen → ℕ
 lacking reason seen = count_by (λ (s : Seen). lacks_key reason s.mark) seen
+
+-- these and those of one label more
+abbrev pub sums_with : PassedSums → Passed → PassedSums
+sums_with s p = record { simple = s.simple + p.simple; obsolete = s.obsolete + p.obsolete; other = s.other + p.other }
+
+-- there are no more by any cause than under so many labels, each with fewer than 2^32
+pub record AreOfLabels (labels : ℕ) (s : PassedSums) : Type 0 where
+  pub simple : s.simple ≤ labels * 2 ^ 32
+  pub obsolete : s.obsolete ≤ labels * 2 ^ 32
+  pub other : s.other ≤ labels * 2 ^ 32

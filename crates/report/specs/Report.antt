@@ -1,12 +1,13 @@
 -- What is reported, as data of JSON (RFC 8259), and its line. An object's keys stand in byte order. A key of a message may
 -- have a quotation mark or a backslash in it: how JSON escapes it is a matter of `compact_text`.
-use Rattle.std.specs.Prelude.{ℕ, Bool, List, [], ◌∷◌, ◌++◌, map, codes}
+use Rattle.std.specs.Prelude.{ℕ, Bool, cond, ◌==◌, ◌&&◌, List, [], ◌∷◌, ◌++◌, map, codes}
 use Rattle.std.specs.Str.{IsAscii}
-use Rattle.serde_json.specs.Data.{Data, boolean, number, unsigned, string, array, object, member, no_members}
+use Rattle.serde_json.specs.Data.{Data, Members, boolean, number, unsigned, string, array, object, member, no_members}
 use Rattle.serde_json.specs.View.{items_of}
 use Rattle.serde_json.specs.Written.{compact_text}
 use Rattle.report.specs.declared.view.NoKeys.{NoKeys}
 use Rattle.report.specs.declared.view.NamedGroup.{NamedGroup}
+use Rattle.report.specs.declared.view.PassedSums.{PassedSums}
 use Rattle.report.specs.declared.view.View.{View}
 
 -- an ambiguous key: its text, and the names of its events
@@ -22,6 +23,7 @@ pub record Reported : Type 0 where
   pub unmatched : ℕ
   pub consistent : Bool
   pub nokeys : NoKeys
+  pub passed : PassedSums
   pub groups : List ReportedKey
 
 -- a number
@@ -57,16 +59,39 @@ nokey_data n = object (
     member (codes "side") (count n.side)
     no_members))))))))
 
--- the whole report, its keys in the order of their bytes
-abbrev pub report_data : Reported → Data
-report_data v = object (
+-- how many packets were passed over, by cause
+abbrev pub passed_data : PassedSums → Data
+passed_data p = object (
+    member (codes "obsolete") (count p.obsolete) (
+    member (codes "other") (count p.other) (
+    member (codes "simple") (count p.simple)
+    no_members)))
+
+-- whether none were
+abbrev pub passes_none : PassedSums → Bool
+passes_none p = (p.obsolete == 0) && (p.other == 0) && (p.simple == 0)
+
+-- their member and more members; where none were passed over, these alone
+abbrev pub with_passed : PassedSums → Members → Members
+with_passed p more = cond (passes_none p) more (member (codes "passed") (passed_data p) more)
+
+-- the members that every report begins with, and more members
+abbrev pub first_members : Reported → Members → Members
+first_members v more =
     member (codes "ambiguous") (groups_data v.groups) (
     member (codes "consistent") (boolean v.consistent) (
     member (codes "events") (count v.events) (
     member (codes "messages") (count v.messages) (
-    member (codes "nokey") (nokey_data v.nokeys) (
-    member (codes "unmatched") (count v.unmatched)
-    no_members))))))
+    member (codes "nokey") (nokey_data v.nokeys)
+    more))))
+
+-- the member that every report ends with
+abbrev pub last_member : Reported → Members
+last_member v = member (codes "unmatched") (count v.unmatched) no_members
+
+-- the whole report, its keys in the order of their bytes
+abbrev pub report_data : Reported → Data
+report_data v = object (first_members v (with_passed v.passed (last_member v)))
 
 -- its text, without spaces, and a line feed
 abbrev pub report_line : Reported → List ℕ
@@ -85,6 +110,7 @@ reported v = record {
   unmatched = v.unmatched;
   consistent = v.consistent;
   nokeys = v.nokeys;
+  passed = v.passed;
   groups = map reported_key v.groups.items;
 }
 

@@ -1,5 +1,6 @@
--- What is reported of the events of all labels.
-use Rattle.std.specs.Prelude.{ℕ, List, length, map, count_by, Bool, true, false}
+-- What is reported of the events of all labels, and of the packets that were passed over.
+use Rattle.std.specs.Prelude.{ℕ, List, length, map, count_by, sum_by, Bool, true, false}
+use Rattle.captures.specs.Capture.{Passed}
 use Rattle.decl.specs.Declaration.{Declaration}
 use Rattle.traces.specs.declared.event.NoKey.{NoKey}
 use Rattle.traces.specs.declared.event.NoKey.TheVariants as without
@@ -9,6 +10,7 @@ use Rattle.traces.specs.Messages.{messages_of}
 use Rattle.msg_match.specs.Ends.{ends_of}
 use Rattle.msg_match.specs.Ambiguous.{EndGroup, ambiguous_ends, tallies_of}
 use Rattle.report.specs.declared.view.NoKeys.{NoKeys}
+use Rattle.report.specs.declared.view.PassedSums.{PassedSums}
 use Rattle.report.specs.Report.{Reported, ReportedKey, report_line}
 use Rattle.report.specs.KeyTexts.{key_text}
 
@@ -52,11 +54,20 @@ nokeys_of events = record {
   local = count_without events without.Local;
 }
 
+-- ---- packets that were passed over
+-- how many there are by cause, by how many there are under each label
+abbrev pub passed_sums : List Passed → PassedSums
+passed_sums labels = record {
+  simple = sum_by (λ (p : Passed). p.simple) labels;
+  obsolete = sum_by (λ (p : Passed). p.obsolete) labels;
+  other = sum_by (λ (p : Passed). p.other) labels;
+}
+
 -- ---- the report
--- what is reported of the events of all labels, by whether the problem has an execution; the ambiguous keys stand in the order
--- of their first events, and the events of each in theirs
-abbrev pub report_of : Declaration → List (List Seen) → Bool → Reported
-report_of d seen consistent =
+-- what is reported of the events of all labels and of the packets that were passed over under each, by whether the problem has an
+-- execution; the ambiguous keys stand in the order of their first events, and the events of each in theirs
+abbrev pub report_of : Declaration → List (List Seen) → List Passed → Bool → Reported
+report_of d seen passed consistent =
     let events = events_of seen in
     record {
       events = length events;
@@ -64,9 +75,10 @@ report_of d seen consistent =
       unmatched = (tallies_of (ends_of events)).unmatched;
       consistent = consistent;
       nokeys = nokeys_of events;
+      passed = passed_sums passed;
       groups = map (named_key d) (ambiguous_ends (ends_of events));
     }
 
 -- its line
-abbrev pub report_text : Declaration → List (List Seen) → Bool → List ℕ
-report_text d seen consistent = report_line (report_of d seen consistent)
+abbrev pub report_text : Declaration → List (List Seen) → List Passed → Bool → List ℕ
+report_text d seen passed consistent = report_line (report_of d seen passed consistent)

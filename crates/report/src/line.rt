@@ -15,6 +15,7 @@ use std::alloc::{AllocError, Global};
 /// | `consistent` | whether what is declared has an execution |
 /// | `events`, `messages` | how many there are |
 /// | `nokey` | how many events have no key, by reason: an object with the fields of `NoKeys` |
+/// | `passed` | how many packets were passed over, by cause: an object with the fields of `PassedSums`; where none were, there is no such key |
 /// | `unmatched` | how many events have a key and neither a partner nor an ambiguous key |
 ///
 /// A quotation mark and a backslash in a key are written with a backslash before them. The texts of keys must be ASCII.

@@ -1,8 +1,8 @@
-// What is reported of the events of all labels.
+// What is reported of the events of all labels, and of the packets that were passed over.
 ghost use Rattle.std.specs.Prelude.{◌≡◌, ◌≤◌, ◌^◌, All, length, map, IfOk};
 ghost use Rattle.decl.specs.Declaration.{IsDeclaration, declaration_of};
 ghost use Rattle.traces.specs.Traces.{event_count};
-ghost use Rattle.traces.specs.Held.{seen_in};
+ghost use Rattle.traces.specs.Held.{passed_in, seen_in};
 ghost use Rattle.roster.specs.Roster.{id_of};
 ghost use Rattle.msg_match.specs.Ends.{AreEndsBy};
 ghost use Rattle.report.specs.Report.{HasAsciiKey, reported};
@@ -12,15 +12,16 @@ use crate::View;
 use crate::ambiguous::keys_in_order;
 use crate::key_names::named_keys;
 use crate::nokey_counts::nokeys_of;
+use crate::passed_counts::passed_sums;
 use decl::Decl;
 use msg_match::Matcher;
 use roster::Roster;
 use std::alloc::{AllocError, Global};
 use traces::{Accepted, event_count};
 
-/// What is to be reported of the events of all labels, by whether their problem has an execution; an error where memory runs
-/// out. The matcher has the ends of messages among these events, by the roster's numbers and in whatever order they were
-/// added to it.
+/// What is to be reported of the events of all labels and of the packets that were passed over, by whether the problem of
+/// the events has an execution; an error where memory runs out. The matcher has the ends of messages among these events, by
+/// the roster's numbers and in whatever order they were added to it.
 ///
 /// The time goes by the events, and by n log n for the n events of ambiguous keys. Memory is taken for these keys, their
 /// texts and the names of their events alone.
@@ -36,7 +37,7 @@ pub fn view_of(
     requires labels { length accepted.now ≡ length decl.now.labels.items }
     requires few { event_count (seen_in accepted.now) ≤ 2 ^ 21 }
     requires ends { AreEndsBy (map id_of roster.now.came) matcher.now (seen_in accepted.now) }
-    ensures view { IfOk result (λ view. reported view ≡ report_of (declaration_of decl.now) (seen_in accepted.now) consistent) }
+    ensures view { IfOk result (λ view. reported view ≡ report_of (declaration_of decl.now) (seen_in accepted.now) (passed_in accepted.now) consistent) }
     ensures ascii { IfOk result (λ view. All HasAsciiKey view.groups.items) }
 {
     let keys = keys_in_order(alloc, roster, matcher)?;
@@ -48,6 +49,7 @@ pub fn view_of(
         unmatched: tallies.unmatched,
         consistent,
         nokeys: nokeys_of(accepted),
+        passed: passed_sums(accepted),
         groups,
     })
 }

@@ -1,11 +1,11 @@
 // The parts of a report as values of JSON.
-ghost use Rattle.std.specs.Prelude.{◌≡◌, All, IfOk, map};
+ghost use Rattle.std.specs.Prelude.{◌≡◌, All, IfOk, codes, map};
 ghost use Rattle.std.specs.Str.{IsAscii};
-ghost use Rattle.serde_json.specs.Data.{string};
+ghost use Rattle.serde_json.specs.Data.{member, object, string};
 ghost use Rattle.serde_json.specs.View.{view};
-ghost use Rattle.report.specs.Report.{HasAsciiKey, texts, group_data, groups_data, nokey_data, report_data, reported, reported_key};
+ghost use Rattle.report.specs.Report.{HasAsciiKey, first_members, group_data, groups_data, last_member, nokey_data, passed_data, passes_none, report_data, reported, reported_key, texts};
 
-use crate::{NamedGroup, NoKeys, View};
+use crate::{NamedGroup, NoKeys, PassedSums, View};
 use problem_model::Name;
 use serde_json::{Value, json};
 use std::alloc::{AllocError, Global};
@@ -78,10 +78,28 @@ fn nokey_value(alloc: Global, nokeys: &NoKeys) -> Result<Value, AllocError>
     })
 }
 
-// The whole report.
-pub(crate) fn report_value(alloc: Global, v: &View) -> Result<Value, AllocError>
+// Whether no packet was passed over.
+fn passes_none(passed: &PassedSums) -> bool
+    ensures { result ≡ passes_none passed.now }
+{
+    passed.obsolete == 0 && passed.other == 0 && passed.simple == 0
+}
+
+// The numbers of packets that were passed over.
+fn passed_value(alloc: Global, passed: &PassedSums) -> Result<Value, AllocError>
+    ensures { IfOk result (λ value. view value ≡ passed_data passed.now) }
+{
+    json!(in alloc; {
+        "obsolete": passed.obsolete,
+        "other": passed.other,
+        "simple": passed.simple,
+    })
+}
+
+// A report where no packet was passed over.
+fn report_on_all(alloc: Global, v: &View) -> Result<Value, AllocError>
     requires { All HasAsciiKey v.now.groups.items }
-    ensures { IfOk result (λ value. view value ≡ report_data (reported v.now)) }
+    ensures { IfOk result (λ value. view value ≡ object (first_members (reported v.now) (last_member (reported v.now)))) }
 {
     let ambiguous = groups_value(alloc, &v.groups)?;
     let nokey = nokey_value(alloc, &v.nokeys)?;
@@ -93,4 +111,35 @@ pub(crate) fn report_value(alloc: Global, v: &View) -> Result<Value, AllocError>
         "nokey": nokey,
         "unmatched": v.unmatched,
     })
+}
+
+// A report that tells of packets that were passed over.
+fn report_with_passed(alloc: Global, told: &View) -> Result<Value, AllocError>
+    requires { All HasAsciiKey told.now.groups.items }
+    ensures { IfOk result (λ value. view value ≡ object (first_members (reported told.now) (member (codes "passed") (passed_data told.now.passed) (last_member (reported told.now))))) }
+{
+    let groups = groups_value(alloc, &told.groups)?;
+    let reasons = nokey_value(alloc, &told.nokeys)?;
+    let passed = passed_value(alloc, &told.passed)?;
+    json!(in alloc; {
+        "ambiguous": groups,
+        "consistent": told.consistent,
+        "events": told.events,
+        "messages": told.messages,
+        "nokey": reasons,
+        "passed": passed,
+        "unmatched": told.unmatched,
+    })
+}
+
+// The whole report.
+pub(crate) fn report_value(alloc: Global, v: &View) -> Result<Value, AllocError>
+    requires { All HasAsciiKey v.now.groups.items }
+    ensures { IfOk result (λ value. view value ≡ report_data (reported v.now)) }
+{
+    if passes_none(&v.passed) {
+        report_on_all(alloc, v)
+    } else {
+        report_with_passed(alloc, v)
+    }
 }

@@ -22,6 +22,17 @@ pub struct NoKeys {
     pub local: u32,
 }
 
+/// How many packets were passed over under all labels, by cause: the sums of `Passed` of `captures`.
+#[derive(Clone, Copy, Debug, Default, PartialEq, Eq)]
+pub struct PassedSums {
+    /// Packets that have no time.
+    pub simple: u64,
+    /// Packets in obsolete blocks.
+    pub obsolete: u64,
+    /// Other records that count as packets.
+    pub other: u64,
+}
+
 /// An ambiguous key, with the events that have it.
 #[derive(Debug, Drop)]
 pub struct NamedGroup {
@@ -46,6 +57,8 @@ pub struct View {
     pub consistent: bool,
     /// How many events have no key.
     pub nokeys: NoKeys,
+    /// How many packets were passed over.
+    pub passed: PassedSums,
     /// The ambiguous keys, in the order in which they are to be reported.
     pub groups: Vec<NamedGroup>,
 }

@@ -8,7 +8,9 @@ ghost use Rattle.report.specs.Report.{HasAsciiKey};
 use crate::fixtures::EMPTY_REPORT;
 use ports::MemSink;
 use problem_model::Name;
-use report::{MergeKey, NamedGroup, NoKeys, View, merge_order, report_line, write_merge_line};
+use report::{
+    MergeKey, NamedGroup, NoKeys, PassedSums, View, merge_order, report_line, write_merge_line,
+};
 use std::alloc::{AllocError, Global};
 use std::test::*;
 
@@ -27,6 +29,7 @@ struct Case {
     unmatched: u32,
     consistent: bool,
     nokeys: NoKeys,
+    passed: PassedSums,
     groups: &'static [Group],
     line: &'static str,
 }
@@ -42,12 +45,19 @@ const NO_EVENT: NoKeys = NoKeys {
     local: 0,
 };
 
+const NONE_PASSED: PassedSums = PassedSums {
+    simple: 0,
+    obsolete: 0,
+    other: 0,
+};
+
 const NOTHING: Case = Case {
     events: 0,
     messages: 0,
     unmatched: 0,
     consistent: true,
     nokeys: NO_EVENT,
+    passed: NONE_PASSED,
     groups: &[],
     line: EMPTY_REPORT,
 };
@@ -58,6 +68,7 @@ const SECOND_SEND: Case = Case {
     unmatched: 0,
     consistent: true,
     nokeys: NO_EVENT,
+    passed: NONE_PASSED,
     groups: &[Group {
         key: "log m1",
         sends: &["a#1", "a#3"],
@@ -83,6 +94,11 @@ const CAPTURE: Case = Case {
         side: 0,
         local: 0,
     },
+    passed: PassedSums {
+        simple: 0,
+        obsolete: 1,
+        other: 0,
+    },
     groups: &[Group {
         key: "udp 10.0.0.1:5000 10.0.0.2:6000 id 0 length 8 payload -",
         sends: &["ca#3", "ca#4"],
@@ -91,7 +107,7 @@ const CAPTURE: Case = Case {
     line: "{\"ambiguous\":[{\"key\":\"udp 10.0.0.1:5000 10.0.0.2:6000 id 0 length 8 payload -\",\"receives\":[\"cb#2\",\
     \"cb#3\"],\"sends\":[\"ca#3\",\"ca#4\"]}],\"consistent\":true,\"events\":11,\"messages\":2,\
     \"nokey\":{\"fragment\":1,\"header\":0,\"length\":0,\"link\":0,\"local\":0,\"other\":1,\"short\":0,\"side\":0},\
-    \"unmatched\":1}\n",
+    \"passed\":{\"obsolete\":1,\"other\":0,\"simple\":0},\"unmatched\":1}\n",
 };
 
 const ESCAPES: Case = Case {
@@ -109,6 +125,11 @@ const ESCAPES: Case = Case {
         side: 7000000,
         local: 4294967295,
     },
+    passed: PassedSums {
+        simple: 18446744073709551615,
+        obsolete: 4294967296,
+        other: 70,
+    },
     groups: &[Group {
         key: "log \"q\\/'~",
         sends: &["z.log_1-x#1"],
@@ -117,7 +138,8 @@ const ESCAPES: Case = Case {
     line: "{\"ambiguous\":[{\"key\":\"log \\\"q\\\\/'~\",\"receives\":[\"z.log_1-x#2\",\"z.log_1-x#1000000\"],\
     \"sends\":[\"z.log_1-x#1\"]}],\"consistent\":false,\"events\":4294967295,\"messages\":10,\
     \"nokey\":{\"fragment\":50000,\"header\":4000,\"length\":600000,\"link\":1,\"local\":4294967295,\"other\":20,\
-    \"short\":300,\"side\":7000000},\"unmatched\":200}\n",
+    \"short\":300,\"side\":7000000},\"passed\":{\"obsolete\":4294967296,\"other\":70,\
+    \"simple\":18446744073709551615},\"unmatched\":200}\n",
 };
 
 const GROUPS: Case = Case {
@@ -135,6 +157,7 @@ const GROUPS: Case = Case {
         side: 0,
         local: 4,
     },
+    passed: NONE_PASSED,
     groups: &[
         Group {
             key: "log b",
@@ -213,6 +236,7 @@ fn line_of(alloc: Global, case: &Case) -> Result<Vec<u8>, AllocError> {
         unmatched: case.unmatched,
         consistent: case.consistent,
         nokeys: case.nokeys,
+        passed: case.passed,
         groups: groups_of(alloc, case.groups)?,
     };
     report_line(alloc, &view)

@@ -1,10 +1,10 @@
-use Rattle.std.proofs.Common.{◌≡◌, List, All, map, ap, sym, subst, ◌∙◌}
+use Rattle.std.proofs.Common.{◌≡◌, ◌≤◌, ℕ, List, All, length, map, ap, sym, subst, ◌∙◌}
 use Rattle.std.proofs.lemmas.List.{length-map}
 use Rattle.decl.specs.Declaration.{declaration_of}
 use Rattle.traces.specs.Seen.{seen_events}
 use Rattle.traces.specs.declared.accepted.Accepted.{Accepted}
 use Rattle.traces.specs.Traces.{events_of}
-use Rattle.traces.specs.Held.{seen_in}
+use Rattle.traces.specs.Held.{passed_in, seen_in}
 use Rattle.msg_match.specs.declared.change.Tallies.{Tallies}
 use Rattle.report.specs.Report.{reported_key}
 use Rattle.msg_match.specs.Ends.{ends_of}
@@ -26,15 +26,21 @@ named_keys-requires-clause-labels c =
     let keys : map seen_ambiguous c.deref.result.now ≡ ambiguous_ends (ends_of (events_of seen)) = ap (map seen_ambiguous) c.deref.ensures.value ∙ c.in_ok-keys.ensures seen c.requires.ends in
     subst (λ (l : List EndGroup). All (HasLabels d) l) (sym keys) (keys_labelled d seen (length-map c.args.accepted.now (λ (a : Accepted). seen_events a.events.items) ∙ c.requires.labels))
 
+pub passed_sums-requires : goal.passed_sums-requires
+passed_sums-requires c =
+    let many : length c.args.accepted.now ≤ 65536 = subst (λ (n : ℕ). n ≤ 65536) (sym c.requires.labels) c.requires.declared.limits.label_limit in
+    many
+
 pub returns-clause-view : goal.returns-clause-view
 returns-clause-view c =
     let d = declaration_of c.args.decl.now in
     let seen = seen_in c.args.accepted.now in
     let keys : map seen_ambiguous c.deref.result.now ≡ ambiguous_ends (ends_of (events_of seen)) = ap (map seen_ambiguous) c.deref.ensures.value ∙ c.in_ok-keys.ensures seen c.requires.ends in
     let told : c.tallies-tallies.result ≡ tallies_of (ends_of (events_of seen)) = c.tallies-tallies.ensures ∙ counts_told (ids_in c.args.roster.now) c.args.matcher.now seen c.requires.ends in
-    made_is d seen c.args.consistent c.event_count.result c.tallies-tallies.result.messages c.tallies-tallies.result.unmatched c.nokeys_of.result (map reported_key c.in_ok-groups.groups.items)
+    made_is d seen (passed_in c.args.accepted.now) c.args.consistent c.event_count.result c.tallies-tallies.result.messages c.tallies-tallies.result.unmatched c.nokeys_of.result c.passed_sums.result (map reported_key c.in_ok-groups.groups.items)
     (counted seen c.event_count.result c.event_count.ensures c.requires.few)
     (ap (λ (t : Tallies). t.messages) told ∙ messages_many (events_of seen))
     (ap (λ (t : Tallies). t.unmatched) told)
     c.nokeys_of.ensures
+    c.passed_sums.ensures
     (c.in_ok-groups.ensures.named ∙ ap (map (named_key d)) keys)
