@@ -1,7 +1,6 @@
 -- An addition takes few steps: arcs go, and then others come.
 use Rattle.std.proofs.Common.{◌≡◌, ◌<◌, ◌≤◌, ◌+◌, ◌*◌, ℕ, zero, suc, Bool, true, false, List, [], ◌∷◌, length, map, get_or, Contains, refl, sym, ◌∙◌, ap, subst, arith, inl, inr}
 use Rattle.std.specs.Prelude.{ℤ, sum_by}
-use Rattle.std.proofs.Math.Nat.{mul-le-mul_right}
 use Rattle.std.proofs.lemmas.Bool.{cases_Bool}
 use Rattle.std.proofs.lemmas.List.{ext_get_or, get_or_append_left}
 use Rattle.std.proofs.lemmas.List.Elements.{All-contains, Contains-append_cases, Contains-append_left, Contains-append_right}
@@ -30,14 +29,21 @@ use Rattle.solver.specs.Current.{IsCurrent}
 use Rattle.solver.specs.Costs.{MarksAll, withdrawing_steps}
 use Rattle.solver.specs.Withdrawn.{arcs_numbered}
 use Rattle.roster.specs.Once.{IsOn}
-use Rattle.session_graph.specs.Steps.{IsSolved, IsBetween, AllStay, AreGone, IsWithdrawingPart, inserting_steps, TakesFewToAdd}
-use Rattle.session_graph.specs.Extensions.{Extends, TakesFewToPush}
+use Rattle.session_graph.specs.Steps.{IsSolved, IsBetween, AllStay, AreGone, IsWithdrawingPart, TakesFewToAdd}
+use Rattle.session_graph.specs.Extensions.{Extends, steps_of_stages, TakesFewToPush}
 use Rattle.session_graph.specs.Cuts.{CutsInFewSteps}
 use Rattle.session_graph.proofs.Flags.{stays_off, off_in}
 use Rattle.session_graph.proofs.ToldArcs.{mapped, map_has}
 use Rattle.session_graph.proofs.Later.{GoesOn, none_against, flags_more}
-use Rattle.session_graph.proofs.Extending.{nothing_more, extends_itself, goes_on, departing_more, reaching_more, solved_as}
+use Rattle.session_graph.proofs.Extending.{nothing_more, goes_on, departing_more, reaching_more, no_steps}
 use Rattle.session_graph.proofs.Bringing.{on_inside}
+
+-- ---- where there is an execution
+solved_as : (s : SolverLists) → IsCurrent s → s.earliest.is_solved ≡ true → IsSolved s
+solved_as s current is = elim current.answer [
+  | inl now ↦ record { graph = current.set_up.graph; now = now }
+  | inr held ↦ absurd (let e = held.unsolved in let z : ⊥ = cc in z)
+]
 
 -- ---- affected nodes, where more is removed
 pub affected_more : (arcs arcs' removed removed' : List bounds.Arc) (x : ℕ → ℤ) (k : ℕ) → ((a : bounds.Arc) → Contains arcs a → Contains arcs' a) → ((a : bounds.Arc) → Contains removed a → Contains removed' a)
@@ -131,15 +137,6 @@ module _ (before mid after : SolverLists) (first last : ℕ) (was : IsGraph befo
 
     same_nodes : mid.graph.nodes ≡ between.graph.nodes
     same_nodes = cut.nodes ∙ sym is.nodes
-
-    pub extends_between : Extends between mid
-    extends_between = record {
-      nodes = nothing_more between.graph.nodes mid.graph.nodes same_nodes;
-      arcs = nothing_more between.graph.arcs mid.graph.arcs same_arcs;
-      in_force = nothing_more between.graph.in_force mid.graph.in_force same_in_force;
-      slots = cut.slots ∙ sym is.slots;
-      source = cut.source ∙ sym is.source;
-    }
 
     extends_back : Extends mid between
     extends_back = record {
@@ -254,29 +251,28 @@ still_solved mid after solved now grows few = elim now.answer [
 
 -- an addition without events takes no step
 pub none_few : (events : ℕ) (before mid after : SolverLists) (first last : ℕ) → IsCurrent before → IsCurrent mid → mid ≡ before → Extends mid after → IsCurrent after → length after.graph.arcs ≤ length before.graph.arcs + 8 * events → events ≡ 0
-    → after.kept.source ≡ before.kept.source → TakesFewToAdd events before after first last → ((between : SolverLists) × IsBetween before after between) → before.earliest.is_solved ≡ true → last ≤ first
-none_few events before mid after first last was is_mid same grows now arcs none source few some solved =
-    let (between, is) = some in
+    → after.kept.source ≡ before.kept.source → TakesFewToAdd events before after first last → before.earliest.is_solved ≡ true → last ≤ first
+none_few events before mid after first last was is_mid same grows now arcs none source few solved =
     let solved_mid : IsSolved mid = solved_as mid is_mid (ap (λ (s : SolverLists). s.earliest.is_solved) same ∙ solved) in
     let as_many : length mid.graph.arcs ≡ length before.graph.arcs = ap (λ (s : SolverLists). length s.graph.arcs) same in
     let after_solved : after.earliest.is_solved ≡ true = still_solved mid after solved_mid now grows (omega (arith, arcs, none, as_many)) in
     let stay : AllStay before after = λ k on. (goes_on mid after grows is_mid.set_up.graph k (ap (λ (s : SolverLists). get_or s.graph.in_force k false) same ∙ on)).0 in
-    no_sum events (inserting_steps between after) first last none (few solved after_solved source between 0 is (inl (stay, refl)))
-  where
-    no_sum : (events steps first last : ℕ) → events ≡ 0 → last ≤ (first + 0 + 8 * events * steps) → last ≤ first
-    no_sum events steps first last none few =
-        let nothing : 8 * events * steps ≡ 0 = rw none (grind arith) in
-        omega (arith, few, nothing)
+    let adds = few solved after_solved source in
+    let as_before : length adds.start.graph.arcs ≡ length before.graph.arcs = ap (λ (arcs' : List Arc). length arcs') adds.is_between.arcs in
+    let nothing : steps_of_stages adds.start adds.stages ≡ 0 = no_steps adds.start after adds.stages adds.lead (omega (arith, arcs, none, as_before)) in
+    let most : last ≤ first + 0 + steps_of_stages adds.start adds.stages = adds.few adds.start 0 adds.is_between (inl (stay, refl)) in
+    omega (arith, nothing, most)
 
-pub added_few : (events : ℕ) (before mid after : SolverLists) (first then last : ℕ) → IsCurrent before → CutsInFewSteps before mid first then → IsCurrent mid → Extends mid after → TakesFewToPush mid after then last → IsCurrent after
+pub added_few : (events : ℕ) (before mid after : SolverLists) (first then last : ℕ) → IsCurrent before → CutsInFewSteps before mid first then → IsCurrent mid → Extends mid after → TakesFewToPush mid after then last
     → length after.graph.arcs ≤ length before.graph.arcs + 8 * events → TakesFewToAdd events before after first last
-added_few events before mid after first then last was cut is_mid grows few now arcs = λ solved_before solved_after source between part is is_part.
-    let cheap : then ≤ first + part = cut_few before mid after first then was.set_up.graph cut is_mid.set_up.graph grows between is part solved_before is_part in
-    let brings = few between after is.solved (extends_between before mid after first then was.set_up.graph cut is_mid.set_up.graph grows between is) (extends_itself after) (solved_as after now solved_after) in
-    sums events first then last part (length mid.graph.arcs) (length after.graph.arcs) (inserting_steps between after) (rw (ap length cut.arcs) arcs) cheap brings
-  where
-    sums : (events first then last part m a steps : ℕ) → a ≤ m + 8 * events → then ≤ first + part → last + m * steps ≤ then + a * steps → last ≤ (first + part + 8 * events * steps)
-    sums events first then last part m a steps few cheap brings =
-        let most : a * steps ≤ (m + 8 * events) * steps = mul-le-mul_right steps few in
-        let apart : (m + 8 * events) * steps ≡ m * steps + 8 * events * steps = grind arith in
-        omega (arith, most, apart, cheap, brings)
+added_few events before mid after first then last was cut is_mid grows brings arcs = λ solved_before solved_after source. record {
+  start = mid;
+  is_between = mid_between before mid after first then was.set_up.graph cut is_mid.set_up.graph grows (solved_as mid is_mid (cut.solved solved_before));
+  stages = brings.stages;
+  lead = brings.lead;
+  arcs = arcs;
+  few = λ between part is is_part.
+      let cheap : then ≤ first + part = cut_few before mid after first then was.set_up.graph cut is_mid.set_up.graph grows between is part solved_before is_part in
+      let few : last ≤ then + steps_of_stages mid brings.stages = brings.few in
+      omega (arith, cheap, few);
+}

@@ -1,5 +1,5 @@
 -- An addition for which room was made first.
-use Rattle.std.proofs.Common.{◌≡◌, ◌+◌, ◌-◌, ℕ, Bool, List, ◌++◌, length, get_or, replicate, max, All, refl, sym, ◌∙◌, ap, subst, arith, inl, inr}
+use Rattle.std.proofs.Common.{◌≡◌, ◌≤◌, ◌+◌, ◌-◌, ◌*◌, ℕ, Bool, List, ◌++◌, length, get_or, replicate, max, All, refl, sym, ◌∙◌, ap, subst, arith, inl, inr}
 use Rattle.std.specs.Prelude.{sum_by, Contains}
 use Rattle.std.proofs.lemmas.Bool.{cases_lt}
 use Rattle.std.proofs.lemmas.List.{get_or_append_left, get_or-append_right, get_or-replicate, get_or_past, length-replicate}
@@ -90,10 +90,8 @@ module _ (before start : SolverLists) (own : AreOwnRows before.kept before.pool)
       source = is.source ∙ ap (λ (k : KeptRows). k.source) (sym more.kept);
     }
 
-  pub roomier_between : (after : SolverLists) → ((between : SolverLists) × IsBetween start after between) → (between : SolverLists) × IsBetween before after between
-  roomier_between after (between, is) = (
-    between,
-    record {
+    between_back : IsBetween start after between → IsBetween before after between
+    between_back is = record {
       solved = is.solved;
       nodes = is.nodes ∙ ap (λ (g : GraphLists). g.nodes) more.answer.graph;
       arcs = is.arcs ∙ ap (λ (g : GraphLists). g.arcs) more.answer.graph;
@@ -101,10 +99,19 @@ module _ (before start : SolverLists) (own : AreOwnRows before.kept before.pool)
       all = subst (λ (g : GraphLists). (k : ℕ) → IsOn g k → IsOn after.graph k → IsOn between.graph k) more.answer.graph is.all;
       slots = is.slots ∙ ap (λ (k : KeptRows). k.slots) more.kept;
       source = is.source ∙ ap (λ (k : KeptRows). k.source) more.kept;
-    },
-  )
+    }
+
+  pub roomier_between : (after : SolverLists) → ((between : SolverLists) × IsBetween start after between) → (between : SolverLists) × IsBetween before after between
+  roomier_between after (between, is) = (between, between_back after between is)
 
   pub roomier_add : (events : ℕ) (after : SolverLists) (first last : ℕ) → TakesFewToAdd events start after first last → TakesFewToAdd events before after first last
-  roomier_add events after first last few = λ solved_before solved_after source between part is is_part.
-      few (ap (λ (v : Values). v.is_solved) more.answer.earliest ∙ solved_before) solved_after (source ∙ ap (λ (k : KeptRows). k.source) (sym more.kept)) between part
-      (between_kept after between is) (part_kept after between part is_part)
+  roomier_add events after first last few = λ solved_before solved_after source.
+      let adds = few (ap (λ (v : Values). v.is_solved) more.answer.earliest ∙ solved_before) solved_after (source ∙ ap (λ (k : KeptRows). k.source) (sym more.kept)) in
+      record {
+        start = adds.start;
+        is_between = between_back after adds.start adds.is_between;
+        stages = adds.stages;
+        lead = adds.lead;
+        arcs = subst (λ (g : GraphLists). length after.graph.arcs ≤ length g.arcs + 8 * events) more.answer.graph adds.arcs;
+        few = λ between part is is_part. adds.few between part (between_kept after between is) (part_kept after between part is_part);
+      }

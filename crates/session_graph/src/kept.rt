@@ -79,9 +79,9 @@ impl KeptGraph {
     /// numbers. An error comes only where memory runs out, and then the graph is used no more.
     ///
     /// Where an execution exists before and after, the steps are at most those of the withdrawing part, which is none where no
-    /// message goes, and for each event eight times the inserting part: that counts the nodes that are new or changed, in the
-    /// earliest execution and in each kept row, with the arcs at them. Without an event there is no step where an execution
-    /// existed before.
+    /// message goes, and for each arc that comes what it may take between the state before it and the one with it: two, two for
+    /// each kept row, and for each node that it changes, in the earliest execution or in a row, two and the arcs at it. At most
+    /// eight arcs come for each event. Without an event there is no step where an execution existed before.
     pub fn add<L: Ledger>(
         &mut self,
         label: u32,

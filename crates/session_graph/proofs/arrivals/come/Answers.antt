@@ -12,7 +12,7 @@ use Rattle.session_graph.specs.Plans.{numbers_of, messages_in}
 use Rattle.solver.specs.Solver.{SolverLists}
 use Rattle.session_graph.specs.Extensions.{TakesFewToPush}
 use Rattle.session_graph.specs.Arrivals.{HaveCome}
-use Rattle.session_graph.proofs.Extending.{extends_itself, extends_then, few_then, few_without}
+use Rattle.session_graph.proofs.Extending.{extends_itself, extends_then, few_then, few_none}
 use Rattle.session_graph.proofs.InARow.{come_none, come_event, come_next, own_from, room_less, StandsAt, stands_as}
 use Rattle.session_graph.proofs.Orders.{all_stand, drop_all, of_due}
 use Rattle.session_graph.proofs.arrivals.come.Goals as goal
@@ -35,7 +35,7 @@ loop-k-init g c =
         declaration = refl;
         extends = extends_itself s;
       };
-      steps = few_without s s c.args.steps.now c.args.steps.now refl refl;
+      steps = few_none s c.args.steps.now;
     }
 
 pub due_at-due-requires : goal.due_at-due-requires
@@ -154,7 +154,7 @@ loop-k-preserved g c = elim c.if-is_message_next.branch [
         declaration = w.in_ok-join.ensures.declaration ∙ c.loop-k.invariant.at.declaration;
         extends = extends_then c.args.solver.now c.loop-k.solver w.join.new.solver c.loop-k.invariant.at.extends w.in_ok-join.ensures.extends;
       } in
-      let few_steps = few_then c.args.solver.now c.loop-k.solver w.join.new.solver c.args.steps.now c.loop-k.steps w.join.new.steps c.loop-k.invariant.at.extends w.in_ok-join.ensures.extends c.loop-k.invariant.steps w.in_ok-join.ensures.steps in
+      let few_steps = few_then c.args.solver.now c.loop-k.solver w.join.new.solver c.args.steps.now c.loop-k.steps w.join.new.steps c.loop-k.invariant.steps w.in_ok-join.ensures.steps in
       record {
         at = stands_as c.args.turns.now c.args.dues.now c.args.roster.now w.join.new.roster c.if-is_message_next.roster c.args.solver.now w.join.new.solver c.if-is_message_next.solver (c.loop-k.k + 1) c.loop-k.next c.if-is_message_next.next (c.loop-k.left - 1) c.if-is_message_next.left
             w.roster-is w.solver-is w.next-is w.left-is stands;
@@ -185,7 +185,7 @@ loop-k-preserved g c = elim c.if-is_message_next.branch [
         declaration = w.in_ok-hint.ensures.declaration ∙ c.loop-k.invariant.at.declaration;
         extends = extends_then c.args.solver.now c.loop-k.solver w.enter.new.solver c.loop-k.invariant.at.extends w.in_ok-hint.ensures.extends;
       } in
-      let few_steps = few_then c.args.solver.now c.loop-k.solver w.enter.new.solver c.args.steps.now c.loop-k.steps w.enter.new.steps c.loop-k.invariant.at.extends w.in_ok-hint.ensures.extends c.loop-k.invariant.steps w.in_ok-hint.ensures.steps in
+      let few_steps = few_then c.args.solver.now c.loop-k.solver w.enter.new.solver c.args.steps.now c.loop-k.steps w.enter.new.steps c.loop-k.invariant.steps w.in_ok-hint.ensures.steps in
       record {
         at = stands_as c.args.turns.now c.args.dues.now c.args.roster.now w.enter.new.roster c.if-is_message_next.roster c.args.solver.now w.enter.new.solver c.if-is_message_next.solver (c.loop-k.k + 1) (c.loop-k.next + 1) c.if-is_message_next.next c.loop-k.left c.if-is_message_next.left
             w.roster-is w.solver-is w.next-is w.left-is stands;

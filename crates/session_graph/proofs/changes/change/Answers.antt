@@ -70,7 +70,7 @@ returns g c =
     let grows = c.in_ok-come.ensures.extends in
     let between = some_between c.args.solver.now c.withdraw.new.solver c.come.new.solver c.args.steps.now c.withdraw.new.steps kept.solution.current c.in_ok-withdraw.ensures.steps now.left grows in
     let steps = added_few (length c.args.events.now) c.args.solver.now c.withdraw.new.solver c.come.new.solver c.args.steps.now c.withdraw.new.steps c.come.new.steps kept.solution.current c.in_ok-withdraw.ensures.steps now.left
-    grows c.in_ok-come.ensures.steps now.current now.arcs in
+    grows c.in_ok-come.ensures.steps now.arcs in
     record {
       kept = λ before' kept' changes'. (all before' kept' changes').kept c.in_ok-turns.ensures.fits;
       declaration = now.gains.declaration;
@@ -85,6 +85,6 @@ returns g c =
           (let same = c.in_ok-withdraw.ensures.unchanged (none_gone before c.args.label c.args.events.now c.args.change.now _ _ c.decl.ensures.lawful c.requires.label kept changes c.requires.withdrawn
           _ (are_by_number c.args.roster.now c.deref.ensures.value c.in_ok-withdrawn.ensures c.deref-2.ensures.value) none) in
           none_few (length c.args.events.now) c.args.solver.now c.withdraw.new.solver c.come.new.solver c.args.steps.now c.come.new.steps kept.solution.current now.left same grows now.current now.arcs (ap (λ (es : List Event). length es) none)
-          (grows.source ∙ ap (λ (s : SolverLists). s.kept.source) same) steps (between solved) solved);
+          (grows.source ∙ ap (λ (s : SolverLists). s.kept.source) same) steps solved);
       steps = steps;
     }

@@ -70,7 +70,6 @@ returns-clause-extends g c =
 pub returns-clause-steps : goal.returns-clause-steps
 returns-clause-steps g c =
     few_then c.args.solver.now c.push_reading.new.solver c.push_entry.new.solver c.args.steps.now c.args.steps.now c.push_entry.new.steps
-    (extends_by_nodes c.args.solver.now c.push_event.new.solver c.push_reading.new.solver c.is_known-known.result (nodes.Event c.args.v) (nodes.Reading c.clock_of-place.result c.event-came.result.stamp) c.in_ok-push_event.ensures.graph (λ k. (c.in_ok-push_reading.ensures.known k).0) c.in_ok-push_reading.ensures.graph)
-    c.in_ok-push_entry.ensures.brings.extends
-    (few_by_nodes c.args.solver.now c.push_event.new.solver c.push_reading.new.solver c.is_known-known.result (nodes.Event c.args.v) (nodes.Reading c.clock_of-place.result c.event-came.result.stamp) c.in_ok-push_event.ensures.graph (λ k. (c.in_ok-push_reading.ensures.known k).0) c.in_ok-push_reading.ensures.graph c.args.steps.now)
+    (few_by_nodes c.args.solver.now c.push_event.new.solver c.push_reading.new.solver c.is_known-known.result (nodes.Event c.args.v) (nodes.Reading c.clock_of-place.result c.event-came.result.stamp) c.in_ok-push_event.ensures.graph (λ k. (c.in_ok-push_reading.ensures.known k).0) c.in_ok-push_reading.ensures.graph c.args.steps.now
+    c.in_ok-push_event.ensures.current c.in_ok-push_reading.ensures.current)
     c.in_ok-push_entry.ensures.steps

@@ -35,5 +35,5 @@ returns-clause-left g c = λ p entered event on is stamped clock follows beside 
 
 pub returns-clause-steps : goal.returns-clause-steps
 returns-clause-steps g c =
-    few_then c.args.solver.now c.push_links.new.solver c.push_stamp.new.solver c.args.steps.now c.push_links.new.steps c.push_stamp.new.steps c.in_ok-push_links.ensures.brings.extends
-    c.in_ok-push_stamp.ensures.brings.extends c.in_ok-push_links.ensures.steps c.in_ok-push_stamp.ensures.steps
+    few_then c.args.solver.now c.push_links.new.solver c.push_stamp.new.solver c.args.steps.now c.push_links.new.steps c.push_stamp.new.steps
+    c.in_ok-push_links.ensures.steps c.in_ok-push_stamp.ensures.steps

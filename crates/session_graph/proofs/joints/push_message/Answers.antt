@@ -50,4 +50,4 @@ returns-clause-left g c = λ p entered rest held is.
 pub returns-clause-steps : goal.returns-clause-steps
 returns-clause-steps g c =
     few_then c.args.solver.now c.push_most.new.solver c.push_bound.new.solver c.args.steps.now c.push_most.new.steps c.push_bound.new.steps
-    c.in_ok-push_most.ensures.brings.extends c.in_ok-push_bound.ensures.brings.extends c.in_ok-push_most.ensures.steps c.in_ok-push_bound.ensures.steps
+    c.in_ok-push_most.ensures.steps c.in_ok-push_bound.ensures.steps

@@ -4,6 +4,7 @@ use Rattle.roster.specs.Entering.{span_above}
 use Rattle.roster.specs.Growing.{IsGrowing}
 use Rattle.session_graph.specs.Pushes.{Brings}
 use Rattle.session_graph.proofs.Bringing.{brings_none}
+use Rattle.session_graph.proofs.Extending.{few_none}
 use Rattle.session_graph.proofs.links.push_above.Goals as goal
 
 pub returns-in-Some-clause-brings : goal.returns-in-Some-clause-brings
@@ -16,3 +17,6 @@ returns-in-Some-clause-left g c = on_ok c.push_span.result c.push_span.ensures.l
 
 pub returns-in-None-clause-brings : goal.returns-in-None-clause-brings
 returns-in-None-clause-brings g c = subst (λ (o : Option ℕ). Brings (span_above c.args.place c.args.stamp o) c.args.solver.now c.args.solver.now) (sym c.in-None.is) (brings_none c.args.solver.now c.requires.current)
+
+pub returns-in-None-clause-steps : goal.returns-in-None-clause-steps
+returns-in-None-clause-steps g c = few_none c.args.solver.now c.args.steps.now

@@ -5,6 +5,7 @@ use Rattle.problem_graph.proofs.OneMore.{on_ok}
 use Rattle.roster.specs.Entering.{follow_before}
 use Rattle.roster.specs.Growing.{IsGrowing}
 use Rattle.session_graph.proofs.HostClocks.{follow_to}
+use Rattle.session_graph.proofs.Extending.{few_none}
 use Rattle.session_graph.proofs.links.push_before.Goals as goal
 
 pub returns-in-Some-clause-left : goal.returns-in-Some-clause-left
@@ -12,3 +13,6 @@ returns-in-Some-clause-left g c = on_ok c.push_follow.result c.push_follow.ensur
     let after : ComesAfter p c.in-Some.last.0 c.args.place = subst (λ (o : Option (ℕ × ℕ)). IfSome o (λ e. ComesAfter p e.0 c.args.place)) c.in-Some.is beside in
     let f = follow_to c.args.roster.now.declaration p c.in-Some.last.0 c.args.place c.gap_of-gap.result follows after c.gap_of-gap.ensures in
     left p entered rest f.0 f.1 f.2 f.3 after (subst (λ (o : Option (ℕ × ℕ)). IsGrowing p entered (follow_before c.args.place c.args.stamp o ++ rest) c.args.solver.now.graph) c.in-Some.is is))
+
+pub returns-in-None-clause-steps : goal.returns-in-None-clause-steps
+returns-in-None-clause-steps g c = few_none c.args.solver.now c.args.steps.now

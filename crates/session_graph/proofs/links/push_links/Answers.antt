@@ -3,7 +3,7 @@ use Rattle.problem_model.specs.declared.items.Bound.{Bound}
 use Rattle.roster.specs.Entering.{span_below, span_above, follow_before, follow_after}
 use Rattle.roster.specs.Growing.{IsGrowing}
 use Rattle.session_graph.proofs.Bringing.{brings_then, four_behind}
-use Rattle.session_graph.proofs.Extending.{extends_then, few_then}
+use Rattle.session_graph.proofs.Extending.{few_then}
 use Rattle.session_graph.proofs.links.push_links.Goals as goal
 
 pub returns-clause-brings : goal.returns-clause-brings
@@ -18,12 +18,9 @@ returns-clause-brings g c =
 
 pub returns-clause-steps : goal.returns-clause-steps
 returns-clause-steps g c =
-    let last = extends_then c.push_above.new.solver c.push_before.new.solver c.push_after.new.solver c.in_ok-push_before.ensures.brings.extends c.in_ok-push_after.ensures.brings.extends in
-    few_then c.args.solver.now c.push_below.new.solver c.push_after.new.solver c.args.steps.now c.push_below.new.steps c.push_after.new.steps c.in_ok-push_below.ensures.brings.extends
-    (extends_then c.push_below.new.solver c.push_above.new.solver c.push_after.new.solver c.in_ok-push_above.ensures.brings.extends last) c.in_ok-push_below.ensures.steps
-    (few_then c.push_below.new.solver c.push_above.new.solver c.push_after.new.solver c.push_below.new.steps c.push_above.new.steps c.push_after.new.steps c.in_ok-push_above.ensures.brings.extends last c.in_ok-push_above.ensures.steps
-    (few_then c.push_above.new.solver c.push_before.new.solver c.push_after.new.solver c.push_above.new.steps c.push_before.new.steps c.push_after.new.steps c.in_ok-push_before.ensures.brings.extends c.in_ok-push_after.ensures.brings.extends
-    c.in_ok-push_before.ensures.steps c.in_ok-push_after.ensures.steps))
+    few_then c.args.solver.now c.push_below.new.solver c.push_after.new.solver c.args.steps.now c.push_below.new.steps c.push_after.new.steps c.in_ok-push_below.ensures.steps
+    (few_then c.push_below.new.solver c.push_above.new.solver c.push_after.new.solver c.push_below.new.steps c.push_above.new.steps c.push_after.new.steps c.in_ok-push_above.ensures.steps
+    (few_then c.push_above.new.solver c.push_before.new.solver c.push_after.new.solver c.push_above.new.steps c.push_before.new.steps c.push_after.new.steps c.in_ok-push_before.ensures.steps c.in_ok-push_after.ensures.steps))
 
 pub returns-clause-left : goal.returns-clause-left
 returns-clause-left g c = λ p entered rest clock follows beside left.

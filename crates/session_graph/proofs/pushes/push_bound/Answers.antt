@@ -5,7 +5,7 @@ use mir.Val.{SFits}
 use Rattle.sync_graph.specs.declared.arc.Arc.{Arc}
 use Rattle.sync_graph.specs.Graph.{with_arc}
 use Rattle.session_graph.proofs.Bringing.{brings_one, nodes_of_one, arcs_of_one, on_of_one, name_of_one, grows_one}
-use Rattle.session_graph.proofs.Extending.{extends_by_arc, few_by_arc}
+use Rattle.session_graph.proofs.Extending.{few_by_arc}
 use Rattle.session_graph.proofs.pushes.push_bound.Goals as goal
 
 pub push_arc-requires-clause-named : goal.push_arc-requires-clause-named
@@ -64,5 +64,4 @@ returns-clause-steps g c =
     let a : Arc = record { from = c.number_of-tail.result; to = c.number_of-head.result; weight = c.args.weight; name = c.args.name } in
     let fits : SFits w128 c.args.weight = c.ranges.weight in
     let is : c.push_arc.new.self.graph ≡ with_arc c.args.solver.now.graph a = c.in_ok-push_arc.ensures.graph ∙ simp to_z-of_z refl in
-    few_by_arc c.args.solver.now c.push_arc.new.self c.args.steps.now c.push_arc.new.steps c.requires.current c.in_ok-push_arc.ensures.current
-    (extends_by_arc c.args.solver.now c.push_arc.new.self a is c.in_ok-push_arc.ensures.slots) (arcs_of_one c.args.solver.now c.push_arc.new.self a is) c.in_ok-push_arc.ensures.steps
+    few_by_arc c.args.solver.now c.push_arc.new.self a c.args.steps.now c.push_arc.new.steps is c.in_ok-push_arc.ensures.slots c.in_ok-push_arc.ensures.current c.in_ok-push_arc.ensures.steps

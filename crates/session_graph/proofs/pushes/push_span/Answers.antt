@@ -26,4 +26,4 @@ returns-clause-left g c = λ p entered rest at is.
 pub returns-clause-steps : goal.returns-clause-steps
 returns-clause-steps g c =
     few_then c.args.solver.now c.push_bound.new.solver c.push_bound-2.new.solver c.args.steps.now c.push_bound.new.steps c.push_bound-2.new.steps
-    c.in_ok-push_bound.ensures.brings.extends c.in_ok-push_bound-2.ensures.brings.extends c.in_ok-push_bound.ensures.steps c.in_ok-push_bound-2.ensures.steps
+    c.in_ok-push_bound.ensures.steps c.in_ok-push_bound-2.ensures.steps
