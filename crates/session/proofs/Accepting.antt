@@ -23,10 +23,11 @@ use Rattle.msg_match.specs.declared.changes.Changed.{Changed}
 use Rattle.session_answers.specs.declared.answers.Answers.{Answers}
 use Rattle.msg_match.specs.Ends.{IsChange}
 use Rattle.queries.specs.Consistent.{IsConsistent}
+use Rattle.replies.specs.declared.outcome.Aside.{Aside}
 use Rattle.replies.specs.declared.refusal.Refusal.TheVariants.{TooManyEvents}
 use Rattle.replies.specs.Refusals.{refusal_line}
-use Rattle.replies.specs.Reply.{State, IsAdded, added_line, count_by, messages_by, pending_of, AreKept}
-use Rattle.session.specs.Stands.{Held, Under, IsHeld, IsKeptUp, StandsFor, held_of, under_of, problem_held, seen_held, solver_of, waiting, IsStreamOf}
+use Rattle.replies.specs.Reply.{State, IsAdded, added_line, count_by, messages_by, aside_of, AreKept}
+use Rattle.session.specs.Stands.{Held, Under, IsHeld, IsKeptUp, StandsFor, held_of, under_of, problem_held, seen_held, solver_of, aside_in, IsStreamOf}
 use Rattle.session_answers.specs.Ready.{KeepsSource, AreAnswersOf}
 use Rattle.session.specs.Inside.{AcceptAnswered, HasPlace, IsStreamWithin, IsAddedTo, IsGrownAt, IsGrownTrace, grown}
 use Rattle.session_answers.specs.Keeping.{Brings}
@@ -116,8 +117,8 @@ module _ (held : Held) (d : Declaration) (s : State) (k : ℕ) (label : Label) (
       }
 
   added_then : (held' : Held) (p : ProblemLists) (changed : Changed) (text : List ℕ) → k < length held.under → held'.declaration ≡ held.declaration → p ≡ problem_held held' →
-      IsChange (seen_held held.under) (seen_held held'.under) changed → IsGrownAt held.under held'.under k events size stream → IsAddedTo p changed (length events) (waiting stream) text →
-      IsAdded d s.traces (slice_set s.traces k new) (pending_of new) text
+      IsChange (seen_held held.under) (seen_held held'.under) changed → IsGrownAt held.under held'.under k events size stream → IsAddedTo p changed (length events) (aside_in stream) text →
+      IsAdded d s.traces (slice_set s.traces k new) (aside_of new) text
   added_then held' p changed text inside same p_is change grew says =
       let traces = slice_set s.traces k new in
       let after : seen_held held'.under ≡ seen_by d traces = ap seen_held grew.is ∙ sym (seen_then grew.at grew.was) in
@@ -131,10 +132,10 @@ module _ (held : Held) (d : Declaration) (s : State) (k : ℕ) (label : Label) (
         says.0,
         subst (λ (q : ProblemLists). IsConsistent q says.0) problem says.1,
         says.2
-            ∙ ap (λ (n : ℕ). added_line n changed.messages changed.withdrawn (waiting stream) says.0) (more_is inside)
-            ∙ ap (λ (n : ℕ). added_line (count_by d traces - count_by d s.traces) n changed.withdrawn (waiting stream) says.0) came
-            ∙ ap (λ (n : ℕ). added_line (count_by d traces - count_by d s.traces) (missing (messages_by d traces) (messages_by d s.traces)) n (waiting stream) says.0) went
-            ∙ ap (λ (n : ℕ). added_line (count_by d traces - count_by d s.traces) (missing (messages_by d traces) (messages_by d s.traces)) (missing (messages_by d s.traces) (messages_by d traces)) n says.0) g.waits,
+            ∙ ap (λ (n : ℕ). added_line n changed.messages changed.withdrawn (aside_in stream) says.0) (more_is inside)
+            ∙ ap (λ (n : ℕ). added_line (count_by d traces - count_by d s.traces) n changed.withdrawn (aside_in stream) says.0) came
+            ∙ ap (λ (n : ℕ). added_line (count_by d traces - count_by d s.traces) (missing (messages_by d traces) (messages_by d s.traces)) n (aside_in stream) says.0) went
+            ∙ ap (λ (a : Aside). added_line (count_by d traces - count_by d s.traces) (missing (messages_by d traces) (messages_by d s.traces)) (missing (messages_by d s.traces) (messages_by d traces)) a says.0) g.aside,
       )
 
 -- ---- the replies
@@ -146,7 +147,7 @@ accept_refused held k events size stream IsWritten inside room written d s label
 pub accept_added : (held held' : Held) (k : ℕ) (events : List Seen) (size : ℕ) (stream : Stream) (p : ProblemLists) (changed : Changed) (IsWritten : List ℕ → Type 0) → k < length held.under →
     nat_le (event_count (seen_held held.under) + length events) (2 ^ 21) ≡ true → held'.declaration ≡ held.declaration → held'.kept ≡ held.kept → p ≡ problem_held held' →
     IsChange (seen_held held.under) (seen_held held'.under) changed → IsGrownAt held.under held'.under k events size stream →
-    Told (IsAddedTo p changed (length events) (waiting stream)) IsWritten → AcceptAnswered held held' k events size stream IsWritten
+    Told (IsAddedTo p changed (length events) (aside_in stream)) IsWritten → AcceptAnswered held held' k events size stream IsWritten
 accept_added held held' k events size stream p changed IsWritten inside room same same_kept p_is change grew says d s label old new stands at_label at_old g = (
   says.0,
   record s { traces = slice_set s.traces k new },
@@ -157,10 +158,10 @@ accept_added held held' k events size stream p changed IsWritten inside room sam
 )
 
 -- the line of an addition, by what was found out for it
-pub added_says : (p : ProblemLists) (changed : Changed) (b : Bool) (events new gone pending : ℕ) (line : List ℕ) → IsConsistent p b → new ≡ changed.messages →
-    gone ≡ changed.withdrawn → line ≡ added_line events new gone pending b → IsAddedTo p changed events pending line
-added_says p changed b events new gone pending line consistent new_is gone_is line_is =
-    (b, consistent, line_is ∙ ap (λ (n : ℕ). added_line events n gone pending b) new_is ∙ ap (λ (n : ℕ). added_line events changed.messages n pending b) gone_is)
+pub added_says : (p : ProblemLists) (changed : Changed) (b : Bool) (events new gone : ℕ) (aside : Aside) (line : List ℕ) → IsConsistent p b → new ≡ changed.messages →
+    gone ≡ changed.withdrawn → line ≡ added_line events new gone aside b → IsAddedTo p changed events aside line
+added_says p changed b events new gone aside line consistent new_is gone_is line_is =
+    (b, consistent, line_is ∙ ap (λ (n : ℕ). added_line events n gone aside b) new_is ∙ ap (λ (n : ℕ). added_line events changed.messages n aside b) gone_is)
 
 -- ---- the same by what the code holds
 -- the roster of answers that stand ready has the events that are held
@@ -230,17 +231,17 @@ module _ (d : Declaration) (accepted new : List Accepted) (kept : List EventId) 
       let Q : Held → Type 0 = λ h. IsStreamWithin h.under k size stream in
       held_grown (held_of d accepted kept answers) (held_of d new kept after) k events size stream is (subst P (sym e.same) e.place) (subst Q (sym e.same) e.within) (room_few (map under_of accepted) (length events) has_room) refl e.grew
 
-  pub added_in : (p : ProblemLists) (changed : Changed) (n pending : ℕ) (after : Option SolverLists) (IsWritten : List ℕ → Type 0) → p ≡ problem_held (held_of d new kept after) →
+  pub added_in : (p : ProblemLists) (changed : Changed) (n : ℕ) (aside : Aside) (after : Option SolverLists) (IsWritten : List ℕ → Type 0) → p ≡ problem_held (held_of d new kept after) →
       IsChange (seen_in accepted) (seen_in new) changed →
-      n ≡ length events → pending ≡ waiting stream → Told (IsAddedTo p changed n pending) IsWritten → AcceptAnswered held (held_of d new kept after) k events size stream IsWritten
-  added_in p changed n pending after IsWritten p_is change n_is pending_is says =
+      n ≡ length events → aside ≡ aside_in stream → Told (IsAddedTo p changed n aside) IsWritten → AcceptAnswered held (held_of d new kept after) k events size stream IsWritten
+  added_in p changed n aside after IsWritten p_is change n_is aside_is says =
       let P : Held → Type 0 = λ h. AcceptAnswered h (held_of d new kept after) k events size stream IsWritten in
       let from_old : IsChange (seen_held (map under_of accepted)) (seen_in new) changed = subst (λ (x : List (List Seen)). IsChange x (seen_in new) changed) (sym (seen_accepted accepted)) change in
       let to_new : IsChange (seen_held (map under_of accepted)) (seen_held (map under_of new)) changed =
       subst (λ (x : List (List Seen)). IsChange (seen_held (map under_of accepted)) x changed) (sym (seen_accepted new)) from_old in
-      let said = subst (λ (m : ℕ). Told (IsAddedTo p changed m pending) IsWritten) n_is says in
-      let waits = subst (λ (m : ℕ). Told (IsAddedTo p changed (length events) m) IsWritten) pending_is said in
-      subst P e.same (accept_added (held_of d accepted kept answers) (held_of d new kept after) k events size stream p changed IsWritten inside_is has_room refl refl p_is to_new e.grew waits)
+      let said = subst (λ (m : ℕ). Told (IsAddedTo p changed m aside) IsWritten) n_is says in
+      let gives = subst (λ (a : Aside). Told (IsAddedTo p changed (length events) a) IsWritten) aside_is said in
+      subst P e.same (accept_added (held_of d accepted kept answers) (held_of d new kept after) k events size stream p changed IsWritten inside_is has_room refl refl p_is to_new e.grew gives)
 
 -- ---- the events that are kept
 module _ (accepted new : List Accepted) (k : ℕ) (events : List Seen) (size : ℕ) (stream : Stream) (grew : IsGrownAt (map under_of accepted) (map under_of new) k events size stream) where

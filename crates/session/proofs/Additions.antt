@@ -1,9 +1,9 @@
 -- What additions make of what stood ready, and their steps.
-use Rattle.std.proofs.Common.{◌≡◌, ◌⊎◌, inl, inr, ℕ, ◌+◌, ◌*◌, ◌≤◌, List, length, map, Option, Some, None, IfSome, Bool, true, false, refl, sym, ◌∙◌, ap, subst, arith}
+use Rattle.std.proofs.Common.{◌≡◌, ◌⊎◌, inl, inr, ℕ, ◌+◌, ◌*◌, ◌≤◌, List, [], length, map, Option, Some, None, IfSome, Bool, true, false, refl, sym, ◌∙◌, ap, subst, arith}
 use Rattle.decl.specs.Declaration.{Declaration}
 use Rattle.solver.specs.Solver.{SolverLists}
 use Rattle.solver.specs.Current.{IsCurrent, IsSolvedNow, IsContradicted}
-use Rattle.session_graph.specs.Steps.{inserting_steps}
+use Rattle.session_graph.specs.Steps.{IsBetween}
 use Rattle.traces.specs.Seen.{Seen}
 use Rattle.traces.specs.declared.accepted.Accepted.{Accepted}
 use Rattle.traces.specs.declared.accepted.Stream.{Stream}
@@ -26,23 +26,33 @@ solved_now : (s : SolverLists) → IsSolvedNow s ⊎ IsContradicted s → s.earl
 solved_now s (inl is) solved = is
 solved_now s (inr is) solved = let no : true ≡ false = sym solved ∙ is.unsolved in absurd cc
 
+more_arcs : (n events : ℕ) → n ≤ n + 8 * events
+more_arcs n events = omega arith
+
+as_it_is : (s : SolverLists) → IsCurrent s → s.earliest.is_solved ≡ true → IsBetween s s s
+as_it_is s is solved = record {
+  solved = record { graph = is.set_up.graph; now = solved_now s is.answer solved };
+  nodes = refl;
+  arcs = refl;
+  in_force = λ k on. (on, on);
+  all = λ k on on'. on;
+  slots = refl;
+  source = refl;
+}
+
 stays : (events n : ℕ) (s : SolverLists) → IsCurrent s → IsAddition events s s n n
 stays events n s is = record {
   slots = refl;
   source = λ slot at. at;
-  between = λ solved. (
-    s,
-    record {
-      solved = record { graph = is.set_up.graph; now = solved_now s is.answer solved };
-      nodes = refl;
-      arcs = refl;
-      in_force = λ k on. (on, on);
-      all = λ k on on'. on;
-      slots = refl;
-      source = refl;
-    },
-  );
-  steps = λ solved solved' source between part is' w. at_most n part (8 * events * inserting_steps between s);
+  between = λ solved. (s, as_it_is s is solved);
+  steps = λ solved solved' source. record {
+    start = s;
+    is_between = as_it_is s is solved;
+    stages = [];
+    lead = refl;
+    arcs = more_arcs (length s.graph.arcs) events;
+    few = λ between part is' w. at_most n part 0;
+  };
   nothing = λ none solved. all_alike n;
 }
 

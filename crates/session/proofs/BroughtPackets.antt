@@ -20,7 +20,7 @@ use Rattle.traces.specs.Traces.{Trace, Captured, Logged, IsOfKind, seen_of}
 use Rattle.replies.specs.declared.refusal.Refusal.{Refusal}
 use Rattle.replies.specs.declared.refusal.Refusal.TheVariants.{TooManyBytes, TooManyEvents}
 use Rattle.replies.specs.Refusals.{refusal_line}
-use Rattle.replies.specs.Reply.{State, Found, Unread, Bytes, Absent, Failed, Refuses, added_line, count_by, pending_of, IsAdded, AcceptReply, KindReply, PieceReply, AddReply, fits_label}
+use Rattle.replies.specs.Reply.{State, Found, Unread, Bytes, Absent, Failed, Refuses, added_line, count_by, aside_of, IsAdded, AcceptReply, KindReply, PieceReply, AddReply, fits_label}
 use Rattle.session.specs.Stands.{Held, Under, StandsFor, IsStreamOf, seen_held}
 use Rattle.session.specs.Taken.{at_start, packets_from, packets_under, BringsPackets}
 use Rattle.session.specs.Taking.{IsAddedLine}
@@ -36,8 +36,8 @@ first_of (b ∷ more) = b
 -- no refusal says what was added
 pub never_both : {P : Type 0} (text : List ℕ) (r : Refusal) → text ≡ refusal_line r → IsAddedLine text → P
 unfolding first_of
-never_both text r refused (events, messages, withdrawn, pending, consistent, added) =
-    let lines : refusal_line r ≡ added_line events messages withdrawn pending consistent = sym refused ∙ added in
+never_both text r refused (events, messages, withdrawn, aside, consistent, added) =
+    let lines : refusal_line r ≡ added_line events messages withdrawn aside consistent = sym refused ∙ added in
     let first : ◌≡◌ {A = ℕ} 114 97 = ap first_of lines in
     absurd (omega (arith, first))
 
@@ -74,7 +74,7 @@ module _ (d : Declaration) (s s' : State) (k : ℕ) (text : List ℕ) (says : Is
       BringsPackets s.traces s'.traces packets
   accept_brings old new packets reply at more = by_room (nat_le (count_by d (slice_set s.traces k new)) (2 ^ 21)) reply
     where
-      by_room : (b : Bool) → MatchBool b ((s' ≡ record s { traces = slice_set s.traces k new }) × IsAdded d s.traces (slice_set s.traces k new) (pending_of new) text) (Refuses s TooManyEvents text s') →
+      by_room : (b : Bool) → MatchBool b ((s' ≡ record s { traces = slice_set s.traces k new }) × IsAdded d s.traces (slice_set s.traces k new) (aside_of new) text) (Refuses s TooManyEvents text s') →
           BringsPackets s.traces s'.traces packets
       by_room true (is, added) = record { place = k; before = old; after = new; was = at; is = ap (λ (x : State). x.traces) is; more = more }
       by_room false (refused, same) = never_both text TooManyEvents refused says

@@ -5,9 +5,10 @@ use Rattle.std.proofs.lemmas.Option.{slice_get-map, slice_get_within}
 use Rattle.event_log.specs.declared.row.Row.{Row}
 use Rattle.event_log.specs.Log.{records_of, AreRows}
 use Rattle.captures.specs.Capture as captures
+use Rattle.captures.specs.Capture.{Passed, passed_count}
 use Rattle.captures.specs.Feeding as feeding
 use Rattle.captures.specs.Feeding.{Tail, Grows}
-use Rattle.captures.proofs.Standing.{stands_reads, stands_rest}
+use Rattle.captures.proofs.Standing.{stands_passed, stands_reads, stands_waiting}
 use Rattle.decl.specs.declared.items.Label.{Label}
 use Rattle.decl.specs.declared.items.TraceKind.{TraceKind}
 use Rattle.decl.specs.declared.items.TraceKind.TheVariants.{Capture, Log}
@@ -16,6 +17,7 @@ use Rattle.traces.specs.Seen.{Seen, seen_row, event_of_packet}
 use Rattle.traces.specs.declared.accepted.Stream.{Stream}
 use Rattle.traces.specs.declared.accepted.Stream.TheVariants as streams
 use Rattle.traces.specs.Traces.{Trace, Captured, Logged, IsOfKind}
+use Rattle.replies.specs.declared.outcome.Aside.{Aside}
 use Rattle.replies.specs.declared.refusal.Refusal.{Refusal}
 use Rattle.replies.specs.Refusals.{refusal_line}
 use Rattle.replies.specs.Reply.{State, LogReply, CaptureReply, KindReply, IsLogRefusal, with_rows}
@@ -36,7 +38,7 @@ log_grown : (d : Declaration) (host : ℕ) (kind : TraceKind) (trace : Trace) (r
     IsGrownTrace d host kind trace (with_rows trace rows size) (map seen_row rows) size streams.Log
 log_grown d host kind (Captured bytes capture) rows size is is_log = absurd is_log
 log_grown d host Capture (Logged old n) rows size is is_log = absurd is
-log_grown d host Log (Logged old n) rows size is is_log = record { of_kind = tt; events = map-append seen_row old rows; size = refl; waits = refl; stream = tt }
+log_grown d host Log (Logged old n) rows size is is_log = record { of_kind = tt; events = map-append seen_row old rows; size = refl; aside = refl; stream = tt }
 
 log_accepted : (held held' : Held) (k : ℕ) (bytes : List ℕ) (rows : List Row) (events : List Seen) (next : Stream) (IsWritten : List ℕ → Type 0) → AreRows (records_of bytes) rows →
     events ≡ map seen_row rows → next ≡ streams.Log → AcceptAnswered held held' k events (length bytes) next IsWritten →
@@ -55,6 +57,13 @@ log_refused : (held : Held) (k : ℕ) (bytes : List ℕ) (r : Refusal) (IsWritte
 log_refused held k bytes r IsWritten why written d s trace stands at_trace of_kind = (refusal_line r, s, inr (r, why, (refl, refl)), written, stands)
 
 -- ---- a piece of a capture
+-- what gives no events, by the bytes that wait and the packets that were passed over
+abbrev aside_with : ℕ → Passed → Aside
+aside_with n p = record { pending = n; passed = passed_count p }
+
+aside_is : {m n : ℕ} {p q : Passed} → m ≡ n → p ≡ q → aside_with m p ≡ aside_with n q
+aside_is {n = n} {p = p} waits passed = ap (λ (k : ℕ). aside_with k p) waits ∙ ap (λ (x : Passed). aside_with n x) passed
+
 module _ (d : Declaration) (host : ℕ) (bytes piece : List ℕ) (capture : captures.Capture) (tail : Tail) (packets : List captures.Seen) (grows : Grows tail (bytes ++ piece) capture [] packets) where
   more_events : map (event_of_packet d host) grows.then.packets ≡ map (event_of_packet d host) capture.packets ++ map (event_of_packet d host) packets
   more_events =
@@ -68,7 +77,7 @@ module _ (d : Declaration) (host : ℕ) (bytes piece : List ℕ) (capture : capt
     of_kind = stands_reads tail (bytes ++ piece) grows.then grows.stands;
     events = more_events;
     size = length-append bytes piece;
-    waits = ap length (stands_rest tail (bytes ++ piece) grows.then grows.stands);
+    aside = aside_is (stands_waiting tail (bytes ++ piece) grows.then grows.stands) (stands_passed tail (bytes ++ piece) grows.then grows.stands);
     stream = grows.stands;
   }
 

@@ -11,6 +11,7 @@ pub mod Accepting
 pub mod Standing
 pub mod Finding
 mod Opening
+mod PassedPackets
 mod Additions
 mod ToldMessages
 mod AddedThere

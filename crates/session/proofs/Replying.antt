@@ -1,15 +1,16 @@
 -- Replies of a session that stands for traces.
-use Rattle.std.proofs.Common.{◌≡◌, inl, inr, ℕ, ◌≤◌, List, [], ◌∷◌, length, Option, Some, None, IfSome, true, nat_le, refl, sym, ◌∙◌, ap, subst, arith}
+use Rattle.std.proofs.Common.{◌≡◌, inl, inr, ℕ, ◌≤◌, List, [], ◌∷◌, length, map, Option, Some, None, IfSome, true, nat_le, refl, sym, ◌∙◌, ap, subst, arith}
 use Rattle.problem_model.specs.Problem.{ProblemLists}
 use Rattle.problem_model.specs.ProblemText.{problem_text}
 use Rattle.ports.specs.Files.{Content, FilesTold, Keeps}
+use Rattle.captures.specs.Capture.{Passed}
 use Rattle.decl.specs.Declaration.{Declaration, IsDeclaration}
 use Rattle.traces.specs.Seen.{Seen}
 use Rattle.traces.specs.declared.accepted.Accepted.{Accepted}
 use Rattle.traces.specs.declared.event_id.EventId.{EventId}
 use Rattle.solver.specs.Solver.{SolverLists}
-use Rattle.traces.specs.Traces.{seen_by}
-use Rattle.traces.specs.Held.{seen_in}
+use Rattle.traces.specs.Traces.{passed_of, seen_by}
+use Rattle.traces.specs.Held.{passed_in, seen_in}
 use Rattle.traces.specs.Messages.{problem_of, problem_of_seen}
 use Rattle.queries.specs.Clocks.{KeepsTime}
 use Rattle.queries.specs.Replies.{IsIntervalLine, IsOrderLine, IsProofText, Replies}
@@ -24,6 +25,7 @@ use Rattle.session_answers.specs.Keeping.{IsReplyOfTwo}
 use Rattle.session.specs.Inside.{Answered, Asked, CommandAnswered}
 use Rattle.session.proofs.Telling.{Told}
 use Rattle.session.proofs.Holding.{seen_accepted}
+use Rattle.session.proofs.PassedPackets.{passed_same}
 
 -- ---- questions
 -- whatever answers stand ready, the session stands for the same
@@ -107,11 +109,15 @@ pub merge_answered : (d : Declaration) (accepted : List Accepted) (IsWritten : L
 merge_answered d accepted IsWritten says = of_all d accepted MergeSays IsWritten says
 
 -- what `report` says of them
-abbrev ReportSays : List ℕ → Declaration → List (List Seen) → Type 0
-ReportSays text d seen = IsReport d seen text
+abbrev ReportSays : List Passed → List ℕ → Declaration → List (List Seen) → Type 0
+ReportSays passed text d seen = IsReport d seen passed text
 
-pub report_answered : (d : Declaration) (accepted : List Accepted) (IsWritten : List ℕ → Type 0) → Told (IsReport d (seen_in accepted)) IsWritten → AskedOf d accepted Report IsWritten
-report_answered d accepted IsWritten says = of_all d accepted ReportSays IsWritten says
+pub report_answered : (d : Declaration) (accepted : List Accepted) (IsWritten : List ℕ → Type 0) → Told (IsReport d (seen_in accepted) (passed_in accepted)) IsWritten → AskedOf d accepted Report IsWritten
+report_answered d accepted IsWritten says kept before after x s stands =
+    let held : IsReport x (seen_by x s.traces) (passed_in accepted) says.0 = by_events d accepted kept before x s stands (ReportSays (passed_in accepted) says.0) says.1 in
+    let passed : passed_in accepted ≡ map passed_of s.traces = passed_same (held_of d accepted kept before) accepted x s refl stands in
+    let here : IsReport x (seen_by x s.traces) (map passed_of s.traces) says.0 = subst (λ (ps : List Passed). IsReport x (seen_by x s.traces) ps says.0) passed held in
+    (says.0, s, (refl, refl, here), says.2, other_answers d accepted kept before after x s stands)
 
 -- and what `problem` says
 abbrev ProblemSays : List ℕ → Declaration → List (List Seen) → Type 0

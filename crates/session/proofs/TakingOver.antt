@@ -51,7 +51,7 @@ module _ (one : (bytes : List ℕ) (a b : captures.Capture) → Reads bytes a �
       TakesUnder k path files files' held held' old new answers.Accepted
   under_accepted (Added a) other answered d s stands =
       let x = answered d s stands in
-      let says : IsAddedLine x.3.0 = (a.events, a.messages, a.withdrawn, a.pending, a.consistent, x.3.3) in (
+      let says : IsAddedLine x.3.0 = (a.events, a.messages, a.withdrawn, a.aside, a.consistent, x.3.3) in (
         x.0,
         x.3.0,
         x.3.1,

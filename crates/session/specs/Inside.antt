@@ -13,15 +13,16 @@ use Rattle.msg_match.specs.declared.changes.Changed.{Changed}
 use Rattle.queries.specs.Consistent.{IsConsistent}
 use Rattle.replies.specs.Commands.{Command}
 use Rattle.problem_model.specs.Problem.{ProblemLists}
-use Rattle.replies.specs.Reply.{State, Found, Unread, Reply, AcceptReply, PieceReply, pending_of, added_line}
+use Rattle.replies.specs.declared.outcome.Aside.{Aside}
+use Rattle.replies.specs.Reply.{State, Found, Unread, Reply, AcceptReply, PieceReply, aside_of, added_line}
 use Rattle.replies.specs.Sessions.{CommandReply, AreCounted}
-use Rattle.session.specs.Stands.{Held, Under, StandsFor, IsStreamOf, IsWithin, kind_of, waiting}
+use Rattle.session.specs.Stands.{Held, Under, StandsFor, IsStreamOf, IsWithin, kind_of, aside_in}
 
 -- ---- what is written
--- the line of an addition of so many events, behind which this is the problem, by how the messages changed, where so many
--- bytes wait
-abbrev pub IsAddedTo : ProblemLists → Changed → ℕ → ℕ → List ℕ → Type 0
-IsAddedTo p changed more pending text = (b : Bool) × IsConsistent p b × (text ≡ added_line more changed.messages changed.withdrawn pending b)
+-- the line of an addition of so many events, behind which this is the problem, by how the messages changed, and by what gives
+-- no events
+abbrev pub IsAddedTo : ProblemLists → Changed → ℕ → Aside → List ℕ → Type 0
+IsAddedTo p changed more aside text = (b : Bool) × IsConsistent p b × (text ≡ added_line more changed.messages changed.withdrawn aside b)
 
 -- ---- what is held
 -- this is kept of nothing
@@ -94,7 +95,7 @@ pub record IsGrownTrace (d : Declaration) (host : ℕ) (kind : TraceKind) (old n
   pub of_kind : IsOfKind kind new
   pub events : seen_of d host new ≡ seen_of d host old ++ more
   pub size : size_of new ≡ size_of old + came
-  pub waits : waiting next ≡ pending_of new
+  pub aside : aside_in next ≡ aside_of new
   pub stream : IsStreamOf next new
 
 -- these events were accepted, or refused for their number: the answer is a reply for every trace that they make of the one before

@@ -3,7 +3,8 @@ use Rattle.std.specs.Prelude.{◌≡◌, ◌⊎◌, ℕ, ◌+◌, ◌*◌, ◌^�
 use Rattle.ports.specs.Content.{Appends, AppendsPrefix, Rose, SinkTold}
 use Rattle.ports.specs.Files.{FilesTold}
 use Rattle.captures.specs.Feeding as feeding
-use Rattle.captures.specs.Feeding.{taken, rest_of}
+use Rattle.captures.specs.Capture.{passed_count}
+use Rattle.captures.specs.Feeding.{taken, waiting_of}
 use Rattle.decl.specs.declared.items.Label.{Label}
 use Rattle.decl.specs.declared.items.TraceKind.{TraceKind}
 use Rattle.decl.specs.declared.items.TraceKind.TheVariants.{Capture, Log}
@@ -13,6 +14,7 @@ use Rattle.traces.specs.declared.accepted.Accepted.{Accepted}
 use Rattle.traces.specs.declared.event_id.EventId.{EventId}
 use Rattle.traces.specs.declared.accepted.Stream.{Stream}
 use Rattle.traces.specs.declared.accepted.Stream.TheVariants as streams
+use Rattle.traces.specs.Held.{passed_by}
 use Rattle.traces.specs.Traces.{Trace, Captured, Logged, size_of, seen_by, name_of, IsOfKind, event_count}
 use Rattle.traces.specs.Messages.{problem_of_seen}
 use Rattle.problem_model.specs.Problem.{ProblemLists}
@@ -24,6 +26,7 @@ use Rattle.queries.specs.declared.stop.Stop.TheVariants as stops
 use Rattle.session_answers.specs.declared.answers.Answers.{Answers}
 use Rattle.session_answers.specs.Ready.{AreSlotsOf, KeepsSource, IsAddition}
 use Rattle.replies.specs.Commands.{Command, Add, Interval, Order, Time, Merge, Prove, Keep, Problem, Report, Asks}
+use Rattle.replies.specs.declared.outcome.Aside.{Aside}
 use Rattle.replies.specs.Reply.{State, Found}
 use Rattle.replies.specs.Sessions.{LineReply, AreCounted}
 
@@ -36,7 +39,11 @@ kind_of (streams.Capture tail) = Capture
 -- how many bytes wait for more; of a log none do
 abbrev pub waiting : Stream → ℕ
 waiting streams.Log = 0
-waiting (streams.Capture tail) = length (rest_of tail)
+waiting (streams.Capture tail) = waiting_of tail
+
+-- what of them gives no events: those that wait, and the packets that were passed over
+abbrev pub aside_in : Stream → Aside
+aside_in stream = record { pending = waiting stream; passed = passed_count (passed_by stream) }
 
 -- a capture was read no further than through so many bytes
 abbrev pub IsWithin : Stream → ℕ → Type 0

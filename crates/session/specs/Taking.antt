@@ -4,6 +4,7 @@ use Rattle.ports.specs.Files.{Content, FilesTold}
 use Rattle.decl.specs.Declaration.{Declaration}
 use Rattle.mergecap.specs.MergedCapture.{Timed}
 use Rattle.traces.specs.Traces.{Traces}
+use Rattle.replies.specs.declared.outcome.Aside.{Aside}
 use Rattle.replies.specs.declared.refusal.Refusal.{Refusal}
 use Rattle.session.specs.declared.kept_packets.AddAnswer.{AddAnswer}
 use Rattle.session.specs.declared.kept_packets.AddAnswer.TheVariants.{Accepted, Refused}
@@ -37,7 +38,7 @@ AsksToAdd line = (label : List ℕ) × (path : List ℕ) × Asks line (Some (Add
 
 -- the line says what was added
 abbrev pub IsAddedLine : List ℕ → Type 0
-IsAddedLine text = (events : ℕ) × (messages : ℕ) × (withdrawn : ℕ) × (pending : ℕ) × (consistent : Bool) × (text ≡ added_line events messages withdrawn pending consistent)
+IsAddedLine text = (events : ℕ) × (messages : ℕ) × (withdrawn : ℕ) × (aside : Aside) × (consistent : Bool) × (text ≡ added_line events messages withdrawn aside consistent)
 
 -- the line tells a refusal
 abbrev pub IsRefusalLine : List ℕ → Type 0

@@ -1,12 +1,14 @@
 // What was accepted under the labels.
 ghost use Rattle.std.specs.Prelude.{◌≡◌, ◌<◌, ◌≤◌, ◌+◌, ◌-◌, ◌^◌, ◌++◌, ◌&&◌, length, map, nat_le, OnOk, OnErr, IfOk};
+ghost use Rattle.captures.specs.Capture.{passed_count};
 ghost use Rattle.traces.specs.Seen.{seen_events};
-ghost use Rattle.session.specs.Stands.{under_of, waiting, kind_of};
+ghost use Rattle.session.specs.Stands.{aside_in, under_of, waiting, kind_of};
 ghost use Rattle.session.specs.Inside.{AreEmpty, IsNewStream, HasPlace, IsGrownAt};
 
 use crate::limits::{MOST_EVENTS, MOST_OF_LABEL, MOST_PIECE};
-use captures::CaptureStream;
+use captures::{CaptureStream, Passed};
 use decl::{Label, TraceKind};
+use replies::Aside;
 use std::alloc::{AllocError, Global};
 use traces::{Accepted, Event, Stream};
 
@@ -36,13 +38,30 @@ pub(crate) fn nothing_under(alloc: Global, labels: &[Label]) -> Result<Vec<Accep
     Ok(accepted)
 }
 
-/// How many bytes wait for more.
-pub(crate) fn waiting(stream: &Stream) -> u64
+// How many bytes wait for more.
+fn waiting(stream: &Stream) -> u64
     ensures { result ≡ waiting stream.now }
 {
     match stream {
         Stream::Log => 0,
         Stream::Capture(stream) => u64::from(stream.pending()),
+    }
+}
+
+// How many packets these are in all.
+fn count_of(passed: Passed) -> u64
+    ensures { result ≡ passed_count passed }
+{
+    u64::from(passed.simple) + u64::from(passed.obsolete) + u64::from(passed.other)
+}
+
+/// What under a label gives no events, by what is kept of its bytes.
+pub(crate) fn aside_in(stream: &Stream) -> Aside
+    ensures { result ≡ aside_in stream.now }
+{
+    Aside {
+        pending: waiting(stream),
+        passed: count_of(stream.passed()),
     }
 }
 

@@ -11,7 +11,7 @@ ghost use Rattle.session.specs.Inside.{HasPlace, IsStreamWithin, FrontAnswered, 
 ghost use Rattle.session.specs.TakingInside.{CompletesFront, HadRoom, KeepsFound, UnderAnswered};
 
 use crate::Session;
-use crate::accepted::{extend, has_place, room_left, waiting};
+use crate::accepted::{aside_in, extend, has_place, room_left};
 use crate::addition::outcome_of;
 use crate::labels::host_of;
 use crate::limits::MOST_PIECE;
@@ -152,12 +152,12 @@ impl Session {
         ensures addition { AddsSo self.old self.new steps.old steps.new }
     {
         let more = events.len();
-        let pending = waiting(&stream);
+        let aside = aside_in(&stream);
         // What stood ready is of fewer events.
         self.ready = false;
         extend(&mut self.accepted, k, events, size, stream)?;
         let renewed = renew(&mut self.answers, &self.accepted, k, more, steps)?;
         self.ready = true;
-        Ok(outcome_of(renewed.consistent, more as u64, pending, renewed.changed))
+        Ok(outcome_of(renewed.consistent, more as u64, aside, renewed.changed))
     }
 }

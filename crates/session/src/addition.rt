@@ -7,19 +7,19 @@ ghost use Rattle.replies.specs.Outcomes.{outcome_line};
 ghost use Rattle.session.specs.TakingInside.{WhereAdded};
 
 use msg_match::Changed;
-use replies::{Added, Outcome};
+use replies::{Added, Aside, Outcome};
 
-/// What is told of an addition of so many events, behind which so many bytes wait, by whether some execution obeys all
-/// bounds and how the messages changed.
-pub(crate) fn outcome_of(consistent: bool, events: u64, pending: u64, changed: Changed) -> Outcome
-    ensures line { (p : ProblemLists) → IsConsistent p consistent → IsAddedTo p changed events pending (outcome_line result) }
+/// What is told of an addition of so many events, by whether some execution obeys all bounds, how the messages changed, and
+/// what under the label gives no events.
+pub(crate) fn outcome_of(consistent: bool, events: u64, aside: Aside, changed: Changed) -> Outcome
+    ensures line { (p : ProblemLists) → IsConsistent p consistent → IsAddedTo p changed events aside (outcome_line result) }
     ensures added { WhereAdded ⊤ result }
 {
     Outcome::Added(Added {
         events,
         messages: changed.messages,
         withdrawn: changed.withdrawn,
-        pending,
+        aside,
         consistent,
     })
 }

@@ -19,6 +19,7 @@ mod addition;
 mod answers;
 mod counts;
 mod ended;
+mod held;
 mod kept_events;
 mod kept_packets;
 mod labels;

@@ -1,9 +1,9 @@
-// The report on all events.
+// The report on all events and on the packets that were passed over.
 ghost use Rattle.std.specs.Prelude.{◌≡◌, ◌≤◌, ◌^◌, length, map, IsErrOf};
 ghost use Rattle.ports.specs.Content.{WritesSuch};
 ghost use Rattle.decl.specs.Declaration.{IsDeclaration, declaration_of};
 ghost use Rattle.traces.specs.Traces.{event_count};
-ghost use Rattle.traces.specs.Held.{seen_in};
+ghost use Rattle.traces.specs.Held.{passed_in, seen_in};
 ghost use Rattle.traces.specs.Messages.{problem_of_seen};
 ghost use Rattle.msg_match.specs.Ends.{AreEndsBy};
 ghost use Rattle.problem.specs.Listing.{Listed};
@@ -24,7 +24,7 @@ use std::alloc::Global;
 use traces::Accepted;
 
 /// Writes the report on all events, of which the roster has the names by number and the matcher the ends of messages, and the solver
-/// holds the answer.
+/// holds the answer; and on the packets that were passed over.
 pub(crate) fn write_report<O: Sink>(
     alloc: Global,
     decl: &Decl,
@@ -39,7 +39,7 @@ pub(crate) fn write_report<O: Sink>(
     requires few { event_count (seen_in accepted.now) ≤ 2 ^ 21 }
     requires ends { AreEndsBy (map id_of roster.now.came) matcher.now (seen_in accepted.now) }
     requires solution { (l : Listed) × IsSolutionBy l (problem_of_seen (declaration_of decl.now) (seen_in accepted.now)) solver.now }
-    ensures writes { WritesSuch (IsReport (declaration_of decl.now) (seen_in accepted.now)) stops.WriteFault (O.told out.old) (O.told out.new) result }
+    ensures writes { WritesSuch (IsReport (declaration_of decl.now) (seen_in accepted.now) (passed_in accepted.now)) stops.WriteFault (O.told out.old) (O.told out.new) result }
     ensures untouched { IsErrOf result stops.Memory → O.told out.new ≡ O.told out.old }
 {
     let consistent = is_consistent(solver);

@@ -2,8 +2,8 @@
 //!
 //! `additions` has what is replied to each addition and each command, `cut_additions` a capture that comes in pieces,
 //! `limits` files that have more than a session takes, `questions` what is asked of two events, `several_clocks` what is
-//! replied of hosts with several clocks, `keeps` events that are kept, `wide_captures` packets of IPv6 (`session`); `scripts`
-//! has whole scripts (`session`); `fixtures` what several of them use.
+//! replied of hosts with several clocks, `keeps` events that are kept, `wide_captures` packets of IPv6, `passed_packets`
+//! packets that are passed over (`session`); `scripts` has whole scripts (`session`); `fixtures` what several of them use.
 #![tactic(auto)]
 
 #[cfg(test)]
@@ -16,6 +16,8 @@ mod fixtures;
 mod keeps;
 #[cfg(test)]
 mod limits;
+#[cfg(test)]
+mod passed_packets;
 #[cfg(test)]
 mod questions;
 #[cfg(test)]

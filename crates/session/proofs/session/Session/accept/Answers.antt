@@ -112,8 +112,8 @@ returns-clause-answers g c =
     (c.in_ok-renewed.ensures.changed (seen_in c.self.inside.accepted.items) kept (c.self.invariant.2 ready) here) in
     subst (λ (x : Declaration). AcceptAnswered c.args.self.now (held_of x (with_items c.self.inside.accepted c.extend.new.accepted).items kept after) c.args.k (seen_events c.args.events.items) c.args.size c.args.stream (IsLineOf c.outcome_of.result)) (sym c.renew.ensures.declaration)
     (subst (λ (l : List Accepted). AcceptAnswered c.args.self.now (held_of d l kept after) c.args.k (seen_events c.args.events.items) c.args.size c.args.stream (IsLineOf c.outcome_of.result)) (sym h.back)
-    (added_in d c.self.inside.accepted.items c.extend.new.accepted kept before c.args.self.now c.args.k (seen_events c.args.events.items) c.args.size c.args.stream h.is p c.in_ok-renewed.renewed.changed c.len-more.result c.waiting-pending.result after (IsLineOf c.outcome_of.result)
-    problem change h.count c.waiting-pending.ensures (outcome_line c.outcome_of.result, c.outcome_of.ensures.line p consistent, refl)))
+    (added_in d c.self.inside.accepted.items c.extend.new.accepted kept before c.args.self.now c.args.k (seen_events c.args.events.items) c.args.size c.args.stream h.is p c.in_ok-renewed.renewed.changed c.len-more.result c.aside_in-aside.result after (IsLineOf c.outcome_of.result)
+    problem change h.count c.aside_in-aside.ensures (outcome_line c.outcome_of.result, c.outcome_of.ensures.line p consistent, refl)))
 
 pub returns-clause-room : goal.returns-clause-room
 returns-clause-room g c = where_weaker c.outcome_of.result (λ there. c.requires.room) c.outcome_of.ensures.added

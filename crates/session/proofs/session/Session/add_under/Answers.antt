@@ -5,6 +5,7 @@ use Rattle.replies.specs.declared.outcome.Outcome.TheVariants.{Refused}
 use Rattle.replies.specs.Outcomes.{IsLineOf}
 use Rattle.session.specs.TakingInside.{KeepsFound}
 use Rattle.session.proofs.AddedThere.{file_answered}
+use Rattle.session.proofs.Additions.{adds_nothing}
 use Rattle.session.proofs.Finding.{under_failed, under_absent}
 use Rattle.session.proofs.session.Session.add_under.Goals as goal
 
@@ -24,3 +25,12 @@ returns-in-Err-Read-clause-answers g c =
     let cause = rw c.in-Err-Read.field-0-is at c.in-Err-Read.ensures.cause in
     under_failed c.args.self.now (g.F.Files.told c.args.files.now) (g.F.Files.told c.read_file.new.files) c.args.path.now c.args.k
     (KeepsFound c.args.keeps c.args.self.now c.args.k (seen_packets c.args.packets.now.items) (Refused UnreadFile)) (IsLineOf (Refused UnreadFile)) cause c.in-Err-Read.ensures.keeps (λ is. tt) refl
+
+pub returns-in-Err-Absent-clause-addition : goal.returns-in-Err-Absent-clause-addition
+returns-in-Err-Absent-clause-addition g c = adds_nothing _ c.args.self.now c.args.steps.now c.self.view_is c.self.invariant.0
+
+pub returns-in-Err-Read-clause-addition : goal.returns-in-Err-Read-clause-addition
+returns-in-Err-Read-clause-addition g c = adds_nothing _ c.args.self.now c.args.steps.now c.self.view_is c.self.invariant.0
+
+pub returns-in-Err-Memory-clause-addition : goal.returns-in-Err-Memory-clause-addition
+returns-in-Err-Memory-clause-addition g c = adds_nothing _ c.args.self.now c.args.steps.now c.self.view_is c.self.invariant.0

@@ -1,0 +1,40 @@
+-- The packets that were passed over under each label, by what is held and by the traces.
+use Rattle.std.proofs.Common.{◌≡◌, ℕ, suc, List, [], ◌∷◌, length, map, slice_get, Some, refl, sym, ◌∙◌, ap, arith}
+use Rattle.std.proofs.lemmas.List.{length-map}
+use Rattle.captures.proofs.Standing.{stands_passed}
+use Rattle.decl.specs.Declaration.{Declaration}
+use Rattle.traces.specs.declared.accepted.Accepted.{Accepted}
+use Rattle.traces.specs.declared.accepted.Stream.{Stream}
+use Rattle.traces.specs.declared.accepted.Stream.TheVariants as streams
+use Rattle.traces.specs.Traces.{Trace, Captured, Logged, Traces, passed_of, size_of}
+use Rattle.traces.specs.Held.{passed_by, passed_in}
+use Rattle.replies.specs.Reply.{State}
+use Rattle.session.specs.Stands.{Held, Under, StandsFor, IsStreamOf, under_of}
+
+-- under one label
+stream_passed : (stream : Stream) (trace : Trace) → IsStreamOf stream trace → passed_by stream ≡ passed_of trace
+stream_passed streams.Log (Captured bytes capture) is = absurd is
+stream_passed streams.Log (Logged rows size) is = refl
+stream_passed (streams.Capture tail) (Captured bytes capture) is = stands_passed tail bytes capture is
+stream_passed (streams.Capture tail) (Logged rows size) is = absurd is
+
+joined : {A : Type 0} (x y : A) (xs ys : List A) → x ≡ y → xs ≡ ys → x ∷ xs ≡ y ∷ ys
+joined x y xs ys first more = cc
+
+-- under each of as many
+each_passed : (accepted : List Accepted) (traces : Traces) → length accepted ≡ length traces →
+    ((k : ℕ) (u : Under) (trace : Trace) → slice_get (map under_of accepted) k ≡ Some u → slice_get traces k ≡ Some trace → IsStreamOf u.stream trace) → passed_in accepted ≡ map passed_of traces
+each_passed [] [] same each = refl
+each_passed [] (t ∷ traces) same each = absurd (omega (arith, same))
+each_passed (a ∷ accepted) [] same each = absurd (omega (arith, same))
+each_passed (a ∷ accepted) (t ∷ traces) same each =
+    let fewer : length accepted ≡ length traces = omega (arith, same) in
+    joined (passed_by a.stream) (passed_of t) (passed_in accepted) (map passed_of traces) (stream_passed a.stream t (each 0 (under_of a) t refl refl))
+    (each_passed accepted traces fewer (λ k u trace at_u at_t. each (suc k) u trace at_u at_t))
+
+pub passed_same : (held : Held) (accepted : List Accepted) (x : Declaration) (s : State) → held.under ≡ map under_of accepted → StandsFor held x s → passed_in accepted ≡ map passed_of s.traces
+passed_same held accepted x s is stands =
+    let size = λ (u : Under). u.size in
+    let same : length accepted ≡ length s.traces =
+    sym (length-map accepted under_of) ∙ ap (λ (us : List Under). length us) (sym is) ∙ sym (length-map held.under size) ∙ ap (λ (ns : List ℕ). length ns) stands.sizes ∙ length-map s.traces size_of in
+    each_passed accepted s.traces same (λ k u trace at_u at_t. stands.streams k u trace (ap (λ (us : List Under). slice_get us k) is ∙ at_u) at_t)
