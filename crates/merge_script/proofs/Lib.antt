@@ -2,3 +2,4 @@ mod ShortPackets
 mod AllPackets
 mod Adding
 mod Merges
+mod Noted

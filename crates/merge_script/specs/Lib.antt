@@ -1,3 +1,4 @@
 pub mod Gathered
 pub mod Merged
+pub mod Notes
 pub mod Turns

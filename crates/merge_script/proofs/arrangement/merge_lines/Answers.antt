@@ -1,0 +1,17 @@
+use Rattle.mergecap.specs.Packets.{all_timed}
+use Rattle.session.specs.Script.{Devices}
+use Rattle.merge_script.specs.Notes.{AreNoted, IsTold, notes_held}
+use Rattle.merge_script.specs.Turns.{reads}
+use Rattle.merge_script.proofs.Noted.{noted_all, on_ok}
+use Rattle.merge_script.proofs.arrangement.merge_lines.Goals as goal
+
+pub returns-clause-noted : goal.returns-clause-noted
+returns-clause-noted g c =
+    let d = c.args.session.now.declaration in
+    let h = c.gather.new.session in
+    let old : Devices = reads (g.F.Files.told c.args.files.now) (g.I.Source.told c.args.input.now) in
+    let new : Devices = reads (g.F.Files.told c.gather.new.files) (g.I.Source.told c.gather.new.input) in
+    let before = g.N.Sink.told c.args.notes.now in
+    let after = g.N.Sink.told c.merge_noted.new.notes in
+    on_ok c.merge_noted.result (IsTold (notes_held h.declaration.labels h.under) before after) (AreNoted d old new before after)
+    (noted_all d old new h (all_timed c.gather.new.kept.items) before after c.in_ok-gather.ensures.ok) c.merge_noted.ensures.noted
