@@ -11,7 +11,10 @@ use Rattle.decl.specs.Walk.{Declares, IsFirstFault}
 use Rattle.decl.specs.declared.errors.DeclError.TheVariants as faults
 use Rattle.decl.specs.declared.errors.Section.{Section}
 use Rattle.session.specs.Script.{Devices, OfScript, Replied}
-use Rattle.commands.specs.Complete.{Holds, HoldsProblem, IsExecutionText, IsCertText, IsWideningText, IsFaultless, IsAnswered}
+use Rattle.commands.specs.Asked.{Asked, help_text, version_text}
+use Rattle.commands.specs.Asked.Asked.{Obey, Solve, Ends, Verify, Session, Trial, Widen, Judge, Mergecap, Help, Version, Nothing}
+use Rattle.commands.specs.Runs.{Answers}
+use Rattle.commands.specs.Complete.{Holds, HoldsProblem, IsExecutionText, IsCertText, IsWideningText, IsLawful, IsFaultless, IsAnswered}
 use Rattle.problem_commands.specs.Intervals.{IntervalAnswered}
 use Rattle.merge_script.specs.Turns.{reads}
 use Rattle.merge_script.specs.Gathered as merging
@@ -19,11 +22,11 @@ use Rattle.merge_script.specs.declared.unmerged.Unmerged.TheVariants as whys
 use Rattle.commands.specs.declared.declaration.Undeclared.TheVariants as undeclared
 use Rattle.commands.specs.MergedCapture.{MergedOver, MergedAt}
 use Rattle.problem_commands.specs.Obey.{Obeyed}
-use Rattle.problem_commands.specs.Printing.{Prints}
+use Rattle.problem_commands.specs.Printing.{Prints, Closes}
 use Rattle.commands.specs.Sessions.{IsFaultAt, TellsSession, Conducted}
 use Rattle.problem_commands.specs.Solve.{Solved}
 use Rattle.problem_commands.specs.Texts.{SpellsProblem, IsMissed, IsBadProblem, BothHave, MissesOne, RefusesProblem, RefusesExecution, RefusesCert}
-use Rattle.commands.specs.Trials.{Tried}
+use Rattle.commands.specs.Trials.{IsNumber, Tried, TriedBy}
 use Rattle.problem_commands.specs.Verify.{Verified}
 use Rattle.problem_commands.specs.Widening.{RefusesWidening, WideningFound, WideningJudged}
 use Rattle.problem_commands.specs.declared.refusal.Refusal.{Refusal}
@@ -208,32 +211,37 @@ module _ (law : HaveOneAnswer) (old new : FilesTold) (none : Rose old.faults new
   judge_goes problem widening lawful statuses.NoMerge line goes = absurd goes
 
 module _ (law : HaveOneAnswer) (old new : Devices) (none : IsFaultless old new) where
-  pub obey_answered : (problem exec : List ℕ) (result : Status) → HoldsProblem old.files.content problem (λ p. Holds old.files.content exec (IsExecutionText p))
+  obey_answered : (problem exec : List ℕ) (result : Status) → HoldsProblem old.files.content problem (λ p. Holds old.files.content exec (IsExecutionText p))
       → Prints (Obeyed problem exec old.files new.files) old.out new.out result → IsAnswered result
   obey_answered problem exec result lawful = printed (Obeyed problem exec old.files new.files) old.out new.out result (obey_goes law old.files new.files none.files problem exec lawful) none.out
 
-  pub solve_answered : (problem : List ℕ) (result : Status) → HoldsProblem old.files.content problem (λ p. Unit {0}) → Prints (Solved problem old.files new.files) old.out new.out result → IsAnswered result
+  solve_answered : (problem : List ℕ) (result : Status) → HoldsProblem old.files.content problem (λ p. Unit {0}) → Prints (Solved problem old.files new.files) old.out new.out result → IsAnswered result
   solve_answered problem result lawful = printed (Solved problem old.files new.files) old.out new.out result (solve_goes law old.files new.files none.files problem lawful) none.out
 
-  pub ends_answered : (problem first second : List ℕ) (result : Status) → HoldsProblem old.files.content problem (λ p. ((from : ℕ) × HasEvent p from first) × ((to : ℕ) × HasEvent p to second))
+  ends_answered : (problem first second : List ℕ) (result : Status) → HoldsProblem old.files.content problem (λ p. ((from : ℕ) × HasEvent p from first) × ((to : ℕ) × HasEvent p to second))
       → Prints (IntervalAnswered problem first second old.files new.files) old.out new.out result → IsAnswered result
   ends_answered problem first second result lawful =
       printed (IntervalAnswered problem first second old.files new.files) old.out new.out result (ends_goes law old.files new.files none.files problem first second lawful) none.out
 
-  pub verify_answered : (problem cert : List ℕ) (result : Status) → HoldsProblem old.files.content problem (λ p. Holds old.files.content cert (IsCertText p))
+  verify_answered : (problem cert : List ℕ) (result : Status) → HoldsProblem old.files.content problem (λ p. Holds old.files.content cert (IsCertText p))
       → Prints (Verified problem cert old.files new.files) old.out new.out result → IsAnswered result
   verify_answered problem cert result lawful = printed (Verified problem cert old.files new.files) old.out new.out result (verify_goes law old.files new.files none.files problem cert lawful) none.out
 
-  pub widen_answered : (problem : List ℕ) (result : Status) → HoldsProblem old.files.content problem (λ p. Unit {0}) → Prints (WideningFound problem old.files new.files) old.out new.out result → IsAnswered result
+  widen_answered : (problem : List ℕ) (result : Status) → HoldsProblem old.files.content problem (λ p. Unit {0}) → Prints (WideningFound problem old.files new.files) old.out new.out result → IsAnswered result
   widen_answered problem result lawful = printed (WideningFound problem old.files new.files) old.out new.out result (widen_goes law old.files new.files none.files problem lawful) none.out
 
-  pub judge_answered : (problem widening : List ℕ) (result : Status) → HoldsProblem old.files.content problem (λ p. Holds old.files.content widening (IsWideningText p))
+  judge_answered : (problem widening : List ℕ) (result : Status) → HoldsProblem old.files.content problem (λ p. Holds old.files.content widening (IsWideningText p))
       → Prints (WideningJudged problem widening old.files new.files) old.out new.out result → IsAnswered result
   judge_answered problem widening result lawful = printed (WideningJudged problem widening old.files new.files) old.out new.out result (judge_goes law old.files new.files none.files problem widening lawful) none.out
 
 module _ (old new : Devices) (none : IsFaultless old new) where
-  pub trial_answered : (n : ℕ) (result : Status) → Prints (Tried n) old.out new.out result → IsAnswered result
-  trial_answered n result = printed (Tried n) old.out new.out result (λ status text goes. inl goes.0) none.out
+  trial_answered : (number : List ℕ) (result : Status) → ((n : ℕ) × IsNumber n number) → TriedBy number old.out new.out result → IsAnswered result
+  trial_answered number result lawful (inl (n, is, tried)) = printed (Tried n) old.out new.out result (λ status text goes. inl goes.0) none.out tried
+  trial_answered number result (n, is) (inr (no_number, closes)) = absurd (no_number n is)
+
+  help_answered : (text : List ℕ) (result : Status) → Closes text statuses.Done old.out new.out result → IsAnswered result
+  help_answered text result (inl (is, appended)) = inl is
+  help_answered text result (inr (is, (rose, front))) = absurd (none.out rose)
 
   -- ---- session
   not_long : (script : Option (List ℕ)) (P : List ℕ → Type 0) → IsSomeAnd script (λ bytes. length bytes ≤ most_taken) → OfScript script (λ bytes. (most_taken < length bytes) × P bytes) → ⊥
@@ -261,7 +269,7 @@ module _ (old new : Devices) (none : IsFaultless old new) where
   session_goes decl IsWritten lawful short statuses.UnknownEvent goes = absurd goes
   session_goes decl IsWritten lawful short statuses.NoMerge goes = absurd goes
 
-  pub session_answered : (decl : List ℕ) (result : Status) → ((d : Declaration) × Holds old.files.content decl (λ bytes. Declares bytes d)) × IsSomeAnd old.input.left (λ bytes. length bytes ≤ most_taken)
+  session_answered : (decl : List ℕ) (result : Status) → ((d : Declaration) × Holds old.files.content decl (λ bytes. Declares bytes d)) × IsSomeAnd old.input.left (λ bytes. length bytes ≤ most_taken)
       → Conducted decl old new result → IsAnswered result
   session_answered decl result lawful (inl goes) = session_goes decl (Appends old.out.written new.out.written) lawful.0 lawful.1 result goes
   session_answered decl result lawful (inr (inl (is, (rose, failed)))) = absurd (none.out rose)
@@ -295,6 +303,22 @@ module _ (files files' : FilesTold) (input input' : SourceTold) (out out' : Sink
   merged_goes decl (d, held) short status text (inr (undeclared.Unread, missed, same, tells)) = absurd (not_missed (λ bytes. Declares bytes d) decl files files' held no_file missed)
   merged_goes decl lawful short status text (inr (undeclared.Memory, is, same, tells)) = absurd tells
 
-  pub mergecap_answered : (decl : List ℕ) (result : Status) → ((d : Declaration) × Holds files.content decl (λ bytes. Declares bytes d)) × IsSomeAnd input.left (λ bytes. length bytes ≤ most_taken)
+  mergecap_answered : (decl : List ℕ) (result : Status) → ((d : Declaration) × Holds files.content decl (λ bytes. Declares bytes d)) × IsSomeAnd input.left (λ bytes. length bytes ≤ most_taken)
       → Prints (MergedAt decl (reads files input) (reads files' input')) out out' result → IsAnswered result
   mergecap_answered decl result lawful = printed (MergedAt decl (reads files input) (reads files' input')) out out' result (merged_goes decl lawful.0 lawful.1) no_write
+
+-- ---- whatever was asked for
+pub all_answered : HaveOneAnswer → (a : Asked) (old new : Devices) (result : Status) → Answers a old new result → IsLawful a old.files.content old.input.left → IsFaultless old new → IsAnswered result
+all_answered law (Obey problem exec) old new result answers lawful none = obey_answered law old new none problem exec result lawful answers
+all_answered law (Solve problem) old new result answers lawful none = solve_answered law old new none problem result lawful answers
+all_answered law (Ends problem first second) old new result answers lawful none = ends_answered law old new none problem first second result lawful answers
+all_answered law (Verify problem cert) old new result answers lawful none = verify_answered law old new none problem cert result lawful answers
+all_answered law (Session decl) old new result answers lawful none = session_answered old new none decl result lawful answers
+all_answered law (Trial number) old new result answers lawful none = trial_answered old new none number result lawful answers
+all_answered law (Widen problem) old new result answers lawful none = widen_answered law old new none problem result lawful answers
+all_answered law (Judge problem widening) old new result answers lawful none = judge_answered law old new none problem widening result lawful answers
+all_answered law (Mergecap decl) old new result answers lawful none =
+    mergecap_answered old.files new.files old.input new.input old.out new.out none.files none.input none.out decl result lawful answers
+all_answered law Help old new result answers lawful none = help_answered old new none help_text result answers
+all_answered law Version old new result answers lawful none = help_answered old new none version_text result answers
+all_answered law Nothing old new result answers lawful none = absurd lawful

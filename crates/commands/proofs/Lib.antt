@@ -1,7 +1,8 @@
-pub mod Forms
+pub mod Numbers
 pub mod Declaring
 pub mod Conducting
 pub mod OneText
 pub mod Completing
 mod MergedScripts
 mod Wholes
+mod Worked

@@ -12,7 +12,9 @@ use Rattle.decl.specs.Declaration.{Declaration}
 use Rattle.decl.specs.Walk.{Declares}
 use Rattle.widen.specs.declared.widening.Widening.{Widening}
 use Rattle.session.specs.Script.{Devices}
-use Rattle.commands.specs.Run.{IsNoCommand, obey_words, solve_words, ends_words, verify_words, session_words, widen_words, judge_words, mergecap_words}
+use Rattle.commands.specs.Asked.{Asked}
+use Rattle.commands.specs.Asked.Asked.{Obey, Solve, Ends, Verify, Session, Trial, Widen, Judge, Mergecap, Help, Version, Nothing}
+use Rattle.commands.specs.Trials.{IsNumber}
 use Rattle.problem_commands.specs.Texts.{SpellsProblem, SpellsCert}
 use Rattle.problem_commands.specs.Widening.{SpellsWidening}
 use Rattle.problem_commands.specs.declared.status.Status.{Status}
@@ -39,22 +41,26 @@ IsCertText p text = (c : Cert) × SpellsCert p c text
 abbrev pub IsWideningText : ProblemLists → List ℕ → Type 0
 IsWideningText p text = (w : Widening) × SpellsWidening p w text
 
+-- the file at the path declares something, and the script is not too long
+abbrev pub HasScript : Content → List ℕ → Option (List ℕ) → Type 0
+HasScript files decl script = ((d : Declaration) × Holds files decl (λ bytes. Declares bytes d)) × IsSomeAnd script (λ bytes. length bytes ≤ most_taken)
+
 -- ---- the run
--- the words are of one of the forms; no file that they name is absent or refused, and events by name are ones of the problem; a script is
--- not too long. A trial names nothing
-pub record IsLawful (ws : List (List ℕ)) (files : Content) (script : Option (List ℕ)) : Type 0 where
-  pub command : IsNoCommand ws → ⊥
-  pub obey : (problem exec : List ℕ) → ws ≡ obey_words problem exec → HoldsProblem files problem (λ p. Holds files exec (IsExecutionText p))
-  pub solve : (problem : List ℕ) → ws ≡ solve_words problem → HoldsProblem files problem (λ p. Unit {0})
-  pub ends : (problem first second : List ℕ) → ws ≡ ends_words problem first second
-      → HoldsProblem files problem (λ p. ((from : ℕ) × HasEvent p from first) × ((to : ℕ) × HasEvent p to second))
-  pub verify : (problem cert : List ℕ) → ws ≡ verify_words problem cert → HoldsProblem files problem (λ p. Holds files cert (IsCertText p))
-  pub session : (decl : List ℕ) → ws ≡ session_words decl
-      → ((d : Declaration) × Holds files decl (λ bytes. Declares bytes d)) × IsSomeAnd script (λ bytes. length bytes ≤ most_taken)
-  pub mergecap : (decl : List ℕ) → ws ≡ mergecap_words decl
-      → ((d : Declaration) × Holds files decl (λ bytes. Declares bytes d)) × IsSomeAnd script (λ bytes. length bytes ≤ most_taken)
-  pub widen : (problem : List ℕ) → ws ≡ widen_words problem → HoldsProblem files problem (λ p. Unit {0})
-  pub judge : (problem widening : List ℕ) → ws ≡ judge_words problem widening → HoldsProblem files problem (λ p. Holds files widening (IsWideningText p))
+-- something that there is was asked for; no file that is named is absent or refused, and events by name are ones of the problem; a
+-- script is not too long
+abbrev pub IsLawful : Asked → Content → Option (List ℕ) → Type 0
+IsLawful (Obey problem exec) files script = HoldsProblem files problem (λ p. Holds files exec (IsExecutionText p))
+IsLawful (Solve problem) files script = HoldsProblem files problem (λ p. Unit {0})
+IsLawful (Ends problem first second) files script = HoldsProblem files problem (λ p. ((from : ℕ) × HasEvent p from first) × ((to : ℕ) × HasEvent p to second))
+IsLawful (Verify problem cert) files script = HoldsProblem files problem (λ p. Holds files cert (IsCertText p))
+IsLawful (Session decl) files script = HasScript files decl script
+IsLawful (Trial number) files script = (n : ℕ) × IsNumber n number
+IsLawful (Widen problem) files script = HoldsProblem files problem (λ p. Unit {0})
+IsLawful (Judge problem widening) files script = HoldsProblem files problem (λ p. Holds files widening (IsWideningText p))
+IsLawful (Mergecap decl) files script = HasScript files decl script
+IsLawful Help files script = Unit {0}
+IsLawful Version files script = Unit {0}
+IsLawful Nothing files script = ⊥
 
 -- no count of faults rose, of files, input and output
 pub record IsFaultless (old new : Devices) : Type 0 where

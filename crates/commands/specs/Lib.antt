@@ -1,4 +1,4 @@
-pub mod Run
+pub mod Asked
 pub mod Trials
 pub mod Sessions
 pub mod Complete

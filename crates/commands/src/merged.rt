@@ -1,12 +1,12 @@
 // The packets of a script, merged into one capture.
-ghost use Rattle.std.specs.Prelude.{◌++◌, ◌∷◌, [], All};
+ghost use Rattle.std.specs.Prelude.{◌≡◌, ◌⊎◌, ◌++◌, ◌∷◌, [], All};
 ghost use Rattle.ports.specs.Content.{Writes};
 ghost use Rattle.ports.specs.Files.{Keeps};
 ghost use Rattle.mergecap.specs.MergedCapture.{AreWritable, IsShort, merged_capture};
 ghost use Rattle.mergecap.specs.Packets.{all_timed};
 ghost use Rattle.mergecap.specs.Reading.{IsReadBack};
 ghost use Rattle.merge_script.specs.Turns.{reads};
-ghost use Rattle.commands.specs.MergedCapture.{MergedAt, TellsUnmerged};
+ghost use Rattle.commands.specs.MergedCapture.{MergedAt, NotedAt, TellsUnmerged};
 ghost use Rattle.problem_commands.specs.Printing.{Closes, IsOnly, Prints};
 ghost use Rattle.problem_commands.specs.declared.status.Status.TheVariants as statuses;
 
@@ -60,6 +60,7 @@ fn print<O: Sink>(ordered: &[Stored], out: &mut O) -> Status
     requires writable { AreWritable (all_timed ordered.now) }
     requires short { All IsShort (all_timed ordered.now) }
     ensures prints { Prints (IsOnly (merged_capture (all_timed ordered.now)) statuses.Done) (O.told out.old) (O.told out.new) result }
+    ensures only { (result ≡ statuses.Done) ⊎ (result ≡ statuses.WriteFault) }
     ensures read_back { IsReadBack (all_timed ordered.now) }
 {
     match write_capture(ordered, out) {
@@ -68,23 +69,26 @@ fn print<O: Sink>(ordered: &[Stored], out: &mut O) -> Status
     }
 }
 
-/// Prints the packets of all captures that a script adds, in a session over the declaration in a file, as one capture.
-pub fn mergecap<F: Files, I: Source, O: Sink, L: Ledger>(
+/// Prints the packets of all captures that a script adds, in a session over the declaration in a file, as one capture. What there
+/// is to tell of the captures beside it goes to `notes`.
+pub fn mergecap<F: Files, I: Source, O: Sink, N: Sink, L: Ledger>(
     alloc: Global,
     files: &mut F,
     decl: &str,
     input: &mut I,
     out: &mut O,
     steps: &mut Steps<L>,
+    notes: &mut N,
 ) -> Status
     ensures merged { Prints (MergedAt decl.now (reads (F.told files.old) (I.told input.old)) (reads (F.told files.new) (I.told input.new))) (O.told out.old) (O.told out.new) result }
+    ensures noted { NotedAt decl.now (reads (F.told files.old) (I.told input.old)) (reads (F.told files.new) (I.told input.new)) (N.told notes.old) (N.told notes.new) result }
     ensures keeps { Keeps (F.told files.old) (F.told files.new) }
 {
     let decl = match decl_in(alloc, files, decl) {
         Ok(decl) => decl,
         Err(undeclared) => return refuse(undeclared, out),
     };
-    match merge_script(alloc, decl, files, input, steps) {
+    match merge_script(alloc, decl, files, input, steps, notes) {
         Ok(ordered) => print(&ordered, out),
         Err(why) => tell(why, out),
     }

@@ -1,14 +1,16 @@
 // A session over a workload that the program makes.
-ghost use Rattle.std.specs.Prelude.{◌++◌};
+ghost use Rattle.std.specs.Prelude.{◌≡◌, ◌++◌, ℕ, IfSome, IfNone};
 ghost use Rattle.ports.specs.Content.{Writes};
 ghost use Rattle.trial_session.specs.Trial.{IsTrial};
 ghost use Rattle.problem_commands.specs.Printing.{Prints};
-ghost use Rattle.commands.specs.Trials.{counts_line, Tried};
+ghost use Rattle.commands.specs.Trials.{counts_line, IsNumber, Tried, TriedBy};
 
+use crate::help::usage;
 use crate::lines::counts_line;
-use atto::Steps;
+use atto::{Steps, read_decimal};
 use ports::{Failed, Sink, write_whole};
 use problem_commands::Status;
+use problem_commands::last_line::finish;
 use std::alloc::Global;
 use std::sync::ledger::Ledger;
 use trial_session::{Outcome, conduct};
@@ -35,9 +37,8 @@ fn tell<O: Sink>(number: u32, outcome: &Outcome, out: &mut O) -> Status
     }
 }
 
-/// Goes over the workload of the trial with this number, and prints how many events and messages its session then has, and
-/// its replies to the last questions for intervals.
-pub fn trial<O: Sink, L: Ledger>(
+// Goes over the workload of the trial with this number.
+fn go_over<O: Sink, L: Ledger>(
     alloc: Global,
     number: u32,
     out: &mut O,
@@ -48,5 +49,32 @@ pub fn trial<O: Sink, L: Ledger>(
     match conduct(alloc, number, steps) {
         Ok(outcome) => tell(number, &outcome, out),
         Err(_) => Status::Memory,
+    }
+}
+
+// The number of a trial by its decimal, which is below 2^32.
+fn number_of(text: &str) -> Option<u32>
+    ensures some { IfSome result (λ n. IsNumber n text.now) }
+    ensures none { IfNone result ((n : ℕ) → IsNumber n text.now → ⊥) }
+{
+    match read_decimal(text.as_bytes()) {
+        Ok(n) => { if n < 1 << 32 { Some(n as u32) } else { None } }
+        Err(_) => None,
+    }
+}
+
+/// Goes over the workload of the trial whose number this text is, and prints how many events and messages its session then
+/// has, and its replies to the last questions for intervals. Where the text is no decimal below 2^32, it prints the usage.
+pub fn trial<O: Sink, L: Ledger>(
+    alloc: Global,
+    text: &str,
+    out: &mut O,
+    steps: &mut Steps<L>,
+) -> Status
+    ensures { TriedBy text.now (O.told out.old) (O.told out.new) result }
+{
+    match number_of(text) {
+        Some(number) => go_over(alloc, number, out, steps),
+        None => finish(usage(), Status::Usage, out),
     }
 }

@@ -30,23 +30,24 @@ fn ended(status: Status, is_passed: bool) -> Status
 ///
 /// The replies of `session` are written one by one, before the next line is read. What any other command prints is held in
 /// pieces of 64 KiB, and the last one is passed on at the end: then all that was printed stands written, or the status is
-/// `WriteFault` and a front of it does.
-pub fn run_to_end<F: Files, I: Source, O: Sink + Drop>(
+/// `WriteFault` and a front of it does. Notes are written at once.
+pub fn run_to_end<F: Files, I: Source, O: Sink + Drop, N: Sink>(
     alloc: Global,
     words: &Words,
     files: &mut F,
     input: &mut I,
     out: O,
+    notes: &mut N,
 ) -> (O, Status)
-    ensures { EndsSo words.now (devices (F.told files.old) (I.told input.old) (O.told out)) (devices (F.told files.new) (I.told input.new) (O.told result.0)) result.1 }
+    ensures { EndsSo words.now (devices (F.told files.old) (I.told input.old) (O.told out)) (devices (F.told files.new) (I.told input.new) (O.told result.0)) (N.told notes.old) (N.told notes.new) result.1 }
 {
     if is_session(words) {
         let mut each = out;
-        let status = run(alloc, words, files, input, &mut each);
+        let status = run(alloc, words, files, input, &mut each, notes);
         return (each, status);
     }
     let mut gathering = Gathering::new(alloc, out);
-    let status = run(alloc, words, files, input, &mut gathering);
+    let status = run(alloc, words, files, input, &mut gathering, notes);
     let (below, passed) = gathering.finish();
     (below, ended(status, passed.is_ok()))
 }

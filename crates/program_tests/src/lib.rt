@@ -3,8 +3,9 @@
 //! `commands_over_problems` has the commands over a problem, `following_clocks` those over clocks that follow each
 //! other, `sessions` those over a declaration, `long_sessions` one over a log of thousands of rows,
 //! `verified_certificates` those over a certificate, with its table `verify_cases`, `trials` the trials, `widenings`
-//! those over a widening, `merged_captures` merges, `failing_in_turn` has each call of a device fail; `runs` is how
-//! they are run, and `fixtures` has what several of them use.
+//! those over a widening, `merged_captures` merges, `passed_packets` a capture with packets that are passed over,
+//! `failing_in_turn` has each call of a device fail; `runs` is how they are run, and `fixtures` has what several of them
+//! use.
 #![tactic(auto)]
 
 #[cfg(test)]
@@ -19,6 +20,8 @@ mod following_clocks;
 mod long_sessions;
 #[cfg(test)]
 mod merged_captures;
+#[cfg(test)]
+mod passed_packets;
 #[cfg(test)]
 mod runs;
 #[cfg(test)]

@@ -1,5 +1,5 @@
 // Captures that are merged into one, and why some are not.
-use crate::runs::run_over;
+use crate::runs::run_noted;
 use ports::{MemFiles, MemSink};
 use problem_commands::Status;
 use std::alloc::{AllocError, Global};
@@ -137,7 +137,30 @@ fn push_merged(bytes: &mut Vec<u8>) -> Result<(), AllocError> {
     push_record(&[0, 0, 0, 0, 80, 0, 0, 0], &BACK, bytes)
 }
 
-// Whether a merge over these files ends so.
+// Whether a merge over these files ends so, whatever is noted.
+fn ends_noted(
+    alloc: Global,
+    files: &mut MemFiles,
+    script: &str,
+    fails: &[u32],
+    status: Status,
+    printed: &[u8],
+    notes: &mut MemSink,
+) -> Result<bool, AllocError> {
+    let mut out = MemSink::new(alloc, 600, 7, &[])?;
+    let found = run_noted(
+        alloc,
+        &["mergecap", "decl"],
+        files,
+        script.as_bytes(),
+        fails,
+        &mut out,
+        notes,
+    )?;
+    Ok(found.code() == status.code() && out.bytes() == printed)
+}
+
+// Whether a merge over these files ends so, and nothing is noted.
 fn ends_so(
     alloc: Global,
     files: &mut MemFiles,
@@ -146,16 +169,9 @@ fn ends_so(
     status: Status,
     printed: &[u8],
 ) -> Result<bool, AllocError> {
-    let mut out = MemSink::new(alloc, 600, 7, &[])?;
-    let found = run_over(
-        alloc,
-        &["mergecap", "decl"],
-        files,
-        script.as_bytes(),
-        fails,
-        &mut out,
-    )?;
-    Ok(found.code() == status.code() && out.bytes() == printed)
+    let mut notes = MemSink::new(alloc, 100, 7, &[])?;
+    let is_so = ends_noted(alloc, files, script, fails, status, printed, &mut notes)?;
+    Ok(is_so && notes.bytes().is_empty())
 }
 
 // Whether the two captures are merged over this declaration by this script.
@@ -188,6 +204,89 @@ fn logs_have_no_packets(rt: HostRuntime) -> Result<(), Fail> {
     let alloc = rt.alloc();
     assert!(rt; merges(alloc, WITH_A_LOG, "add a a\nadd log log\nadd b b\n")?);
     assert!(rt; merges_none(alloc, WITH_A_LOG, "add log log\n")?);
+    Ok(())
+}
+
+// The section and the interface of a capture in pcapng: link type 101, and stamps in ns.
+const SECTION: [u8; 60] = [
+    0x0a, 0x0d, 0x0d, 0x0a, 28, 0, 0, 0, 0x4d, 0x3c, 0x2b, 0x1a, 1, 0, 0, 0, 0xff, 0xff, 0xff,
+    0xff, 0xff, 0xff, 0xff, 0xff, 28, 0, 0, 0, 1, 0, 0, 0, 32, 0, 0, 0, 101, 0, 0, 0, 0, 0, 4, 0,
+    9, 0, 1, 0, 9, 0, 0, 0, 0, 0, 0, 0, 32, 0, 0, 0,
+];
+
+// A simple packet, which has no time.
+const SIMPLE: [u8; 20] = [3, 0, 0, 0, 20, 0, 0, 0, 4, 0, 0, 0, 0, 0, 0, 0, 20, 0, 0, 0];
+
+// Appends an enhanced packet.
+fn push_enhanced(stamp: &Stamp, packet: &[u8; 28], bytes: &mut Vec<u8>) -> Result<(), AllocError> {
+    bytes.extend_from_slice(&[6, 0, 0, 0, 60, 0, 0, 0, 0, 0, 0, 0])?;
+    bytes.extend_from_slice(stamp)?;
+    bytes.extend_from_slice(&[28, 0, 0, 0, 28, 0, 0, 0])?;
+    bytes.extend_from_slice(packet)?;
+    bytes.extend_from_slice(&[60, 0, 0, 0])
+}
+
+// The capture of the first host, with the first 5 bytes of a record behind it.
+fn put_cut(alloc: Global, files: &mut MemFiles) -> Result<(), AllocError> {
+    let mut bytes = Vec::new(alloc);
+    push_header(101, &mut bytes)?;
+    push_record(&AT_100, &THERE, &mut bytes)?;
+    push_record(&AT_180, &BACK, &mut bytes)?;
+    bytes.extend_from_slice(&AT_195[..5])?;
+    files.put("a", &bytes)
+}
+
+// The capture of the second host in pcapng, with a simple packet inside and the first 3 bytes of another one behind it.
+fn put_passed(alloc: Global, files: &mut MemFiles) -> Result<(), AllocError> {
+    let mut bytes = Vec::new(alloc);
+    bytes.extend_from_slice(&SECTION)?;
+    push_enhanced(&AT_250, &THERE, &mut bytes)?;
+    bytes.extend_from_slice(&SIMPLE)?;
+    push_enhanced(&AT_300, &BACK, &mut bytes)?;
+    bytes.extend_from_slice(&SIMPLE[..3])?;
+    files.put("b", &bytes)
+}
+
+// The declaration and both captures.
+fn files_to_note(alloc: Global) -> Result<MemFiles, AllocError> {
+    let mut files = MemFiles::new(alloc, &[])?;
+    files.put("decl", TWO_CAPTURES.as_bytes())?;
+    put_cut(alloc, &mut files)?;
+    put_passed(alloc, &mut files)?;
+    Ok(files)
+}
+
+// Whether both captures are merged by this script. Notes are written in pieces of 7 bytes.
+fn merges_noted(alloc: Global, script: &str, notes: &mut MemSink) -> Result<bool, AllocError> {
+    let mut files = files_to_note(alloc)?;
+    let mut merged = Vec::new(alloc);
+    push_merged(&mut merged)?;
+    ends_noted(alloc, &mut files, script, &[], Status::Done, &merged, notes)
+}
+
+// Whether they are, and these are the notes where their writes with these numbers fail.
+fn notes_are(alloc: Global, script: &str, fails: &[u32], wanted: &str) -> Result<bool, AllocError> {
+    let mut notes = MemSink::new(alloc, 100, 7, fails)?;
+    let is_merged = merges_noted(alloc, script, &mut notes)?;
+    Ok(is_merged && notes.bytes() == wanted.as_bytes())
+}
+
+const NOTES: &str = "a pending 5\nb pending 3\nb passed simple 1 obsolete 0 other 0\n";
+
+#[test]
+fn captures_are_noted(rt: HostRuntime) -> Result<(), Fail> {
+    let alloc = rt.alloc();
+    assert!(rt; notes_are(alloc, "add a a\nadd b b\n", &[], NOTES)?);
+    assert!(rt; notes_are(alloc, "add b b\nadd a a\n", &[], NOTES)?);
+    Ok(())
+}
+
+#[test]
+fn notes_that_fail_change_nothing_else(rt: HostRuntime) -> Result<(), Fail> {
+    let alloc = rt.alloc();
+    assert!(rt; notes_are(alloc, "add a a\nadd b b\n", &[1], "")?);
+    assert!(rt; notes_are(alloc, "add a a\nadd b b\n", &[2], "a pendi")?);
+    assert!(rt; notes_are(alloc, "add a a\nadd b b\n", &[3], "a pending 5\n")?);
     Ok(())
 }
 

@@ -19,15 +19,30 @@ fn status_of(
     files: &mut MemFiles,
     input: &mut MemSource,
     out: &mut MemSink,
+    notes: &mut MemSink,
 ) -> Result<Status, AllocError> {
     let mut all = Words::new(alloc);
     for word in words {
         all.push(word)?;
     }
-    Ok(run(alloc, &all, files, input, out))
+    Ok(run(alloc, &all, files, input, out, notes))
 }
 
 // How a run ends over this script, which comes in pieces of 14 bytes. Reads of it with these numbers fail.
+pub(crate) fn run_noted(
+    alloc: Global,
+    words: &[&str],
+    files: &mut MemFiles,
+    script: &[u8],
+    fails: &[u32],
+    out: &mut MemSink,
+    notes: &mut MemSink,
+) -> Result<Status, AllocError> {
+    let mut input = MemSource::new(alloc, script, 14, fails)?;
+    status_of(alloc, words, files, &mut input, out, notes)
+}
+
+// The same where nothing is to be noted.
 pub(crate) fn run_over(
     alloc: Global,
     words: &[&str],
@@ -36,8 +51,8 @@ pub(crate) fn run_over(
     fails: &[u32],
     out: &mut MemSink,
 ) -> Result<Status, AllocError> {
-    let mut input = MemSource::new(alloc, script, 14, fails)?;
-    status_of(alloc, words, files, &mut input, out)
+    let mut notes = MemSink::new(alloc, 0, 1, &[])?;
+    run_noted(alloc, words, files, script, fails, out, &mut notes)
 }
 
 // Whether a run over this script comes to what is wanted.

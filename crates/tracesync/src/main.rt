@@ -18,12 +18,13 @@ fn words_of(rt: &HostRuntime) -> io::Result<Words> {
     Ok(words)
 }
 
-// Runs the command over the files, the standard input and the standard output.
+// Runs the command over the files, the standard input, the standard output and the standard error.
 fn run_over_host(rt: &HostRuntime, words: &Words) -> Status {
     let mut files = DiskFiles::new(rt.alloc(), rt);
     let mut input = StdSource::new(rt.reader());
     let out = StdSink::new(io::writer(rt));
-    run_to_end(rt.alloc(), words, &mut files, &mut input, out).1
+    let mut notes = StdSink::new(rt.stderr());
+    run_to_end(rt.alloc(), words, &mut files, &mut input, out, &mut notes).1
 }
 
 fn main(rt: HostRuntime) -> ExitCode {

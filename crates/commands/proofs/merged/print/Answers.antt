@@ -1,4 +1,4 @@
-use Rattle.std.proofs.Common.{refl}
+use Rattle.std.proofs.Common.{inl, inr, refl}
 use Rattle.mergecap.specs.MergedCapture.{merged_capture}
 use Rattle.mergecap.specs.Packets.{all_timed}
 use Rattle.problem_commands.specs.Printing.{IsOnly}
@@ -15,3 +15,9 @@ pub returns-in-Err-clause-prints : goal.returns-in-Err-clause-prints
 returns-in-Err-clause-prints g c =
     let text = merged_capture (all_timed c.args.ordered.now) in
     failed_prints (IsOnly text Done) text Done _ _ (refl, refl) c.in-Err.ensures.written
+
+pub returns-in-Ok-clause-only : goal.returns-in-Ok-clause-only
+returns-in-Ok-clause-only g c = inl refl
+
+pub returns-in-Err-clause-only : goal.returns-in-Err-clause-only
+returns-in-Err-clause-only g c = inr refl

@@ -1,0 +1,44 @@
+-- What the words of each command ask for.
+use Rattle.std.proofs.Common.{◌≡◌, ℕ, List, [], ◌∷◌, codes, refl}
+use Rattle.commands.specs.Asked.{Asked, asked_of}
+use Rattle.commands.specs.Asked.Asked.{Obey, Solve, Ends, Verify, Session, Trial, Widen, Judge, Mergecap, Help, Version, Nothing}
+
+obey : (problem exec : List ℕ) → asked_of (codes "obey" ∷ problem ∷ exec ∷ []) ≡ Obey problem exec
+obey problem exec = refl
+
+solve : (problem : List ℕ) → asked_of (codes "solve" ∷ problem ∷ []) ≡ Solve problem
+solve problem = refl
+
+ends : (problem first second : List ℕ) → asked_of (codes "ends" ∷ problem ∷ first ∷ second ∷ []) ≡ Ends problem first second
+ends problem first second = refl
+
+verify : (problem cert : List ℕ) → asked_of (codes "verify" ∷ problem ∷ cert ∷ []) ≡ Verify problem cert
+verify problem cert = refl
+
+session : (decl : List ℕ) → asked_of (codes "session" ∷ decl ∷ []) ≡ Session decl
+session decl = refl
+
+trial : (number : List ℕ) → asked_of (codes "trial" ∷ number ∷ []) ≡ Trial number
+trial number = refl
+
+widen : (problem : List ℕ) → asked_of (codes "widen" ∷ problem ∷ []) ≡ Widen problem
+widen problem = refl
+
+judge : (problem widening : List ℕ) → asked_of (codes "judge" ∷ problem ∷ widening ∷ []) ≡ Judge problem widening
+judge problem widening = refl
+
+mergecap : (decl : List ℕ) → asked_of (codes "mergecap" ∷ decl ∷ []) ≡ Mergecap decl
+mergecap decl = refl
+
+help : asked_of (codes "--help" ∷ []) ≡ Help
+help = refl
+
+version : asked_of (codes "--version" ∷ []) ≡ Version
+version = refl
+
+-- no words, and a word too many
+nothing : asked_of [] ≡ Nothing
+nothing = refl
+
+two_problems : (first second : List ℕ) → asked_of (codes "solve" ∷ first ∷ second ∷ []) ≡ Nothing
+two_problems first second = refl
