@@ -1,0 +1,219 @@
+"""What a session replies comes back as values, exactly, and what goes wrong as exceptions."""
+
+import os
+import pathlib
+import pickle
+import sys
+import types
+import unittest
+from fractions import Fraction
+from typing import Any, List
+from unittest import mock
+
+import tracesync
+from standing_in import CYCLE, HOSTS, PROBLEM, PROOF, StandingIn
+from tracesync import Contradiction, DeclarationRefused, Ended, Interval, Order, Refused, Session
+
+
+class Answers(StandingIn):
+    """Each question that has an answer."""
+
+    def test_additions(self) -> None:
+        session = self.session()
+        self.assertEqual(session.add("a", "a.csv"), tracesync.Added(2, 0, 0, 0, True))
+        self.assertEqual(session.add("b", pathlib.Path("b.csv")), tracesync.Added(1, 1, 0, 7, False))
+        self.assertEqual(session.events(), ["a#1", "a#2", "b#1"])
+
+    def test_an_addition_tells_what_was_passed_over(self) -> None:
+        session = self.session()
+        self.assertEqual(session.add("b", "c.pcapng"), tracesync.Added(1, 0, 1, 0, True, passed=5))
+        self.assertNotIn("passed", session.report())
+
+    def test_both_ends_are_exact_and_none_is_no_limit(self) -> None:
+        session = self.session()
+        self.assertEqual(session.interval("a#1", "b#1"), Interval(-1, None))
+        self.assertEqual(session.interval("a#1", "a#2"), Interval(None, 2**120))
+        self.assertEqual(session.interval("a#1", "b#1").least_ns, Fraction(-1, 10**9))
+        self.assertIsNone(session.interval("a#1", "b#1").width)
+        self.assertEqual(Interval(5, 1_000_000_005).width_ns, 1)
+
+    def test_orders_are_words_too(self) -> None:
+        session = self.session()
+        self.assertIs(session.order("a#1", "b#1"), Order.BEFORE)
+        self.assertEqual((session.order("b#1", "a#1"), f"{Order.SAME}", str(Order.AFTER)), ("open", "same", "after"))
+
+    def test_times_of_all_events_by_label_and_number(self) -> None:
+        session = self.session()
+        session.add("b", "b.csv")
+        session.add("a", "a.csv")
+        found = session.times()
+        wanted = {"a#1": (100 * 10**9, None), "a#2": (None, 200_500_000_000), "b#1": (10**9, 10**9)}
+        self.assertEqual(([*found], dict(found)), ([*wanted], wanted))
+        self.assertEqual(session.time("a#2").greatest_ns, Fraction(401, 2))
+
+    def test_a_merge_keeps_its_order_and_its_texts(self) -> None:
+        found, late = self.session().merge(), 66_000_000_001
+        self.assertEqual([tuple(it) for it in found], [("a#1", 0, ""), ("b#1", late, "a note"), ("a#2", late, "")])
+        self.assertEqual(found[1].time_ns, Fraction(66_000_000_001, 10**9))
+
+    def test_a_proof_has_both_ends_and_its_text(self) -> None:
+        found = self.session().prove("a#1", "b#1")
+        self.assertEqual((found.text, found.events), (f"{PROOF}\n", ("a#1", "b#1")))
+        self.assertEqual(found.interval, Interval(25_500_000_000, None))
+        self.assertEqual((found.upper, [it.weight_ns for it in found.lower]), ([], [Fraction(-51, 2)]))
+
+    def test_a_problem_has_its_parts_and_its_text(self) -> None:
+        found = self.session().problem()
+        self.assertEqual((found.text, found.clocks["a1"].late, found.follows), (f"{PROBLEM}\n", 4, {("a1", "a2"): 5}))
+        self.assertEqual((found.events["b#1"].stamp, found.messages["b#1", "a#1"].most), (200, None))
+
+    def test_keeping_and_reports(self) -> None:
+        session = self.session()
+        self.assertEqual((session.keep("a#1"), session.report()["unmatched"]), (3, 0))
+
+
+class Refusals(StandingIn):
+    """Whatever has no answer."""
+
+    def test_a_refusal_has_its_number_and_words(self) -> None:
+        session = self.session()
+        with self.assertRaises(Refused) as caught:
+            session.interval("a#1", "a#9")
+        why = caught.exception
+        self.assertEqual((why.number, why.places, why.line), (28, (), "interval a#1 a#9"))
+        self.assertEqual(str(why), f"refused 28: {why.words}")
+        session.add("a", "a.csv")
+        with self.assertRaisesRegex(Refused, "refused 28: a has 2 events so far"):
+            session.interval("a#1", "a#9")
+
+    @unittest.skipIf(sys.version_info < (3, 11), "this Python does not read TOML")
+    def test_words_know_the_declaration(self) -> None:
+        with self.assertRaisesRegex(Refused, "refused 21: no label c is declared; there are a, b"):
+            self.session().add("c", "c.csv")
+
+    def test_a_word_with_a_blank_is_no_other_question(self) -> None:
+        session = self.session()
+        cases: Any = ((session.interval, "a#1 b#1", ""), (session.add, "a", "my a.csv"), (session.keep, ""))
+        for ask, *words in cases:
+            with self.assertRaises(Refused) as caught:
+                ask(*words)
+            self.assertEqual(caught.exception.number, 20)
+
+    def test_a_line_feed_is_asked_of_nobody(self) -> None:
+        session = self.session()
+        with self.assertRaisesRegex(ValueError, "no line feed"):
+            session.interval("a#1 b#1\norder a#1", "b#1")
+        with self.assertRaises(ValueError):
+            session.add("a", "\ud800.csv")
+        self.assertEqual(session.order("a#1", "b#1"), "before")
+
+    def test_a_contradiction_carries_its_certificate(self) -> None:
+        session = self.session()
+        for ask in (session.interval, session.order):
+            with self.assertRaises(Contradiction) as caught:
+                ask("b#1", "b#1")
+            found = caught.exception.certificate
+            self.assertEqual((found.text, found.sum_ns, found.steps[0].names), (f"{CYCLE}\n", -100, ["a#1", "b#1"]))
+            self.assertIn("lack 100 ns", str(caught.exception))
+        self.assertEqual(session.keep("a#1"), 3)
+
+    def test_an_end_has_its_status_and_words(self) -> None:
+        cases = (("cut", 8, "a write failed"), ("memory", 9, "memory ran out"), ("long", 10, "2^30 bytes"))
+        for name, status, wanted in cases:
+            session = self.session()
+            with self.assertRaises(Ended) as caught:
+                session.keep(f"{name}#1")
+            self.assertEqual(caught.exception.status, status)
+            self.assertIn(wanted, caught.exception.words)
+            with self.assertRaisesRegex(ValueError, "the session has ended"):
+                session.report()
+
+    def test_all_exceptions_are_of_one_kind_and_go_from_process_to_process(self) -> None:
+        cases = (
+            Refused("keep a", 25, ["9", "header"], "told"), Contradiction("merge", tracesync.Cycle(CYCLE.split("\n"))),
+            DeclarationRefused(2, "hosts", 1, "told"), Ended(["read fault"], 7), tracesync.NoProgram("told"),
+        )  # fmt: skip
+        for it in cases:
+            self.assertIsInstance(it, tracesync.TracesyncError)
+            other = pickle.loads(pickle.dumps(it))
+            self.assertEqual((type(other), str(other), vars(other)), (type(it), str(it), vars(it)))
+
+
+class Declarations(StandingIn):
+    """A declaration is a path or a text."""
+
+    def test_a_text_is_written_for_a_while(self) -> None:
+        with mock.patch.dict(os.environ, TMPDIR=self.room), mock.patch("tempfile.tempdir", self.room):
+            before = sorted(os.listdir(self.room))
+            with Session(HOSTS, self.program) as session:
+                self.assertEqual(session.order("a#1", "b#1"), "before")
+                self.assertEqual(sorted(os.listdir(self.room)), before)
+                self.assertEqual(repr(session), "<Session over the declaration: 0 events>")
+
+    def test_a_refusal_says_where_and_why(self) -> None:
+        text = f"{HOSTS}[hosts.0]\ndrift = 3\n"
+        for declaration, name in ((text, "the declaration"), (pathlib.Path(self.write("bad.toml", text)), "bad.toml")):
+            with self.assertRaises(DeclarationRefused) as caught:
+                Session(declaration, self.program)
+            why = caught.exception
+            self.assertEqual((why.number, why.section, why.index), (2, "hosts", 1))
+            line = "line 9: host 0: no such key: drift" if sys.version_info >= (3, 11) else "another key"
+            self.assertRegex(why.words, f"^{name}.*{line}")
+
+    def test_a_file_that_is_not_there(self) -> None:
+        with self.assertRaises(FileNotFoundError):
+            Session("nosuch.toml", self.program)
+        with self.assertRaises(IsADirectoryError):
+            Session(self.room, self.program)
+
+    def test_paths_count_from_where_the_caller_stands(self) -> None:
+        session = self.session()
+        os.mkdir("below")
+        os.chdir("below")
+        with self.assertRaises(Refused) as caught:
+            session.add("a", "a.csv")
+        self.assertEqual(caught.exception.line, f"add a {self.room}/below/a.csv")
+
+
+class Table:
+    """A table that stands in for one of pandas."""
+
+    def __init__(self, rows: List[Any], columns: List[str], dtype: type) -> None:
+        self.rows, self.columns, self.dtype = rows, columns, dtype
+
+
+def has_pandas() -> bool:
+    try:
+        import pandas  # noqa: F401
+    except ImportError:
+        return False
+    return True
+
+
+class Tables(StandingIn):
+    """Tables of pandas keep each digit."""
+
+    def test_columns_and_rows(self) -> None:
+        session = self.session()
+        session.add("a", "a.csv")
+        with mock.patch.dict(sys.modules, pandas=types.SimpleNamespace(DataFrame=Table)):
+            merged, timed = session.merge().to_pandas(), session.times().to_pandas()
+        self.assertEqual((merged.columns, merged.dtype), (["event", "label", "number", "time", "text"], object))
+        self.assertEqual(merged.rows[1], ("b#1", "b", 1, 66_000_000_001, "a note"))
+        self.assertEqual(timed.columns, ["event", "label", "number", "least", "greatest"])
+        self.assertEqual(timed.rows, [("a#1", "a", 1, 100 * 10**9, None), ("a#2", "a", 2, None, 200_500_000_000)])
+
+    @unittest.skipUnless(has_pandas(), "pandas is not there")
+    def test_pandas_keeps_whole_numbers(self) -> None:
+        found = tracesync.Merge([tracesync.MergedEvent("a#1", 2**120 + 1, "")]).to_pandas()
+        self.assertEqual((found["time"][0], type(found["time"][0])), (2**120 + 1, int))
+        self.assertEqual([*tracesync.Times().to_pandas().columns], ["event", "label", "number", "least", "greatest"])
+
+    @unittest.skipIf(has_pandas(), "pandas is there")
+    def test_without_pandas_it_is_said(self) -> None:
+        with self.assertRaisesRegex(ImportError, "pandas"):
+            self.session().merge().to_pandas()
+
+
+if __name__ == "__main__":
+    unittest.main()

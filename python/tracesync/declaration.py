@@ -1,0 +1,345 @@
+"""A declaration in words, with what is mostly a slip, and the cause of its refusal."""
+
+from __future__ import annotations
+
+import re
+from collections.abc import Collection
+from typing import Any, Dict, Optional
+
+try:
+    import tomllib
+except ModuleNotFoundError:
+    # (Python has a reader of TOML from 3.11 on)
+    tomllib = None  # type: ignore[assignment]
+
+# A table of a document, by its keys.
+Table = Dict[str, Any]
+
+# The name of a host, a clock or a label.
+NAME = re.compile(r"[A-Za-z0-9._-]{1,32}")
+CHARACTERS = "1 to 32 letters, digits, points, lines below and hyphens"
+# What each cause of a refusal says, without a look at the document.
+CAUSES = {
+    1: "it is no TOML",
+    2: "there is another key, or a required one is missing",
+    3: "a value is of another kind than it should be",
+    4: "a name is no name, is there twice, or names nothing",
+    5: "a number is out of its range",
+    6: "an address is not spelled as one, or is there twice",
+    7: "no clock has the name of the source, or its `short` or `long` is not 0",
+    8: "the document has more than 2^24 bytes",
+}
+NUMBERS = ("short", "long", "early", "late")
+HOST, CLOCK = {*NUMBERS, "addresses", "addresses6", "clocks"}, {*NUMBERS, "name", "gap"}
+LABEL, LINK = {"host", "kind", "clock"}, {"from", "to", "least", "most"}
+TOP = {"hosts", "labels", "links", "payload_bytes", "source"}
+ADDRESS = re.compile(r"(0|[1-9]\d{0,2})(\.(0|[1-9]\d{0,2})){3}")
+ADDRESS6 = re.compile(r"[0-9a-fA-F]{1,4}(:[0-9a-fA-F]{1,4}){7}")
+# A declared rate of so few ppb is a slip mostly: a quartz is off by 1 ppm at least.
+RATE_FEW = 1000
+
+
+class NoReader(ValueError):
+    """This Python has no reader of TOML; the program reads a declaration all the same."""
+
+
+def ppm(ppb: int) -> str:
+    """Returns parts per billion in words."""
+    return f"{ppb / 1000:.3f}".rstrip("0").rstrip(".") + " ppm"
+
+
+def ns(value: int) -> str:
+    """Returns ns in the greatest unit of which they are a multiple, in words."""
+    for size, name in ((10**9, "s"), (10**6, "ms"), (10**3, "us")):
+        if value >= size and value % (size // 1000) == 0:
+            return f"{value / size:.3f}".rstrip("0").rstrip(".") + f" {name}"
+    return f"{value} ns"
+
+
+def read_declaration(path: str) -> Table:
+    """Returns the tables of a declaration. Raises ValueError where it is no TOML, with the line, or NoReader."""
+    with open(path, "rb") as it:
+        if tomllib is None:
+            raise NoReader("a declaration is read by Python from 3.11 on")
+        return tomllib.load(it)
+
+
+def clocks_of(name: str, host: Table) -> list[tuple[Any, Table, int]]:
+    """Returns the clocks of a host in their order: the name, the numbers and the gap of each.
+
+    A host without tables of clocks is one itself.
+    """
+    own = {it: host[it] for it in NUMBERS if it in host}
+    tables = [it for it in host.get("clocks", []) if isinstance(it, dict)]
+    return [(it.get("name"), {**own, **it}, it.get("gap", 0)) for it in tables] or [(name, own, 0)]
+
+
+def told_clock(numbers: Table, is_source: bool) -> list[str]:
+    """Returns what is declared of a clock and of its stamps, in words."""
+    short, long, early, late = (numbers.get(it) for it in NUMBERS)
+    parts = []
+    if not short and not long:
+        perfect = "a PERFECT clock, which never drifts: is this meant?"
+        parts.append("the source: a clock that is true" if is_source else perfect)
+    else:
+        is_still = (short or 0) >= 10**9
+        wanted = 0 if is_still else -(-(short or 0) * 10**9 // (10**9 - (short or 0)))
+        if is_still:
+            parts.append("`short` IS ABOVE 999_999_999: no session takes that")
+        if long == wanted:
+            parts.append(f"its clock is within {ppm(short or 0)}")
+        else:
+            parts.append(f"its clock is fast by {ppm(short or 0)} at most, and slow by some {ppm(long or 0)}")
+        few = [str(it) for it in (short, long) if it and it < RATE_FEW]
+        if few:
+            parts.append(f"{few[0]} are parts per BILLION: is {few[0]}_000 meant, {few[0]} ppm?")
+        if (long or 0) < wanted:
+            parts.append(f"`long` is less than what belongs to `short`, {wanted:_}: is this meant?")
+    if not early and not late:
+        parts.append("stamps WITHOUT ANY ERROR: is this meant?")
+    else:
+        parts.append(f"events are up to {ns(early or 0)} before and {ns(late or 0)} after their stamps")
+    return parts
+
+
+def told_clocks(name: str, host: Table, source: Optional[str], labels: Table) -> list[str]:
+    """Returns the clocks of a host with several, a line for each."""
+    own = [it for it in labels.values() if it.get("host") == name]
+    lines, before = [], None
+    for clock, numbers, gap in clocks_of(name, host):
+        if before is None:
+            told = f"the first clock of {name}{', whose gap does nothing' if gap else ''}"
+        else:
+            since = f"{ns(gap)} after it at least" if gap else "from its last moment on"
+            told = f"the clock of {name} behind {before}, {since}"
+        parts = [told, *told_clock(numbers, source == clock)]
+        if not any(it.get("clock", before is None and clock) == clock for it in own):
+            parts.append("no label is stamped by it")
+        lines.append(f"{clock}: {'; '.join(parts)}.")
+        before = clock
+    return lines
+
+
+def told_host(name: str, host: Table, source: Optional[str], kinds: Collection[Optional[str]]) -> str:
+    """Returns a host in words; its clocks, if it has several, are told behind it."""
+    clocks = host.get("clocks", [])
+    parts = [f"{len(clocks)} clocks, one after the other"] if clocks else told_clock(host, source == name)
+    addresses = [*host.get("addresses", []), *host.get("addresses6", [])]
+    if addresses:
+        parts.append(f"addresses {', '.join(addresses)}")
+    elif "capture" in kinds:
+        parts.append("NO ADDRESS, though it has a capture: no packet of it will be a message")
+    if not kinds:
+        parts.append("no label: no trace of it can be added")
+    return f"{name}: {'; '.join(parts)}."
+
+
+def told_label(name: str, label: Table, hosts: Table) -> str:
+    """Returns a label in words."""
+    told = f"{name}: a {'capture' if label.get('kind') == 'capture' else 'log'} taken at {label.get('host')}"
+    if "clock" in label:
+        return f"{told} and stamped by {label['clock']}."
+    clocks = hosts.get(str(label.get("host")), {}).get("clocks", [])
+    return f"{told} and stamped by its first clock, {clocks[0].get('name')}." if clocks else f"{told}."
+
+
+def told_link(one: str, other: str, link: Table) -> str:
+    """Returns a link in words."""
+    least, most = link.get("least", 0), link.get("most")
+    longest = "as long as it likes" if most is None else f"{ns(most)} at most"
+    told = f"from {one} to {other}: a message takes {ns(least)} at least, and {longest}"
+    if not least:
+        told += "; with `least` 0 it may arrive as it is sent, and the order of its ends is open: is this meant?"
+    if most is not None and most < least:
+        told += "; `most` IS LESS THAN `least`: each message contradicts that"
+    return f"{told}."
+
+
+def told_absent(pairs: list[str]) -> str:
+    """Returns between which hosts no link is declared."""
+    told = f"No link is declared from {', from '.join(pairs[:6])}{', ..' if len(pairs) > 6 else ''}"
+    return f"{told}: the ends of a message there may be at one time; `least = 1` mends it."
+
+
+def told_declaration(value: Table) -> list[str]:
+    """Returns a declaration in words."""
+    hosts, labels = value.get("hosts", {}), value.get("labels", {})
+    lines = []
+    for name in sorted(hosts):
+        kinds = {it.get("kind") for it in labels.values() if it.get("host") == name}
+        lines.append(told_host(name, hosts[name], value.get("source"), kinds))
+        lines += told_clocks(name, hosts[name], value.get("source"), labels) if hosts[name].get("clocks") else []
+    lines += [told_label(name, it, hosts) for name, it in sorted(labels.items())]
+    links = {(it.get("from"), it.get("to")): it for it in value.get("links", [])}
+    lines += [told_link(one, other, it) for (one, other), it in links.items()]
+    pairs = [(one, other) for one in sorted(hosts) for other in sorted(hosts) if one != other]
+    absent = [f"{one} to {other}" for one, other in pairs if (one, other) not in links]
+    if absent:
+        lines.append(told_absent(absent))
+    if "source" in value:
+        lines.append(f"`time` tells when an event was by the clock {value['source']}.")
+    if any(it.get("kind") == "capture" for it in labels.values()):
+        lines.append(f"{value.get('payload_bytes', 0)} bytes of the payload are part of what a packet is known by.")
+    return lines
+
+
+def place_of(path: str, section: str, name: str, index: int) -> Optional[int]:
+    """Returns the line in which a table of a declaration begins, or None."""
+    with open(path, encoding="utf-8", errors="replace") as it:
+        lines = it.read().splitlines()
+    if section == "links":
+        found = [at for at, line in enumerate(lines, 1) if re.match(r"\s*\[\[\s*links\s*\]\]", line)]
+        return found[index - 1] if len(found) >= index else None
+    own = re.escape(name)
+    wanted = re.compile(rf"\s*\[\s*{section}\s*\.\s*(\"{own}\"|'{own}'|{own})\s*[\].]")
+    return next((at for at, line in enumerate(lines, 1) if wanted.match(line)), None)
+
+
+def refused(path: str, number: int, section: str, index: int, shown: Optional[str] = None) -> str:
+    """Returns why a declaration was refused with these three, in words, by a look at the file.
+
+    `shown` is what the file is called there, its path if it is not said.
+    """
+    shown = shown or path
+    try:
+        value = read_declaration(path)
+    except OSError as why:
+        return f"{shown} cannot be read: {why.strerror}"
+    except NoReader:
+        return f"{shown}: {section} {index}: {CAUSES.get(number, f'cause {number}')}"
+    except (ValueError, RecursionError) as why:
+        return f"{shown} is no TOML: {why}"
+    if section == "top":
+        return f"{shown}: {top_cause(value, number)}"
+    tables = value.get(section, {})
+    try:
+        name = sorted(tables, key=str.encode)[index - 1] if section != "links" else f"link {index}"
+        table = tables[name] if section != "links" else tables[index - 1]
+    except (IndexError, KeyError, TypeError):
+        return f"{shown}: {section} {index}"
+    place = place_of(path, section, name, index)
+    told = {"hosts": host_cause, "labels": label_cause, "links": link_cause}[section](value, name, table, number)
+    entry = name if section == "links" else f"{section[:-1]} {name}"
+    return f"{shown}{f', line {place}' if place else ''}: {entry}: {told}"
+
+
+def top_cause(value: Table, number: int) -> str:
+    if number == 2:
+        return f"another key on top: {', '.join(sorted(set(value) - TOP))}"
+    if number == 7:
+        source = value.get("source")
+        told = "there is no such clock, or its `short` or `long` is not 0"
+        return f"source = {source!r}: {told}; a host with `clocks` has none of its own name"
+    causes = {
+        1: "it is no TOML as the program reads it: a number over 2^63, or a byte that is no UTF-8",
+        3: "a value of another kind than it should be",
+        5: "payload_bytes is not from 0 to 64",
+        8: "it has more than 2^24 bytes",
+    }
+    return causes.get(number, f"cause {number}")
+
+
+def host_cause(value: Table, name: str, table: Table, number: int) -> str:
+    if number == 2:
+        others = sorted(set(table) - HOST)
+        nested = [it for it in others if isinstance(table[it], dict)]
+        quoted = f". A name with a point needs quotes: [hosts.\"{name}.{nested[0]}\"]" if nested else ""
+        return f"no such key: {', '.join(others)}{quoted}" if others else clock_keys_cause(table)
+    if number == 4 and NAME.fullmatch(name):
+        return clock_name_cause(value, name, table)
+    if number == 5:
+        clocks = [it for it in table.get("clocks", []) if isinstance(it, dict)]
+        found = [*out_of_range(table, None), *(told for it in clocks for told in out_of_range(it, it.get("name")))]
+        return f"out of range: {', '.join(found)}" if found else "there are more than 65,536 hosts or clocks"
+    if number == 6:
+        return address_cause(table)
+    kinds = "numbers have no quotes and no point, addresses stand in brackets, and so do tables of clocks"
+    return {3: f"a value of another kind: {kinds}", 4: f"a name is {CHARACTERS}"}.get(number, f"cause {number}")
+
+
+def is_address(text: str) -> bool:
+    """Returns whether a text is spelled as an address of IPv4."""
+    return ADDRESS.fullmatch(text) is not None and all(int(part) <= 255 for part in text.split("."))
+
+
+def address_cause(table: Table) -> str:
+    """Returns which address of a host is none, or is there twice."""
+    wrong = [it for it in table.get("addresses", []) if not is_address(it)]
+    if wrong:
+        more = ". One of IPv6 is of `addresses6`" if any(":" in it for it in wrong) else ""
+        return f"no address such as 10.0.0.1: {', '.join(wrong)}{more}"
+    wrong = [it for it in table.get("addresses6", []) if not ADDRESS6.fullmatch(it)]
+    if wrong:
+        return f"not eight groups of hexadecimal digits with colons, as fd00:0:0:0:0:0:0:1: {', '.join(wrong)}"
+    return "an address is there twice, at one host or at two"
+
+
+def out_of_range(table: Table, clock: Optional[str]) -> list[str]:
+    """Returns the numbers of a host or of a clock that may not be so, with the clock's name."""
+    most = {"short": 999_999_999, "long": 1_000_000_000}
+    numbers = [it for it in (*NUMBERS, "gap") if isinstance(table.get(it), int)]
+    wrong = [it for it in numbers if not 0 <= table[it] <= most.get(it, 2**62 - 1)]
+    limits = {it: f" above {most[it]:_}" if it in most and table[it] > most[it] else "" for it in wrong}
+    return [f"{it}{limits[it]}{f' of {clock}' if clock else ''}" for it in wrong]
+
+
+def clock_keys_cause(table: Table) -> str:
+    """Returns which key a clock of a host may not have, or lacks."""
+    for at, it in enumerate(table.get("clocks", []), 1):
+        others = sorted(set(it) - CLOCK) if isinstance(it, dict) else []
+        if others:
+            return f"no such key of its clock {it.get('name', at)}: {', '.join(others)}"
+        if isinstance(it, dict) and "name" not in it:
+            return f"its clock {at} lacks its name"
+    return "cause 2"
+
+
+def clock_name_cause(value: Table, name: str, table: Table) -> str:
+    """Returns which name of a host's clocks is misspelled, or is that of a clock before."""
+    hosts = value["hosts"]
+    before = [host for host in hosts if host.encode() < name.encode()]
+    taken = {it for host in before for it, *_ in clocks_of(host, hosts[host])}
+    for clock, *_ in clocks_of(name, table):
+        if not NAME.fullmatch(clock):
+            return f"{clock!r} is no name of a clock, which is {CHARACTERS}"
+        if clock in taken:
+            return f"another clock has the name {clock} already; a host without `clocks` has one of its own name"
+        taken.add(clock)
+    return "cause 4"
+
+
+def keys_cause(table: Table, keys: Collection[str], needed: Collection[str]) -> str:
+    """Returns which keys a table may not have, and which ones it lacks."""
+    others, lacks = sorted(set(table) - set(keys)), sorted(set(needed) - set(table))
+    told = [f"no such key: {', '.join(others)}"] if others else []
+    return "; ".join([*told, *([f"it lacks {', '.join(lacks)}"] if lacks else [])])
+
+
+def label_cause(value: Table, name: str, table: Table, number: int) -> str:
+    if number == 2:
+        return keys_cause(table, LABEL, LABEL - {"clock"})
+    if number == 4:
+        if not NAME.fullmatch(name):
+            return f"a name is {CHARACTERS}"
+        if table.get("host") not in value.get("hosts", {}):
+            return f"there is no host {table.get('host')}"
+        clocks = [it for it, *_ in clocks_of(table["host"], value["hosts"][table["host"]])]
+        if table.get("clock", clocks[0]) not in clocks:
+            return f"{table['host']} has no clock {table['clock']}, but {', '.join(clocks)}"
+        return f"kind = {table.get('kind')!r} is neither \"capture\" nor \"log\""
+    return "its values are texts in quotes" if number == 3 else f"cause {number}"
+
+
+def link_cause(value: Table, name: str, table: Table, number: int) -> str:
+    if number == 2:
+        return keys_cause(table, LINK, {"from", "to"})
+    if number == 4:
+        absent = [str(table.get(it)) for it in ("from", "to") if table.get(it) not in value.get("hosts", {})]
+        if absent:
+            return f"there is no host {', '.join(absent)}"
+        return "an earlier link has the same two ends in this order"
+    causes = {
+        3: "a value of another kind: `most` is left out where there is no limit",
+        5: "a number is negative, or 2^62 or more",
+    }
+    return causes.get(number, f"cause {number}")
