@@ -1,7 +1,7 @@
 #!/usr/bin/env bash
 # Becomes the program of this package with these words, in the caller's folder and with the caller's input: its output, its
-# status and its process are the program's. The words --help and --version are answered here. A line on the standard error
-# says before which named file is not there or cannot be read, or that the input or the output is none.
+# status and its process are the program's. The word --version is answered here. A line on the standard error says before
+# which named file is not there or cannot be read, or that the input or the output is none.
 set -u
 top=$(cd "$(dirname "$(readlink -f "${BASH_SOURCE[0]}")")/.." && pwd) || exit 126
 binary=$top/lib/tracesync/tracesync
@@ -13,12 +13,6 @@ TEXT
 }
 
 @FUNCTIONS@
-print_help() {
-  local text
-  text=$(print_text)
-  printf '%s\n' "${text//docs\//"$top/share/doc/tracesync/docs/"}"
-}
-
 # Where there is no Python, an input that was set not to wait stays as it is.
 command -v python3 >/dev/null || is_hasty() { return 1; }
 

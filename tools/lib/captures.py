@@ -7,12 +7,14 @@ helps to find out whose addresses are whose, and no answer comes from it.
 import struct
 from dataclasses import dataclass, field
 
-MAGICS = {
-    b"\xa1\xb2\xc3\xd4": (">", 1000), b"\xd4\xc3\xb2\xa1": ("<", 1000),
-    b"\xa1\xb2\x3c\x4d": (">", 1), b"\x4d\x3c\xb2\xa1": ("<", 1),
-}  # fmt: skip
-SECTION, ORDERS = b"\x0a\x0d\x0d\x0a", {b"\x1a\x2b\x3c\x4d": ">", b"\x4d\x3c\x2b\x1a": "<"}
+from tracesync.starts import MAGICS, SECTION
+
+ORDERS = {b"\x1a\x2b\x3c\x4d": ">", b"\x4d\x3c\x2b\x1a": "<"}
 INTERFACE, PACKET = 1, 6
+# The other blocks of pcapng that Wireshark counts as frames, and those that it does not. With all others versions differ.
+OBSOLETE, SIMPLE, NAMES, STATISTICS, JOURNAL, SECRETS = 2, 3, 4, 5, 9, 10
+COUNTED = (OBSOLETE, SIMPLE, PACKET, JOURNAL)
+UNCOUNTED = (int.from_bytes(SECTION, "big"), INTERFACE, NAMES, STATISTICS, SECRETS)
 CAPTURED_MOST = 262_144
 # Options of pcapng: of an interface its name, its addresses, what its times count and the seconds that are added to them, and of a packet
 # its direction.
@@ -21,14 +23,15 @@ NAME, ADDRESS4, ADDRESS6, RESOLUTION, OFFSET, FLAGS = 2, 4, 5, 9, 14, 2
 
 @dataclass(slots=True)
 class Packet:
-    """A packet: its stamp in ns, the number of its link type, its bytes, whether it went out, where the file says so, and the number of
-    its interface in a file that has several."""
+    """A packet: its stamp in ns, the number of its link type, its bytes, whether it went out, where the file says so, the
+    number of its interface in a file that has several, and its `frame.number` in Wireshark, where all versions agree."""
 
     stamp: int
     link: int
     data: bytes
     is_sent: bool | None = None
     interface: int = 0
+    frame: int | None = None
 
 
 @dataclass
@@ -47,11 +50,6 @@ class Capture:
         while size > self.unit and any(it.stamp % size for it in self.packets):
             size //= 10
         return max(size, self.unit) if self.packets else self.unit
-
-
-def is_capture(start: bytes) -> bool:
-    """Returns whether a file that begins with these bytes is a capture."""
-    return start[:4] in MAGICS or start[:4] == SECTION
 
 
 def read_capture(path: str) -> Capture:
@@ -79,7 +77,8 @@ def classic(data: bytes) -> Capture:
             break
         if at + 16 + captured > len(data):
             break
-        found.packets.append(Packet(seconds * 10**9 + fraction * unit, link, data[at + 16 : at + 16 + captured]))
+        frame = data[at + 16 : at + 16 + captured]
+        found.packets.append(Packet(seconds * 10**9 + fraction * unit, link, frame, frame=len(found.packets) + 1))
         at += 16 + captured
     if at < len(data) and not found.odd:
         found.odd.append(f"its last {len(data) - at} bytes are no whole packet")
@@ -91,6 +90,8 @@ class Blocks:
 
     def __init__(self, data: bytes) -> None:
         self.data, self.at, self.order, self.found = data, 0, "<", Capture(unit=0)
+        # (how many frames came so far, and whether each block was one or none by all versions of Wireshark)
+        self.frames, self.is_counted = 0, True
         # (of each interface its link type, and what its stamps count in a second)
         self.interfaces: list[tuple[int, int]] = []
 
@@ -102,6 +103,8 @@ class Blocks:
             if length < 12 or length % 4 or self.at + length > len(self.data):
                 self.found.odd.append(f"the block at byte {self.at} is not whole, or malformed")
                 break
+            self.frames += kind in COUNTED
+            self.is_counted = self.is_counted and kind in (*COUNTED, *UNCOUNTED)
             if kind == INTERFACE and length >= 20:
                 self.interface(self.data[self.at : self.at + length - 4])
             elif kind == PACKET and length >= 32:
@@ -145,4 +148,5 @@ class Blocks:
         flags = self.options(block, 28 + (captured + 3) // 4 * 4).get(FLAGS, b"")
         direction = struct.unpack(f"{self.order}I", flags)[0] & 3 if len(flags) == 4 else 0
         stamp = ((high << 32) + low) * 10**9 // per_second + seconds * 10**9
-        self.found.packets.append(Packet(stamp, link, block[28 : 28 + captured], {1: False, 2: True}.get(direction), number))
+        is_sent, frame = {1: False, 2: True}.get(direction), self.frames if self.is_counted else None
+        self.found.packets.append(Packet(stamp, link, block[28 : 28 + captured], is_sent, number, frame))

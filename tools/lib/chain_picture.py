@@ -4,8 +4,11 @@ is declared of it."""
 from html import escape
 
 from contradiction import event_names
-from picture import BOLD, INKS
-from replies import UNITS, Problem, Step
+from inks import INKS
+from picture import BOLD
+from tracesync.certificates import Step
+from tracesync.numbers import UNITS
+from tracesync.problems import Problem
 from words import time_text
 
 LEFT, TOP, ROW, FOOT, WIDE, COLUMN, STEPS_MOST = 110, 70, 150, 60, 760, 170, 60

@@ -4,10 +4,10 @@ from collections.abc import Iterator
 from dataclasses import dataclass, field
 from html import escape
 
-from picture import INKS
-from replies import UNITS
+from inks import INKS
 from texts import plain
 from timeline import Timeline
+from tracesync.numbers import UNITS
 from words import DECIMALS, anchor, count_text, decimal_text, span_text, unit_of
 
 # A time, and the least and the greatest of what is drawn there, in units; None is an infinite end.

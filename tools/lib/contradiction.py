@@ -5,10 +5,14 @@ import tempfile
 from collections.abc import Iterable
 from datetime import datetime, timezone
 
+from chains import told_follow
 from headers import described
 from inputs import Input
-from program import PROGRAM, run
-from replies import UNITS, Problem, Step, read_cycle, read_problem
+from own_program import PROGRAM
+from tracesync.certificates import Step, read_cycle
+from tracesync.numbers import UNITS
+from tracesync.problems import Problem, read_problem
+from tracesync.program import run
 from words import count_text, decimal_text, time_text
 
 # The first moment of 2000: what is earlier is no time since 1970, but that of a clock which began with 0.
@@ -34,12 +38,6 @@ def exact_ns(units: int) -> str:
 def event_names(steps: list[Step]) -> dict[str, None]:
     """Returns the events that steps name, each once: spans and follows name clocks and stamps."""
     return dict.fromkeys(name for it in steps if it.kind in ("late", "early", "delay-least", "delay-most") for name in it.names)
-
-
-def told_follow(step: Step) -> str:
-    """Returns which reading of a later clock comes after which of an earlier one."""
-    earlier, last, later, first = step.names
-    return f"{later}'s clock showed {first} after {earlier}'s clock showed {last}"
 
 
 class Contradiction:

@@ -4,7 +4,7 @@ from html import escape
 from textwrap import wrap
 
 from crate_map import CrateMap
-from picture import INKS
+from inks import INKS
 
 WIDE, HIGH, GUTTER, GAP, TRACK, MARGIN, HEAD, LETTERS = 130, 26, 64, 20, 7, 14, 74, 19
 # A gap of a column: the number of the column, and of the gap, which is that of the box below it.

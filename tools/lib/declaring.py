@@ -66,7 +66,7 @@ class Declaring:
     def text(self) -> str:
         """Returns the declaration."""
         body = [line for host in self.hosts for line in self.host(host)] + self.labels() + self.links()
-        files = ", ".join(f"{it.label} of {plain(it.path)}" for it in self.inputs)
+        files = ", ".join(f"{it.label} of {plain(it.shown)}" for it in self.inputs)
         head = [f"# Written by tools/declare, for {files}."]
         head += ["# Every answer follows from these lines and from the files. A line that is too wide is never wrong; one that is too narrow",
                  "# makes answers that are definite and wrong. So look at each, and replace what you know better: docs/GUIDE.md, What to declare."]  # fmt: skip
@@ -144,10 +144,10 @@ class Declaring:
         found = [(it.content.resolution(), it) for it in self.inputs if it.host == name]
         resolution, worst = max(found, key=lambda it: it[0])
         what = "the kernel stamped the packet" if worst.kind == "capture" else "the program took the time"
-        lines = [f"# All stamps of {plain(worst.path)} are whole {unit_text(resolution)}; what is below is taken to be cut off. The event is the moment at",
+        lines = [f"# All stamps of {plain(worst.shown)} are whole {unit_text(resolution)}; what is below is taken to be cut off. The event is the moment at",
                  f"# which {what}; for another one, as on the wire, add how far that may be."]  # fmt: skip
         if worst.kind == "log" and resolution == 1 and len(worst.content.rows) < 3:
-            lines[0] = f"# {plain(worst.path)} has too few rows to tell how fine its stamps are: 1 ns is the narrowest."
+            lines[0] = f"# {plain(worst.shown)} has too few rows to tell how fine its stamps are: 1 ns is the narrowest."
             self.unknown.append(f"how fine the stamps of {name} are")
         return [*lines, "early = 0", f"late = {spelled(late_of(resolution, long))}"]
 
@@ -193,7 +193,7 @@ class Declaring:
 
     def notes(self) -> list[str]:
         """Returns what is to be said beside the declaration: what is odd, and what could not be found out."""
-        odd = [f"{plain(it.path)}: {why}" for it in self.inputs for why in it.content.odd] + self.ends.odd
+        odd = [f"{plain(it.shown)}: {why}" for it in self.inputs for why in it.content.odd] + self.ends.odd
         links = Counter(packet.link for it in self.captures for packet in it.content.packets)
         unread = [str(it) for it in links if it not in (1, 101, 113, 276)]
         odd += [f"packets of link type {', '.join(unread)} are not read"] if unread else []

@@ -4,15 +4,18 @@ import json
 from dataclasses import dataclass, replace
 from typing import Any
 
-import declaration as declarations
 from contradiction import stamp_text, told_cycle
-from declaration import read_declaration
 from ends import exchanged
 from inputs import Input, open_input
-from program import PROGRAM, Ended, Session
-from refusals import Refusals
-from replies import UNITS, read_cycle, read_ns, read_problem
+from own_program import PROGRAM, RecordedSession
 from texts import plain
+from tracesync.certificates import read_cycle
+from tracesync.declaration import read_declaration, refused
+from tracesync.errors import Ended
+from tracesync.numbers import UNITS, read_interval
+from tracesync.problems import read_problem
+from tracesync.refusals import Refusals
+from tracesync.replies import read_added
 from words import REASONS, count_text, least_text, span_text, time_text
 
 
@@ -57,8 +60,7 @@ class Explainer:
         """Remembers what was added."""
         label, path = asked[1:]
         self.problem = None
-        self.refusals.counts[label] = self.refusals.counts.get(label, 0) + int(words[2])
-        self.refusals.added.setdefault(label, []).append(path)
+        self.refusals.take(label, path, int(words[2]))
         try:
             self.inputs[len(self.inputs)] = open_input(Input(label, label, path))
         except (OSError, ValueError):
@@ -70,9 +72,9 @@ class Explainer:
         tellers = {
             "refused": lambda: self.refusals.told(line, words[1:]),
             "added": lambda: self.added(words, asked),
-            "interval": lambda: self.interval(read_ns(words[1]), read_ns(words[2]), *names),
+            "interval": lambda: self.interval(*read_interval(*words[1:3]), *names),
             "order": lambda: self.order(words[1], *names),
-            "time": lambda: self.time(read_ns(words[1]), read_ns(words[2]), names[0]),
+            "time": lambda: self.time(*read_interval(*words[1:3]), names[0]),
             "kept": lambda: f"questions about {names[0]} are answered at once from now on (the {words[1]}. of eight that can be kept)",
             "merge": lambda: f"{count_text(int(words[1]), 'event')} in the order of one execution, the earliest: for two of them ask `order`",
             "problem": lambda: self.told_problem(reply),
@@ -99,14 +101,16 @@ class Explainer:
         return f"by the clock of the source {name} was between {ends[0]} and {ends[1]}{wide} (ns are cut off)"
 
     def added(self, words: list[str], asked: list[str]) -> str:
-        events, messages, withdrawn, pending, state = words[2], words[4], words[6], words[8], words[9]
+        it = read_added(" ".join(words))
         label = asked[1] if len(asked) == 3 else "the label"
-        parts = [f"{label} has {events} events more", f"{messages} messages were found"]
-        if withdrawn != "0":
-            parts.append(f"{withdrawn} messages are none any more, for their keys came again")
-        if pending != "0":
-            parts.append(f"the last {pending} bytes are no whole packet and wait for their rest")
-        if state == "consistent":
+        parts = [f"{label} has {it.events} events more", f"{it.messages} messages were found"]
+        if it.withdrawn:
+            parts.append(f"{it.withdrawn} messages are none any more, for their keys came again")
+        if it.pending:
+            parts.append(f"the last {it.pending} bytes are no whole packet and wait for their rest")
+        if it.passed:
+            parts.append(f"{it.passed} packets under {label} are no events")
+        if it.consistent:
             return f"{', '.join(parts)}; what was declared can be true of all this"
         return f"{', '.join(parts)}; what was declared CANNOT be true of all this: a question will show why"
 
@@ -137,7 +141,7 @@ class Explainer:
         """Returns the problem that a contradiction is of: the last reply to `problem`, or what a session says of the same additions."""
         if self.problem is None and self.path and self.program and self.inputs:
             try:
-                with Session(self.path, self.program) as session:
+                with RecordedSession(self.path, self.program) as session:
                     for line in self.done:
                         if line.startswith("add "):
                             session.ask(line)
@@ -158,7 +162,7 @@ class Explainer:
         if words[:1] == ["declaration"] and len(words) == 4:
             if self.path is None:
                 return [f"the declaration is refused: cause {words[1]} at {words[2]} {words[3]}; with --declaration DECL this says more"]
-            return [declarations.refused(self.path, int(words[1]), words[2], int(words[3]))]
+            return [refused(self.path, int(words[1]), words[2], int(words[3]))]
         if words == ["read", "fault"]:
             return ["the declaration is not there, or it or the script could not be read"]
         return ["the script has more than 2^30 bytes"] if words == ["script", "limit"] else []

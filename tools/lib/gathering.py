@@ -13,9 +13,10 @@ from collections.abc import Callable, Iterable, Iterator
 from dataclasses import replace
 from typing import Any
 
-from captures import CAPTURED_MOST, MAGICS, SECTION, Blocks, classic
+from captures import CAPTURED_MOST, Blocks, classic
 from files import write_parts
-from inputs import Input, checked, open_input, parse_input, start_of
+from inputs import Input, checked, open_input, parse_input
+from tracesync.starts import MAGICS, SECTION, start_of
 
 # What opens a file to be read unpacked, by its path.
 Opener = Callable[[str], Any]
@@ -23,6 +24,8 @@ Opener = Callable[[str], Any]
 # A file of a session has so many bytes at most, and parts of so many are unpacked at once.
 BYTES_MOST, PART = 1 << 28, 1 << 20
 HEADER = 24
+# So many files of one capture are named one by one.
+NAMED_MOST = 3
 # What unpacks a file with these first bytes: a module of Python, or a command with the package that brings it.
 OPENERS: dict[bytes, Opener] = {b"\x1f\x8b": gzip.open, b"\xfd7zXZ": lzma.open, b"BZh": bz2.open}
 COMMANDS = {b"\x28\xb5\x2f\xfd": "zstd", b"\x04\x22\x4d\x18": "lz4"}
@@ -90,14 +93,14 @@ def unpacked_parts(path: str) -> Iterator[bytes] | None:
 
 
 class Gathering:
-    """Gathers the inputs of words; what has to be written for that is written into the folder, and said by `say`."""
+    """Gathers the inputs of words; what has to be written for that is written into the folder, and said where that is kept."""
 
-    def __init__(self, folder: str, say: Callable[[str], None]) -> None:
-        self.folder, self.say, self.count = folder, say, 0
+    def __init__(self, folder: str, say: Callable[[str], None], is_kept: bool = True) -> None:
+        self.folder, self.say, self.is_kept, self.count = folder, say, is_kept, 0
 
     def inputs(self, words: Iterable[str]) -> list[Input]:
         """Returns the inputs with their files read: those of one label behind each other, captures among them by their first packets."""
-        named = [replace(it, path=path) for it in map(parse_input, words) for path in file_names(it.path)]
+        named = [replace(it, path=path, origin=path) for it in map(parse_input, words) for path in file_names(it.path)]
         labels: dict[str, list[Input]] = {}
         for it in named:
             labels.setdefault(it.label, []).append(replace(it, path=self.unpacked(it.path)))
@@ -112,7 +115,8 @@ class Gathering:
         os.makedirs(self.folder, exist_ok=True)
         path = f"{self.folder}/{name}"
         write_parts(path, parts)
-        self.say(f"{told} as {path}.")
+        if self.is_kept:
+            self.say(f"{told} as {path}.")
         return path
 
     def unpacked(self, path: str) -> str:
@@ -131,9 +135,16 @@ class Gathering:
         group = sorted(group, key=lambda it: first_stamp(it.path))
         if starts[0] == SECTION:
             return group
-        paths = [it.path for it in group]
         name = f"joined-{group[0].label}.pcap"
-        return [replace(group[0], path=self.written(name, limited(joined_parts(paths, self.say), name), f"Joined {len(paths)} files of {group[0].label}"))]
+        told = f"Joined {len(group)} files of {group[0].label}"
+        path = self.written(name, limited(joined_parts(group, self.say), name), told)
+        return [replace(group[0], path=path, origin=names_of([it.origin for it in group]))]
+
+
+def names_of(names: list[str]) -> str:
+    """Returns names as one text: of a great many the first ones, and how many more there are."""
+    more = len(names) - NAMED_MOST
+    return ", ".join(names[:NAMED_MOST]) + (f" and {more} more" if more > 0 else "")
 
 
 def first_stamp(path: str) -> float:
@@ -144,22 +155,23 @@ def first_stamp(path: str) -> float:
     return packets[0].stamp if packets else float("inf")
 
 
-def joined_parts(paths: list[str], say: Callable[[str], None]) -> Iterator[bytes]:
+def joined_parts(group: list[Input], say: Callable[[str], None]) -> Iterator[bytes]:
     """Yields classic captures as one: the first header, and the whole records of all. Raises ValueError where their headers differ."""
     first = b""
-    for path in paths:
-        with open(path, "rb") as it:
+    for own in group:
+        with open(own.path, "rb") as it:
             data = it.read()
         head = data[:HEADER]
         first = first or head
         # (the size that packets are cut at may differ; byte order, resolution, version and link type may not)
         for begin, end, what in ((0, 4, "byte order or resolution"), (4, 8, "version"), (20, 24, "link type")):
             if head[begin:end] != first[begin:end]:
-                raise ValueError(f"{path} has another {what} than {paths[0]}: give each a label of its own, LABEL@HOST=FILE")
+                told = f"{own.shown} has another {what} than {group[0].shown}"
+                raise ValueError(f"{told}: give each a label of its own, LABEL@HOST=FILE")
         end = end_of_records(data)
         if end < len(data):
-            say(f"The last {len(data) - end} bytes of {path} are no whole packet, and are left out.")
-        yield data[0 if path == paths[0] else HEADER : end]
+            say(f"The last {len(data) - end} bytes of {own.shown} are no whole packet, and are left out.")
+        yield data[0 if own is group[0] else HEADER : end]
 
 
 def end_of_records(data: bytes) -> int:

@@ -1,47 +1,31 @@
 """The files that a tool was given: which trace of which host each one is, and what is in it."""
 
 import os
-import re
-from collections.abc import Iterable
 from dataclasses import dataclass
 from typing import Any
 
-from captures import is_capture, read_capture
+from captures import read_capture
 from logs import read_log
-
-NAME = re.compile(r"[A-Za-z0-9._-]{1,32}")
-# What a file begins with that is neither a capture nor a log, and what takes it off.
-PACKED = {
-    b"\x1f\x8b": ("compressed by gzip", "gunzip"),
-    b"\x28\xb5\x2f\xfd": ("compressed by zstd", "unzstd"),
-    b"\x04\x22\x4d\x18": ("compressed by lz4", "unlz4"),
-    b"\xfd7zXZ": ("compressed by xz", "unxz"),
-    b"BZh": ("compressed by bzip2", "bunzip2"),
-    b"PK\x03\x04": ("a zip archive", "unzip"),
-    b"\x54\x52\x53\x4e\x49\x46\x46": ("a capture of Sniffer", "editcap -F nsecpcap"),
-    b"snoop\x00": ("a capture of snoop", "editcap -F nsecpcap"),
-}
+from tracesync.declaration import NAME
+from tracesync.starts import is_capture, packed, start_of
 
 
 @dataclass
 class Input:
-    """A trace: its label, its host, the path of its file, `capture` or `log`, and a Capture or a Log."""
+    """A trace: its label, its host, the path of its file, `capture` or `log`, a Capture or a Log, and what was named on the command line,
+    of which the file was made."""
 
     label: str
     host: str
     path: str
     kind: str = ""
     content: Any = None
+    origin: str = ""
 
-
-def packed(start: bytes) -> tuple[str, str] | None:
-    """Returns what a file is that begins with these bytes, and the command that unpacks it, or None."""
-    return next((told for magic, told in PACKED.items() if start.startswith(magic)), None)
-
-
-def start_of(path: str) -> bytes:
-    with open(path, "rb") as it:
-        return it.read(16)
+    @property
+    def shown(self) -> str:
+        """Returns what to call the file for whoever named it."""
+        return self.origin or self.path
 
 
 def parse_input(word: str) -> Input:
@@ -73,11 +57,6 @@ def open_input(it: Input) -> Input:
         raise ValueError(f"{it.path} is no capture, and no log either: {log.odd[0]}")
     it.kind, it.content = "log", log
     return it
-
-
-def read_inputs(words: Iterable[str]) -> list[Input]:
-    """Returns the inputs that words name, with their files read; hosts of one label are one host."""
-    return checked([open_input(parse_input(word)) for word in words])
 
 
 def checked(found: list[Input]) -> list[Input]:

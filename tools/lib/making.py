@@ -12,26 +12,28 @@ import tables
 from chain_picture import chain_svg
 from charts import delay_chart, offset_chart
 from chrony import read_all_chrony
-from declaration import read_declaration
 from declaring import Declaring
 from event_count import LOOK_MOST, LOOK_TIME, count_events
 from explaining import Explainer
 from files import read_own, write_own
 from gathering import Gathering
 from inputs import Input
+from own_program import BUILT, PROGRAM, Look, RecordedSession
 from page import page
-from program import BUILT, PROGRAM, Ended, Look, Session
 from progress import Progress
-from replies import read_cycle, read_problem
 from shortfall import Shortfall, unknown_lines
 from texts import plain
 from timeline import FROM_MOST, Timeline, make_timeline
+from tracesync.certificates import read_cycle
+from tracesync.declaration import read_declaration
+from tracesync.errors import Ended
+from tracesync.problems import read_problem
 from words import Words, list_lines
 
 FOLDER = "tracesync-timeline"
 EVENTS_MOST = 400
 OUTPUTS = {
-    "html": "a page that zooms and pans, and needs nothing from a network",
+    "html": "a page that zooms, filters and shows proofs, and needs nothing from a network",
     "svg": "a picture of at most --events events, those around the first event of --from, or else the first ones",
     "offsets": "a picture of how far each clock was ahead over time, both ends",
     "one_way": "a picture of one-way delays over time for each link, both ends, with how often each was",
@@ -45,6 +47,14 @@ OUTPUTS = {
 
 # What is written into the folder where no output is named.
 KEPT = {"html": "timeline.html", "svg": "timeline.svg", "offsets": "offsets.svg", "one_way": "delays.svg"}
+
+
+def pair_of(word: str) -> tuple[str, str]:
+    """Returns the two events that a word of --prove names."""
+    one, comma, other = word.partition(",")
+    if not one or not other or "," in other or one == other:
+        raise ValueError(f"--prove {word}: two events are wanted, with a comma between them, as left#6,right#7")
+    return one, other
 
 
 class Making:
@@ -61,6 +71,7 @@ class Making:
         self.chosen = [name for word in said.chosen for name in word.split(",")]
         if len(self.chosen) > FROM_MOST:
             raise ValueError(f"--from has {len(self.chosen)} events, and {FROM_MOST} can be kept")
+        self.proved = [pair_of(word) for word in said.proved]
         self.delays, self.events = said.delays, said.events
         # (questions for orders come last, and would have the program compiled once more)
         self.pairs = said.pairs if said.pairs is not None or self.program else 0
@@ -85,9 +96,15 @@ class Making:
             self.refuse_look(inputs)
         os.makedirs(self.folder, exist_ok=True)
         self.declare(inputs)
-        session: Session | Look = Session(self.declaration, self.program, self.progress) if self.program else Look(self.declaration, self.progress)
+        session: RecordedSession | Look
+        if self.program:
+            session = RecordedSession(self.declaration, self.program, self.progress)
+        else:
+            session = Look(self.declaration, self.progress)
         try:
-            found = make_timeline(session, inputs, self.chosen, self.delays, self.pairs, self.declared_source(), self.progress)
+            source = self.declared_source()
+            asked = (self.chosen, self.delays, self.pairs, source, self.progress, self.proved)
+            found = make_timeline(session, inputs, *asked)
         except Ended as why:
             self.say(f"The session ended with status {why.status}{': ' if why.lines else ''}{' '.join(why.lines)}")
             self.say(*Explainer(declaration=self.declaration).told_end(why.lines))

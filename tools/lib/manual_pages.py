@@ -1,4 +1,4 @@
-"""The manual pages of a package: what stands on each, by the sections of docs/FORMATS.md, the script's help and that of the tools."""
+"""The manual pages of a package: what stands on each, by the sections of docs/FORMATS.md, the program's help and that of the tools."""
 
 import re
 from dataclasses import dataclass
@@ -53,17 +53,17 @@ def see_also(own: str, tools: list[str]) -> list[str]:
     return [".SH FILES", ".TP", ".I share/doc/tracesync", *filled(FILES), ".SH SEE ALSO", *(f"{it} ," for it in names[:-1]), *names[-1:]]
 
 
-def command_lines(script: str) -> list[str]:
-    """Returns what the script's help says: how it is called, its commands, and what stands behind them."""
-    found = commands_of(script)
+def command_lines(source: str) -> list[str]:
+    """Returns what the program's help says: how it is called, its commands, and what stands behind them."""
+    found = commands_of(source)
     out = [".SH SYNOPSIS", ".B tracesync", ".I COMMAND WORD ..", ".SH COMMANDS"]
     for it in found:
         words = "".join(f" \\fI{word}\\fR" for word in it.words) + (" < \\fISCRIPT\\fR" if it.is_scripted else "")
         out += [".TP", f"\\fB{it.name}\\fR{words}", *filled(it.told)]
-    return [*out, ".PP", *filled(help_of(script).split("\n\n")[-1].replace("\n", " "))]
+    return [*out, ".PP", *filled(help_of(source).split("\n\n")[-1].replace("\n", " "))]
 
 
-def main_pages(formats: str, script: str, version: str, day: str, tools: list[str]) -> dict[str, str]:
+def main_pages(formats: str, source: str, version: str, day: str, tools: list[str]) -> dict[str, str]:
     """Returns the pages of PAGES by the names of their files. Raises ValueError where a section is not there, or stands on no page."""
     sections, found = sections_of(formats), {}
     wanted = [part for it in PAGES for part in it.parts]
@@ -71,7 +71,7 @@ def main_pages(formats: str, script: str, version: str, day: str, tools: list[st
     if strange:
         raise ValueError(f"docs/FORMATS.md and the manual pages differ in the section {strange[0]}")
     for it in PAGES:
-        body = command_lines(script) if it.section == 1 else macros(["## DESCRIPTION", *sections[""][1:]])
+        body = command_lines(source) if it.section == 1 else macros(["## DESCRIPTION", *sections[""][1:]])
         body += macros([line for part in it.parts for line in sections[part]])
         found[f"{it.name}.{it.section}"] = page(it.name, it.section, it.told, version, day, [*body, *see_also(it.name, tools)])
     return found

@@ -3,8 +3,8 @@
 import json
 from typing import Any
 
-from replies import UNITS, ns_text
 from timeline import Timeline
+from tracesync.numbers import UNITS, ns_text
 
 # Trace events count in microseconds; their digits behind the point are ns.
 PER_US = 1000 * UNITS

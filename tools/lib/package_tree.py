@@ -7,7 +7,7 @@ from archives import File
 from commit import Commit
 from completions import bash_of, bash_of_tool, zsh_of
 from elf import needs_of, packages_of
-from front import Command, commands_of, filled, front_of
+from front import HELP_FILE, Command, commands_of, filled, front_of
 from manual_pages import main_pages, tool_page
 from proof import Proof, proof_text, read
 from tool_help import PYTHON, RUNNING, TOOLS, Help, help_of, renamed, told_by
@@ -15,6 +15,9 @@ from tool_help import PYTHON, RUNNING, TOOLS, Help, help_of, renamed, told_by
 # Here the modules of the tools look for the program, since it stands above them as ./tracesync does in a clone.
 PROGRAM = "lib/tracesync/tracesync"
 DOCUMENTS = "share/doc/tracesync"
+# The package of Python, which stands beside the tools as in a clone, and by what the Python of a system finds it.
+PYTHON_PACKAGE = "python/tracesync/"
+PATH_FILE, PATH_LINE = "lib/python3/dist-packages/tracesync.pth", "../../tracesync/python\n"
 # Pages for whoever uses the program, with the names that things have where they are installed; and what is packed as it is.
 PAGES = ("docs/FORMATS.md", "docs/GUIDE.md", "docs/PROBLEMS.md")
 KEPT = ("CHANGELOG.md", "docs/contradiction.svg", "docs/timeline-page.png", "docs/timeline.svg")
@@ -59,8 +62,9 @@ class Tree:
 
     def __init__(self, top: str, files: list[str], commit: Commit, program: bytes) -> None:
         self.top, self.files, self.commit, self.program = top, files, commit, program
-        self.script, self.found = text_of(f"{top}/tracesync"), {PROGRAM: File(program, True)}
-        self.commands: list[Command] = commands_of(self.script)
+        self.script, self.help = text_of(f"{top}/tracesync"), text_of(f"{top}/{HELP_FILE}")
+        self.found = {PROGRAM: File(program, True)}
+        self.commands: list[Command] = commands_of(self.help)
         self.texts = {it: told_by(top, it) for it in TOOLS}
         self.helps: dict[str, Help] = {it: help_of(text) for it, text in self.texts.items()}
 
@@ -86,10 +90,17 @@ class Tree:
         for it in modules_of(self.top, self.files):
             self.put(f"lib/tracesync/tools/lib/{it}", renamed(text_of(f"{self.top}/tools/lib/{it}")))
 
+    def add_python(self) -> None:
+        """Adds the package of Python, on which the tools stand too."""
+        for it in self.files:
+            if it.startswith(PYTHON_PACKAGE):
+                self.put(f"lib/tracesync/{it}", renamed(text_of(f"{self.top}/{it}")))
+        self.put(PATH_FILE, PATH_LINE)
+
     def add_pages(self) -> None:
         """Adds the manual pages."""
         version, day, tools = self.commit.version, self.commit.day, list(TOOLS)
-        pages = main_pages(renamed(text_of(f"{self.top}/docs/FORMATS.md")), self.script, version, day, tools)
+        pages = main_pages(renamed(text_of(f"{self.top}/docs/FORMATS.md")), self.help, version, day, tools)
         pages |= {f"tracesync-{it}.1": tool_page(it, self.helps[it], version, day, tools) for it in TOOLS}
         for name, text in pages.items():
             self.found[f"share/man/man{name[-1]}/{name}.gz"] = File(gzip.compress(text.encode(), 9, mtime=0))
@@ -117,6 +128,7 @@ def tree_of(top: str, files: list[str], commit: Commit, program: bytes, proof: P
     found = Tree(top, files, commit, program)
     found.add_fronts(proof.kit)
     found.add_tools()
+    found.add_python()
     found.add_pages()
     found.add_completions()
     found.add_documents(proof)

@@ -1,25 +1,29 @@
 // Where everything lies, and how it is drawn.
 
 // ---- from times to places
-let times, least, greatest, knots, places, spotOf, leastOf, greatestOf, byLeast, isSqueezed = true, low, high, view;
+let times, least, greatest, knots, places, spotOf, leastOf, greatestOf, byLeast, byStart, low, high, view;
+let isSqueezed = true;
 
+// Lays out what is shown; where nothing is, all that there is.
 function layTimes() {
-  const zero = base.event.time;
+  const zero = base.event.time, laid = shown.length ? shown : events;
   times = events.map((it) => drawn(it.time - zero));
   least = base.least.map((it) => it === null ? -Infinity : drawn(it));
   greatest = base.greatest.map((it) => it === null ? Infinity : drawn(it));
-  knots = [...new Set(times)].sort((a, b) => a - b);
+  knots = [...new Set(laid.map((it) => times[it.index]))].sort((a, b) => a - b);
   const gaps = knots.slice(1).map((it, k) => it - knots[k]), sorted = [...gaps].sort((a, b) => a - b);
   const small = sorted[Math.floor(sorted.length / 10)] || 1;
   places = [0];
   for (const gap of gaps) places.push(places[places.length - 1] + (isSqueezed ? 1 + Math.log2(1 + gap / small) : gap));
-  const [first, last] = [place(Math.min(...finite(least), knots[0])), place(Math.max(...finite(greatest), knots[knots.length - 1]))];
+  const begins = laid.map((it) => least[it.index]), ends = laid.map((it) => greatest[it.index]);
+  const first = place(Math.min(...finite(begins), knots[0])), last = place(Math.max(...finite(ends), knots[knots.length - 1]));
   const room = (last - first || 1) * 0.03;
   [low, high] = [first - room, last + room];
   if (!isSqueezed && !gaps.length) [low, high] = [low - 1, high + 1];
   // (where everything lies is worked out once, so that drawing only stretches it)
   spotOf = times.map(place); leastOf = least.map(place); greatestOf = greatest.map(place);
-  byLeast = [...events].sort((a, b) => leastOf[a.index] - leastOf[b.index] || a.index - b.index);
+  byLeast = [...shown].sort((a, b) => leastOf[a.index] - leastOf[b.index] || a.index - b.index);
+  byStart = [...shownMessages].sort((a, b) => spotOf[a.send.index] - spotOf[b.send.index]);
 }
 const finite = (list) => { let it = Infinity, most = -Infinity; for (const v of list) if (isFinite(v)) { it = Math.min(it, v); most = Math.max(most, v); } return it === Infinity ? [0] : [it, most]; };
 
@@ -81,8 +85,10 @@ function draw() {
   drawLines();
   drawBars(xs);
   const arrows = drawArrows(xs);
+  drawProof(xs);
   drawPoints(xs);
-  drawNames(xs, arrows);
+  drawNames(arrows);
+  drawNumbers(xs);
   pen.restore();
   DATA.hosts.forEach((host, at) => {
     pen.fillStyle = INKS[at % INKS.length]; pen.font = "bold 14px Helvetica, Arial, sans-serif"; pen.textAlign = "right";
@@ -139,34 +145,10 @@ function drawBars(xs) {
   pen.globalAlpha = 1;
 }
 
-function drawArrows(xs) {
-  const found = [];
-  for (const it of messages) {
-    const x1 = xs[it.send.index], x2 = xs[it.receive.index];
-    if (Math.max(x1, x2) < LEFT - 8 || Math.min(x1, x2) > wide) continue;
-    found.push({ it, x1, y1: rowY(it.send.host), x2, y2: rowY(it.receive.host) });
-  }
-  const alpha = Math.max(0.12, Math.min(1, 120 / (found.length || 1)));
-  if (found.length > MANY) {
-    pen.globalAlpha = alpha; pen.strokeStyle = "#555"; pen.lineWidth = 1; pen.beginPath();
-    for (const { x1, y1, x2, y2 } of found) { pen.moveTo(x1, y1); pen.lineTo(x2, y2); }
-    pen.stroke(); pen.globalAlpha = 1;
-    return found;
-  }
-  for (const { it, x1, y1, x2, y2 } of found) {
-    const isShown = chosen && (it.send === chosen || it.receive === chosen) || it.send === hovered || it.receive === hovered;
-    pen.globalAlpha = isShown ? 1 : alpha; pen.strokeStyle = pen.fillStyle = isShown ? "#000" : "#555"; pen.lineWidth = isShown ? 1.8 : 1.1;
-    const length = Math.hypot(x2 - x1, y2 - y1) || 1, dx = (x2 - x1) / length, dy = (y2 - y1) / length, ex = x2 - dx * 5, ey = y2 - dy * 5;
-    line(x1, y1, ex, ey);
-    pen.beginPath(); pen.moveTo(ex, ey); pen.lineTo(ex - dx * 7 - dy * 3, ey - dy * 7 + dx * 3); pen.lineTo(ex - dx * 7 + dy * 3, ey - dy * 7 - dx * 3); pen.fill();
-  }
-  pen.globalAlpha = 1;
-  return found;
-}
-
 function drawPoints(xs) {
-  const visible = xs.filter((it) => it > LEFT - 8 && it < wide).length, size = visible > 1500 ? 2 : visible > 400 ? 3 : 4;
-  for (const it of events) {
+  const isInSight = (it) => xs[it.index] > LEFT - 8 && xs[it.index] < wide, visible = shown.filter(isInSight).length;
+  const size = visible > 1500 ? 2 : visible > 400 ? 3 : 4;
+  for (const it of shown) {
     const at = xs[it.index], y = rowY(it.host);
     if (at < LEFT - 8 || at > wide + 8) continue;
     pen.fillStyle = pen.strokeStyle = ink(it);
@@ -179,10 +161,10 @@ function drawPoints(xs) {
 }
 
 // Names stand where they cross no arrow and no other name, above the line; where there is no such place, one hovers to see it.
-function drawNames(xs, arrows) {
+function drawNames(arrows) {
   if (spots.length > 500) return;
   pen.font = "11px Helvetica, Arial, sans-serif"; pen.textAlign = "left";
-  const taken = [];
+  const taken = counts.map((it) => it.box);
   const isFree = (box) => box[0] > LEFT - 6 && box[2] < wide && !taken.some((it) => it[0] < box[2] && box[0] < it[2] && it[1] < box[3] && box[1] < it[3])
     && !spots.some(([sx, sy]) => sx > box[0] - 4 && sx < box[2] + 4 && sy > box[1] - 4 && sy < box[3] + 4)
     && !(arrows.length < 800 && arrows.some((it) => crosses(it, box)));

@@ -39,11 +39,20 @@ const between = (least, greatest) => {
 const safe = (text) => text.replace(/[&<>"]/g, (it) => ({ "&": "&amp;", "<": "&lt;", ">": "&gt;", '"': "&quot;" })[it]);
 
 // ---- what the program said
-const events = DATA.events.map(([name, host, stamp, time, text, brief], index) => ({ name, host, stamp, time: units(time), text, brief: brief === undefined ? text : brief, index, peers: [] }));
+const events = DATA.events.map(([name, host, stamp, time, text, brief], index) => {
+  const [connection, file, frame, key = ""] = DATA.records[index];
+  const record = { connection, file, frame, key };
+  return { name, host, stamp, time: units(time), text, brief: brief === undefined ? text : brief, ...record, index, peers: [] };
+});
 const byName = new Map(events.map((it) => [it.name, it]));
 const messages = DATA.messages.map(([send, receive, least, greatest]) => ({ send: events[send], receive: events[receive], least, greatest }));
 for (const it of messages) { it.send.peers.push(it); it.receive.peers.push(it); }
 const bases = DATA.bases.map((it) => ({ event: events[it.event], least: it.least.map(units), greatest: it.greatest.map(units) }));
+const readLeg = ([from, to, later, why]) => ({ from: events[from], to: events[to], later: units(later), why });
+const readChain = ({ end, legs, inside }) => ({ end: units(end), inside, legs: legs.map(readLeg) });
+const readProof = ({ first, second, least, greatest }) =>
+  ({ first: events[first], second: events[second], least: readChain(least), greatest: readChain(greatest) });
+const proofs = DATA.proofs.map(readProof);
 const ORDERS = { b: "before", a: "after", s: "same", o: "open" };
 const TURNED = { before: "after", after: "before", same: "same", open: "open" };
 let base = bases[0];
@@ -52,6 +61,25 @@ let base = bases[0];
 const orderOf = (least, greatest) => least !== null && least > 0n ? "before" : greatest !== null && greatest < 0n ? "after"
   : least === 0n && greatest === 0n ? "same" : "open";
 const isApart = (at, one, other) => at.greatest[one] !== null && at.least[other] !== null && at.greatest[one] < at.least[other];
+
+// Returns the least and the greatest time from an event to another; null where it was not asked.
+const turnedEnds = ([least, greatest]) => [greatest, least].map((it) => it === null ? null : -it);
+function knownEnds(one, other) {
+  for (const at of bases) {
+    if (at.event === one) return [at.least[other.index], at.greatest[other.index]];
+    if (at.event === other) return turnedEnds([at.least[one.index], at.greatest[one.index]]);
+  }
+  for (const it of proofs) {
+    if (it.first === one && it.second === other) return [it.least.end, it.greatest.end];
+    if (it.first === other && it.second === one) return turnedEnds([it.least.end, it.greatest.end]);
+  }
+  for (const it of one.peers) {
+    if (it.least === undefined) continue;
+    if (it.receive === other) return [units(it.least), units(it.greatest)];
+    if (it.send === other) return turnedEnds([units(it.least), units(it.greatest)]);
+  }
+  return null;
+}
 
 // Returns how an event stands to another, and by what that is known; null where nothing says it.
 function order(one, other) {

@@ -5,15 +5,15 @@ from collections.abc import Collection, Iterable
 from html import escape
 from math import ceil, log2
 
-from replies import UNITS, short_ns
+from inks import INKS
 from timeline import Event, Timeline
+from tracesync.numbers import UNITS, short_ns
 from words import decimal_text, unit_of
 
 # A line from one place to another, and a box: left, top, right and foot.
 Line = tuple[float, float, float, float]
 Box = tuple[float, float, float, float]
 
-INKS = ("#1f5fa8", "#b3541e", "#2f7d4f", "#7a4aa0", "#a8324e", "#4d6b7a", "#8a6d1a", "#5a5a5a")
 LEFT, TOP, ABOVE, BELOW, FOOT, LANE, LANES_MOST = 110, 44, 48, 16, 34, 6, 12
 GAP_LEAST, GAP_MORE, GAP_MOST, STRIP_MOST, TEXT_MOST, STUB, MARK = 17, 6, 90, 1300, 26, 18, 92
 # How wide a letter of 11 pixels is, and of 14 that are bold.

@@ -1,4 +1,4 @@
-"""Places of the code that no contract ties down: where want of memory is made, a counter opened, or an arc read."""
+"""Places of the code that no contract ties down: want of memory made, a counter opened, an arc or a file read."""
 
 import os
 from collections import Counter
@@ -9,12 +9,14 @@ from rust_text import (
     Group, Tree, Unreadable, end_of_angles, is_group, is_operand_next, is_word, text_of, trees_in, trees_of, words_in,
 )
 
-MEMORY, COUNTERS, ARCS = "want of memory", "counters of steps", "arcs read without a step"
-KINDS = (MEMORY, COUNTERS, ARCS)
+MEMORY, COUNTERS, ARCS, FILES = "want of memory", "counters of steps", "arcs read without a step", "reads of files"
+KINDS = (MEMORY, COUNTERS, ARCS, FILES)
 # Types whose values are want of memory, variants that say it, and types that count.
 FAILURES, VARIANTS, COUNTING = {"AllocError", "AllocFailed"}, {"Memory", "OutOfMemory"}, {"Steps", "Blank"}
 # The crate of the graph, and the lists of it whose reading takes no step there.
 GRAPH_CRATE, GRAPH_LISTS, GRAPH_READS = "sync_graph", {"arcs", "leaving", "arriving"}, {"get", "entry"}
+# What reads a file of the host.
+FILE_READS = {"read_at", "read_file"}
 HEADS = {"if", "while", "for", "match"}
 TYPES = {"struct", "enum", "union"}
 SCOPES = {"impl", "trait", "mod", "macro_rules"}
@@ -88,6 +90,7 @@ class Aliases:
 
     def __init__(self, files: Iterable[Sequence[Tree]]) -> None:
         self.failures, self.variants, self.counting = set(FAILURES), set(VARIANTS), set(COUNTING)
+        self.reading = set(FILE_READS)
         known = 0
         while known < self.known():
             known = self.known()
@@ -95,7 +98,10 @@ class Aliases:
                 self.look_through(trees)
 
     def known(self) -> int:
-        return len(self.failures) + len(self.variants) + len(self.counting)
+        return sum(len(it) for it in self.all())
+
+    def all(self) -> tuple[set[str], ...]:
+        return self.failures, self.variants, self.counting, self.reading
 
     def look_through(self, trees: Sequence[Tree]) -> None:
         for place, tree in enumerate(trees):
@@ -109,7 +115,7 @@ class Aliases:
                     self.note(path_at(trees, value)[0][-1], trees[place + 1])
 
     def note(self, name: Tree, other: Tree) -> None:
-        for known in (self.failures, self.variants, self.counting):
+        for known in self.all():
             if name in known and is_word(other) and other != "_":
                 known.add(other)
 
@@ -326,12 +332,16 @@ class Walk:
             is_list = self.crate == GRAPH_CRATE and at > 1 and trees[at - 2] in GRAPH_LISTS and names[0] in GRAPH_READS
             if (names[0] == "arc" or is_list) and end < len(trees) and is_group(trees[end], "("):
                 self.note(ARCS, context, statement)
+            if names[0] in self.aliases.reading:
+                self.note(FILES, context, statement)
             return end
         own = [context.own if it == "Self" and context.own else it for it in names]
         if own[-1] in self.aliases.variants or self.aliases.failures & set(own):
             self.note(MEMORY, context, statement)
         if self.aliases.counting & set(own):
             self.note(COUNTERS, context, statement)
+        if own[-1] in self.aliases.reading:
+            self.note(FILES, context, statement)
         self.named.append((self.place(ARCS, context, statement), own))
         if len(own) > 1 and (own[-1] == "arc" or own[-2] in ("Arcs", "Lists") and own[-1] in GRAPH_READS):
             self.note(ARCS, context, statement)

@@ -14,9 +14,11 @@ from log_formats.hosts import rows_text, written_hosts
 from log_formats.making import Rows
 from log_formats.spans import Span
 from log_formats.stamps import Unreadable
-from program import Session
-from replies import UNITS, ns_text, read_merge, read_ns, read_problem
+from own_program import RecordedSession
 from timeline import AFTER, BEFORE, is_apart, order_of
+from tracesync.numbers import UNITS, ns_text, read_ns
+from tracesync.problems import read_problem
+from tracesync.timelines import read_merge
 
 # How a row of a span is made: by its kind and its ids alone.
 PLAIN = argparse.Namespace(key=None, text=None, prefixes=["", ""], kind="kind", all_kind="local", sends=[], receives=[], also=None)
@@ -73,7 +75,7 @@ class SpanTimes:
                 self.stamps[f"{label}#{number}"] = int(it.moment.ns)
             self.inputs.append(open_input(Input(label, label, path)))
 
-    def add(self, session: Session) -> None:
+    def add(self, session: RecordedSession) -> None:
         """Adds the rows of all hosts. Raises Told where a file is refused."""
         for it in self.inputs:
             line = f"add {it.label} {it.path}"
@@ -81,13 +83,13 @@ class SpanTimes:
             if reply[0] == "refused":
                 raise Told([f"{' '.join(reply)}: {self.explainer.refusals.told(line, reply[1:])}"])
 
-    def take_merge(self, session: Session) -> None:
+    def take_merge(self, session: RecordedSession) -> None:
         """Takes the times of the earliest execution, in which the first event keeps its stamp. Raises Told where the declaration is contradicted."""
         problem, merged = session.ask("problem"), session.ask("merge")
         if merged[0].startswith("certificate"):
             raise Told(["The declaration is contradicted, so there are no times.", *self.explainer.told_cycle(merged, problem, dict(enumerate(self.inputs)))])
         self.lasting = {ends for ends, (least, _) in read_problem(problem).messages.items() if least > 0}
-        self.times = {name: time for name, (time, _) in read_merge(merged).items()}
+        self.times = {it.name: it.time for it in read_merge(merged)}
         first = next(iter(self.times), None)
         self.base = self.stamps[first] * UNITS - self.times[first] if first else 0
 
@@ -116,7 +118,7 @@ class SpanTimes:
 class Trace:
     """What a session replies about the spans of one trace, which stand as they begin in the earliest execution."""
 
-    def __init__(self, session: Session, spans: list[Placed], lasting: set[tuple[str, str]]) -> None:
+    def __init__(self, session: RecordedSession, spans: list[Placed], lasting: set[tuple[str, str]]) -> None:
         self.session, self.spans, self.lasting, self.first = session, spans, lasting, spans[0].start
         session.ask(f"keep {self.first}")
         self.words = {name: session.ask(f"interval {self.first} {name}")[0].split(" ") for it in spans for name in (it.start, it.end)}
@@ -186,13 +188,13 @@ def move_spans(declaration: str, program: str, spans: list[Span]) -> tuple[int, 
     found, told = SpanTimes(spans, Explainer(declaration, program)), {}
     with tempfile.TemporaryDirectory(prefix="tracesync-") as folder:
         found.write_rows(folder)
-        with Session(declaration, program) as session:
+        with RecordedSession(declaration, program) as session:
             found.add(session)
             found.take_merge(session)
         traces = found.traces()
         # (a session keeps so many events, and to add all once more is less work than to ask from an event that is not kept)
         for at in range(0, len(traces), KEPT_MOST):
-            with Session(declaration, program) as session:
+            with RecordedSession(declaration, program) as session:
                 found.add(session)
                 for trace in (Trace(session, it, found.lasting) for it in traces[at : at + KEPT_MOST]):
                     told |= {id(it.span): trace.told(it) for it in trace.spans}

@@ -5,25 +5,32 @@ Nothing here is worked out that the program could answer: differences of real ti
 """
 
 import json
+from collections import Counter
 from collections.abc import Callable, Iterable, Iterator
 from dataclasses import dataclass, field
+from itertools import combinations
 from typing import Any, Protocol, TypeVar
 
-from headers import described
+from chains import Proof, read_proof
 from inputs import Input
-from program import Look, Session
+from own_program import Look, RecordedSession
 from progress import Progress
-from replies import Interval, Problem, read_merge, read_ns, read_problem
+from records import Record, records_of
+from tracesync.numbers import Interval, read_interval
+from tracesync.problems import Problem, read_problem
+from tracesync.timelines import Merge, read_merge
 
 K = TypeVar("K")
 T = TypeVar("T")
-# A line for a session, and what takes the words of its reply.
+# A line for a session, and what takes the lines of its reply.
 Question = tuple[str, Callable[[list[str]], None]]
 
 FROM_MOST = 8
 # How many messages of a link are asked for if not said, at most and at least: an answer may take a search over all events, so questions
 # times events are kept below a number; the same of questions about orders.
 DELAYS_MOST, DELAYS_LEAST, DELAYS_WORK, PAIRS_WORK = 1000, 4, 6_000_000, 3_000_000
+# How many proofs are asked for that nobody named, times the events: each reply has several lines for each event.
+PROOFS_WORK = 10_000
 # How many events of a host are asked when they were by the source: that is answered at once.
 TIMES_MOST = 4000
 # Of so few lines it is not told how many were answered.
@@ -33,7 +40,8 @@ BEFORE, AFTER, SAME, OPEN = "before", "after", "same", "open"
 
 @dataclass
 class Event:
-    """An event: its name, host, stamp in ns, time in the earliest execution in units, what it is, the same in few words, and its ends of `time`."""
+    """An event: its name, host, stamp in ns, time in the earliest execution in units, what it is, the same in few words,
+    its ends of `time`, and the packet or row that it is."""
 
     name: str
     host: str
@@ -42,6 +50,7 @@ class Event:
     text: str = ""
     brief: str = ""
     source_time: Interval | None = None
+    record: Record = Record()
 
 
 @dataclass
@@ -62,6 +71,7 @@ class Timeline:
     messages: list[Message] = field(default_factory=list)
     ends: dict[str, dict[str, Interval]] = field(default_factory=dict)
     orders: dict[tuple[str, str], str] = field(default_factory=dict)
+    proofs: dict[tuple[str, str], Proof] = field(default_factory=dict)
     report: dict[str, Any] = field(default_factory=dict)
     added: list[tuple[Input, str]] = field(default_factory=list)
     cycle: list[str] | None = None
@@ -100,8 +110,9 @@ class Asking:
     """Asks a session for a timeline."""
 
     def __init__(self, session: Asked, inputs: list[Input], chosen: Iterable[str] = (), delays: int | None = None, pairs: int | None = None,
-                 source: str | None = None, progress: Progress | None = None) -> None:  # fmt: skip
+                 source: str | None = None, progress: Progress | None = None, proved: Iterable[tuple[str, str]] = ()) -> None:  # fmt: skip
         self.session, self.inputs, self.chosen, self.delays, self.pairs, self.source = session, inputs, list(chosen), delays, pairs, source
+        self.proved = list(proved)
         self.progress = progress or Progress()
         self.found = Timeline()
 
@@ -118,8 +129,12 @@ class Asking:
         elif problem.events:
             self.progress.begin("reading what the packets are")
             self.take_events(problem, read_merge(merged))
-            questions = [list(self.ends()), list(self.delays_of(problem)), list(self.times())]
-            self.ask_rounds(dict(zip(("asking when events were", "asking for delays", "asking when events were by the source"), questions)))
+            self.ask_rounds({
+                "asking when events were": list(self.ends()),
+                "asking for delays": list(self.delays_of(problem)),
+                "asking when events were by the source": list(self.times()),
+                "asking for proofs": list(self.proofs()),
+            })  # fmt: skip
             self.ask_orders()
         return found
 
@@ -136,34 +151,34 @@ class Asking:
         return replies
 
     def ask_rounds(self, rounds: dict[str, list[Question]]) -> None:
-        """Asks rounds of questions, each a line and what takes the words of its reply."""
+        """Asks rounds of questions, each a line and what takes the lines of its reply."""
         replies = self.ask_parts({told: [line for line, _ in questions] for told, questions in rounds.items()})
         for (_, take), reply in zip([it for questions in rounds.values() for it in questions], replies):
-            take(reply[0].split(" "))
+            take(reply)
 
-    def take_events(self, problem: Problem, merged: dict[str, tuple[int, str]]) -> None:
+    def take_events(self, problem: Problem, merged: Merge) -> None:
         """Takes the events in the order of the merge, hosts by their first events, and messages."""
-        texts = self.texts(problem)
-        for name, (time, text) in merged.items():
+        records = self.records(problem)
+        for name, time, text in merged:
             host, stamp = problem.events[name]
-            self.found.events.append(Event(name, host, stamp, time, *((text, text) if text else texts.get(name, ("", "")))))
+            it = records.get(name, Record())
+            self.found.events.append(Event(name, host, stamp, time, text or it.text, text or it.brief, record=it))
         self.found.hosts = list(dict.fromkeys([*(it.host for it in self.found.events), *problem.clocks]))
         self.found.messages = [Message(*it) for it in problem.messages]
 
-    def texts(self, problem: Problem) -> dict[str, tuple[str, str]]:
-        """Returns what each packet is, in words and in few words, by its event's name; nothing of a label with another number of events."""
-        texts: dict[str, tuple[str, str]] = {}
-        counts: dict[str, int] = {}
-        for name in problem.events:
-            label = name.partition("#")[0]
-            counts[label] = counts.get(label, 0) + 1
-        for label in dict.fromkeys(it.label for it in self.inputs if it.kind == "capture"):
-            packets = [packet for it in self.inputs if it.label == label for packet in it.content.packets]
-            if len(packets) != counts.get(label, 0):
-                self.found.notes.append(f"{label} has {counts.get(label, 0)} events, and {len(packets)} packets were read here: they have no texts")
-                continue
-            texts |= {f"{label}#{number}": described(packet) for number, packet in enumerate(packets, 1)}
-        return texts
+    def records(self, problem: Problem) -> dict[str, Record]:
+        """Returns the packet or row behind each event; nothing of a label with another number of events."""
+        found: dict[str, Record] = {}
+        counts = Counter(name.partition("#")[0] for name in problem.events)
+        for label in dict.fromkeys(it.label for it in self.inputs):
+            own = [it for it in self.inputs if it.label == label]
+            records = [record for it in own for record in records_of(it)]
+            if len(records) == counts[label]:
+                found |= {f"{label}#{number}": record for number, record in enumerate(records, 1)}
+            elif own[0].kind == "capture":
+                told = f"{label} has {counts[label]} events, and {len(records)} packets were read here"
+                self.found.notes.append(f"{told}: they have no texts")
+        return found
 
     def ends(self) -> Iterator[Question]:
         """Yields the questions how much later each event was than each chosen one, at least and at most."""
@@ -211,6 +226,28 @@ class Asking:
         if asked < others:
             self.found.notes.append(f"{asked} of {others} events were asked when they were by the source, of each host some evenly among all")
 
+    def proofs(self) -> Iterator[Question]:
+        """Yields the questions for proofs: of named pairs, of each two chosen events, and from the first one to some."""
+        names = [it.name for it in self.found.events]
+        bases = self.chosen or names[:1]
+        done: set[tuple[str, str]] = set()
+        for one, other in (*self.proved, *combinations(bases, 2), *((bases[0], it) for it in self.first_events())):
+            for name in (one, other):
+                if name not in names:
+                    raise ValueError(f"there is no event {name}")
+            if one != other and (one, other) not in done and (other, one) not in done:
+                done.add((one, other))
+                yield f"prove {one} {other}", proving(self.found, (one, other))
+
+    def first_events(self) -> list[str]:
+        """Returns so many events as are quickly proved, from the first message on; none where each reply takes minutes."""
+        if isinstance(self.session, Look):
+            return []
+        names = [it.name for it in self.found.events]
+        ends = {name for it in self.found.messages for name in (it.send, it.receive)}
+        first = next((at for at, name in enumerate(names) if name in ends), 0)
+        return names[first : first + PROOFS_WORK // max(len(names), 1)]
+
     def ask_orders(self) -> None:
         """Asks for the order of pairs whose bars lie over one another, those nearest in the merge first."""
         found, names = self.found, [it.name for it in self.found.events]
@@ -235,23 +272,32 @@ def ends_of(words: list[str]) -> Interval:
     """Returns both ends that a reply to `interval` or `time` has."""
     if words[0] not in ("interval", "time"):
         raise ValueError(f"the session replied {' '.join(words)} to a question about two events")
-    return read_ns(words[1]), read_ns(words[2])
+    return read_interval(*words[1:3])
 
 
 def putting(found: dict[K, T], key: K, read: Callable[[list[str]], T]) -> Callable[[list[str]], None]:
-    """Returns what puts under a key what is read of the words of a reply."""
+    """Returns what puts under a key what is read of the words of a reply's first line."""
 
-    def take(words: list[str]) -> None:
-        found[key] = read(words)
+    def take(reply: list[str]) -> None:
+        found[key] = read(reply[0].split(" "))
 
     return take
 
 
 def setting(it: Event | Message, name: str, read: Callable[[list[str]], Interval | None]) -> Callable[[list[str]], None]:
-    """Returns what sets a field of an event or a message to what is read of the words of a reply."""
+    """Returns what sets a field of an event or a message to what is read of the words of a reply's first line."""
 
-    def take(words: list[str]) -> None:
-        setattr(it, name, read(words))
+    def take(reply: list[str]) -> None:
+        setattr(it, name, read(reply[0].split(" ")))
+
+    return take
+
+
+def proving(found: Timeline, pair: tuple[str, str]) -> Callable[[list[str]], None]:
+    """Returns what takes a reply as the proof of a pair."""
+
+    def take(reply: list[str]) -> None:
+        found.proofs[pair] = read_proof(reply)
 
     return take
 
@@ -282,8 +328,8 @@ def near_pairs(names: list[str], ends: dict[str, Interval]) -> Iterator[tuple[st
                 yield names[at], names[at + apart]
 
 
-def make_timeline(session: Session | Look, inputs: list[Input], chosen: Iterable[str] = (), delays: int | None = None, pairs: int | None = None,
-                  source: str | None = None, progress: Progress | None = None) -> Timeline:  # fmt: skip
+def make_timeline(session: RecordedSession | Look, inputs: list[Input], chosen: Iterable[str] = (), delays: int | None = None, pairs: int | None = None,
+                  source: str | None = None, progress: Progress | None = None, proved: Iterable[tuple[str, str]] = ()) -> Timeline:  # fmt: skip
     """Returns the timeline that a session over inputs gives."""
     with session:
-        return Asking(session, inputs, chosen, delays, pairs, source, progress).timeline()
+        return Asking(session, inputs, chosen, delays, pairs, source, progress, proved).timeline()

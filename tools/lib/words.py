@@ -2,9 +2,9 @@
 
 from statistics import median_high, median_low
 
-from replies import UNITS, Interval
 from texts import plain
 from timeline import Timeline
+from tracesync.numbers import UNITS, Interval
 
 # Ends lose digits where what is rounded off is more than one part in so many of how far they are apart; below so many ns none are great.
 LOSS, GREAT = 10, 10**6
@@ -112,6 +112,7 @@ class Words:
                 continue
             what = "packets" if it.kind == "capture" else "rows"
             more = f"; its last {words[8]} bytes are no whole packet" if words[8] != "0" else ""
+            more += f"; {words[10]} packets under {it.label} are no events" if words[9] == "passed" else ""
             lines.append(f"{it.label}: {words[2]} {what} of {it.path}{more}")
         return lines
 

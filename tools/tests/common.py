@@ -8,4 +8,4 @@ TOOLS, EXAMPLES = f"{TOP}/tools", f"{TOP}/examples"
 # The program, if the tests that need it are to run.
 PROGRAM = os.environ.get("PROGRAM")
 
-sys.path.insert(0, f"{TOOLS}/lib")
+sys.path[:0] = [f"{TOOLS}/lib", f"{TOP}/python"]

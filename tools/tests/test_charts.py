@@ -8,8 +8,8 @@ import charts
 import page
 import picture
 import timeline
-from replies import UNITS
 from test_timeline import Replies, made
+from tracesync.numbers import UNITS
 
 EVIL = "<script>alert('1')</script>\"&"
 

@@ -1,5 +1,6 @@
 """Addresses are found where captures show them, and declarations are written as they should be."""
 
+import gzip
 import os
 import subprocess
 import sys
@@ -11,13 +12,13 @@ from decimal import Decimal
 from typing import Any
 
 import chrony
-import declaration
 import declaring
 import ends
 import making_captures as making
-from captures import Capture, Packet
+from captures import Capture, Packet, read_capture
 from common import EXAMPLES, TOOLS
 from headers import address_text
+from tracesync.declaration import told_declaration
 
 A, B, C, D = "10.0.0.1", "10.0.0.2", "10.0.0.3", "10.0.0.4"
 
@@ -220,9 +221,29 @@ class Text(unittest.TestCase):
                 it.write("1,local,,\n2,local,,\n5,local,,\n")
             self.assertEqual(list(self.declare(f"a={path}")[0]["hosts"]), ["a"])
 
+    def test_compressed_files_and_rings_are_read_as_timeline_reads_them(self) -> None:
+        packets = [(10**9 + k * 1000, making.framed(making.ETHERNET, making.udp(A, (B, C)[k % 2], ident=k + 1))) for k in range(9)]
+        with tempfile.TemporaryDirectory() as room:
+            for at in range(3):
+                with open(f"{room}/ring-{2 - at}.pcap.gz", "wb") as it:
+                    it.write(gzip.compress(making.classic(packets[3 * at : 3 * at + 3])))
+            before = sorted(os.listdir(room))
+            found, said, text = self.declare(f"a={room}/ring-*.gz")
+            self.assertEqual((found["hosts"]["a"]["addresses"], said, sorted(os.listdir(room))), ([A], "", before))
+            self.assertIn(f"# All stamps of {room}/ring-2.pcap.gz, {room}/ring-1.pcap.gz, {room}/ring-0.pcap.gz are whole 1 us", text)
+            kept, said, _ = self.declare(f"a={room}/ring-*.gz", "--folder", f"{room}/kept")
+            self.assertEqual((kept, len(read_capture(f"{room}/kept/joined-a.pcap").packets)), (found, 9))
+            self.assertIn(f"declare: Joined 3 files of a as {room}/kept/joined-a.pcap.", said)
+
+    def test_a_file_that_cannot_be_unpacked_is_told(self) -> None:
+        with tempfile.TemporaryDirectory() as room:
+            with open(f"{room}/a.gz", "wb") as it:
+                it.write(gzip.compress(bytes(range(256)) * 50)[:-20])
+            self.assertIn("cannot be unpacked to its end", self.declare(f"a={room}/a.gz", status=1)[1])
+
     def test_what_declare_writes_has_no_slip(self) -> None:
         found, _, _ = self.declare("left=captures/left.pcap", "right=pcapng/right.pcapng")
-        told = "\n".join(declaration.told_declaration(found))
+        told = "\n".join(told_declaration(found))
         self.assertFalse("meant" in told or "No link" in told or any(word.isupper() and len(word) > 4 for word in told.split()), told)
 
 

@@ -6,13 +6,15 @@ import unittest
 from typing import Any
 from xml.etree import ElementTree
 
-import declaration
 import making_captures as making
 from chain_picture import chain_svg
-from contradiction import Contradiction, told_cycle
 from common import EXAMPLES
+from contradiction import Contradiction, told_cycle
 from explaining import Explainer
-from replies import read_cycle, read_problem, split_replies
+from tracesync import declaration
+from tracesync.certificates import read_cycle
+from tracesync.problems import read_problem
+from tracesync.replies import split_replies
 
 DECLARED = f"{EXAMPLES}/captures/hosts.toml"
 CYCLE = """certificate 1
@@ -62,6 +64,8 @@ class Replies(unittest.TestCase):
             ("time a#1", "time 1795842008123456789.000000000 1795842008123456799.000000000",
              "by the clock of the source a#1 was between 2026-11-28 05:00:08.123456789 UTC and 2026-11-28 05:00:08.123456799 UTC, 10 ns apart (ns are cut off)"),
             ("report", '{"ambiguous":[],"consistent":true,"events":3,"messages":1,"nokey":{"short":1,"side":0},"unmatched":0}', "1 message among 3 events; 1 captured too short"),
+            ("add a x", "added events 1 messages 0 withdrawn 0 pending 0 passed 3 consistent",
+             "a has 1 events more, 0 messages were found, 3 packets under a are no events; what was declared can be true of all this"),
             ("add a x", "added events 1 messages 0 withdrawn 0 pending 7 consistent", "a has 1 events more, 0 messages were found, the last 7 bytes are no whole packet and wait for their rest; what was declared can be true of all this"),
         )  # fmt: skip
         for line, reply, wanted in cases:

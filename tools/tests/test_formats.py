@@ -3,10 +3,9 @@
 import re
 import unittest
 
-import declaration
-import refusals
 import words
 from common import TOP
+from tracesync import declaration, errors, refusals, replies
 
 with open(f"{TOP}/docs/FORMATS.md", encoding="utf-8") as it:
     FORMATS = it.read()
@@ -36,6 +35,22 @@ class Formats(unittest.TestCase):
         numbers = {line.split(" ")[1] for row in rows("Refusal", "The line, or what it asks for") for line in codes(row[0])}
         told = {str(it) for it in range(100) if refusals.Refusals().told("add a b", [str(it)]) != f"refusal {it}"}
         self.assertEqual((told, len(numbers) > 10), (numbers, True))
+
+    def test_each_refusal_has_a_cause(self) -> None:
+        lines = [line for row in rows("Refusal", "The line, or what it asks for") for line in codes(row[0])]
+        self.assertEqual(set(refusals.CAUSES), {int(line.split(" ")[1]) for line in lines})
+        causes = {int(row[1]) for row in rows("At", "Number", "Cause")}
+        self.assertEqual(set(declaration.CAUSES), causes)
+
+    def test_statuses_of_a_session(self) -> None:
+        statuses = {int(row[0]) for row in rows("Status", "When", "Printed")}
+        self.assertLessEqual(set(errors.STATUSES) - {126}, statuses)
+
+    def test_keys_of_a_report(self) -> None:
+        keys = {it for row in rows("Key", "Value") for it in codes(row[0])}
+        self.assertEqual(set(replies.Report.__annotations__), keys)
+        reasons = {it for row in rows("Reason", "The event is") for it in codes(row[0])}
+        self.assertEqual(set(replies.Counts.__annotations__), reasons)
 
     def test_causes_of_a_row(self) -> None:
         self.assertEqual(list(refusals.ROW_CAUSES), [row[0] for row in rows("Number", "Cause", "The record")])

@@ -108,6 +108,14 @@ class Rings(Room):
         self.assertEqual(self.stamps(f"a={','.join(paths)}"), [[0, 1, 3, 4, 5]])
         self.assertTrue(self.said[0].startswith("The last ") and self.said[0].endswith(" are no whole packet, and are left out."), self.said)
 
+    def test_files_are_called_as_they_were_named(self) -> None:
+        whole = [making.classic(packets(first, 3)) for first in (0, 3, 6, 9)]
+        whole[1] = whole[1][:-1]
+        paths = [self.write(f"r{at}.gz", gzip.compress(data)) for at, data in enumerate(whole)]
+        self.assertEqual(self.gather(f"a={','.join(paths)}")[0].shown, f"{', '.join(paths[:3])} and 1 more")
+        self.assertEqual([it.split(" of ")[1].split(" are ")[0] for it in self.said if it.startswith("The last")], [paths[1]])
+        self.assertEqual(self.gather(f"b={paths[0]}")[0].shown, paths[0])
+
     def test_headers_that_differ_are_refused(self) -> None:
         one = self.ring()[1]
         last = packets(9, 1)

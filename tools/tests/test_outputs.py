@@ -7,13 +7,13 @@ import sys
 import tempfile
 import unittest
 
-from common import TOOLS
+from common import TOOLS, TOP
 
 # Replies as `test_timeline` has them, but for a text that a spreadsheet would run and a terminal obey.
 STAND_IN = f"""#!{sys.executable}
 import sys
 sys.dont_write_bytecode = True
-sys.path[:0] = ["{TOOLS}/tests", "{TOOLS}/lib"]
+sys.path[:0] = ["{TOOLS}/tests", "{TOOLS}/lib", "{TOP}/python"]
 from test_timeline import MERGE, Replies
 replies = Replies(merge=MERGE.replace("<b>&", "=1+1\\x1b[31m").split("\\n"))
 for line in sys.stdin:

@@ -15,14 +15,14 @@ from pathlib import Path
 from commit import ENTRY, Commit
 from common import PROGRAM, TOP
 from elf import needs_of, packages_of, version_of
-from front import front_of
+from front import HELP_FILE, front_of, help_of
 from manual import macros
 from manual_pages import PAGES, main_pages
 from tool_help import TOOLS, entries_of
 
 ECHO = shutil.which("echo") or ""
 IS_THERE = all(map(shutil.which, ("git", "dpkg-deb", "bash"))) and ECHO
-PARTS = ("tracesync", "CHANGELOG.md", "crates.txt", "docs", "examples/session", "packaging", "tools")
+PARTS = ("tracesync", "CHANGELOG.md", "crates.txt", "docs", "examples/session", "packaging", "python", "tools")
 SECONDS = 1_700_000_000
 GIT = {f"GIT_{who}_{what}": text for who in ("AUTHOR", "COMMITTER") for what, text in (("NAME", "a"), ("EMAIL", "a@a"), ("DATE", f"{SECONDS} +0000"))}
 ENVIRONMENT = {**{name: text for name, text in os.environ.items() if name != "PROGRAM"}, **GIT, "GIT_CONFIG_GLOBAL": os.devnull, "GIT_CONFIG_SYSTEM": os.devnull}
@@ -31,7 +31,7 @@ ENVIRONMENT = {**{name: text for name, text in os.environ.items() if name != "PR
 def made_clone(room: str) -> Path:
     """Makes a clone with what a package has, and two sources, and returns its folder."""
     top = Path(room) / "clone"
-    for part in PARTS:
+    for part in (*PARTS, HELP_FILE):
         (top / part).parent.mkdir(parents=True, exist_ok=True)
         if Path(TOP, part).is_dir():
             shutil.copytree(f"{TOP}/{part}", top / part, ignore=shutil.ignore_patterns("tests", "__pycache__"))
@@ -123,10 +123,10 @@ class Package(unittest.TestCase):
         ran = self.call("tracesync", "--version")
         commit = subprocess.run(["git", "-C", self.top, "rev-parse", "HEAD"], env=ENVIRONMENT, capture_output=True, text=True).stdout.strip()
         self.assertEqual((ran.returncode, ran.stdout.splitlines()[0].split(", commit ")[1]), (0, commit))
-        told = self.call("tracesync", "--help").stdout
-        self.assertTrue(told.startswith("usage: tracesync COMMAND"))
-        for it in re.findall(r"(\S+\.md)", told):
-            self.assertTrue(os.path.isfile(it), it)
+        with open(f"{self.top}/{HELP_FILE}", encoding="utf-8") as it:
+            told, program = help_of(it.read()), self.call("tracesync", "--help").stdout
+        # (what stands in for the program has a help of its own)
+        self.assertTrue(program == told if PROGRAM else program)
 
     def test_the_front_builds_nothing(self) -> None:
         text = (self.own / "bin/tracesync").read_text()
@@ -170,6 +170,16 @@ class Package(unittest.TestCase):
         self.assertTrue((self.room / "ran").read_text().startswith("session "))
         self.assertEqual(self.call("tracesync-rows", "--json", text='{"stamp": "1"}\n').stdout, "1000000000,local,,\n")
 
+    def test_python_finds_its_package_and_that_the_program(self) -> None:
+        script = "import site, sys; site.addsitedir(sys.argv[1]); import tracesync; print(tracesync.find_program())"
+        more = {"PATH": f"{self.room}", "TRACESYNC": ""}
+        words = [sys.executable, "-I", "-B", "-c", script, f"{self.own}/lib/python3/dist-packages"]
+        ran = subprocess.run(words, cwd=self.room, env={**ENVIRONMENT, **more}, capture_output=True, text=True)
+        self.assertEqual((ran.stdout, ran.stderr), (f"{self.own}/lib/tracesync/tracesync\n", ""))
+        self.assertTrue((self.own / "lib/tracesync/python/tracesync/py.typed").exists())
+        for it in (self.own / "lib/tracesync/python").rglob("*.py"):
+            self.assertNotIn("tools/", it.read_text())
+
     def test_nothing_is_written_but_both_files(self) -> None:
         self.assertEqual(sorted(it.name for it in self.deb.parent.iterdir()), sorted([self.deb.name, self.tar.name]))
         left = subprocess.run(["git", "-C", self.top, "status", "--porcelain"], env=ENVIRONMENT, capture_output=True, text=True).stdout
@@ -183,7 +193,7 @@ class Package(unittest.TestCase):
         self.assertRegex(text, r"(?m)^gate +\?\[1m7 passed, 0 failed \(the last line of the log [0-9a-f]{64} that was named\)$")
         self.assertRegex(text, r"(?m)^program +one that was named")
         sums = dict(reversed(it.split("  ")) for it in re.findall(r"(?m)^[0-9a-f]{64}  .*$", text))
-        self.assertEqual(sorted(sums), ["crates.txt", "crates/a/src/lib.rt", "crates/a_tests/specs/A.antt", "lib/tracesync/tracesync"])
+        self.assertEqual(sorted(sums), ["crates.txt", "crates/a/src/lib.rt", "crates/a_tests/specs/A.antt", HELP_FILE, "lib/tracesync/tracesync"])
         for path, found in sums.items():
             data = (self.own if path.startswith("lib/") else self.top).joinpath(path).read_bytes()
             self.assertEqual(hashlib.sha256(data).hexdigest(), found)
@@ -324,10 +334,14 @@ class Parts(unittest.TestCase):
             self.assertEqual(subprocess.run(["dpkg", "--compare-versions", early, "lt", late]).returncode, 0, versions)
 
     def test_a_front_is_the_script_without_what_builds(self) -> None:
-        script = "set -u\ntop=x\n\nprint_help() {\n  cat\n}\n\n# Old.\nis_old() {\n  a\n}\n\n# New.\nlook() {\n  if b; then\n    c\n  fi\n}\n\ncase $1 in\nesac\nif is_old; then build; fi\nexec d\n"
-        self.assertEqual(front_of(script, "@FUNCTIONS@@REST@/@VERSION@", "7"), "print_text() {\n  cat\n}\n\n# New.\nlook() {\n  if b; then\n    c\n  fi\n}\ncase $1 in\nesac\nexec d/7")
-        with self.assertRaisesRegex(ValueError, "no line if is_old"):
-            front_of(script.replace("if is_old;", "is_old &&"), "@FUNCTIONS@@REST@", "7")
+        script = (
+            "set -u\ntop=x\n\n# Help.\nprint_help() {\n  cat\n}\n\n# Old.\nis_old() {\n  a\n}\n\n# New.\nlook() {\n  if b; then\n    c\n  fi\n}\n\n"
+            "case $1 in\nesac\nif e && is_old; then print_help && exit; fi\nif is_old; then build; fi\nexec d\n"
+        )
+        self.assertEqual(front_of(script, "@FUNCTIONS@@REST@/@VERSION@", "7"), "# New.\nlook() {\n  if b; then\n    c\n  fi\n}\ncase $1 in\nesac\nexec d/7")
+        for line in ("if is_old; then build", "if e && is_old; then print_help"):
+            with self.assertRaisesRegex(ValueError, "no two lines"):
+                front_of(script.replace(line, line.replace("is_old", "is_new")), "@FUNCTIONS@@REST@", "7")
 
     def test_texts_become_macros(self) -> None:
         cases = (
@@ -350,16 +364,16 @@ class Parts(unittest.TestCase):
         self.assertEqual(macros(rows), wanted)
 
     def test_each_section_of_the_formats_stands_on_a_page(self) -> None:
-        formats, script = Path(TOP, "docs/FORMATS.md").read_text(), Path(TOP, "tracesync").read_text()
-        pages = main_pages(formats, script, "1", "2026-01-01", list(TOOLS))
+        formats, source = Path(TOP, "docs/FORMATS.md").read_text(), Path(TOP, HELP_FILE).read_text()
+        pages = main_pages(formats, source, "1", "2026-01-01", list(TOOLS))
         self.assertEqual(len(pages), len(PAGES))
         for text in (formats + "\n## One more\n", formats.replace("## Event log", "## Log")):
             with self.assertRaisesRegex(ValueError, "differ in the section"):
-                main_pages(text, script, "1", "2026-01-01", list(TOOLS))
+                main_pages(text, source, "1", "2026-01-01", list(TOOLS))
 
     def test_no_word_of_the_formats_is_lost(self) -> None:
-        formats, script = Path(TOP, "docs/FORMATS.md").read_text(), Path(TOP, "tracesync").read_text()
-        shown = "\n".join(main_pages(formats, script, "1", "2026-01-01", list(TOOLS)).values())
+        formats, source = Path(TOP, "docs/FORMATS.md").read_text(), Path(TOP, HELP_FILE).read_text()
+        shown = "\n".join(main_pages(formats, source, "1", "2026-01-01", list(TOOLS)).values())
         for sign, text in (("\\-", "-"), ("\\(rs", "\\"), ("\\(aq", "'"), ("\\(ga", "`"), ("\\(ha", "^"), ("\\(ti", "~"), ("\\&", ""), ("\\(dq", '"')):
             shown = shown.replace(sign, text)
         shown = re.sub(r"\\f(?:\(BI|.)", "", shown)

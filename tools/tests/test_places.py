@@ -35,12 +35,12 @@ WRONG_LINES = {
         "if events.len() > 4_096 { return Err(AllocError.into()); } let keys = keys_of(alloc, names, events, e)?;",
         places.MEMORY, "write_merged"),
     "a whole session is want of memory": (
-        "commands/program.rt", "Form::Session => session(alloc, files, words.word(1), input, out, &mut steps),",
-        "Form::Session => Status::Memory,", places.MEMORY, "run_counted"),
+        "commands/program.rt", "Request::Session { decl } => session(alloc, files, decl, input, out, &mut steps),",
+        "Request::Session { .. } => Status::Memory,", places.MEMORY, "run_counted"),
     "the same, behind the opening of the counter": (
-        "commands/program.rt", "match form_of(words) {",
-        "if words.len() > 1 { return Status::Memory; } match form_of(words) {",
-        places.MEMORY, "run_counted"),
+        "commands/program.rt", "let request = request_of(words);",
+        "if words.len() > 1 { return Status::Memory; } let request = request_of(words);",
+        places.MEMORY, "run"),
     "an addition to a contradiction is want of memory": (
         "session_answers/answers.rt", "let events = newest(&accepted[k], more);",
         "if !is_consistent(&answers.graph.solver) { return Err(AllocError); } let events = newest(&accepted[k], more);",
@@ -75,6 +75,10 @@ WRONG_LINES = {
     "the graph reads all its arcs": (
         "sync_graph/graph.rt", "self.exact();", "for k in 0..self.arcs() { let _ = self.arcs.get(k); } self.exact();",
         places.ARCS, "Graph::degrees"),
+    "an addition reads a file that no line names": (
+        "session/added_pieces.rt", "match read_file(self.alloc, files, path, MOST_PIECE) {",
+        'let _ = read_file(self.alloc, files, "x", 1); match read_file(self.alloc, files, path, MOST_PIECE) {',
+        places.FILES, "Session::add_under"),
     "a second counter": (
         "solver/pushes.rt", "self.bring_in(arc, steps)?;", "self.bring_in(arc, &mut Steps::<L>::open(Blank::new(1)))?;",
         places.COUNTERS, "Solver::push_arc"),
@@ -113,6 +117,12 @@ DISGUISES = {
         ("use crate::errors::Stop as Why;", "Err(Why::Memory)"),
         ("use crate::errors::Stop::*;", "Err(Memory)"),
         ("", "Err(io::Error::from(ErrorKind::OutOfMemory))"),
+    ],
+    places.FILES: [
+        ("", "files.read_at(path, 0, &mut buf)"),
+        ("", "F::read_at(files, path, 0, &mut buf)"),
+        ("", "ports::read_file(alloc, files, path, 1)"),
+        ("use ports::read_file as fetch;", "fetch(alloc, files, path, 1)"),
     ],
     places.COUNTERS: [
         ("use atto::Steps as Count;", "Count::<L>::open(blank)"),

@@ -13,8 +13,8 @@ import tables
 import texts
 from common import TOOLS
 from explaining import Explainer
-from replies import UNITS
 from test_timeline import made
+from tracesync.numbers import UNITS
 from words import list_lines
 
 # The title of a terminal's window, colours, a line that is written over, and letters that run backward.

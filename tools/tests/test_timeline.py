@@ -15,7 +15,8 @@ import timeline
 from inputs import Input
 from logs import Log
 from reading_formats import faults_of_shiviz, faults_of_trace_events, read_shiviz
-from replies import UNITS, ns_text, read_ns
+from records import Record
+from tracesync.numbers import UNITS, ns_text, read_ns
 from words import Words, decimal_text, list_lines
 
 PROBLEM = """problem 1
@@ -39,6 +40,20 @@ REPORT = '{"ambiguous":[],"consistent":true,"events":5,"messages":2,"nokey":{"fr
 FROM_FIRST = {"a#1": "0.000000000 0.000000000", "b#1": "10.000000000 20.000000000", "b#2": "60.000000000 70.000000000", "b#3": "61.000000000 +inf", "a#2": "80.000000000 80.000000000"}
 
 
+# The steps of one proof, from its last event to its first: the greatest and the least time from a#1 to a#2.
+STEPS = (["late a#2 0.000000000", "span-most a 100 180 80.000000000", "early a#1 0.000000000"],
+         ["early a#2 0.000000000", "span-least a 100 180 -80.000000000", "late a#1 0.000000000"])  # fmt: skip
+
+
+def proof(one: str, other: str) -> list[str]:
+    """Returns a reply to `prove`, which has steps of one pair alone, and of the others the ends."""
+    least, greatest = FROM_FIRST[other].split(" ") if one == "a#1" else ("-inf", "+inf")
+    steps = STEPS if (one, other) == ("a#1", "a#2") else ([], [])
+    heads = [[f"{part} {end}", *(["inside a"] if end.endswith("inf") else [])] for part, end in (("upper", greatest), ("lower", least))]
+    parts = [[*head, *(f"step {it}" for it in own)] for head, own in zip(heads, steps)]
+    return ["certificate 1", f"ends {one} {other}", *parts[0], "event a#1 0.000000000", *parts[1], "event a#1 0.000000000", "end"]
+
+
 class Replies:
     """A session that knows its replies."""
 
@@ -56,9 +71,11 @@ class Replies:
             return self.more[line]
         if words[0] == "interval":
             ends = {("a#1", "b#1"): "10.000000000 20.000000000", ("b#2", "a#2"): "10.000000000 20.000000000"}
-            return [f"interval {FROM_FIRST[words[2]] if words[1] == 'a#1' else ends[words[1], words[2]]}"]
+            return [f"interval {FROM_FIRST[words[2]] if words[1] == 'a#1' else ends.get((words[1], words[2]), '-inf +inf')}"]
         if words[0] == "time":
             return ["time 250.000000000 +inf" if words[1] == "b#1" else "time 300.500000000 310.000000000"]
+        if words[0] == "prove":
+            return proof(*words[1:])
         texts = {"merge": MERGE, "problem": PROBLEM, "report": REPORT, "keep": "kept 1", "order": "order open", "add": "added events 3 messages 0 withdrawn 0 pending 0 consistent"}
         return texts[words[0]].split("\n")
 
@@ -119,6 +136,18 @@ class Asking(unittest.TestCase):
             least, greatest = found.ends["a#1"][it.name]
             self.assertTrue(least <= it.time and (greatest is None or it.time <= greatest), it.name)
 
+    def test_proofs_are_asked_of_named_pairs_and_from_the_first_event(self) -> None:
+        session = Replies()
+        found = timeline.Asking(session, [], ["a#1", "b#2"], proved=[("b#3", "a#2"), ("a#2", "b#3")]).timeline()
+        asked = [it for it in session.asked if it.startswith("prove")]
+        self.assertEqual(asked, ["prove b#3 a#2", "prove a#1 b#2", "prove a#1 b#1", "prove a#1 b#3", "prove a#1 a#2"])
+        legs = found.proofs["a#1", "a#2"].greatest.legs
+        self.assertEqual([(it.start, it.end, it.units) for it in legs], [("a#1", "a#2", 80 * UNITS)])
+
+    def test_a_pair_of_which_one_is_no_event(self) -> None:
+        with self.assertRaisesRegex(ValueError, "there is no event b#9"):
+            timeline.Asking(Replies(), [], proved=[("a#1", "b#9")]).timeline()
+
     def test_without_a_source_no_times_are_asked(self) -> None:
         self.assertEqual([it for it in made()[1] if it.startswith("time")], [])
 
@@ -140,6 +169,15 @@ class Outputs(unittest.TestCase):
     def test_json_has_the_numbers_as_they_were_printed(self) -> None:
         value = json.loads(tables.as_json(made()[0]))
         self.assertEqual(value["events"][3]["since"], {"a#1": ["61.000000000", "+inf"]})
+
+    def test_json_has_proofs_and_where_events_are_recorded(self) -> None:
+        found, _ = made()
+        found.events[0].record = Record(connection="TCP a", path="a.pcap", frame=3)
+        value = json.loads(tables.as_json(found))
+        self.assertEqual({name: value["events"][0].get(name) for name in ("connection", "file", "frame", "key")}, {"connection": "TCP a", "file": "a.pcap", "frame": 3, "key": None})
+        last = next(it for it in value["proofs"] if it["second"] == "a#2")
+        self.assertEqual((last["least"]["ns"], [(it["from"], it["to"], it["ns"]) for it in last["least"]["legs"]]), ("80.000000000", [("a#1", "a#2", "80.000000000")]))
+        self.assertEqual(next(it for it in value["proofs"] if it["second"] == "b#3")["greatest"], {"ns": "+inf", "legs": [], "inside": ["a"]})
 
     def test_csv_has_a_row_for_each_event(self) -> None:
         rows = list(csv.reader(io.StringIO(tables.as_csv(made()[0]))))
@@ -175,7 +213,7 @@ class Outputs(unittest.TestCase):
 
     def test_one_event_alone_is_drawn(self) -> None:
         found, _ = made()
-        found.events, found.messages, found.orders = found.events[:1], [], {}
+        found.events, found.messages, found.orders, found.proofs = found.events[:1], [], {}, {}
         self.assertEqual((picture.svg(found, 400, []).count("<circle"), page.page(found, "One").count("<html")), (1, 1))
 
     def test_what_is_not_proved_says_so(self) -> None:

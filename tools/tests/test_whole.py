@@ -11,7 +11,7 @@ from typing import Any
 import making_captures as making
 from common import EXAMPLES, PROGRAM, TOOLS
 from reading_formats import faults_of_shiviz, faults_of_trace_events
-from replies import read_ns
+from tracesync.numbers import read_ns
 
 LEFT, RIGHT = f"left={EXAMPLES}/captures/left.pcap", f"right={EXAMPLES}/captures/right.pcap"
 

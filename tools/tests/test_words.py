@@ -5,8 +5,8 @@ from fractions import Fraction
 
 import timeline
 from explaining import Explainer
-from replies import UNITS
 from test_timeline import Replies, made
+from tracesync.numbers import UNITS
 from words import Words, anchor, ends_texts, list_lines, span_text
 
 S = 10**9 * UNITS
@@ -50,6 +50,11 @@ class Spans(unittest.TestCase):
         found, _ = made()
         found.ends["a#1"]["b#1"] = CASES[0][:2]
         self.assertIn("3600.499999048 s  3600.500001003 s  b#1", list_lines(found)[2])
+
+    def test_frames_that_are_no_events_and_a_tail_that_is_cut(self) -> None:
+        found, _ = made(**{"add a a.csv": ["added events 2 messages 0 withdrawn 0 pending 7 passed 3 consistent"]})
+        told = "a: 2 rows of a.csv; its last 7 bytes are no whole packet; 3 packets under a are no events"
+        self.assertEqual(Words(found).files()[0], told)
 
     def test_an_interval_that_is_explained(self) -> None:
         replies = ("3600499999048.000000000 3600500001003.000000000", "-3600500001003.000000000 -3600499999048.000000000")

@@ -9,6 +9,7 @@ import time
 import unittest
 
 from common import TOP
+from front import HELP_FILE, help_of
 
 # Prints its process and its words, and then does what its first word says.
 STAND_IN = """#!/bin/sh
@@ -111,8 +112,11 @@ class Wrapper(unittest.TestCase):
             self.assertIn(wanted, ran.stderr)
 
     def test_help_builds_nothing(self) -> None:
-        shutil.rmtree(f"{self.room}/crates")
-        self.assertTrue(self.run_it("--help").stdout.startswith("usage: tracesync COMMAND"))
+        os.remove(f"{self.room}/crates/tracesync/out/tracesync")
+        os.makedirs(f"{self.room}/crates/commands/src")
+        shutil.copyfile(f"{TOP}/{HELP_FILE}", f"{self.room}/{HELP_FILE}")
+        with open(f"{TOP}/{HELP_FILE}", encoding="utf-8") as it:
+            self.assertEqual(self.run_it("--help").stdout, help_of(it.read()))
         self.assertTrue(self.run_it("--version").stdout.startswith("tracesync, commit "))
 
     def test_what_cannot_be_built_is_not_run(self) -> None:

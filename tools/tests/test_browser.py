@@ -1,0 +1,159 @@
+"""The page in Chromium, where one is there: it is drawn at 20 and at 5,000 events, and does what is clicked."""
+
+import os
+import tempfile
+import unittest
+from typing import Any
+
+import making_timelines
+import page
+import timeline
+from browser import CHROMIUM, Browser
+from test_timeline import made
+
+EVIL = "<script>document.title = 'evil'</script><img src=x onerror=\"document.title = 'evil'\">"
+# What the tests ask of the page: where an event is, and the middle of what a selector finds, in pixels of the window;
+# how many pixels of the picture are drawn on; how long one drawing takes, in ms; what colour a place between two events has.
+HELP = """
+window.placeOf = (name) => {
+  const [x, y] = spots.find((it) => it[2].name === name), box = canvas.getBoundingClientRect();
+  return [box.left + x, box.top + y];
+};
+window.middleOf = (selector) => {
+  const it = document.querySelector(selector);
+  it.scrollIntoView();
+  const box = it.getBoundingClientRect();
+  return [box.left + box.width / 2, box.top + box.height / 2];
+};
+window.inked = () => {
+  const { data } = pen.getImageData(0, 0, canvas.width, canvas.height);
+  let count = 0;
+  for (let k = 3; k < data.length; k += 4) count += data[k] > 0;
+  return count;
+};
+window.timed = () => {
+  const from = performance.now();
+  for (let k = 0; k < 5; k++) draw();
+  return (performance.now() - from) / 5;
+};
+window.colour = (one, other) => {
+  const [x1, y] = spots.find((it) => it[2].name === one), [x2] = spots.find((it) => it[2].name === other);
+  return [...pen.getImageData(Math.round(x1 + (x2 - x1) * 0.3), y - 3, 1, 1).data].join();
+};
+window.put = (id, value, kind) => {
+  el(id).value = value;
+  el(id).dispatchEvent(new Event(kind));
+};
+"""
+
+
+@unittest.skipUnless(CHROMIUM, "no Chromium is there")
+class Opened(unittest.TestCase):
+    @classmethod
+    def setUpClass(cls) -> None:
+        cls.browser = Browser()
+        cls.addClassCleanup(cls.browser.__exit__)
+
+    def open(self, found: timeline.Timeline, more: str = "") -> None:
+        with tempfile.TemporaryDirectory() as room:
+            path = os.path.join(room, "page.html")
+            with open(path, "w", encoding="utf-8") as it:
+                it.write(page.page(found, f"Of {EVIL}"))
+            self.browser.open(path, more)
+        self.value(HELP)
+
+    def value(self, script: str) -> Any:
+        return self.browser.value(script)
+
+    def click(self, name: str, is_shifted: bool = False) -> None:
+        """Clicks on an event."""
+        self.browser.click(*self.value(f"placeOf('{name}')"), is_shifted)
+
+    def click_on(self, selector: str) -> None:
+        """Clicks in the middle of what a selector finds first."""
+        self.browser.click(*self.value(f"middleOf('{selector}')"))
+
+    def aside(self) -> str:
+        return self.value("el('aside').textContent").replace("\u00a0", " ")
+
+    def test_twenty_events(self) -> None:
+        self.open(making_timelines.timeline(20, 3))
+        self.assertGreater(self.value("inked()"), 5000)
+        self.assertEqual(self.value("[events.length, shown.length, spots.length]"), [21, 21, 21])
+        self.assertEqual(self.value("el('said').textContent"), "21 events, 10 messages")
+
+    def test_five_thousand_events(self) -> None:
+        self.open(making_timelines.timeline(5000, 4))
+        self.assertEqual(self.value("[events.length, spots.length < 200]"), [5000, True])
+        self.assertGreater(self.value("inked()"), 5000)
+        self.click_on("#fit")
+        self.assertEqual(self.value("[spots.length, counts.length > 0]"), [5000, True])
+        self.assertLess(self.value("timed()"), 2000)
+
+    def test_a_click_on_the_count_of_a_bundle_goes_nearer(self) -> None:
+        self.open(making_timelines.timeline(2000, 2), "#all=true")
+        count = self.value("counts[0].bundle.messages.length")
+        x, y = self.value("counts[0].box.slice(0, 2)")
+        left, top = self.value("[canvas.getBoundingClientRect().left, canvas.getBoundingClientRect().top]")
+        self.browser.click(left + x + 3, top + y + 3)
+        self.assertTrue(3 <= count <= self.value("byStart.length"))
+        self.assertLess(self.value("(view[1] - view[0]) / (high - low)"), 0.2)
+
+    def test_an_event_that_is_clicked_is_chosen_and_one_with_shift_compared(self) -> None:
+        self.open(made()[0])
+        self.click("a#2")
+        self.assertEqual(self.value("[chosen.name, document.querySelector('h2').textContent]"), ["a#2", "a#2"])
+        self.assertIn("a#2 was at most 80 ns after a#1", self.aside())
+        self.click("b#3", True)
+        self.assertEqual(self.value("[chosen.name, second.name]"), ["a#2", "b#3"])
+        self.assertEqual(self.value("document.querySelector('h3').textContent"), "a#2 and b#3")
+        self.assertIn("tools/timeline --prove b#3,a#2", self.aside())
+
+    def test_a_chain_is_drawn_and_another_one_when_it_is_clicked(self) -> None:
+        self.open(made()[0])
+        before = self.value("colour('a#1', 'a#2')")
+        self.click("a#2")
+        self.assertNotEqual(self.value("colour('a#1', 'a#2')"), before)
+        self.assertEqual(self.value("drawnEnd"), "greatest")
+        self.value("view = [place(times[4]) - 1, place(times[4]) + 1]")
+        self.click_on("a[data-end=least]")
+        self.assertEqual(self.value("[drawnEnd, view[0] < spotOf[0], view[1] > spotOf[4]]"), ["least", True, True])
+
+    def test_a_connection_and_a_text_leave_out_all_else(self) -> None:
+        self.open(making_timelines.timeline(60, 3, "needle"))
+        first = self.value("[...el('connection').options].find((it) => it.value.startsWith('connection')).value")
+        self.value(f"put('connection', '{first}', 'change')")
+        count = self.value("shown.length")
+        self.assertTrue(0 < count < 60)
+        self.value("put('connection', '', 'change'); put('text', 'needle', 'input')")
+        self.browser.settle()
+        self.assertTrue(0 < self.value("shown.length") < count)
+        self.assertTrue(self.value("shown.some((it) => it.text === 'needle')"))
+        self.assertTrue(self.value("spots.every((it) => it[2].isShown)"))
+        self.assertRegex(self.value("el('said').textContent"), r"^\d+ of 6\d events, \d+ of \d+ messages")
+
+    def test_the_filter_of_a_packet_is_copied(self) -> None:
+        self.open(making_timelines.timeline(20, 3))
+        self.click("h1#2")
+        self.assertIn("2 of h1.pcap", self.aside())
+        self.value("navigator.clipboard.writeText = async (text) => { window.copied = text; }")
+        self.click_on("button[data-copy]")
+        self.assertEqual(self.value("copied"), "frame.number == 2")
+        self.assertEqual(self.value("document.querySelector('button[data-copy]').textContent"), "copied")
+
+    def test_texts_of_others_run_nothing(self) -> None:
+        found = making_timelines.timeline(20, 3, EVIL)
+        names = {it: f'{it}"{EVIL}' for it in found.hosts}
+        found.hosts = list(names.values())
+        for it in found.events:
+            it.host = names[it.host]
+        self.open(found)
+        self.click(found.events[0].name)
+        self.click(found.events[3].name, True)
+        self.value("hovered = events[0]; tell(); showTip({ offsetX: 200, offsetY: 100 })")
+        self.assertIn(EVIL, self.aside())
+        self.assertEqual(self.value("[document.title, document.images.length, document.scripts.length]"), [f"Of {EVIL}", 0, 1])
+
+
+if __name__ == "__main__":
+    unittest.main()
