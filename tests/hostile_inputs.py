@@ -43,9 +43,11 @@ LINES = {
     11: "unknown event",
 }
 NS = r"-?\d+\.\d{9}"
+# What a merge has on the standard error.
+NOTES = re.compile(r"(\S+ (pending \d+|passed simple \d+ obsolete \d+ other \d+)\n)*")
 # The first line of a reply.
 REPLY = re.compile(
-    rf"added events \d+ messages \d+ withdrawn \d+ pending \d+ (in)?consistent|interval ({NS}|-inf) ({NS}|\+inf)"
+    rf"added events \d+ messages \d+ withdrawn \d+ pending \d+ (passed \d+ )?(in)?consistent|interval ({NS}|-inf) ({NS}|\+inf)"
     rf"|order (before|after|same|open)|time ({NS}|-inf) ({NS}|\+inf)"
     r"|kept [1-8]|merge \d+|certificate 1|problem [12]|\{.*\}"
     r"|refused (2[01237-9]|30|24 [12]|2[56] \d+( [1-4])?|31 \d+)"
@@ -183,7 +185,8 @@ def fault_of(command: Command, outcome: Outcome, script: bytes) -> str:
     status, text = outcome.run.status, outcome.text
     if status not in command.statuses:
         return "a status of its own"
-    if outcome.said:
+    is_merge = command.words[0] == "mergecap" and status == 0
+    if not NOTES.fullmatch(outcome.said) if is_merge else outcome.said:
         return "the standard error"
     if command.words[0] == "mergecap":
         return "" if status == 0 or re.fullmatch(r"(refused .*|size|inconsistent|links|range)\n", text) else "no reason"

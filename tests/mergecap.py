@@ -6,10 +6,11 @@
 What editcap reads of each capture must be what the outcome has, byte for byte: each packet once, in the order of the
 reply to `merge` of a session over the same script, each with its time there, less what is below 1 ns, as its stamp.
 tshark must read these stamps and lengths, capinfos as many packets, and a session of its own as many events with
-these stamps. Then scripts that have no merge: the line must stand there alone, with its status, and a refused line be
-the reply that a session has. With --size it tries 2^30 bytes of packets too, which takes 2 GB of memory and 600 MB of
-disk. PROGRAM names the program, else it is the one that is built here. It needs capinfos, editcap and tshark. Prints
-a line for each case, and with status 1 the first one that is otherwise.
+these stamps. The standard error must tell of each capture how many bytes wait, as the last reply to an addition does.
+Then scripts that have no merge: the line must stand there alone, with its status, and a refused line be the reply that
+a session has. With --size it tries 2^30 bytes of packets too, which takes 2 GB of memory and 600 MB of disk. PROGRAM
+names the program, else it is the one that is built here. It needs capinfos, editcap and tshark. Prints a line for each
+case, and with status 1 the first one that is otherwise.
 """
 
 import argparse
@@ -84,12 +85,22 @@ def packets_by_event(folder: str, lines: Sequence[str], captures: Sequence[str])
     return found
 
 
+def notes_of(declaration: str, lines: Sequence[str]) -> str:
+    """The notes on bytes that wait, by what a session replies to these additions."""
+    waiting: dict[str, str] = {}
+    for line, reply in zip(lines, replies(declaration, lines)):
+        words = reply[0].split(" ")
+        waiting[line.split(" ")[1]] = words[words.index("pending") + 1]
+    return "".join(f"{label} pending {count}\n" for label, count in sorted(waiting.items()) if count != "0")
+
+
 def merges(
     folder: str, case: str, declaration: str, lines: Sequence[str], captures: Sequence[str] = ("left", "right")
 ) -> None:
     """Wants a merge of these additions. Raises AssertionError where it is otherwise."""
     done = run("mergecap", declaration, lines)
     assert done.returncode == 0, (case, done.returncode, done.stdout[:80])
+    assert done.stderr.decode() == notes_of(declaration, lines), (case, done.stderr)
     replied = [line.split(" ") for line in replies(declaration, [*lines, "merge"])[-1][1:]]
     # (rows of logs bound the times, and have no packets)
     merged = [(int(time.split(".")[0]), event) for time, event, *_ in replied if event.split("#")[0] in captures]
@@ -121,8 +132,8 @@ def read_again(folder: str, case: str, path: str, written: list[Record]) -> None
 def no_merge(case: str, declaration: str, lines: Sequence[str], wanted: str, status: int = 12) -> None:
     """Wants this line in place of a merge."""
     done = run("mergecap", declaration, lines)
-    found = (done.stdout, done.returncode)
-    assert found == (wanted.encode() + b"\n", status), (case, done.returncode, done.stdout[:80])
+    found = (done.stdout, done.stderr, done.returncode)
+    assert found == (wanted.encode() + b"\n", b"", status), (case, done.returncode, done.stdout[:80], done.stderr[:80])
     print(f"{case}: `{wanted}`, status {status}")
 
 
@@ -158,7 +169,7 @@ def empty_packets(stamps: Sequence[int]) -> bytes:
 def lawful(folder: str) -> None:
     """Scripts that have a merge."""
     done = run("mergecap", HOSTS, [])
-    assert (done.stdout, done.returncode) == (EMPTY, 0), done
+    assert (done.stdout, done.stderr, done.returncode) == (EMPTY, b"", 0), done
     print("no line: a capture without packets")
     merges(folder, "captures", HOSTS, [LEFT, RIGHT])
     merges(folder, "captures, right first", HOSTS, [RIGHT, LEFT])

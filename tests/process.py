@@ -5,10 +5,10 @@
 
 What no contract can say is looked at here: that the exit status is that of the run, for each status from 0 to 12; that
 a session answers a line before it reads the next one; that files, input and output are read and written whole where the
-host gives or takes a part at a time, or fails; and that sizes just above the small ones of other tests do not end in
-want of memory. With WORD only cases whose names have it are run. PROGRAM names the program, else it is the one that is
-built here. Reads and writes fail or are cut by a library of fail_calls.c, which is built here with cc and loaded before
-the C library.
+host gives or takes a part at a time, or fails; that notes come on the standard error; and that sizes just above the
+small ones of other tests do not end in want of memory. With WORD only cases whose names have it are run. PROGRAM names
+the program, else it is the one that is built here. Reads and writes fail or are cut by a library of fail_calls.c, which
+is built here with cc and loaded before the C library.
 """
 
 from __future__ import annotations
@@ -94,16 +94,19 @@ class Room:
             it.write(data.encode() if isinstance(data, str) else data)
         return name
 
-    def run(self, words: Iterable[str], script: str | bytes = b"", memory: int = 0, **faults: int) -> Ran:
-        """Runs the program; `memory` bounds its address space, `faults` are the variables of fail_calls.c."""
+    def run(
+        self, words: Iterable[str], script: str | bytes = b"", memory: int = 0, notes: str = "", **faults: int
+    ) -> Ran:
+        """Runs the program, which must write these notes; `memory` bounds its address space, `faults` are the variables
+        of fail_calls.c."""
         said = {f"FAULT_{name.upper()}": str(n) for name, n in faults.items()}
         more = {**os.environ, **said, **({"LD_PRELOAD": self.shim} if said else {})}
         limit = (lambda: resource.setrlimit(resource.RLIMIT_AS, (memory, memory))) if memory else None
         data = script.encode() if isinstance(script, str) else script
         kept = {"capture_output": True, "cwd": self.folder, "env": more, "timeout": SECONDS, "preexec_fn": limit}
         done = subprocess.run([PROGRAM, *words], input=data, **kept)
-        if done.stderr:
-            raise Failed(f"the standard error has {done.stderr[:200]!r}")
+        if done.stderr != notes.encode():
+            raise Failed(f"the standard error has {done.stderr[:200]!r}, not {notes!r}")
         return Ran(done.returncode, done.stdout)
 
 
@@ -134,8 +137,12 @@ for said, later in (("b#1 10.", "b#1 21."), ("250 10.", "250 21."), ("b#2 60.", 
     BROKEN = BROKEN.replace(said, later)
 USAGE = (
     "usage: tracesync obey PROBLEM EXEC | solve PROBLEM | ends PROBLEM P Q | verify PROBLEM CERT | session DECL"
-    " | trial N | widen PROBLEM | judge PROBLEM WIDENING | mergecap DECL\n"
+    " | trial N | widen PROBLEM | judge PROBLEM WIDENING | mergecap DECL | --help | --version\n"
 )
+with open(f"{TOP}/crates/commands/src/help.rt", encoding="utf-8") as source:
+    HELP = source.read().split('HELP: &[u8] = br"', 1)[1].split('\n";', 1)[0] + "\n"
+with open(f"{TOP}/CHANGELOG.md", encoding="utf-8") as source:
+    NEWEST = source.read().split("\n## ", 1)[1].split(".", 1)[0]
 EMPTY_CAPTURE = struct.pack("<IHHIIII", 0xA1B23C4D, 2, 4, 0, 0, 262144, 1)
 
 
@@ -163,6 +170,8 @@ def statuses(room: Room) -> None:
         (0, ["ends", "problem.txt", "a#1", "b#1"], "", "10.000000000 20.000000000 before\n"),
         (0, ["verify", "problem.txt", "solved.txt"], "", "yes\n"),
         (0, ["mergecap", "hosts.toml"], "", EMPTY_CAPTURE),
+        (0, ["--help"], "", HELP),
+        (0, ["--version"], "", f"tracesync {NEWEST}\n"),
         (1, ["obey", "problem.txt", "broken.txt"], "", "broken delay-most a#1 b#1 20.000000000 21.000000000\n"),
         (2, [], "", USAGE),
         (2, ["session"], ADDS, USAGE),
@@ -275,6 +284,19 @@ def long_inputs(room: Room) -> None:
     agree(room.run(["session", "hosts.toml"], script, short=1021), 0, want)
 
 
+def interrupted_calls(room: Room) -> None:
+    """A read or a write that a signal interrupts is made again, of the input, of a file and of the output."""
+    logs(room)
+    count = 2_000
+    room.write("long.csv", long_log(count))
+    script = f"add long.csv long.csv\nadd a long.csv\ninterval a#1 a#{count}\nmerge\n"
+    merged = f"merge {count}\n" + "".join(f"{n * 10}.000000000 a#{n + 1}\n" for n in range(count))
+    end = f"{(count - 1) * 10}.000000000"
+    want = f"refused 21\n{added(count)}interval {end} {end}\n{merged}"
+    for each in (2, 3, 7):
+        agree(room.run(["session", "hosts.toml"], script, each=each, short=1021), 0, want)
+
+
 def piped_files(room: Room) -> None:
     """Files that are pipes are read to their end, as they come."""
     logs(room)
@@ -314,6 +336,31 @@ def cut_block(room: Room) -> None:
     found = room.run(["session", "hosts.toml"], "add a head\nadd a more\n", memory=96 << 20)
     want = "".join(f"added events 0 messages 0 withdrawn 0 pending {n} consistent\n" for n in (8, 8 + (1 << 22)))
     agree(found, 0, want)
+
+
+# ---- notes
+
+
+def notes(room: Room) -> None:
+    """What captures have beside a merge comes on the standard error; all else is the same where that is full."""
+    label = '[labels.{}]\nhost = "a"\nkind = "capture"\n'
+    room.write("hosts.toml", '[hosts.a]\naddresses = ["10.0.0.1"]\n' + label.format("cut") + label.format("passed"))
+    record = struct.pack("<IIII", 0, 100, 1, 1) + b"x"
+    room.write("cut", EMPTY_CAPTURE + record + record[:5])
+    section = struct.pack("<IIIHHqI", 0x0A0D0D0A, 28, 0x1A2B3C4D, 1, 0, -1, 28)
+    interface = struct.pack("<IIHHIHHB3xII", 1, 32, 1, 0, 0, 9, 1, 9, 0, 32)
+    simple = struct.pack("<IIIII", 3, 20, 4, 0, 20)
+    enhanced = struct.pack("<IIIIIII", 6, 36, 0, 0, 250, 1, 1) + b"y\0\0\0" + struct.pack("<I", 36)
+    room.write("passed", section + interface + simple + enhanced + simple + simple[:8])
+    words, script = ["mergecap", "hosts.toml"], "add cut cut\nadd passed passed\n"
+    told = "cut pending 5\npassed pending 8\npassed passed simple 2 obsolete 0 other 0\n"
+    merged = EMPTY_CAPTURE + struct.pack("<IIII", 0, 0, 1, 1) + b"x" + struct.pack("<IIII", 0, 150, 1, 1) + b"y"
+    agree(room.run(words, script, notes=told), 0, merged)
+    agree(room.run(words, script + "merge\n"), 12, "refused 20\n")
+    with open("/dev/full", "wb") as full:
+        kept = {"stdout": subprocess.PIPE, "stderr": full, "cwd": room.folder, "timeout": SECONDS}
+        done = subprocess.run([PROGRAM, *words], input=script.encode(), **kept)
+    agree(Ran(done.returncode, done.stdout), 0, merged)
 
 
 # ---- sizes above those of other tests
@@ -371,8 +418,8 @@ def contradictions(room: Room) -> None:
 
 
 CASES: list[Callable[[Room], None]] = [
-    statuses, full_outputs, little_memory, long_script, replies_at_once, long_inputs, piped_files, failing_reads,
-    cut_block, many_events, withdrawals, contradictions,
+    statuses, full_outputs, little_memory, long_script, replies_at_once, long_inputs, interrupted_calls, piped_files,
+    failing_reads, cut_block, notes, many_events, withdrawals, contradictions,
 ]
 
 
