@@ -1,2 +1,3 @@
-mod Faults
+pub mod Formats
 pub mod Standing
+pub mod Bounds

@@ -1,3 +1,4 @@
-pub mod Errors
+pub mod Formats
 pub mod Capture
 pub mod Feeding
+pub mod Kept

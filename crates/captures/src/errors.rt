@@ -1,6 +1,8 @@
 // Why a piece of a capture is refused.
 ghost use Rattle.std.specs.Prelude.{◌≡◌};
-ghost use Rattle.captures.specs.Errors.{capture_error};
+ghost use Rattle.captures.specs.declared.errors.CaptureError.TheVariants.{Memory};
+
+use std::alloc::{AllocError, AllocFailed};
 
 /// Why a capture is refused.
 #[derive(Clone, Copy, Debug, PartialEq, Eq, thiserror::Error)]
@@ -27,17 +29,18 @@ pub enum CaptureError {
     Memory,
 }
 
-impl From<pcapng_stream::CaptureError> for CaptureError {
-    ghost from_gives = { λ e refused. refused ≡ capture_error e };
+impl From<AllocError> for CaptureError {
+    ghost from_gives = { λ _ e. e ≡ Memory };
 
-    fn from(e: pcapng_stream::CaptureError) -> CaptureError {
-        match e {
-            pcapng_stream::CaptureError::Magic => CaptureError::Magic,
-            pcapng_stream::CaptureError::Version => CaptureError::Version,
-            pcapng_stream::CaptureError::Header(place) => CaptureError::Header(place),
-            pcapng_stream::CaptureError::Length(place) => CaptureError::Length(place),
-            pcapng_stream::CaptureError::Block(place) => CaptureError::Block(place),
-            pcapng_stream::CaptureError::Memory => CaptureError::Memory,
-        }
+    fn from(_: AllocError) -> CaptureError {
+        CaptureError::Memory
+    }
+}
+
+impl<T: Drop> From<AllocFailed<T>> for CaptureError {
+    ghost from_gives = { λ _ e. e ≡ Memory };
+
+    fn from(_: AllocFailed<T>) -> CaptureError {
+        CaptureError::Memory
     }
 }

@@ -6,11 +6,14 @@
 #![tactic(auto)]
 
 mod errors;
+mod kind;
 mod laws;
 mod stream;
 
 pub use errors::CaptureError;
-pub use laws::{captures_are_one, faults_are_one, new_stands, nothing_reads, refused_or_read};
-pub use pcap_stream::{FirstPackets, Packet};
-pub use pcapng_stream::Passed;
+pub use laws::{
+    captures_are_one, faults_are_one, kept_streams_are_read, new_stands, nothing_reads,
+    old_packets_stay, refused_or_read, streams_are_judged, tails_are_one,
+};
+pub use packets::{FirstPackets, Packet, Passed};
 pub use stream::CaptureStream;

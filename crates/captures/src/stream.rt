@@ -5,37 +5,41 @@ ghost use Rattle.captures.specs.Capture.{Capture, IsFault};
 ghost use Rattle.captures.specs.Feeding.{StandsFor, IsNew, Grows, Adds, IsSame, taken, passed_of, seen_packets, waiting_of};
 
 use crate::CaptureError;
-use pcap_stream::{FirstPackets, Packet};
-use pcapng_stream::Passed;
+use crate::kind::{Kind, read_kind};
+use packets::{FirstPackets, Packet, Passed};
 use std::alloc::Global;
 use std::marker::Model;
 
 /// A capture so far: what is kept of it, so that the next piece can be read.
 ///
-/// It keeps no byte of a packet that was given. A piece may end anywhere.
+/// The first byte tells its format: 0a begins a capture in pcapng. It keeps no byte of a packet that was given, and of a
+/// block that is skipped four at most, however long it is. A piece may end anywhere.
 #[derive(Drop)]
 pub struct CaptureStream {
-    stream: pcapng_stream::CaptureStream,
+    alloc: Global,
+    kind: Kind,
 }
 
 impl Model for CaptureStream {
-    ghost use Rattle.std.specs.Prelude.{⊤};
     ghost use Rattle.captures.specs.Feeding.{Tail};
+    ghost use Rattle.captures.specs.Formats.{kept_in, IsKept};
 
     ghost Value = { Tail };
 
-    ghost view = { λ s. s.stream };
+    ghost view = { λ s. kept_in s.kind };
 
-    ghost invariant = { λ s. ⊤ };
+    ghost invariant = { λ s. IsKept s.kind };
 }
 
 impl CaptureStream {
     /// A capture of which nothing came yet. It takes no memory.
     pub fn new(alloc: Global) -> CaptureStream
-        ensures { IsNew result }
+        ensures new { IsNew result }
+        ensures empty { taken result ≡ 0 }
     {
         CaptureStream {
-            stream: pcapng_stream::CaptureStream::new(alloc),
+            alloc,
+            kind: Kind::Unknown,
         }
     }
 
@@ -43,7 +47,7 @@ impl CaptureStream {
     pub fn pending(&self) -> u32
         ensures { result ≡ waiting_of self.now }
     {
-        self.stream.pending()
+        self.kind.pending()
     }
 
     /// How many packets were passed over, by cause: of a capture in pcapng those that have no time, or stand in blocks that
@@ -51,7 +55,7 @@ impl CaptureStream {
     pub fn passed(&self) -> Passed
         ensures { result ≡ passed_of self.now }
     {
-        self.stream.passed()
+        self.kind.passed()
     }
 
     /// Reads the next piece of a capture of at most 2^30 bytes: answers what is then kept of it, and appends the packets
@@ -66,8 +70,10 @@ impl CaptureStream {
         ensures size { IfOk result (λ next. taken next ≡ taken self.now + length piece.now) }
         ensures unchanged { OnErr result (out.new.items ≡ out.old.items) }
     {
-        let next = self.stream.feed(piece, out)?;
-        Ok(CaptureStream { stream: next })
+        let mut first = FirstPackets::new(self.alloc, u64::MAX);
+        let next = self.feed_first(piece, &mut first)?;
+        out.append(&mut first.kept)?;
+        Ok(next)
     }
 
     /// Reads the next piece as `feed` does, and adds its packets, of which the first are kept as far as there is room.
@@ -85,7 +91,23 @@ impl CaptureStream {
         ensures size { IfOk result (λ next. taken next ≡ taken self.now + length piece.now) }
         ensures unchanged { OnErr result (IsSame out.old out.new) }
     {
-        let next = self.stream.feed_first(piece, out)?;
-        Ok(CaptureStream { stream: next })
+        let mut packets = out.behind(self.alloc);
+        let next = self.read(piece, &mut packets)?;
+        out.append(packets)?;
+        Ok(next)
+    }
+
+    // The next capture and its packets.
+    fn read(&self, piece: &[u8], packets: &mut FirstPackets) -> Result<CaptureStream, CaptureError>
+        requires { taken self.now + length piece.now ≤ 2 ^ 30 }
+        ensures ok { IfOk result (λ next. Adds (λ completed. (s : List ℕ) (c : Capture) → StandsFor self.now s c → Grows next (s ++ piece.now) c [] completed) packets.old packets.new) }
+        ensures fault { IfErr result (λ e. (s : List ℕ) (c : Capture) → StandsFor self.now s c → IsFault (s ++ piece.now) e) }
+        ensures size { IfOk result (λ next. taken next ≡ taken self.now + length piece.now) }
+    {
+        let kind = read_kind(self.alloc, &self.kind, piece, packets)?;
+        Ok(CaptureStream {
+            alloc: self.alloc,
+            kind,
+        })
     }
 }

@@ -11,7 +11,7 @@ use Rattle.csv.specs.declared.parser.Action.TheVariants as act
 use Rattle.csv.specs.declared.parser.State.{State}
 use Rattle.csv.specs.declared.parser.State.TheVariants as st
 use Rattle.csv.proofs.ReadFacts.{reached-more}
-use Rattle.event_log.specs.Front.{EndsInFifth, IsFrontOf, ended_after, state_of}
+use Rattle.event_log.specs.Front.{EndsInFifth, IsFrontOfRecords, ended_after, state_of}
 use Rattle.event_log.specs.declared.front.Place.{Place}
 use Rattle.event_log.specs.declared.front.Place.TheVariants as at
 use Rattle.event_log.proofs.Given.{text_all, text_front}
@@ -300,7 +300,7 @@ module _ (text : List ℕ) (i : ℕ) (p q : Place) (n m : ℕ) (within : i < len
   pub goes_further : m ≢ 4 → Walked (take (i + 1) text) (state_of q) m × (m < 4)
   goes_further none = (walked_more text i p q n m within low w state count, fewer (step default_config (state_of p) (get_or text i 0)).1 n m low count none)
 
-  pub fifth_begins : m ≡ 4 → IsFrontOf (records default_config text) (records default_config (take (i + 1) text))
+  pub fifth_begins : m ≡ 4 → IsFrontOfRecords (records default_config text) (records default_config (take (i + 1) text))
   fifth_begins four =
       let more : Walked (take (i + 1) text) (state_of q) 4 = subst (λ (k : ℕ). Walked (take (i + 1) text) (state_of q) k) four (walked_more text i p q n m within low w state count) in
       let inside : IsInside (state_of q) = fourth_inside p q n (get_or text i 0) low state (sym four ∙ count) in

@@ -1,9 +1,9 @@
 -- What the rows of a front say of a piece.
 use Rattle.std.proofs.Common.{◌≡◌, ◌≢◌, ◌<◌, ◌≤◌, ◌+◌, ℕ, List, [], ◌∷◌, ◌++◌, length, suc, Result, Ok, Err, refl, sym, ap, subst, ◌∙◌, arith, inl, inr, append_assoc}
 use Rattle.std.specs.Prelude.{◌⊎◌, IfOk, IfErr}
-use Rattle.event_log.specs.Front.{EndsInFifth, IsFrontOf}
-use Rattle.event_log.specs.Log.{records_of, AreRows, AreFirstRows, IsFirst, IsLogFault}
-use Rattle.event_log.specs.Row.{FourFields, record_of, IsRow, LacksFields, LacksStamp, LacksKind, LacksTexts}
+use Rattle.event_log.specs.Front.{EndsInFifth, IsFrontOfRecords}
+use Rattle.event_log.specs.Log.{records_of, AreRows, AreFirstRows, IsFirstFaulty, IsLogFault}
+use Rattle.event_log.specs.Row.{FourFields, record_of, IsRowRecord, LacksFields, LacksStamp, LacksKind, LacksTexts}
 use Rattle.event_log.specs.declared.errors.LogError.{LogError}
 use Rattle.event_log.specs.declared.errors.LogError.TheVariants.{Fields, Stamp, Kind, Text, Memory}
 use Rattle.event_log.specs.declared.read.FirstRows.{FirstRows}
@@ -39,7 +39,7 @@ module _ (last whole : List (List ℕ)) (after : List (List (List ℕ))) (many :
 
 -- the first record of a front that lacks something is that of the piece
 first_of : (Lacks : List (List ℕ) → Type 0) → ((a b : List (List ℕ)) → 4 < length a → 4 < length b → Lacks a → Lacks b) → (piece front : List ℕ) (n : ℕ)
-    → EndsInFifth (records_of piece) (records_of front) → IsFirst Lacks front n → IsFirst Lacks piece n
+    → EndsInFifth (records_of piece) (records_of front) → IsFirstFaulty Lacks front n → IsFirstFaulty Lacks piece n
 first_of Lacks goes piece front n ends first =
     elim (placed ends.last ends.whole ends.after ends.last_many ends.before first.before first.after first.fields first.rows (sym ends.front_is ∙ first.are) first.earlier) [
       | inl at ↦
@@ -85,7 +85,7 @@ ends_fault piece front (Kind n) ends fault = first_of LacksKind kind_goes piece 
 ends_fault piece front (Text n) ends fault = first_of LacksTexts texts_go piece front n ends fault
 ends_fault piece front Memory ends fault = tt
 
-first_same : (Lacks : List (List ℕ) → Type 0) (piece front : List ℕ) (n : ℕ) → records_of front ≡ records_of piece → IsFirst Lacks front n → IsFirst Lacks piece n
+first_same : (Lacks : List (List ℕ) → Type 0) (piece front : List ℕ) (n : ℕ) → records_of front ≡ records_of piece → IsFirstFaulty Lacks front n → IsFirstFaulty Lacks piece n
 first_same Lacks piece front n same first =
     record { before = first.before; rows = first.rows; fields = first.fields; after = first.after; are = sym same ∙ first.are; earlier = first.earlier; number = first.number; lacks = first.lacks }
 
@@ -96,20 +96,20 @@ same_fault piece front (Kind n) same fault = first_same LacksKind piece front n 
 same_fault piece front (Text n) same fault = first_same LacksTexts piece front n same fault
 same_fault piece front Memory same fault = tt
 
-front_fault : (piece front : List ℕ) (e : LogError) → IsFrontOf (records_of piece) (records_of front) → IsLogFault front e → IsLogFault piece e
+front_fault : (piece front : List ℕ) (e : LogError) → IsFrontOfRecords (records_of piece) (records_of front) → IsLogFault front e → IsLogFault piece e
 front_fault piece front e (inl same) fault = same_fault piece front e same fault
 front_fault piece front e (inr ends) fault = ends_fault piece front e ends fault
 
-front_rows : (piece front : List ℕ) (most : ℕ) (rows : FirstRows) → IsFrontOf (records_of piece) (records_of front) → AreFirstRows front most rows → AreFirstRows piece most rows
+front_rows : (piece front : List ℕ) (most : ℕ) (rows : FirstRows) → IsFrontOfRecords (records_of piece) (records_of front) → AreFirstRows front most rows → AreFirstRows piece most rows
 front_rows piece front most rows (inl same) first = record { all = first.all; are = subst (λ (given : List (List (List ℕ))). AreRows given first.all) same first.are; kept = first.kept; count = first.count }
 front_rows piece front most rows (inr ends) first =
     absurd (no_many ends.before [] ends.last first.all ends.last_many (subst (λ (given : List (List (List ℕ))). AreRows given first.all) ends.front_is first.are))
 
 -- what reading a front answers, the piece is answered
-pub answers_rows : (piece front : List ℕ) (most : ℕ) (r : Result FirstRows LogError) → IsFrontOf (records_of piece) (records_of front) → IfOk r (λ read. AreFirstRows front most read) → IfOk r (λ read. AreFirstRows piece most read)
+pub answers_rows : (piece front : List ℕ) (most : ℕ) (r : Result FirstRows LogError) → IsFrontOfRecords (records_of piece) (records_of front) → IfOk r (λ read. AreFirstRows front most read) → IfOk r (λ read. AreFirstRows piece most read)
 answers_rows piece front most (Ok rows) is first = front_rows piece front most rows is first
 answers_rows piece front most (Err e) is first = tt
 
-pub answers_fault : (piece front : List ℕ) (r : Result FirstRows LogError) → IsFrontOf (records_of piece) (records_of front) → IfErr r (λ e. IsLogFault front e) → IfErr r (λ e. IsLogFault piece e)
+pub answers_fault : (piece front : List ℕ) (r : Result FirstRows LogError) → IsFrontOfRecords (records_of piece) (records_of front) → IfErr r (λ e. IsLogFault front e) → IfErr r (λ e. IsLogFault piece e)
 answers_fault piece front (Ok rows) is fault = tt
 answers_fault piece front (Err e) is fault = front_fault piece front e is fault

@@ -2,7 +2,7 @@
 use Rattle.std.proofs.Common.{◌≡◌, ◌≤◌, ◌+◌, ℕ, suc, zero, List, [], ◌∷◌, length, take, drop, get_or, true, false, refl, sym, ap, subst, ◌∙◌, arith}
 use Rattle.std.specs.Prelude.{All}
 use Rattle.csv.specs.Reading.{default_config, is_bom, records, strip_bom}
-use Rattle.event_log.specs.Front.{IsFrontOf}
+use Rattle.event_log.specs.Front.{IsFrontOfRecords}
 use Rattle.event_log.specs.Log.{records_of}
 
 pub marked : (xs : List ℕ) → 3 ≤ length xs → is_bom (get_or xs 0 0) (get_or xs 1 0) (get_or xs 2 0) ≡ true → drop 3 xs ≡ strip_bom xs
@@ -54,10 +54,10 @@ module _ (piece front rest : List ℕ) (n : ℕ) (behind : rest ≡ strip_bom pi
   front_is : strip_bom front ≡ take n rest
   front_is = cut ∙ ap (λ (t : List ℕ). take n t) (sym behind)
 
-  pub front_behind : IsFrontOf (records default_config rest) (records default_config (take n rest)) → IsFrontOf (records_of piece) (records_of front)
+  pub front_behind : IsFrontOfRecords (records default_config rest) (records default_config (take n rest)) → IsFrontOfRecords (records_of piece) (records_of front)
   front_behind is =
-      subst (λ (t : List ℕ). IsFrontOf (records default_config t) (records_of front)) behind
-      (subst (λ (t : List ℕ). IsFrontOf (records default_config rest) (records default_config t)) (sym front_is) is)
+      subst (λ (t : List ℕ). IsFrontOfRecords (records default_config t) (records_of front)) behind
+      (subst (λ (t : List ℕ). IsFrontOfRecords (records default_config rest) (records default_config t)) (sym front_is) is)
 
   pub few_behind : All (λ r. length r ≤ 5) (records default_config (take n rest)) → All (λ r. length r ≤ 5) (records_of front)
   few_behind few = subst (λ (t : List ℕ). All (λ r. length r ≤ 5) (records default_config t)) (sym front_is) few

@@ -1,7 +1,7 @@
 -- A piece has one answer.
 use Rattle.std.proofs.Common.{◌≡◌, ◌≢◌, ℕ, ◌+◌, List, [], ◌∷◌, ◌++◌, length, suc, refl, sym, ap, subst, ◌∙◌}
-use Rattle.event_log.specs.Log.{records_of, AreRows, IsFirst, IsLogFault}
-use Rattle.event_log.specs.Row.{FourFields, record_of, kind_word, row_of, IsStamp, IsKind, AreTexts, IsRow, LacksFields, LacksStamp, LacksKind, LacksTexts}
+use Rattle.event_log.specs.Log.{records_of, AreRows, IsFirstFaulty, IsLogFault}
+use Rattle.event_log.specs.Row.{FourFields, record_of, kind_word, row_by_kind, IsStampText, IsKind, AreTexts, IsRowRecord, LacksFields, LacksStamp, LacksKind, LacksTexts}
 use Rattle.event_log.specs.declared.errors.LogError.{LogError}
 use Rattle.event_log.specs.declared.errors.LogError.TheVariants.{Fields, Stamp, Kind, Text, Memory}
 use Rattle.event_log.specs.declared.row.Kind.{Kind as KindOf}
@@ -35,11 +35,11 @@ word_one kinds.Local kinds.Receive e = cc
 word_one kinds.Local kinds.Local e = refl
 
 -- a record is that of one row
-row_one : (fields : List (List ℕ)) (a b : Row) → IsRow fields a → IsRow fields b → a ≡ b
+row_one : (fields : List (List ℕ)) (a b : Row) → IsRowRecord fields a → IsRowRecord fields b → a ≡ b
 row_one fields a b x y =
     let four : x.four ≡ y.four = four_one fields x.four y.four x.are y.are in
     let kind : a.kind ≡ b.kind = word_one a.kind b.kind (sym x.kind.named ∙ ap (λ (f : FourFields). f.kind) four ∙ y.kind.named) in
-    x.is ∙ ap (λ (f : FourFields). row_of f a.kind) four ∙ ap (λ (k : KindOf). row_of y.four k) kind ∙ sym y.is
+    x.is ∙ ap (λ (f : FourFields). row_by_kind f a.kind) four ∙ ap (λ (k : KindOf). row_by_kind y.four k) kind ∙ sym y.is
 
 pub rows_one : (given : List (List (List ℕ))) (a b : List Row) → AreRows given a → AreRows given b → a ≡ b
 rows_one [] [] [] x y = refl
@@ -51,13 +51,13 @@ rows_one (f ∷ given) (r ∷ a) (s ∷ b) x y = rw (row_one f r s x.0 y.0, rows
 
 -- what lacks something is no row
 abbrev NoRow : (List (List ℕ) → Type 0) → Type 0
-NoRow Lacks = (fields : List (List ℕ)) (row : Row) → Lacks fields → IsRow fields row → ⊥
+NoRow Lacks = (fields : List (List ℕ)) (row : Row) → Lacks fields → IsRowRecord fields row → ⊥
 
 fields_no_row : NoRow LacksFields
 fields_no_row fields row lacks is = lacks (ap length is.are)
 
 stamp_no_row : NoRow LacksStamp
-stamp_no_row fields row (f, are, none) is = none (subst (λ (g : FourFields). IsStamp g.stamp) (four_one fields is.four f is.are are) is.stamp)
+stamp_no_row fields row (f, are, none) is = none (subst (λ (g : FourFields). IsStampText g.stamp) (four_one fields is.four f is.are are) is.stamp)
 
 kind_no_row : NoRow LacksKind
 kind_no_row fields row (f, are, stamp, none) is = none row.kind (subst (λ (g : FourFields). IsKind g.kind g.message row.kind) (four_one fields is.four f is.are are) is.kind)
@@ -79,17 +79,17 @@ fields_texts : Apart LacksFields LacksTexts
 fields_texts fields none other = none (ap length other.2)
 
 stamp_kind : Apart LacksStamp LacksKind
-stamp_kind fields (f, are, none) (g, are', stamp, no_kind) = none (subst (λ (h : FourFields). IsStamp h.stamp) (four_one fields g f are' are) stamp)
+stamp_kind fields (f, are, none) (g, are', stamp, no_kind) = none (subst (λ (h : FourFields). IsStampText h.stamp) (four_one fields g f are' are) stamp)
 
 stamp_texts : Apart LacksStamp LacksTexts
-stamp_texts fields (f, are, none) (g, k, are', stamp, kind, no_texts) = none (subst (λ (h : FourFields). IsStamp h.stamp) (four_one fields g f are' are) stamp)
+stamp_texts fields (f, are, none) (g, k, are', stamp, kind, no_texts) = none (subst (λ (h : FourFields). IsStampText h.stamp) (four_one fields g f are' are) stamp)
 
 kind_texts : Apart LacksKind LacksTexts
 kind_texts fields (f, are, stamp, none) (g, k, are', stamp', kind, no_texts) =
     none k (subst (λ (h : FourFields). IsKind h.kind h.message k) (four_one fields g f are' are) kind)
 
 -- a record among those of rows is that of a row
-row_among : (before after : List (List (List ℕ))) (fields : List (List ℕ)) (rows : List Row) → AreRows (before ++ fields ∷ after) rows → (row : Row) × IsRow fields row
+row_among : (before after : List (List (List ℕ))) (fields : List (List ℕ)) (rows : List Row) → AreRows (before ++ fields ∷ after) rows → (row : Row) × IsRowRecord fields row
 row_among [] after fields [] are = absurd are
 row_among [] after fields (row ∷ rows) are = (row, are.0)
 row_among (f ∷ before) after fields [] are = absurd are
@@ -115,12 +115,12 @@ module _ (Lacks : List (List ℕ) → Type 0) (Other : List (List ℕ) → Type 
       let more = meet before before' after after' fields fields' rows rows' tails x.1 y.1 lacks other in
       (ap suc more.0, more.1)
 
-  pub firsts_meet : (piece : List ℕ) (n m : ℕ) → IsFirst Lacks piece n → IsFirst Other piece m → (n ≡ m) × ((fields : List (List ℕ)) × Lacks fields × Other fields)
+  pub firsts_meet : (piece : List ℕ) (n m : ℕ) → IsFirstFaulty Lacks piece n → IsFirstFaulty Other piece m → (n ≡ m) × ((fields : List (List ℕ)) × Lacks fields × Other fields)
   firsts_meet piece n m a b =
       let met = meet a.before b.before a.after b.after a.fields b.fields a.rows b.rows (sym a.are ∙ b.are) a.earlier b.earlier a.lacks b.lacks in
       (a.number ∙ ap (λ (k : ℕ). k + 1) met.0 ∙ sym b.number, (b.fields, subst Lacks met.1 a.lacks, b.lacks))
 
-  pub never_both : Apart Lacks Other → (piece : List ℕ) (n m : ℕ) → IsFirst Lacks piece n → IsFirst Other piece m → ⊥
+  pub never_both : Apart Lacks Other → (piece : List ℕ) (n m : ℕ) → IsFirstFaulty Lacks piece n → IsFirstFaulty Other piece m → ⊥
   never_both apart piece n m a b = let met = firsts_meet piece n m a b in apart met.1.0 met.1.1 met.1.2
 
 pub fault_one : (piece : List ℕ) (e f : LogError) → IsLogFault piece e → IsLogFault piece f → e ≢ Memory → f ≢ Memory → e ≡ f
@@ -147,7 +147,7 @@ fault_one piece (Text n) (Stamp m) x y some some' = absurd (never_both LacksStam
 fault_one piece (Text n) (Kind m) x y some some' = absurd (never_both LacksKind LacksTexts kind_no_row texts_no_row kind_texts piece m n y x)
 
 -- rows leave no record that lacks something
-rows_no_first : (Lacks : List (List ℕ) → Type 0) → NoRow Lacks → (piece : List ℕ) (rows : List Row) (n : ℕ) → AreRows (records_of piece) rows → IsFirst Lacks piece n → ⊥
+rows_no_first : (Lacks : List (List ℕ) → Type 0) → NoRow Lacks → (piece : List ℕ) (rows : List Row) (n : ℕ) → AreRows (records_of piece) rows → IsFirstFaulty Lacks piece n → ⊥
 rows_no_first Lacks no_row piece rows n are first =
     let row = row_among first.before first.after first.fields rows (subst (λ (given : List (List (List ℕ))). AreRows given rows) first.are are) in
     no_row first.fields row.0 first.lacks row.1

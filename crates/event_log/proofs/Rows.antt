@@ -2,15 +2,15 @@
 use Rattle.std.proofs.Common.{◌≡◌, ◌≤◌, ℕ, ◌+◌, ◌^◌, List, [], ◌∷◌, ◌++◌, length, suc, inl, inr, refl, sym, ap, subst, ◌∙◌, arith, append_assoc}
 use Rattle.std.proofs.lemmas.Bool.{cases_lt}
 use Rattle.std.proofs.lemmas.List.{take_all, length-take-le}
-use Rattle.event_log.specs.Log.{records_of, AreRows, AreFirstRows, IsFirst, IsLogFault}
-use Rattle.event_log.specs.Row.{IsRow, IsFault}
+use Rattle.event_log.specs.Log.{records_of, AreRows, AreFirstRows, IsFirstFaulty, IsLogFault}
+use Rattle.event_log.specs.Row.{IsRowRecord, IsFault}
 use Rattle.event_log.specs.declared.errors.LogError.{LogError}
 use Rattle.event_log.specs.declared.errors.LogError.TheVariants.{Fields, Stamp, Kind, Text, Memory}
 use Rattle.event_log.specs.declared.read.FirstRows.{FirstRows}
 use Rattle.event_log.specs.declared.row.Row.{Row}
 
 -- one row more
-pub rows_more : (given : List (List (List ℕ))) (rows : List Row) (fields : List (List ℕ)) (row : Row) → AreRows given rows → IsRow fields row → AreRows (given ++ fields ∷ []) (rows ++ row ∷ [])
+pub rows_more : (given : List (List (List ℕ))) (rows : List Row) (fields : List (List ℕ)) (row : Row) → AreRows given rows → IsRowRecord fields row → AreRows (given ++ fields ∷ []) (rows ++ row ∷ [])
 rows_more [] [] fields row are is = (is, tt)
 rows_more [] (r ∷ rows) fields row are is = absurd are
 rows_more (f ∷ given) [] fields row are is = absurd are
@@ -35,7 +35,7 @@ every_row piece most rows first large =
 
 -- a record behind rows is the first that lacks something
 first_lacks : (Lacks : List (List ℕ) → Type 0) (piece : List ℕ) (given after : List (List (List ℕ))) (rows : List Row) (fields : List (List ℕ)) (n m : ℕ)
-    → records_of piece ≡ (given ++ fields ∷ []) ++ after → AreRows given rows → n ≡ length given + 1 → m ≡ n → Lacks fields → IsFirst Lacks piece m
+    → records_of piece ≡ (given ++ fields ∷ []) ++ after → AreRows given rows → n ≡ length given + 1 → m ≡ n → Lacks fields → IsFirstFaulty Lacks piece m
 first_lacks Lacks piece given after rows fields n m are earlier number same lacks =
     record {
       before = given;

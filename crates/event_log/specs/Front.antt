@@ -35,5 +35,5 @@ pub record EndsInFifth (all : List (List (List ℕ))) (front : List (List (List 
   pub whole_many : 4 < length whole
 
 -- the front has all the records, or ends in the first of more than four fields
-abbrev pub IsFrontOf : List (List (List ℕ)) → List (List (List ℕ)) → Type 0
-IsFrontOf all front = (front ≡ all) ⊎ EndsInFifth all front
+abbrev pub IsFrontOfRecords : List (List (List ℕ)) → List (List (List ℕ)) → Type 0
+IsFrontOfRecords all front = (front ≡ all) ⊎ EndsInFifth all front

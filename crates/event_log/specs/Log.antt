@@ -5,7 +5,7 @@ use Rattle.event_log.specs.declared.errors.LogError.{LogError}
 use Rattle.event_log.specs.declared.errors.LogError.TheVariants.{Fields, Stamp, Kind, Text, Memory}
 use Rattle.event_log.specs.declared.read.FirstRows.{FirstRows}
 use Rattle.event_log.specs.declared.row.Row.{Row}
-use Rattle.event_log.specs.Row.{IsRow, LacksFields, LacksStamp, LacksKind, LacksTexts}
+use Rattle.event_log.specs.Row.{IsRowRecord, LacksFields, LacksStamp, LacksKind, LacksTexts}
 
 -- the records of a piece, as `csv` reads it, without a byte order mark
 abbrev pub records_of : List ℕ → List (List (List ℕ))
@@ -16,7 +16,7 @@ abbrev pub AreRows : List (List (List ℕ)) → List Row → Type 0
 AreRows [] [] = ⊤
 AreRows [] (row ∷ rows) = ⊥
 AreRows (fields ∷ more) [] = ⊥
-AreRows (fields ∷ more) (row ∷ rows) = IsRow fields row × AreRows more rows
+AreRows (fields ∷ more) (row ∷ rows) = IsRowRecord fields row × AreRows more rows
 
 -- the first rows of the piece, at most so many, and how many rows it has in all
 pub record AreFirstRows (piece : List ℕ) (most : ℕ) (rows : FirstRows) : Type 0 where
@@ -26,7 +26,7 @@ pub record AreFirstRows (piece : List ℕ) (most : ℕ) (rows : FirstRows) : Typ
   pub count : rows.count ≡ length all
 
 -- record n, counted from 1, lacks something, and all before it are rows
-pub record IsFirst (Lacks : List (List ℕ) → Type 0) (piece : List ℕ) (n : ℕ) : Type 0 where
+pub record IsFirstFaulty (Lacks : List (List ℕ) → Type 0) (piece : List ℕ) (n : ℕ) : Type 0 where
   pub before : List (List (List ℕ))
   pub rows : List Row
   pub fields : List (List ℕ)
@@ -38,8 +38,8 @@ pub record IsFirst (Lacks : List (List ℕ) → Type 0) (piece : List ℕ) (n : 
 
 -- why a piece is refused: its first record that is no row, by what that lacks
 abbrev pub IsLogFault : List ℕ → LogError → Type 0
-IsLogFault piece (Fields n) = IsFirst LacksFields piece n
-IsLogFault piece (Stamp n) = IsFirst LacksStamp piece n
-IsLogFault piece (Kind n) = IsFirst LacksKind piece n
-IsLogFault piece (Text n) = IsFirst LacksTexts piece n
+IsLogFault piece (Fields n) = IsFirstFaulty LacksFields piece n
+IsLogFault piece (Stamp n) = IsFirstFaulty LacksStamp piece n
+IsLogFault piece (Kind n) = IsFirstFaulty LacksKind piece n
+IsLogFault piece (Text n) = IsFirstFaulty LacksTexts piece n
 IsLogFault piece Memory = ⊤

@@ -3,14 +3,14 @@ use Rattle.std.specs.Prelude.{ℕ, ◌-◌, ◌<◌, ◌≤◌, List, ◌++◌, 
 use Rattle.std.specs.Int.{IsInRange}
 
 -- at most 64 bytes that print, without a space
-pub record IsMessage (text : List ℕ) : Type 0 where
+pub record IsMessageText (text : List ℕ) : Type 0 where
   pub short : length text ≤ 64
   pub bytes : All (λ c. IsInRange 33 126 c) text
 
 -- such a message of one byte at least
 pub record IsWordKey (text : List ℕ) : Type 0 where
   pub some : 0 < length text
-  pub message : IsMessage text
+  pub message : IsMessageText text
 
 -- at most 200 bytes that print
 pub record IsLogText (text : List ℕ) : Type 0 where
@@ -18,5 +18,5 @@ pub record IsLogText (text : List ℕ) : Type 0 where
   pub bytes : All (λ c. IsInRange 32 126 c) text
 
 -- a text in 64 bytes
-abbrev pub padded : List ℕ → List ℕ
-padded text = text ++ replicate (64 - length text) 0
+abbrev pub padded_text : List ℕ → List ℕ
+padded_text text = text ++ replicate (64 - length text) 0

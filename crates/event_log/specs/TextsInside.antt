@@ -2,10 +2,10 @@
 use Rattle.std.specs.Prelude.{◌≡◌, ℕ, ◌-◌, ◌≤◌, List, length, take, replicate, refl}
 use Rattle.std.proofs.Common.{arith, length-append, ap, sym}
 use Rattle.std.proofs.lemmas.List.{length-take, length-replicate}
-use Rattle.event_log.specs.Texts.{IsWordKey, padded}
+use Rattle.event_log.specs.Texts.{IsWordKey, padded_text}
 use Rattle.event_log.specs.declared.word_key.WordKey.TheInside.{Inside}
 
-taken : (n : ℕ) (bytes : List ℕ) → n ≤ 64 → bytes ≡ padded (take n bytes) → length (take n bytes) ≤ 64 → length (take n bytes) ≡ n
+taken : (n : ℕ) (bytes : List ℕ) → n ≤ 64 → bytes ≡ padded_text (take n bytes) → length (take n bytes) ≤ 64 → length (take n bytes) ≡ n
 taken n bytes short is fits =
     omega (
       arith,
@@ -20,6 +20,6 @@ taken n bytes short is fits =
 same : (bytes bytes' : List ℕ) (len len' : ℕ) → bytes ≡ bytes' → len ≡ len' → (let a : Inside = record { bytes = bytes; len = len } in a) ≡ (let a : Inside = record { bytes = bytes'; len = len' } in a)
 same bytes bytes' len len' e f = rw (e, f) refl
 
-pub key_back : (a : Inside) → a.len ≤ 64 → IsWordKey (take a.len a.bytes) → a.bytes ≡ padded (take a.len a.bytes) →
-    (let b : Inside = record { bytes = padded (take a.len a.bytes); len = length (take a.len a.bytes) } in b) ≡ a
+pub key_back : (a : Inside) → a.len ≤ 64 → IsWordKey (take a.len a.bytes) → a.bytes ≡ padded_text (take a.len a.bytes) →
+    (let b : Inside = record { bytes = padded_text (take a.len a.bytes); len = length (take a.len a.bytes) } in b) ≡ a
 key_back a short key is = same _ _ _ _ (sym is) (taken a.len a.bytes short is key.message.short)

@@ -3,8 +3,8 @@ ghost use Rattle.std.specs.Prelude.{◌≡◌, ◌≢◌, ◌<◌, ◌≤◌, �
 ghost use Rattle.std.specs.Int.{IsInRange};
 ghost use Rattle.std.specs.Str.Parse.{digits_value};
 ghost use Rattle.csv.specs.Records.{fields_of};
-ghost use Rattle.event_log.specs.Texts.{IsMessage};
-ghost use Rattle.event_log.specs.Row.{IsStamp, IsKind, FitsKind, ReadsRow, key_of, kind_word};
+ghost use Rattle.event_log.specs.Texts.{IsMessageText};
+ghost use Rattle.event_log.specs.Row.{IsStampText, IsKind, FitsKind, ReadsRow, row_key, kind_word};
 ghost use Rattle.event_log.specs.declared.row.Kind.{Kind};
 
 use crate::{Kind, LogError, LogText, Row, WordKey};
@@ -56,7 +56,7 @@ fn digits_number(text: &[u8]) -> u64
 }
 
 fn read_stamp(text: &[u8]) -> Option<Nano>
-    ensures { SomeIff result (IsStamp text.now) (digits_value 10 text.now) }
+    ensures { SomeIff result (IsStampText text.now) (digits_value 10 text.now) }
 {
     if text.is_empty() || text.len() > 19 || !are_digits(text) {
         return None;
@@ -105,7 +105,7 @@ fn fits_kind(kind: Kind, message: &[u8]) -> bool
 // The key of a row with this message.
 fn read_key(kind: Kind, message: &[u8]) -> Option<Option<WordKey>>
     requires { FitsKind kind message.now }
-    ensures { SomeIff result (IsMessage message.now) (key_of kind message.now) }
+    ensures { SomeIff result (IsMessageText message.now) (row_key kind message.now) }
 {
     match kind {
         Kind::Send | Kind::Receive => Some(Some(WordKey::new(message)?)),

@@ -3,7 +3,7 @@
 ghost use Rattle.std.specs.Prelude.{◌≡◌, ◌<◌, ◌≤◌, ◌+◌, ℕ, length, take, drop, All};
 ghost use Rattle.csv.specs.Machine.{in_field, start_field, start_record, step};
 ghost use Rattle.csv.specs.Reading.{default_config, is_bom, records, strip_bom};
-ghost use Rattle.event_log.specs.Front.{IsFrontOf, ended_after, state_of};
+ghost use Rattle.event_log.specs.Front.{IsFrontOfRecords, ended_after, state_of};
 ghost use Rattle.event_log.specs.Log.{records_of};
 
 // Where a reader of records stands behind a byte.
@@ -101,7 +101,7 @@ impl Progress {
 // How many bytes of a text there are up to the end of the first fourth field behind which a fifth one begins; all, if there is none.
 fn before_fifth(text: &[u8]) -> usize
     ensures within { result ≤ length text.now }
-    ensures front { IsFrontOf (records default_config text.now) (records default_config (take result text.now)) }
+    ensures front { IsFrontOfRecords (records default_config text.now) (records default_config (take result text.now)) }
     ensures few { All (λ fields. length fields ≤ 5) (records default_config (take result text.now)) }
 {
     let mut progress = Progress {
@@ -139,7 +139,7 @@ fn mark_len(piece: &[u8]) -> usize
 // A piece up to the first record of more than four fields, of which it has four and an empty one.
 pub(crate) fn short_front(piece: &[u8]) -> &[u8]
     ensures short { length result.now ≤ length piece.now }
-    ensures front { IsFrontOf (records_of piece.now) (records_of result.now) }
+    ensures front { IsFrontOfRecords (records_of piece.now) (records_of result.now) }
     ensures few { All (λ fields. length fields ≤ 5) (records_of result.now) }
 {
     let start = mark_len(piece);

@@ -5,7 +5,7 @@ ghost use Rattle.std.specs.Cmp.{partial_equiv_from_equiv};
 ghost use Rattle.std.specs.Cmp.Lexicographic.{slice_cmp, nat_list_eq_equiv, nat_list_cmp_total, texts_po, texts_ties};
 ghost use Rattle.std.specs.Ordering.{nat_cmp};
 ghost use Rattle.std.specs.Str.{bytes_eq};
-ghost use Rattle.event_log.specs.Texts.{IsMessage, IsWordKey};
+ghost use Rattle.event_log.specs.Texts.{IsMessageText, IsWordKey};
 
 use std::cmp::Ordering;
 use std::marker::Model;
@@ -21,15 +21,15 @@ pub struct WordKey {
 
 impl Model for WordKey {
     ghost use Rattle.std.specs.Prelude.{◌≡◌, ◌≤◌, ℕ, List, take, length};
-    ghost use Rattle.event_log.specs.Texts.{IsWordKey, padded};
+    ghost use Rattle.event_log.specs.Texts.{IsWordKey, padded_text};
 
     ghost Value = { List ℕ };
 
     ghost view = { λ k. take k.len k.bytes };
 
-    ghost invariant = { λ k. (k.len ≤ 64) × IsWordKey (take k.len k.bytes) × (k.bytes ≡ padded (take k.len k.bytes)) };
+    ghost invariant = { λ k. (k.len ≤ 64) × IsWordKey (take k.len k.bytes) × (k.bytes ≡ padded_text (take k.len k.bytes)) };
 
-    ghost inverse = { λ text. record { bytes = padded text; len = length text } };
+    ghost inverse = { λ text. record { bytes = padded_text text; len = length text } };
 
     ghost use Rattle.event_log.specs.TextsInside.{key_back};
 
@@ -82,7 +82,7 @@ fn are_message_bytes(text: &[u8]) -> bool
 
 /// Whether a text may be a message: at most 64 bytes from 33 to 126.
 pub(crate) fn is_message(text: &[u8]) -> bool
-    ensures { IsTrue result ↔ IsMessage text.now }
+    ensures { IsTrue result ↔ IsMessageText text.now }
 {
     if text.len() > 64 {
         return false;

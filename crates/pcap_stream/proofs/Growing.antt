@@ -9,7 +9,8 @@ use Rattle.pcap_stream.specs.declared.errors.PcapError.{PcapError}
 use Rattle.pcap_stream.specs.declared.errors.PcapError.TheVariants.{Magic, Version, Length, Memory}
 use Rattle.pcap_stream.specs.declared.errors.PcapError.TheVariants as faults
 use Rattle.pcap_stream.specs.declared.header.Header.{Header}
-use Rattle.pcap_stream.specs.Capture.{Capture, Record, Seen, BeginsHeader, IsHeader, IsBegun, IsRecord, IsMadeOf, ReadsBy, IsFault, ComesAt, HasRecord, bytes_of, captured_length, packet_of, packets_of, packets_by}
+use Rattle.packets.specs.Packets.{Seen}
+use Rattle.pcap_stream.specs.Capture.{Capture, Record, BeginsHeader, IsHeader, IsBegun, IsRecord, IsMadeOf, ReadsBy, IsFault, ComesAt, HasRecord, bytes_of, captured_length, packet_of, packets_of, packets_by}
 use Rattle.pcap_stream.specs.Feeding.{Tail, StandsFor, Grows, tail_of}
 use Rattle.pcap_stream.specs.Inside.{IsPart, IsAt, EndsRecords, IsRecordsFault, IsLater, AreFirst, FindsHeader, with_records}
 use Rattle.pcap_stream.proofs.Headers.{begins_take}
@@ -220,13 +221,3 @@ GoesOn t bytes old new next = (s piece : List ℕ) (c : Capture) → bytes ≡ t
 
 abbrev pub IsRefused : Tail → List ℕ → PcapError → Type 0
 IsRefused t bytes e = (s piece : List ℕ) (c : Capture) → bytes ≡ t.rest ++ piece → StandsFor t s c → IsFault (s ++ piece) e
-
--- ---- the packets that came, behind others
-pub grows_behind : (t : Tail) (s : List ℕ) (c : Capture) (added old new : List Seen) → Grows t s c [] added → new ≡ old ++ added → Grows t s c old new
-grows_behind t s c added old new grows is = record {
-  then = grows.then;
-  stands = grows.stands;
-  added = grows.added;
-  grown = is ∙ ap (λ (l : List Seen). old ++ l) grows.grown;
-  more = grows.more;
-}

@@ -9,7 +9,8 @@ use Rattle.pcap_stream.specs.declared.header.Order.TheVariants.{Big, Little}
 use Rattle.pcap_stream.specs.declared.header.Fraction.{Fraction}
 use Rattle.pcap_stream.specs.declared.header.Fraction.TheVariants.{Micros, Nanos}
 use Rattle.pcap_stream.specs.declared.header.Header.{Header}
-use Rattle.pcap_stream.specs.Capture.{magic, version, number_in, IsHeader, IsBegun, IsFrontOf, BeginsAs, BeginsHeader, LacksMagic}
+use Rattle.packets.specs.Streams.{IsFrontOf}
+use Rattle.pcap_stream.specs.Capture.{magic, version, number_in, IsHeader, IsBegun, BeginsAs, BeginsHeader, LacksMagic}
 use Rattle.pcap_stream.proofs.Lists.{fill, take_fill, drop_fill, front_take, front_drop, same_front, same_rest}
 
 -- ---- numbers

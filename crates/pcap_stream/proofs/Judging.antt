@@ -1,7 +1,7 @@
 -- Each stream is read or refused.
 use Rattle.std.proofs.Common.{◌≡◌, ◌≢◌, ◌≤◌, ◌+◌, ◌-◌, ◌%◌, ◌⊎◌, ℕ, zero, suc, List, [], ◌∷◌, ◌++◌, length, take, drop, Some, None, refl, sym, ap, inl, inr, ◌∙◌, arith, append_assoc, length-append}
 use Rattle.std.specs.List.{flat_map}
-use Rattle.std.proofs.lemmas.Bool.{cases_lt, cases_eq}
+use Rattle.std.proofs.lemmas.Bool.{cases_lt}
 use Rattle.std.proofs.lemmas.List.{take-append-drop}
 use Rattle.std.proofs.lemmas.List.Elements.{All-cons, All-nil}
 use Rattle.pcap_stream.specs.declared.errors.PcapError.{PcapError}
@@ -12,7 +12,9 @@ use Rattle.pcap_stream.specs.declared.header.Order.TheVariants.{Big, Little}
 use Rattle.pcap_stream.specs.declared.header.Fraction.{Fraction}
 use Rattle.pcap_stream.specs.declared.header.Fraction.TheVariants.{Micros, Nanos}
 use Rattle.pcap_stream.specs.declared.header.Header.{Header}
-use Rattle.pcap_stream.specs.Capture.{Capture, Record, IsHeader, IsMadeOf, IsRecord, HasRecord, HasSecondHeader, HasTooLong, Reads, IsFault, IsFrontOf, BeginsAs, BeginsHeader, LacksMagic, bytes_of, captured_length, magic, number_in, version}
+use Rattle.packets.specs.Streams.{IsFrontOf}
+use Rattle.packets.proofs.Fronts.{is_front}
+use Rattle.pcap_stream.specs.Capture.{Capture, Record, IsHeader, IsMadeOf, IsRecord, HasRecord, HasSecondHeader, HasTooLong, Reads, IsFault, BeginsAs, BeginsHeader, LacksMagic, bytes_of, captured_length, magic, number_in, version}
 use Rattle.pcap_stream.specs.Inside.{AreFirst, IsPart}
 use Rattle.pcap_stream.proofs.Headers.{again_begins, begins_again, begun, header_first, header_with, lacks}
 use Rattle.pcap_stream.proofs.Records.{record_long}
@@ -23,21 +25,6 @@ abbrev IsJudged : List ℕ → Type 0
 IsJudged s = ((c : Capture) × Reads s c) ⊎ ((e : PcapError) × IsFault s e × (e ≢ Memory))
 
 -- ---- headers
-is_front : (front whole : List ℕ) → IsFrontOf front whole ⊎ (IsFrontOf front whole → ⊥)
-is_front [] whole = inl (whole, refl)
-is_front (x ∷ front) [] = inr (λ h. absurd (cc (h.1)))
-is_front (x ∷ front) (y ∷ whole) =
-    elim (cases_eq x y) [
-      | inl same ↦ elim (is_front front whole) [
-        | inl h ↦ inl (h.0, grown x y (front ++ h.0) whole same h.1)
-        | inr other ↦ inr (λ h. other (h.0, cc (h.1)))
-      ]
-      | inr other ↦ inr (λ h. other (cc (h.1)))
-    ]
-  where
-    grown : (x y : ℕ) (xs ys : List ℕ) → x ≡ y → xs ≡ ys → x ∷ xs ≡ y ∷ ys
-    grown x y xs ys p q = cc
-
 abbrev HasMagic : List ℕ → Type 0
 HasMagic s = (o : Order) × (f : Fraction) × BeginsAs s o f
 

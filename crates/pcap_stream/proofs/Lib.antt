@@ -4,5 +4,5 @@ mod Records
 pub mod Streams
 mod Reading
 mod Growing
-mod Judging
-pub mod Collecting
+pub mod Judging
+pub mod Bounds

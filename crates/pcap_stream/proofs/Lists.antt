@@ -1,7 +1,7 @@
 -- Fronts of lists, and lists that are filled up.
 use Rattle.std.proofs.Common.{◌≡◌, ◌≤◌, ℕ, zero, suc, List, [], ◌∷◌, ◌++◌, length, take, drop, refl, sym, ap, subst, ◌∙◌, arith}
 use Rattle.std.proofs.lemmas.List.{take_at, drop_at}
-use Rattle.pcap_stream.specs.Capture.{IsFrontOf}
+use Rattle.packets.specs.Streams.{IsFrontOf}
 
 -- lists that are joined alike, the first two of one length, have the same front and the same rest
 pub same_front : (a b x y : List ℕ) → length a ≡ length b → a ++ x ≡ b ++ y → a ≡ b

@@ -6,9 +6,9 @@ use Rattle.std.proofs.lemmas.List.Elements.{All-push}
 use Rattle.std.proofs.lemmas.List.Concat.{flat_map-append}
 use Rattle.pcap_stream.specs.declared.header.Order.{Order}
 use Rattle.pcap_stream.specs.declared.header.Header.{Header}
-use Rattle.pcap_stream.specs.Capture.{Record, Seen, BeginsHeader, IsRecord, HasRecord, bytes_of, captured_length, number_in, nanos, packet_of}
-use Rattle.pcap_stream.specs.declared.packet.Packet.{Packet}
-use Rattle.pcap_stream.specs.Feeding.{seen_packet}
+use Rattle.packets.specs.Packets.{Seen, seen_packet}
+use Rattle.pcap_stream.specs.Capture.{Record, BeginsHeader, IsRecord, HasRecord, bytes_of, captured_length, number_in, nanos, packet_of}
+use Rattle.packets.specs.declared.packet.Packet.{Packet}
 use Rattle.pcap_stream.specs.Inside.{IsPart, IsNext, HasRead, IsLater}
 use Rattle.pcap_stream.proofs.Headers.{begins_take, number-take}
 use Rattle.pcap_stream.proofs.Records.{record_long, captured-append}

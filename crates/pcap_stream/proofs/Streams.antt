@@ -8,7 +8,8 @@ use Rattle.pcap_stream.specs.declared.errors.PcapError.TheVariants as faults
 use Rattle.pcap_stream.specs.declared.header.Order.TheVariants.{Big}
 use Rattle.pcap_stream.specs.declared.header.Fraction.TheVariants.{Micros}
 use Rattle.pcap_stream.specs.declared.header.Header.{Header}
-use Rattle.pcap_stream.specs.Capture.{Capture, Record, Seen, IsHeader, IsRecord, IsMadeOf, IsRead, HasRecord, HasSecondHeader, HasTooLong, Reads, ReadsBy, IsFault, LacksVersion, ComesAt, bytes_of, packet_of, packets_of, packets_by, magic, version, nothing}
+use Rattle.packets.specs.Packets.{Seen}
+use Rattle.pcap_stream.specs.Capture.{Capture, Record, IsHeader, IsRecord, IsMadeOf, IsRead, HasRecord, HasSecondHeader, HasTooLong, Reads, ReadsBy, IsFault, LacksVersion, ComesAt, bytes_of, packet_of, packets_of, packets_by, magic, version, nothing}
 use Rattle.pcap_stream.specs.Feeding.{Tail, StandsFor, IsNew, tail_of}
 use Rattle.pcap_stream.proofs.Lists.{same_front, same_rest}
 use Rattle.pcap_stream.proofs.Headers.{Begins, begins_front, begins_whole, begun, header_one, version_one}

@@ -2,6 +2,8 @@
 use Rattle.std.specs.Prelude.{◌≡◌, ℕ, ◌+◌, ◌*◌, ◌%◌, ◌<◌, ◌≤◌, List, [], ◌∷◌, ◌++◌, length, take, drop, map, All, Option, Some, None, ⊤}
 use Rattle.std.specs.List.{flat_map}
 use Rattle.byteorder.specs.Endian.{big_number, little_number}
+use Rattle.packets.specs.Packets.{Seen}
+use Rattle.packets.specs.Streams.{IsFrontOf}
 use Rattle.pcap_stream.specs.declared.errors.PcapError.{PcapError}
 use Rattle.pcap_stream.specs.declared.errors.PcapError.TheVariants.{Magic, Version, Length, Memory}
 use Rattle.pcap_stream.specs.declared.errors.PcapError.TheVariants as faults
@@ -74,12 +76,6 @@ abbrev pub HasTooLong : Header → List ℕ → Type 0
 HasTooLong h bytes = (16 ≤ length bytes) × (262144 < captured_length h.order bytes) × (BeginsHeader h bytes → ⊥)
 
 -- ---- packets
--- a packet: its stamp in ns, its link type and its bytes
-pub record Seen : Type 0 where
-  pub stamp : ℕ
-  pub link : ℕ
-  pub bytes : List ℕ
-
 -- a fraction of a second in ns
 abbrev pub nanos : Fraction → ℕ → ℕ
 nanos Micros n = n * 1000
@@ -142,10 +138,6 @@ abbrev pub nothing : Capture
 nothing = record { header = None; records = []; rest = [] }
 
 -- ---- refusals
--- more bytes may follow these, so that they are those
-abbrev pub IsFrontOf : List ℕ → List ℕ → Type 0
-IsFrontOf front whole = (after : List ℕ) × (front ++ after ≡ whole)
-
 -- the first four bytes, as far as they are there, begin a magic number
 abbrev pub BeginsAs : List ℕ → Order → Fraction → Type 0
 BeginsAs s order fraction = IsFrontOf (take 4 s) (magic order fraction)

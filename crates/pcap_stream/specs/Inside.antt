@@ -5,9 +5,9 @@ use Rattle.pcap_stream.specs.declared.errors.PcapError.{PcapError}
 use Rattle.pcap_stream.specs.declared.errors.PcapError.TheVariants.{Magic, Version, Length, Memory}
 use Rattle.pcap_stream.specs.declared.errors.PcapError.TheVariants as faults
 use Rattle.pcap_stream.specs.declared.header.Header.{Header}
-use Rattle.pcap_stream.specs.declared.packet.Packet.{Packet}
-use Rattle.pcap_stream.specs.Capture.{Capture, Record, Seen, IsHeader, IsBegun, IsRecord, IsMadeOf, HasRecord, HasSecondHeader, HasTooLong, bytes_of, packet_of}
-use Rattle.pcap_stream.specs.Feeding.{seen_packet}
+use Rattle.packets.specs.declared.packet.Packet.{Packet}
+use Rattle.packets.specs.Packets.{Seen, seen_packet}
+use Rattle.pcap_stream.specs.Capture.{Capture, Record, IsHeader, IsBegun, IsRecord, IsMadeOf, HasRecord, HasSecondHeader, HasTooLong, bytes_of, packet_of}
 
 -- the bytes begin with this header, or may still become one
 abbrev pub FindsHeader : List ℕ → Option Header → Type 0

@@ -1,6 +1,7 @@
 // What the header of a capture says: 24 bytes, of which the magic number, the version and the link type count.
 ghost use Rattle.std.specs.Prelude.{◌≡◌, ◌≤◌, ◌%◌, ◌↔◌, length, take, drop, IfOk, IfErr, IfSome, IfNone, IsTrue};
-ghost use Rattle.pcap_stream.specs.Capture.{version, number_in, BeginsAs, BeginsHeader, LacksMagic, IsFault, IsFrontOf};
+ghost use Rattle.packets.specs.Streams.{IsFrontOf};
+ghost use Rattle.pcap_stream.specs.Capture.{version, number_in, BeginsAs, BeginsHeader, LacksMagic, IsFault};
 ghost use Rattle.pcap_stream.specs.Inside.{FindsHeader};
 
 use crate::PcapError;

@@ -1,12 +1,13 @@
 // Records: 16 bytes that say what was captured, and the bytes that were.
 ghost use Rattle.std.specs.Prelude.{◌≡◌, ◌+◌, ◌*◌, ◌≤◌, ◌^◌, [], length, drop, IfOk, IfErr};
 ghost use Rattle.pcap_stream.specs.Capture.{number_in, nanos};
-ghost use Rattle.pcap_stream.specs.Feeding.{Adds};
+ghost use Rattle.packets.specs.Packets.{Adds};
 ghost use Rattle.pcap_stream.specs.Inside.{FindsRecord, IsRecordFault, EndsRecords, IsRecordsFault};
 
+use crate::PcapError;
 use crate::header::{Fraction, Header};
-use crate::{FirstPackets, Packet, PcapError};
 use atto::Nano;
+use packets::{FirstPackets, Packet};
 use std::alloc::Global;
 
 // How many bytes stand before those that were captured.

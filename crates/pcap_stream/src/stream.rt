@@ -1,13 +1,15 @@
 // Captures that come in pieces.
-ghost use Rattle.std.specs.Prelude.{◌≡◌, ◌≢◌, ◌≤◌, ◌+◌, ◌^◌, ◌++◌, [], ℕ, List, length, IfOk, IfErr, OnErr};
+ghost use Rattle.std.specs.Prelude.{◌≡◌, ◌≤◌, ◌+◌, ◌^◌, ◌++◌, [], ℕ, List, length, IfOk, IfErr};
 ghost use Rattle.pcap_stream.specs.declared.errors.PcapError.TheVariants as errors;
 ghost use Rattle.pcap_stream.specs.Capture.{Capture, Record, IsFault};
-ghost use Rattle.pcap_stream.specs.Feeding.{StandsFor, IsNew, IsTail, Grows, Adds, IsSame, tail_of, seen_packets};
+ghost use Rattle.packets.specs.Packets.{Adds};
+ghost use Rattle.pcap_stream.specs.Feeding.{StandsFor, IsNew, IsTail, Grows, tail_of};
 ghost use Rattle.pcap_stream.specs.Inside.{IsAt, with_records};
 
+use crate::PcapError;
 use crate::header::{HEADER_BYTES, Header, read_header};
 use crate::record::read_records;
-use crate::{FirstPackets, Packet, PcapError};
+use packets::FirstPackets;
 use std::alloc::Global;
 use std::marker::Model;
 
@@ -53,43 +55,12 @@ impl PcapStream {
         self.rest.len() as u32
     }
 
-    /// Reads the next piece of a capture of at most 2^30 bytes: answers what then stands of it, and appends the packets of
-    /// the records that end within the piece.
+    /// Reads the next piece of a capture of at most 2^30 bytes: answers what then stands of it, and adds the packets of the
+    /// records that end within the piece.
     ///
     /// An error comes exactly where the capture with this piece is refused, with the first cause, or where memory runs
-    /// out. Then `out` is as before, and another piece may be fed in place of this one.
-    pub fn feed(&self, piece: &[u8], out: &mut Vec<Packet>) -> Result<PcapStream, PcapError>
-        requires { self.now.offset + length self.now.rest + length piece.now ≤ 2 ^ 30 }
-        ensures ok { IfOk result (λ next. (s : List ℕ) (c : Capture) → StandsFor self.now s c → Grows next (s ++ piece.now) c (seen_packets out.old.items) (seen_packets out.new.items)) }
-        ensures fault { IfErr result (λ e. e ≢ errors.Memory → (s : List ℕ) (c : Capture) → StandsFor self.now s c → IsFault (s ++ piece.now) e) }
-        ensures size { IfOk result (λ next. next.offset + length next.rest ≡ self.now.offset + length self.now.rest + length piece.now) }
-        ensures unchanged { OnErr result (out.new.items ≡ out.old.items) }
-    {
-        let mut first = FirstPackets::new(self.alloc, u64::MAX);
-        let next = self.feed_first(piece, &mut first)?;
-        out.append(&mut first.kept)?;
-        Ok(next)
-    }
-
-    /// Reads the next piece as `feed` does, and adds its packets, of which the first are kept as far as there is room.
-    ///
-    /// An error comes exactly where the capture with this piece is refused, with the first cause, or where memory runs
-    /// out. Then `out` is as before, and another piece may be fed in place of this one.
-    pub fn feed_first(&self, piece: &[u8], out: &mut FirstPackets) -> Result<PcapStream, PcapError>
-        requires { self.now.offset + length self.now.rest + length piece.now ≤ 2 ^ 30 }
-        ensures ok { IfOk result (λ next. Adds (λ completed. (s : List ℕ) (c : Capture) → StandsFor self.now s c → Grows next (s ++ piece.now) c [] completed) out.old out.new) }
-        ensures fault { IfErr result (λ e. e ≢ errors.Memory → (s : List ℕ) (c : Capture) → StandsFor self.now s c → IsFault (s ++ piece.now) e) }
-        ensures size { IfOk result (λ next. next.offset + length next.rest ≡ self.now.offset + length self.now.rest + length piece.now) }
-        ensures unchanged { OnErr result (IsSame out.old out.new) }
-    {
-        let mut packets = out.behind(self.alloc);
-        let next = self.read(piece, &mut packets)?;
-        out.append(packets)?;
-        Ok(next)
-    }
-
-    // The next capture and its packets, from the rest and the piece in one slice.
-    fn read(&self, piece: &[u8], packets: &mut FirstPackets) -> Result<PcapStream, PcapError>
+    /// out. Then some of the packets may have been added, and another piece may be read in place of this one.
+    pub fn read(&self, piece: &[u8], packets: &mut FirstPackets) -> Result<PcapStream, PcapError>
         requires { self.now.offset + length self.now.rest + length piece.now ≤ 2 ^ 30 }
         ensures ok { IfOk result (λ next. Adds (λ completed. (s : List ℕ) (c : Capture) → StandsFor self.now s c → Grows next (s ++ piece.now) c [] completed) packets.old packets.new) }
         ensures fault { IfErr result (λ e. (s : List ℕ) (c : Capture) → StandsFor self.now s c → IsFault (s ++ piece.now) e) }

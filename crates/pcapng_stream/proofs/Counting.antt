@@ -2,9 +2,10 @@
 use Rattle.std.proofs.Common.{◌≡◌, ◌≤◌, ◌+◌, ℕ, Bool, true, false, cond, List, [], ◌∷◌, ◌++◌, length, sym, ap, ◌∙◌, arith, length-append}
 use Rattle.std.specs.List.{flat_map}
 use Rattle.std.proofs.lemmas.List.Sums.{sum_by-append, sum_by-cons}
-use Rattle.pcapng_stream.specs.declared.passed.Passed.{Passed}
+use Rattle.packets.specs.declared.passed.Passed.{Passed}
 use Rattle.pcapng_stream.specs.Blocks.{Section, Block, bytes_of, section_behind}
-use Rattle.pcapng_stream.specs.Passed.{is_simple, is_obsolete, is_other, none_passed, passed_count, passed_with, counted, type_of, passed_over}
+use Rattle.packets.specs.Passed.{none_passed, passed_count, passed_with}
+use Rattle.pcapng_stream.specs.Passed.{is_simple, is_obsolete, is_other, counted, type_of, passed_over}
 use Rattle.pcapng_stream.specs.Pcapng.{AreBlocks}
 
 -- ---- counts

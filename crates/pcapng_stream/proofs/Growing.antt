@@ -1,18 +1,19 @@
 -- What is kept of a stream of blocks, and what a piece adds.
 use Rattle.std.proofs.Common.{◌≡◌, ◌≤◌, ◌+◌, ◌-◌, ℕ, false, List, [], ◌∷◌, ◌++◌, length, Option, Some, None, is_none, refl, sym, ap, subst, ◌∙◌, arith, length-append}
 use Rattle.std.specs.List.{flat_map}
-use Rattle.pcap_stream.specs.Capture.{Seen}
+use Rattle.packets.specs.Packets.{Seen}
 use Rattle.pcapng_stream.specs.declared.order.Order.{Order}
 use Rattle.pcapng_stream.specs.declared.block_kind.BlockKind.{BlockKind}
 use Rattle.pcapng_stream.specs.declared.block_kind.BlockKind.TheVariants.{SectionHeader, InterfaceDescription, EnhancedPacket, Other}
-use Rattle.pcapng_stream.specs.declared.errors.CaptureError.{CaptureError}
-use Rattle.pcapng_stream.specs.declared.errors.CaptureError.TheVariants.{Magic, Version, Length, Memory}
-use Rattle.pcapng_stream.specs.declared.errors.CaptureError.TheVariants as errors
+use Rattle.pcapng_stream.specs.declared.errors.PcapngError.{PcapngError}
+use Rattle.pcapng_stream.specs.declared.errors.PcapngError.TheVariants.{Magic, Version, Length, Memory}
+use Rattle.pcapng_stream.specs.declared.errors.PcapngError.TheVariants as errors
 use Rattle.pcapng_stream.specs.declared.flaw.Flaw.{Flaw}
 use Rattle.pcapng_stream.specs.Blocks.{Section, Block, before, bytes_of, kind_of, section_by, section_behind}
 use Rattle.pcapng_stream.specs.Flaws.{begins_wrong}
-use Rattle.pcapng_stream.specs.declared.passed.Passed.{Passed}
-use Rattle.pcapng_stream.specs.Passed.{passed_over, passed_with}
+use Rattle.packets.specs.declared.passed.Passed.{Passed}
+use Rattle.packets.specs.Passed.{passed_with}
+use Rattle.pcapng_stream.specs.Passed.{passed_over}
 use Rattle.pcapng_stream.specs.Skipping.{held_of, skipped_in}
 use Rattle.pcapng_stream.specs.Pcapng.{Blocks, HasBlock, IsBlock, AreBlocks, IsMadeOf, IsFault, IsFlawedAt, HasFlaw, BeginsSection, section_after, packets_after, present}
 use Rattle.pcapng_stream.specs.Feeding.{BlockTail, StandsForBlocks, GrowsBlocks}
@@ -116,10 +117,9 @@ later_flawed t s piece bytes c flaw place is plain stands f =
       at = omega (arith, f.at, known_size t s piece bytes c is plain stands);
     }
 
-pub blocks_fault : (t : BlockTail) (s piece bytes : List ℕ) (c : Blocks) (e : CaptureError) → bytes ≡ t.held ++ piece → t.skipped ≡ None → StandsForBlocks t s c → IsBlocksFault t.section bytes t.offset e → IsFault (s ++ piece) e
+pub blocks_fault : (t : BlockTail) (s piece bytes : List ℕ) (c : Blocks) (e : PcapngError) → bytes ≡ t.held ++ piece → t.skipped ≡ None → StandsForBlocks t s c → IsBlocksFault t.section bytes t.offset e → IsFault (s ++ piece) e
 blocks_fault t s piece bytes c Magic is plain stands f = absurd f
 blocks_fault t s piece bytes c Version is plain stands f = (f.0, later_flawed t s piece bytes c _ f.0 is plain stands f.1)
-blocks_fault t s piece bytes c (errors.Header place) is plain stands f = absurd f
 blocks_fault t s piece bytes c (Length place) is plain stands f = later_flawed t s piece bytes c _ place is plain stands f
 blocks_fault t s piece bytes c (errors.Block place) is plain stands f = later_flawed t s piece bytes c _ place is plain stands f
 blocks_fault t s piece bytes c Memory is plain stands f = tt
@@ -135,10 +135,10 @@ magic_fault t s piece bytes c is plain stands none lacks begins =
 abbrev pub GoesOn : BlockTail → List ℕ → List Seen → List Seen → BlockTail → Type 0
 GoesOn t bytes old new next = (s piece : List ℕ) (c : Blocks) → bytes ≡ t.held ++ piece → StandsForBlocks t s c → GrowsBlocks next (s ++ piece) c old new
 
-abbrev pub IsRefused : BlockTail → List ℕ → CaptureError → Type 0
+abbrev pub IsRefused : BlockTail → List ℕ → PcapngError → Type 0
 IsRefused t bytes e = (s piece : List ℕ) (c : Blocks) → bytes ≡ t.held ++ piece → StandsForBlocks t s c → IsFault (s ++ piece) e
 
-pub refused_so : (t : BlockTail) (sec : Section) (offset : ℕ) (bytes : List ℕ) (e : CaptureError) → t.skipped ≡ None → sec ≡ t.section → offset ≡ t.offset → IsBlocksFault sec bytes offset e → IsRefused t bytes e
+pub refused_so : (t : BlockTail) (sec : Section) (offset : ℕ) (bytes : List ℕ) (e : PcapngError) → t.skipped ≡ None → sec ≡ t.section → offset ≡ t.offset → IsBlocksFault sec bytes offset e → IsRefused t bytes e
 refused_so t sec offset bytes e plain known at f s piece c is stands =
     let here : IsBlocksFault t.section bytes t.offset e = subst (λ (k : ℕ). IsBlocksFault t.section bytes k e) at (subst (λ (z : Section). IsBlocksFault z bytes offset e) known f) in
     blocks_fault t s piece bytes c e is plain stands here

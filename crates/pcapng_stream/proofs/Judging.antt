@@ -1,10 +1,11 @@
 -- Each stream of blocks is read or refused.
 use Rattle.std.proofs.Common.{◌≡◌, ◌≢◌, ◌≤◌, ◌+◌, ◌-◌, ◌⊎◌, ℕ, zero, suc, false, List, [], ◌∷◌, ◌++◌, length, take, Option, Some, None, refl, sym, ap, inl, inr, ◌∙◌, arith, append_assoc, length-append}
 use Rattle.std.specs.List.{flat_map}
-use Rattle.std.proofs.lemmas.Bool.{cases_lt, cases_eq, cases_Bool}
-use Rattle.pcap_stream.specs.Capture.{IsFrontOf}
-use Rattle.pcapng_stream.specs.declared.errors.CaptureError.{CaptureError}
-use Rattle.pcapng_stream.specs.declared.errors.CaptureError.TheVariants.{Magic, Memory}
+use Rattle.std.proofs.lemmas.Bool.{cases_lt, cases_Bool}
+use Rattle.packets.specs.Streams.{IsFrontOf}
+use Rattle.packets.proofs.Fronts.{is_front}
+use Rattle.pcapng_stream.specs.declared.errors.PcapngError.{PcapngError}
+use Rattle.pcapng_stream.specs.declared.errors.PcapngError.TheVariants.{Magic, Memory}
 use Rattle.pcapng_stream.specs.declared.flaw.Flaw.{Flaw}
 use Rattle.pcapng_stream.specs.declared.flaw.Flaw.TheVariants.{Malformed, OtherVersion, TooLong}
 use Rattle.pcapng_stream.specs.declared.head.Head.{Head}
@@ -15,23 +16,7 @@ use Rattle.pcapng_stream.specs.Inside.{IsPart, IsFirst, fault_at}
 use Rattle.pcapng_stream.proofs.Heads.{first_block, none_part, short_part}
 
 abbrev pub IsJudged : List ℕ → Type 0
-IsJudged s = ((c : Blocks) × Reads s c) ⊎ ((e : CaptureError) × IsFault s e × (e ≢ Memory))
-
--- ---- fronts
-pub is_front : (front whole : List ℕ) → IsFrontOf front whole ⊎ (IsFrontOf front whole → ⊥)
-is_front [] whole = inl (whole, refl)
-is_front (x ∷ front) [] = inr (λ h. absurd (cc (h.1)))
-is_front (x ∷ front) (y ∷ whole) =
-    elim (cases_eq x y) [
-      | inl same ↦ elim (is_front front whole) [
-        | inl h ↦ inl (h.0, grown x y (front ++ h.0) whole same h.1)
-        | inr other ↦ inr (λ h. other (h.0, cc (h.1)))
-      ]
-      | inr other ↦ inr (λ h. other (cc (h.1)))
-    ]
-  where
-    grown : (x y : ℕ) (xs ys : List ℕ) → x ≡ y → xs ≡ ys → x ∷ xs ≡ y ∷ ys
-    grown x y xs ys p q = cc
+IsJudged s = ((c : Blocks) × Reads s c) ⊎ ((e : PcapngError) × IsFault s e × (e ≢ Memory))
 
 -- ---- blocks
 -- what may begin the bytes

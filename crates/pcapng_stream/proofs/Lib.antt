@@ -3,11 +3,10 @@ mod Walking
 mod Heads
 mod Rows
 mod Counting
-mod Streams
-mod Judging
+pub mod Streams
+pub mod Judging
 pub mod Skipping
 mod Growing
 mod Reading
-mod Either
-mod EitherGrowing
+pub mod Bounds
 mod Worked

@@ -3,16 +3,17 @@ use Rattle.std.proofs.Common.{◌≡◌, ◌≤◌, ◌+◌, ◌-◌, ℕ, false
 use Rattle.std.specs.List.{flat_map}
 use Rattle.std.proofs.lemmas.List.{append-nil, drop_at, take_rest}
 use Rattle.std.proofs.lemmas.List.Concat.{flat_map-append}
-use Rattle.pcap_stream.specs.Capture.{Seen}
-use Rattle.pcapng_stream.specs.declared.errors.CaptureError.{CaptureError}
-use Rattle.pcapng_stream.specs.declared.errors.CaptureError.TheVariants.{Magic, Version, Length, Memory}
-use Rattle.pcapng_stream.specs.declared.errors.CaptureError.TheVariants as errors
+use Rattle.packets.specs.Packets.{Seen}
+use Rattle.pcapng_stream.specs.declared.errors.PcapngError.{PcapngError}
+use Rattle.pcapng_stream.specs.declared.errors.PcapngError.TheVariants.{Magic, Version, Length, Memory}
+use Rattle.pcapng_stream.specs.declared.errors.PcapngError.TheVariants as errors
 use Rattle.pcapng_stream.specs.declared.flaw.Flaw.{Flaw}
 use Rattle.pcapng_stream.specs.declared.flaw.Flaw.TheVariants.{Malformed, OtherVersion, TooLong}
-use Rattle.pcapng_stream.specs.declared.passed.Passed.{Passed}
+use Rattle.packets.specs.declared.passed.Passed.{Passed}
 use Rattle.pcapng_stream.specs.Blocks.{Section, Block, bytes_of, section_behind, packets_in}
 use Rattle.pcapng_stream.specs.Flaws.{begins_wrong, flaw_in}
-use Rattle.pcapng_stream.specs.Passed.{passed_count, passed_with, passed_over, counted, type_of}
+use Rattle.packets.specs.Passed.{passed_count, passed_with}
+use Rattle.pcapng_stream.specs.Passed.{passed_over, counted, type_of}
 use Rattle.pcapng_stream.specs.Pcapng.{IsBlock, HasFlaw, section_after, packets_after}
 use Rattle.pcapng_stream.specs.Inside.{IsFirst, IsFaultOf, IsNext, FindsNext, IsHereFault, HasRead, EndsBlocks, IsLater, IsBlocksFault}
 use Rattle.pcapng_stream.proofs.Heads.{wrong-append}
@@ -26,10 +27,9 @@ first_sound s bytes b first = ap (λ (l : List ℕ). begins_wrong s.order l) fir
 first_flaw_is : (s : Section) (bytes : List ℕ) (b : Block) (flaw : Flaw) → IsFirst s.order bytes b → flaw_in s b ≡ Some flaw → HasFlaw s bytes flaw
 first_flaw_is s bytes b flaw first e = inr (record { sound = first_sound s bytes b first; has = (b, first.after, first.whole, first.joined); flawed = e })
 
-pub flaw_here : (s : Section) (bytes : List ℕ) (place : ℕ) (b : Block) (e : CaptureError) → IsFirst s.order bytes b → IsFaultOf (flaw_in s b) place e → IsHereFault s bytes place e
+pub flaw_here : (s : Section) (bytes : List ℕ) (place : ℕ) (b : Block) (e : PcapngError) → IsFirst s.order bytes b → IsFaultOf (flaw_in s b) place e → IsHereFault s bytes place e
 flaw_here s bytes place b Magic first f = absurd f
 flaw_here s bytes place b Version first f = first_flaw_is s bytes b OtherVersion first f
-flaw_here s bytes place b (errors.Header p) first f = absurd f
 flaw_here s bytes place b (Length p) first f = (first_flaw_is s bytes b TooLong first f.0, f.1)
 flaw_here s bytes place b (errors.Block p) first f = (first_flaw_is s bytes b Malformed first f.0, f.1)
 flaw_here s bytes place b Memory first f = tt
@@ -108,11 +108,10 @@ blocks_end s bytes left mid next first earlier later some more read (part, same)
     rw (same.section, same.counts, same.packets, append-nil some) (record { read = read; part = part })
 
 -- the block behind those that were read has a flaw
-pub later_fault : (s : Section) (bytes left : List ℕ) (mid : Section) (earlier later : Passed) (old new : List Seen) (start place : ℕ) (e : CaptureError) → HasRead s bytes left mid earlier later old new → IsHereFault mid left place e → place ≡ start + (length bytes - length left) →
+pub later_fault : (s : Section) (bytes left : List ℕ) (mid : Section) (earlier later : Passed) (old new : List Seen) (start place : ℕ) (e : PcapngError) → HasRead s bytes left mid earlier later old new → IsHereFault mid left place e → place ≡ start + (length bytes - length left) →
     IsBlocksFault s bytes start e
 later_fault s bytes left mid earlier later old new start place Magic read f is = absurd f
 later_fault s bytes left mid earlier later old new start place Version read f is = (place, later_of s bytes left mid earlier later old new start place OtherVersion read f is)
-later_fault s bytes left mid earlier later old new start place (errors.Header p) read f is = absurd f
 later_fault s bytes left mid earlier later old new start place (Length p) read f is = later_of s bytes left mid earlier later old new start p TooLong read f.0 (f.1 ∙ is)
 later_fault s bytes left mid earlier later old new start place (errors.Block p) read f is = later_of s bytes left mid earlier later old new start p Malformed read f.0 (f.1 ∙ is)
 later_fault s bytes left mid earlier later old new start place Memory read f is = tt

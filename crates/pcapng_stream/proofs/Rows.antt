@@ -1,7 +1,7 @@
 -- Blocks in a row: a stream is made of them in one way.
 use Rattle.std.proofs.Common.{◌≡◌, ℕ, List, [], ◌∷◌, ◌++◌, Option, Some, None, refl, sym, ap, subst, inl, inr, ◌∙◌, append_assoc}
 use Rattle.std.specs.List.{flat_map}
-use Rattle.pcap_stream.specs.Capture.{Seen}
+use Rattle.packets.specs.Packets.{Seen}
 use Rattle.pcapng_stream.specs.declared.flaw.Flaw.{Flaw}
 use Rattle.pcapng_stream.specs.Blocks.{Section, Block, bytes_of, section_behind, packets_in}
 use Rattle.pcapng_stream.specs.Flaws.{begins_wrong, flaw_in}

@@ -2,19 +2,20 @@
 use Rattle.std.proofs.Common.{◌≡◌, ◌≤◌, ◌<◌, ◌+◌, ◌-◌, ◌||◌, ◌==◌, ℕ, zero, suc, Bool, true, false, nat_lt, if◌then◌else◌, List, [], ◌∷◌, ◌++◌, length, take, drop, Option, Some, None, refl, sym, ap, subst, inl, inr, ◌∙◌, arith, append_assoc, length-append}
 use Rattle.std.proofs.lemmas.Bool.{cases_Bool, cases_lt, le-ltb, or_parts, ltb-false}
 use Rattle.std.proofs.lemmas.List.{append-nil, length-take, length-drop, take-append-le}
-use Rattle.pcap_stream.specs.Capture.{Seen}
+use Rattle.packets.specs.Packets.{Seen}
 use Rattle.pcapng_stream.specs.declared.order.Order.{Order}
 use Rattle.pcapng_stream.specs.declared.order.Order.TheVariants.{Big, Little}
 use Rattle.pcapng_stream.specs.declared.head.Head.{Head}
-use Rattle.pcapng_stream.specs.declared.passed.Passed.{Passed}
+use Rattle.packets.specs.declared.passed.Passed.{Passed}
 use Rattle.pcapng_stream.specs.declared.skipped.Skipped.{Skipped}
 use Rattle.pcapng_stream.specs.declared.block_kind.BlockKind.{BlockKind}
 use Rattle.pcapng_stream.specs.declared.block_kind.BlockKind.TheVariants.{SectionHeader, InterfaceDescription, EnhancedPacket, Other}
-use Rattle.pcapng_stream.specs.declared.errors.CaptureError.TheVariants as errors
+use Rattle.pcapng_stream.specs.declared.errors.PcapngError.TheVariants as errors
 use Rattle.pcapng_stream.specs.Numbers.{word_at}
 use Rattle.pcapng_stream.specs.Blocks.{Section, Block, before, is_section, kind_at, kind_of, order_of, head_by, head_of, last_length, packets_by, packets_in, section_by, section_behind}
 use Rattle.pcapng_stream.specs.Flaws.{begins_wrong, flaw_in, has_wrong_size, is_read, is_wrong_size, lacks_order}
-use Rattle.pcapng_stream.specs.Passed.{counted, passed_over, passed_with, type_of}
+use Rattle.packets.specs.Passed.{passed_with}
+use Rattle.pcapng_stream.specs.Passed.{counted, passed_over, type_of}
 use Rattle.pcapng_stream.specs.Skipping.{IsHeldBy, begun_by, begun_with, held_of, skipped_by, skipped_in, waiting_by}
 use Rattle.pcapng_stream.specs.Pcapng.{Blocks, IsBlock, IsWhole, IsFault, BeginsSection, section_after, packets_of, present}
 use Rattle.pcapng_stream.specs.Feeding.{BlockTail, StandsForBlocks, GrowsBlocks}

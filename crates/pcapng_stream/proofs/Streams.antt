@@ -1,20 +1,20 @@
 -- Streams of blocks: what each is, it is in one way.
-use Rattle.std.proofs.Common.{◌≡◌, ◌≢◌, ◌≤◌, ℕ, false, List, [], ◌∷◌, ◌++◌, length, None, refl, sym, ap, subst, inl, inr, ◌∙◌, arith, append_assoc}
+use Rattle.std.proofs.Common.{◌≡◌, ◌≢◌, ◌≤◌, ℕ, false, List, [], ◌∷◌, ◌++◌, length, None, refl, sym, ap, subst, inl, inr, ◌∙◌, arith, append_assoc, length-append}
 use Rattle.std.specs.List.{flat_map}
 use Rattle.std.proofs.lemmas.List.{append-nil}
 use Rattle.std.proofs.lemmas.List.Concat.{flat_map-append}
-use Rattle.pcap_stream.specs.Capture.{Seen}
-use Rattle.pcapng_stream.specs.declared.errors.CaptureError.{CaptureError}
-use Rattle.pcapng_stream.specs.declared.errors.CaptureError.TheVariants.{Magic, Version, Length, Memory}
-use Rattle.pcapng_stream.specs.declared.errors.CaptureError.TheVariants as errors
+use Rattle.packets.specs.Packets.{Seen}
+use Rattle.pcapng_stream.specs.declared.errors.PcapngError.{PcapngError}
+use Rattle.pcapng_stream.specs.declared.errors.PcapngError.TheVariants.{Magic, Version, Length, Memory}
+use Rattle.pcapng_stream.specs.declared.errors.PcapngError.TheVariants as errors
 use Rattle.pcapng_stream.specs.declared.flaw.Flaw.{Flaw}
 use Rattle.pcapng_stream.specs.declared.flaw.Flaw.TheVariants.{Malformed, OtherVersion, TooLong}
 use Rattle.pcapng_stream.specs.Blocks.{Block, before, bytes_of}
 use Rattle.pcapng_stream.specs.Flaws.{begins_wrong}
 use Rattle.pcapng_stream.specs.Passed.{passed_over}
 use Rattle.pcapng_stream.specs.Skipping.{held_of, skipped_in}
-use Rattle.pcapng_stream.specs.Pcapng.{Blocks, IsWhole, HasBlock, IsBlock, AreBlocks, IsMadeOf, Reads, IsFault, IsFlawedAt, HasFlaw, BeginsSection, section_after, packets_after, packets_of, present}
-use Rattle.pcapng_stream.specs.Feeding.{BlockTail, StandsForBlocks}
+use Rattle.pcapng_stream.specs.Pcapng.{Blocks, IsWhole, HasBlock, IsBlock, AreBlocks, IsMadeOf, Reads, IsFault, IsFlawedAt, HasFlaw, BeginsSection, nothing, section_after, packets_after, packets_of, present}
+use Rattle.pcapng_stream.specs.Feeding.{BlockTail, StandsForBlocks, new_tail}
 use Rattle.pcapng_stream.specs.Inside.{fault_at, tail_of}
 use Rattle.pcapng_stream.proofs.Heads.{begins_longer, section_begins, whole_section, wrong_section, both}
 use Rattle.pcapng_stream.proofs.Rows.{Ends, More, blocks-append, blocks_go_on, ends_flaw, ends_part, flaw_one, nothing_more, packets-append}
@@ -105,14 +105,13 @@ flawed_begins s flaw place f =
 
 -- ---- refusals
 -- what a fault but want of memory is
-data Cause (s : List ℕ) (e : CaptureError) : Type 0 where
+data Cause (s : List ℕ) (e : PcapngError) : Type 0 where
   magic : (BeginsSection s → ⊥) → e ≡ Magic → Cause s e
   flawed : (flaw : Flaw) (place : ℕ) → IsFlawedAt s flaw place → e ≡ fault_at place flaw → Cause s e
 
-cause_of : (s : List ℕ) (e : CaptureError) → IsFault s e → e ≢ Memory → Cause s e
+cause_of : (s : List ℕ) (e : PcapngError) → IsFault s e → e ≢ Memory → Cause s e
 cause_of s Magic f ne = magic f refl
 cause_of s Version f ne = flawed OtherVersion f.0 f.1 refl
-cause_of s (errors.Header place) f ne = absurd f
 cause_of s (Length place) f ne = flawed TooLong place f refl
 cause_of s (errors.Block place) f ne = flawed Malformed place f refl
 cause_of s Memory f ne = absurd (ne refl)
@@ -124,7 +123,7 @@ not_flawed : (c : Blocks) (flaw : Flaw) → (HasBlock (present c).order c.rest �
 not_flawed c flaw none sound (inl w) = both (begins_wrong (present c).order c.rest) w.wrong sound
 not_flawed c flaw none sound (inr f) = none f.has
 
-pub read_or_refused : (s : List ℕ) (c : Blocks) (e : CaptureError) → Reads s c → IsFault s e → e ≢ Memory → ⊥
+pub read_or_refused : (s : List ℕ) (c : Blocks) (e : PcapngError) → Reads s c → IsFault s e → e ≢ Memory → ⊥
 read_or_refused s c e r f ne =
     elim (cause_of s e f ne) [
       | magic lacks is ↦ lacks r.begins
@@ -143,7 +142,7 @@ flaws_same s f g p q a b =
     let flaws : f ≡ g = flaw_one (present b.capture) b.capture.rest f g (subst (λ (d : Blocks). HasFlaw (present d) d.rest f) same a.flawed) b.flawed in
     fault_same p q f g places flaws
 
-pub one_fault : (s : List ℕ) (e f : CaptureError) → IsFault s e → IsFault s f → e ≢ Memory → f ≢ Memory → e ≡ f
+pub one_fault : (s : List ℕ) (e f : PcapngError) → IsFault s e → IsFault s f → e ≢ Memory → f ≢ Memory → e ≡ f
 one_fault s e f a b ne nf =
     elim (cause_of s e a ne) [
       | magic lacks is ↦ elim (cause_of s f b nf) [
@@ -155,3 +154,19 @@ one_fault s e f a b ne nf =
         | flawed flaw2 place2 at2 is2 ↦ is ∙ flaws_same s flaw flaw2 place place2 at at2 ∙ sym is2
       ]
     ]
+
+-- ---- a stream of which nothing came
+pub new_stood : StandsForBlocks new_tail [] nothing
+new_stood = record {
+  reads = record {
+    made = record { are_blocks = tt; whole = refl };
+    begins = (10 ∷ 13 ∷ 13 ∷ 10 ∷ [], refl);
+    no_more = λ has. omega (arith, has.2.long, ap (λ (l : List ℕ). length l) has.3, length-append has.0.bytes has.1);
+    sound = refl;
+  };
+  section = refl;
+  passed = refl;
+  skipped = refl;
+  held = refl;
+  offset = refl;
+}

@@ -1,10 +1,10 @@
 -- A capture of one packet, worked through.
 use Rattle.std.proofs.Common.{◌≡◌, ℕ, true, false, List, [], ◌∷◌, Option, Some, None, ℤ, pos, negsuc, refl, arith}
-use Rattle.pcap_stream.specs.Capture.{Seen}
+use Rattle.packets.specs.Packets.{Seen}
 use Rattle.pcapng_stream.specs.declared.order.Order.TheVariants.{Little}
 use Rattle.pcapng_stream.specs.declared.section.Interface.{Interface}
 use Rattle.pcapng_stream.specs.declared.flaw.Flaw.TheVariants.{Malformed, OtherVersion}
-use Rattle.pcapng_stream.specs.declared.passed.Passed.{Passed}
+use Rattle.packets.specs.declared.passed.Passed.{Passed}
 use Rattle.pcapng_stream.specs.Blocks.{Block, before, interface_of, nanos, section_behind, stamp_on}
 use Rattle.pcapng_stream.specs.Flaws.{begins_wrong, flaw_in}
 use Rattle.pcapng_stream.specs.Passed.{passed_over}

@@ -3,7 +3,7 @@ use Rattle.std.specs.Prelude.{ℕ, ◌+◌, ◌-◌, ◌*◌, ◌/◌, ◌%◌, 
 use Rattle.std.specs.Int.{w64, cast_signed}
 use Rattle.std.specs.List.{list_any}
 use Rattle.std.specs.Str.{bytes_eq}
-use Rattle.pcap_stream.specs.Capture.{Seen}
+use Rattle.packets.specs.Packets.{Seen}
 use Rattle.pcapng_stream.specs.declared.order.Order.{Order}
 use Rattle.pcapng_stream.specs.declared.order.Order.TheVariants.{Big, Little}
 use Rattle.pcapng_stream.specs.declared.head.Head.{Head}

@@ -2,13 +2,11 @@
 use Rattle.std.specs.Prelude.{◌≡◌, ℕ, ◌+◌, false, true, if◌then◌else◌, List, ◌++◌, length, Option, Some, None, ⊤}
 use Rattle.std.specs.Option.{option_or}
 use Rattle.std.specs.List.{flat_map, list_any}
-use Rattle.pcap_stream.specs.declared.errors.PcapError.{PcapError}
-use Rattle.pcap_stream.specs.declared.errors.PcapError.TheVariants as classic_errors
-use Rattle.pcap_stream.specs.Capture.{Seen}
+use Rattle.packets.specs.Packets.{Seen}
 use Rattle.pcapng_stream.specs.declared.order.Order.{Order}
-use Rattle.pcapng_stream.specs.declared.errors.CaptureError.{CaptureError}
-use Rattle.pcapng_stream.specs.declared.errors.CaptureError.TheVariants.{Magic, Version, Length, Memory}
-use Rattle.pcapng_stream.specs.declared.errors.CaptureError.TheVariants as errors
+use Rattle.pcapng_stream.specs.declared.errors.PcapngError.{PcapngError}
+use Rattle.pcapng_stream.specs.declared.errors.PcapngError.TheVariants.{Magic, Version, Length, Memory}
+use Rattle.pcapng_stream.specs.declared.errors.PcapngError.TheVariants as errors
 use Rattle.pcapng_stream.specs.declared.flaw.Flaw.{Flaw}
 use Rattle.pcapng_stream.specs.declared.flaw.Flaw.TheVariants.{Malformed, OtherVersion, TooLong}
 use Rattle.pcapng_stream.specs.declared.block.WholeBlock.{WholeBlock}
@@ -18,8 +16,9 @@ use Rattle.pcapng_stream.specs.declared.options.Stamping.{Stamping}
 use Rattle.pcapng_stream.specs.Options.{Opt, options_in, resolution_of, offset_of, resolution_in, offset_in, is_wrong_offset}
 use Rattle.pcapng_stream.specs.Blocks.{Section, Block, bytes_of, section_behind, packets_in}
 use Rattle.pcapng_stream.specs.Flaws.{begins_wrong}
-use Rattle.pcapng_stream.specs.declared.passed.Passed.{Passed}
-use Rattle.pcapng_stream.specs.Passed.{counted, passed_over, passed_with, type_of}
+use Rattle.packets.specs.declared.passed.Passed.{Passed}
+use Rattle.packets.specs.Passed.{passed_with}
+use Rattle.pcapng_stream.specs.Passed.{counted, passed_over, type_of}
 use Rattle.pcapng_stream.specs.declared.skipped.Skipped.{Skipped}
 use Rattle.pcapng_stream.specs.Skipping.{held_of, skipped_in}
 use Rattle.pcapng_stream.specs.Pcapng.{IsWhole, HasBlock, IsBlock, AreBlocks, HasFlaw, section_after, packets_after}
@@ -68,18 +67,10 @@ abbrev pub stamping_in : Order → List ℕ → Option Stamping
 stamping_in order bytes = stamping_by order (options_in order bytes)
 
 -- why a capture is refused where the block at this place has this flaw
-abbrev pub fault_at : ℕ → Flaw → CaptureError
+abbrev pub fault_at : ℕ → Flaw → PcapngError
 fault_at place Malformed = errors.Block place
 fault_at place OtherVersion = Version
 fault_at place TooLong = Length place
-
--- why a classic capture is refused
-abbrev pub of_classic : PcapError → CaptureError
-of_classic classic_errors.Magic = Magic
-of_classic classic_errors.Version = Version
-of_classic (classic_errors.Header place) = errors.Header place
-of_classic (classic_errors.Length place) = Length place
-of_classic classic_errors.Memory = Memory
 
 -- ---- one block
 -- behind blocks of this order no block begins so
@@ -105,10 +96,9 @@ FindsBlock order bytes None = IsPart order bytes
 FindsBlock order bytes (Some b) = IsFirst order bytes (block_of b)
 
 -- why a capture is refused where the block at this place has this flaw first, if it has one; memory may run out
-abbrev pub IsFaultOf : Option Flaw → ℕ → CaptureError → Type 0
+abbrev pub IsFaultOf : Option Flaw → ℕ → PcapngError → Type 0
 IsFaultOf flaw place Magic = ⊥
 IsFaultOf flaw place Version = flaw ≡ Some OtherVersion
-IsFaultOf flaw place (errors.Header p) = ⊥
 IsFaultOf flaw place (Length p) = (flaw ≡ Some TooLong) × (p ≡ place)
 IsFaultOf flaw place (errors.Block p) = (flaw ≡ Some Malformed) × (p ≡ place)
 IsFaultOf flaw place Memory = ⊤
@@ -140,10 +130,9 @@ FindsNext s bytes None next earlier later old new = IsPart s.order bytes × IsSa
 FindsNext s bytes (Some size) next earlier later old new = IsNext s bytes size next earlier later old new
 
 -- the block that begins these bytes, at this place, has a flaw
-abbrev pub IsHereFault : Section → List ℕ → ℕ → CaptureError → Type 0
+abbrev pub IsHereFault : Section → List ℕ → ℕ → PcapngError → Type 0
 IsHereFault s bytes place Magic = ⊥
 IsHereFault s bytes place Version = HasFlaw s bytes OtherVersion
-IsHereFault s bytes place (errors.Header p) = ⊥
 IsHereFault s bytes place (Length p) = HasFlaw s bytes TooLong × (p ≡ place)
 IsHereFault s bytes place (errors.Block p) = HasFlaw s bytes Malformed × (p ≡ place)
 IsHereFault s bytes place Memory = ⊤
@@ -173,10 +162,9 @@ pub record IsLater (s : Section) (bytes : List ℕ) (start : ℕ) (flaw : Flaw) 
   pub at : place + length left ≡ start + length bytes
 
 -- why blocks that start at this place are refused
-abbrev pub IsBlocksFault : Section → List ℕ → ℕ → CaptureError → Type 0
+abbrev pub IsBlocksFault : Section → List ℕ → ℕ → PcapngError → Type 0
 IsBlocksFault s bytes start Magic = ⊥
 IsBlocksFault s bytes start Version = (place : ℕ) × IsLater s bytes start OtherVersion place
-IsBlocksFault s bytes start (errors.Header place) = ⊥
 IsBlocksFault s bytes start (Length place) = IsLater s bytes start TooLong place
 IsBlocksFault s bytes start (errors.Block place) = IsLater s bytes start Malformed place
 IsBlocksFault s bytes start Memory = ⊤

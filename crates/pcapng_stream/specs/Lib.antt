@@ -5,7 +5,5 @@ pub mod Flaws
 pub mod Passed
 pub mod Skipping
 pub mod Pcapng
-pub mod Capture
 pub mod Feeding
 pub mod Inside
-pub mod Kept

@@ -1,6 +1,6 @@
--- Packets that are passed over: blocks that are skipped, and that a reader of captures numbers as packets.
-use Rattle.std.specs.Prelude.{ℕ, ◌+◌, Bool, cond, ◌||◌, ◌==◌, List, count_by}
-use Rattle.pcapng_stream.specs.declared.passed.Passed.{Passed}
+-- Packets that are passed over: blocks that are skipped, and that Wireshark 4.0 numbers as frames.
+use Rattle.std.specs.Prelude.{ℕ, Bool, cond, ◌||◌, ◌==◌, List, count_by}
+use Rattle.packets.specs.declared.passed.Passed.{Passed}
 use Rattle.pcapng_stream.specs.Numbers.{word_at}
 use Rattle.pcapng_stream.specs.Blocks.{Block}
 
@@ -13,23 +13,12 @@ is_simple n = n == 3
 abbrev pub is_obsolete : ℕ → Bool
 is_obsolete n = n == 2
 
--- an entry of a systemd journal, or a sysdig event, without flags or with them
+-- an entry of a systemd journal, a sysdig event of the first or the second version or a large one, or a custom block, which may be
+-- copied or not
 abbrev pub is_other : ℕ → Bool
-is_other n = n == 9 || n == 0x204 || n == 0x208
+is_other n = n == 9 || n == 0x204 || n == 0x216 || n == 0x221 || n == 0xbad || n == 0x40000bad
 
 -- ---- counts
--- none at all
-abbrev pub none_passed : Passed
-none_passed = record { simple = 0; obsolete = 0; other = 0 }
-
--- how many they are in all
-abbrev pub passed_count : Passed → ℕ
-passed_count p = p.simple + p.obsolete + p.other
-
--- these and those
-abbrev pub passed_with : Passed → Passed → Passed
-passed_with p more = record { simple = p.simple + more.simple; obsolete = p.obsolete + more.obsolete; other = p.other + more.other }
-
 -- what one block of this type counts as
 abbrev pub counted : ℕ → Passed
 counted n = record { simple = cond (is_simple n) 1 0; obsolete = cond (is_obsolete n) 1 0; other = cond (is_other n) 1 0 }

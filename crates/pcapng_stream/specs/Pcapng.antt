@@ -1,11 +1,12 @@
 -- Captures in blocks as whole streams of bytes: what they say, and how they are refused.
 use Rattle.std.specs.Prelude.{◌≡◌, ◌⊎◌, ℕ, ◌+◌, ◌≤◌, true, false, List, [], ◌∷◌, ◌++◌, length, take, Option, Some, None, ⊤}
 use Rattle.std.specs.List.{flat_map}
-use Rattle.pcap_stream.specs.Capture.{Seen, IsFrontOf}
+use Rattle.packets.specs.Packets.{Seen}
+use Rattle.packets.specs.Streams.{IsFrontOf}
 use Rattle.pcapng_stream.specs.declared.order.Order.{Order}
-use Rattle.pcapng_stream.specs.declared.errors.CaptureError.{CaptureError}
-use Rattle.pcapng_stream.specs.declared.errors.CaptureError.TheVariants.{Magic, Version, Length, Memory}
-use Rattle.pcapng_stream.specs.declared.errors.CaptureError.TheVariants as errors
+use Rattle.pcapng_stream.specs.declared.errors.PcapngError.{PcapngError}
+use Rattle.pcapng_stream.specs.declared.errors.PcapngError.TheVariants.{Magic, Version, Length, Memory}
+use Rattle.pcapng_stream.specs.declared.errors.PcapngError.TheVariants as errors
 use Rattle.pcapng_stream.specs.declared.flaw.Flaw.{Flaw}
 use Rattle.pcapng_stream.specs.declared.flaw.Flaw.TheVariants.{Malformed, OtherVersion, TooLong}
 use Rattle.pcapng_stream.specs.Blocks.{Section, Block, before, section_type, head_of, bytes_of, section_behind, packets_in}
@@ -72,6 +73,10 @@ pub record Reads (s : List ℕ) (c : Blocks) : Type 0 where
   pub no_more : HasBlock (present c).order c.rest → ⊥
   pub sound : begins_wrong (present c).order c.rest ≡ false
 
+-- nothing yet
+abbrev pub nothing : Blocks
+nothing = record { blocks = []; rest = [] }
+
 -- ---- refusals
 -- the block that begins these bytes cannot be one
 pub record BeginsWrong (s : Section) (bytes : List ℕ) (flaw : Flaw) : Type 0 where
@@ -96,10 +101,9 @@ pub record IsFlawedAt (s : List ℕ) (flaw : Flaw) (place : ℕ) : Type 0 where
   pub at : place + length capture.rest ≡ length s
 
 -- why a stream is refused
-abbrev pub IsFault : List ℕ → CaptureError → Type 0
+abbrev pub IsFault : List ℕ → PcapngError → Type 0
 IsFault s Magic = BeginsSection s → ⊥
 IsFault s Version = (place : ℕ) × IsFlawedAt s OtherVersion place
-IsFault s (errors.Header place) = ⊥
 IsFault s (Length place) = IsFlawedAt s TooLong place
 IsFault s (errors.Block place) = IsFlawedAt s Malformed place
 IsFault s Memory = ⊤

@@ -1,23 +1,22 @@
 // Captures in blocks that come in pieces.
-ghost use Rattle.std.specs.Prelude.{◌≡◌, ◌≢◌, ◌≤◌, ◌<◌, ◌+◌, ◌^◌, ◌++◌, ℕ, List, [], length, Some, None, IfOk, IfErr, OnErr};
-ghost use Rattle.pcap_stream.specs.Feeding.{Adds, IsSame};
-ghost use Rattle.pcapng_stream.specs.declared.errors.CaptureError.TheVariants.{Memory};
-ghost use Rattle.pcapng_stream.specs.Blocks.{before};
-ghost use Rattle.pcapng_stream.specs.Passed.{none_passed, passed_count};
+ghost use Rattle.std.specs.Prelude.{◌≡◌, ◌≤◌, ◌<◌, ◌+◌, ◌^◌, ◌++◌, ℕ, List, [], length, Some, None, IfOk, IfErr};
+ghost use Rattle.packets.specs.Packets.{Adds};
+ghost use Rattle.pcapng_stream.specs.declared.errors.PcapngError.TheVariants.{Memory};
+ghost use Rattle.packets.specs.Passed.{passed_count};
 ghost use Rattle.pcapng_stream.specs.Pcapng.{Blocks, IsFault};
-ghost use Rattle.pcapng_stream.specs.Feeding.{StandsForBlocks, IsBlockTail, GrowsBlocks, waiting_blocks};
+ghost use Rattle.pcapng_stream.specs.Feeding.{StandsForBlocks, IsBlockTail, GrowsBlocks, new_tail, waiting_blocks};
 ghost use Rattle.pcapng_stream.specs.Inside.{FindsNext, IsHereFault, EndsBlocks, IsBlocksFault, tail_of, section_of};
 
-use crate::CaptureError;
+use crate::PcapngError;
 use crate::block::find_block;
 use crate::bytes::front;
 use crate::content::take_block;
 use crate::flaw::Flaw;
 use crate::head::begins_section;
-use crate::passed::Passed;
+use crate::passed::count_block;
 use crate::section::OpenSection;
 use crate::skipped::{Skipped, held_of, held_with, skipped_in};
-use pcap_stream::FirstPackets;
+use packets::{FirstPackets, Passed};
 use std::alloc::Global;
 use std::marker::Model;
 
@@ -30,7 +29,7 @@ fn read_block(
     section: &mut OpenSection,
     passed: &mut Passed,
     packets: &mut FirstPackets,
-) -> Result<Option<usize>, CaptureError>
+) -> Result<Option<usize>, PcapngError>
     requires { passed_count passed.now ≤ 2 ^ 30 }
     ensures ok { IfOk result (λ found. Adds (λ added. FindsNext (section_of section.old) bytes.now found (section_of section.new) passed.old passed.new [] added) packets.old packets.new) }
     ensures fault { IfErr result (λ e. IsHereFault (section_of section.old) bytes.now place e) }
@@ -41,7 +40,7 @@ fn read_block(
         Err(flaw) => return Err(flaw.at(place)),
     };
     take_block(alloc, place, &block, section, packets)?;
-    *passed = passed.with(block.order.word_at(block.bytes, 0));
+    *passed = count_block(*passed, block.order.word_at(block.bytes, 0));
     Ok(Some(block.bytes.len()))
 }
 
@@ -53,7 +52,7 @@ fn read_blocks<'a>(
     section: &mut OpenSection,
     passed: &mut Passed,
     packets: &mut FirstPackets,
-) -> Result<&'a [u8], CaptureError>
+) -> Result<&'a [u8], PcapngError>
     requires early { place + length bytes.now ≤ 2 ^ 30 }
     requires few { passed_count passed.now ≤ place }
     ensures ok { IfOk result (λ left. Adds (λ added. EndsBlocks (section_of section.old) bytes.now left.now (section_of section.new) passed.old passed.new [] added) packets.old packets.new) }
@@ -76,7 +75,8 @@ fn read_blocks<'a>(
 /// A capture in blocks so far: what its section says, how many packets were passed over, and the bytes behind its last
 /// whole block.
 ///
-/// It keeps no byte of a block that is whole, and of one that is skipped the last four alone. A piece may end anywhere.
+/// It keeps no byte of a block that is whole, and of one that is skipped those of its last four alone. A piece may end
+/// anywhere.
 #[derive(Drop)]
 pub struct BlockStream {
     alloc: Global,
@@ -103,8 +103,8 @@ impl Model for BlockStream {
 
 impl BlockStream {
     /// A capture of which nothing came yet. It takes no memory.
-    pub(crate) fn new(alloc: Global) -> BlockStream
-        ensures { result ≡ tail_of before none_passed 0 None [] }
+    pub fn new(alloc: Global) -> BlockStream
+        ensures { result ≡ new_tail }
     {
         let section = OpenSection {
             order: None,
@@ -121,7 +121,7 @@ impl BlockStream {
     }
 
     /// How many bytes came behind the last whole block.
-    pub(crate) fn pending(&self) -> u32
+    pub fn pending(&self) -> u32
         ensures { result ≡ waiting_blocks self.now }
     {
         match self.skipped {
@@ -131,33 +131,18 @@ impl BlockStream {
     }
 
     /// How many packets were passed over.
-    pub(crate) fn passed(&self) -> Passed
+    pub fn passed(&self) -> Passed
         ensures { result ≡ self.now.passed }
     {
         self.passed
     }
 
     /// Reads the next piece of a capture of at most 2^30 bytes: answers what then stands of it, and adds the packets of the
-    /// blocks that end within the piece. On an error `out` is as before.
-    pub(crate) fn feed_first(
-        &self,
-        piece: &[u8],
-        out: &mut FirstPackets,
-    ) -> Result<BlockStream, CaptureError>
-        requires { self.now.offset + waiting_blocks self.now + length piece.now ≤ 2 ^ 30 }
-        ensures ok { IfOk result (λ next. Adds (λ completed. (s : List ℕ) (c : Blocks) → StandsForBlocks self.now s c → GrowsBlocks next (s ++ piece.now) c [] completed) out.old out.new) }
-        ensures fault { IfErr result (λ e. e ≢ Memory → (s : List ℕ) (c : Blocks) → StandsForBlocks self.now s c → IsFault (s ++ piece.now) e) }
-        ensures size { IfOk result (λ next. next.offset + waiting_blocks next ≡ self.now.offset + waiting_blocks self.now + length piece.now) }
-        ensures unchanged { OnErr result (IsSame out.old out.new) }
-    {
-        let mut packets = out.behind(self.alloc);
-        let next = self.read(piece, &mut packets)?;
-        out.append(packets)?;
-        Ok(next)
-    }
-
-    // The next capture and its packets.
-    fn read(&self, piece: &[u8], packets: &mut FirstPackets) -> Result<BlockStream, CaptureError>
+    /// blocks that end within the piece.
+    ///
+    /// An error comes exactly where the capture with this piece is refused, with the first cause, or where memory runs
+    /// out. Then some of the packets may have been added, and another piece may be read in place of this one.
+    pub fn read(&self, piece: &[u8], packets: &mut FirstPackets) -> Result<BlockStream, PcapngError>
         requires { self.now.offset + waiting_blocks self.now + length piece.now ≤ 2 ^ 30 }
         ensures ok { IfOk result (λ next. Adds (λ completed. (s : List ℕ) (c : Blocks) → StandsForBlocks self.now s c → GrowsBlocks next (s ++ piece.now) c [] completed) packets.old packets.new) }
         ensures fault { IfErr result (λ e. (s : List ℕ) (c : Blocks) → StandsForBlocks self.now s c → IsFault (s ++ piece.now) e) }
@@ -175,7 +160,7 @@ impl BlockStream {
         block: Skipped,
         piece: &[u8],
         packets: &mut FirstPackets,
-    ) -> Result<BlockStream, CaptureError>
+    ) -> Result<BlockStream, PcapngError>
         requires early { self.now.offset + block.came + length piece.now ≤ 2 ^ 30 }
         requires skips { self.now.skipped ≡ Some block }
         requires cut { block.came < block.size }
@@ -192,7 +177,7 @@ impl BlockStream {
     }
 
     // The next capture and its packets, from the rest and the piece in one slice.
-    fn join(&self, piece: &[u8], packets: &mut FirstPackets) -> Result<BlockStream, CaptureError>
+    fn join(&self, piece: &[u8], packets: &mut FirstPackets) -> Result<BlockStream, PcapngError>
         requires early { self.now.offset + length self.now.held + length piece.now ≤ 2 ^ 30 }
         requires none { self.now.skipped ≡ None }
         ensures ok { IfOk result (λ next. Adds (λ completed. (s : List ℕ) (c : Blocks) → StandsForBlocks self.now s c → GrowsBlocks next (s ++ piece.now) c [] completed) packets.old packets.new) }
@@ -209,7 +194,7 @@ impl BlockStream {
     }
 
     // The next capture, where this piece does not end the block that is skipped.
-    fn skip(&self, block: Skipped, piece: &[u8]) -> Result<BlockStream, CaptureError>
+    fn skip(&self, block: Skipped, piece: &[u8]) -> Result<BlockStream, PcapngError>
         requires early { self.now.offset + block.came + length piece.now ≤ 2 ^ 30 }
         requires skips { self.now.skipped ≡ Some block }
         requires cut { block.came + length piece.now < block.size }
@@ -230,7 +215,7 @@ impl BlockStream {
     }
 
     // The capture behind the block that is skipped, which this piece ends.
-    fn end_skipped(&self, block: Skipped, piece: &[u8]) -> Result<BlockStream, CaptureError>
+    fn end_skipped(&self, block: Skipped, piece: &[u8]) -> Result<BlockStream, PcapngError>
         requires early { self.now.offset + block.came + length piece.now ≤ 2 ^ 30 }
         requires skips { self.now.skipped ≡ Some block }
         requires whole { block.came + length piece.now ≡ block.size }
@@ -247,7 +232,7 @@ impl BlockStream {
         Ok(BlockStream {
             alloc: self.alloc,
             section,
-            passed: self.passed.with(block.block_type),
+            passed: count_block(self.passed, block.block_type),
             offset: self.offset + block.size,
             skipped: None,
             held: Vec::new(self.alloc),
@@ -255,7 +240,7 @@ impl BlockStream {
     }
 
     // The next capture and its packets, where the rest and the piece are these bytes.
-    fn go_on(&self, bytes: &[u8], packets: &mut FirstPackets) -> Result<BlockStream, CaptureError>
+    fn go_on(&self, bytes: &[u8], packets: &mut FirstPackets) -> Result<BlockStream, PcapngError>
         requires early { self.now.offset + length bytes.now ≤ 2 ^ 30 }
         requires none { self.now.skipped ≡ None }
         ensures ok { IfOk result (λ next. Adds (λ completed. (s piece : List ℕ) (c : Blocks) → bytes.now ≡ self.now.held ++ piece → StandsForBlocks self.now s c
@@ -264,7 +249,7 @@ impl BlockStream {
         ensures size { IfOk result (λ next. next.offset + waiting_blocks next ≡ self.now.offset + length bytes.now) }
     {
         if self.section.order.is_none() && !begins_section(bytes) {
-            return Err(CaptureError::Magic);
+            return Err(PcapngError::Magic);
         }
         let mut section = self.section.copied(self.alloc)?;
         let mut passed = self.passed;

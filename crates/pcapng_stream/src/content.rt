@@ -1,12 +1,12 @@
 // What a block gives: a section, an interface, a packet or nothing.
 ghost use Rattle.std.specs.Prelude.{◌≡◌, ◌≤◌, [], ◌∷◌, length, None, IfErr, OnOk};
-ghost use Rattle.pcap_stream.specs.Feeding.{Adds};
+ghost use Rattle.packets.specs.Packets.{Adds};
 ghost use Rattle.pcapng_stream.specs.declared.block_kind.BlockKind.TheVariants.{SectionHeader, InterfaceDescription};
 ghost use Rattle.pcapng_stream.specs.Blocks.{interface_of, kind_of, packet_of, section_by};
 ghost use Rattle.pcapng_stream.specs.Flaws.{first_flaw, packet_checks, kind_checks, least_length, length_checks, flaw_in};
 ghost use Rattle.pcapng_stream.specs.Inside.{IsTaken, IsFaultOf, block_of, section_of};
 
-use crate::CaptureError;
+use crate::PcapngError;
 use crate::block::WholeBlock;
 use crate::block_kind::BlockKind;
 use crate::bytes::{behind, front};
@@ -14,7 +14,7 @@ use crate::flaw::Flaw;
 use crate::options::read_options;
 use crate::packet::read_packet;
 use crate::section::{Interface, OpenSection};
-use pcap_stream::FirstPackets;
+use packets::FirstPackets;
 use std::alloc::Global;
 
 // The major version of a section header, and where it stands.
@@ -37,7 +37,7 @@ const MICROSECONDS: u8 = 6;
 const MOST_INTERFACES: usize = 65536;
 
 // Whether both lengths of a block agree, and are no less than its kind needs.
-fn check_lengths(place: u32, block: &WholeBlock<'_>) -> Result<(), CaptureError>
+fn check_lengths(place: u32, block: &WholeBlock<'_>) -> Result<(), PcapngError>
     requires { 12 ≤ length block.now.bytes.now }
     ensures ok { OnOk result (first_flaw (length_checks (block_of block.now)) ≡ None) }
     ensures long { OnOk result (least_length (kind_of (block_of block.now)) ≤ length block.now.bytes.now) }
@@ -57,7 +57,7 @@ fn begin_section(
     place: u32,
     block: &WholeBlock<'_>,
     section: &mut OpenSection,
-) -> Result<(), CaptureError>
+) -> Result<(), PcapngError>
     requires { 28 ≤ length block.now.bytes.now }
     ensures ok { OnOk result (first_flaw (kind_checks SectionHeader (section_of section.old) (block_of block.now)) ≡ None) }
     ensures taken { OnOk result (section_of section.new ≡ section_by SectionHeader (section_of section.old) (block_of block.now)) }
@@ -95,7 +95,7 @@ fn add_interface(
     place: u32,
     block: &WholeBlock<'_>,
     section: &mut OpenSection,
-) -> Result<(), CaptureError>
+) -> Result<(), PcapngError>
     requires { 20 ≤ length block.now.bytes.now }
     ensures ok { OnOk result (first_flaw (kind_checks InterfaceDescription (section_of section.old) (block_of block.now)) ≡ None) }
     ensures taken { OnOk result (section_of section.new ≡ section_by InterfaceDescription (section_of section.old) (block_of block.now)) }
@@ -118,7 +118,7 @@ fn add_packet(
     block: &WholeBlock<'_>,
     section: &OpenSection,
     packets: &mut FirstPackets,
-) -> Result<(), CaptureError>
+) -> Result<(), PcapngError>
     requires { 32 ≤ length block.now.bytes.now }
     ensures ok { OnOk result (first_flaw (packet_checks (section_of section.now) (block_of block.now)) ≡ None) }
     ensures taken { OnOk result (Adds (λ added. added ≡ packet_of (section_of section.now) (block_of block.now) ∷ []) packets.old packets.new) }
@@ -139,7 +139,7 @@ pub(crate) fn take_block(
     block: &WholeBlock<'_>,
     section: &mut OpenSection,
     packets: &mut FirstPackets,
-) -> Result<(), CaptureError>
+) -> Result<(), PcapngError>
     requires { 12 ≤ length block.now.bytes.now }
     ensures ok { OnOk result (flaw_in (section_of section.old) (block_of block.now) ≡ None) }
     ensures taken { OnOk result (Adds (λ added. IsTaken (section_of section.old) (block_of block.now) (section_of section.new) [] added) packets.old packets.new) }

@@ -2,7 +2,7 @@
 ghost use Rattle.std.specs.Prelude.{◌≡◌};
 ghost use Rattle.pcapng_stream.specs.Inside.{fault_at};
 
-use crate::CaptureError;
+use crate::PcapngError;
 
 /// What is wrong with a block.
 #[derive(Clone, Copy, Debug, PartialEq, Eq)]
@@ -17,13 +17,13 @@ pub enum Flaw {
 
 impl Flaw {
     /// Why a capture is refused where the block at this place has this flaw.
-    pub(crate) fn at(self, place: u32) -> CaptureError
+    pub(crate) fn at(self, place: u32) -> PcapngError
         ensures { result ≡ fault_at place self }
     {
         match self {
-            Flaw::Malformed => CaptureError::Block(place),
-            Flaw::OtherVersion => CaptureError::Version,
-            Flaw::TooLong => CaptureError::Length(place),
+            Flaw::Malformed => PcapngError::Block(place),
+            Flaw::OtherVersion => PcapngError::Version,
+            Flaw::TooLong => PcapngError::Length(place),
         }
     }
 }

@@ -1,4 +1,9 @@
-//! Packet captures in the classic pcap format or in pcapng, by their first byte, read piece by piece however they are cut.
+//! Packet captures in pcapng, read piece by piece however they are cut.
+//!
+//! Of pcapng (draft-ietf-opsawg-pcapng, PCAP Next Generation Capture File Format) section headers of major version 1,
+//! interface descriptions with the options if_tsresol and if_tsoffset, and enhanced packets are read. All other options are
+//! ignored, and all other blocks are skipped: simple packets have no time. Those of them that Wireshark numbers as frames
+//! are counted.
 #![tactic(auto)]
 
 mod block;
@@ -9,19 +14,12 @@ mod content;
 mod errors;
 mod flaw;
 mod head;
-mod laws;
 mod options;
 mod order;
 mod packet;
 mod passed;
 mod section;
 mod skipped;
-mod stream;
 
-pub use errors::CaptureError;
-pub use laws::{
-    captures_are_one, faults_are_one, kept_streams_are_read, new_stands, nothing_reads,
-    old_packets_stay, refused_or_read, streams_are_judged, tails_are_one,
-};
-pub use passed::Passed;
-pub use stream::CaptureStream;
+pub use block_stream::BlockStream;
+pub use errors::PcapngError;

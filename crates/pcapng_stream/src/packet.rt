@@ -1,7 +1,7 @@
 // Packets in blocks.
 ghost use Rattle.std.specs.Prelude.{◌≡◌, ◌≤◌, ◌<◌, ◌*◌, ◌^◌, true, false, nat_lt, length, pos, ◌+ℤ◌, ◌*ℤ◌, unsigned_abs, Some, None, IfSome, IfNone, IfOk, IfErr, OnOk, SomeIff};
 ghost use Rattle.pcapng_stream.specs.Blocks.{interface_number, interface_for, time_of, nanos, stamp_on, is_stamp, packet_of};
-ghost use Rattle.pcap_stream.specs.Feeding.{seen_packet};
+ghost use Rattle.packets.specs.Packets.{seen_packet};
 ghost use Rattle.pcapng_stream.specs.Flaws.{first_flaw, packet_checks};
 ghost use Rattle.pcapng_stream.specs.Inside.{block_of, section_of, seen_captured};
 
@@ -10,7 +10,7 @@ use crate::bytes::{behind, front, padded};
 use crate::flaw::Flaw;
 use crate::section::{Interface, OpenSection};
 use atto::Nano;
-use pcap_stream::Packet;
+use packets::Packet;
 use std::alloc::{AllocError, Global};
 
 // The places of fields in a block with a packet.

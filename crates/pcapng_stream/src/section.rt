@@ -1,9 +1,9 @@
 // What a section says of the blocks that follow.
 ghost use Rattle.std.specs.Prelude.{◌≡◌, IfOk, IfErr};
-ghost use Rattle.pcapng_stream.specs.declared.errors.CaptureError.TheVariants.{Memory};
+ghost use Rattle.pcapng_stream.specs.declared.errors.PcapngError.TheVariants.{Memory};
 ghost use Rattle.pcapng_stream.specs.Inside.{section_of};
 
-use crate::CaptureError;
+use crate::PcapngError;
 use crate::order::Order;
 use std::alloc::Global;
 
@@ -29,7 +29,7 @@ pub struct OpenSection {
 
 impl OpenSection {
     /// The same section, in a list of its own.
-    pub(crate) fn copied(&self, alloc: Global) -> Result<OpenSection, CaptureError>
+    pub(crate) fn copied(&self, alloc: Global) -> Result<OpenSection, PcapngError>
         ensures ok { IfOk result (λ copy. section_of copy ≡ section_of self.now) }
         ensures fault { IfErr result (λ e. e ≡ Memory) }
     {

@@ -1,9 +1,9 @@
 // Blocks that are skipped, and come in pieces.
 ghost use Rattle.std.specs.Prelude.{◌≡◌, ◌≤◌, ◌<◌, ◌+◌, ◌-◌, ◌^◌, ◌++◌, length, drop, IfOk, IfErr};
-ghost use Rattle.pcapng_stream.specs.declared.errors.CaptureError.TheVariants.{Memory};
+ghost use Rattle.pcapng_stream.specs.declared.errors.PcapngError.TheVariants.{Memory};
 ghost use Rattle.pcapng_stream.specs.Skipping.{begun_with, held_of, skipped_in};
 
-use crate::CaptureError;
+use crate::PcapngError;
 use crate::block_kind::kind_at;
 use crate::bytes::{behind, front};
 use crate::order::Order;
@@ -79,7 +79,7 @@ pub(crate) fn held_with(
     block: Skipped,
     held: &[u8],
     piece: &[u8],
-) -> Result<Vec<u8>, CaptureError>
+) -> Result<Vec<u8>, PcapngError>
     requires { length held.now + length piece.now ≤ 2 ^ 31 }
     ensures ok { IfOk result (λ last. last.items ≡ held.now ++ drop (block.size - 4 - block.came) piece.now) }
     ensures fault { IfErr result (λ e. e ≡ Memory) }

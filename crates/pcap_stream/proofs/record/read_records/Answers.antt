@@ -1,5 +1,5 @@
 use Rattle.std.proofs.Common.{◌≡◌, [], length, rules}
-use Rattle.pcap_stream.proofs.Collecting.{adds_then}
+use Rattle.packets.proofs.Collecting.{adds_then}
 use Rattle.pcap_stream.proofs.Reading.{packets_pushed}
 use Rattle.pcap_stream.proofs.record.read_records.Goals as goal
 

@@ -1,5 +1,5 @@
 use Rattle.std.proofs.Common.{[], length}
-use Rattle.pcap_stream.specs.Feeding.{Adds}
+use Rattle.packets.specs.Packets.{Adds}
 use Rattle.pcap_stream.specs.Inside.{HasRead}
 use Rattle.pcap_stream.proofs.record.read_records.Given as goal
 

@@ -1,9 +1,10 @@
 use Rattle.std.proofs.Common.{◌≡◌, ◌+◌, ◌≤◌, ℕ, List, [], Err, length, arith, rules}
 use Rattle.std.proofs.lemmas.Result.{IfOk-weaker}
 use Rattle.pcap_stream.specs.Capture.{Record}
-use Rattle.pcap_stream.specs.Feeding.{Tail, Grows, Adds}
+use Rattle.packets.specs.Packets.{Adds}
+use Rattle.pcap_stream.specs.Feeding.{Tail, Grows}
 use Rattle.pcap_stream.specs.Inside.{IsAt, with_records}
-use Rattle.pcap_stream.proofs.Collecting.{adds_weaker}
+use Rattle.packets.proofs.Collecting.{adds_weaker}
 use Rattle.pcap_stream.proofs.Reading.{read_short}
 use Rattle.pcap_stream.proofs.Growing.{part_short, read_grows, records_fault}
 use Rattle.pcap_stream.proofs.stream.read_on.Goals as goal

@@ -1,5 +1,5 @@
 use Rattle.std.proofs.Common.{◌≡◌, ◌+◌, ◌-◌, [], Err, length, refl, arith, rules}
-use Rattle.pcap_stream.proofs.Collecting.{adds_then}
+use Rattle.packets.proofs.Collecting.{adds_then}
 use Rattle.pcapng_stream.specs.Inside.{section_of}
 use Rattle.pcapng_stream.proofs.Reading.{block_read, blocks_end, later_fault, next_behind, read_few}
 use Rattle.pcapng_stream.proofs.block_stream.read_blocks.Goals as goal

@@ -1,5 +1,5 @@
 use Rattle.std.proofs.Common.{[], length}
-use Rattle.pcap_stream.specs.Feeding.{Adds}
+use Rattle.packets.specs.Packets.{Adds}
 use Rattle.pcapng_stream.specs.Inside.{HasRead, section_of}
 use Rattle.pcapng_stream.proofs.block_stream.read_blocks.Given as goal
 

@@ -1,21 +1,17 @@
-use Rattle.std.proofs.Common.{ℕ, List, ◌≢◌, ◌++◌, subst}
-use Rattle.pcapng_stream.specs.declared.errors.CaptureError.TheVariants as faults
-use Rattle.pcapng_stream.specs.Capture as format
-use Rattle.pcapng_stream.specs.Feeding as feeding
-use Rattle.captures.specs.Capture.{Capture}
-use Rattle.captures.specs.Feeding.{Tail, StandsFor, Grows, seen_packets}
-use Rattle.captures.proofs.Standing.{grown_by, refused_so}
+use Rattle.std.proofs.Common.{◌≡◌, ◌++◌, Err, arith, rules}
+use Rattle.packets.specs.Packets.{seen_packets}
+use Rattle.packets.proofs.Collecting.{every_behind, grows_behind}
+use Rattle.captures.specs.Feeding.{StandsFor, packets_of}
 use Rattle.captures.proofs.stream.CaptureStream.feed.Goals as goal
 
 pub returns-clause-ok : goal.returns-clause-ok
 returns-clause-ok c =
-    let old = seen_packets c.args.out.now.items in
-    let new = seen_packets c.feed.new.out.items in
-    subst (λ (t : Tail). (s : List ℕ) (capture : Capture) → StandsFor t s capture → Grows c.in_ok-next.next (s ++ c.args.piece.now) capture old new) c.self.view_is
-    (grown_by c.self.inside.stream c.args.piece.now c.in_ok-next.next old new c.in_ok-next.ensures.ok)
+    let adds = c.in_ok-next.ensures.ok in
+    let items : c.append.new.self.items ≡ c.args.out.now.items ++ c.feed_first.new.out.kept.items = search rules in
+    let behind = every_behind adds c.args.out.now.items c.append.new.self.items c.new-first.ensures.none (omega (arith, c.new-first.ensures.most)) items in
+    λ s capture stands. grows_behind StandsFor packets_of _ _ capture adds.added (seen_packets c.args.out.now.items) (seen_packets c.append.new.self.items) (adds.are s capture stands) behind
 
 pub returns-in_err-next-clause-fault : goal.returns-in_err-next-clause-fault
 returns-in_err-next-clause-fault c =
-    refused_so c.args.self.now c.args.piece.now c.from_residual.result c.in_err-next.field-0.0 (c.from_residual.ensures.1)
-    (subst (λ (t : Tail). c.in_err-next.field-0.0 ≢ faults.Memory → (s : List ℕ) (capture : format.Capture) → feeding.StandsFor t s capture → format.IsFault (s ++ c.args.piece.now) c.in_err-next.field-0.0) c.self.view_is
-    c.in_err-next.ensures.fault)
+    let from : c.from_residual.result ≡ Err c.in_err-next.field-0.0 = search rules in
+    rw from c.in_err-next.ensures.fault

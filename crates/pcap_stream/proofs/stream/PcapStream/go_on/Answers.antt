@@ -1,9 +1,10 @@
 use Rattle.std.proofs.Common.{◌≡◌, ◌∙◌, ◌+◌, [], Some, None, ap, sym}
 use Rattle.std.proofs.lemmas.List.{take_rest}
 use Rattle.std.proofs.lemmas.Result.{IfOk-weaker, IfErr-weaker}
-use Rattle.pcap_stream.specs.Feeding.{Tail, Adds}
+use Rattle.packets.specs.Packets.{Adds}
+use Rattle.pcap_stream.specs.Feeding.{Tail}
 use Rattle.pcap_stream.specs.Inside.{FindsHeader}
-use Rattle.pcap_stream.proofs.Collecting.{adds_none, adds_weaker}
+use Rattle.packets.proofs.Collecting.{adds_none, adds_weaker}
 use Rattle.pcap_stream.proofs.Growing.{GoesOn, IsRefused, begun_grows, found_fault, found_ok, known_fault, known_ok}
 use Rattle.pcap_stream.proofs.stream.PcapStream.go_on.Goals as goal
 

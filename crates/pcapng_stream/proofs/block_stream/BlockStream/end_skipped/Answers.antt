@@ -1,8 +1,9 @@
 use Rattle.std.proofs.Common.{◌≡◌, ◌∙◌, ◌+◌, ◌-◌, ◌==◌, ◌++◌, ℕ, true, false, List, [], None, drop, refl, sym, ap, rules}
 use Rattle.std.proofs.lemmas.Bool.{eq-eqb}
-use Rattle.pcapng_stream.specs.declared.errors.CaptureError.TheVariants as errors
+use Rattle.pcapng_stream.specs.declared.errors.PcapngError.TheVariants as errors
 use Rattle.pcapng_stream.specs.Numbers.{word_at}
-use Rattle.pcapng_stream.specs.Passed.{counted, passed_with}
+use Rattle.packets.specs.Passed.{passed_with}
+use Rattle.pcapng_stream.specs.Passed.{counted}
 use Rattle.pcapng_stream.specs.Feeding.{BlockTail}
 use Rattle.pcapng_stream.specs.Inside.{section_of, tail_of}
 use Rattle.pcapng_stream.proofs.Skipping.{end_grows, wrong_last}
@@ -37,8 +38,8 @@ returns-clause-ok c s d stands =
     ap (λ (l : List ℕ). word_at b.order 0 l == b.size) (sym held) ∙ ap (λ (n : ℕ). n == b.size) (sym word) ∙ same in
     let copy : section_of c.in_ok-section.section ≡ section_of c.self.inside.section = search rules in
     let section : section_of c.in_ok-section.section ≡ t.section = copy ∙ ap (λ (u : BlockTail). u.section) c.self.view_is in
-    let count : c.with.result ≡ passed_with c.self.inside.passed (counted b.block_type) = search rules in
-    let passed : c.with.result ≡ passed_with t.passed (counted b.block_type) = count ∙ ap (λ (u : BlockTail). passed_with u.passed (counted b.block_type)) c.self.view_is in
+    let count : c.count_block.result ≡ passed_with c.self.inside.passed (counted b.block_type) = search rules in
+    let passed : c.count_block.result ≡ passed_with t.passed (counted b.block_type) = count ∙ ap (λ (u : BlockTail). passed_with u.passed (counted b.block_type)) c.self.view_is in
     let offset : c.self.inside.offset + b.size ≡ t.offset + b.size = ap (λ (u : BlockTail). u.offset + b.size) c.self.view_is in
     let none : c.new.result.items ≡ [] = search rules in
     end_grows t s d b c.requires.skips stands c.args.piece.now c.requires.whole _ agrees

@@ -1,7 +1,7 @@
 use Rattle.std.proofs.Common.{◌≡◌, ◌∙◌, ◌+◌, ◌-◌, ◌^◌, ◌≤◌, Bool, true, false, [], None, Err, is_none, length, sym, ap, arith, rules}
-use Rattle.pcap_stream.proofs.Collecting.{adds_weaker}
+use Rattle.packets.proofs.Collecting.{adds_weaker}
 use Rattle.pcapng_stream.specs.Blocks.{Section}
-use Rattle.pcapng_stream.specs.Passed.{passed_count}
+use Rattle.packets.specs.Passed.{passed_count}
 use Rattle.pcapng_stream.specs.Skipping.{held_of, skipped_in}
 use Rattle.pcapng_stream.specs.Pcapng.{BeginsSection}
 use Rattle.pcapng_stream.specs.Feeding.{BlockTail}

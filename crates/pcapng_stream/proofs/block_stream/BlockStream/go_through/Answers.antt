@@ -1,9 +1,9 @@
 use Rattle.std.proofs.Common.{◌≡◌, ◌∙◌, ◌-◌, ◌++◌, ℕ, List, [], Err, length, take, drop, sym, ap, subst, append_assoc, rules}
 use Rattle.std.proofs.lemmas.List.{take-append-drop, take_rest}
 use Rattle.std.proofs.lemmas.Result.{IfErr-weaker, IfOk-weaker}
-use Rattle.pcap_stream.specs.Feeding.{Adds}
-use Rattle.pcap_stream.proofs.Collecting.{adds_weaker}
-use Rattle.pcapng_stream.specs.declared.errors.CaptureError.{CaptureError}
+use Rattle.packets.specs.Packets.{Adds}
+use Rattle.packets.proofs.Collecting.{adds_weaker}
+use Rattle.pcapng_stream.specs.declared.errors.PcapngError.{PcapngError}
 use Rattle.pcapng_stream.specs.Pcapng.{Blocks, IsFault}
 use Rattle.pcapng_stream.specs.Feeding.{BlockTail, GrowsBlocks, StandsForBlocks}
 use Rattle.pcapng_stream.proofs.Skipping.{grows_then}
@@ -49,7 +49,7 @@ returns-clause-fault c =
     let all : front ++ rest ≡ c.args.piece.now = joined c.args.piece.now front n c.front.ensures in
     let whole : rest ≡ c.in_ok-behind.behind.held ++ rest = sym (ap (λ (l : List ℕ). l ++ rest) c.in_ok-behind.ensures.nothing.1) in
     IfErr-weaker c.go_on.result _
-    (λ (e : CaptureError). (s : List ℕ) (d : Blocks) → StandsForBlocks t s d → IsFault (s ++ c.args.piece.now) e)
+    (λ (e : PcapngError). (s : List ℕ) (d : Blocks) → StandsForBlocks t s d → IsFault (s ++ c.args.piece.now) e)
     (λ e on s d stands.
     let first = c.in_ok-behind.ensures.ok s d stands in
     subst (λ (l : List ℕ). IsFault l e) (append_assoc s front rest ∙ ap (λ (l : List ℕ). s ++ l) all) (on (s ++ front) rest first.then whole first.stands))

@@ -1,8 +1,8 @@
 use Rattle.std.proofs.Common.{◌≡◌, ◌∙◌, ◌++◌, ℕ, List, [], length, vec_len, sym, ap, arith, rules}
 use Rattle.std.proofs.lemmas.List.{nil_from_length}
 use Rattle.std.proofs.lemmas.Result.{IfOk-weaker}
-use Rattle.pcap_stream.specs.Feeding.{Adds}
-use Rattle.pcap_stream.proofs.Collecting.{adds_weaker}
+use Rattle.packets.specs.Packets.{Adds}
+use Rattle.packets.proofs.Collecting.{adds_weaker}
 use Rattle.pcapng_stream.specs.Pcapng.{Blocks}
 use Rattle.pcapng_stream.specs.Feeding.{BlockTail, GrowsBlocks, StandsForBlocks}
 use Rattle.pcapng_stream.proofs.block_stream.BlockStream.join.Goals as goal

@@ -1,6 +1,6 @@
 use Rattle.std.proofs.Common.{◌≡◌, ◌∙◌, ◌-◌, ◌≤◌, ◌++◌, Some, drop, length, ap, arith, rules}
 use Rattle.pcapng_stream.specs.declared.skipped.Skipped.{Skipped}
-use Rattle.pcapng_stream.specs.Passed.{passed_count}
+use Rattle.packets.specs.Passed.{passed_count}
 use Rattle.pcapng_stream.specs.Skipping.{IsHeldBy, begun_with}
 use Rattle.pcapng_stream.specs.Feeding.{BlockTail}
 use Rattle.pcapng_stream.specs.Inside.{section_of, tail_of}

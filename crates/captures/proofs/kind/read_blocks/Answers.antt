@@ -1,0 +1,16 @@
+use Rattle.std.proofs.Common.{◌≡◌, [], Err, rules}
+use Rattle.packets.proofs.Collecting.{adds_weaker}
+use Rattle.captures.specs.Formats.{pcapng_fault}
+use Rattle.captures.proofs.Formats.{blocks_on, blocks_refused}
+use Rattle.captures.proofs.kind.read_blocks.Goals as goal
+
+pub returns-in_err-read-clause-fault : goal.returns-in_err-read-clause-fault
+returns-in_err-read-clause-fault c =
+    let from : c.from_residual.result ≡ Err (pcapng_fault c.in_err-read.field-0.0) = search rules in
+    rw from (blocks_refused c.args.stream.now c.args.piece.now c.in_err-read.field-0.0 c.in_err-read.ensures.fault)
+
+pub returns-clause-ok : goal.returns-clause-ok
+returns-clause-ok c =
+    adds_weaker (λ added all.
+    blocks_on c.args.stream.now c.in_ok-read.field-0 c.args.piece.now [] added all c.in_ok-read.ensures.size)
+    c.in_ok-read.ensures.ok
