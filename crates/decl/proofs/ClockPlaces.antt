@@ -9,12 +9,12 @@ use Rattle.std.proofs.lemmas.Option.{none-some, slice_get_past}
 use Rattle.std.proofs.lemmas.Iterator.Adapters.{position_from-zero}
 use Rattle.std.proofs.lemmas.Slice.Eq.{bytes_eq-Decides}
 use Rattle.problem_model.specs.declared.items.Clock.{Clock}
-use Rattle.problem_model.specs.Problem.{most_clocks}
+use Rattle.problem_model.specs.Limits.{most_clocks}
 use Rattle.toml.specs.Data.{Items, no_items, item}
 use Rattle.decl.specs.Clocks.{first_clock_place, is_taken, have_no_room, gaps_by, table_gaps}
 use Rattle.decl.specs.Hosts.{owned_by}
 use Rattle.decl.specs.Inside.{IsTurnOf}
-use Rattle.decl.specs.Keys.{entry_of}
+use Rattle.decl.specs.Keys.{entry_table}
 use Rattle.decl.specs.Places.{clock_place}
 use Rattle.decl.specs.Values.{number_at}
 use Rattle.decl.specs.declared.items.Owner.{Owner}
@@ -167,7 +167,7 @@ turn_next owners new host same ds e added turn =
   where
     go : (items : Items) → IsTurnOf (owners ++ owned_by host (gaps_by items)) (host + 1)
     go no_items = turn_moves owners host 0 [] turn
-    go (item d items) = turn_moves owners host (number_at (codes "gap") (entry_of d)) (table_gaps items) turn
+    go (item d items) = turn_moves owners host (number_at (codes "gap") (entry_table d)) (table_gaps items) turn
 
 -- ---- a book with a clock more
 

@@ -5,10 +5,10 @@ use Rattle.toml.specs.View.{view, items_view}
 use Rattle.toml.specs.declared.value.Value.{Value}
 use Rattle.atto.specs.Span.{RateParts}
 use Rattle.problem_model.specs.declared.items.Clock.{Clock}
-use Rattle.decl.specs.Causes.{at, when, first, error_at, IsFirstOf}
-use Rattle.decl.specs.Clocks.{own_or_host, own_number, has_wild_rate, has_wild_number, has_wild_gap, rate_of, clock_of, clock_causes, name_in, is_taken, have_no_room, table_clocks, table_gaps, tables_causes, clocks_causes, clocks_by, gaps_by}
+use Rattle.decl.specs.Causes.{at, when, first, fault_of_entry, IsFirstOf}
+use Rattle.decl.specs.Clocks.{own_or_host, own_number, has_wild_rate, has_wild_number, has_wild_gap, rate_of, clock_by_name, clock_causes, name_in, is_taken, have_no_room, table_clocks, table_gaps, tables_causes, clocks_causes, clocks_by, gaps_by}
 use Rattle.decl.specs.Hosts.{owned_by}
-use Rattle.decl.specs.Keys.{table_causes, entry_causes, entry_of}
+use Rattle.decl.specs.Keys.{table_causes, entry_causes, entry_table}
 use Rattle.decl.specs.Limits.{nano_limit}
 use Rattle.decl.specs.Names.{is_clock_name}
 use Rattle.decl.specs.Values.{is_up_to, whole_or_zero, number_at}
@@ -31,7 +31,7 @@ same_clock name rate rate' early early' late late' p q r = rw (p, q, r) refl
 pub clock_made : (name : List ℕ) (own host : Members) (rate : RateParts) (early late : ℕ) → Some rate ≡ (if has_wild_rate own host then None else Some (rate_of own host))
     → Some early ≡ (if is_up_to (nano_limit - 1) (own_or_host (codes "early") own host) then Some (own_number (codes "early") own host) else None)
     → Some late ≡ (if is_up_to (nano_limit - 1) (own_or_host (codes "late") own host) then Some (own_number (codes "late") own host) else None)
-    → Some (let c : Clock = record { name = name; rate = rate; early = early; late = late } in c) ≡ (if has_wild_number own host then None else Some (clock_of name own host))
+    → Some (let c : Clock = record { name = name; rate = rate; early = early; late = late } in c) ≡ (if has_wild_number own host then None else Some (clock_by_name name own host))
 clock_made name own host rate early late p q r =
     let (tame, rate_is) = some_unless (has_wild_rate own host) rate (rate_of own host) p in
     let (first, early_is) = some_if _ early (own_number (codes "early") own host) q in
@@ -51,7 +51,7 @@ first_of false b e = cc
 
 -- a cause of an entry is its fault
 pub entry_fault : (index : ℕ) (causes : Members → List Cause) (o : Option Members) (ms : Members) (cause : Cause) (e : DeclError) → Some ms ≡ o → first (causes ms) ≡ Some cause
-    → e ≡ error_at Hosts index cause → IsFirstOf (at Hosts index (entry_causes causes o)) e
+    → e ≡ fault_of_entry Hosts index cause → IsFirstOf (at Hosts index (entry_causes causes o)) e
 entry_fault index causes o ms cause e is h placed = subst (λ (t : Option Members). IsFirstOf (at Hosts index (entry_causes causes t)) e) is (fault_at Hosts index (causes ms) cause e h placed)
 
 -- ---- a clock's table
@@ -63,10 +63,10 @@ module _ (host own : Members) (before : List Clock) (name : List ℕ) (table : t
   right_name = (some_unless (is_misnamed before own) name (name_in own) named).0
 
   -- a number is out of its range
-  pub table_wild : None ≡ (if has_wild_number own host then None else Some (clock_of name own host)) → first (clock_causes host before own) ≡ Some Number
+  pub table_wild : None ≡ (if has_wild_number own host then None else Some (clock_by_name name own host)) → first (clock_causes host before own) ≡ Some Number
   table_wild e =
       number_wrong _ _ _ table right_name
-      (first_of (has_wild_number own host || has_wild_gap own) _ (first_of (has_wild_number own host) _ (none_unless (has_wild_number own host) (clock_of name own host) e)))
+      (first_of (has_wild_number own host || has_wild_gap own) _ (first_of (has_wild_number own host) _ (none_unless (has_wild_number own host) (clock_by_name name own host) e)))
 
   -- the gap is
   pub table_apart : None ≡ (if is_up_to (nano_limit - 1) (whole_or_zero (codes "gap") own) then Some (number_at (codes "gap") own) else None) → first (clock_causes host before own) ≡ Some Number
@@ -79,15 +79,15 @@ module _ (host own : Members) (before : List Clock) (name : List ℕ) (table : t
   table_late full = number_wrong _ _ _ table right_name (second_of (has_wild_number own host || has_wild_gap own) _ full)
 
   -- nothing is wrong
-  pub table_sound : (clock : Clock) (place gap : ℕ) → Some clock ≡ (if has_wild_number own host then None else Some (clock_of name own host))
+  pub table_sound : (clock : Clock) (place gap : ℕ) → Some clock ≡ (if has_wild_number own host then None else Some (clock_by_name name own host))
       → Some gap ≡ (if is_up_to (nano_limit - 1) (whole_or_zero (codes "gap") own) then Some (number_at (codes "gap") own) else None) → have_no_room before ≡ false
-      → (clock_causes host before own ≡ []) × ((let a : Clock × Owner = (clock, (record { host = place; gap = gap })) in a) ≡ (clock_of (name_in own) own host, (record { host = place; gap = number_at (codes "gap") own })))
+      → (clock_causes host before own ≡ []) × ((let a : Clock × Owner = (clock, (record { host = place; gap = gap })) in a) ≡ (clock_by_name (name_in own) own host, (record { host = place; gap = number_at (codes "gap") own })))
   table_sound clock place gap numbers wide room =
-      let (tame, clock_is) = some_unless (has_wild_number own host) clock (clock_of name own host) numbers in
+      let (tame, clock_is) = some_unless (has_wild_number own host) clock (clock_by_name name own host) numbers in
       let (near, gap_is) = some_if (is_up_to (nano_limit - 1) (whole_or_zero (codes "gap") own)) gap (number_at (codes "gap") own) wide in
       let name_is = (some_unless (is_misnamed before own) name (name_in own) named).1 in (
         none_wrong _ _ _ table right_name (neither_of _ _ (neither_of (has_wild_number own host) _ tame (ap not near)) room),
-        both (clock_is ∙ ap (λ (n : List ℕ). clock_of n own host) name_is) gap_is,
+        both (clock_is ∙ ap (λ (n : List ℕ). clock_by_name n own host) name_is) gap_is,
       )
     where
       both : {right : Clock} {wide' : ℕ} → clock ≡ right → gap ≡ wide' → (let a : Clock × Owner = (clock, (record { host = place; gap = gap })) in a) ≡ (right, (record { host = place; gap = wide' }))
@@ -102,22 +102,22 @@ pub next_item : (values : List Value) (k : ℕ) (v : Value) → k < length value
 next_item values k v inside is = ap items_view (drop-cons values k v inside) ∙ ap (λ (w : Value). item (view w) (items_view (drop (suc k) values))) (sym is) ∙ ap (λ (n : ℕ). item (view v) (items_view (drop n values))) (let same : suc k ≡ k + 1 = omega arith in same)
 
 pub tables_on : (all : List Cause) (host : Members) (before now : List Clock) (d : Data) (ds rest : Items) → all ≡ tables_causes host before ds → ds ≡ item d rest
-    → entry_causes (clock_causes host before) (as_table d) ≡ [] → now ≡ before ++ clock_of (name_in (entry_of d)) (entry_of d) host ∷ [] → all ≡ tables_causes host now rest
+    → entry_causes (clock_causes host before) (as_table d) ≡ [] → now ≡ before ++ clock_by_name (name_in (entry_table d)) (entry_table d) host ∷ [] → all ≡ tables_causes host now rest
 tables_on all host before now d ds rest is next none added =
-    is ∙ ap (tables_causes host before) next ∙ ap (λ (front : List Cause). front ++ tables_causes host (before ++ clock_of (name_in (entry_of d)) (entry_of d) host ∷ []) rest) none
+    is ∙ ap (tables_causes host before) next ∙ ap (λ (front : List Cause). front ++ tables_causes host (before ++ clock_by_name (name_in (entry_table d)) (entry_table d) host ∷ []) rest) none
     ∙ ap (λ (clocks : List Clock). tables_causes host clocks rest) (sym added)
 
 pub clocks_on : (all : List Clock) (host : Members) (before now : List Clock) (d : Data) (ds rest : Items) → all ≡ before ++ table_clocks host ds → ds ≡ item d rest
-    → now ≡ before ++ clock_of (name_in (entry_of d)) (entry_of d) host ∷ [] → all ≡ now ++ table_clocks host rest
+    → now ≡ before ++ clock_by_name (name_in (entry_table d)) (entry_table d) host ∷ [] → all ≡ now ++ table_clocks host rest
 clocks_on all host before now d ds rest is next added =
-    is ∙ ap (λ (items : Items). before ++ table_clocks host items) next ∙ sym (append_assoc before (clock_of (name_in (entry_of d)) (entry_of d) host ∷ []) (table_clocks host rest))
+    is ∙ ap (λ (items : Items). before ++ table_clocks host items) next ∙ sym (append_assoc before (clock_by_name (name_in (entry_table d)) (entry_table d) host ∷ []) (table_clocks host rest))
     ∙ ap (λ (clocks : List Clock). clocks ++ table_clocks host rest) (sym added)
 
 pub owners_on : (all : List Owner) (place : ℕ) (before now : List Owner) (d : Data) (ds rest : Items) → all ≡ before ++ owned_by place (table_gaps ds) → ds ≡ item d rest
-    → now ≡ before ++ (record { host = place; gap = number_at (codes "gap") (entry_of d) }) ∷ [] → all ≡ now ++ owned_by place (table_gaps rest)
+    → now ≡ before ++ (record { host = place; gap = number_at (codes "gap") (entry_table d) }) ∷ [] → all ≡ now ++ owned_by place (table_gaps rest)
 owners_on all place before now d ds rest is next added =
     is ∙ ap (λ (items : Items). before ++ owned_by place (table_gaps items)) next
-    ∙ sym (append_assoc before ((record { host = place; gap = number_at (codes "gap") (entry_of d) }) ∷ []) (owned_by place (table_gaps rest)))
+    ∙ sym (append_assoc before ((record { host = place; gap = number_at (codes "gap") (entry_table d) }) ∷ []) (owned_by place (table_gaps rest)))
     ∙ ap (λ (owners : List Owner). owners ++ owned_by place (table_gaps rest)) (sym added)
 
 -- where a host has tables of clocks

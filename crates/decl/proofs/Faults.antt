@@ -1,7 +1,7 @@
 -- Lists of faults: where they are empty, and what comes first.
 use Rattle.std.proofs.Common.{◌≡◌, ◌≤◌, arith, ℕ, Bool, true, false, not, ◌||◌, if◌then◌else◌, List, [], ◌∷◌, ◌++◌, Some, None, refl, sym, ap, subst}
 use Rattle.std.proofs.lemmas.Option.{none-some, same_Some}
-use Rattle.decl.specs.Causes.{at, when, first, error_at, IsFirstOf}
+use Rattle.decl.specs.Causes.{at, when, first, fault_of_entry, IsFirstOf}
 use Rattle.decl.specs.Hosts.{is_one_too_many}
 use Rattle.decl.specs.Limits.{most_entries}
 use Rattle.decl.specs.declared.cause.Cause.{Cause}
@@ -72,11 +72,11 @@ pub fault_behind : (xs ys : List DeclError) (e : DeclError) → xs ≡ [] → Is
 fault_behind xs ys e none h = subst (λ (front : List DeclError). IsFirstOf (front ++ ys) e) (sym none) h
 
 -- an entry's first cause is its first fault
-first_at : (section : Section) (index : ℕ) (causes : List Cause) (cause : Cause) → first causes ≡ Some cause → first (at section index causes) ≡ Some (error_at section index cause)
+first_at : (section : Section) (index : ℕ) (causes : List Cause) (cause : Cause) → first causes ≡ Some cause → first (at section index causes) ≡ Some (fault_of_entry section index cause)
 first_at section index [] cause e = absurd (none-some cause e)
-first_at section index (c ∷ causes) cause e = ap (λ (d : Cause). Some (error_at section index d)) (same_Some c cause e)
+first_at section index (c ∷ causes) cause e = ap (λ (d : Cause). Some (fault_of_entry section index d)) (same_Some c cause e)
 
-pub fault_at : (section : Section) (index : ℕ) (causes : List Cause) (cause : Cause) (e : DeclError) → first causes ≡ Some cause → e ≡ error_at section index cause
+pub fault_at : (section : Section) (index : ℕ) (causes : List Cause) (cause : Cause) (e : DeclError) → first causes ≡ Some cause → e ≡ fault_of_entry section index cause
     → IsFirstOf (at section index causes) e
 fault_at section index causes cause e h is = subst (λ (d : DeclError). IsFirstOf (at section index causes) d) (sym is) (first_at section index causes cause h)
 

@@ -13,12 +13,12 @@ use Rattle.toml.specs.Data.{as_table, Items, Members, no_members}
 use Rattle.toml.specs.View.{view, members_view}
 use Rattle.toml.specs.declared.value.Value.{Value}
 use Rattle.problem_model.specs.declared.items.Clock.{Clock}
-use Rattle.decl.specs.Addresses.{Known, at_host, at_host6, known_with, numbers_of, numbers6_of}
-use Rattle.decl.specs.Causes.{at, when, first, error_at, IsFirstOf}
-use Rattle.decl.specs.Clocks.{has_wild_number, clock_of, clock_tables, gaps_by, clocks_causes}
+use Rattle.decl.specs.Addresses.{Known, at_host, known_with, numbers_of}
+use Rattle.decl.specs.Causes.{at, when, first, fault_of_entry, IsFirstOf}
+use Rattle.decl.specs.Clocks.{has_wild_number, clock_by_name, clock_tables, gaps_by, clocks_causes}
 use Rattle.decl.specs.Declaration.{Precedes}
 use Rattle.decl.specs.Hosts.{own_causes, host_causes, hosts_faults, addresses_in, addresses6_in, clocks_in, known_behind, hosts_of, clocks_of, owned_by, owners_from, addresses_from, addresses6_from, has_wrong_address, is_one_too_many}
-use Rattle.decl.specs.Keys.{table_causes, entry_causes, entry_of}
+use Rattle.decl.specs.Keys.{table_causes, entry_causes, entry_table}
 use Rattle.decl.specs.Limits.{most_entries}
 use Rattle.decl.specs.Names.{is_clock_name}
 use Rattle.decl.specs.declared.cause.Cause.{Cause}
@@ -29,7 +29,6 @@ use Rattle.decl.specs.declared.keys.Form.TheVariants as form
 use Rattle.decl.proofs.ClockTurns.{none_wrong, number_wrong}
 use Rattle.decl.proofs.Faults.{few_index, neither_of, second_of, no_parts, not_so, neither, some_if, some_unless, none_unless, first_front, fault_front, fault_at, none_at}
 use Rattle.decl.specs.declared.items.Address.{Address}
-use Rattle.decl.specs.declared.items.Address6.{Address6}
 use Rattle.decl.specs.declared.hosts.Books.{Books}
 use Rattle.decl.specs.Inside.{known_in}
 use Rattle.decl.specs.declared.items.Owner.{Owner}
@@ -46,20 +45,20 @@ module _ (index : ℕ) (name given : List ℕ) (ms : Members) (table : table_cau
   right_name = ap not (some_if (is_clock_name name) given name named).0
 
   -- nothing is wrong
-  pub own_sound : (clock : Clock) → index ≤ most_entries → Some clock ≡ (if has_wild_number no_members ms then None else Some (clock_of given no_members ms))
-      → (front_causes index name ms ≡ []) × (clock ≡ clock_of name no_members ms)
+  pub own_sound : (clock : Clock) → index ≤ most_entries → Some clock ≡ (if has_wild_number no_members ms then None else Some (clock_by_name given no_members ms))
+      → (front_causes index name ms ≡ []) × (clock ≡ clock_by_name name no_members ms)
   own_sound clock few numbers =
-      let (tame, clock_is) = some_unless (has_wild_number no_members ms) clock (clock_of given no_members ms) numbers in (
+      let (tame, clock_is) = some_unless (has_wild_number no_members ms) clock (clock_by_name given no_members ms) numbers in (
         none_wrong _ _ _ table right_name (neither_of _ _ (few_index index few) tame),
-        clock_is ∙ ap (λ (n : List ℕ). clock_of n no_members ms) (some_if (is_clock_name name) given name named).1,
+        clock_is ∙ ap (λ (n : List ℕ). clock_by_name n no_members ms) (some_if (is_clock_name name) given name named).1,
       )
 
   -- a number is out of its range
-  pub own_wild : None ≡ (if has_wild_number no_members ms then None else Some (clock_of given no_members ms)) → first (front_causes index name ms) ≡ Some Number
-  own_wild numbers = number_wrong _ _ _ table right_name (second_of (is_one_too_many index) _ (none_unless (has_wild_number no_members ms) (clock_of given no_members ms) numbers))
+  pub own_wild : None ≡ (if has_wild_number no_members ms then None else Some (clock_by_name given no_members ms)) → first (front_causes index name ms) ≡ Some Number
+  own_wild numbers = number_wrong _ _ _ table right_name (second_of (is_one_too_many index) _ (none_unless (has_wild_number no_members ms) (clock_by_name given no_members ms) numbers))
 
 -- a cause of the host itself comes before those of its clocks
-pub own_fault : (index : ℕ) (before : Known) (clocks : List Clock) (name : List ℕ) (ms : Members) (cause : Cause) (e : DeclError) → first (front_causes index name ms) ≡ Some cause → e ≡ error_at Hosts index cause
+pub own_fault : (index : ℕ) (before : Known) (clocks : List Clock) (name : List ℕ) (ms : Members) (cause : Cause) (e : DeclError) → first (front_causes index name ms) ≡ Some cause → e ≡ fault_of_entry Hosts index cause
     → IsFirstOf (at Hosts index (host_causes index before clocks name ms)) e
 own_fault index before clocks name ms cause e h placed =
     fault_at Hosts index (host_causes index before clocks name ms) cause e (first_front (own_causes index before name ms) _ cause (first_front (front_causes index name ms) _ cause h)) placed
@@ -93,32 +92,24 @@ pub numbers_at_host : (place : ℕ) (addresses : List ℕ) → numbers_of (at_ho
 numbers_at_host place [] = refl
 numbers_at_host place (a ∷ addresses) = ap (λ (more : List ℕ). a ∷ more) (numbers_at_host place addresses)
 
-pub numbers6_at_host : (place : ℕ) (addresses : List ℕ) → numbers6_of (at_host6 place addresses) ≡ addresses
-numbers6_at_host place [] = refl
-numbers6_at_host place (a ∷ addresses) = ap (λ (more : List ℕ). a ∷ more) (numbers6_at_host place addresses)
-
 pub numbers_more : (book more : List Address) → numbers_of (book ++ more) ≡ numbers_of book ++ numbers_of more
 numbers_more [] more = refl
 numbers_more (b ∷ book) more = ap (λ (ns : List ℕ). b.address ∷ ns) (numbers_more book more)
 
-pub numbers6_more : (book more : List Address6) → numbers6_of (book ++ more) ≡ numbers6_of book ++ numbers6_of more
-numbers6_more [] more = refl
-numbers6_more (b ∷ book) more = ap (λ (ns : List ℕ). b.address ∷ ns) (numbers6_more book more)
-
 -- what the books know behind a host
-known_on : (place : ℕ) (books new : Books) (narrow wide : List ℕ) → new.narrow ≡ books.narrow ++ at_host place narrow → new.wide ≡ books.wide ++ at_host6 place wide → known_in new ≡ known_with (known_in books) narrow wide
+known_on : (place : ℕ) (books new : Books) (narrow wide : List ℕ) → new.narrow ≡ books.narrow ++ at_host place narrow → new.wide ≡ books.wide ++ at_host place wide → known_in new ≡ known_with (known_in books) narrow wide
 known_on place books new narrow wide added added6 = rw (numbers, numbers6) refl
   where
     numbers : numbers_of new.narrow ≡ numbers_of books.narrow ++ narrow
     numbers = ap numbers_of added ∙ numbers_more books.narrow _ ∙ ap (λ (more : List ℕ). numbers_of books.narrow ++ more) (numbers_at_host place narrow)
 
-    numbers6 : numbers6_of new.wide ≡ numbers6_of books.wide ++ wide
-    numbers6 = ap numbers6_of added6 ∙ numbers6_more books.wide _ ∙ ap (λ (more : List ℕ). numbers6_of books.wide ++ more) (numbers6_at_host place wide)
+    numbers6 : numbers_of new.wide ≡ numbers_of books.wide ++ wide
+    numbers6 = ap numbers_of added6 ∙ numbers_more books.wide _ ∙ ap (λ (more : List ℕ). numbers_of books.wide ++ more) (numbers_at_host place wide)
 
 -- behind a host without a fault
 pub hosts_on : (all : List DeclError) (index place : ℕ) (books new : Books) (entries rest : List Entry) (name : String Global) (value : Value) → all ≡ hosts_faults index (known_in books) books.clocks.clocks (members_view entries)
     → entries ≡ (name, value) ∷ rest → entry_causes (host_causes index (known_in books) books.clocks.clocks (string_bytes name)) (as_table (view value)) ≡ []
-    → new.narrow ≡ books.narrow ++ at_host place (addresses_in (view value)) → new.wide ≡ books.wide ++ at_host6 place (addresses6_in (view value))
+    → new.narrow ≡ books.narrow ++ at_host place (addresses_in (view value)) → new.wide ≡ books.wide ++ at_host place (addresses6_in (view value))
     → new.clocks.clocks ≡ books.clocks.clocks ++ clocks_in (string_bytes name) (view value) → all ≡ hosts_faults (index + 1) (known_in new) new.clocks.clocks (members_view rest)
 hosts_on all index place books new entries rest name value is next none added added6 clocked =
     is ∙ ap (λ (es : List Entry). hosts_faults index (known_in books) books.clocks.clocks (members_view es)) next
@@ -134,11 +125,11 @@ host_clocks_on all clocks new entries rest name value is next added =
     ∙ ap (λ (front : List Clock). front ++ clocks_of (members_view rest)) (sym added)
 
 pub host_owners_on : (all : List Owner) (place same : ℕ) (owners new : List Owner) (entries rest : List Entry) (name : String Global) (value : Value) → all ≡ owners ++ owners_from place (members_view entries)
-    → entries ≡ (name, value) ∷ rest → same ≡ place → new ≡ owners ++ owned_by same (gaps_by (clock_tables (entry_of (view value)))) → all ≡ new ++ owners_from (place + 1) (members_view rest)
+    → entries ≡ (name, value) ∷ rest → same ≡ place → new ≡ owners ++ owned_by same (gaps_by (clock_tables (entry_table (view value)))) → all ≡ new ++ owners_from (place + 1) (members_view rest)
 host_owners_on all place same owners new entries rest name value is next e added =
     is ∙ ap (λ (es : List Entry). owners ++ owners_from place (members_view es)) next
-    ∙ sym (append_assoc owners (owned_by place (gaps_by (clock_tables (entry_of (view value))))) (owners_from (place + 1) (members_view rest)))
-    ∙ ap (λ (front : List Owner). front ++ owners_from (place + 1) (members_view rest)) (sym (added ∙ ap (λ (p : ℕ). owners ++ owned_by p (gaps_by (clock_tables (entry_of (view value))))) e))
+    ∙ sym (append_assoc owners (owned_by place (gaps_by (clock_tables (entry_table (view value))))) (owners_from (place + 1) (members_view rest)))
+    ∙ ap (λ (front : List Owner). front ++ owners_from (place + 1) (members_view rest)) (sym (added ∙ ap (λ (p : ℕ). owners ++ owned_by p (gaps_by (clock_tables (entry_table (view value))))) e))
 
 pub addresses_on : (all : List Address) (place same : ℕ) (book new : List Address) (entries rest : List Entry) (name : String Global) (value : Value) → all ≡ book ++ addresses_from place (members_view entries)
     → entries ≡ (name, value) ∷ rest → same ≡ place → new ≡ book ++ at_host same (addresses_in (view value)) → all ≡ new ++ addresses_from (place + 1) (members_view rest)
@@ -147,12 +138,12 @@ addresses_on all place same book new entries rest name value is next e added =
     ∙ sym (append_assoc book (at_host place (addresses_in (view value))) (addresses_from (place + 1) (members_view rest)))
     ∙ ap (λ (front : List Address). front ++ addresses_from (place + 1) (members_view rest)) (sym (added ∙ ap (λ (p : ℕ). book ++ at_host p (addresses_in (view value))) e))
 
-pub addresses6_on : (all : List Address6) (place same : ℕ) (book new : List Address6) (entries rest : List Entry) (name : String Global) (value : Value) → all ≡ book ++ addresses6_from place (members_view entries)
-    → entries ≡ (name, value) ∷ rest → same ≡ place → new ≡ book ++ at_host6 same (addresses6_in (view value)) → all ≡ new ++ addresses6_from (place + 1) (members_view rest)
+pub addresses6_on : (all : List Address) (place same : ℕ) (book new : List Address) (entries rest : List Entry) (name : String Global) (value : Value) → all ≡ book ++ addresses6_from place (members_view entries)
+    → entries ≡ (name, value) ∷ rest → same ≡ place → new ≡ book ++ at_host same (addresses6_in (view value)) → all ≡ new ++ addresses6_from (place + 1) (members_view rest)
 addresses6_on all place same book new entries rest name value is next e added =
     is ∙ ap (λ (es : List Entry). book ++ addresses6_from place (members_view es)) next
-    ∙ sym (append_assoc book (at_host6 place (addresses6_in (view value))) (addresses6_from (place + 1) (members_view rest)))
-    ∙ ap (λ (front : List Address6). front ++ addresses6_from (place + 1) (members_view rest)) (sym (added ∙ ap (λ (p : ℕ). book ++ at_host6 p (addresses6_in (view value))) e))
+    ∙ sym (append_assoc book (at_host place (addresses6_in (view value))) (addresses6_from (place + 1) (members_view rest)))
+    ∙ ap (λ (front : List Address). front ++ addresses6_from (place + 1) (members_view rest)) (sym (added ∙ ap (λ (p : ℕ). book ++ at_host p (addresses6_in (view value))) e))
 
 pub names_on : (all : List (List ℕ)) (names new : List (List ℕ)) (entries rest : List Entry) (name : String Global) (value : Value) → all ≡ names ++ hosts_of (members_view entries)
     → entries ≡ (name, value) ∷ rest → new ≡ names ++ string_bytes name ∷ [] → all ≡ new ++ hosts_of (members_view rest)

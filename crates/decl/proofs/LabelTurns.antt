@@ -12,11 +12,11 @@ use Rattle.toml.proofs.Views.{Entry}
 use Rattle.toml.specs.Data.{as_table, Members}
 use Rattle.toml.specs.View.{view, members_view}
 use Rattle.toml.specs.declared.value.Value.{Value}
-use Rattle.decl.specs.Causes.{at, when, first, error_at, IsFirstOf}
+use Rattle.decl.specs.Causes.{at, when, first, fault_of_entry, IsFirstOf}
 use Rattle.decl.specs.Declaration.{Precedes}
 use Rattle.decl.specs.Hosts.{HostLists}
-use Rattle.decl.specs.Keys.{table_causes, entry_causes, entry_of}
-use Rattle.decl.specs.Labels.{places_at, kind_at, is_misnamed, label_causes, label_of, labels_faults, labels_of}
+use Rattle.decl.specs.Keys.{table_causes, entry_causes, entry_table}
+use Rattle.decl.specs.Labels.{places_at, trace_kind_at, is_misnamed, label_causes, label_of, labels_faults, labels_of}
 use Rattle.decl.specs.Names.{is_clock_name}
 use Rattle.decl.specs.Limits.{most_entries}
 use Rattle.decl.specs.declared.cause.Cause.{Cause}
@@ -39,7 +39,7 @@ same_label name name' places places' kind kind' p q r = rw (p, q, r) refl
 
 -- the label of lawful names
 pub label_made : (hosts : HostLists) (name given : List ℕ) (ms : Members) (host clock : ℕ) (kind : TraceKind) → Some given ≡ (if is_clock_name name then Some name else None)
-    → ◌≡◌ {A = Option (ℕ × ℕ)} (Some (host, clock)) (places_at hosts ms) → Some kind ≡ kind_at ms
+    → ◌≡◌ {A = Option (ℕ × ℕ)} (Some (host, clock)) (places_at hosts ms) → Some kind ≡ trace_kind_at ms
     → Some (let l : Label = record { name = given; host = host; clock = clock; kind = kind } in l) ≡ (if is_misnamed hosts name ms then None else Some (label_of hosts name ms))
 label_made hosts name given ms host clock kind named placed kinded =
     let (is_name, name_is) = some_if (is_clock_name name) given name named in
@@ -57,7 +57,7 @@ label_few hosts index name (Some ms) e =
 -- the first fault of the next label
 pub label_first : (all : List DeclError) (hosts : HostLists) (index : ℕ) (entries rest : List Entry) (name : String Global) (value : Value) (cause : Cause) (e : DeclError)
     → all ≡ labels_faults hosts index (members_view entries) → entries ≡ (name, value) ∷ rest
-    → first (entry_causes (label_causes hosts index (string_bytes name)) (as_table (view value))) ≡ Some cause → e ≡ error_at Labels index cause → IsFirstOf all e
+    → first (entry_causes (label_causes hosts index (string_bytes name)) (as_table (view value))) ≡ Some cause → e ≡ fault_of_entry Labels index cause → IsFirstOf all e
 label_first all hosts index entries rest name value cause e is next h placed =
     subst (λ (fs : List DeclError). IsFirstOf fs e) (sym (is ∙ ap (λ (es : List Entry). labels_faults hosts index (members_view es)) next))
     (fault_front (at Labels index (entry_causes (label_causes hosts index (string_bytes name)) (as_table (view value)))) _ e (fault_at Labels index _ cause e h placed))
@@ -69,7 +69,7 @@ labels_on all hosts index entries rest name value is next none =
     is ∙ ap (λ (es : List Entry). labels_faults hosts index (members_view es)) next ∙ none_at Labels index _ (labels_faults hosts (index + 1) (members_view rest)) none
 
 pub labels_more : (all labels : List Label) (hosts : HostLists) (label : Label) (entries rest : List Entry) (name : String Global) (value : Value) → all ≡ labels ++ labels_of hosts (members_view entries)
-    → entries ≡ (name, value) ∷ rest → label ≡ label_of hosts (string_bytes name) (entry_of (view value)) → all ≡ (labels ++ label ∷ []) ++ labels_of hosts (members_view rest)
+    → entries ≡ (name, value) ∷ rest → label ≡ label_of hosts (string_bytes name) (entry_table (view value)) → all ≡ (labels ++ label ∷ []) ++ labels_of hosts (members_view rest)
 labels_more all labels hosts label entries rest name value is next made =
     is ∙ ap (λ (es : List Entry). labels ++ labels_of hosts (members_view es)) next
     ∙ ap (λ (l : Label). labels ++ l ∷ labels_of hosts (members_view rest)) (sym made)

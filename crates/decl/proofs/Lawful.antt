@@ -10,29 +10,29 @@ use Rattle.std.proofs.lemmas.List.Kept.{AllPairs-cons}
 use Rattle.std.proofs.lemmas.List.{get_or-map, length-map}
 use Rattle.std.proofs.lemmas.Slice.Eq.{bytes_eq-Decides}
 use Rattle.problem_model.specs.Name.{IsClockName}
-use Rattle.problem_model.specs.Problem.{ClockFits, most_clocks}
+use Rattle.problem_model.specs.Problem.{ClockFits}
 use Rattle.problem_model.specs.declared.items.Clock.{Clock}
+use Rattle.problem_model.specs.Limits.{most_clocks}
 use Rattle.toml.specs.Data.{Data, as_table, Items, no_items, item, Members, no_members, member}
-use Rattle.decl.specs.Addresses.{Known, address_of, address6_of, at_host, at_host6, has_bad_address, is_bad_address, none_known, numbers_of, numbers6_of, written}
+use Rattle.decl.specs.Addresses.{Known, address_of, address6_of, at_host, has_bad_address, is_bad_address, none_known, numbers_of, written}
 use Rattle.decl.specs.Causes.{at, when}
-use Rattle.decl.specs.Clocks.{own_or_host, has_wild_rate, has_wild_number, has_wild_gap, clock_of, name_in, is_taken, have_no_room, clock_causes, clock_tables, table_clocks, tables_causes, table_gaps, clocks_by, gaps_by, clocks_causes}
+use Rattle.decl.specs.Clocks.{own_or_host, has_wild_rate, has_wild_number, has_wild_gap, clock_by_name, name_in, is_taken, have_no_room, clock_causes, clock_tables, table_clocks, tables_causes, table_gaps, clocks_by, gaps_by, clocks_causes}
 use Rattle.decl.specs.Declaration.{IsClockOf}
 use Rattle.decl.specs.Hosts.{address_texts, address6_texts, is_one_too_many, own_causes, host_causes, addresses_in, addresses6_in, known_behind, clocks_in, hosts_faults, hosts_of, clocks_of, owned_by, owners_from, addresses_from, addresses6_from}
-use Rattle.decl.specs.Keys.{table_causes, entry_causes, entry_of}
+use Rattle.decl.specs.Keys.{table_causes, entry_causes, entry_table}
 use Rattle.decl.specs.Limits.{most_entries, most_short, most_long, nano_limit, address_limit}
 use Rattle.decl.specs.Names.{is_clock_name}
 use Rattle.decl.specs.Values.{is_up_to, whole_or_zero, number_at}
 use Rattle.decl.specs.declared.cause.Cause.TheVariants as cause
 use Rattle.decl.specs.declared.errors.Section.TheVariants.{Hosts}
 use Rattle.decl.specs.declared.items.Address.{Address}
-use Rattle.decl.specs.declared.items.Address6.{Address6}
 use Rattle.decl.specs.declared.items.Owner.{Owner}
 use Rattle.decl.specs.declared.keys.Form.TheVariants as form
 use Rattle.decl.proofs.ClockNames.{clock_name_is}
 use Rattle.decl.proofs.Dotted.{address_found}
 use Rattle.decl.proofs.Faults.{neither, no_causes, no_parts, not_false, not_so}
 use Rattle.decl.proofs.Fresh.{IsFresh, all_apart, fresh_append}
-use Rattle.decl.proofs.HostTurns.{numbers_at_host, numbers6_at_host, numbers_more, numbers6_more}
+use Rattle.decl.proofs.HostTurns.{numbers_at_host, numbers_more}
 
 -- ---- numbers
 
@@ -47,7 +47,7 @@ wild true true e = (refl, refl)
 wild true false e = cc
 wild false b e = cc
 
-clock_fits : (name : List ℕ) (own host : Members) → has_wild_number own host ≡ false → ClockFits (clock_of name own host)
+clock_fits : (name : List ℕ) (own host : Members) → has_wild_number own host ≡ false → ClockFits (clock_by_name name own host)
 clock_fits name own host tame =
     let (front, late) = neither (has_wild_rate own host || not (is_up_to (nano_limit - 1) (own_or_host (codes "early") own host))) _ tame in
     let (rate, early) = neither (has_wild_rate own host) _ front in
@@ -114,7 +114,7 @@ room_is before e = grind (arith, e)
 
 -- what is known of a clock's table without a fault
 record GoodTable (host : Members) (before : List Clock) (own : Members) : Type 0 where
-  clock : GoodClock before (clock_of (name_in own) own host)
+  clock : GoodClock before (clock_by_name (name_in own) own host)
   gap : number_at (codes "gap") own < nano_limit
 
 good_table : (host : Members) (before : List Clock) (o : Option Members) → entry_causes (clock_causes host before) o ≡ [] → GoodTable host before (unwrap_or o no_members)
@@ -136,23 +136,23 @@ good_table host before (Some own) e =
     }
 
 -- the first table and the others
-table_here : (host : Members) (before : List Clock) (d : Data) (ds : Items) → tables_causes host before (item d ds) ≡ [] → GoodTable host before (entry_of d)
+table_here : (host : Members) (before : List Clock) (d : Data) (ds : Items) → tables_causes host before (item d ds) ≡ [] → GoodTable host before (entry_table d)
 table_here host before d ds e = good_table host before (as_table d) (no_parts (entry_causes (clock_causes host before) (as_table d)) _ e).0
 
 tables_behind : (host : Members) (before : List Clock) (d : Data) (ds : Items) → tables_causes host before (item d ds) ≡ []
-    → tables_causes host (before ++ clock_of (name_in (entry_of d)) (entry_of d) host ∷ []) ds ≡ []
+    → tables_causes host (before ++ clock_by_name (name_in (entry_table d)) (entry_table d) host ∷ []) ds ≡ []
 tables_behind host before d ds e = (no_parts (entry_causes (clock_causes host before) (as_table d)) _ e).1
 
 tables_good : (host : Members) (before : List Clock) (ds : Items) → tables_causes host before ds ≡ [] → AreGood before (table_clocks host ds)
 tables_good host before no_items e = tt
 tables_good host before (item d ds) e =
-    ((table_here host before d ds e).clock, tables_good host (before ++ clock_of (name_in (entry_of d)) (entry_of d) host ∷ []) ds (tables_behind host before d ds e))
+    ((table_here host before d ds e).clock, tables_good host (before ++ clock_by_name (name_in (entry_table d)) (entry_table d) host ∷ []) ds (tables_behind host before d ds e))
 
 table_gaps_fit : (host : Members) (before : List Clock) (ds : Items) → tables_causes host before ds ≡ [] → All (λ (gap : ℕ). gap < nano_limit) (table_gaps ds)
 table_gaps_fit host before no_items e = All-nil (λ (gap : ℕ). gap < nano_limit)
 table_gaps_fit host before (item d ds) e =
     All-cons (λ (gap : ℕ). gap < nano_limit) _ _ (table_here host before d ds e).gap
-    (table_gaps_fit host (before ++ clock_of (name_in (entry_of d)) (entry_of d) host ∷ []) ds (tables_behind host before d ds e))
+    (table_gaps_fit host (before ++ clock_by_name (name_in (entry_table d)) (entry_table d) host ∷ []) ds (tables_behind host before d ds e))
 
 clocks_good : (before : List Clock) (name : List ℕ) (host : Members) (ds : Items) → IsClockName name → has_wild_number no_members host ≡ false → clocks_causes before name host ds ≡ [] → AreGood before (clocks_by name host ds)
 clocks_good before name host no_items named tame e =
@@ -198,7 +198,7 @@ good_host index before clocks name (Some ms) e =
     }
 
 -- the first host and the others
-host_here : (index : ℕ) (before : Known) (clocks : List Clock) (name : List ℕ) (d : Data) (ms : Members) → hosts_faults index before clocks (member name d ms) ≡ [] → GoodHost index before clocks name (entry_of d)
+host_here : (index : ℕ) (before : Known) (clocks : List Clock) (name : List ℕ) (d : Data) (ms : Members) → hosts_faults index before clocks (member name d ms) ≡ [] → GoodHost index before clocks name (entry_table d)
 host_here index before clocks name d ms e =
     good_host index before clocks name (as_table d) (no_causes Hosts index _ (no_parts (at Hosts index (entry_causes (host_causes index before clocks name) (as_table d))) _ e).0)
 
@@ -238,9 +238,9 @@ gaps_counted name host (item d ds) = tables_counted host (item d ds)
 owners_counted : (place : ℕ) (ms : Members) → length (owners_from place ms) ≡ length (clocks_of ms)
 owners_counted place no_members = refl
 owners_counted place (member name d ms) =
-    let gaps = gaps_by (clock_tables (entry_of d)) in
+    let gaps = gaps_by (clock_tables (entry_table d)) in
     let owned : length (owned_by place gaps) ≡ length gaps = length-map gaps (λ gap. record { host = place; gap = gap }) in
-    let here = gaps_counted name (entry_of d) (clock_tables (entry_of d)) in
+    let here = gaps_counted name (entry_table d) (clock_tables (entry_table d)) in
     let more = owners_counted (place + 1) ms in
     let left = length-append (owned_by place gaps) (owners_from (place + 1) ms) in
     let right = length-append (clocks_in name d) (clocks_of ms) in
@@ -254,15 +254,15 @@ owners_of_host P place (gap ∷ gaps) all = All-cons P _ _ (all 0 gap (omega ari
 owners_placed : (place : ℕ) (ms : Members) (n : ℕ) → place + length (hosts_of ms) ≡ n → All (λ (o : Owner). o.host < n) (owners_from place ms)
 owners_placed place no_members n e = All-nil (λ (o : Owner). o.host < n)
 owners_placed place (member name d ms) n e =
-    All-append (λ (o : Owner). o.host < n) (owned_by place (gaps_by (clock_tables (entry_of d)))) (owners_from (place + 1) ms)
-    (owners_of_host (λ (o : Owner). o.host < n) place (gaps_by (clock_tables (entry_of d))) (λ k gap below. omega (arith, e)))
+    All-append (λ (o : Owner). o.host < n) (owned_by place (gaps_by (clock_tables (entry_table d)))) (owners_from (place + 1) ms)
+    (owners_of_host (λ (o : Owner). o.host < n) place (gaps_by (clock_tables (entry_table d))) (λ k gap below. omega (arith, e)))
     (owners_placed (place + 1) ms n (omega (arith, e)))
 
 owners_above : (least place : ℕ) (ms : Members) → least ≤ place → All (λ (o : Owner). least ≤ o.host) (owners_from place ms)
 owners_above least place no_members le = All-nil (λ (o : Owner). least ≤ o.host)
 owners_above least place (member name d ms) le =
-    All-append (λ (o : Owner). least ≤ o.host) (owned_by place (gaps_by (clock_tables (entry_of d)))) (owners_from (place + 1) ms)
-    (owners_of_host (λ (o : Owner). least ≤ o.host) place (gaps_by (clock_tables (entry_of d))) (λ k gap below. le))
+    All-append (λ (o : Owner). least ≤ o.host) (owned_by place (gaps_by (clock_tables (entry_table d)))) (owners_from (place + 1) ms)
+    (owners_of_host (λ (o : Owner). least ≤ o.host) place (gaps_by (clock_tables (entry_table d))) (λ k gap below. le))
     (owners_above least (place + 1) ms (omega (arith, le)))
 
 -- owners of a host before those of hosts behind it
@@ -277,19 +277,19 @@ host_rises place (gap ∷ gaps) more above rise =
 owners_rise_from : (place : ℕ) (ms : Members) → AllPairs (λ (a b : Owner). a.host ≤ b.host) (owners_from place ms)
 owners_rise_from place no_members = λ i j d below inside. absurd (omega (arith, inside))
 owners_rise_from place (member name d ms) =
-    host_rises place (gaps_by (clock_tables (entry_of d))) (owners_from (place + 1) ms) (owners_above place (place + 1) ms (omega arith)) (owners_rise_from (place + 1) ms)
+    host_rises place (gaps_by (clock_tables (entry_table d))) (owners_from (place + 1) ms) (owners_above place (place + 1) ms (omega arith)) (owners_rise_from (place + 1) ms)
 
 owners_fit : (index place : ℕ) (before : Known) (clocks : List Clock) (ms : Members) → hosts_faults index before clocks ms ≡ [] → All (λ (o : Owner). o.gap < nano_limit) (owners_from place ms)
 owners_fit index place before clocks no_members e = All-nil (λ (o : Owner). o.gap < nano_limit)
 owners_fit index place before clocks (member name d ms) e =
-    All-append (λ (o : Owner). o.gap < nano_limit) (owned_by place (gaps_by (clock_tables (entry_of d)))) (owners_from (place + 1) ms)
-    (owners_of_host (λ (o : Owner). o.gap < nano_limit) place (gaps_by (clock_tables (entry_of d))) (host_here index before clocks name d ms e).gaps)
+    All-append (λ (o : Owner). o.gap < nano_limit) (owned_by place (gaps_by (clock_tables (entry_table d)))) (owners_from (place + 1) ms)
+    (owners_of_host (λ (o : Owner). o.gap < nano_limit) place (gaps_by (clock_tables (entry_table d))) (host_here index before clocks name d ms e).gaps)
     (owners_fit (index + 1) (place + 1) (known_behind before d) (clocks ++ clocks_in name d) ms (hosts_behind index before clocks name d ms e))
 
 -- each host has a first clock
 first_owned : (place : ℕ) (ds : Items) (more : List Owner) → IsClockOf (owned_by place (gaps_by ds) ++ more) place 0
 first_owned place no_items more = (record { host = place; gap = 0 }, refl, refl)
-first_owned place (item d ds) more = (record { host = place; gap = number_at (codes "gap") (entry_of d) }, refl, refl)
+first_owned place (item d ds) more = (record { host = place; gap = number_at (codes "gap") (entry_table d) }, refl, refl)
 
 get_behind : (front more : List Owner) (k : ℕ) → slice_get (front ++ more) (length front + k) ≡ slice_get more k
 get_behind [] more k = ap (λ (n : ℕ). slice_get more n) (let none : 0 + k ≡ k = omega arith in none)
@@ -302,9 +302,9 @@ owned_behind front more host clock owned = (owned.0, get_behind front more clock
 host_owned : (place : ℕ) (ms : Members) (host : ℕ) → host < length (hosts_of ms) → (clock : ℕ) × IsClockOf (owners_from place ms) (place + host) clock
 host_owned place no_members host inside = absurd (omega (arith, inside))
 host_owned place (member name d ms) zero inside =
-    (0, subst (λ (h : ℕ). IsClockOf (owners_from place (member name d ms)) h 0) (let same : place ≡ place + 0 = omega arith in same) (first_owned place (clock_tables (entry_of d)) (owners_from (place + 1) ms)))
+    (0, subst (λ (h : ℕ). IsClockOf (owners_from place (member name d ms)) h 0) (let same : place ≡ place + 0 = omega arith in same) (first_owned place (clock_tables (entry_table d)) (owners_from (place + 1) ms)))
 host_owned place (member name d ms) (suc host) inside =
-    let front = owned_by place (gaps_by (clock_tables (entry_of d))) in
+    let front = owned_by place (gaps_by (clock_tables (entry_table d))) in
     let more = host_owned (place + 1) ms host (omega (arith, inside)) in (
       length front + more.0,
       owned_behind front (owners_from (place + 1) ms) (place + suc host) more.0
@@ -317,10 +317,6 @@ addresses_of_host : (P : Address → Type 0) (place : ℕ) (numbers : List ℕ) 
 addresses_of_host P place [] all = All-nil P
 addresses_of_host P place (n ∷ numbers) all = All-cons P _ _ (all 0 n (omega arith)) (addresses_of_host P place numbers (λ k d below. all (suc k) d (omega (arith, below))))
 
-addresses6_of_host : (P : Address6 → Type 0) (place : ℕ) (numbers : List ℕ) → All (λ (n : ℕ). P (let a : Address6 = record { address = n; host = place } in a)) numbers → All P (at_host6 place numbers)
-addresses6_of_host P place [] all = All-nil P
-addresses6_of_host P place (n ∷ numbers) all = All-cons P _ _ (all 0 n (omega arith)) (addresses6_of_host P place numbers (λ k d below. all (suc k) d (omega (arith, below))))
-
 addresses_placed : (place : ℕ) (ms : Members) (n : ℕ) → place + length (hosts_of ms) ≡ n → All (λ (a : Address). a.host < n) (addresses_from place ms)
 addresses_placed place no_members n e = All-nil (λ (a : Address). a.host < n)
 addresses_placed place (member name d ms) n e =
@@ -328,11 +324,11 @@ addresses_placed place (member name d ms) n e =
     (addresses_of_host (λ (a : Address). a.host < n) place (addresses_in d) (λ k m below. omega (arith, e)))
     (addresses_placed (place + 1) ms n (omega (arith, e)))
 
-addresses6_placed : (place : ℕ) (ms : Members) (n : ℕ) → place + length (hosts_of ms) ≡ n → All (λ (a : Address6). a.host < n) (addresses6_from place ms)
-addresses6_placed place no_members n e = All-nil (λ (a : Address6). a.host < n)
+addresses6_placed : (place : ℕ) (ms : Members) (n : ℕ) → place + length (hosts_of ms) ≡ n → All (λ (a : Address). a.host < n) (addresses6_from place ms)
+addresses6_placed place no_members n e = All-nil (λ (a : Address). a.host < n)
 addresses6_placed place (member name d ms) n e =
-    All-append (λ (a : Address6). a.host < n) (at_host6 place (addresses6_in d)) (addresses6_from (place + 1) ms)
-    (addresses6_of_host (λ (a : Address6). a.host < n) place (addresses6_in d) (λ k m below. omega (arith, e)))
+    All-append (λ (a : Address). a.host < n) (at_host place (addresses6_in d)) (addresses6_from (place + 1) ms)
+    (addresses_of_host (λ (a : Address). a.host < n) place (addresses6_in d) (λ k m below. omega (arith, e)))
     (addresses6_placed (place + 1) ms n (omega (arith, e)))
 
 octets_below : (octets : List ℕ) (a b c d : ℕ) → octets ≡ a ∷ b ∷ c ∷ d ∷ [] → a < 256 → b < 256 → c < 256 → d < 256 → from_be_bytes w32 octets < address_limit
@@ -358,7 +354,7 @@ addresses_fit_from : (place : ℕ) (ms : Members) → All (λ (a : Address). a.a
 addresses_fit_from place no_members = All-nil (λ (a : Address). a.address < address_limit)
 addresses_fit_from place (member name d ms) =
     All-append (λ (a : Address). a.address < address_limit) (at_host place (addresses_in d)) (addresses_from (place + 1) ms)
-    (addresses_of_host (λ (a : Address). a.address < address_limit) place (addresses_in d) (written_below address_of address_limit address_below (address_texts (entry_of d)))) (addresses_fit_from (place + 1) ms)
+    (addresses_of_host (λ (a : Address). a.address < address_limit) place (addresses_in d) (written_below address_of address_limit address_below (address_texts (entry_table d)))) (addresses_fit_from (place + 1) ms)
 
 abbrev same_number : ℕ → ℕ → Bool
 same_number b x = x == b
@@ -376,21 +372,21 @@ addresses_fresh : (index place : ℕ) (before : Known) (clocks : List Clock) (ms
 addresses_fresh index place before clocks no_members e = tt
 addresses_fresh index place before clocks (member name d ms) e =
     let here = host_here index before clocks name d ms e in
-    let front = texts_fresh address_of before.narrow (address_texts (entry_of d)) here.fresh in
+    let front = texts_fresh address_of before.narrow (address_texts (entry_table d)) here.fresh in
     let back = addresses_fresh (index + 1) (place + 1) (known_behind before d) (clocks ++ clocks_in name d) ms (hosts_behind index before clocks name d ms e) in
     subst (λ (ns : List ℕ). IsFresh same_number before.narrow ns)
     (sym (numbers_more (at_host place (addresses_in d)) (addresses_from (place + 1) ms) ∙ ap (λ (ns : List ℕ). ns ++ numbers_of (addresses_from (place + 1) ms)) (numbers_at_host place (addresses_in d))))
     (fresh_append same_number before.narrow (addresses_in d) (numbers_of (addresses_from (place + 1) ms)) front back)
 
-addresses6_fresh : (index place : ℕ) (before : Known) (clocks : List Clock) (ms : Members) → hosts_faults index before clocks ms ≡ [] → IsFresh same_number before.wide (numbers6_of (addresses6_from place ms))
+addresses6_fresh : (index place : ℕ) (before : Known) (clocks : List Clock) (ms : Members) → hosts_faults index before clocks ms ≡ [] → IsFresh same_number before.wide (numbers_of (addresses6_from place ms))
 addresses6_fresh index place before clocks no_members e = tt
 addresses6_fresh index place before clocks (member name d ms) e =
     let here = host_here index before clocks name d ms e in
-    let front = texts_fresh address6_of before.wide (address6_texts (entry_of d)) here.fresh6 in
+    let front = texts_fresh address6_of before.wide (address6_texts (entry_table d)) here.fresh6 in
     let back = addresses6_fresh (index + 1) (place + 1) (known_behind before d) (clocks ++ clocks_in name d) ms (hosts_behind index before clocks name d ms e) in
     subst (λ (ns : List ℕ). IsFresh same_number before.wide ns)
-    (sym (numbers6_more (at_host6 place (addresses6_in d)) (addresses6_from (place + 1) ms) ∙ ap (λ (ns : List ℕ). ns ++ numbers6_of (addresses6_from (place + 1) ms)) (numbers6_at_host place (addresses6_in d))))
-    (fresh_append same_number before.wide (addresses6_in d) (numbers6_of (addresses6_from (place + 1) ms)) front back)
+    (sym (numbers_more (at_host place (addresses6_in d)) (addresses6_from (place + 1) ms) ∙ ap (λ (ns : List ℕ). ns ++ numbers_of (addresses6_from (place + 1) ms)) (numbers_at_host place (addresses6_in d))))
+    (fresh_append same_number before.wide (addresses6_in d) (numbers_of (addresses6_from (place + 1) ms)) front back)
 
 -- numbers that differ are those of things that do
 numbers_differ : {A : Type 0} (number : A → ℕ) (things : List A) → AllPairs (λ (x y : ℕ). same_number x y ≡ false) (map number things) → AllPairs (λ (a b : A). number a ≢ number b) things
@@ -442,11 +438,11 @@ addresses_fit ms = addresses_fit_from 0 ms
 pub addresses_differ : (ms : Members) → hosts_faults 1 none_known [] ms ≡ [] → AllPairs (λ (a b : Address). a.address ≢ b.address) (addresses_from 0 ms)
 addresses_differ ms e = numbers_differ (λ (a : Address). a.address) (addresses_from 0 ms) (all_apart same_number [] _ (addresses_fresh 1 0 none_known [] ms e))
 
-pub address6_hosts : (ms : Members) → All (λ (a : Address6). a.host < length (hosts_of ms)) (addresses6_from 0 ms)
+pub address6_hosts : (ms : Members) → All (λ (a : Address). a.host < length (hosts_of ms)) (addresses6_from 0 ms)
 address6_hosts ms = addresses6_placed 0 ms (length (hosts_of ms)) (omega arith)
 
-pub addresses6_differ : (ms : Members) → hosts_faults 1 none_known [] ms ≡ [] → AllPairs (λ (a b : Address6). a.address ≢ b.address) (addresses6_from 0 ms)
-addresses6_differ ms e = numbers_differ (λ (a : Address6). a.address) (addresses6_from 0 ms) (all_apart same_number [] _ (addresses6_fresh 1 0 none_known [] ms e))
+pub addresses6_differ : (ms : Members) → hosts_faults 1 none_known [] ms ≡ [] → AllPairs (λ (a b : Address). a.address ≢ b.address) (addresses6_from 0 ms)
+addresses6_differ ms e = numbers_differ (λ (a : Address). a.address) (addresses6_from 0 ms) (all_apart same_number [] _ (addresses6_fresh 1 0 none_known [] ms e))
 
 pub host_limit : (ms : Members) → hosts_faults 1 none_known [] ms ≡ [] → length (hosts_of ms) ≤ most_entries
 host_limit ms e = omega (arith, hosts_few 1 none_known [] ms (omega arith) e)

@@ -12,12 +12,12 @@ use Rattle.decl.specs.Causes.{at, when}
 use Rattle.decl.specs.Clocks.{first_clock_place, if_owned, own_clock_place}
 use Rattle.decl.specs.Declaration.{IsDeclaration, IsSource, IsClockOf, LinkFits}
 use Rattle.decl.specs.Hosts.{HostLists, host_lists, hosts_of, clocks_of, hosts_faults, is_one_too_many}
-use Rattle.decl.specs.Keys.{table_causes, entry_causes, entry_of}
+use Rattle.decl.specs.Keys.{table_causes, entry_causes, entry_table}
 use Rattle.decl.specs.Labels.{host_at_key, clock_at_key, places_at, is_misnamed, label_causes, label_of, labels_faults, labels_of}
 use Rattle.decl.specs.Limits.{most_entries, most_payload, nano_limit}
 use Rattle.decl.specs.Links.{has_link, is_astray, link_causes, link_of, links_faults, links_of}
 use Rattle.decl.specs.Names.{is_clock_name}
-use Rattle.decl.specs.Places.{place_of, clock_place}
+use Rattle.decl.specs.Places.{host_place, clock_place}
 use Rattle.decl.specs.Values.{is_up_to, text_at, whole_at, whole_or_zero}
 use Rattle.decl.specs.Walk.{declared, faults, hosts_in, is_true_at, labels_in, links_in, shows_true, source_causes, top_causes}
 use Rattle.decl.specs.declared.cause.Cause.TheVariants as cause
@@ -49,7 +49,7 @@ position_below t i (c ∷ hosts) k e = go (t c) refl (position_below t (i + 1) h
     go true is more = let same : i ≡ k = same_Some i k (rw is at e) in omega (arith, same)
     go false is more = omega (arith, more (rw is at e))
 
-place_below : (hosts : List (List ℕ)) (name : List ℕ) (k : ℕ) → place_of hosts name ≡ Some k → k < length hosts
+place_below : (hosts : List (List ℕ)) (name : List ℕ) (k : ℕ) → host_place hosts name ≡ Some k → k < length hosts
 place_below hosts name k e = omega (arith, position_below _ 0 hosts k e)
 
 -- where a test first passes
@@ -141,7 +141,7 @@ module _ (hosts : HostLists) where
   labels_all : (P : Label → Type 0) → ((name : List ℕ) (ms : Members) → GoodLabel name ms → P (label_of hosts name ms)) → (index : ℕ) (ms : Members) → labels_faults hosts index ms ≡ [] → All P (labels_of hosts ms)
   labels_all P good index no_members e = All-nil P
   labels_all P good index (member name d ms) e =
-      All-cons P _ _ (good name (entry_of d) (good_label index name (as_table d) (label_here index name d ms e)))
+      All-cons P _ _ (good name (entry_table d) (good_label index name (as_table d) (label_here index name d ms e)))
       (labels_all P good (index + 1) ms (labels_behind index name d ms e))
 
   labels_few : (index : ℕ) (ms : Members) → index ≤ most_entries + 1 → labels_faults hosts index ms ≡ [] → index + length (labels_of hosts ms) ≤ most_entries + 1
@@ -194,21 +194,21 @@ module _ (hosts : List (List ℕ)) where
   link_here index before d ds e = no_causes Links index _ (no_parts (at Links index (entry_causes (link_causes hosts index before) (as_table d))) _ e).0
 
   links_behind : (index : ℕ) (before : List Link) (d : Data) (ds : Items) → links_faults hosts index before (item d ds) ≡ []
-      → links_faults hosts (index + 1) (before ++ link_of hosts (entry_of d) ∷ []) ds ≡ []
+      → links_faults hosts (index + 1) (before ++ link_of hosts (entry_table d) ∷ []) ds ≡ []
   links_behind index before d ds e = (no_parts (at Links index (entry_causes (link_causes hosts index before) (as_table d))) _ e).1
 
   links_all : (P : Link → Type 0) → ((before : List Link) (ms : Members) → GoodLink before ms → P (link_of hosts ms)) → (index : ℕ) (before : List Link) (ds : Items) → links_faults hosts index before ds ≡ []
       → All P (links_of hosts ds)
   links_all P good index before no_items e = All-nil P
   links_all P good index before (item d ds) e =
-      All-cons P _ _ (good before (entry_of d) (good_link index before (as_table d) (link_here index before d ds e)))
-      (links_all P good (index + 1) (before ++ link_of hosts (entry_of d) ∷ []) ds (links_behind index before d ds e))
+      All-cons P _ _ (good before (entry_table d) (good_link index before (as_table d) (link_here index before d ds e)))
+      (links_all P good (index + 1) (before ++ link_of hosts (entry_table d) ∷ []) ds (links_behind index before d ds e))
 
   links_few : (index : ℕ) (before : List Link) (ds : Items) → index ≤ most_entries + 1 → links_faults hosts index before ds ≡ [] → index + length (links_of hosts ds) ≤ most_entries + 1
   links_few index before no_items le e = omega (arith, le)
   links_few index before (item d ds) le e =
       let here = link_few hosts index before (as_table d) (link_here index before d ds e) in
-      let more = links_few (index + 1) (before ++ link_of hosts (entry_of d) ∷ []) ds (omega (arith, here)) (links_behind index before d ds e) in
+      let more = links_few (index + 1) (before ++ link_of hosts (entry_table d) ∷ []) ds (omega (arith, here)) (links_behind index before d ds e) in
       omega (arith, more)
 
 abbrev same_ends : Link → Link → Bool
@@ -217,7 +217,7 @@ same_ends b l = b.from == l.from && b.to == l.to
 links_fresh : (hosts : List (List ℕ)) (index : ℕ) (before : List Link) (ds : Items) → links_faults hosts index before ds ≡ [] → IsFresh same_ends before (links_of hosts ds)
 links_fresh hosts index before no_items e = tt
 links_fresh hosts index before (item d ds) e =
-    ((good_link hosts index before (as_table d) (link_here hosts index before d ds e)).fresh, links_fresh hosts (index + 1) (before ++ link_of hosts (entry_of d) ∷ []) ds (links_behind hosts index before d ds e))
+    ((good_link hosts index before (as_table d) (link_here hosts index before d ds e)).fresh, links_fresh hosts (index + 1) (before ++ link_of hosts (entry_table d) ∷ []) ds (links_behind hosts index before d ds e))
 
 ends_apart : (a b : Link) → same_ends a b ≡ false → a.from ≡ b.from → a.to ≡ b.to → ⊥
 ends_apart a b other from to = both_false (a.from == b.from) (a.to == b.to) (eq-eqb a.from b.from from) (eq-eqb a.to b.to to) other

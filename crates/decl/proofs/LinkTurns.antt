@@ -7,9 +7,9 @@ use Rattle.toml.proofs.Views.{items_view-drop}
 use Rattle.toml.specs.Data.{as_table, Items, item, Members}
 use Rattle.toml.specs.View.{view, items_view}
 use Rattle.toml.specs.declared.value.Value.{Value}
-use Rattle.decl.specs.Causes.{at, when, first, error_at, IsFirstOf}
+use Rattle.decl.specs.Causes.{at, when, first, fault_of_entry, IsFirstOf}
 use Rattle.decl.specs.Hosts.{is_one_too_many}
-use Rattle.decl.specs.Keys.{table_causes, entry_causes, entry_of}
+use Rattle.decl.specs.Keys.{table_causes, entry_causes, entry_table}
 use Rattle.decl.specs.Labels.{host_at_key}
 use Rattle.decl.specs.Limits.{most_entries, nano_limit}
 use Rattle.decl.specs.Links.{has_link, is_astray, most_at, link_causes, link_of, links_faults, links_of}
@@ -106,19 +106,19 @@ module _ (all : List DeclError) (hosts : List (List ℕ)) (index : ℕ) (before 
   next = is ∙ ap (λ (ds : Items). links_faults hosts index before ds) (items_view-drop items i d within)
 
   -- the first fault of the next link
-  pub link_first : (cause : Cause) (e : DeclError) → first (entry_causes (link_causes hosts index before) (as_table (view (get_or items i d)))) ≡ Some cause → e ≡ error_at Links index cause → IsFirstOf all e
+  pub link_first : (cause : Cause) (e : DeclError) → first (entry_causes (link_causes hosts index before) (as_table (view (get_or items i d)))) ≡ Some cause → e ≡ fault_of_entry Links index cause → IsFirstOf all e
   link_first cause e h placed =
       subst (λ (fs : List DeclError). IsFirstOf fs e) (sym next) (fault_front (at Links index (entry_causes (link_causes hosts index before) (as_table (view (get_or items i d))))) _ e (fault_at Links index _ cause e h placed))
 
   -- behind a link without a fault
-  pub links_on : (link : Link) (new : List Link) → entry_causes (link_causes hosts index before) (as_table (view (get_or items i d))) ≡ [] → link ≡ link_of hosts (entry_of (view (get_or items i d)))
+  pub links_on : (link : Link) (new : List Link) → entry_causes (link_causes hosts index before) (as_table (view (get_or items i d))) ≡ [] → link ≡ link_of hosts (entry_table (view (get_or items i d)))
       → new ≡ before ++ link ∷ [] → all ≡ links_faults hosts (index + 1) new (items_view (drop (i + 1) items))
   links_on link new none made added =
-      next ∙ none_at Links index _ (links_faults hosts (index + 1) (before ++ link_of hosts (entry_of (view (get_or items i d))) ∷ []) (items_view (drop (i + 1) items))) none
+      next ∙ none_at Links index _ (links_faults hosts (index + 1) (before ++ link_of hosts (entry_table (view (get_or items i d))) ∷ []) (items_view (drop (i + 1) items))) none
       ∙ ap (λ (b : List Link). links_faults hosts (index + 1) b (items_view (drop (i + 1) items))) (ap (λ (l : Link). before ++ l ∷ []) (sym made) ∙ sym added)
 
 pub links_more : (all before new : List Link) (hosts : List (List ℕ)) (link : Link) (items : List Value) (i : ℕ) (d : Value) → i < length items → all ≡ before ++ links_of hosts (items_view (drop i items))
-    → link ≡ link_of hosts (entry_of (view (get_or items i d))) → new ≡ before ++ link ∷ [] → all ≡ new ++ links_of hosts (items_view (drop (i + 1) items))
+    → link ≡ link_of hosts (entry_table (view (get_or items i d))) → new ≡ before ++ link ∷ [] → all ≡ new ++ links_of hosts (items_view (drop (i + 1) items))
 links_more all before new hosts link items i d within is made added =
     is ∙ ap (λ (ds : Items). before ++ links_of hosts ds) (items_view-drop items i d within)
     ∙ ap (λ (l : Link). before ++ l ∷ links_of hosts (items_view (drop (i + 1) items))) (sym made)

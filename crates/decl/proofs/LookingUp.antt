@@ -3,11 +3,10 @@ use Rattle.std.proofs.Common.{◌≡◌, ℕ, ◌==◌, ◌&&◌, ◌||◌, Bool
 use Rattle.std.specs.List.{list_any}
 use Rattle.std.specs.Option.{option_or}
 use Rattle.std.specs.Ordering.{nat_cmp, ordering_then, is_eq}
-use Rattle.decl.specs.Addresses.{is_bad_address, numbers_of, numbers6_of}
-use Rattle.decl.specs.Firsts.{host_among, host6_among, bounds_among}
+use Rattle.decl.specs.Addresses.{is_bad_address, numbers_of}
+use Rattle.decl.specs.Firsts.{host_among, bounds_among}
 use Rattle.decl.specs.Links.{has_link}
 use Rattle.decl.specs.declared.items.Address.{Address}
-use Rattle.decl.specs.declared.items.Address6.{Address6}
 use Rattle.decl.specs.declared.items.Link.{Link}
 
 -- ---- addresses
@@ -41,10 +40,6 @@ stands : (addresses : List Address) (address : ℕ) → is_some (host_among addr
 stands [] address = refl
 stands (a ∷ more) address = found_or (a.address == address) (address == a.address) a.host _ _ (turned a.address address) (stands more address)
 
-stands6 : (addresses : List Address6) (address : ℕ) → is_some (host6_among addresses address) ≡ list_any (λ n. address == n) (numbers6_of addresses)
-stands6 [] address = refl
-stands6 (a ∷ more) address = found_or (a.address == address) (address == a.address) a.host _ _ (turned a.address address) (stands6 more address)
-
 bad_told : (numbers : List ℕ) (o : Option ℕ) (address : ℕ) (b : Bool) → Some address ≡ o → b ≡ list_any (λ n. address == n) numbers → not b ≡ not (is_bad_address numbers o)
 bad_told numbers None address b e same = cc
 bad_told numbers (Some a) address b e same = ap not (same ∙ ap (λ (x : ℕ). list_any (λ n. x == n) numbers) (inside e))
@@ -56,16 +51,9 @@ bad_told numbers (Some a) address b e same = ap not (same ∙ ap (λ (x : ℕ). 
 pub fresh_told : (addresses : List Address) (o : Option ℕ) (address : ℕ) (b : Bool) → Some address ≡ o → b ≡ is_some (host_among addresses address) → not b ≡ not (is_bad_address (numbers_of addresses) o)
 fresh_told addresses o address b e same = bad_told (numbers_of addresses) o address b e (same ∙ stands addresses address)
 
-pub fresh6_told : (addresses : List Address6) (o : Option ℕ) (address : ℕ) (b : Bool) → Some address ≡ o → b ≡ is_some (host6_among addresses address) → not b ≡ not (is_bad_address (numbers6_of addresses) o)
-fresh6_told addresses o address b e same = bad_told (numbers6_of addresses) o address b e (same ∙ stands6 addresses address)
-
 host_behind : (addresses : List Address) (a : Address) (q : ℕ) → host_among (addresses ++ a ∷ []) q ≡ option_or (host_among addresses q) (if a.address == q then Some a.host else None)
 host_behind [] a q = refl
 host_behind (b ∷ more) a q = either_later (b.address == q) b.host _ _ _ (host_behind more a q)
-
-host6_behind : (addresses : List Address6) (a : Address6) (q : ℕ) → host6_among (addresses ++ a ∷ []) q ≡ option_or (host6_among addresses q) (if a.address == q then Some a.host else None)
-host6_behind [] a q = refl
-host6_behind (b ∷ more) a q = either_later (b.address == q) b.host _ _ _ (host6_behind more a q)
 
 none_of : (o : Option ℕ) (b : Bool) → b ≡ false → b ≡ is_some o → o ≡ None
 none_of None b e same = refl
@@ -78,13 +66,6 @@ host_more addresses a q b old there fresh same =
     entry_more (a.address == q) _ a.host (host_among addresses q) old (same_number a.address q) same
     (λ e. ap (host_among addresses) (sym (eqb-true a.address q e)) ∙ none_of _ b fresh there)
     ∙ sym (host_behind addresses a q)
-
-pub host6_more : (addresses : List Address6) (a : Address6) (q : ℕ) (b : Bool) (old : Option ℕ) → b ≡ is_some (host6_among addresses a.address) → b ≡ false → old ≡ host6_among addresses q
-    → cond (is_eq (nat_cmp a.address q)) (Some a.host) old ≡ host6_among (addresses ++ a ∷ []) q
-host6_more addresses a q b old there fresh same =
-    entry_more (a.address == q) _ a.host (host6_among addresses q) old (same_number a.address q) same
-    (λ e. ap (host6_among addresses) (sym (eqb-true a.address q e)) ∙ none_of _ b fresh there)
-    ∙ sym (host6_behind addresses a q)
 
 -- ---- links
 

@@ -15,7 +15,7 @@ use Rattle.std.proofs.lemmas.Map.Text.{is_eq-slice_cmp}
 use Rattle.problem_model.specs.declared.items.Clock.{Clock}
 use Rattle.decl.specs.Declaration.{Precedes}
 use Rattle.decl.specs.declared.items.Label.{Label}
-use Rattle.decl.specs.Places.{place_of}
+use Rattle.decl.specs.Places.{host_place}
 
 abbrev pub name_cmp : List ℕ → List ℕ → Ordering
 name_cmp name c = slice_cmp nat_cmp c name
@@ -104,12 +104,12 @@ module _ {A : Type 0} (name_of : A → List ℕ) where
         | inr le ↦ tested name (get_or entries j d) Greater (point.1 j d le inside)
       ]))
 
-pub place_found : (hosts : List (List ℕ)) (name : List ℕ) (place : ℕ) → Rise hosts → place < length hosts → ((d : List ℕ) → name_cmp name (get_or hosts place d) ≡ Equal) → Some place ≡ place_of hosts name
+pub place_found : (hosts : List (List ℕ)) (name : List ℕ) (place : ℕ) → Rise hosts → place < length hosts → ((d : List ℕ) → name_cmp name (get_or hosts place d) ≡ Equal) → Some place ≡ host_place hosts name
 place_found hosts name place rising inside is = entry_found (λ (host : List ℕ). host) hosts name place rising inside is
 
 pub place_none : (hosts : List (List ℕ)) (name : List ℕ) (place : ℕ) → Rise hosts
     → (IsNonDecreasingBy (λ c. ordering_index (name_cmp name c)) hosts → IsPartitionPoint (λ c. name_cmp name c ≡ Less) (λ c. name_cmp name c ≡ Greater) hosts place)
-    → None ≡ place_of hosts name
+    → None ≡ host_place hosts name
 place_none hosts name place rising parted = entry_none (λ (host : List ℕ). host) hosts name place rising parted
 
 -- ---- labels

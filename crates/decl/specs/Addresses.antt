@@ -7,7 +7,8 @@ use Rattle.std.specs.Net.Grammar.{IsDotted, IsGroups}
 use Rattle.std.specs.Net.Reader.{read_ipv4, read_ipv6, whole_value}
 use Rattle.toml.specs.Data.{as_str, Items, no_items, item}
 use Rattle.decl.specs.declared.items.Address.{Address}
-use Rattle.decl.specs.declared.items.Address6.{Address6}
+use Rattle.decl.specs.declared.items.IpVersion.{IpVersion}
+use Rattle.decl.specs.declared.items.IpVersion.TheVariants.{V4, V6}
 
 -- the text is the dotted form of four octets, and the address is their number in network byte order
 pub record IsAddress (text : List ℕ) (address : ℕ) : Type 0 where
@@ -36,6 +37,11 @@ is_short_form last (c ∷ text) = (c == 46 || (c == 58 && last == 58)) || is_sho
 abbrev pub address6_of : List ℕ → Option ℕ
 address6_of text = if is_short_form 0 text then None else option_map (λ segments. from_be_bytes w128 (octets_of segments)) (whole_value (read_ipv6 text))
 
+-- the address of a version that a text writes
+abbrev pub read_as : IpVersion → List ℕ → Option ℕ
+read_as V4 = address_of
+read_as V6 = address6_of
+
 -- no address, or one of those before
 abbrev pub is_bad_address : List ℕ → Option ℕ → Bool
 is_bad_address before None = true
@@ -60,15 +66,9 @@ texts_of (item d ds) = unwrap_or (as_str d) [] ∷ texts_of ds
 abbrev pub at_host : ℕ → List ℕ → List Address
 at_host host addresses = map (λ a. record { address = a; host = host }) addresses
 
-abbrev pub at_host6 : ℕ → List ℕ → List Address6
-at_host6 host addresses = map (λ a. record { address = a; host = host }) addresses
-
 -- the numbers of these addresses
 abbrev pub numbers_of : List Address → List ℕ
 numbers_of addresses = map (λ a. a.address) addresses
-
-abbrev pub numbers6_of : List Address6 → List ℕ
-numbers6_of addresses = map (λ a. a.address) addresses
 
 -- the addresses of hosts so far, of IPv4 and of IPv6
 pub record Known : Type 0 where

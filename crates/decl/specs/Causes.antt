@@ -7,23 +7,23 @@ use Rattle.decl.specs.declared.errors.DeclError.TheVariants.{Fault, Memory}
 use Rattle.decl.specs.declared.errors.Section.{Section}
 
 -- the number by which each cause is told
-abbrev pub number_of : Cause → ℕ
-number_of Document = 1
-number_of Key = 2
-number_of Shape = 3
-number_of Name = 4
-number_of Number = 5
-number_of Address = 6
-number_of Source = 7
-number_of Size = 8
+abbrev pub cause_number : Cause → ℕ
+cause_number Document = 1
+cause_number Key = 2
+cause_number Shape = 3
+cause_number Name = 4
+cause_number Number = 5
+cause_number Address = 6
+cause_number Source = 7
+cause_number Size = 8
 
 -- the fault of an entry of a section
-abbrev pub error_at : Section → ℕ → Cause → DeclError
-error_at section index cause = Fault (number_of cause) section index
+abbrev pub fault_of_entry : Section → ℕ → Cause → DeclError
+fault_of_entry section index cause = Fault (cause_number cause) section index
 
 -- the faults of an entry, by what is wrong with it
 abbrev pub at : Section → ℕ → List Cause → List DeclError
-at section index causes = map (error_at section index) causes
+at section index causes = map (fault_of_entry section index) causes
 
 -- a cause, if something is so
 abbrev pub when : Bool → Cause → List Cause

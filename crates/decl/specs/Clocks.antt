@@ -2,11 +2,11 @@
 use Rattle.std.specs.Prelude.{ℕ, ◌-◌, Bool, not, ◌||◌, ◌==◌, nat_le, is_some, if◌then◌else◌, List, [], ◌∷◌, ◌++◌, length, codes, slice_get, Option, Some, None, unwrap_or, option_and_then, ℤ, nat_abs}
 use Rattle.std.specs.List.{position_from}
 use Rattle.atto.specs.Span.{RateParts}
-use Rattle.problem_model.specs.Problem.{most_clocks}
 use Rattle.problem_model.specs.declared.items.Clock.{Clock}
+use Rattle.problem_model.specs.Limits.{most_clocks}
 use Rattle.toml.specs.Data.{as_table, Items, no_items, item, Members, no_members}
 use Rattle.decl.specs.Causes.{when}
-use Rattle.decl.specs.Keys.{table_causes, entry_causes, entry_of}
+use Rattle.decl.specs.Keys.{table_causes, entry_causes, entry_table}
 use Rattle.decl.specs.Limits.{most_short, most_long, nano_limit}
 use Rattle.decl.specs.Names.{is_clock_name}
 use Rattle.decl.specs.Places.{clock_place}
@@ -44,8 +44,8 @@ abbrev pub rate_of : Members → Members → RateParts
 rate_of own host = record { short = own_number (codes "short") own host; long = own_number (codes "long") own host }
 
 -- the clock of this name, by its own table and its host's
-abbrev pub clock_of : List ℕ → Members → Members → Clock
-clock_of name own host = record {
+abbrev pub clock_by_name : List ℕ → Members → Members → Clock
+clock_by_name name own host = record {
   name = name;
   rate = rate_of own host;
   early = own_number (codes "early") own host;
@@ -78,22 +78,22 @@ clock_tables host = items_or_none (codes "clocks") host
 -- the clocks of these tables
 abbrev pub table_clocks : Members → Items → List Clock
 table_clocks host no_items = []
-table_clocks host (item d ds) = clock_of (name_in (entry_of d)) (entry_of d) host ∷ table_clocks host ds
+table_clocks host (item d ds) = clock_by_name (name_in (entry_table d)) (entry_table d) host ∷ table_clocks host ds
 
 -- what is wrong with these tables, behind these clocks
 abbrev pub tables_causes : Members → List Clock → Items → List Cause
 tables_causes host before no_items = []
 tables_causes host before (item d ds) = entry_causes (clock_causes host before) (as_table d)
-    ++ tables_causes host (before ++ clock_of (name_in (entry_of d)) (entry_of d) host ∷ []) ds
+    ++ tables_causes host (before ++ clock_by_name (name_in (entry_table d)) (entry_table d) host ∷ []) ds
 
 -- the gaps in these tables
 abbrev pub table_gaps : Items → List ℕ
 table_gaps no_items = []
-table_gaps (item d ds) = number_at (codes "gap") (entry_of d) ∷ table_gaps ds
+table_gaps (item d ds) = number_at (codes "gap") (entry_table d) ∷ table_gaps ds
 
 -- the clocks of a host: those of its tables, or where there are none one clock of the host's own name and numbers
 abbrev pub clocks_by : List ℕ → Members → Items → List Clock
-clocks_by name host no_items = clock_of name no_members host ∷ []
+clocks_by name host no_items = clock_by_name name no_members host ∷ []
 clocks_by name host (item d ds) = table_clocks host (item d ds)
 
 -- their gaps

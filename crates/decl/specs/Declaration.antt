@@ -1,5 +1,5 @@
 -- What a declaration says, and the rules that it meets.
-use Rattle.std.specs.Prelude.{◌≡◌, ◌≢◌, ℕ, ◌+◌, ◌<◌, ◌≤◌, ◌==◌, if◌then◌else◌, List, length, slice_get, Option, Some, None, option_to_list, IfSome, All, AllPairs}
+use Rattle.std.specs.Prelude.{◌≡◌, ◌≢◌, ℕ, Bool, ◌+◌, ◌<◌, ◌≤◌, ◌==◌, if◌then◌else◌, List, length, slice_get, Option, Some, None, option_to_list, IfSome, All, AllPairs}
 use Rattle.std.specs.List.{flat_map, range_with_len}
 use Rattle.std.specs.Ordering.{nat_cmp}
 use Rattle.std.specs.declared.cmp.Ordering.TheVariants.{Less}
@@ -7,13 +7,15 @@ use Rattle.std.specs.Cmp.Lexicographic.{slice_cmp}
 use Rattle.problem_model.specs.declared.items.Clock.{Clock}
 use Rattle.problem_model.specs.declared.items.Follow.{Follow}
 use Rattle.problem_model.specs.Name.{IsClockName}
-use Rattle.problem_model.specs.Problem.{ClockFits, most_clocks}
+use Rattle.problem_model.specs.Problem.{ClockFits}
+use Rattle.problem_model.specs.Limits.{most_clocks}
 use Rattle.decl.specs.Limits.{most_entries, most_payload, nano_limit, address_limit}
-pub use Rattle.decl.specs.Firsts.{host_among, host6_among, bounds_among}
+pub use Rattle.decl.specs.Firsts.{host_among, bounds_among}
 use Rattle.decl.specs.declared.items.Decl.{Decl}
 use Rattle.decl.specs.declared.items.Owner.{Owner}
 use Rattle.decl.specs.declared.items.Address.{Address}
-use Rattle.decl.specs.declared.items.Address6.{Address6}
+use Rattle.decl.specs.declared.items.IpVersion.{IpVersion}
+use Rattle.decl.specs.declared.items.IpVersion.TheVariants.{V4, V6}
 use Rattle.decl.specs.declared.items.Label.{Label}
 use Rattle.decl.specs.declared.items.Link.{Link}
 
@@ -24,15 +26,16 @@ pub record Declaration : Type 0 where
   pub clocks : List Clock
   pub owners : List Owner
   pub addresses : List Address
-  pub addresses6 : List Address6
+  pub addresses6 : List Address
   pub labels : List Label
   pub links : List Link
   pub payload_bytes : ℕ
+  pub tcp_options : Bool
   pub source : Option ℕ
 
 -- what the code's own declaration says
 abbrev pub declaration_of : Decl → Declaration
-declaration_of d = record { hosts = d.hosts.items; clocks = d.clocks.items; owners = d.owners.items; addresses = d.addresses; addresses6 = d.addresses6; labels = d.labels.items; links = d.links; payload_bytes = d.payload_bytes; source = d.source }
+declaration_of d = record { hosts = d.hosts.items; clocks = d.clocks.items; owners = d.owners.items; addresses = d.addresses; addresses6 = d.addresses6; labels = d.labels.items; links = d.links; payload_bytes = d.payload_bytes; tcp_options = d.tcp_options; source = d.source }
 
 -- a name comes before another in byte order
 abbrev pub Precedes : List ℕ → List ℕ → Type 0
@@ -131,13 +134,10 @@ follows_of d = flat_map (λ k. option_to_list (follow_from d k)) (range_with_len
 abbrev pub AreOfOneHost : Declaration → ℕ → ℕ → Type 0
 AreOfOneHost d b c = (host : ℕ) × IsClockOf d.owners host b × IsClockOf d.owners host c
 
--- the host that has an address
-abbrev pub host_at : Declaration → ℕ → Option ℕ
-host_at d address = host_among d.addresses address
-
--- the host that has an address of IPv6
-abbrev pub host6_at : Declaration → ℕ → Option ℕ
-host6_at d address = host6_among d.addresses6 address
+-- the host that has an address of a version
+abbrev pub host_at : Declaration → IpVersion → ℕ → Option ℕ
+host_at d V4 address = host_among d.addresses address
+host_at d V6 address = host_among d.addresses6 address
 
 -- what a declaration says of the delay from one host to another
 abbrev pub link_bounds : Declaration → ℕ → ℕ → ℕ × Option ℕ

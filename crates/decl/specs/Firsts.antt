@@ -1,18 +1,12 @@
 -- What is found in a list of addresses or of links: what stands there first.
 use Rattle.std.specs.Prelude.{ℕ, ◌==◌, ◌&&◌, if◌then◌else◌, List, [], ◌∷◌, Option, Some, None}
 use Rattle.decl.specs.declared.items.Address.{Address}
-use Rattle.decl.specs.declared.items.Address6.{Address6}
 use Rattle.decl.specs.declared.items.Link.{Link}
 
 -- the host of the first of these addresses with this value
 abbrev pub host_among : List Address → ℕ → Option ℕ
 host_among [] address = None
 host_among (a ∷ more) address = if a.address == address then Some a.host else host_among more address
-
--- the same for addresses of IPv6
-abbrev pub host6_among : List Address6 → ℕ → Option ℕ
-host6_among [] address = None
-host6_among (a ∷ more) address = if a.address == address then Some a.host else host6_among more address
 
 -- the least and the greatest delay of the first of these links with these ends, or 0 and none
 abbrev pub bounds_among : List Link → ℕ → ℕ → ℕ × Option ℕ

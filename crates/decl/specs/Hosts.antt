@@ -2,10 +2,10 @@
 use Rattle.std.specs.Prelude.{ℕ, ◌+◌, Bool, not, ◌||◌, nat_lt, List, [], ◌∷◌, ◌++◌, map, codes}
 use Rattle.problem_model.specs.declared.items.Clock.{Clock}
 use Rattle.toml.specs.Data.{Data, as_table, Members, no_members, member}
-use Rattle.decl.specs.Addresses.{Known, address_of, address6_of, at_host, at_host6, has_bad_address, known_with, texts_of, written}
+use Rattle.decl.specs.Addresses.{Known, address_of, address6_of, at_host, has_bad_address, known_with, texts_of, written}
 use Rattle.decl.specs.Causes.{when, at}
 use Rattle.decl.specs.Clocks.{has_wild_number, clock_tables, clocks_by, gaps_by, clocks_causes}
-use Rattle.decl.specs.Keys.{table_causes, entry_causes, entry_of}
+use Rattle.decl.specs.Keys.{table_causes, entry_causes, entry_table}
 use Rattle.decl.specs.Limits.{most_entries}
 use Rattle.decl.specs.Names.{is_clock_name}
 use Rattle.decl.specs.Values.{items_or_none}
@@ -14,7 +14,6 @@ use Rattle.decl.specs.declared.cause.Cause.TheVariants.{Name, Number, Address}
 use Rattle.decl.specs.declared.errors.DeclError.{DeclError}
 use Rattle.decl.specs.declared.errors.Section.TheVariants.{Hosts}
 use Rattle.decl.specs.declared.items.Address.{Address as HostAddress}
-use Rattle.decl.specs.declared.items.Address6.{Address6 as HostAddress6}
 use Rattle.decl.specs.declared.items.Owner.{Owner}
 use Rattle.decl.specs.declared.keys.Form.TheVariants as form
 
@@ -45,10 +44,10 @@ host_causes index before clocks name ms = own_causes index before name ms ++ clo
 
 -- the addresses that a host writes
 abbrev pub addresses_in : Data → List ℕ
-addresses_in d = written address_of (address_texts (entry_of d))
+addresses_in d = written address_of (address_texts (entry_table d))
 
 abbrev pub addresses6_in : Data → List ℕ
-addresses6_in d = written address6_of (address6_texts (entry_of d))
+addresses6_in d = written address6_of (address6_texts (entry_table d))
 
 -- those of hosts before, and those that a host writes
 abbrev pub known_behind : Known → Data → Known
@@ -56,7 +55,7 @@ known_behind before d = known_with before (addresses_in d) (addresses6_in d)
 
 -- the clocks of a host
 abbrev pub clocks_in : List ℕ → Data → List Clock
-clocks_in name d = clocks_by name (entry_of d) (clock_tables (entry_of d))
+clocks_in name d = clocks_by name (entry_table d) (clock_tables (entry_table d))
 
 -- what is wrong with hosts from an index on, behind these addresses and clocks
 abbrev pub hosts_faults : ℕ → Known → List Clock → Members → List DeclError
@@ -81,7 +80,7 @@ owned_by host gaps = map (λ gap. record { host = host; gap = gap }) gaps
 -- the owners of the clocks of hosts whose places count from this one on
 abbrev pub owners_from : ℕ → Members → List Owner
 owners_from place no_members = []
-owners_from place (member name d ms) = owned_by place (gaps_by (clock_tables (entry_of d))) ++ owners_from (place + 1) ms
+owners_from place (member name d ms) = owned_by place (gaps_by (clock_tables (entry_table d))) ++ owners_from (place + 1) ms
 
 -- what labels may name: hosts, and their clocks
 pub record HostLists : Type 0 where
@@ -97,6 +96,6 @@ abbrev pub addresses_from : ℕ → Members → List HostAddress
 addresses_from place no_members = []
 addresses_from place (member name d ms) = at_host place (addresses_in d) ++ addresses_from (place + 1) ms
 
-abbrev pub addresses6_from : ℕ → Members → List HostAddress6
+abbrev pub addresses6_from : ℕ → Members → List HostAddress
 addresses6_from place no_members = []
-addresses6_from place (member name d ms) = at_host6 place (addresses6_in d) ++ addresses6_from (place + 1) ms
+addresses6_from place (member name d ms) = at_host place (addresses6_in d) ++ addresses6_from (place + 1) ms

@@ -3,17 +3,17 @@ use Rattle.std.specs.Prelude.{◌≡◌, ◌<◌, ℕ, List, None}
 use Rattle.decl.specs.declared.hosts.Books.{Books}
 use Rattle.decl.specs.declared.hosts.Hosts.{Hosts}
 use Rattle.decl.specs.declared.items.Owner.{Owner}
-use Rattle.decl.specs.Addresses.{Known, numbers_of, numbers6_of}
+use Rattle.decl.specs.Addresses.{Known, numbers_of}
 use Rattle.decl.specs.Clocks.{first_clock_place}
 use Rattle.decl.specs.Hosts.{HostLists}
 
 -- the addresses in the books
 abbrev pub known_in : Books → Known
-known_in books = record { narrow = numbers_of books.narrow; wide = numbers6_of books.wide }
+known_in books = record { narrow = numbers_of books.narrow; wide = numbers_of books.wide }
 
 -- the hosts and clocks that were read
-abbrev pub lists_of : Hosts → HostLists
-lists_of hosts = record { names = hosts.names.items; clocks = hosts.clocks.clocks; owners = hosts.clocks.owners }
+abbrev pub hosts_and_clocks : Hosts → HostLists
+hosts_and_clocks hosts = record { names = hosts.names.items; clocks = hosts.clocks.clocks; owners = hosts.clocks.owners }
 
 -- clocks of this host come next: each host before it has one, and none behind it
 pub record IsTurnOf (owners : List Owner) (host : ℕ) : Type 0 where

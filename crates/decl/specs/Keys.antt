@@ -2,18 +2,18 @@
 use Rattle.std.specs.Prelude.{ℕ, Bool, true, false, not, ◌&&◌, ◌||◌, is_none, is_some, List, [], ◌∷◌, ◌++◌, Option, Some, None, unwrap_or, codes}
 use Rattle.std.specs.Map.{lookup}
 use Rattle.std.specs.Str.{bytes_eq}
-use Rattle.toml.specs.Data.{Data, as_str, as_integer, as_array, as_table, Items, no_items, item, Members, no_members, member, get_member}
+use Rattle.toml.specs.Data.{Data, as_bool, as_str, as_integer, as_array, as_table, Items, no_items, item, Members, no_members, member, get_member}
 use Rattle.decl.specs.Causes.{when}
 use Rattle.decl.specs.declared.cause.Cause.{Cause}
 use Rattle.decl.specs.declared.cause.Cause.TheVariants as cause
 use Rattle.decl.specs.declared.keys.Form.{Form}
 use Rattle.decl.specs.declared.keys.Form.TheVariants.{Document, Host, Clock, Label, Link}
 use Rattle.decl.specs.declared.keys.Shape.{Shape}
-use Rattle.decl.specs.declared.keys.Shape.TheVariants.{Whole, Text, Texts, Array, Table}
+use Rattle.decl.specs.declared.keys.Shape.TheVariants.{Whole, Text, Texts, Array, Table, Flag}
 
 -- the keys that a table of each form may have, with what their values have to be
 abbrev pub shapes : Form → List (List ℕ × Shape)
-shapes Document = (codes "hosts", Table) ∷ (codes "labels", Table) ∷ (codes "links", Array) ∷ (codes "payload_bytes", Whole) ∷ (codes "source", Text) ∷ []
+shapes Document = (codes "hosts", Table) ∷ (codes "labels", Table) ∷ (codes "links", Array) ∷ (codes "payload_bytes", Whole) ∷ (codes "source", Text) ∷ (codes "tcp_options", Flag) ∷ []
 shapes Host = (codes "short", Whole) ∷ (codes "long", Whole) ∷ (codes "early", Whole) ∷ (codes "late", Whole) ∷ (codes "addresses", Texts) ∷ (codes "addresses6", Texts) ∷ (codes "clocks", Array) ∷ []
 shapes Clock = (codes "name", Text) ∷ (codes "short", Whole) ∷ (codes "long", Whole) ∷ (codes "early", Whole) ∷ (codes "late", Whole) ∷ (codes "gap", Whole) ∷ []
 shapes Label = (codes "host", Text) ∷ (codes "kind", Text) ∷ (codes "clock", Text) ∷ []
@@ -40,6 +40,7 @@ has_shape Text d = is_some (as_str d)
 has_shape Texts d = is_text_array (as_array d)
 has_shape Array d = is_some (as_array d)
 has_shape Table d = is_some (as_table d)
+has_shape Flag d = is_some (as_bool d)
 
 -- a key that the form knows has another value than it has to have
 abbrev pub misfits : Option Shape → Data → Bool
@@ -78,5 +79,5 @@ entry_causes causes None = cause.Shape ∷ []
 entry_causes causes (Some ms) = causes ms
 
 -- the table of an entry; none counts as an empty one
-abbrev pub entry_of : Data → Members
-entry_of d = unwrap_or (as_table d) no_members
+abbrev pub entry_table : Data → Members
+entry_table d = unwrap_or (as_table d) no_members

@@ -5,9 +5,9 @@ use Rattle.toml.specs.Data.{as_table, Members, no_members, member}
 use Rattle.decl.specs.Causes.{when, at}
 use Rattle.decl.specs.Clocks.{first_clock_place, own_clock_place}
 use Rattle.decl.specs.Hosts.{HostLists, is_one_too_many}
-use Rattle.decl.specs.Keys.{table_causes, entry_causes, entry_of}
+use Rattle.decl.specs.Keys.{table_causes, entry_causes, entry_table}
 use Rattle.decl.specs.Names.{is_clock_name}
-use Rattle.decl.specs.Places.{place_of}
+use Rattle.decl.specs.Places.{host_place}
 use Rattle.decl.specs.Values.{text_at, text_or_empty}
 use Rattle.decl.specs.declared.cause.Cause.{Cause}
 use Rattle.decl.specs.declared.cause.Cause.TheVariants.{Name, Number}
@@ -19,16 +19,16 @@ use Rattle.decl.specs.declared.items.TraceKind.TheVariants.{Capture, Log}
 use Rattle.decl.specs.declared.keys.Form.TheVariants as form
 
 -- the kind of trace of a word
-abbrev pub kind_of : List ℕ → Option TraceKind
-kind_of word = if bytes_eq word (codes "capture") then Some Capture else if bytes_eq word (codes "log") then Some Log else None
+abbrev pub trace_kind_of : List ℕ → Option TraceKind
+trace_kind_of word = if bytes_eq word (codes "capture") then Some Capture else if bytes_eq word (codes "log") then Some Log else None
 
 -- the place of the host that an entry names at a key
 abbrev pub host_at_key : List (List ℕ) → List ℕ → Members → Option ℕ
-host_at_key hosts key ms = place_of hosts (text_or_empty key ms)
+host_at_key hosts key ms = host_place hosts (text_or_empty key ms)
 
 -- the kind of trace of a label
-abbrev pub kind_at : Members → Option TraceKind
-kind_at ms = kind_of (text_or_empty (codes "kind") ms)
+abbrev pub trace_kind_at : Members → Option TraceKind
+trace_kind_at ms = trace_kind_of (text_or_empty (codes "kind") ms)
 
 -- the place of the clock that the label names, which must be this host's; where it names none, of the host's first clock
 abbrev pub clock_at_key : HostLists → ℕ → Members → Option ℕ
@@ -40,7 +40,7 @@ places_at hosts ms = option_and_then (λ host. option_map (λ clock. (host, cloc
 
 -- the label's name is misspelled, its host or its kind is unknown, or it names no clock of its host
 abbrev pub is_misnamed : HostLists → List ℕ → Members → Bool
-is_misnamed hosts name ms = not (is_clock_name name) || is_none (places_at hosts ms) || is_none (kind_at ms)
+is_misnamed hosts name ms = not (is_clock_name name) || is_none (places_at hosts ms) || is_none (trace_kind_at ms)
 
 -- what is wrong with the table of a label
 abbrev pub label_causes : HostLists → ℕ → List ℕ → Members → List Cause
@@ -52,7 +52,7 @@ label_of hosts name ms = record {
   name = name;
   host = (unwrap_or (places_at hosts ms) (0, 0)).0;
   clock = (unwrap_or (places_at hosts ms) (0, 0)).1;
-  kind = unwrap_or (kind_at ms) Capture;
+  kind = unwrap_or (trace_kind_at ms) Capture;
 }
 
 -- what is wrong with labels from an index on
@@ -63,4 +63,4 @@ labels_faults hosts index (member name d ms) = at Labels index (entry_causes (la
 -- the labels of these entries
 abbrev pub labels_of : HostLists → Members → List Label
 labels_of hosts no_members = []
-labels_of hosts (member name d ms) = label_of hosts name (entry_of d) ∷ labels_of hosts ms
+labels_of hosts (member name d ms) = label_of hosts name (entry_table d) ∷ labels_of hosts ms

@@ -1,10 +1,10 @@
 -- How much a declaration may say.
 use Rattle.std.specs.Prelude.{ℕ, ◌^◌}
-use Rattle.problem_model.specs.Problem.{most_clocks}
+use Rattle.problem_model.specs.Limits.{most_clocks}
 
 -- the most bytes of a document, which is held in memory whole, beside its values
-abbrev pub most_bytes : ℕ
-most_bytes = 2 ^ 24
+abbrev pub most_document_bytes : ℕ
+most_document_bytes = 2 ^ 24
 
 -- the most hosts, the most labels and the most links: as many as a problem has clocks, since each host has one or more
 abbrev pub most_entries : ℕ

@@ -4,7 +4,7 @@ use Rattle.std.specs.List.{list_any}
 use Rattle.toml.specs.Data.{as_table, Items, no_items, item, Members}
 use Rattle.decl.specs.Causes.{when, at}
 use Rattle.decl.specs.Hosts.{is_one_too_many}
-use Rattle.decl.specs.Keys.{table_causes, entry_causes, entry_of}
+use Rattle.decl.specs.Keys.{table_causes, entry_causes, entry_table}
 use Rattle.decl.specs.Labels.{host_at_key}
 use Rattle.decl.specs.Limits.{nano_limit}
 use Rattle.decl.specs.Values.{whole_at, whole_or_zero, number_at, is_up_to}
@@ -52,9 +52,9 @@ link_of hosts ms = record {
 abbrev pub links_faults : List (List ℕ) → ℕ → List Link → Items → List DeclError
 links_faults hosts index before no_items = []
 links_faults hosts index before (item d ds) = at Links index (entry_causes (link_causes hosts index before) (as_table d))
-    ++ links_faults hosts (index + 1) (before ++ link_of hosts (entry_of d) ∷ []) ds
+    ++ links_faults hosts (index + 1) (before ++ link_of hosts (entry_table d) ∷ []) ds
 
 -- the links of these items
 abbrev pub links_of : List (List ℕ) → Items → List Link
 links_of hosts no_items = []
-links_of hosts (item d ds) = link_of hosts (entry_of d) ∷ links_of hosts ds
+links_of hosts (item d ds) = link_of hosts (entry_table d) ∷ links_of hosts ds

@@ -1,6 +1,6 @@
 -- What stands at the keys of a table.
-use Rattle.std.specs.Prelude.{ℕ, Bool, not, ◌&&◌, nat_le, List, [], Option, unwrap_or, option_and_then, ℤ, pos, int_lt, nat_abs}
-use Rattle.toml.specs.Data.{as_str, as_integer, as_array, as_table, Items, no_items, Members, no_members, get_member}
+use Rattle.std.specs.Prelude.{ℕ, Bool, false, not, ◌&&◌, nat_le, List, [], Option, unwrap_or, option_and_then, ℤ, pos, int_lt, nat_abs}
+use Rattle.toml.specs.Data.{as_bool, as_str, as_integer, as_array, as_table, Items, no_items, Members, no_members, get_member}
 
 -- the whole number at a key, if one is there
 abbrev pub whole_at : List ℕ → Members → Option ℤ
@@ -17,6 +17,10 @@ array_at key ms = option_and_then as_array (get_member key ms)
 -- the table at a key, if one is there
 abbrev pub table_at : List ℕ → Members → Option Members
 table_at key ms = option_and_then as_table (get_member key ms)
+
+-- the flag at a key; false where none is there
+abbrev pub flag_at : List ℕ → Members → Bool
+flag_at key ms = unwrap_or (option_and_then as_bool (get_member key ms)) false
 
 -- the whole number at a key, or 0
 abbrev pub whole_or_zero : List ℕ → Members → ℤ

@@ -5,15 +5,15 @@ use Rattle.problem_model.specs.declared.items.Clock.{Clock}
 use Rattle.toml.specs.Data.{Items, Members}
 use Rattle.toml.specs.Parse.{parse_document}
 use Rattle.decl.specs.Addresses.{none_known}
-use Rattle.decl.specs.Causes.{when, at, error_at, IsFirstOf}
+use Rattle.decl.specs.Causes.{when, at, fault_of_entry, IsFirstOf}
 use Rattle.decl.specs.Declaration.{Declaration}
 use Rattle.decl.specs.Hosts.{hosts_of, clocks_of, owners_from, host_lists, addresses_from, addresses6_from, hosts_faults}
 use Rattle.decl.specs.Keys.{table_causes}
 use Rattle.decl.specs.Labels.{labels_of, labels_faults}
-use Rattle.decl.specs.Limits.{most_bytes, most_payload}
+use Rattle.decl.specs.Limits.{most_document_bytes, most_payload}
 use Rattle.decl.specs.Links.{links_of, links_faults}
 use Rattle.decl.specs.Places.{clock_place}
-use Rattle.decl.specs.Values.{whole_or_zero, number_at, is_up_to, text_at, table_or_empty, items_or_none}
+use Rattle.decl.specs.Values.{flag_at, whole_or_zero, number_at, is_up_to, text_at, table_or_empty, items_or_none}
 use Rattle.decl.specs.declared.cause.Cause.{Cause}
 use Rattle.decl.specs.declared.cause.Cause.TheVariants.{Document, Number, Source, Size}
 use Rattle.decl.specs.declared.errors.DeclError.{DeclError}
@@ -70,6 +70,7 @@ declared ms = record {
   labels = labels_of (host_lists (hosts_in ms)) (labels_in ms);
   links = links_of (hosts_of (hosts_in ms)) (links_in ms);
   payload_bytes = number_at (codes "payload_bytes") ms;
+  tcp_options = flag_at (codes "tcp_options") ms;
   source = option_and_then (clock_place (clocks_of (hosts_in ms))) (text_at (codes "source") ms);
 }
 
@@ -79,16 +80,16 @@ document_of bytes = if is_utf8 bytes then parse_document bytes else None
 
 -- all that is wrong with what was read
 abbrev pub faults_read : Option Members → List DeclError
-faults_read None = error_at Top 0 Document ∷ []
+faults_read None = fault_of_entry Top 0 Document ∷ []
 faults_read (Some document) = faults document
 
 -- all that is wrong with bytes: they are too many, or no document, or one with these faults
 abbrev pub faults_in : List ℕ → List DeclError
-faults_in bytes = if nat_lt most_bytes (length bytes) then error_at Top 0 Size ∷ [] else faults_read (document_of bytes)
+faults_in bytes = if nat_lt most_document_bytes (length bytes) then fault_of_entry Top 0 Size ∷ [] else faults_read (document_of bytes)
 
 -- the bytes are a document without a fault, which declares this
-abbrev pub Declares : List ℕ → Declaration → Type 0
-Declares bytes d = (faults_in bytes ≡ []) × (option_map declared (document_of bytes) ≡ Some d)
+abbrev pub IsDocumentOf : List ℕ → Declaration → Type 0
+IsDocumentOf bytes d = (faults_in bytes ≡ []) × (option_map declared (document_of bytes) ≡ Some d)
 
 -- the first fault of bytes; of want of memory nothing is said
 abbrev pub IsFirstFault : List ℕ → DeclError → Type 0

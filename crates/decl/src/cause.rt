@@ -1,6 +1,6 @@
 // What is wrong in a declaration.
 ghost use Rattle.std.specs.Prelude.{◌≡◌};
-ghost use Rattle.decl.specs.Causes.{number_of, error_at};
+ghost use Rattle.decl.specs.Causes.{cause_number, fault_of_entry};
 
 use crate::{DeclError, Section};
 
@@ -28,7 +28,7 @@ pub(crate) enum Cause {
 impl Cause {
     // The number by which it is told.
     fn number(self) -> u32
-        ensures { result ≡ number_of self }
+        ensures { result ≡ cause_number self }
     {
         match self {
             Cause::Document => 1,
@@ -44,7 +44,7 @@ impl Cause {
 
     // The fault of the entry of a section with this index.
     pub(crate) fn at(self, section: Section, index: u32) -> DeclError
-        ensures { result ≡ error_at section index self }
+        ensures { result ≡ fault_of_entry section index self }
     {
         DeclError::Fault {
             number: self.number(),

@@ -1,7 +1,7 @@
 // The numbers of a clock: those of its own table, or else of its host's.
 ghost use Rattle.std.specs.Prelude.{◌≡◌, ◌-◌, Some, None, if◌then◌else◌};
 ghost use Rattle.toml.specs.View.{table_view};
-ghost use Rattle.decl.specs.Clocks.{own_or_host, own_number, has_wild_rate, has_wild_number, rate_of, clock_of};
+ghost use Rattle.decl.specs.Clocks.{own_or_host, own_number, has_wild_rate, has_wild_number, rate_of, clock_by_name};
 ghost use Rattle.decl.specs.Limits.{nano_limit};
 ghost use Rattle.decl.specs.Values.{is_up_to};
 
@@ -53,7 +53,7 @@ fn read_rate(own: &Table, host: &Table) -> Option<Rate>
 
 // The clock of this name, if its numbers are in their ranges.
 pub(crate) fn read_numbers(name: Name, own: &Table, host: &Table) -> Option<Clock>
-    ensures { result ≡ (if has_wild_number (table_view own.now) (table_view host.now) then None else Some (clock_of name (table_view own.now) (table_view host.now))) }
+    ensures { result ≡ (if has_wild_number (table_view own.now) (table_view host.now) then None else Some (clock_by_name name (table_view own.now) (table_view host.now))) }
 {
     let Some(rate) = read_rate(own, host) else {
         return None;

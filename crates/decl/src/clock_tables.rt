@@ -3,10 +3,10 @@ ghost use Rattle.std.specs.Prelude.{◌≡◌, ◌-◌, ◌≤◌, ◌||◌, ◌
 ghost use Rattle.toml.specs.Data.{as_table, no_members};
 ghost use Rattle.toml.specs.View.{view, table_view, items_view};
 ghost use Rattle.decl.specs.Causes.{Tells, IsFirstOf, at, when};
-ghost use Rattle.decl.specs.Clocks.{clock_of, clock_causes, name_in, is_taken, have_no_room, table_clocks, table_gaps, tables_causes, clock_tables, clocks_by, gaps_by, clocks_causes};
+ghost use Rattle.decl.specs.Clocks.{clock_by_name, clock_causes, name_in, is_taken, have_no_room, table_clocks, table_gaps, tables_causes, clock_tables, clocks_by, gaps_by, clocks_causes};
 ghost use Rattle.decl.specs.Hosts.{owned_by};
 ghost use Rattle.decl.specs.Inside.{IsTurnOf};
-ghost use Rattle.decl.specs.Keys.{entry_causes, entry_of};
+ghost use Rattle.decl.specs.Keys.{entry_causes, entry_table};
 ghost use Rattle.decl.specs.Names.{is_clock_name};
 ghost use Rattle.decl.specs.Values.{number_at};
 ghost use Rattle.decl.specs.declared.cause.Cause.TheVariants as cause;
@@ -44,7 +44,7 @@ fn read_clock(
 ) -> Result<(Clock, Owner), Cause>
     requires { 1 ≤ index }
     ensures { Tells (clock_causes (table_view host.now) book.now.clocks (table_view own.now))
-        (clock_of (name_in (table_view own.now)) (table_view own.now) (table_view host.now), record { host = index - 1; gap = number_at (codes "gap") (table_view own.now) }) result }
+        (clock_by_name (name_in (table_view own.now)) (table_view own.now) (table_view host.now), record { host = index - 1; gap = number_at (codes "gap") (table_view own.now) }) result }
 {
     check_table(Form::Clock, own)?;
     let Some(name) = read_name(own, book) else {
@@ -74,8 +74,8 @@ fn add_clock(index: u32, value: &Value, host: &Table, book: &mut ClockBook) -> R
     requires turn { IsTurnOf book.old.owners (index - 1) }
     ensures fault { IfErr result (λ e. IsFirstOf (at Section.Hosts index (entry_causes (clock_causes (table_view host.now) book.old.clocks) (as_table (view value.now)))) e) }
     ensures sound { OnOk result (entry_causes (clock_causes (table_view host.now) book.old.clocks) (as_table (view value.now)) ≡ []) }
-    ensures clocks { OnOk result (let own = entry_of (view value.now) in book.new.clocks ≡ book.old.clocks ++ clock_of (name_in own) own (table_view host.now) ∷ []) }
-    ensures owners { OnOk result (book.new.owners ≡ book.old.owners ++ record { host = index - 1; gap = number_at (codes "gap") (entry_of (view value.now)) } ∷ []) }
+    ensures clocks { OnOk result (let own = entry_table (view value.now) in book.new.clocks ≡ book.old.clocks ++ clock_by_name (name_in own) own (table_view host.now) ∷ []) }
+    ensures owners { OnOk result (book.new.owners ≡ book.old.owners ++ record { host = index - 1; gap = number_at (codes "gap") (entry_table (view value.now)) } ∷ []) }
 {
     let Some(own) = value.as_table() else {
         return Err(Cause::Shape.at(Section::Hosts, index));
@@ -143,7 +143,7 @@ pub(crate) fn read_clocks(
 ) -> Result<(), DeclError>
     requires first { 1 ≤ index }
     requires turn { IsTurnOf book.old.owners (index - 1) }
-    requires own { clock ≡ clock_of clock.name no_members (table_view host.now) }
+    requires own { clock ≡ clock_by_name clock.name no_members (table_view host.now) }
     ensures fault { IfErr result (λ e. IsFirstOf (at Section.Hosts index (clocks_causes book.old.clocks clock.name (table_view host.now) (clock_tables (table_view host.now)))) e) }
     ensures sound { OnOk result (clocks_causes book.old.clocks clock.name (table_view host.now) (clock_tables (table_view host.now)) ≡ []) }
     ensures clocks { OnOk result (book.new.clocks ≡ book.old.clocks ++ clocks_by clock.name (table_view host.now) (clock_tables (table_view host.now))) }

@@ -1,5 +1,6 @@
 // The clocks of hosts so far, by their places, by their names and by their hosts.
 ghost use Rattle.std.specs.Prelude.{◌≡◌, ◌++◌, ◌∷◌, [], false, OnOk};
+ghost use Rattle.problem_model.specs.Limits.{most_clocks};
 ghost use Rattle.decl.specs.Booked.{Booked};
 ghost use Rattle.decl.specs.Clocks.{first_clock_place, own_clock_place, is_taken, have_no_room};
 ghost use Rattle.decl.specs.Inside.{IsTurnOf};
@@ -24,7 +25,7 @@ pub(crate) struct ClockBook {
 
 impl Model for ClockBook {
     ghost use Rattle.std.specs.Prelude.{◌≡◌, ◌≤◌, ℕ, map, length, slice_get};
-    ghost use Rattle.problem_model.specs.Problem.{most_clocks};
+    ghost use Rattle.problem_model.specs.Limits.{most_clocks};
     ghost use Rattle.decl.specs.Booked.{Booked};
     ghost use Rattle.decl.specs.Clocks.{first_clock_place};
 

@@ -4,7 +4,7 @@ ghost use Rattle.std.specs.Ordering.{nat_cmp};
 ghost use Rattle.std.specs.Cmp.Lexicographic.{slice_cmp};
 ghost use Rattle.decl.specs.Declaration.{Precedes};
 ghost use Rattle.decl.specs.Limits.{most_entries};
-ghost use Rattle.decl.specs.Places.{place_of};
+ghost use Rattle.decl.specs.Places.{host_place};
 
 use problem_model::Name;
 use std::cmp::Ordering;
@@ -20,7 +20,7 @@ fn compare(host: &Name, name: &[u8]) -> Ordering
 pub(crate) fn place_of(hosts: &[Name], name: &[u8]) -> Option<u32>
     requires rising { AllPairs Precedes hosts.now }
     requires few { length hosts.now ≤ most_entries }
-    ensures { result ≡ place_of hosts.now name.now }
+    ensures { result ≡ host_place hosts.now name.now }
 {
     match hosts.binary_search_by(|host| compare(host, name)) {
         Ok(place) => Some(place as u32),

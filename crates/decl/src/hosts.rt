@@ -2,13 +2,13 @@
 ghost use Rattle.std.specs.Prelude.{◌≡◌, ◌-◌, ◌≤◌, ◌||◌, ◌++◌, [], Some, None, not, if◌then◌else◌, length, AllPairs, IfOk, IfErr, IsTrue, OnOk};
 ghost use Rattle.toml.specs.Data.{as_table, no_members};
 ghost use Rattle.toml.specs.View.{view, table_view};
-ghost use Rattle.decl.specs.Addresses.{address_of, address6_of, at_host, at_host6, none_known, written};
+ghost use Rattle.decl.specs.Addresses.{address_of, address6_of, at_host, none_known, written};
 ghost use Rattle.decl.specs.Causes.{Tells, IsFirstOf, at, when};
-ghost use Rattle.decl.specs.Clocks.{clock_of, clock_tables, clocks_by, gaps_by, has_wild_number};
+ghost use Rattle.decl.specs.Clocks.{clock_by_name, clock_tables, clocks_by, gaps_by, has_wild_number};
 ghost use Rattle.decl.specs.Declaration.{Precedes};
 ghost use Rattle.decl.specs.Hosts.{address_texts, address6_texts, has_wrong_address, is_one_too_many, host_causes, hosts_faults, clocks_in, addresses_in, addresses6_in, owned_by, host_lists, addresses_from, addresses6_from};
-ghost use Rattle.decl.specs.Inside.{known_in, lists_of, IsTurnOf};
-ghost use Rattle.decl.specs.Keys.{table_causes, entry_causes, entry_of};
+ghost use Rattle.decl.specs.Inside.{known_in, hosts_and_clocks, IsTurnOf};
+ghost use Rattle.decl.specs.Keys.{table_causes, entry_causes, entry_table};
 ghost use Rattle.decl.specs.Limits.{most_entries};
 ghost use Rattle.decl.specs.Names.{is_clock_name};
 ghost use Rattle.decl.specs.declared.cause.Cause.TheVariants as cause;
@@ -20,7 +20,7 @@ use crate::clocks::ClockBook;
 use crate::keys::{Form, check_table};
 use crate::limits::MOST_ENTRIES;
 use crate::values::items_or_none;
-use crate::{Addresses, Addresses6, DeclError, Section};
+use crate::{Addresses, DeclError, IpVersion, Section};
 use problem_model::{Clock, Name};
 use std::alloc::{AllocError, Global};
 use toml::{Table, Value};
@@ -31,14 +31,14 @@ pub(crate) struct Hosts {
     pub(crate) names: Vec<Name>,
     pub(crate) clocks: ClockBook,
     pub(crate) addresses: Addresses,
-    pub(crate) addresses6: Addresses6,
+    pub(crate) addresses6: Addresses,
 }
 
 // The addresses of hosts so far, of IPv4 and of IPv6, and their clocks.
 #[derive(Drop)]
 pub(crate) struct Books {
     pub(crate) narrow: Addresses,
-    pub(crate) wide: Addresses6,
+    pub(crate) wide: Addresses,
     pub(crate) clocks: ClockBook,
 }
 
@@ -57,7 +57,7 @@ pub(crate) fn read_clock_name(text: &[u8]) -> Option<Name>
 fn read_own(index: u32, name: &str, table: &Table, empty: &Table) -> Result<Clock, Cause>
     requires { table_view empty.now ≡ no_members }
     ensures { Tells (table_causes Form.Host (table_view table.now) ++ when (not (is_clock_name name.now)) cause.Name ++ when (is_one_too_many index || has_wild_number no_members (table_view table.now)) cause.Number)
-        (clock_of name.now no_members (table_view table.now)) result }
+        (clock_by_name name.now no_members (table_view table.now)) result }
 {
     check_table(Form::Host, table)?;
     let Some(name) = read_clock_name(name.as_bytes()) else {
@@ -77,16 +77,18 @@ fn read_own(index: u32, name: &str, table: &Table, empty: &Table) -> Result<Cloc
 fn read_addresses(host: u32, table: &Table, books: &mut Books) -> Result<bool, AllocError>
     ensures fresh { IfOk result (λ fresh. fresh ≡ not (has_wrong_address (known_in books.old) (table_view table.now))) }
     ensures booked { IfOk result (λ fresh. IsTrue fresh → books.new.narrow ≡ books.old.narrow ++ at_host host (written address_of (address_texts (table_view table.now)))) }
-    ensures booked6 { IfOk result (λ fresh. IsTrue fresh → books.new.wide ≡ books.old.wide ++ at_host6 host (written address6_of (address6_texts (table_view table.now)))) }
+    ensures booked6 { IfOk result (λ fresh. IsTrue fresh → books.new.wide ≡ books.old.wide ++ at_host host (written address6_of (address6_texts (table_view table.now)))) }
     ensures clocks { books.new.clocks ≡ books.old.clocks }
 {
     if !books
         .narrow
-        .add_all(host, items_or_none(table, "addresses"))?
+        .add_all(IpVersion::V4, host, items_or_none(table, "addresses"))?
     {
         return Ok(false);
     }
-    books.wide.add_all(host, items_or_none(table, "addresses6"))
+    books
+        .wide
+        .add_all(IpVersion::V6, host, items_or_none(table, "addresses6"))
 }
 
 // Reads the table of the host with this index and name. Its addresses and clocks go into the books, behind those of hosts before.
@@ -105,7 +107,7 @@ fn read_table(
     ensures clocks { OnOk result (books.new.clocks.clocks ≡ books.old.clocks.clocks ++ clocks_by name.now (table_view table.now) (clock_tables (table_view table.now))) }
     ensures owners { OnOk result (books.new.clocks.owners ≡ books.old.clocks.owners ++ owned_by (index - 1) (gaps_by (clock_tables (table_view table.now)))) }
     ensures booked { OnOk result (books.new.narrow ≡ books.old.narrow ++ at_host (index - 1) (written address_of (address_texts (table_view table.now)))) }
-    ensures booked6 { OnOk result (books.new.wide ≡ books.old.wide ++ at_host6 (index - 1) (written address6_of (address6_texts (table_view table.now)))) }
+    ensures booked6 { OnOk result (books.new.wide ≡ books.old.wide ++ at_host (index - 1) (written address6_of (address6_texts (table_view table.now)))) }
     ensures fault { IfErr result (λ e. IsFirstOf (at Section.Hosts index (host_causes index (known_in books.old) books.old.clocks.clocks name.now (table_view table.now))) e) }
 {
     let clock = match read_own(index, name, table, empty) {
@@ -135,9 +137,9 @@ fn read_host(
     ensures sound { OnOk result (entry_causes (host_causes index (known_in books.old) books.old.clocks.clocks name.now) (as_table (view value.now)) ≡ []) }
     ensures named { IfOk result (λ own. own ≡ name.now) }
     ensures clocks { OnOk result (books.new.clocks.clocks ≡ books.old.clocks.clocks ++ clocks_in name.now (view value.now)) }
-    ensures owners { OnOk result (books.new.clocks.owners ≡ books.old.clocks.owners ++ owned_by (index - 1) (gaps_by (clock_tables (entry_of (view value.now))))) }
+    ensures owners { OnOk result (books.new.clocks.owners ≡ books.old.clocks.owners ++ owned_by (index - 1) (gaps_by (clock_tables (entry_table (view value.now))))) }
     ensures booked { OnOk result (books.new.narrow ≡ books.old.narrow ++ at_host (index - 1) (addresses_in (view value.now))) }
-    ensures booked6 { OnOk result (books.new.wide ≡ books.old.wide ++ at_host6 (index - 1) (addresses6_in (view value.now))) }
+    ensures booked6 { OnOk result (books.new.wide ≡ books.old.wide ++ at_host (index - 1) (addresses6_in (view value.now))) }
     ensures fault { IfErr result (λ e. IsFirstOf (at Section.Hosts index (entry_causes (host_causes index (known_in books.old) books.old.clocks.clocks name.now) (as_table (view value.now)))) e) }
 {
     match value.as_table() {
@@ -151,7 +153,7 @@ pub(crate) fn read_hosts(alloc: Global, table: &Table, empty: &Table) -> Result<
     requires { table_view empty.now ≡ no_members }
     ensures fault { IfErr result (λ e. IsFirstOf (hosts_faults 1 none_known [] (table_view table.now)) e) }
     ensures sound { OnOk result (hosts_faults 1 none_known [] (table_view table.now) ≡ []) }
-    ensures lists { IfOk result (λ hosts. lists_of hosts ≡ host_lists (table_view table.now)) }
+    ensures lists { IfOk result (λ hosts. hosts_and_clocks hosts ≡ host_lists (table_view table.now)) }
     ensures addresses { IfOk result (λ hosts. hosts.addresses ≡ addresses_from 0 (table_view table.now)) }
     ensures addresses6 { IfOk result (λ hosts. hosts.addresses6 ≡ addresses6_from 0 (table_view table.now)) }
     ensures rising { IfOk result (λ hosts. AllPairs Precedes hosts.names.items) }
@@ -160,7 +162,7 @@ pub(crate) fn read_hosts(alloc: Global, table: &Table, empty: &Table) -> Result<
     let mut names = Vec::new(alloc);
     let mut books = Books {
         narrow: Addresses::new(alloc),
-        wide: Addresses6::new(alloc),
+        wide: Addresses::new(alloc),
         clocks: ClockBook::new(alloc),
     };
     let mut index: u32 = 0;

@@ -1,5 +1,5 @@
 // What a declaration says.
-use crate::{Addresses, Addresses6, Links};
+use crate::{Addresses, Links};
 use atto::Nano;
 use problem_model::{Clock, Name};
 
@@ -16,16 +16,18 @@ pub struct Decl {
     pub clocks: Vec<Clock>,
     /// The owner of each clock, in the order of `clocks`.
     pub owners: Vec<Owner>,
-    /// The addresses of the hosts, by host, and those of one host as they were written.
+    /// The addresses of IPv4 of the hosts, by host, and those of one host as they were written.
     pub addresses: Addresses,
     /// Those of IPv6, likewise.
-    pub addresses6: Addresses6,
+    pub addresses6: Addresses,
     /// The traces.
     pub labels: Vec<Label>,
     /// What is known of delays, as it was written.
     pub links: Links,
     /// How much of a payload belongs to the key of a packet, in bytes: at most 64.
     pub payload_bytes: u8,
+    /// Whether options of TCP belong to that key too: timestamps and selective acknowledgments.
+    pub tcp_options: bool,
     /// The place of the clock that shows true time, if one is said to: it is never short or long.
     pub source: Option<u32>,
 }
@@ -40,19 +42,19 @@ pub struct Owner {
     pub gap: Nano,
 }
 
+/// A version of the internet protocol. Addresses of different versions are never the same.
+#[derive(Clone, Copy, Debug, PartialEq, Eq)]
+pub enum IpVersion {
+    /// IPv4, with addresses of 4 octets.
+    V4,
+    /// IPv6, with addresses of 16.
+    V6,
+}
+
 /// An address of a host.
 #[derive(Clone, Copy, Debug, PartialEq, Eq)]
 pub struct Address {
-    /// An IPv4 address, as the number of its octets in network byte order.
-    pub address: u32,
-    /// The place of its host, from 0 on.
-    pub host: u32,
-}
-
-/// An address of IPv6 of a host.
-#[derive(Clone, Copy, Debug, PartialEq, Eq)]
-pub struct Address6 {
-    /// The address, as the number of its 16 octets in network byte order.
+    /// The address, as the number of its octets in network byte order.
     pub address: u128,
     /// The place of its host, from 0 on.
     pub host: u32,

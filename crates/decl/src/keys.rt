@@ -36,6 +36,8 @@ pub(crate) enum Shape {
     Array,
     // A table.
     Table,
+    // True or false.
+    Flag,
 }
 
 // The shape that a table of this form asks of a key's value; None for a key that it may not have.
@@ -59,6 +61,7 @@ fn document_shape(key: &str) -> Option<Shape>
         "links" => Some(Shape::Array),
         "payload_bytes" => Some(Shape::Whole),
         "source" => Some(Shape::Text),
+        "tcp_options" => Some(Shape::Flag),
         _ => None,
     }
 }
@@ -111,7 +114,8 @@ impl Shape {
             (Shape::Whole, Value::Integer(_))
             | (Shape::Text, Value::String(_))
             | (Shape::Array, Value::Array(_))
-            | (Shape::Table, Value::Table(_)) => true,
+            | (Shape::Table, Value::Table(_))
+            | (Shape::Flag, Value::Boolean(_)) => true,
             (Shape::Texts, Value::Array(items)) => are_texts(items),
             _ => false,
         }

@@ -6,9 +6,9 @@ ghost use Rattle.problem_model.specs.Name.{IsClockName};
 ghost use Rattle.decl.specs.Causes.{Tells, IsFirstOf};
 ghost use Rattle.decl.specs.Clocks.{own_clock_place};
 ghost use Rattle.decl.specs.Declaration.{Precedes};
-ghost use Rattle.decl.specs.Inside.{lists_of};
-ghost use Rattle.decl.specs.Keys.{entry_causes, entry_of};
-ghost use Rattle.decl.specs.Labels.{kind_of, host_at_key, clock_at_key, places_at, is_misnamed, label_causes, label_of, labels_faults, labels_of};
+ghost use Rattle.decl.specs.Inside.{hosts_and_clocks};
+ghost use Rattle.decl.specs.Keys.{entry_causes, entry_table};
+ghost use Rattle.decl.specs.Labels.{trace_kind_of, host_at_key, clock_at_key, places_at, is_misnamed, label_causes, label_of, labels_faults, labels_of};
 ghost use Rattle.decl.specs.Limits.{most_entries};
 
 use crate::cause::Cause;
@@ -24,7 +24,7 @@ use std::alloc::Global;
 use toml::{Table, Value};
 
 fn read_kind(word: &str) -> Option<TraceKind>
-    ensures { result ≡ kind_of word.now }
+    ensures { result ≡ trace_kind_of word.now }
 {
     match word {
         "capture" => Some(TraceKind::Capture),
@@ -56,7 +56,7 @@ fn named_clock(clocks: &ClockBook, host: u32, name: &str) -> Option<u32>
 // The place of the clock that a label of this host names, or of the host's first one.
 fn clock_at_key(hosts: &Hosts, host: u32, table: &Table) -> Option<u32>
     requires { All (λ c. IsClockName c.name) hosts.now.clocks.clocks }
-    ensures { result ≡ clock_at_key (lists_of hosts.now) host (table_view table.now) }
+    ensures { result ≡ clock_at_key (hosts_and_clocks hosts.now) host (table_view table.now) }
 {
     match text_at(table, "clock") {
         Some(name) => named_clock(&hosts.clocks, host, name),
@@ -69,7 +69,7 @@ fn places_at(hosts: &Hosts, table: &Table) -> Option<(u32, u32)>
     requires rising { AllPairs Precedes hosts.now.names.items }
     requires few { length hosts.now.names.items ≤ most_entries }
     requires named { All (λ c. IsClockName c.name) hosts.now.clocks.clocks }
-    ensures { result ≡ places_at (lists_of hosts.now) (table_view table.now) }
+    ensures { result ≡ places_at (hosts_and_clocks hosts.now) (table_view table.now) }
 {
     let Some(host) = host_at_key(&hosts.names, "host", table) else {
         return None;
@@ -85,7 +85,7 @@ fn read_names(hosts: &Hosts, name: &str, table: &Table) -> Option<Label>
     requires rising { AllPairs Precedes hosts.now.names.items }
     requires few { length hosts.now.names.items ≤ most_entries }
     requires named { All (λ c. IsClockName c.name) hosts.now.clocks.clocks }
-    ensures { result ≡ (if is_misnamed (lists_of hosts.now) name.now (table_view table.now) then None else Some (label_of (lists_of hosts.now) name.now (table_view table.now))) }
+    ensures { result ≡ (if is_misnamed (hosts_and_clocks hosts.now) name.now (table_view table.now) then None else Some (label_of (hosts_and_clocks hosts.now) name.now (table_view table.now))) }
 {
     let Some(name) = read_clock_name(name.as_bytes()) else {
         return None;
@@ -109,7 +109,7 @@ fn read_label(hosts: &Hosts, index: u32, name: &str, table: &Table) -> Result<La
     requires rising { AllPairs Precedes hosts.now.names.items }
     requires few { length hosts.now.names.items ≤ most_entries }
     requires named { All (λ c. IsClockName c.name) hosts.now.clocks.clocks }
-    ensures { Tells (label_causes (lists_of hosts.now) index name.now (table_view table.now)) (label_of (lists_of hosts.now) name.now (table_view table.now)) result }
+    ensures { Tells (label_causes (hosts_and_clocks hosts.now) index name.now (table_view table.now)) (label_of (hosts_and_clocks hosts.now) name.now (table_view table.now)) result }
 {
     check_table(Form::Label, table)?;
     let Some(label) = read_names(hosts, name, table) else {
@@ -126,7 +126,7 @@ fn read_entry(hosts: &Hosts, index: u32, name: &str, value: &Value) -> Result<La
     requires rising { AllPairs Precedes hosts.now.names.items }
     requires few { length hosts.now.names.items ≤ most_entries }
     requires named { All (λ c. IsClockName c.name) hosts.now.clocks.clocks }
-    ensures { Tells (entry_causes (label_causes (lists_of hosts.now) index name.now) (as_table (view value.now))) (label_of (lists_of hosts.now) name.now (entry_of (view value.now))) result }
+    ensures { Tells (entry_causes (label_causes (hosts_and_clocks hosts.now) index name.now) (as_table (view value.now))) (label_of (hosts_and_clocks hosts.now) name.now (entry_table (view value.now))) result }
 {
     match value.as_table() {
         Some(table) => read_label(hosts, index, name, table),
@@ -143,9 +143,9 @@ pub(crate) fn read_labels(
     requires rising { AllPairs Precedes hosts.now.names.items }
     requires few { length hosts.now.names.items ≤ most_entries }
     requires named { All (λ c. IsClockName c.name) hosts.now.clocks.clocks }
-    ensures fault { IfErr result (λ e. IsFirstOf (labels_faults (lists_of hosts.now) 1 (table_view table.now)) e) }
-    ensures sound { OnOk result (labels_faults (lists_of hosts.now) 1 (table_view table.now) ≡ []) }
-    ensures labels { IfOk result (λ labels. labels.items ≡ labels_of (lists_of hosts.now) (table_view table.now)) }
+    ensures fault { IfErr result (λ e. IsFirstOf (labels_faults (hosts_and_clocks hosts.now) 1 (table_view table.now)) e) }
+    ensures sound { OnOk result (labels_faults (hosts_and_clocks hosts.now) 1 (table_view table.now) ≡ []) }
+    ensures labels { IfOk result (λ labels. labels.items ≡ labels_of (hosts_and_clocks hosts.now) (table_view table.now)) }
     ensures rising { IfOk result (λ labels. AllPairs (λ a b. Precedes a.name b.name) labels.items) }
 {
     let mut labels = Vec::new(alloc);

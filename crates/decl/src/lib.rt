@@ -8,6 +8,7 @@
 //! | `links` | an array with a table for each link |
 //! | `payload_bytes` | a whole number from 0 to 64; 0 where it is not there |
 //! | `source` | the name of a clock that shows true time |
+//! | `tcp_options` | true or false; false where it is not there |
 //!
 //! All may be left out, and there is no other key.
 //!
@@ -30,7 +31,6 @@
 #![tactic(auto)]
 
 mod addresses;
-mod addresses6;
 mod cause;
 mod clock_numbers;
 mod clock_tables;
@@ -48,10 +48,9 @@ mod lookups;
 mod read;
 mod values;
 
-pub use addresses::{Addresses, addresses_are_dotted};
-pub use addresses6::{Addresses6, addresses6_are_groups};
+pub use addresses::{Addresses, addresses_are_dotted, addresses6_are_groups};
 pub use errors::{DeclError, Section};
-pub use items::{Address, Address6, Decl, Label, Link, Owner, TraceKind};
+pub use items::{Address, Decl, IpVersion, Label, Link, Owner, TraceKind};
 pub use laws::clocks_of_a_host_follow;
 pub use links::Links;
 pub use read::read_decl;

@@ -5,7 +5,7 @@ ghost use Rattle.toml.specs.View.{view, table_view, items_view};
 ghost use Rattle.decl.specs.Causes.{Tells, IsFirstOf};
 ghost use Rattle.decl.specs.Declaration.{Precedes};
 ghost use Rattle.decl.specs.Firsts.{bounds_among};
-ghost use Rattle.decl.specs.Keys.{entry_causes, entry_of};
+ghost use Rattle.decl.specs.Keys.{entry_causes, entry_table};
 ghost use Rattle.decl.specs.Labels.{host_at_key};
 ghost use Rattle.decl.specs.Limits.{most_entries, nano_limit};
 ghost use Rattle.decl.specs.Links.{has_link, is_astray, most_at, link_causes, link_of, links_faults, links_of};
@@ -172,7 +172,7 @@ fn read_link(hosts: &[Name], book: &Links, index: u32, table: &Table) -> Result<
 fn read_entry(hosts: &[Name], book: &Links, index: u32, value: &Value) -> Result<Link, Cause>
     requires rising { AllPairs Precedes hosts.now }
     requires few { length hosts.now ≤ most_entries }
-    ensures { Tells (entry_causes (link_causes hosts.now index book.now) (as_table (view value.now))) (link_of hosts.now (entry_of (view value.now))) result }
+    ensures { Tells (entry_causes (link_causes hosts.now index book.now) (as_table (view value.now))) (link_of hosts.now (entry_table (view value.now))) result }
 {
     match value.as_table() {
         Some(table) => read_link(hosts, book, index, table),

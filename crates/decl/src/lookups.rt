@@ -3,10 +3,10 @@ ghost use Rattle.std.specs.Prelude.{◌≡◌, ◌≤◌, length, position};
 ghost use Rattle.std.specs.Cmp.Lexicographic.{slice_cmp};
 ghost use Rattle.std.specs.Ordering.{nat_cmp};
 ghost use Rattle.std.specs.Str.{bytes_eq};
-ghost use Rattle.problem_model.specs.Problem.{most_clocks};
-ghost use Rattle.decl.specs.Declaration.{HasLawfulLabels, declaration_of, host_at, host6_at, link_bounds, follow_from};
+ghost use Rattle.problem_model.specs.Limits.{most_clocks};
+ghost use Rattle.decl.specs.Declaration.{HasLawfulLabels, declaration_of, host_at, link_bounds, follow_from};
 
-use crate::{Decl, Label};
+use crate::{Decl, IpVersion, Label};
 use atto::Nano;
 use problem_model::Follow;
 use std::cmp::Ordering;
@@ -19,19 +19,15 @@ fn compare(label: &Label, name: &[u8]) -> Ordering
 }
 
 impl Decl {
-    /// The place of the host that has this address; None exactly where no host has it.
-    pub fn host_of(&self, address: u32) -> Option<u32>
-        ensures { result ≡ host_at (declaration_of self.now) address }
-    {
-        self.addresses.host_of(address)
-    }
-
-    /// The place of the host that has this address of IPv6, as the number of its 16 octets in network byte order; None
+    /// The place of the host that has this address of this version, the number of its octets in network byte order; None
     /// exactly where no host has it.
-    pub fn host_of6(&self, address: u128) -> Option<u32>
-        ensures { result ≡ host6_at (declaration_of self.now) address }
+    pub fn host_of(&self, version: IpVersion, address: u128) -> Option<u32>
+        ensures { result ≡ host_at (declaration_of self.now) version address }
     {
-        self.addresses6.host_of(address)
+        match version {
+            IpVersion::V4 => self.addresses.host_of(address),
+            IpVersion::V6 => self.addresses6.host_of(address),
+        }
     }
 
     /// The least and the greatest delay from one host to another, in ns of real time: 0 and None where there is no link.

@@ -6,7 +6,7 @@ ghost use Rattle.decl.specs.Causes.{Tells, IsFirstOf};
 ghost use Rattle.decl.specs.Declaration.{declaration_of, IsDeclaration};
 ghost use Rattle.decl.specs.Places.{clock_place};
 ghost use Rattle.decl.specs.Values.{number_at, text_at};
-ghost use Rattle.decl.specs.Walk.{Declares, IsFirstFault, declared, faults, is_true_at, shows_true, source_causes, top_causes};
+ghost use Rattle.decl.specs.Walk.{IsDocumentOf, IsFirstFault, declared, faults, is_true_at, shows_true, source_causes, top_causes};
 
 use crate::cause::Cause;
 use crate::clocks::ClockBook;
@@ -15,7 +15,7 @@ use crate::keys::{Form, check_table};
 use crate::labels::read_labels;
 use crate::limits::{MOST_BYTES, MOST_PAYLOAD};
 use crate::links::read_links;
-use crate::values::{items_or_none, number_up_to, table_or_empty, text_at};
+use crate::values::{flag_at, items_or_none, number_up_to, table_or_empty, text_at};
 use crate::{Decl, DeclError, Section};
 use problem_model::Clock;
 use std::alloc::Global;
@@ -116,6 +116,7 @@ fn read_document(alloc: Global, table: &Table) -> Result<Decl, DeclError>
         labels,
         links,
         payload_bytes,
+        tcp_options: flag_at(table, "tcp_options"),
         source,
     })
 }
@@ -123,7 +124,7 @@ fn read_document(alloc: Global, table: &Table) -> Result<Decl, DeclError>
 /// Reads a declaration, a TOML document of at most 2^24 bytes, or finds its first fault. Each answer comes exactly where
 /// it is defined, but for `Memory`, which comes where memory runs out.
 pub fn read_decl(alloc: Global, bytes: &[u8]) -> Result<Decl, DeclError>
-    ensures declares { IfOk result (λ d. Declares bytes.now (declaration_of d)) }
+    ensures declares { IfOk result (λ d. IsDocumentOf bytes.now (declaration_of d)) }
     ensures fault { IfErr result (λ e. IsFirstFault bytes.now e) }
     ensures lawful { IfOk result (λ d. IsDeclaration (declaration_of d)) }
 {

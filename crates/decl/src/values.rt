@@ -3,7 +3,7 @@ ghost use Rattle.std.specs.Prelude.{◌≡◌, ◌-◌, Some, None, Option, opti
 ghost use Rattle.toml.specs.Data.{get_member, no_members};
 ghost use Rattle.toml.specs.View.{view, table_view, array_view, items_view};
 ghost use Rattle.decl.specs.Limits.{nano_limit};
-ghost use Rattle.decl.specs.Values.{whole_at, whole_or_zero, text_at, text_or_empty, table_or_empty, array_at, items_or_none, is_up_to, number_at};
+ghost use Rattle.decl.specs.Values.{flag_at, whole_at, whole_or_zero, text_at, text_or_empty, table_or_empty, array_at, items_or_none, is_up_to, number_at};
 
 use crate::limits::NANO_LIMIT;
 use atto::Nano;
@@ -24,6 +24,16 @@ pub(crate) fn whole_at(table: &Table, key: &str) -> Option<i64>
     match value_at(table, key) {
         Some(value) => value.as_integer(),
         None => None,
+    }
+}
+
+// The flag at a key; false where none is there.
+pub(crate) fn flag_at(table: &Table, key: &str) -> bool
+    ensures { result ≡ flag_at key.now (table_view table.now) }
+{
+    match value_at(table, key) {
+        Some(value) => value.as_bool() == Some(true),
+        None => false,
     }
 }
 

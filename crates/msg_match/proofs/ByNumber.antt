@@ -8,7 +8,7 @@ use Rattle.traces.specs.declared.event.Side.{Side}
 use Rattle.traces.specs.declared.event.Side.TheVariants.{Send, Receive}
 use Rattle.traces.specs.Seen.{EventKey, is_same_side}
 use Rattle.msg_match.specs.declared.change.Tallies.{Tallies}
-use Rattle.msg_match.specs.Groups.{SeenItem, are_ambiguous, events_with, group_of, has_mark, is_ambiguous, is_matched, is_unmatched, only_two}
+use Rattle.msg_match.specs.Groups.{SeenItem, are_ambiguous, events_with, group_of, has_mark, is_ambiguous, is_matched, is_unmatched, only_couple}
 use Rattle.msg_match.specs.Messages.{has_ambiguous_key, is_unmatched_event, sends_message, tallies}
 use Rattle.traces.specs.declared.event_id.EventId.{EventId}
 use Rattle.msg_match.specs.Ends.{End}
@@ -24,7 +24,7 @@ is_one (suc zero) = true
 is_one (suc (suc n)) = false
 
 -- a send and a receive alone, told by how many there are
-pub told_alone : (sends receives : List ℕ) → is_some (only_two sends receives) ≡ (is_one (length sends) && is_one (length receives))
+pub told_alone : (sends receives : List ℕ) → is_some (only_couple sends receives) ≡ (is_one (length sends) && is_one (length receives))
 told_alone [] receives = refl
 told_alone (s ∷ t ∷ sends) receives = refl
 told_alone (s ∷ []) [] = refl

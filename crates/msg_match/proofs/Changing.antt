@@ -10,7 +10,7 @@ use Rattle.traces.specs.declared.event.Side.{Side}
 use Rattle.traces.specs.declared.event.Side.TheVariants.{Send, Receive}
 use Rattle.traces.specs.Seen.{EventKey, is_same_key, is_same_side}
 use Rattle.msg_match.specs.declared.change.Couple.{Couple}
-use Rattle.msg_match.specs.Groups.{SeenItem, couple_of, events_with, group_of, has_mark, only_two}
+use Rattle.msg_match.specs.Groups.{SeenItem, couple_of, events_with, group_of, has_mark, only_couple}
 use Rattle.msg_match.specs.Messages.{IsMessage}
 use Rattle.msg_match.specs.Changes.{AreMessagesAnew, HaveOwnNumbers}
 use Rattle.msg_match.specs.Parts.{AreCouplesOf, IsCoupleOf}
@@ -18,7 +18,7 @@ use Rattle.msg_match.proofs.Grouping.{exact_keys, none_with, some_with}
 use Rattle.msg_match.proofs.Keeping.{key_in, key_known}
 
 -- ---- the message of a key
-pub two_parts : (ss rs : List ℕ) (m : Couple) → only_two ss rs ≡ Some m → (ss ≡ m.send ∷ []) × (rs ≡ m.receive ∷ [])
+pub two_parts : (ss rs : List ℕ) (m : Couple) → only_couple ss rs ≡ Some m → (ss ≡ m.send ∷ []) × (rs ≡ m.receive ∷ [])
 two_parts [] rs m is = absurd (none-some m is)
 two_parts (s ∷ t ∷ more) rs m is = absurd (none-some m is)
 two_parts (s ∷ []) [] m is = absurd (none-some m is)
@@ -27,8 +27,8 @@ two_parts (s ∷ []) (r ∷ []) m is =
     let same = same_Some (record { send = s; receive = r }) m is in
     (ap (λ (c : Couple). c.send ∷ []) same, ap (λ (c : Couple). c.receive ∷ []) same)
 
-pub two_made : (ss rs : List ℕ) (m : Couple) → ss ≡ m.send ∷ [] → rs ≡ m.receive ∷ [] → only_two ss rs ≡ Some m
-two_made ss rs m sent received = ap (λ (l : List ℕ). only_two l rs) sent ∙ ap (λ (l : List ℕ). only_two (m.send ∷ []) l) received
+pub two_made : (ss rs : List ℕ) (m : Couple) → ss ≡ m.send ∷ [] → rs ≡ m.receive ∷ [] → only_couple ss rs ≡ Some m
+two_made ss rs m sent received = ap (λ (l : List ℕ). only_couple l rs) sent ∙ ap (λ (l : List ℕ). only_couple (m.send ∷ []) l) received
 
 -- ---- events by their numbers
 first_of : (xs : List SeenItem) (n : ℕ) (more : List ℕ) → map (λ (x : SeenItem). x.event) xs ≡ n ∷ more → (a : SeenItem) × Contains xs a × (a.event ≡ n)

@@ -7,17 +7,18 @@ use Rattle.std.proofs.lemmas.List.{get_or-map, length-map, take-map}
 use Rattle.std.proofs.lemmas.List.Elements.{All-head, All-tail}
 use Rattle.std.proofs.lemmas.List.Folds.{fold-map}
 use Rattle.std.proofs.lemmas.List.Sums.{get_or-le-sum_by, sum_by-cons, sum_by_more_le_part}
+use Rattle.problem_model.specs.Limits.{most_items}
 use Rattle.traces.specs.declared.event.Side.{Side}
 use Rattle.traces.specs.declared.event.Side.TheVariants.{Send, Receive}
 use Rattle.traces.specs.Seen.{EventKey, is_same_key, is_same_side}
 use Rattle.msg_match.specs.declared.change.Tallies.{Tallies}
 use Rattle.msg_match.specs.declared.entry.Entry.{Entry}
 use Rattle.msg_match.specs.declared.group.Group.{Group}
-use Rattle.msg_match.specs.Groups.{SeenItem, SeenGroup, events_with, group_of, is_ambiguous, is_matched, is_unmatched, keys_of, size_of}
+use Rattle.msg_match.specs.Groups.{SeenItem, SeenGroup, events_with, group_of, is_ambiguous, is_matched, is_unmatched, keys_of, group_size}
 use Rattle.msg_match.specs.Held.{seen_group, seen_groups}
-use Rattle.msg_match.specs.Inside.{AreKept, item_by, items_by}
+use Rattle.msg_match.specs.Inside.{AreGrouped, item_by, items_by}
 use Rattle.msg_match.specs.Messages.{has_ambiguous_key, is_unmatched_event, sends_message, tallies}
-use Rattle.msg_match.specs.Parts.{sum_of, tallies_of, total_of}
+use Rattle.msg_match.specs.Parts.{sum_of_groups, tallies_of, total_of}
 use Rattle.msg_match.proofs.Distinct.{AreApart, known_at}
 use Rattle.msg_match.proofs.Grouping.{exact_keys, size_cons, some_with}
 use Rattle.msg_match.proofs.Keeping.{any_of, key_known, keys_apart}
@@ -113,7 +114,7 @@ by_groups P part items agree =
 
 -- ---- tests that go by the key
 -- a test on keys passes all events of a key, or none
-count_key : (U : EventKey → Bool) (items : List SeenItem) (k : EventKey) → count_of (λ (x : SeenItem). U x.key) items k ≡ cond (U k) (size_of (group_of items k)) 0
+count_key : (U : EventKey → Bool) (items : List SeenItem) (k : EventKey) → count_of (λ (x : SeenItem). U x.key) items k ≡ cond (U k) (group_size (group_of items k)) 0
 count_key U [] k = elim (cases_Bool (U k)) [
   | inl yes' ↦ rw yes' refl
   | inr no' ↦ rw no' refl
@@ -128,12 +129,12 @@ count_key U (x ∷ items) k =
           let is : U x.key ≡ U k = ap U (exact_keys.one x.key k same) in
           let one' : ◌≡◌ {A = ℕ} (cond (is_same_key x.key k) 1 0) 1 = ap (λ (b : Bool). cond b 1 0) same in
           let here : at_key x.key (cond (P x) 1 0) k ≡ cond (U k) 1 0 = ap (λ (b : Bool). cond b (cond (P x) 1 0) 0) same ∙ ap (λ (b : Bool). cond b 1 0) is in
-          key_step (U k) (count_of P (x ∷ items) k) (count_of P items k) (size_of (group_of (x ∷ items) k)) (size_of (group_of items k)) (first ∙ ap (λ (n : ℕ). n + count_of P items k) here) (size ∙ ap (λ (n : ℕ). n + size_of (group_of items k)) one') more
+          key_step (U k) (count_of P (x ∷ items) k) (count_of P items k) (group_size (group_of (x ∷ items) k)) (group_size (group_of items k)) (first ∙ ap (λ (n : ℕ). n + count_of P items k) here) (size ∙ ap (λ (n : ℕ). n + group_size (group_of items k)) one') more
           )
       | inr other ↦ (
           let none : ◌≡◌ {A = ℕ} (cond (is_same_key x.key k) 1 0) 0 = ap (λ (b : Bool). cond b 1 0) other in
           let here : at_key x.key (cond (P x) 1 0) k ≡ 0 = ap (λ (b : Bool). cond b (cond (P x) 1 0) 0) other in
-          let same_size : size_of (group_of (x ∷ items) k) ≡ size_of (group_of items k) = omega (arith, size, none) in
+          let same_size : group_size (group_of (x ∷ items) k) ≡ group_size (group_of items k) = omega (arith, size, none) in
           omega (arith, first, here, more, ap (λ (n : ℕ). cond (U k) n 0) same_size)
           )
     ]
@@ -194,13 +195,13 @@ same_tallies m m' u u' a a' messages unmatched ambiguous =
     ap (λ (n : ℕ). made_tallies n u a) messages ∙ ap (λ (n : ℕ). made_tallies m' n a) unmatched ∙ ap (λ (n : ℕ). made_tallies m' u' n) ambiguous
 
 -- what all groups count as is what is counted
-pub sums_are : (items : List SeenItem) → sum_of (map (group_of items) (keys_of items)) ≡ tallies items
+pub sums_are : (items : List SeenItem) → sum_of_groups (map (group_of items) (keys_of items)) ≡ tallies items
 sums_are items =
     same_tallies _ _ _ _ _ _
     (by_groups (sends_message items) (λ (g : SeenGroup). cond (is_matched g) 1 0) items
     (λ k. count_send (λ (j : EventKey). is_matched (group_of items j)) items k ∙ matched_one (events_with items k Send) (events_with items k Receive) k))
-    (by_groups (is_unmatched_event items) (λ (g : SeenGroup). cond (is_unmatched g) (size_of g) 0) items (λ k. count_key (λ (j : EventKey). is_unmatched (group_of items j)) items k))
-    (by_groups (has_ambiguous_key items) (λ (g : SeenGroup). cond (is_ambiguous g) (size_of g) 0) items (λ k. count_key (λ (j : EventKey). is_ambiguous (group_of items j)) items k))
+    (by_groups (is_unmatched_event items) (λ (g : SeenGroup). cond (is_unmatched g) (group_size g) 0) items (λ k. count_key (λ (j : EventKey). is_unmatched (group_of items j)) items k))
+    (by_groups (has_ambiguous_key items) (λ (g : SeenGroup). cond (is_ambiguous g) (group_size g) 0) items (λ k. count_key (λ (j : EventKey). is_ambiguous (group_of items j)) items k))
 
 all_pass : (items : List SeenItem) → length (filter (λ (x : SeenItem). true) items) ≡ length items
 all_pass [] = refl
@@ -208,45 +209,45 @@ all_pass (x ∷ items) = omega (arith, all_pass items)
 
 -- there are as many events in all groups as were added
 pub totals_are : (items : List SeenItem) → total_of (map (group_of items) (keys_of items)) ≡ length items
-totals_are items = by_groups (λ (x : SeenItem). true) size_of items (λ k. count_key (λ (j : EventKey). true) items k) ∙ all_pass items
+totals_are items = by_groups (λ (x : SeenItem). true) group_size items (λ k. count_key (λ (j : EventKey). true) items k) ∙ all_pass items
 
-groups_of_kept : (keys : List EventKey) (log : List Entry) (groups : List SeenGroup) → AreKept keys log groups → groups ≡ map (group_of (items_by keys log)) (keys_of (items_by keys log))
+groups_of_kept : (keys : List EventKey) (log : List Entry) (groups : List SeenGroup) → AreGrouped keys log groups → groups ≡ map (group_of (items_by keys log)) (keys_of (items_by keys log))
 groups_of_kept keys log groups kept = kept.grouped ∙ ap (map (group_of (items_by keys log))) kept.ordered
 
-pub tallies_kept : (keys : List EventKey) (log : List Entry) (groups : List SeenGroup) → AreKept keys log groups → sum_of groups ≡ tallies (items_by keys log)
-tallies_kept keys log groups kept = ap (λ (gs : List SeenGroup). sum_of gs) (groups_of_kept keys log groups kept) ∙ sums_are (items_by keys log)
+pub tallies_kept : (keys : List EventKey) (log : List Entry) (groups : List SeenGroup) → AreGrouped keys log groups → sum_of_groups groups ≡ tallies (items_by keys log)
+tallies_kept keys log groups kept = ap (λ (gs : List SeenGroup). sum_of_groups gs) (groups_of_kept keys log groups kept) ∙ sums_are (items_by keys log)
 
-pub total_kept : (keys : List EventKey) (log : List Entry) (groups : List SeenGroup) → AreKept keys log groups → total_of groups ≤ 2 ^ 22
+pub total_kept : (keys : List EventKey) (log : List Entry) (groups : List SeenGroup) → AreGrouped keys log groups → total_of groups ≤ most_items
 total_kept keys log groups kept =
     let is : total_of groups ≡ length log = ap (λ (gs : List SeenGroup). total_of gs) (groups_of_kept keys log groups kept) ∙ totals_are (items_by keys log) ∙ length-map log (item_by keys) in
-    subst (λ (n : ℕ). n ≤ 2 ^ 22) (sym is) kept.few
+    subst (λ (n : ℕ). n ≤ most_items) (sym is) kept.few
 
 below_both : (n m total top : ℕ) → n ≡ m → m ≤ total → total ≤ top → n ≤ top
 below_both n m total top is few within = omega (arith, is, few, within)
 
 -- there are no more groups than events
-keys_sized : (items : List SeenItem) → All (λ (k : EventKey). 0 < size_of (group_of items k)) (keys_of items)
+keys_sized : (items : List SeenItem) → All (λ (k : EventKey). 0 < group_size (group_of items k)) (keys_of items)
 keys_sized items i d inside =
     let key = get_or (keys_of items) i d in
     some_with items key (sym (any_of items key) ∙ known_at is_same_key exact_keys (keys_of items) i d key inside refl)
 
-some_sized : (items : List SeenItem) (ks : List EventKey) → All (λ (k : EventKey). 0 < size_of (group_of items k)) ks → length ks ≤ total_of (map (group_of items) ks)
+some_sized : (items : List SeenItem) (ks : List EventKey) → All (λ (k : EventKey). 0 < group_size (group_of items k)) ks → length ks ≤ total_of (map (group_of items) ks)
 some_sized items [] sized = omega arith
 some_sized items (k ∷ ks) sized =
-    let R : EventKey → Type 0 = λ j. 0 < size_of (group_of items j) in
-    omega (arith, sum_by-cons size_of (group_of items k) (map (group_of items) ks), All-head R k ks sized, some_sized items ks (All-tail R k ks sized))
+    let R : EventKey → Type 0 = λ j. 0 < group_size (group_of items j) in
+    omega (arith, sum_by-cons group_size (group_of items k) (map (group_of items) ks), All-head R k ks sized, some_sized items ks (All-tail R k ks sized))
 
-pub groups_few : (keys : List EventKey) (log : List Entry) (groups : List SeenGroup) → AreKept keys log groups → length groups ≤ 2 ^ 22
+pub groups_few : (keys : List EventKey) (log : List Entry) (groups : List SeenGroup) → AreGrouped keys log groups → length groups ≤ most_items
 groups_few keys log groups kept =
     let items = items_by keys log in
     let total = total_kept keys log groups kept in
     let is = groups_of_kept keys log groups kept in
     let few : length (keys_of items) ≤ total_of groups = subst (λ (gs : List SeenGroup). length (keys_of items) ≤ total_of gs) (sym is) (some_sized items (keys_of items) (keys_sized items)) in
     let many : length groups ≡ length (keys_of items) = ap length is ∙ length-map (keys_of items) (group_of items) in
-    below_both (length groups) (length (keys_of items)) (total_of groups) (2 ^ 22) many few total
+    below_both (length groups) (length (keys_of items)) (total_of groups) (most_items) many few total
 
 -- ---- the loop over groups
-matched_le : (sends receives : List ℕ) (key : EventKey) → let g : SeenGroup = record { key = key; sends = sends; receives = receives } in cond (is_matched g) 1 0 ≤ size_of g
+matched_le : (sends receives : List ℕ) (key : EventKey) → let g : SeenGroup = record { key = key; sends = sends; receives = receives } in cond (is_matched g) 1 0 ≤ group_size g
 matched_le [] receives key = omega arith
 matched_le (s ∷ t ∷ more) receives key = omega arith
 matched_le (s ∷ []) [] key = omega arith
@@ -260,32 +261,32 @@ chosen_le false n = omega arith
 fits_below : (so_far here rest total top wide : ℕ) → so_far + rest ≤ total → here ≤ rest → total ≤ top → top < wide → so_far + here < wide
 fits_below so_far here rest total top wide joined part within below = omega (arith, joined, part, within, below)
 
-more_fits : (f : SeenGroup → ℕ) → ((h : SeenGroup) → f h ≤ size_of h) → (groups : List Group) (i : ℕ) (g : Group) → i < length groups → g ≡ get_or groups i g → total_of (seen_groups groups) ≤ 2 ^ 22
+more_fits : (f : SeenGroup → ℕ) → ((h : SeenGroup) → f h ≤ group_size h) → (groups : List Group) (i : ℕ) (g : Group) → i < length groups → g ≡ get_or groups i g → total_of (seen_groups groups) ≤ most_items
     → sum_by f (seen_groups (take i groups)) + f (seen_group g) < 2 ^ 32
 more_fits f part groups i g inside is few =
     let xs = seen_groups groups in
     let place : i < length xs = subst (λ (n : ℕ). i < n) (sym (length-map groups seen_group)) inside in
-    let joined : sum_by f (take i xs) + size_of (get_or xs i (seen_group g)) ≤ total_of xs = sum_by_more_le_part f size_of xs i (seen_group g) place part in
+    let joined : sum_by f (take i xs) + group_size (get_or xs i (seen_group g)) ≤ total_of xs = sum_by_more_le_part f group_size xs i (seen_group g) place part in
     let front : take i xs ≡ seen_groups (take i groups) = take-map seen_group i groups in
     let at : get_or xs i (seen_group g) ≡ seen_group g = get_or-map seen_group groups i g (seen_group g) inside ∙ ap seen_group (sym is) in
-    let joined' : sum_by f (seen_groups (take i groups)) + size_of (seen_group g) ≤ total_of xs =
-    subst (λ (h : SeenGroup). sum_by f (seen_groups (take i groups)) + size_of h ≤ total_of xs) at (subst (λ (l : List SeenGroup). sum_by f l + size_of (get_or xs i (seen_group g)) ≤ total_of xs) front joined) in
-    fits_below (sum_by f (seen_groups (take i groups))) (f (seen_group g)) (size_of (seen_group g)) (total_of xs) (2 ^ 22) (2 ^ 32) joined' (part (seen_group g)) few (lit< tt)
+    let joined' : sum_by f (seen_groups (take i groups)) + group_size (seen_group g) ≤ total_of xs =
+    subst (λ (h : SeenGroup). sum_by f (seen_groups (take i groups)) + group_size h ≤ total_of xs) at (subst (λ (l : List SeenGroup). sum_by f l + group_size (get_or xs i (seen_group g)) ≤ total_of xs) front joined) in
+    fits_below (sum_by f (seen_groups (take i groups))) (f (seen_group g)) (group_size (seen_group g)) (total_of xs) (most_items) (2 ^ 32) joined' (part (seen_group g)) few (lit< tt)
 
 -- what is counted never passes the number of events
-pub messages_fit : (groups : List Group) (i : ℕ) (g : Group) → i < length groups → g ≡ get_or groups i g → total_of (seen_groups groups) ≤ 2 ^ 22 → (sum_of (seen_groups (take i groups))).messages + (tallies_of (seen_group g)).messages < 2 ^ 32
+pub messages_fit : (groups : List Group) (i : ℕ) (g : Group) → i < length groups → g ≡ get_or groups i g → total_of (seen_groups groups) ≤ most_items → (sum_of_groups (seen_groups (take i groups))).messages + (tallies_of (seen_group g)).messages < 2 ^ 32
 messages_fit groups i g inside is few = more_fits (λ (h : SeenGroup). cond (is_matched h) 1 0) (λ h. matched_le h.sends h.receives h.key) groups i g inside is few
 
-pub unmatched_fit : (groups : List Group) (i : ℕ) (g : Group) → i < length groups → g ≡ get_or groups i g → total_of (seen_groups groups) ≤ 2 ^ 22 → (sum_of (seen_groups (take i groups))).unmatched + (tallies_of (seen_group g)).unmatched < 2 ^ 32
-unmatched_fit groups i g inside is few = more_fits (λ (h : SeenGroup). cond (is_unmatched h) (size_of h) 0) (λ h. chosen_le (is_unmatched h) (size_of h)) groups i g inside is few
+pub unmatched_fit : (groups : List Group) (i : ℕ) (g : Group) → i < length groups → g ≡ get_or groups i g → total_of (seen_groups groups) ≤ most_items → (sum_of_groups (seen_groups (take i groups))).unmatched + (tallies_of (seen_group g)).unmatched < 2 ^ 32
+unmatched_fit groups i g inside is few = more_fits (λ (h : SeenGroup). cond (is_unmatched h) (group_size h) 0) (λ h. chosen_le (is_unmatched h) (group_size h)) groups i g inside is few
 
-pub ambiguous_fit : (groups : List Group) (i : ℕ) (g : Group) → i < length groups → g ≡ get_or groups i g → total_of (seen_groups groups) ≤ 2 ^ 22 → (sum_of (seen_groups (take i groups))).ambiguous + (tallies_of (seen_group g)).ambiguous < 2 ^ 32
-ambiguous_fit groups i g inside is few = more_fits (λ (h : SeenGroup). cond (is_ambiguous h) (size_of h) 0) (λ h. chosen_le (is_ambiguous h) (size_of h)) groups i g inside is few
+pub ambiguous_fit : (groups : List Group) (i : ℕ) (g : Group) → i < length groups → g ≡ get_or groups i g → total_of (seen_groups groups) ≤ most_items → (sum_of_groups (seen_groups (take i groups))).ambiguous + (tallies_of (seen_group g)).ambiguous < 2 ^ 32
+ambiguous_fit groups i g inside is few = more_fits (λ (h : SeenGroup). cond (is_ambiguous h) (group_size h) 0) (λ h. chosen_le (is_ambiguous h) (group_size h)) groups i g inside is few
 
-pub size_fits : (groups : List Group) (i : ℕ) (g : Group) → i < length groups → g ≡ get_or groups i g → total_of (seen_groups groups) ≤ 2 ^ 22 → size_of (seen_group g) ≤ 2 ^ 22
+pub size_fits : (groups : List Group) (i : ℕ) (g : Group) → i < length groups → g ≡ get_or groups i g → total_of (seen_groups groups) ≤ most_items → group_size (seen_group g) ≤ most_items
 size_fits groups i g inside is few =
     let xs = seen_groups groups in
     let place : i < length xs = subst (λ (n : ℕ). i < n) (sym (length-map groups seen_group)) inside in
     let at : get_or xs i (seen_group g) ≡ seen_group g = get_or-map seen_group groups i g (seen_group g) inside ∙ ap seen_group (sym is) in
-    let part : size_of (seen_group g) ≤ total_of xs = subst (λ (h : SeenGroup). size_of h ≤ total_of xs) at (get_or-le-sum_by size_of xs i (seen_group g) place) in
-    below_both (size_of (seen_group g)) (size_of (seen_group g)) (total_of xs) (2 ^ 22) refl part few
+    let part : group_size (seen_group g) ≤ total_of xs = subst (λ (h : SeenGroup). group_size h ≤ total_of xs) at (get_or-le-sum_by group_size xs i (seen_group g) place) in
+    below_both (group_size (seen_group g)) (group_size (seen_group g)) (total_of xs) (most_items) refl part few

@@ -15,7 +15,7 @@ use Rattle.traces.specs.Traces.{Placed}
 use Rattle.traces.specs.Messages.{messages_of, with_mark}
 use Rattle.traces.proofs.Marks.{only_from, only_to}
 use Rattle.traces.proofs.MessageEnds.{pair_from, pair_to}
-use Rattle.msg_match.specs.Ends.{End, end_at, ends_of, name_at, named}
+use Rattle.msg_match.specs.Ends.{End, end_at, ends_among, name_as_came, named}
 use Rattle.msg_match.specs.Ambiguous.{is_end, names_with}
 use Rattle.msg_match.proofs.Lists.{AreAlike, alike_filter, alike_map, alike_one, map_one}
 use Rattle.msg_match.proofs.Names.{names_by, names_of}
@@ -35,10 +35,10 @@ moved_one : (xs ys : List End) (key : EventKey) (side : Side) (id : EventId) →
 moved_one xs ys key side id same is =
     alike_one id (names_with ys key side) (subst (λ (l : List EventId). AreAlike l (names_with ys key side)) is (alike_names xs ys key side same))
 
-module _ (events : List Placed) (ends : List End) (differ : AllPairs (λ (a b : Placed). a.id ≢ b.id) events) (same : IsPermutation (ends_of events) ends) where
+module _ (events : List Placed) (ends : List End) (differ : AllPairs (λ (a b : Placed). a.id ≢ b.id) events) (same : IsPermutation (ends_among events) ends) where
   only_name : (key : EventKey) (side : Side) (e : Placed) (id : EventId) → with_mark key side events ≡ e ∷ [] → id ≡ e.id → names_with ends key side ≡ id ∷ []
   only_name key side e id only is =
-      moved_one (ends_of events) ends key side id same
+      moved_one (ends_among events) ends key side id same
       (names_of events key side ∙ ap (λ (l : List Placed). map (λ (o : Placed). o.id) l) only ∙ ap (λ (n : EventId). n ∷ []) (sym is))
 
   -- a message of events is a couple of their ends
@@ -54,7 +54,7 @@ module _ (events : List Placed) (ends : List End) (differ : AllPairs (λ (a b : 
   only_placed : (key : EventKey) (side : Side) (id : EventId) → names_with ends key side ≡ id ∷ [] → (e : Placed) × (with_mark key side events ≡ e ∷ []) × (e.id ≡ id)
   only_placed key side id is =
       map_one (λ (o : Placed). o.id) (with_mark key side events) id
-      (sym (names_of events key side) ∙ moved_one ends (ends_of events) key side id (IsPermutation-sym (ends_of events) ends same) is)
+      (sym (names_of events key side) ∙ moved_one ends (ends_among events) key side id (IsPermutation-sym (ends_among events) ends same) is)
 
   -- and a couple of the ends is a message
   pub couple_message : (m : Couple) → IsCouple ends m → Contains (messages_of events) m
@@ -80,18 +80,18 @@ module _ (ids : List EventId) (items : List SeenItem) where
   pub item_couple : (m : numbers.Couple) → IsMessage items m → IsCouple (map (end_at ids) items) (named ids m)
   item_couple m message = record {
     key = message.key;
-    sent = names_by (name_at ids) items message.key Send ∙ ap (λ (l : List ℕ). map (name_at ids) l) message.sent;
-    received = names_by (name_at ids) items message.key Receive ∙ ap (λ (l : List ℕ). map (name_at ids) l) message.received;
+    sent = names_by (name_as_came ids) items message.key Send ∙ ap (λ (l : List ℕ). map (name_as_came ids) l) message.sent;
+    received = names_by (name_as_came ids) items message.key Receive ∙ ap (λ (l : List ℕ). map (name_as_came ids) l) message.received;
   }
 
   -- and a couple is a message
   pub couple_item : (m : Couple) → IsCouple (map (end_at ids) items) m → (n : numbers.Couple) × IsMessage items n × (named ids n ≡ m)
   couple_item m couple =
-      let (s, only_s, is_s) = map_one (name_at ids) (events_with items couple.key Send) m.send (sym (names_by (name_at ids) items couple.key Send) ∙ couple.sent) in
-      let (r, only_r, is_r) = map_one (name_at ids) (events_with items couple.key Receive) m.receive (sym (names_by (name_at ids) items couple.key Receive) ∙ couple.received) in (
+      let (s, only_s, is_s) = map_one (name_as_came ids) (events_with items couple.key Send) m.send (sym (names_by (name_as_came ids) items couple.key Send) ∙ couple.sent) in
+      let (r, only_r, is_r) = map_one (name_as_came ids) (events_with items couple.key Receive) m.receive (sym (names_by (name_as_came ids) items couple.key Receive) ∙ couple.received) in (
         record { send = s; receive = r },
         record { key = couple.key; sent = only_s; received = only_r },
-        ap (λ (n : EventId). made n (name_at ids r)) is_s ∙ ap (λ (n : EventId). made m.send n) is_r,
+        ap (λ (n : EventId). made n (name_as_came ids r)) is_s ∙ ap (λ (n : EventId). made m.send n) is_r,
       )
     where
       made : EventId → EventId → Couple

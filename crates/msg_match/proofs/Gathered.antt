@@ -19,9 +19,9 @@ use Rattle.traces.specs.Traces.{Placed, events_of, is_same}
 use Rattle.traces.specs.Pairs.{ComesBefore}
 use Rattle.traces.proofs.Ids.{ids_rise}
 use Rattle.traces.proofs.Members.{first_of_pairs, giver, no_pairs, rest_of_pairs}
-use Rattle.msg_match.specs.Ends.{End, end_at, end_of, ends_of, name_at}
+use Rattle.msg_match.specs.Ends.{End, end_at, end_by_mark, ends_among, name_as_came}
 use Rattle.msg_match.specs.Ambiguous.{EndGroup, ambiguous_ends, ambiguous_keys, end_group, is_end, is_ambiguous_key, names_with}
-use Rattle.msg_match.specs.EndsInside.{AreInOrder, AreRising, HasEventsOf, IsWithin, earlier, first_with, led_group, led_groups}
+use Rattle.msg_match.specs.EndsInside.{AreNamesInOrder, AreRising, HasEventsOf, IsWithin, earlier, first_with, led_group, led_groups}
 use Rattle.msg_match.proofs.Lists.{alike_filter, alike_map, each_in}
 use Rattle.msg_match.proofs.Names.{keys_by, names_by, own_end}
 use Rattle.msg_match.proofs.Rising.{differ_still, pairs_map, pairs_unmap, same_elements}
@@ -29,26 +29,26 @@ use Rattle.msg_match.proofs.Sorting.{exact_ids, rising_differ}
 use Rattle.msg_match.proofs.Firsts.{first_is, firsts_rise, keys_among, keys_moved}
 
 -- ---- the ends of events rise
-one_rises : (id : EventId) (mark : SeenMark) (ends : List End) → All (λ (b : End). ComesBefore id b.id) ends → AreRising ends → AreRising (end_of id mark ++ ends)
+one_rises : (id : EventId) (mark : SeenMark) (ends : List End) → All (λ (b : End). ComesBefore id b.id) ends → AreRising ends → AreRising (end_by_mark id mark ++ ends)
 one_rises id (Unkeyed reason) ends after rising = rising
 one_rises id (Keyed key side) ends after rising = AllPairs-cons (λ (a b : End). ComesBefore a.id b.id) _ ends after rising
 
-events_rise : (events : List Placed) → AllPairs (λ (a b : Placed). ComesBefore a.id b.id) events → AreRising (ends_of events)
+events_rise : (events : List Placed) → AllPairs (λ (a b : Placed). ComesBefore a.id b.id) events → AreRising (ends_among events)
 events_rise [] rising = no_pairs (λ (a b : End). ComesBefore a.id b.id)
 events_rise (e ∷ events) rising =
     let R : Placed → Placed → Type 0 = λ a b. ComesBefore a.id b.id in
-    one_rises e.id e.seen.mark (ends_of events)
-    (each_in (λ (b : End). ComesBefore e.id b.id) (ends_of events)
+    one_rises e.id e.seen.mark (ends_among events)
+    (each_in (λ (b : End). ComesBefore e.id b.id) (ends_among events)
     (λ b held.
-    let (o, among, gives) = giver (λ (z : Placed). end_of z.id z.seen.mark) events b held in
+    let (o, among, gives) = giver (λ (z : Placed). end_by_mark z.id z.seen.mark) events b held in
     subst (ComesBefore e.id) (sym (own_end o.id o.seen.mark b gives)) (All-contains (R e) events o (first_of_pairs R e events rising) among)))
     (events_rise events (rest_of_pairs R e events rising))
 
-pub ends_rise : (seen : List (List Seen)) → AreRising (ends_of (events_of seen))
+pub ends_rise : (seen : List (List Seen)) → AreRising (ends_among (events_of seen))
 ends_rise seen = events_rise (events_of seen) (ids_rise seen)
 
 -- ---- the events of a key
-pub names_rise : (ends : List End) (key : EventKey) (side : Side) → AreRising ends → AreInOrder (names_with ends key side)
+pub names_rise : (ends : List End) (key : EventKey) (side : Side) → AreRising ends → AreNamesInOrder (names_with ends key side)
 names_rise ends key side rising =
     let R : End → End → Type 0 = λ a b. ComesBefore a.id b.id in
     pairs_map (λ (e : End). e.id) ComesBefore (filter (is_end key side) ends) (AllPairs-filter R (is_end key side) ends rising)
@@ -70,8 +70,8 @@ names_moved ends moved key side rising same =
 module _ (ids : List EventId) (items : List SeenItem) (ends : List End) (rising : AreRising ends) (same : IsPermutation ends (map (end_at ids) items)) where
   group_has : (key : EventKey) → HasEventsOf ids ends (group_of items key)
   group_has key = record {
-    sends = subst (λ (l : List EventId). IsPermutation (names_with ends key Send) l) (names_by (name_at ids) items key Send) (names_moved ends (map (end_at ids) items) key Send rising same);
-    receives = subst (λ (l : List EventId). IsPermutation (names_with ends key Receive) l) (names_by (name_at ids) items key Receive) (names_moved ends (map (end_at ids) items) key Receive rising same);
+    sends = subst (λ (l : List EventId). IsPermutation (names_with ends key Send) l) (names_by (name_as_came ids) items key Send) (names_moved ends (map (end_at ids) items) key Send rising same);
+    receives = subst (λ (l : List EventId). IsPermutation (names_with ends key Receive) l) (names_by (name_as_came ids) items key Receive) (names_moved ends (map (end_at ids) items) key Receive rising same);
   }
 
   pub groups_have : All (HasEventsOf ids ends) (groups_of items)
@@ -80,8 +80,8 @@ module _ (ids : List EventId) (items : List SeenItem) (ends : List End) (rising 
 -- a group is ambiguous where its key is, among ends
 pub ambiguous_is : (ids : List EventId) (ends : List End) (g : SeenGroup) → HasEventsOf ids ends g → is_ambiguous g ≡ is_ambiguous_key ends g.key
 ambiguous_is ids ends g has =
-    let sends : length g.sends ≡ length (names_with ends g.key Send) = sym (length-map g.sends (name_at ids)) ∙ length_permutation (names_with ends g.key Send) (map (name_at ids) g.sends) has.sends in
-    let receives : length g.receives ≡ length (names_with ends g.key Receive) = sym (length-map g.receives (name_at ids)) ∙ length_permutation (names_with ends g.key Receive) (map (name_at ids) g.receives) has.receives in
+    let sends : length g.sends ≡ length (names_with ends g.key Send) = sym (length-map g.sends (name_as_came ids)) ∙ length_permutation (names_with ends g.key Send) (map (name_as_came ids) g.sends) has.sends in
+    let receives : length g.receives ≡ length (names_with ends g.key Receive) = sym (length-map g.receives (name_as_came ids)) ∙ length_permutation (names_with ends g.key Receive) (map (name_as_came ids) g.receives) has.receives in
     ap (λ (n : ℕ). are_ambiguous n (length g.receives)) sends ∙ ap (λ (n : ℕ). are_ambiguous (length (names_with ends g.key Send)) n) receives
 
 -- ---- all ambiguous keys
@@ -99,7 +99,7 @@ all_rise ends rising =
 pub all_moved : (ids : List EventId) (items : List SeenItem) (ends : List End) → IsPermutation ends (map (end_at ids) items) → IsPermutation (map (led_group ends) (ambiguous_keys ends)) (led_groups ends (keys_of items))
 all_moved ids items ends same =
     let keys : IsPermutation (map (λ (e : End). e.key) ends) (map (λ (x : SeenItem). x.key) items) =
-    subst (λ (l : List EventKey). IsPermutation (map (λ (e : End). e.key) ends) l) (keys_by (name_at ids) items) (IsPermutation-map (λ (e : End). e.key) ends (map (end_at ids) items) same) in
+    subst (λ (l : List EventKey). IsPermutation (map (λ (e : End). e.key) ends) l) (keys_by (name_as_came ids) items) (IsPermutation-map (λ (e : End). e.key) ends (map (end_at ids) items) same) in
     IsPermutation-map (led_group ends) (ambiguous_keys ends) (filter (is_ambiguous_key ends) (keys_of items)) (keys_moved (is_ambiguous_key ends) _ _ keys)
 
 -- without their first events they are the ambiguous keys of the ends
@@ -181,12 +181,12 @@ pub groups_within : (ids : List EventId) (items : List SeenItem) → All (λ (x 
 groups_within ids items within = All-map (IsWithin ids) (group_of items) (keys_of items) (λ k d inside. (events_within ids items _ Send within, events_within ids items _ Receive within))
 
 -- all of them, sorted, are the ambiguous keys of the ends in their order
-pub all_told : {X : Type 0} (f : X → EventId) (g : X → EndGroup) (ids : List EventId) (items : List SeenItem) (groups : List SeenGroup) (seen : List (List Seen)) (found sorted : List X) → IsPermutation (ends_of (events_of seen)) (map (end_at ids) items) → groups ≡ groups_of items
+pub all_told : {X : Type 0} (f : X → EventId) (g : X → EndGroup) (ids : List EventId) (items : List SeenItem) (groups : List SeenGroup) (seen : List (List Seen)) (found sorted : List X) → IsPermutation (ends_among (events_of seen)) (map (end_at ids) items) → groups ≡ groups_of items
     → ((ends : List End) → AreRising ends → All (HasEventsOf ids ends) groups → map (λ (x : X). (f x, g x)) found ≡ led_groups ends (keys_in groups))
     → ((in_order : List (EventId × EndGroup)) → AllPairs (λ (a b : EventId × EndGroup). ComesBefore a.0 b.0) in_order → IsPermutation in_order (map (λ (x : X). (f x, g x)) found) → map (λ (x : X). (f x, g x)) sorted ≡ in_order)
-    → map g sorted ≡ ambiguous_ends (ends_of (events_of seen))
+    → map g sorted ≡ ambiguous_ends (ends_among (events_of seen))
 all_told {X} f g ids items groups seen found sorted same is gives sorts =
-    let ends : List End = ends_of (events_of seen) in
+    let ends : List End = ends_among (events_of seen) in
     let rising : AreRising ends = ends_rise seen in
     let have : All (HasEventsOf ids ends) groups = subst (All (HasEventsOf ids ends)) (sym is) (groups_have ids items ends rising same) in
     let keys : keys_in groups ≡ keys_of items = ap (λ (gs : List SeenGroup). keys_in gs) is ∙ group_keys items (keys_of items) in

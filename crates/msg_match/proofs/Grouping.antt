@@ -9,8 +9,8 @@ use Rattle.traces.specs.declared.event.Side.{Side}
 use Rattle.traces.specs.declared.event.Side.TheVariants.{Send, Receive}
 use Rattle.traces.specs.Seen.{EventKey, is_same_key, is_same_side}
 use Rattle.traces.proofs.Keys.{keys_tell}
-use Rattle.msg_match.specs.Groups.{SeenItem, SeenGroup, events_with, group_of, has_mark, size_of}
-use Rattle.msg_match.specs.Parts.{with_event}
+use Rattle.msg_match.specs.Groups.{SeenItem, SeenGroup, events_with, group_of, has_mark, group_size}
+use Rattle.msg_match.specs.Parts.{with_entry}
 use Rattle.msg_match.proofs.Distinct.{AreApart, IsExact, last_place, turned}
 
 pub exact_keys : IsExact is_same_key
@@ -44,7 +44,7 @@ group_other items y key other =
     let receives = same_with items y key Receive (and_left (is_same_key y.key key) (is_same_side y.side Receive) other) in
     ap (λ (l : List ℕ). made key l (events_with (items ++ y ∷ []) key Receive)) sends ∙ ap (λ (l : List ℕ). made key (events_with items key Send) l) receives
 
-group_more : (items : List SeenItem) (event : ℕ) (side : Side) (key : EventKey) → group_of (items ++ (record { event = event; side = side; key = key }) ∷ []) key ≡ with_event (group_of items key) side event
+group_more : (items : List SeenItem) (event : ℕ) (side : Side) (key : EventKey) → group_of (items ++ (record { event = event; side = side; key = key }) ∷ []) key ≡ with_entry (group_of items key) side event
 group_more items event Send key =
     let y : SeenItem = record { event = event; side = Send; key = key } in
     let own : is_same_key key key ≡ true = exact_keys.own key in
@@ -59,7 +59,7 @@ group_more items event Receive key =
     ap (λ (l : List ℕ). made key l (events_with (items ++ y ∷ []) key Receive)) sends ∙ ap (λ (l : List ℕ). made key (events_with items key Send) l) receives
 
 -- one of its own comes last on its side
-pub group_own : (items : List SeenItem) (y : SeenItem) → group_of (items ++ y ∷ []) y.key ≡ with_event (group_of items y.key) y.side y.event
+pub group_own : (items : List SeenItem) (y : SeenItem) → group_of (items ++ y ∷ []) y.key ≡ with_entry (group_of items y.key) y.side y.event
 group_own items y = group_more items y.event y.side y.key
 
 -- ---- the groups of many keys
@@ -71,10 +71,10 @@ map_others items y (k ∷ ks) none =
 
 -- one event more changes the group of its key, and no other one
 pub map_at : (items : List SeenItem) (y : SeenItem) (ks : List EventKey) (p : ℕ) (d : EventKey) (g : SeenGroup) → AreApart is_same_key ks → p < length ks → get_or ks p d ≡ y.key
-    → set (map (group_of items) ks) p (with_event (get_or (map (group_of items) ks) p g) y.side y.event) ≡ map (group_of (items ++ y ∷ [])) ks
+    → set (map (group_of items) ks) p (with_entry (get_or (map (group_of items) ks) p g) y.side y.event) ≡ map (group_of (items ++ y ∷ [])) ks
 map_at items y [] p d g apart inside at = absurd (omega (arith, inside))
 map_at items y (k ∷ ks) zero d g apart inside at =
-    let first : with_event (group_of items k) y.side y.event ≡ group_of (items ++ y ∷ []) k = subst (λ (key : EventKey). with_event (group_of items key) y.side y.event ≡ group_of (items ++ y ∷ []) key) (sym at) (sym (group_own items y)) in
+    let first : with_entry (group_of items k) y.side y.event ≡ group_of (items ++ y ∷ []) k = subst (λ (key : EventKey). with_entry (group_of items key) y.side y.event ≡ group_of (items ++ y ∷ []) key) (sym at) (sym (group_own items y)) in
     let rest : map (group_of (items ++ y ∷ [])) ks ≡ map (group_of items) ks = map_others items y ks (subst (λ (key : EventKey). list_any (is_same_key key) ks ≡ false) at apart.0) in
     ap (λ (h : SeenGroup). h ∷ map (group_of items) ks) first ∙ ap (λ (l : List SeenGroup). group_of (items ++ y ∷ []) k ∷ l) (sym rest)
 map_at items y (k ∷ ks) (suc p) d g apart inside at =
@@ -95,7 +95,7 @@ none_with (x ∷ items) key side none =
 
 -- an event is one of its key's
 pub size_cons : (event : ℕ) (side : Side) (k : EventKey) (items : List SeenItem) (key : EventKey)
-    → size_of (group_of ((record { event = event; side = side; key = k }) ∷ items) key) ≡ cond (is_same_key k key) 1 0 + size_of (group_of items key)
+    → group_size (group_of ((record { event = event; side = side; key = k }) ∷ items) key) ≡ cond (is_same_key k key) 1 0 + group_size (group_of items key)
 size_cons event Send k items key = elim (cases_Bool (is_same_key k key)) [
   | inl same ↦ rw same (omega arith)
   | inr other ↦ rw other (omega arith)
@@ -106,7 +106,7 @@ size_cons event Receive k items key = elim (cases_Bool (is_same_key k key)) [
 ]
 
 -- where an event has the key, there are some
-pub some_with : (items : List SeenItem) (key : EventKey) → list_any (is_same_key key) (map (λ (x : SeenItem). x.key) items) ≡ true → 0 < size_of (group_of items key)
+pub some_with : (items : List SeenItem) (key : EventKey) → list_any (is_same_key key) (map (λ (x : SeenItem). x.key) items) ≡ true → 0 < group_size (group_of items key)
 some_with [] key known = absurd (false≢true known)
 some_with (x ∷ items) key known = elim (or_cases (is_same_key key x.key) (list_any (is_same_key key) (map (λ (y : SeenItem). y.key) items)) known) [
   | inl same ↦ (let one' : ◌≡◌ {A = ℕ} (cond (is_same_key x.key key) 1 0) 1 = ap (λ (b : Bool). cond b 1 0) (turned is_same_key exact_keys x.key key ∙ same) in omega (arith, size_cons x.event x.side x.key items key, one'))

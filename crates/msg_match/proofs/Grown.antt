@@ -12,7 +12,7 @@ use Rattle.msg_match.specs.Groups.{SeenItem}
 use Rattle.msg_match.specs.Changes.{AreMessagesAnew, HaveOwnNumbers}
 use Rattle.traces.specs.declared.event_id.EventId.{EventId}
 use Rattle.traces.specs.Traces.{Placed, event_count, numbered}
-use Rattle.msg_match.specs.Ends.{AreChanges, AreCouplesBelow, AreEndsBy, AreEndsOf, End, end_at, end_of, ends_of, ids_from, item_of, items_from, name_at, no_name}
+use Rattle.msg_match.specs.Ends.{AreChanges, AreCouplesBelow, AreEndsBy, AreMatchedEnds, End, end_at, end_by_mark, ends_among, ids_from, item_of, items_from, name_as_came, no_name}
 use Rattle.msg_match.proofs.Growing.{ends_few as few_ends_of, length_numbered, more_ends, no_ends}
 use Rattle.msg_match.proofs.Renamed.{AreWithin, anew_within, named_anew}
 
@@ -85,29 +85,29 @@ within_more m n items up within k d inside = let less = within k d inside in ome
 names_left : (ids more : List EventId) (items : List SeenItem) → All (Below (length ids)) items → map (end_at (ids ++ more)) items ≡ map (end_at ids) items
 names_left ids more [] within = refl
 names_left ids more (x ∷ items) within =
-    let name : name_at (ids ++ more) x.event ≡ name_at ids x.event = get_or_append_left ids more no_name x.event (All-head (Below (length ids)) x items within) in
+    let name : name_as_came (ids ++ more) x.event ≡ name_as_came ids x.event = get_or_append_left ids more no_name x.event (All-head (Below (length ids)) x items within) in
     ap (λ (n : EventId). (record { id = n; key = x.key; side = x.side }) ∷ map (end_at (ids ++ more)) items) name
     ∙ ap (λ (l : List End). end_at ids x ∷ l) (names_left ids more items (All-tail (Below (length ids)) x items within))
 
-one_there : (all : List EventId) (n : ℕ) (id : EventId) (mark : SeenMark) (rest : List SeenItem) (ends : List End) → name_at all n ≡ id → map (end_at all) rest ≡ ends → map (end_at all) (item_of n mark ++ rest) ≡ end_of id mark ++ ends
+one_there : (all : List EventId) (n : ℕ) (id : EventId) (mark : SeenMark) (rest : List SeenItem) (ends : List End) → name_as_came all n ≡ id → map (end_at all) rest ≡ ends → map (end_at all) (item_of n mark ++ rest) ≡ end_by_mark id mark ++ ends
 one_there all n id (Unkeyed reason) rest ends at is = is
 one_there all n id (Keyed key side) rest ends at is =
     ap (λ (m : EventId). (record { id = m; key = key; side = side }) ∷ map (end_at all) rest) at ∙ ap (λ (l : List End). (record { id = id; key = key; side = side }) ∷ l) is
 
 -- events that come are the ends of these events, by the names behind all
-ends_right : (ids : List EventId) (label n : ℕ) (more : List Seen) → map (end_at (ids ++ ids_from label n more)) (items_from (length ids) more) ≡ ends_of (numbered label n more)
+ends_right : (ids : List EventId) (label n : ℕ) (more : List Seen) → map (end_at (ids ++ ids_from label n more)) (items_from (length ids) more) ≡ ends_among (numbered label n more)
 ends_right ids label n [] = refl
 ends_right ids label n (s ∷ more) =
     let id : EventId = record { label = label; number = n } in
     let rest : List EventId = ids_from label (n + 1) more in
     let all : List EventId = ids ++ (id ∷ rest) in
     let grouped : (ids ++ id ∷ []) ++ rest ≡ all = append_assoc ids (id ∷ []) rest in
-    let at : name_at all (length ids) ≡ id = get_or_at ids id rest no_name (length ids) refl in
-    let behind : map (end_at all) (items_from (length ids + 1) more) ≡ ends_of (numbered label (n + 1) more) =
-    subst (λ (k : ℕ). map (end_at all) (items_from k more) ≡ ends_of (numbered label (n + 1) more)) (length_push ids id)
-    (subst (λ (l : List EventId). map (end_at l) (items_from (length (ids ++ id ∷ [])) more) ≡ ends_of (numbered label (n + 1) more)) grouped
+    let at : name_as_came all (length ids) ≡ id = get_or_at ids id rest no_name (length ids) refl in
+    let behind : map (end_at all) (items_from (length ids + 1) more) ≡ ends_among (numbered label (n + 1) more) =
+    subst (λ (k : ℕ). map (end_at all) (items_from k more) ≡ ends_among (numbered label (n + 1) more)) (length_push ids id)
+    (subst (λ (l : List EventId). map (end_at l) (items_from (length (ids ++ id ∷ [])) more) ≡ ends_among (numbered label (n + 1) more)) grouped
     (ends_right (ids ++ id ∷ []) label (n + 1) more)) in
-    one_there all (length ids) id s.mark (items_from (length ids + 1) more) (ends_of (numbered label (n + 1) more)) at behind
+    one_there all (length ids) id s.mark (items_from (length ids + 1) more) (ends_among (numbered label (n + 1) more)) at behind
 
 pub ids_many : (label n : ℕ) (more : List Seen) → length (ids_from label n more) ≡ length more
 ids_many label n more = length-map (numbered label n more) (λ (e : Placed). e.id) ∙ length_numbered label n more
@@ -130,7 +130,7 @@ ends_more seen label old more ids items at are =
     let names : List EventId = ids_from label (length old + 1) more in
     let new : List SeenItem = items_from (length ids) more in
     let long : length (ids ++ names) ≡ length ids + length more = omega (arith, length-append ids names, ids_many label (length old + 1) more) in
-    let is : map (end_at (ids ++ names)) (items ++ new) ≡ map (end_at ids) items ++ ends_of (numbered label (length old + 1) more) =
+    let is : map (end_at (ids ++ names)) (items ++ new) ≡ map (end_at ids) items ++ ends_among (numbered label (length old + 1) more) =
     map-append (end_at (ids ++ names)) items new
     ∙ ap (λ (l : List End). l ++ map (end_at (ids ++ names)) new) (names_left ids names items are.within)
     ∙ ap (λ (l : List End). map (end_at ids) items ++ l) (ends_right ids label (length old + 1) more) in
@@ -138,7 +138,7 @@ ends_more seen label old more ids items at are =
       own = own_more ids items seen more are;
       within = All-append (Below (length (ids ++ names))) items new (within_more (length ids) (length (ids ++ names)) items (omega (arith, long)) are.within)
           (all_below (length (ids ++ names)) (length ids) more (omega (arith, long)));
-      ends = subst (λ (l : List End). AreEndsOf l (slice_set seen label (old ++ more))) (sym is) (more_ends seen label old more (map (end_at ids) items) at are.ends);
+      ends = subst (λ (l : List End). AreMatchedEnds l (slice_set seen label (old ++ more))) (sym is) (more_ends seen label old more (map (end_at ids) items) at are.ends);
     }
 
 pub ends_few : (seen : List (List Seen)) (ids : List EventId) (items : List SeenItem) → AreEndsBy ids items seen → length items ≤ event_count seen
@@ -167,7 +167,7 @@ module _ (ids more : List EventId) (items new : List SeenItem) (before after : L
   pub changes_are : AllPairs (λ (a b : EventId). a ≢ b) (ids ++ more) → AreChanges (ids ++ more) before after c
   changes_are differ =
       let within : AreWithin (ids ++ more) items = within_more (length ids) (length (ids ++ more)) items (omega (arith, length-append ids more)) are.within in
-      let first : AreEndsOf (map (end_at (ids ++ more)) items) before = subst (λ (l : List End). AreEndsOf l before) (sym (names_left ids more items are.within)) are.ends in
+      let first : AreMatchedEnds (map (end_at (ids ++ more)) items) before = subst (λ (l : List End). AreMatchedEnds l before) (sym (names_left ids more items are.within)) are.ends in
       record {
         added = named_anew (ids ++ more) items (items ++ new) before after differ within are'.within first are'.ends c.added.items added;
         withdrawn = named_anew (ids ++ more) (items ++ new) items after before differ are'.within within are'.ends first c.withdrawn.items withdrawn;

@@ -1,63 +1,28 @@
 -- The code's own test on keys.
-use Rattle.std.proofs.Common.{◌≡◌, ℕ, ◌+◌, ◌-◌, List, [], ◌∷◌, ◌++◌, length, map, take, get_or, slice_get, Bool, true, false, ◌||◌, ◌&&◌, ◌==◌, Option, Some, None, refl, sym, ap, ◌∙◌, arith}
+use Rattle.std.proofs.Common.{◌≡◌, ℕ, ◌+◌, ◌-◌, List, [], ◌∷◌, ◌++◌, length, map, take, get_or, slice_get, Bool, false, ◌||◌, Option, Some, None, refl, sym, ap, ◌∙◌, arith}
 use Rattle.std.specs.Prelude.{IfSome, IfNone, option_map}
 use Rattle.std.specs.List.{position, list_any}
-use Rattle.std.specs.Str.{bytes_eq}
 use Rattle.std.proofs.lemmas.List.{get_or_at, get_or-map, length-map, length_push, take_all, take_more, take-map}
 use Rattle.std.proofs.lemmas.List.Quantifiers.{position-Some}
 use Rattle.std.proofs.lemmas.Option.{slice_get-get_or, slice_get-map}
 use Rattle.traces.specs.declared.event.Key.{Key}
-use Rattle.traces.specs.declared.event.Key.TheVariants as code
-use Rattle.traces.specs.contracts.event.KeyPartialEq.TheImpl as eq
 use Rattle.interner.specs.Numbers.{IsLast}
 use Rattle.traces.specs.Seen.{EventKey, is_same_key, key_of}
+use Rattle.traces.proofs.Keys.{key_eq, key_test}
 use Rattle.msg_match.proofs.Grouping.{exact_keys}
 use Rattle.msg_match.proofs.Placing.{no_place, none_any}
-
-abbrev pub key_eq : Key → Key → Bool
-key_eq = eq.eq-value.it
-
--- however the tests are grouped
-regroup : (b1 b2 b3 b4 b5 b6 b7 b8 b9 b10 b11 : Bool) → (b1 && (b2 && (b3 && (b4 && (b5 && (b6 && (b7 && (b8 && (b9 && (b10 && b11)))))))))) ≡ (b1 && b2 && b3 && b4 && b5 && b6 && b7 && b8 && b9 && b10 && b11)
-regroup false b2 b3 b4 b5 b6 b7 b8 b9 b10 b11 = refl
-regroup true false b3 b4 b5 b6 b7 b8 b9 b10 b11 = refl
-regroup true true false b4 b5 b6 b7 b8 b9 b10 b11 = refl
-regroup true true true false b5 b6 b7 b8 b9 b10 b11 = refl
-regroup true true true true false b6 b7 b8 b9 b10 b11 = refl
-regroup true true true true true false b7 b8 b9 b10 b11 = refl
-regroup true true true true true true false b8 b9 b10 b11 = refl
-regroup true true true true true true true false b9 b10 b11 = refl
-regroup true true true true true true true true false b10 b11 = refl
-regroup true true true true true true true true true false b11 = refl
-regroup true true true true true true true true true true b11 = refl
-
-regroup_wide : (b1 b2 b3 b4 b5 b6 b7 b8 b9 b10 : Bool) → (b1 && (b2 && (b3 && (b4 && (b5 && (b6 && (b7 && (b8 && (b9 && b10))))))))) ≡ (b1 && b2 && b3 && b4 && b5 && b6 && b7 && b8 && b9 && b10)
-regroup_wide b1 b2 b3 b4 b5 b6 b7 b8 b9 b10 = regroup true b1 b2 b3 b4 b5 b6 b7 b8 b9 b10
-
-key_eq_is : (a b : Key) → key_eq a b ≡ is_same_key (key_of a) (key_of b)
-key_eq_is (code.Packet a) (code.Packet b) =
-    regroup (a.source == b.source) (a.target == b.target) (a.protocol == b.protocol) (a.id == b.id) (a.source_port == b.source_port) (a.target_port == b.target_port) (a.sequence == b.sequence) (a.acknowledged == b.acknowledged) (a.flags == b.flags) (a.length == b.length) (bytes_eq a.payload.items b.payload.items)
-key_eq_is (code.Packet a) (code.Word b) = refl
-key_eq_is (code.Packet a) (code.Wide b) = refl
-key_eq_is (code.Word a) (code.Packet b) = refl
-key_eq_is (code.Word a) (code.Word b) = refl
-key_eq_is (code.Word a) (code.Wide b) = refl
-key_eq_is (code.Wide a) (code.Packet b) = refl
-key_eq_is (code.Wide a) (code.Word b) = refl
-key_eq_is (code.Wide a) (code.Wide b) =
-    regroup_wide (a.source == b.source) (a.target == b.target) (a.protocol == b.protocol) (a.source_port == b.source_port) (a.target_port == b.target_port) (a.sequence == b.sequence) (a.acknowledged == b.acknowledged) (a.flags == b.flags) (a.length == b.length) (bytes_eq a.payload.items b.payload.items)
 
 any_is : (k : Key) (ks : List Key) → list_any (key_eq k) ks ≡ list_any (is_same_key (key_of k)) (map key_of ks)
 any_is k [] = refl
 any_is k (j ∷ ks) =
-    ap (λ (b : Bool). b || list_any (key_eq k) ks) (key_eq_is k j) ∙ ap (λ (b : Bool). is_same_key (key_of k) (key_of j) || b) (any_is k ks)
+    ap (λ (b : Bool). b || list_any (key_eq k) ks) (key_test k j) ∙ ap (λ (b : Bool). is_same_key (key_of k) (key_of j) || b) (any_is k ks)
 
 -- a key is found at its place
 pub found : (k : Key) (ks : List Key) (o : Option ℕ) → o ≡ position (key_eq k) ks → IfSome o (λ p. slice_get (map key_of ks) p ≡ Some (key_of k))
 found k ks None is = tt
 found k ks (Some p) is =
     let at = position-Some (key_eq k) ks p k (sym is) in
-    let same : key_of k ≡ key_of (get_or ks p k) = exact_keys.one (key_of k) (key_of (get_or ks p k)) (sym (key_eq_is k (get_or ks p k)) ∙ at.1) in
+    let same : key_of k ≡ key_of (get_or ks p k) = exact_keys.one (key_of k) (key_of (get_or ks p k)) (sym (key_test k (get_or ks p k)) ∙ at.1) in
     slice_get-map key_of ks p ∙ ap (option_map key_of) (slice_get-get_or ks p k at.0) ∙ ap Some (sym same)
 
 -- or it is not there
@@ -78,7 +43,7 @@ last_key k ks last =
     let split : ks ≡ take n ks ++ x ∷ [] = sym (take_all (n + 1) ks (omega (arith, many))) ∙ take_more ks n k (omega (arith, many)) in
     let there : key_of x ≡ last.1 =
     sym (get_or-map key_of ks n k (key_of k) (omega (arith, many))) ∙ ap (λ (l : List EventKey). get_or l n (key_of k)) last.2 ∙ get_or_at last.0 last.1 [] (key_of k) n refl in
-    (take n ks, x, split, key_eq_is k x ∙ ap (is_same_key (key_of k)) there ∙ last.3)
+    (take n ks, x, split, key_test k x ∙ ap (is_same_key (key_of k)) there ∙ last.3)
 
 -- and without the last one the others stay
 pub short_keys : (ks short : List Key) → short ≡ take (length ks - 1) ks → map key_of short ≡ take (length (map key_of ks) - 1) (map key_of ks)

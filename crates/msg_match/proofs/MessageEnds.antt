@@ -6,7 +6,7 @@ use Rattle.traces.specs.declared.event.Side.{Side}
 use Rattle.traces.specs.declared.event.Side.TheVariants.{Send, Receive}
 use Rattle.traces.specs.Seen.{EventKey, is_same_key, is_same_side}
 use Rattle.msg_match.specs.declared.change.Couple.{Couple}
-use Rattle.msg_match.specs.Groups.{SeenItem, couple_of, events_with, group_of, has_mark, is_matched, only_two}
+use Rattle.msg_match.specs.Groups.{SeenItem, couple_of, events_with, group_of, has_mark, is_matched, only_couple}
 use Rattle.msg_match.specs.Messages.{IsEnd, IsMessage}
 use Rattle.msg_match.specs.Changes.{HaveOwnNumbers}
 use Rattle.msg_match.proofs.Grouping.{exact_keys}
@@ -35,7 +35,7 @@ own_events (y ∷ items) x (suc k) inside is =
       | inr no' ↦ rw no' more
     ]
 
-two_of : (ss rs : List ℕ) → is_some (only_two ss rs) ≡ true → (s : ℕ) × (r : ℕ) × (ss ≡ s ∷ []) × (rs ≡ r ∷ [])
+two_of : (ss rs : List ℕ) → is_some (only_couple ss rs) ≡ true → (s : ℕ) × (r : ℕ) × (ss ≡ s ∷ []) × (rs ≡ r ∷ [])
 two_of [] rs matched = absurd (false≢true matched)
 two_of (s ∷ t ∷ more) rs matched = absurd (false≢true matched)
 two_of (s ∷ []) [] matched = absurd (false≢true matched)

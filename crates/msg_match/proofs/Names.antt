@@ -9,7 +9,7 @@ use Rattle.traces.specs.declared.event_id.EventId.{EventId}
 use Rattle.traces.specs.Traces.{Placed, is_same}
 use Rattle.traces.specs.Messages.{with_mark}
 use Rattle.traces.proofs.Members.{head_or_tail, none_in}
-use Rattle.msg_match.specs.Ends.{End, end_of, ends_of}
+use Rattle.msg_match.specs.Ends.{End, end_by_mark, ends_among}
 use Rattle.msg_match.specs.Ambiguous.{names_with}
 
 -- ---- names
@@ -25,7 +25,7 @@ pub own_id : (a : EventId) → is_same a a ≡ true
 own_id a = and_from (a.label == a.label) (a.number == a.number) (eq-eqb a.label a.label refl) (eq-eqb a.number a.number refl)
 
 -- ---- ends with a key and a side
-one_end : (id : EventId) (mark : SeenMark) (key : EventKey) (side : Side) (us : List End) (vs : List EventId) → names_with us key side ≡ vs → names_with (end_of id mark ++ us) key side ≡ cond (is_mark key side mark) (id ∷ vs) vs
+one_end : (id : EventId) (mark : SeenMark) (key : EventKey) (side : Side) (us : List End) (vs : List EventId) → names_with us key side ≡ vs → names_with (end_by_mark id mark ++ us) key side ≡ cond (is_mark key side mark) (id ∷ vs) vs
 one_end id (Unkeyed reason) key side us vs is = is
 one_end id (Keyed other its_side) key side us vs is = elim (cases_Bool (is_same_key other key && is_same_side its_side side)) [
   | inl yes' ↦ rw yes' (ap (λ (l : List EventId). id ∷ l) is)
@@ -37,10 +37,10 @@ one_placed true e us = refl
 one_placed false e us = refl
 
 -- the ends of events have the names of the events
-pub names_of : (events : List Placed) (key : EventKey) (side : Side) → names_with (ends_of events) key side ≡ map (λ (e : Placed). e.id) (with_mark key side events)
+pub names_of : (events : List Placed) (key : EventKey) (side : Side) → names_with (ends_among events) key side ≡ map (λ (e : Placed). e.id) (with_mark key side events)
 names_of [] key side = refl
 names_of (e ∷ events) key side =
-    one_end e.id e.seen.mark key side (ends_of events) (map (λ (o : Placed). o.id) (with_mark key side events)) (names_of events key side)
+    one_end e.id e.seen.mark key side (ends_among events) (map (λ (o : Placed). o.id) (with_mark key side events)) (names_of events key side)
     ∙ sym (one_placed (is_mark key side e.seen.mark) e (with_mark key side events))
 
 -- ---- items as ends
@@ -62,7 +62,7 @@ keys_by f [] = refl
 keys_by f (x ∷ items) = ap (λ (l : List EventKey). x.key ∷ l) (keys_by f items)
 
 -- ---- names of their own
-pub own_end : (id : EventId) (mark : SeenMark) (x : End) → Contains (end_of id mark) x → x.id ≡ id
+pub own_end : (id : EventId) (mark : SeenMark) (x : End) → Contains (end_by_mark id mark) x → x.id ≡ id
 own_end id (Unkeyed reason) x held = absurd (none_in x held)
 own_end id (Keyed key side) x held = elim (head_or_tail _ x [] held) [
   | inl is ↦ ap (λ (e : End). e.id) (sym is)

@@ -16,7 +16,7 @@ use Rattle.traces.specs.declared.event_id.Couple.{Couple}
 use Rattle.traces.specs.Traces.{events_of}
 use Rattle.traces.specs.Messages.{messages_of}
 use Rattle.traces.proofs.Ids.{ids_differ}
-use Rattle.msg_match.specs.Ends.{AreCouplesBelow, AreEndsOf, AreNewMessages, IsNewMessage, end_at, name_at, named, no_name}
+use Rattle.msg_match.specs.Ends.{AreCouplesBelow, AreMatchedEnds, AreNewMessages, IsNewMessage, end_at, name_as_came, named, no_name}
 use Rattle.msg_match.proofs.Lists.{each_in, from_map, in_map, map_differs, told_apart}
 use Rattle.msg_match.proofs.Coupled.{couple_item, couple_message, item_couple, message_couple}
 
@@ -30,7 +30,7 @@ number_within ids items key side n within is =
     let (a, among, number, has) = changing.holder items key side n is in
     subst (λ (k : ℕ). k < length ids) number (All-contains (λ (x : SeenItem). x.event < length ids) items a within among)
 
-name_one : (ids : List EventId) (i j : ℕ) → AllPairs (λ (a b : EventId). a ≢ b) ids → i < length ids → j < length ids → name_at ids i ≡ name_at ids j → i ≡ j
+name_one : (ids : List EventId) (i j : ℕ) → AllPairs (λ (a b : EventId). a ≢ b) ids → i < length ids → j < length ids → name_as_came ids i ≡ name_as_came ids j → i ≡ j
 name_one ids i j differ inside inside' same = elim (cases_order i j) [
   | inl is ↦ is
   | inr apart ↦ elim apart [
@@ -61,7 +61,7 @@ anew_within ids first second found within anew =
 
 -- ---- by names
 module _ (ids : List EventId) (first second : List SeenItem) (before after : List (List Seen)) (differ : AllPairs (λ (a b : EventId). a ≢ b) ids) (within : AreWithin ids first) (within' : AreWithin ids second)
-    (ends : AreEndsOf (map (end_at ids) first) before) (ends' : AreEndsOf (map (end_at ids) second) after) where
+    (ends : AreMatchedEnds (map (end_at ids) first) before) (ends' : AreMatchedEnds (map (end_at ids) second) after) where
   olds : List Couple
   olds = messages_of (events_of before)
 

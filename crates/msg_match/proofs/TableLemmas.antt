@@ -8,9 +8,9 @@ use Rattle.traces.specs.declared.event.Side.TheVariants.{Send, Receive}
 use Rattle.traces.specs.Seen.{EventKey, Word, is_same_key, key_of}
 use Rattle.msg_match.specs.declared.entry.Entry.{Entry}
 use Rattle.msg_match.specs.declared.group.Group.{Group}
-use Rattle.msg_match.specs.Groups.{SeenGroup, size_of}
+use Rattle.msg_match.specs.Groups.{SeenGroup, group_size}
 use Rattle.msg_match.specs.Held.{seen_group, seen_groups}
-use Rattle.msg_match.specs.Parts.{group_at, group_before, groups_before, keys_in, shorter, without_last}
+use Rattle.msg_match.specs.Parts.{group_at_place, group_before, groups_before, keys_in, shorter, without_last}
 use Rattle.msg_match.proofs.Grouping.{exact_keys}
 
 abbrev key_at : SeenGroup → EventKey
@@ -34,21 +34,21 @@ seen_at groups i g d inside is = ap seen_group is ∙ sym (get_or-map seen_group
 
 module _ (groups : List Group) (e : Entry) (old new : Group) (inside : e.place < length groups) (is : old ≡ get_or groups e.place old) (step : seen_group new ≡ without_last (seen_group old) e.side) where
   less : seen_groups (set groups e.place new) ≡ set (seen_groups groups) e.place (group_before (seen_groups groups) e)
-  less = changed groups e.place old new (group_at [] 0) (λ (g : SeenGroup). without_last g e.side) inside is step
+  less = changed groups e.place old new (group_at_place [] 0) (λ (g : SeenGroup). without_last g e.side) inside is step
 
   group_is : seen_group new ≡ group_before (seen_groups groups) e
-  group_is = step ∙ ap (λ (g : SeenGroup). without_last g e.side) (ap seen_group is ∙ sym (get_or-map seen_group groups e.place old (group_at [] 0) inside))
+  group_is = step ∙ ap (λ (g : SeenGroup). without_last g e.side) (ap seen_group is ∙ sym (get_or-map seen_group groups e.place old (group_at_place [] 0) inside))
 
   -- other events are left
-  pub some_left : (size_of (seen_group new) == 0) ≡ false → seen_groups (set groups e.place new) ≡ groups_before (seen_groups groups) e
+  pub some_left : (group_size (seen_group new) == 0) ≡ false → seen_groups (set groups e.place new) ≡ groups_before (seen_groups groups) e
   some_left flag =
-      let other : (size_of (group_before (seen_groups groups) e) == 0) ≡ false = ap (λ (g : SeenGroup). size_of g == 0) (sym group_is) ∙ flag in
+      let other : (group_size (group_before (seen_groups groups) e) == 0) ≡ false = ap (λ (g : SeenGroup). group_size g == 0) (sym group_is) ∙ flag in
       less ∙ ap (λ (b : Bool). cond b (shorter (set (seen_groups groups) e.place (group_before (seen_groups groups) e))) (set (seen_groups groups) e.place (group_before (seen_groups groups) e))) (sym other)
 
   -- none is left
-  pub none_left : (after : List Group) → (size_of (seen_group new) == 0) ≡ true → after ≡ take (length (set groups e.place new) - 1) (set groups e.place new) → seen_groups after ≡ groups_before (seen_groups groups) e
+  pub none_left : (after : List Group) → (group_size (seen_group new) == 0) ≡ true → after ≡ take (length (set groups e.place new) - 1) (set groups e.place new) → seen_groups after ≡ groups_before (seen_groups groups) e
   none_left after flag taken =
-      let empty : (size_of (group_before (seen_groups groups) e) == 0) ≡ true = ap (λ (g : SeenGroup). size_of g == 0) (sym group_is) ∙ flag in
+      let empty : (group_size (group_before (seen_groups groups) e) == 0) ≡ true = ap (λ (g : SeenGroup). group_size g == 0) (sym group_is) ∙ flag in
       ap seen_groups taken
       ∙ sym (take-map seen_group (length (set groups e.place new) - 1) (set groups e.place new))
       ∙ ap (λ (n : ℕ). take (n - 1) (seen_groups (set groups e.place new))) (sym (length-map (set groups e.place new) seen_group))
@@ -64,7 +64,7 @@ module _ (groups : List Group) (e : Entry) (old new : Group) (inside : e.place <
   same_keys =
       let gs = seen_groups groups in
       let within : e.place < length gs = subst (λ (n : ℕ). e.place < n) (sym (length-map groups seen_group)) inside in
-      let key : (group_before gs e).key ≡ get_or (keys_in gs) e.place (Word []) = key_less (group_at gs e.place) e.side ∙ sym (get_or-map key_at gs e.place (group_at [] 0) (Word []) within) in
+      let key : (group_before gs e).key ≡ get_or (keys_in gs) e.place (Word []) = key_less (group_at_place gs e.place) e.side ∙ sym (get_or-map key_at gs e.place (group_at_place [] 0) (Word []) within) in
       ap keys_in less ∙ map-set key_at gs e.place (group_before gs e) ∙ ap (λ (k : EventKey). set (keys_in gs) e.place k) key ∙ set-get_or (keys_in gs) e.place (Word [])
 
   -- so the last group has the last key

@@ -21,17 +21,17 @@ pub record End : Type 0 where
   pub side : Side
 
 -- an event with this mark as an end of a message, if it is one
-abbrev pub end_of : EventId → SeenMark → List End
-end_of id (Keyed key side) = (record { id = id; key = key; side = side }) ∷ []
-end_of id (Unkeyed reason) = []
+abbrev pub end_by_mark : EventId → SeenMark → List End
+end_by_mark id (Keyed key side) = (record { id = id; key = key; side = side }) ∷ []
+end_by_mark id (Unkeyed reason) = []
 
 -- the ends of messages among events, in their order
-abbrev pub ends_of : List Placed → List End
-ends_of events = flat_map (λ (e : Placed). end_of e.id e.seen.mark) events
+abbrev pub ends_among : List Placed → List End
+ends_among events = flat_map (λ (e : Placed). end_by_mark e.id e.seen.mark) events
 
 -- these are the ends of messages among the events of all labels, each once, in any order
-abbrev pub AreEndsOf : List End → List (List Seen) → Type 0
-AreEndsOf ends seen = IsPermutation (ends_of (events_of seen)) ends
+abbrev pub AreMatchedEnds : List End → List (List Seen) → Type 0
+AreMatchedEnds ends seen = IsPermutation (ends_among (events_of seen)) ends
 
 -- ---- by number
 -- what stands for the name of no event
@@ -39,18 +39,18 @@ abbrev pub no_name : EventId
 no_name = record { label = 0; number = 0 }
 
 -- the name of an event by its number, among the names of all events as they came
-abbrev pub name_at : List EventId → ℕ → EventId
-name_at ids n = slice_index_or ids n no_name
+abbrev pub name_as_came : List EventId → ℕ → EventId
+name_as_came ids n = slice_index_or ids n no_name
 
 -- an item as the end that it stands for
 abbrev pub end_at : List EventId → SeenItem → End
-end_at ids x = record { id = name_at ids x.event; key = x.key; side = x.side }
+end_at ids x = record { id = name_as_came ids x.event; key = x.key; side = x.side }
 
 -- these are the ends of messages among the events of all labels, each once, by the numbers of their events
 pub record AreEndsBy (ids : List EventId) (items : List SeenItem) (seen : List (List Seen)) : Type 0 where
   pub own : HaveOwnNumbers items
   pub within : All (λ (x : SeenItem). x.event < length ids) items
-  pub ends : AreEndsOf (map (end_at ids) items) seen
+  pub ends : AreMatchedEnds (map (end_at ids) items) seen
 
 -- an event of this number and with this mark as an item, if it is an end of a message
 abbrev pub item_of : ℕ → SeenMark → List SeenItem
@@ -69,7 +69,7 @@ ids_from label n more = map (λ (e : Placed). e.id) (numbered label n more)
 -- ---- messages
 -- a message of numbers, by the names of its ends
 abbrev pub named : List EventId → numbers.Couple → Couple
-named ids m = record { send = name_at ids m.send; receive = name_at ids m.receive }
+named ids m = record { send = name_as_came ids m.send; receive = name_as_came ids m.receive }
 
 -- the ends of these messages have numbers below n
 abbrev pub AreCouplesBelow : ℕ → List numbers.Couple → Type 0

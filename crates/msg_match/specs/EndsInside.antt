@@ -6,12 +6,12 @@ use Rattle.traces.specs.Seen.{EventKey, is_same_key}
 use Rattle.msg_match.specs.Groups.{SeenGroup}
 use Rattle.traces.specs.declared.event_id.EventId.{EventId}
 use Rattle.traces.specs.Pairs.{ComesBefore}
-use Rattle.msg_match.specs.Ends.{End, name_at, no_name}
+use Rattle.msg_match.specs.Ends.{End, name_as_came, no_name}
 use Rattle.msg_match.specs.Ambiguous.{EndGroup, end_group, is_ambiguous_key, names_with}
 
 -- names stand in the order of their labels, and of their numbers under one label
-abbrev pub AreInOrder : List EventId → Type 0
-AreInOrder ids = AllPairs ComesBefore ids
+abbrev pub AreNamesInOrder : List EventId → Type 0
+AreNamesInOrder ids = AllPairs ComesBefore ids
 
 -- ends stand in the order of their events
 abbrev pub AreRising : List End → Type 0
@@ -23,8 +23,8 @@ IsWithin ids g = All (λ (n : ℕ). n < length ids) g.sends × All (λ (n : ℕ)
 
 -- the events of a group, by their names and in any order, are those of its key among ends
 pub record HasEventsOf (ids : List EventId) (ends : List End) (g : SeenGroup) : Type 0 where
-  pub sends : IsPermutation (names_with ends g.key Send) (map (name_at ids) g.sends)
-  pub receives : IsPermutation (names_with ends g.key Receive) (map (name_at ids) g.receives)
+  pub sends : IsPermutation (names_with ends g.key Send) (map (name_as_came ids) g.sends)
+  pub receives : IsPermutation (names_with ends g.key Receive) (map (name_as_came ids) g.receives)
 
 -- whether one event comes before another
 abbrev pub comes_first : EventId → EventId → Bool

@@ -32,17 +32,17 @@ abbrev pub group_of : List SeenItem → EventKey → SeenGroup
 group_of items key = record { key = key; sends = events_with items key Send; receives = events_with items key Receive }
 
 -- how many events there are
-abbrev pub size_of : SeenGroup → ℕ
-size_of g = length g.sends + length g.receives
+abbrev pub group_size : SeenGroup → ℕ
+group_size g = length g.sends + length g.receives
 
 -- the message of one send and one receive
-abbrev pub only_two : List ℕ → List ℕ → Option Couple
-only_two (s ∷ []) (r ∷ []) = Some (record { send = s; receive = r })
-only_two _ _ = None
+abbrev pub only_couple : List ℕ → List ℕ → Option Couple
+only_couple (s ∷ []) (r ∷ []) = Some (record { send = s; receive = r })
+only_couple _ _ = None
 
 -- the message of a key: it has one send and one receive
 abbrev pub couple_of : SeenGroup → Option Couple
-couple_of g = only_two g.sends g.receives
+couple_of g = only_couple g.sends g.receives
 
 -- whether it has one
 abbrev pub is_matched : SeenGroup → Bool

@@ -1,5 +1,6 @@
 -- What a matcher's tables say.
-use Rattle.std.specs.Prelude.{◌≡◌, ◌<◌, ◌≤◌, ◌^◌, List, [], length, map, slice_index_or, All}
+use Rattle.std.specs.Prelude.{◌≡◌, ◌<◌, ◌≤◌, List, [], length, map, slice_index_or, All}
+use Rattle.problem_model.specs.Limits.{most_items}
 use Rattle.traces.specs.Seen.{EventKey, Word}
 use Rattle.msg_match.specs.declared.entry.Entry.{Entry}
 use Rattle.msg_match.specs.Groups.{SeenItem, SeenGroup, keys_of, group_of}
@@ -13,8 +14,8 @@ abbrev pub items_by : List EventKey → List Entry → List SeenItem
 items_by keys log = map (item_by keys) log
 
 -- the keys are those of all events, in the order in which they came, and each has its group
-pub record AreKept (keys : List EventKey) (log : List Entry) (groups : List SeenGroup) : Type 0 where
-  pub few : length log ≤ 2 ^ 22
+pub record AreGrouped (keys : List EventKey) (log : List Entry) (groups : List SeenGroup) : Type 0 where
+  pub few : length log ≤ most_items
   pub within : All (λ (e : Entry). e.place < length keys) log
   pub ordered : keys ≡ keys_of (items_by keys log)
   pub grouped : groups ≡ map (group_of (items_by keys log)) keys

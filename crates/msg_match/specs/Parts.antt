@@ -7,7 +7,7 @@ use Rattle.traces.specs.Seen.{EventKey, Word}
 use Rattle.msg_match.specs.declared.change.Couple.{Couple}
 use Rattle.msg_match.specs.declared.change.Tallies.{Tallies}
 use Rattle.msg_match.specs.declared.entry.Entry.{Entry}
-use Rattle.msg_match.specs.Groups.{SeenItem, SeenGroup, group_of, couple_of, size_of, is_matched, is_ambiguous, is_unmatched}
+use Rattle.msg_match.specs.Groups.{SeenItem, SeenGroup, group_of, couple_of, group_size, is_matched, is_ambiguous, is_unmatched}
 
 -- ---- one group
 -- a key with no events
@@ -15,9 +15,9 @@ abbrev pub empty_group : EventKey → SeenGroup
 empty_group key = record { key = key; sends = []; receives = [] }
 
 -- an event more
-abbrev pub with_event : SeenGroup → Side → ℕ → SeenGroup
-with_event g Send event = record { key = g.key; sends = g.sends ++ event ∷ []; receives = g.receives }
-with_event g Receive event = record { key = g.key; sends = g.sends; receives = g.receives ++ event ∷ [] }
+abbrev pub with_entry : SeenGroup → Side → ℕ → SeenGroup
+with_entry g Send event = record { key = g.key; sends = g.sends ++ event ∷ []; receives = g.receives }
+with_entry g Receive event = record { key = g.key; sends = g.sends; receives = g.receives ++ event ∷ [] }
 
 -- a list without its last element
 abbrev pub shorter : {X : Type 0} → List X → List X
@@ -30,12 +30,12 @@ without_last g Receive = record { key = g.key; sends = g.sends; receives = short
 
 -- ---- tables
 -- the group at a place
-abbrev pub group_at : List SeenGroup → ℕ → SeenGroup
-group_at groups place = slice_index_or groups place (empty_group (Word []))
+abbrev pub group_at_place : List SeenGroup → ℕ → SeenGroup
+group_at_place groups place = slice_index_or groups place (empty_group (Word []))
 
 -- an event whose key has this place
-abbrev pub entry_at : ℕ → Side → ℕ → Entry
-entry_at event side place = record { event = event; side = side; place = place }
+abbrev pub entry_with_key : ℕ → Side → ℕ → Entry
+entry_with_key event side place = record { event = event; side = side; place = place }
 
 -- the keys of groups
 abbrev pub keys_in : List SeenGroup → List EventKey
@@ -43,37 +43,37 @@ keys_in groups = map (λ (g : SeenGroup). g.key) groups
 
 -- the group of an event, without it
 abbrev pub group_before : List SeenGroup → Entry → SeenGroup
-group_before groups e = without_last (group_at groups e.place) e.side
+group_before groups e = without_last (group_at_place groups e.place) e.side
 
 -- groups before the last event came, which was this one: a group that is then empty goes
 abbrev pub groups_before : List SeenGroup → Entry → List SeenGroup
 groups_before groups e =
     let less = slice_set groups e.place (group_before groups e) in
-    if size_of (group_before groups e) == 0 then shorter less else less
+    if group_size (group_before groups e) == 0 then shorter less else less
 
 -- their keys
 abbrev pub keys_before : List SeenGroup → Entry → List EventKey → List EventKey
-keys_before groups e keys = if size_of (group_before groups e) == 0 then shorter keys else keys
+keys_before groups e keys = if group_size (group_before groups e) == 0 then shorter keys else keys
 
 -- ---- counts
 -- what the events of a key count as: one message, or so many events
 abbrev pub tallies_of : SeenGroup → Tallies
 tallies_of g = record {
   messages = if is_matched g then 1 else 0;
-  unmatched = if is_unmatched g then size_of g else 0;
-  ambiguous = if is_ambiguous g then size_of g else 0;
+  unmatched = if is_unmatched g then group_size g else 0;
+  ambiguous = if is_ambiguous g then group_size g else 0;
 }
 
 -- how many events there are in all groups
 abbrev pub total_of : List SeenGroup → ℕ
-total_of groups = sum_by size_of groups
+total_of groups = sum_by group_size groups
 
 -- what all groups count as
-abbrev pub sum_of : List SeenGroup → Tallies
-sum_of groups = record {
+abbrev pub sum_of_groups : List SeenGroup → Tallies
+sum_of_groups groups = record {
   messages = sum_by (λ (g : SeenGroup). if is_matched g then 1 else 0) groups;
-  unmatched = sum_by (λ (g : SeenGroup). if is_unmatched g then size_of g else 0) groups;
-  ambiguous = sum_by (λ (g : SeenGroup). if is_ambiguous g then size_of g else 0) groups;
+  unmatched = sum_by (λ (g : SeenGroup). if is_unmatched g then group_size g else 0) groups;
+  ambiguous = sum_by (λ (g : SeenGroup). if is_ambiguous g then group_size g else 0) groups;
 }
 
 -- ---- couples

@@ -1,9 +1,10 @@
 // The events of one key.
-ghost use Rattle.std.specs.Prelude.{◌≡◌, ◌≤◌, ◌^◌, ◌==◌, [], OnOk, OnErr};
+ghost use Rattle.std.specs.Prelude.{◌≡◌, ◌≤◌, ◌==◌, [], OnOk, OnErr};
+ghost use Rattle.problem_model.specs.Limits.{most_items};
 ghost use Rattle.traces.specs.Seen.{key_of};
-ghost use Rattle.msg_match.specs.Groups.{size_of, couple_of, is_ambiguous};
+ghost use Rattle.msg_match.specs.Groups.{group_size, couple_of, is_ambiguous};
 ghost use Rattle.msg_match.specs.Held.{seen_group};
-ghost use Rattle.msg_match.specs.Parts.{with_event, without_last, tallies_of};
+ghost use Rattle.msg_match.specs.Parts.{with_entry, without_last, tallies_of};
 
 use crate::{Couple, Tallies};
 use std::alloc::{AllocError, Global};
@@ -34,7 +35,7 @@ impl Group {
 
     // Appends an event. All stays as before where memory runs out.
     pub(crate) fn push(&mut self, side: Side, event: u32) -> Result<(), AllocError>
-        ensures ok { OnOk result (seen_group self.new ≡ with_event (seen_group self.old) side event) }
+        ensures ok { OnOk result (seen_group self.new ≡ with_entry (seen_group self.old) side event) }
         ensures err { OnErr result (seen_group self.new ≡ seen_group self.old) }
     {
         match side {
@@ -60,7 +61,7 @@ impl Group {
 
     // Whether there are no events.
     pub(crate) fn is_empty(&self) -> bool
-        ensures { result ≡ (size_of (seen_group self.now) == 0) }
+        ensures { result ≡ (group_size (seen_group self.now) == 0) }
     {
         self.sends.is_empty() && self.receives.is_empty()
     }
@@ -89,7 +90,7 @@ impl Group {
 
     // What the events of the key count as.
     pub(crate) fn tallies(&self) -> Tallies
-        requires { size_of (seen_group self.now) ≤ 2 ^ 22 }
+        requires { group_size (seen_group self.now) ≤ most_items }
         ensures { result ≡ tallies_of (seen_group self.now) }
     {
         let mut tallies = Tallies::none();

@@ -1,5 +1,6 @@
 // Messages among all events that were added.
-ghost use Rattle.std.specs.Prelude.{◌≡◌, ◌<◌, ◌≤◌, ◌-◌, ◌+◌, ◌^◌, ◌++◌, ◌∷◌, [], List, length, take, slice_get, OnOk, OnErr, IfOk};
+ghost use Rattle.std.specs.Prelude.{◌≡◌, ◌<◌, ◌≤◌, ◌-◌, ◌+◌, ◌++◌, ◌∷◌, [], List, length, take, slice_get, OnOk, OnErr, IfOk};
+ghost use Rattle.problem_model.specs.Limits.{most_items};
 ghost use Rattle.traces.specs.Seen.{key_of};
 ghost use Rattle.msg_match.specs.Groups.{SeenItem, couple_of, group_of, groups_of, ambiguous_groups};
 ghost use Rattle.msg_match.specs.Messages.{tallies};
@@ -34,13 +35,13 @@ impl Model for Matcher {
     ghost use Rattle.std.specs.Prelude.{List};
     ghost use Rattle.msg_match.specs.Groups.{SeenItem};
     ghost use Rattle.msg_match.specs.Held.{seen_groups};
-    ghost use Rattle.msg_match.specs.Inside.{items_by, AreKept};
+    ghost use Rattle.msg_match.specs.Inside.{items_by, AreGrouped};
 
     ghost Value = { List SeenItem };
 
     ghost view = { λ m. items_by m.keys m.log.items };
 
-    ghost invariant = { λ m. AreKept m.keys m.log.items (seen_groups m.groups.items) };
+    ghost invariant = { λ m. AreGrouped m.keys m.log.items (seen_groups m.groups.items) };
 }
 
 impl Matcher {
@@ -58,7 +59,7 @@ impl Matcher {
     // How many events were added.
     fn len(&self) -> usize
         ensures count { result ≡ length self.now }
-        ensures few { length self.now ≤ 2 ^ 22 }
+        ensures few { length self.now ≤ most_items }
     {
         self.log.len()
     }
@@ -85,7 +86,7 @@ impl Matcher {
 
     // Appends an event. All stays as before where memory runs out.
     fn push(&mut self, item: &Item) -> Result<(), AllocError>
-        requires { length self.old < 2 ^ 22 }
+        requires { length self.old < most_items }
         ensures ok { OnOk result (self.new ≡ self.old ++ seen_item item.now ∷ []) }
         ensures err { OnErr result (self.new ≡ self.old) }
     {
@@ -116,7 +117,7 @@ impl Matcher {
 
     // Appends events, and answers the messages of their keys. Where memory runs out, some of them may stay.
     fn append(&mut self, items: &[Item]) -> Result<Vec<Couple>, AllocError>
-        requires { length self.old + length items.now ≤ 2 ^ 22 }
+        requires { length self.old + length items.now ≤ most_items }
         ensures ok { OnOk result (self.new ≡ self.old ++ seen_items items.now) }
         ensures found { IfOk result (λ found. AreCouplesOf self.new (seen_items items.now) found.items) }
         ensures err { OnErr result ((some : List SeenItem) × (self.new ≡ self.old ++ some)) }
@@ -134,7 +135,7 @@ impl Matcher {
     /// comes and goes again within the events added is in neither list. The time goes by the events that are added; for
     /// each, a key is looked up among all by some log n comparisons, whatever the keys are.
     pub fn add(&mut self, items: &[Item]) -> Result<Change, AllocError>
-        requires few { length self.old + length items.now ≤ 2 ^ 22 }
+        requires few { length self.old + length items.now ≤ most_items }
         requires differ { HaveOwnNumbers (self.old ++ seen_items items.now) }
         ensures ok { OnOk result (self.new ≡ self.old ++ seen_items items.now) }
         ensures added { IfOk result (λ change. AreMessagesAnew self.old self.new change.added.items) }

@@ -1,9 +1,10 @@
 // The tables of a matcher, changed by one event.
-ghost use Rattle.std.specs.Prelude.{◌≡◌, ◌<◌, ◌≤◌, ◌^◌, ◌++◌, ◌∷◌, [], length, slice_set, false, OnOk, OnErr, IfOk};
+ghost use Rattle.std.specs.Prelude.{◌≡◌, ◌<◌, ◌≤◌, ◌++◌, ◌∷◌, [], length, slice_set, false, OnOk, OnErr, IfOk};
 ghost use Rattle.std.specs.List.{list_any};
+ghost use Rattle.problem_model.specs.Limits.{most_items};
 ghost use Rattle.traces.specs.Seen.{key_of, is_same_key};
 ghost use Rattle.msg_match.specs.Held.{seen_groups};
-ghost use Rattle.msg_match.specs.Parts.{group_at, with_event, empty_group, entry_at, groups_before, keys_before, keys_in};
+ghost use Rattle.msg_match.specs.Parts.{group_at_place, with_entry, empty_group, entry_with_key, groups_before, keys_before, keys_in};
 
 use crate::entry::Entry;
 use crate::keys::Keys;
@@ -18,7 +19,6 @@ pub(crate) fn copy_key(key: &Key) -> Result<Key, AllocError>
     match key {
         Key::Packet(packet) => Ok(Key::Packet(packet.clone()?)),
         Key::Word(word) => Ok(Key::Word(*word)),
-        Key::Wide(packet) => Ok(Key::Wide(packet.clone()?)),
     }
 }
 
@@ -30,9 +30,9 @@ pub(crate) fn push_at(
     item: &Item,
 ) -> Result<(), AllocError>
     requires within { place < length groups.old.items }
-    requires few { length groups.old.items ≤ 2 ^ 22 }
-    ensures groups_ok { OnOk result (seen_groups groups.new.items ≡ slice_set (seen_groups groups.old.items) place (with_event (group_at (seen_groups groups.old.items) place) item.now.side item.now.event)) }
-    ensures log_ok { OnOk result (log.new.items ≡ log.old.items ++ entry_at item.now.event item.now.side place ∷ []) }
+    requires few { length groups.old.items ≤ most_items }
+    ensures groups_ok { OnOk result (seen_groups groups.new.items ≡ slice_set (seen_groups groups.old.items) place (with_entry (group_at_place (seen_groups groups.old.items) place) item.now.side item.now.event)) }
+    ensures log_ok { OnOk result (log.new.items ≡ log.old.items ++ entry_with_key item.now.event item.now.side place ∷ []) }
     ensures groups_err { OnErr result (seen_groups groups.new.items ≡ seen_groups groups.old.items) }
     ensures log_err { OnErr result (log.new.items ≡ log.old.items) }
 {
@@ -55,10 +55,10 @@ pub(crate) fn push_first(
     item: &Item,
 ) -> Result<(), AllocError>
     requires absent { list_any (is_same_key (key_of item.now.key)) keys.old ≡ false }
-    requires few { length groups.old.items ≤ 2 ^ 22 }
+    requires few { length groups.old.items ≤ most_items }
     ensures keys_ok { OnOk result (keys.new ≡ keys.old ++ key_of item.now.key ∷ []) }
-    ensures groups_ok { OnOk result (seen_groups groups.new.items ≡ seen_groups groups.old.items ++ with_event (empty_group (key_of item.now.key)) item.now.side item.now.event ∷ []) }
-    ensures log_ok { OnOk result (log.new.items ≡ log.old.items ++ entry_at item.now.event item.now.side (length groups.old.items) ∷ []) }
+    ensures groups_ok { OnOk result (seen_groups groups.new.items ≡ seen_groups groups.old.items ++ with_entry (empty_group (key_of item.now.key)) item.now.side item.now.event ∷ []) }
+    ensures log_ok { OnOk result (log.new.items ≡ log.old.items ++ entry_with_key item.now.event item.now.side (length groups.old.items) ∷ []) }
     ensures keys_err { OnErr result (keys.new ≡ keys.old) }
     ensures groups_err { OnErr result (groups.new.items ≡ groups.old.items) }
     ensures log_err { OnErr result (log.new.items ≡ log.old.items) }

@@ -1,15 +1,16 @@
 // What all groups count as, and the ambiguous ones among them.
-ghost use Rattle.std.specs.Prelude.{◌≡◌, ◌≤◌, ◌^◌, length, filter, slice_get};
+ghost use Rattle.std.specs.Prelude.{◌≡◌, ◌≤◌, length, filter, slice_get};
+ghost use Rattle.problem_model.specs.Limits.{most_items};
 ghost use Rattle.msg_match.specs.Groups.{is_ambiguous};
 ghost use Rattle.msg_match.specs.Held.{seen_groups, seen_found};
-ghost use Rattle.msg_match.specs.Parts.{sum_of, total_of};
+ghost use Rattle.msg_match.specs.Parts.{sum_of_groups, total_of};
 
 use crate::{Group, Tallies};
 
 // What all groups count as.
 pub(crate) fn sum(groups: &[Group]) -> Tallies
-    requires { total_of (seen_groups groups.now) ≤ 2 ^ 22 }
-    ensures { result ≡ sum_of (seen_groups groups.now) }
+    requires { total_of (seen_groups groups.now) ≤ most_items }
+    ensures { result ≡ sum_of_groups (seen_groups groups.now) }
 {
     let mut sum = Tallies::none();
     for group in groups {
@@ -20,7 +21,7 @@ pub(crate) fn sum(groups: &[Group]) -> Tallies
 
 // How many groups are ambiguous.
 pub(crate) fn ambiguous_count(groups: &[Group]) -> u32
-    requires { length groups.now ≤ 2 ^ 22 }
+    requires { length groups.now ≤ most_items }
     ensures { result ≡ length (filter is_ambiguous (seen_groups groups.now)) }
 {
     let mut count: u32 = 0;

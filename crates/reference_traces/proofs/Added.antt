@@ -19,10 +19,10 @@ use Rattle.msg_match.proofs.Grown.{ends_few, ends_more, ends_none, own_more}
 use Rattle.roster.specs.declared.came.Came.{Came}
 use Rattle.roster.specs.Groups.{group_at, sizes_of, total, with_more}
 use Rattle.roster.specs.Readings.{stamps_of}
-use Rattle.roster.specs.Roster.{RosterLists, Holds, IsGrown, IsRoster, came_from, event_at, id_of}
+use Rattle.roster.specs.Roster.{RosterLists, HoldsEvents, IsGrown, IsRoster, came_from, event_at, id_of}
 use Rattle.roster.proofs.Holding.{holds_more, holds_none}
 use Rattle.roster.proofs.Turns.{map-map}
-use Rattle.reference_traces.specs.Added.{AreAdded}
+use Rattle.reference_traces.specs.Added.{AreAllAdded}
 
 -- ---- no events
 abbrev IsNone : List Seen → Type 0
@@ -32,11 +32,11 @@ all_none : (labels : List Label) → All IsNone (map (λ (l : Label). []) labels
 all_none [] = All-nil IsNone
 all_none (l ∷ labels) = All-cons IsNone [] (map (λ (x : Label). []) labels) refl (all_none labels)
 
-pub none_added : (r : RosterLists) (items : List SeenItem) (seen : List (List Seen)) → IsRoster r → r.came ≡ [] → items ≡ [] → seen ≡ map (λ (l : Label). []) r.declaration.labels → AreAdded r items seen
+pub none_added : (r : RosterLists) (items : List SeenItem) (seen : List (List Seen)) → IsRoster r → r.came ≡ [] → items ≡ [] → seen ≡ map (λ (l : Label). []) r.declaration.labels → AreAllAdded r items seen
 none_added r items seen is none no_items no_events =
     let ends : AreEndsBy [] [] seen = subst (λ (l : List (List Seen)). AreEndsBy [] [] l) (sym no_events) (ends_none (map (λ (l : Label). []) r.declaration.labels) (all_none r.declaration.labels)) in
     record {
-      holds = subst (λ (l : List (List Seen)). Holds r l) (sym no_events) (holds_none r is none);
+      holds = subst (λ (l : List (List Seen)). HoldsEvents r l) (sym no_events) (holds_none r is none);
       ends = subst (λ (l : List Came). AreEndsBy (map id_of l) items seen) (sym none) (subst (λ (l : List SeenItem). AreEndsBy [] l seen) (sym no_items) ends);
     }
 
@@ -98,7 +98,7 @@ module _ (accepted : List Accepted) (more : List Event) (label : ℕ) (old after
       sym seen_set ∙ ap (λ (l : List Seen). slice_set (seen_in accepted) label (l ++ seen_events more)) there)
 
 -- ---- more events
-module _ (r : RosterLists) (is : IsRoster r) (items : List SeenItem) (accepted : List Accepted) (are : AreAdded r items (seen_in accepted)) where
+module _ (r : RosterLists) (is : IsRoster r) (items : List SeenItem) (accepted : List Accepted) (are : AreAllAdded r items (seen_in accepted)) where
   abbrev stamp_by : ℕ → ℕ
   stamp_by v = (event_at r.came v).stamp
 
@@ -129,7 +129,7 @@ module _ (r : RosterLists) (is : IsRoster r) (items : List SeenItem) (accepted :
     own_numbers = subst (λ (l : List SeenItem). HaveOwnNumbers (items ++ l)) (sym found_there) (own_more names items (seen_in accepted) (seen_events more) are.ends)
 
     pub added_more : (new : RosterLists) (label : ℕ) (old after : Accepted) → label < length accepted → old ≡ get_or accepted label old → IsGrown r new label (stamps_of more) → after.events.items ≡ old.events.items ++ more
-        → AreAdded new (items ++ found) (seen_in (slice_set accepted label after))
+        → AreAllAdded new (items ++ found) (seen_in (slice_set accepted label after))
     added_more new label old after inside old_is grown after_is =
         let seen = seen_in accepted in
         let own : List Seen = seen_events old.events.items in
@@ -145,7 +145,7 @@ module _ (r : RosterLists) (is : IsRoster r) (items : List SeenItem) (accepted :
         let ends : AreEndsBy (names ++ ids_from label (length own + 1) (seen_events more)) (items ++ items_from (length names) (seen_events more)) (slice_set seen label (own ++ seen_events more)) =
         ends_more seen label own (seen_events more) names items at are.ends in
         record {
-          holds = subst (λ (l : List (List Seen)). Holds new l) there (holds_more r new label seen own (seen_events more) is grown' are.holds at);
+          holds = subst (λ (l : List (List Seen)). HoldsEvents new l) there (holds_more r new label seen own (seen_events more) is grown' are.holds at);
           ends = subst (λ (l : List (List Seen)). AreEndsBy (map id_of new.came) (items ++ found) l) there
               (subst (λ (l : List EventId). AreEndsBy l (items ++ found) (slice_set seen label (own ++ seen_events more))) ids
               (subst (λ (l : List SeenItem). AreEndsBy (names ++ ids_from label (length own + 1) (seen_events more)) (items ++ l) (slice_set seen label (own ++ seen_events more))) (sym found_there) ends));

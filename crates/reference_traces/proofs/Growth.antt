@@ -8,13 +8,13 @@ use Rattle.problem_model.specs.declared.items.Message.{Message}
 use Rattle.problem_model.specs.Name.{IsClockName}
 use Rattle.problem_model.specs.Problem.{ProblemLists}
 use Rattle.problem.specs.Line.{HasEvent}
-use Rattle.problem.specs.Growing.{IsNewClock, IsNewEvent, IsNewMessage, with_event, with_message}
+use Rattle.problem.specs.Growing.{IsNewClock, IsNewEvent, IsMessageOfNewPair, with_event, with_message}
 use Rattle.decl.specs.Declaration.{Declaration, IsDeclaration, HasLawfulClocks, HasLawfulLabels, follows_of, link_bounds}
 use Rattle.traces.specs.declared.event_id.EventId.{EventId}
 use Rattle.traces.specs.declared.event_id.Couple.{Couple}
 use Rattle.traces.specs.Traces.{Placed, name_of, host_of}
 use Rattle.traces.specs.Messages.{event_with, linked, place_of}
-use Rattle.traces.specs.Making.{problem_by, IsOneOf, AreEvents, AreMessages}
+use Rattle.traces.specs.Making.{problem_by, IsOneOf, AreEventsOf, AreMessages}
 use Rattle.traces.proofs.Lists.{all_at, place_in}
 use Rattle.traces.proofs.Whole.{clock_there, all_names_differ, apart, ends_apart}
 use Rattle.traces.proofs.Places.{name_there, place_within, the_place}
@@ -32,7 +32,7 @@ clock_new d lawful k c at = record {
 }
 
 -- ---- events
-module _ (d : Declaration) (lawful : IsDeclaration d) (events : List Placed) (are : AreEvents d events) where
+module _ (d : Declaration) (lawful : IsDeclaration d) (events : List Placed) (are : AreEventsOf d events) where
   pub event_new : (k : ℕ) (e : Placed) → slice_get events k ≡ Some e → IsNewEvent (problem_by d (take k events) []) (event_with d e)
   event_new k e at = record {
     new = All-map (λ (x : Event). x.name ≢ name_of d e.id) (event_with d) (take k events)
@@ -45,14 +45,14 @@ pub event_more : (d : Declaration) (events : List Placed) (k : ℕ) (e : Placed)
 event_more d events k e at = ap (λ (es : List Event). let p : ProblemLists = record { clocks = d.clocks; follows = follows_of d; events = es; messages = [] } in p) (sym (map_next (event_with d) events k e at))
 
 -- ---- messages
-module _ (d : Declaration) (events : List Placed) (couples : List Couple) (are : AreEvents d events) (messages : AreMessages events couples) where
+module _ (d : Declaration) (events : List Placed) (couples : List Couple) (are : AreEventsOf d events) (messages : AreMessages events couples) where
   send_of : (k : ℕ) (m : Couple) → slice_get couples k ≡ Some m → IsOneOf events m.send
   send_of k m at = all_at (λ (m : Couple). IsOneOf events m.send) couples k m messages.sends at
 
   receive_of : (k : ℕ) (m : Couple) → slice_get couples k ≡ Some m → IsOneOf events m.receive
   receive_of k m at = all_at (λ (m : Couple). IsOneOf events m.receive) couples k m messages.receives at
 
-  pub message_new : (k : ℕ) (m : Couple) → slice_get couples k ≡ Some m → IsNewMessage (problem_by d events (take k couples)) (linked d events m)
+  pub message_new : (k : ℕ) (m : Couple) → slice_get couples k ≡ Some m → IsMessageOfNewPair (problem_by d events (take k couples)) (linked d events m)
   message_new k m at = record {
     sends = rw length-map (place_within events m.send are.differ (send_of k m at));
     receives = rw length-map (place_within events m.receive are.differ (receive_of k m at));
@@ -69,7 +69,7 @@ message_more d events couples k m at =
 
 -- ---- what the code makes of one event and of one message
 -- an event of this id has its name in the problem
-pub known : (d : Declaration) (events : List Placed) (ms : List Couple) (id : EventId) → AreEvents d events → IsOneOf events id → (k : ℕ) × HasEvent (problem_by d events ms) k (name_of d id)
+pub known : (d : Declaration) (events : List Placed) (ms : List Couple) (id : EventId) → AreEventsOf d events → IsOneOf events id → (k : ℕ) × HasEvent (problem_by d events ms) k (name_of d id)
 known d events ms id are one =
     let there : (k : ℕ) × (slice_get events k ≡ Some one.0) = place_in events one.0 one.1 in
     (there.0, subst (λ (x : EventId). HasEvent (problem_by d events ms) there.0 (name_of d x)) one.2 (name_there d events ms there.0 one.0 there.1))
@@ -79,7 +79,7 @@ same_message : (s t r u l n : ℕ) (o q : Option ℕ) → s ≡ t → r ≡ u �
 same_message s t r u l n o q e f g h = rw (e, f, g, h) refl
 
 -- a message between the events of a couple's names, with the bounds of their hosts' link, is that of the couple
-pub linked_is : (d : Declaration) (events : List Placed) (couples : List Couple) (k : ℕ) (m : Couple) (p : ProblemLists) (message : Message) → HasLawfulLabels d → AreEvents d events
+pub linked_is : (d : Declaration) (events : List Placed) (couples : List Couple) (k : ℕ) (m : Couple) (p : ProblemLists) (message : Message) → HasLawfulLabels d → AreEventsOf d events
     → AreMessages events couples → slice_get couples k ≡ Some m → p ≡ problem_by d events (take k couples)
     → HasEvent p message.send (name_of d m.send) → HasEvent p message.receive (name_of d m.receive)
     → ◌≡◌ {A = ℕ × Option ℕ} (message.least, message.most) (link_bounds d (host_of d m.send) (host_of d m.receive)) → message ≡ linked d events m
@@ -92,8 +92,8 @@ linked_is d events couples k m p message labels are messages at stands send rece
     (ap (λ (b : ℕ × Option ℕ). b.0) bounds) (ap (λ (b : ℕ × Option ℕ). b.1) bounds)
 
 -- what is made of the couple at place k may be added
-pub made_new : (d : Declaration) (events : List Placed) (couples : List Couple) (k : ℕ) (m : Couple) (p : ProblemLists) (message : Message) → AreEvents d events → AreMessages events couples
-    → slice_get couples k ≡ Some m → p ≡ problem_by d events (take k couples) → message ≡ linked d events m → IsNewMessage p message
+pub made_new : (d : Declaration) (events : List Placed) (couples : List Couple) (k : ℕ) (m : Couple) (p : ProblemLists) (message : Message) → AreEventsOf d events → AreMessages events couples
+    → slice_get couples k ≡ Some m → p ≡ problem_by d events (take k couples) → message ≡ linked d events m → IsMessageOfNewPair p message
 made_new d events couples k m p message are messages at stands is = rw (stands, is) (message_new d events couples are messages k m at)
 
 -- and with it the problem has one couple more

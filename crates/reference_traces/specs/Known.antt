@@ -7,5 +7,5 @@ use Rattle.traces.specs.declared.event_id.EventId.{EventId}
 use Rattle.traces.specs.Traces.{name_of}
 
 -- the problem has an event of this id's name
-abbrev pub IsKnown : Declaration → ProblemLists → EventId → Type 0
-IsKnown d p id = (k : ℕ) × HasEvent p k (name_of d id)
+abbrev pub IsKnownEvent : Declaration → ProblemLists → EventId → Type 0
+IsKnownEvent d p id = (k : ℕ) × HasEvent p k (name_of d id)

@@ -5,16 +5,14 @@ ghost use Rattle.decl.specs.Declaration.{IsDeclaration, declaration_of};
 ghost use Rattle.traces.specs.Seen.{seen_events};
 ghost use Rattle.traces.specs.Held.{seen_in};
 ghost use Rattle.roster.specs.Groups.{with_more};
-ghost use Rattle.reference_traces.specs.Added.{AreAdded};
+ghost use Rattle.reference_traces.specs.Added.{AreAllAdded};
 
 use decl::{Decl, Label};
 use msg_match::{Change, Matcher, items_of};
+use problem_model::MOST_EVENTS;
 use roster::Roster;
 use std::alloc::{AllocError, Global};
 use traces::{Accepted, Event, Stream};
-
-// How many events there are at most.
-const MOST: usize = 1 << 21;
 
 /// What came to the labels of a declaration: the events by number, the ends of messages among them by these numbers, and the
 /// events of each label.
@@ -44,7 +42,7 @@ impl Additions {
     /// No events; an error where memory runs out, which drops the declaration.
     pub fn new(alloc: Global, decl: Decl) -> Result<Additions, AllocError>
         requires { IsDeclaration (declaration_of decl) }
-        ensures { IfOk result (λ a. AreAdded a.roster a.matcher (seen_in a.labels.items)) }
+        ensures { IfOk result (λ a. AreAllAdded a.roster a.matcher (seen_in a.labels.items)) }
     {
         let labels = nothing_under(alloc, &decl.labels)?;
         let roster = Roster::new(alloc, decl)?;
@@ -61,13 +59,13 @@ impl Additions {
     /// memory runs out, where no label is at this place, and where there would be more than 2^21 events; what came is used no
     /// more then.
     pub fn add(&mut self, label: u32, mut events: Vec<Event>) -> Result<Change, AllocError>
-        requires { AreAdded self.old.roster self.old.matcher (seen_in self.old.labels.items) }
-        ensures added { OnOk result (AreAdded self.new.roster self.new.matcher (seen_in self.new.labels.items)) }
+        requires { AreAllAdded self.old.roster self.old.matcher (seen_in self.old.labels.items) }
+        ensures added { OnOk result (AreAllAdded self.new.roster self.new.matcher (seen_in self.new.labels.items)) }
         ensures events { OnOk result (seen_in self.new.labels.items ≡ with_more (seen_in self.old.labels.items) label (seen_events events.items)) }
     {
         let first = self.roster.len();
         if label as usize >= self.roster.decl().labels.len()
-            || events.len() > MOST - first as usize
+            || events.len() > MOST_EVENTS - first as usize
         {
             return Err(AllocError);
         }

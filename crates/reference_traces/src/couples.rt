@@ -1,5 +1,6 @@
 // The messages among events.
-ghost use Rattle.std.specs.Prelude.{◌≡◌, ◌≤◌, ◌^◌, length, IfOk, option_to_list};
+ghost use Rattle.std.specs.Prelude.{◌≡◌, ◌≤◌, length, IfOk, option_to_list};
+ghost use Rattle.problem_model.specs.Limits.{most_events};
 ghost use Rattle.traces.specs.declared.event.Side.TheVariants.{Send, Receive};
 ghost use Rattle.traces.specs.Seen.{is_mark, key_of, mark_of};
 ghost use Rattle.traces.specs.Traces.{event_count, events_of};
@@ -82,7 +83,7 @@ pub fn messages(alloc: Global, events: &[PlacedEvent]) -> Result<Vec<Couple>, Al
 /// There are at most 65,536 labels, with at most 2^21 events together.
 pub fn messages_in(alloc: Global, accepted: &[Accepted]) -> Result<Vec<Couple>, AllocError>
     requires labels { length accepted.now ≤ 65536 }
-    requires few { event_count (seen_in accepted.now) ≤ 2 ^ 21 }
+    requires few { event_count (seen_in accepted.now) ≤ most_events }
     ensures { IfOk result (λ ms. ms.items ≡ messages_of (events_of (seen_in accepted.now))) }
 {
     let events = events(alloc, accepted)?;

@@ -1,7 +1,7 @@
 // Adding to a problem what may be added: only memory can be wanting.
 ghost use Rattle.std.specs.Prelude.{◌≡◌, OnOk, IsOk, IsErrOf};
 ghost use Rattle.problem_model.specs.ChainNumbers.{with_follow};
-ghost use Rattle.problem.specs.Growing.{IsNewClock, IsNewFollow, IsNewEvent, IsNewMessage, HasRoomForClock, HasRoomForEvent, HasRoomForMessage, with_clock, with_event, with_message};
+ghost use Rattle.problem.specs.Growing.{IsNewClock, IsNewFollow, IsNewEvent, IsMessageOfNewPair, HasRoomForClock, HasRoomForEvent, HasRoomForMessage, with_clock, with_event, with_message};
 
 use problem::{Problem, PushError};
 use problem_model::{Clock, Event, Follow, Message};
@@ -49,7 +49,7 @@ pub(crate) fn add_event(p: &mut Problem, e: Event) -> Result<(), AllocError>
 
 /// Adds a message that may be added.
 pub(crate) fn add_message(p: &mut Problem, m: Message) -> Result<(), AllocError>
-    requires new { IsNewMessage p.old m }
+    requires new { IsMessageOfNewPair p.old m }
     requires room { HasRoomForMessage p.old }
     ensures { OnOk result (p.new ≡ with_message p.old m) }
 {

@@ -2,7 +2,7 @@
 ghost use Rattle.std.specs.Prelude.{◌≡◌, ◌<◌, length};
 ghost use Rattle.decl.specs.Declaration.{HasLawfulLabels, declaration_of, link_bounds};
 ghost use Rattle.problem.specs.Line.{HasEvent};
-ghost use Rattle.reference_traces.specs.Known.{IsKnown};
+ghost use Rattle.reference_traces.specs.Known.{IsKnownEvent};
 ghost use Rattle.traces.specs.Traces.{name_of, host_of, clock_of};
 ghost use Rattle.traces.specs.Messages.{event_with};
 ghost use Rattle.traces.specs.Held.{placed_of};
@@ -45,7 +45,7 @@ pub(crate) fn event_of(decl: &Decl, e: &PlacedEvent) -> Event
 fn place_of(decl: &Decl, p: &Problem, id: EventId) -> u32
     requires labels { HasLawfulLabels (declaration_of decl.now) }
     requires label { id.label < length decl.now.labels.items }
-    requires known { IsKnown (declaration_of decl.now) p.now id }
+    requires known { IsKnownEvent (declaration_of decl.now) p.now id }
     ensures { HasEvent p.now result (name_of (declaration_of decl.now) id) }
 {
     p.event_place(&name_of(decl, id)).unwrap()
@@ -56,8 +56,8 @@ pub(crate) fn message_of(decl: &Decl, p: &Problem, m: &Couple) -> Message
     requires labels { HasLawfulLabels (declaration_of decl.now) }
     requires send_label { m.now.send.label < length decl.now.labels.items }
     requires receive_label { m.now.receive.label < length decl.now.labels.items }
-    requires send_known { IsKnown (declaration_of decl.now) p.now m.now.send }
-    requires receive_known { IsKnown (declaration_of decl.now) p.now m.now.receive }
+    requires send_known { IsKnownEvent (declaration_of decl.now) p.now m.now.send }
+    requires receive_known { IsKnownEvent (declaration_of decl.now) p.now m.now.receive }
     ensures send { HasEvent p.now result.send (name_of (declaration_of decl.now) m.now.send) }
     ensures receive { HasEvent p.now result.receive (name_of (declaration_of decl.now) m.now.receive) }
     ensures bounds { (result.least, result.most) ≡ link_bounds (declaration_of decl.now) (host_of (declaration_of decl.now) m.now.send) (host_of (declaration_of decl.now) m.now.receive) }

@@ -1,10 +1,11 @@
 // The problem of events and messages, and of all that was accepted.
-ghost use Rattle.std.specs.Prelude.{◌≡◌, ◌≤◌, ◌^◌, length, IfOk};
+ghost use Rattle.std.specs.Prelude.{◌≡◌, ◌≤◌, length, IfOk};
+ghost use Rattle.problem_model.specs.Limits.{most_events};
 ghost use Rattle.decl.specs.Declaration.{IsDeclaration, declaration_of};
 ghost use Rattle.traces.specs.Traces.{event_count, events_of};
 ghost use Rattle.traces.specs.Messages.{messages_of, problem_of_seen};
 ghost use Rattle.traces.specs.Held.{placed_in, seen_in};
-ghost use Rattle.traces.specs.Making.{AreEvents, AreMessages, problem_by};
+ghost use Rattle.traces.specs.Making.{AreEventsOf, AreMessages, problem_by};
 
 use crate::items::{add_clock, add_event, add_follow, add_message};
 use crate::parts::{event_of, message_of};
@@ -21,7 +22,7 @@ fn problem_by(
     couples: &[Couple],
 ) -> Result<Problem, AllocError>
     requires lawful { IsDeclaration (declaration_of decl.now) }
-    requires events { AreEvents (declaration_of decl.now) (placed_in events.now) }
+    requires events { AreEventsOf (declaration_of decl.now) (placed_in events.now) }
     requires messages { AreMessages (placed_in events.now) couples.now }
     ensures { IfOk result (λ p. p ≡ problem_by (declaration_of decl.now) (placed_in events.now) couples.now) }
 {
@@ -56,7 +57,7 @@ pub fn problem_of(
 ) -> Result<Problem, AllocError>
     requires declared { IsDeclaration (declaration_of decl.now) }
     requires labels { length accepted.now ≡ length decl.now.labels.items }
-    requires count { event_count (seen_in accepted.now) ≤ 2 ^ 21 }
+    requires count { event_count (seen_in accepted.now) ≤ most_events }
     requires messages { messages.now ≡ messages_of (events_of (seen_in accepted.now)) }
     ensures problem { IfOk result (λ p. p ≡ problem_of_seen (declaration_of decl.now) (seen_in accepted.now)) }
 {

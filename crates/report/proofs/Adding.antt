@@ -14,25 +14,25 @@ use Rattle.traces.specs.Seen.{EventKey, Seen, SeenMark, Keyed, Unkeyed, is_same_
 use Rattle.traces.specs.declared.event_id.EventId.{EventId}
 use Rattle.traces.specs.Traces.{Placed, events_of, name_of}
 use Rattle.msg_match.specs.declared.change.Tallies.{Tallies}
-use Rattle.msg_match.specs.Groups.{SeenGroup, SeenItem, are_ambiguous, each_once, events_with, group_of, groups_of, is_ambiguous, is_matched, is_unmatched, size_of}
+use Rattle.msg_match.specs.Groups.{SeenGroup, SeenItem, are_ambiguous, each_once, events_with, group_of, groups_of, is_ambiguous, is_matched, is_unmatched, group_size}
 use Rattle.msg_match.specs.Parts.{total_of}
 use Rattle.msg_match.proofs.Counting.{sums_are, totals_are}
-use Rattle.msg_match.specs.Ends.{End, end_of, ends_of}
+use Rattle.msg_match.specs.Ends.{End, end_by_mark, ends_among}
 use Rattle.msg_match.specs.Ambiguous.{ambiguous_ends, end_group, is_ambiguous_key, names_with, tallies_of, unnumbered}
-use Rattle.report.specs.Reports.{count_without, lacks_key, named_key, nokeys_of, report_of}
-use Rattle.report.specs.Counts.{AddUp, all_without, listed}
+use Rattle.report.specs.Reports.{count_without, has_no_key_for, named_key, nokeys_of, report_of}
+use Rattle.report.specs.Counts.{AddUp, all_without, listed_with_key}
 use Rattle.report.proofs.Matched.{items_in, messages_many}
 
 -- ---- events with and without keys
 abbrev lacks : NoKey → SeenMark → ℕ
-lacks reason m = cond (lacks_key reason m) 1 0
+lacks reason m = cond (has_no_key_for reason m) 1 0
 
 abbrev lacks_any : SeenMark → ℕ
 lacks_any m =
     lacks without.Link m + lacks without.Other m + lacks without.Short m + lacks without.Header m
     + lacks without.Fragment m + lacks without.Length m + lacks without.Side m + lacks without.Local m
 
-one_mark : (id : EventId) (m : SeenMark) → 1 ≡ length (end_of id m) + lacks_any m
+one_mark : (id : EventId) (m : SeenMark) → 1 ≡ length (end_by_mark id m) + lacks_any m
 one_mark id (Keyed key side) = refl
 one_mark id (Unkeyed without.Link) = refl
 one_mark id (Unkeyed without.Other) = refl
@@ -46,10 +46,10 @@ one_mark id (Unkeyed without.Local) = refl
 counted_cons : (reason : NoKey) (e : Placed) (more : List Placed) → count_without (e ∷ more) reason ≡ lacks reason e.seen.mark + count_without more reason
 counted_cons reason e more = sum_by-cons (λ (x : Placed). lacks reason x.seen.mark) e more
 
-keyed_or_not : (events : List Placed) → length events ≡ length (ends_of events) + all_without (nokeys_of events)
+keyed_or_not : (events : List Placed) → length events ≡ length (ends_among events) + all_without (nokeys_of events)
 keyed_or_not [] = refl
 keyed_or_not (e ∷ more) =
-    let first : length (ends_of (e ∷ more)) ≡ length (end_of e.id e.seen.mark) + length (ends_of more) = length-append (end_of e.id e.seen.mark) (ends_of more) in
+    let first : length (ends_among (e ∷ more)) ≡ length (end_by_mark e.id e.seen.mark) + length (ends_among more) = length-append (end_by_mark e.id e.seen.mark) (ends_among more) in
     omega (
       arith,
       first,
@@ -69,7 +69,7 @@ keyed_or_not (e ∷ more) =
 abbrev made : EventKey → List ℕ → List ℕ → SeenGroup
 made key sends receives = record { key = key; sends = sends; receives = receives }
 
-matched_alone : (key : EventKey) (sends receives : List ℕ) → is_matched (made key sends receives) ≡ true → (size_of (made key sends receives) ≡ 2) × (is_ambiguous (made key sends receives) ≡ false)
+matched_alone : (key : EventKey) (sends receives : List ℕ) → is_matched (made key sends receives) ≡ true → (group_size (made key sends receives) ≡ 2) × (is_ambiguous (made key sends receives) ≡ false)
 matched_alone key [] receives is = absurd (false≢true is)
 matched_alone key (s ∷ t ∷ more) receives is = absurd (false≢true is)
 matched_alone key (s ∷ []) [] is = absurd (false≢true is)
@@ -87,16 +87,16 @@ abbrev matched_in : SeenGroup → ℕ
 matched_in g = cond (is_matched g) 1 0
 
 abbrev unmatched_in : SeenGroup → ℕ
-unmatched_in g = cond (is_unmatched g) (size_of g) 0
+unmatched_in g = cond (is_unmatched g) (group_size g) 0
 
 abbrev ambiguous_in : SeenGroup → ℕ
-ambiguous_in g = cond (is_ambiguous g) (size_of g) 0
+ambiguous_in g = cond (is_ambiguous g) (group_size g) 0
 
 summed : (gs : List SeenGroup) → total_of gs ≡ 2 * sum_by matched_in gs + sum_by unmatched_in gs + sum_by ambiguous_in gs
 summed [] = refl
 summed (g ∷ gs) =
-    let here : size_of g ≡ 2 * matched_in g + unmatched_in g + ambiguous_in g = parts (is_matched g) (is_ambiguous g) (size_of g) (matched_alone g.key g.sends g.receives) in
-    omega (arith, sum_by-cons size_of g gs, sum_by-cons matched_in g gs, sum_by-cons unmatched_in g gs, sum_by-cons ambiguous_in g gs, here, summed gs)
+    let here : group_size g ≡ 2 * matched_in g + unmatched_in g + ambiguous_in g = parts (is_matched g) (is_ambiguous g) (group_size g) (matched_alone g.key g.sends g.receives) in
+    omega (arith, sum_by-cons group_size g gs, sum_by-cons matched_in g gs, sum_by-cons unmatched_in g gs, sum_by-cons ambiguous_in g gs, here, summed gs)
 
 told : (ends : List End) → length ends ≡ 2 * (tallies_of ends).messages + (tallies_of ends).unmatched + (tallies_of ends).ambiguous
 told ends =
@@ -129,12 +129,12 @@ keys_same : (ends : List End) → map (λ (e : End). e.key) ends ≡ map (λ (x 
 keys_same [] = refl
 keys_same (e ∷ ends) = ap (λ (l : List EventKey). e.key ∷ l) (keys_same ends)
 
-listed_key : (d : Declaration) (ends : List End) (key : EventKey) → listed (named_key d (end_group ends key)) ≡ size_of (group_of (items_in ends) key)
+listed_key : (d : Declaration) (ends : List End) (key : EventKey) → listed_with_key (named_key d (end_group ends key)) ≡ group_size (group_of (items_in ends) key)
 listed_key d ends key =
     omega (arith, length-map (names_with ends key Send) (name_of d), length-map (names_with ends key Receive) (name_of d), many ends key Send, many ends key Receive)
 
 listed_all : (d : Declaration) (ends : List End) (keys : List EventKey)
-    → sum_by listed (map (named_key d) (map (end_group ends) (filter (is_ambiguous_key ends) keys))) ≡ sum_by ambiguous_in (map (group_of (items_in ends)) keys)
+    → sum_by listed_with_key (map (named_key d) (map (end_group ends) (filter (is_ambiguous_key ends) keys))) ≡ sum_by ambiguous_in (map (group_of (items_in ends)) keys)
 listed_all d ends [] = refl
 listed_all d ends (key ∷ keys) =
     let rest : List EventKey = filter (is_ambiguous_key ends) keys in
@@ -143,19 +143,19 @@ listed_all d ends (key ∷ keys) =
     elim (cases_Bool (is_ambiguous_key ends key)) [
       | inl yes' ↦ (
           let kept : filter (is_ambiguous_key ends) (key ∷ keys) ≡ key ∷ rest = ap (λ (b : Bool). cond b (key ∷ rest) rest) yes' in
-          let here : ambiguous_in group ≡ size_of group = ap (λ (b : Bool). cond b (size_of group) 0) (sym (test_same ends key) ∙ yes') in
-          ap (λ (l : List EventKey). sum_by listed (map (named_key d) (map (end_group ends) l))) kept
-          ∙ omega (arith, sum_by-cons listed (named_key d (end_group ends key)) (map (named_key d) (map (end_group ends) rest)), listed_key d ends key, sum_by-cons ambiguous_in group groups, here, listed_all d ends keys)
+          let here : ambiguous_in group ≡ group_size group = ap (λ (b : Bool). cond b (group_size group) 0) (sym (test_same ends key) ∙ yes') in
+          ap (λ (l : List EventKey). sum_by listed_with_key (map (named_key d) (map (end_group ends) l))) kept
+          ∙ omega (arith, sum_by-cons listed_with_key (named_key d (end_group ends key)) (map (named_key d) (map (end_group ends) rest)), listed_key d ends key, sum_by-cons ambiguous_in group groups, here, listed_all d ends keys)
           )
       | inr no' ↦ (
           let left : filter (is_ambiguous_key ends) (key ∷ keys) ≡ rest = ap (λ (b : Bool). cond b (key ∷ rest) rest) no' in
-          let here : ambiguous_in group ≡ 0 = ap (λ (b : Bool). cond b (size_of group) 0) (sym (test_same ends key) ∙ no') in
-          ap (λ (l : List EventKey). sum_by listed (map (named_key d) (map (end_group ends) l))) left
+          let here : ambiguous_in group ≡ 0 = ap (λ (b : Bool). cond b (group_size group) 0) (sym (test_same ends key) ∙ no') in
+          ap (λ (l : List EventKey). sum_by listed_with_key (map (named_key d) (map (end_group ends) l))) left
           ∙ omega (arith, sum_by-cons ambiguous_in group groups, here, listed_all d ends keys)
           )
     ]
 
-listed_in : (d : Declaration) (ends : List End) → sum_by listed (map (named_key d) (ambiguous_ends ends)) ≡ (tallies_of ends).ambiguous
+listed_in : (d : Declaration) (ends : List End) → sum_by listed_with_key (map (named_key d) (ambiguous_ends ends)) ≡ (tallies_of ends).ambiguous
 listed_in d ends =
     listed_all d ends (each_once is_same_key (map (λ (e : End). e.key) ends))
     ∙ ap (λ (keys : List EventKey). sum_by ambiguous_in (map (group_of (items_in ends)) (each_once is_same_key keys))) (keys_same ends)
@@ -165,5 +165,5 @@ listed_in d ends =
 pub added_up : (d : Declaration) (seen : List (List Seen)) (passed : List Passed) (consistent : Bool) → AddUp (report_of d seen passed consistent)
 added_up d seen passed consistent =
     let events : List Placed = events_of seen in
-    let ends : List End = ends_of events in
+    let ends : List End = ends_among events in
     omega (arith, keyed_or_not events, told ends, messages_many events, listed_in d ends)

@@ -13,10 +13,13 @@ use Rattle.std.proofs.lemmas.Str.{IsAscii-append}
 use Rattle.std.proofs.lemmas.Str.Ascii.{IsAscii-cons, IsAscii-from_all, IsAscii-nil}
 use Rattle.atto.specs.Decimal.{decimal_of}
 use Rattle.line_format.specs.Words.{words}
-use Rattle.ip_headers.specs.Keys.{KeyFields}
-use Rattle.wide_headers.specs.Keys.{WideFields}
+use Rattle.headers.specs.declared.key.Network.{Network}
+use Rattle.headers.specs.declared.key.Network.TheVariants.{V4, V6}
+use Rattle.headers.specs.declared.key.Segment.{Segment}
+use Rattle.headers.specs.declared.key.Transport.TheVariants.{Tcp, Udp}
+use Rattle.headers.specs.declared.key.UserDatagram.{UserDatagram}
 use Rattle.event_log.specs.Texts.{IsWordKey}
-use Rattle.report.specs.KeyTexts.{dotted, endpoint, four_groups, groups, hex_digit, payload_word, quad, tcp_words, udp_words, wide_endpoint, wide_tcp_words, wide_udp_words}
+use Rattle.report.specs.KeyTexts.{datagram_words, dotted, endpoint, four_groups, groups, hex_digit, network_words, option_words, packet_words, payload_word, quad, segment_words, wide_endpoint}
 
 -- ---- by a test
 abbrev all_low : List ℕ → Bool
@@ -88,29 +91,24 @@ ascii_words (w ∷ []) all = all.0
 ascii_words (w ∷ v ∷ more) all = joined w (words (v ∷ more)) 32 (omega arith) all.0 (ascii_words (v ∷ more) all.1)
 
 -- ---- keys
-pub ascii_udp : (k : KeyFields) → IsAscii (payload_word k.payload) → IsAscii (words (udp_words k))
-ascii_udp k payload =
-    let last : AllByRecursion IsAscii (codes "payload" ∷ payload_word k.payload ∷ []) = (by_test (codes "payload") refl, (payload, tt)) in
-    let fields : AllByRecursion IsAscii (codes "id" ∷ decimal_of k.id ∷ codes "length" ∷ decimal_of k.length ∷ codes "payload" ∷ payload_word k.payload ∷ []) = (by_test (codes "id") refl, (ascii_decimal k.id, (by_test (codes "length") refl, (ascii_decimal k.length, last)))) in
-    ascii_words (udp_words k) (by_test (codes "udp") refl, (ascii_endpoint k.source k.source_port, (ascii_endpoint k.target k.target_port, fields)))
+ascii_network : (n : Network) (from to : ℕ) (more : List (List ℕ)) → AllByRecursion IsAscii more → AllByRecursion IsAscii (network_words n from to ++ more)
+ascii_network (V4 source target id) from to more rest = (ascii_endpoint source from, (ascii_endpoint target to, (by_test (codes "id") refl, (ascii_decimal id, rest))))
+ascii_network (V6 source target) from to more rest = (ascii_wide_endpoint source from, (ascii_wide_endpoint target to, rest))
 
-pub ascii_tcp : (k : KeyFields) → IsAscii (payload_word k.payload) → IsAscii (words (tcp_words k))
-ascii_tcp k payload =
-    let last : AllByRecursion IsAscii (codes "payload" ∷ payload_word k.payload ∷ []) = (by_test (codes "payload") refl, (payload, tt)) in
-    let fields : AllByRecursion IsAscii (codes "id" ∷ decimal_of k.id ∷ codes "seq" ∷ decimal_of k.sequence ∷ codes "ack" ∷ decimal_of k.acknowledged ∷ codes "flags" ∷ decimal_of k.flags ∷ codes "length" ∷ decimal_of k.length ∷ codes "payload" ∷ payload_word k.payload ∷ []) = (by_test (codes "id") refl, (ascii_decimal k.id, (by_test (codes "seq") refl, (ascii_decimal k.sequence, (by_test (codes "ack") refl, (ascii_decimal k.acknowledged, (by_test (codes "flags") refl, (ascii_decimal k.flags, (by_test (codes "length") refl, (ascii_decimal k.length, last)))))))))) in
-    ascii_words (tcp_words k) (by_test (codes "tcp") refl, (ascii_endpoint k.source k.source_port, (ascii_endpoint k.target k.target_port, fields)))
+pub ascii_options : (options : List ℕ) → IsAscii (payload_word options) → AllByRecursion IsAscii (option_words options)
+ascii_options [] is = tt
+ascii_options (b ∷ more) is = (by_test (codes "options") refl, (is, tt))
 
-pub ascii_wide_udp : (k : WideFields) → IsAscii (payload_word k.payload) → IsAscii (words (wide_udp_words k))
-ascii_wide_udp k payload =
-    let last : AllByRecursion IsAscii (codes "payload" ∷ payload_word k.payload ∷ []) = (by_test (codes "payload") refl, (payload, tt)) in
-    let fields : AllByRecursion IsAscii (codes "length" ∷ decimal_of k.length ∷ codes "payload" ∷ payload_word k.payload ∷ []) = (by_test (codes "length") refl, (ascii_decimal k.length, last)) in
-    ascii_words (wide_udp_words k) (by_test (codes "udp") refl, (ascii_wide_endpoint k.source k.source_port, (ascii_wide_endpoint k.target k.target_port, fields)))
+pub ascii_tcp : (n : Network) (s : Segment) → IsAscii (payload_word s.payload.items) → AllByRecursion IsAscii (option_words s.options.items) → IsAscii (words (packet_words n (Tcp s)))
+ascii_tcp n s payload options =
+    let last : AllByRecursion IsAscii (codes "payload" ∷ payload_word s.payload.items ∷ option_words s.options.items) = (by_test (codes "payload") refl, (payload, options)) in
+    let fields : AllByRecursion IsAscii (segment_words s) = (by_test (codes "seq") refl, (ascii_decimal s.sequence, (by_test (codes "ack") refl, (ascii_decimal s.acknowledged, (by_test (codes "flags") refl, (ascii_decimal s.flags, (by_test (codes "length") refl, (ascii_decimal s.length, last)))))))) in
+    ascii_words (packet_words n (Tcp s)) (by_test (codes "tcp") refl, ascii_network n s.source_port s.target_port (segment_words s) fields)
 
-pub ascii_wide_tcp : (k : WideFields) → IsAscii (payload_word k.payload) → IsAscii (words (wide_tcp_words k))
-ascii_wide_tcp k payload =
-    let last : AllByRecursion IsAscii (codes "payload" ∷ payload_word k.payload ∷ []) = (by_test (codes "payload") refl, (payload, tt)) in
-    let fields : AllByRecursion IsAscii (codes "seq" ∷ decimal_of k.sequence ∷ codes "ack" ∷ decimal_of k.acknowledged ∷ codes "flags" ∷ decimal_of k.flags ∷ codes "length" ∷ decimal_of k.length ∷ codes "payload" ∷ payload_word k.payload ∷ []) = (by_test (codes "seq") refl, (ascii_decimal k.sequence, (by_test (codes "ack") refl, (ascii_decimal k.acknowledged, (by_test (codes "flags") refl, (ascii_decimal k.flags, (by_test (codes "length") refl, (ascii_decimal k.length, last)))))))) in
-    ascii_words (wide_tcp_words k) (by_test (codes "tcp") refl, (ascii_wide_endpoint k.source k.source_port, (ascii_wide_endpoint k.target k.target_port, fields)))
+pub ascii_udp : (n : Network) (d : UserDatagram) → IsAscii (payload_word d.payload.items) → IsAscii (words (packet_words n (Udp d)))
+ascii_udp n d payload =
+    let fields : AllByRecursion IsAscii (datagram_words d) = (by_test (codes "length") refl, (ascii_decimal d.length, (by_test (codes "payload") refl, (payload, tt)))) in
+    ascii_words (packet_words n (Udp d)) (by_test (codes "udp") refl, ascii_network n d.source_port d.target_port (datagram_words d) fields)
 
 low_print : (c : ℕ) → IsInRange 33 126 c → c < 128
 low_print c range = grind arith

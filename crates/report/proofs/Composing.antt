@@ -1,31 +1,31 @@
--- Texts of packets.
-use Rattle.std.proofs.Common.{◌≡◌, ℕ, List, [], ◌∷◌, refl, ◌∙◌}
-use Rattle.std.specs.Prelude.{codes}
-use Rattle.atto.specs.Decimal.{decimal_of}
+-- Words behind words.
+use Rattle.std.proofs.Common.{◌≡◌, ℕ, List, ◌++◌, ◌∷◌, ap, ◌∙◌, append_assoc}
 use Rattle.line_format.specs.Words.{words}
-use Rattle.ip_headers.specs.Keys.{KeyFields}
-use Rattle.wide_headers.specs.Keys.{WideFields}
-use Rattle.report.specs.KeyTexts.{endpoint, payload_word, tcp_words, udp_words, wide_endpoint, wide_tcp_words, wide_udp_words}
 
--- the words of packets
-pub udp_is : (k : KeyFields) (text payload : List ℕ) (id size : ℕ) → id ≡ k.id → size ≡ k.length → payload ≡ k.payload
-    → text ≡ words (codes "udp" ∷ endpoint k.source k.source_port ∷ endpoint k.target k.target_port ∷ codes "id" ∷ decimal_of id
-    ∷ codes "length" ∷ decimal_of size ∷ codes "payload" ∷ payload_word payload ∷ []) → text ≡ words (udp_words k)
-udp_is k text payload id size e f g is = is ∙ rw (e, f, g) refl
+two : (ws a b : List (List ℕ)) → ws ++ a ++ b ≡ ws ++ (a ++ b)
+two ws a b = append_assoc ws a b
 
-pub tcp_is : (k : KeyFields) (text payload : List ℕ) (id flags size : ℕ) → id ≡ k.id → flags ≡ k.flags → size ≡ k.length → payload ≡ k.payload
-    → text ≡ words (codes "tcp" ∷ endpoint k.source k.source_port ∷ endpoint k.target k.target_port ∷ codes "id" ∷ decimal_of id
-    ∷ codes "seq" ∷ decimal_of k.sequence ∷ codes "ack" ∷ decimal_of k.acknowledged ∷ codes "flags" ∷ decimal_of flags
-    ∷ codes "length" ∷ decimal_of size ∷ codes "payload" ∷ payload_word payload ∷ []) → text ≡ words (tcp_words k)
-tcp_is k text payload id flags size e f g h is = is ∙ rw (e, f, g, h) refl
+three : (ws a b c : List (List ℕ)) → ws ++ a ++ b ++ c ≡ ws ++ (a ++ (b ++ c))
+three ws a b c = append_assoc (ws ++ a) b c ∙ two ws a (b ++ c)
 
-pub wide_udp_is : (k : WideFields) (text payload : List ℕ) (size : ℕ) → size ≡ k.length → payload ≡ k.payload
-    → text ≡ words (codes "udp" ∷ wide_endpoint k.source k.source_port ∷ wide_endpoint k.target k.target_port
-    ∷ codes "length" ∷ decimal_of size ∷ codes "payload" ∷ payload_word payload ∷ []) → text ≡ words (wide_udp_words k)
-wide_udp_is k text payload size f g is = is ∙ rw (f, g) refl
+four : (ws a b c d : List (List ℕ)) → ws ++ a ++ b ++ c ++ d ≡ ws ++ (a ++ (b ++ (c ++ d)))
+four ws a b c d = append_assoc (ws ++ a ++ b) c d ∙ three ws a b (c ++ d)
 
-pub wide_tcp_is : (k : WideFields) (text payload : List ℕ) (flags size : ℕ) → flags ≡ k.flags → size ≡ k.length → payload ≡ k.payload
-    → text ≡ words (codes "tcp" ∷ wide_endpoint k.source k.source_port ∷ wide_endpoint k.target k.target_port
-    ∷ codes "seq" ∷ decimal_of k.sequence ∷ codes "ack" ∷ decimal_of k.acknowledged ∷ codes "flags" ∷ decimal_of flags
-    ∷ codes "length" ∷ decimal_of size ∷ codes "payload" ∷ payload_word payload ∷ []) → text ≡ words (wide_tcp_words k)
-wide_tcp_is k text payload flags size f g h is = is ∙ rw (f, g, h) refl
+five : (ws a b c d e : List (List ℕ)) → ws ++ a ++ b ++ c ++ d ++ e ≡ ws ++ (a ++ (b ++ (c ++ (d ++ e))))
+five ws a b c d e = append_assoc (ws ++ a ++ b ++ c) d e ∙ four ws a b c (d ++ e)
+
+six : (ws a b c d e f : List (List ℕ)) → ws ++ a ++ b ++ c ++ d ++ e ++ f ≡ ws ++ (a ++ (b ++ (c ++ (d ++ (e ++ f)))))
+six ws a b c d e f = append_assoc (ws ++ a ++ b ++ c ++ d) e f ∙ five ws a b c d (e ++ f)
+
+regrouped : (first : List ℕ) (xs ys : List (List ℕ)) (text : List ℕ) → xs ≡ ys → text ≡ words (first ∷ xs) → text ≡ words (first ∷ ys)
+regrouped first xs ys text e is = is ∙ ap (λ (ws : List (List ℕ)). words (first ∷ ws)) e
+
+-- what was appended in parts is appended as one
+pub in_two : (first : List ℕ) (ws a b : List (List ℕ)) (text : List ℕ) → text ≡ words (first ∷ (ws ++ a) ++ b) → text ≡ words (first ∷ ws ++ (a ++ b))
+in_two first ws a b text is = regrouped first _ _ text (two ws a b) is
+
+pub in_three : (first : List ℕ) (ws a b c : List (List ℕ)) (text : List ℕ) → text ≡ words (first ∷ (ws ++ a ++ b) ++ c) → text ≡ words (first ∷ ws ++ (a ++ (b ++ c)))
+in_three first ws a b c text is = regrouped first _ _ text (three ws a b c) is
+
+pub in_six : (first : List ℕ) (ws a b c d e f : List (List ℕ)) (text : List ℕ) → text ≡ words (first ∷ (ws ++ a ++ b ++ c ++ d ++ e) ++ f) → text ≡ words (first ∷ ws ++ (a ++ (b ++ (c ++ (d ++ (e ++ f))))))
+in_six first ws a b c d e f text is = regrouped first _ _ text (six ws a b c d e f) is

@@ -11,38 +11,38 @@ use Rattle.traces.specs.Traces.{Placed, events_of}
 use Rattle.traces.proofs.Ids.{ids_within}
 use Rattle.msg_match.specs.Groups.{SeenItem}
 use Rattle.msg_match.specs.Messages.{tallies}
-use Rattle.msg_match.specs.Ends.{AreEndsBy, End, end_at, end_of, ends_of, name_at}
+use Rattle.msg_match.specs.Ends.{AreEndsBy, End, end_at, end_by_mark, ends_among, name_as_came}
 use Rattle.msg_match.specs.Ambiguous.{ambiguous_ends, ambiguous_keys, end_group, is_end, tallies_of}
 use Rattle.msg_match.proofs.ByNumber.{tallies_by, tallies_of_moved}
 use Rattle.report.specs.Inside.{AreLabelled, HasLabels}
 
 -- ---- counts
 -- those of the events by number, in whatever order they came
-pub counts_told : (ids : List EventId) (items : List SeenItem) (seen : List (List Seen)) → AreEndsBy ids items seen → tallies items ≡ tallies_of (ends_of (events_of seen))
-counts_told ids items seen are = sym (tallies_by (name_at ids) items) ∙ sym (tallies_of_moved (ends_of (events_of seen)) (map (end_at ids) items) are.ends)
+pub counts_told : (ids : List EventId) (items : List SeenItem) (seen : List (List Seen)) → AreEndsBy ids items seen → tallies items ≡ tallies_of (ends_among (events_of seen))
+counts_told ids items seen are = sym (tallies_by (name_as_came ids) items) ∙ sym (tallies_of_moved (ends_among (events_of seen)) (map (end_at ids) items) are.ends)
 
 -- ---- labels
 IsLabelled : Declaration → End → Type 0
 IsLabelled d e = e.id.label < length d.labels
 
-one_labelled : (d : Declaration) (id : EventId) (mark : SeenMark) → id.label < length d.labels → All (IsLabelled d) (end_of id mark)
+one_labelled : (d : Declaration) (id : EventId) (mark : SeenMark) → id.label < length d.labels → All (IsLabelled d) (end_by_mark id mark)
 unfolding IsLabelled
 one_labelled d id (Unkeyed reason) below = All-nil (IsLabelled d)
 one_labelled d id (Keyed key side) below = All-cons (IsLabelled d) _ [] below (All-nil (IsLabelled d))
 
-ends_labelled : (d : Declaration) (events : List Placed) → All (λ (e : Placed). e.id.label < length d.labels) events → All (IsLabelled d) (ends_of events)
+ends_labelled : (d : Declaration) (events : List Placed) → All (λ (e : Placed). e.id.label < length d.labels) events → All (IsLabelled d) (ends_among events)
 ends_labelled d [] below = All-nil (IsLabelled d)
 ends_labelled d (e ∷ events) below =
     let P : Placed → Type 0 = λ x. x.id.label < length d.labels in
-    All-append (IsLabelled d) (end_of e.id e.seen.mark) (ends_of events) (one_labelled d e.id e.seen.mark (All-head P e events below)) (ends_labelled d events (All-tail P e events below))
+    All-append (IsLabelled d) (end_by_mark e.id e.seen.mark) (ends_among events) (one_labelled d e.id e.seen.mark (All-head P e events below)) (ends_labelled d events (All-tail P e events below))
 
 side_labelled : (d : Declaration) (ends : List End) (key : EventKey) (side : Side) → All (IsLabelled d) ends → AreLabelled d (map (λ (e : End). e.id) (filter (is_end key side) ends))
 unfolding IsLabelled
 side_labelled d ends key side below = All-map (λ (id : EventId). id.label < length d.labels) (λ (e : End). e.id) (filter (is_end key side) ends) (All-filter (is_end key side) (IsLabelled d) ends below)
 
 -- each event of an ambiguous key has a label of the declaration
-pub keys_labelled : (d : Declaration) (seen : List (List Seen)) → length seen ≡ length d.labels → All (HasLabels d) (ambiguous_ends (ends_of (events_of seen)))
+pub keys_labelled : (d : Declaration) (seen : List (List Seen)) → length seen ≡ length d.labels → All (HasLabels d) (ambiguous_ends (ends_among (events_of seen)))
 keys_labelled d seen same =
-    let ends : List End = ends_of (events_of seen) in
+    let ends : List End = ends_among (events_of seen) in
     let below : All (IsLabelled d) ends = ends_labelled d (events_of seen) (λ k x within. subst (λ (n : ℕ). (get_or (events_of seen) k x).id.label < n) same (ids_within seen k x within).0) in
     All-map (HasLabels d) (end_group ends) (ambiguous_keys ends) (λ k x within. (side_labelled d ends _ Send below, side_labelled d ends _ Receive below))

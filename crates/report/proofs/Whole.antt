@@ -1,13 +1,14 @@
 -- A report by its parts.
 use Rattle.std.proofs.Common.{◌-◌, ◌≡◌, ◌≤◌, ◌^◌, ℕ, List, length, map, Bool, refl, arith}
 use Rattle.std.specs.Prelude.{min}
+use Rattle.problem_model.specs.Limits.{most_events}
 use Rattle.captures.specs.Capture.{Passed}
 use Rattle.decl.specs.Declaration.{Declaration}
 use Rattle.traces.specs.Seen.{Seen}
 use Rattle.traces.specs.Traces.{events_of, event_count}
 use Rattle.traces.specs.Messages.{messages_of}
 use Rattle.traces.proofs.Ids.{length_events}
-use Rattle.msg_match.specs.Ends.{ends_of}
+use Rattle.msg_match.specs.Ends.{ends_among}
 use Rattle.msg_match.specs.Ambiguous.{ambiguous_ends, tallies_of}
 use Rattle.report.specs.declared.view.NoKeys.{NoKeys}
 use Rattle.report.specs.declared.view.PassedSums.{PassedSums}
@@ -21,11 +22,11 @@ made events messages unmatched consistent nokeys passed groups =
 
 -- is that of all events
 pub made_is : (d : Declaration) (seen : List (List Seen)) (labels : List Passed) (consistent : Bool) (n m u : ℕ) (nokeys : NoKeys) (passed : PassedSums) (groups : List ReportedKey)
-    → n ≡ length (events_of seen) → m ≡ length (messages_of (events_of seen)) → u ≡ (tallies_of (ends_of (events_of seen))).unmatched
-    → nokeys ≡ nokeys_of (events_of seen) → passed ≡ passed_sums labels → groups ≡ map (named_key d) (ambiguous_ends (ends_of (events_of seen)))
+    → n ≡ length (events_of seen) → m ≡ length (messages_of (events_of seen)) → u ≡ (tallies_of (ends_among (events_of seen))).unmatched
+    → nokeys ≡ nokeys_of (events_of seen) → passed ≡ passed_sums labels → groups ≡ map (named_key d) (ambiguous_ends (ends_among (events_of seen)))
     → made n m u consistent nokeys passed groups ≡ report_of d seen labels consistent
 made_is d seen labels consistent n m u nokeys passed groups en em eu ek ep eg = rw (en, em, eu, ek, ep, eg) refl
 
 -- the count is that of all events, where there are not too many
-pub counted : (seen : List (List Seen)) (n : ℕ) → n ≡ min (event_count seen) (2 ^ 64 - 1) → event_count seen ≤ 2 ^ 21 → n ≡ length (events_of seen)
+pub counted : (seen : List (List Seen)) (n : ℕ) → n ≡ min (event_count seen) (2 ^ 64 - 1) → event_count seen ≤ most_events → n ≡ length (events_of seen)
 counted seen n is few = grind (arith, is, few, length_events seen)

@@ -9,7 +9,7 @@ use Rattle.roster.specs.Roster.{RosterLists, id_of}
 use Rattle.msg_match.specs.Ambiguous.{EndGroup}
 use Rattle.report.specs.declared.ambiguous.Ambiguous.{Ambiguous}
 use Rattle.report.specs.declared.view.PassedSums.{PassedSums}
-use Rattle.report.specs.Reports.{lacks_key}
+use Rattle.report.specs.Reports.{has_no_key_for}
 
 -- the names of all events, as they came
 abbrev pub ids_in : RosterLists → List EventId
@@ -33,7 +33,7 @@ HasLabels d g = AreLabelled d g.sends × AreLabelled d g.receives
 
 -- how many events of a label have no key for this reason
 abbrev pub lacking : NoKey → List Seen → ℕ
-lacking reason seen = count_by (λ (s : Seen). lacks_key reason s.mark) seen
+lacking reason seen = count_by (λ (s : Seen). has_no_key_for reason s.mark) seen
 
 -- these and those of one label more
 abbrev pub sums_with : PassedSums → Passed → PassedSums

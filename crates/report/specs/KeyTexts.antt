@@ -1,11 +1,15 @@
 -- The text of a key.
-use Rattle.std.specs.Prelude.{ℕ, ◌+◌, ◌^◌, ◌/◌, ◌%◌, ◌==◌, List, [], ◌∷◌, ◌++◌, nat_lt, if◌then◌else◌, codes}
+use Rattle.std.specs.Prelude.{ℕ, ◌+◌, ◌^◌, ◌/◌, ◌%◌, List, [], ◌∷◌, ◌++◌, nat_lt, if◌then◌else◌, codes}
 use Rattle.std.specs.List.{flat_map}
 use Rattle.atto.specs.Decimal.{decimal_of}
 use Rattle.line_format.specs.Words.{words}
-use Rattle.ip_headers.specs.Keys.{KeyFields}
-use Rattle.wide_headers.specs.Keys.{WideFields}
-use Rattle.traces.specs.Seen.{EventKey, Packet, Wide, Word}
+use Rattle.headers.specs.declared.key.Network.{Network}
+use Rattle.headers.specs.declared.key.Network.TheVariants.{V4, V6}
+use Rattle.headers.specs.declared.key.Segment.{Segment}
+use Rattle.headers.specs.declared.key.Transport.{Transport}
+use Rattle.headers.specs.declared.key.Transport.TheVariants.{Tcp, Udp}
+use Rattle.headers.specs.declared.key.UserDatagram.{UserDatagram}
+use Rattle.traces.specs.Seen.{EventKey, Packet, Word}
 
 -- an IPv4 address of 32 bits: its four bytes as decimals, with dots between
 abbrev pub dotted : ℕ → List ℕ
@@ -39,38 +43,39 @@ wide_endpoint address port = 91 ∷ groups address ++ 93 ∷ 58 ∷ decimal_of p
 abbrev pub hex : List ℕ → List ℕ
 hex bytes = flat_map (λ (b : ℕ). hex_digit (b / 16) ∷ hex_digit (b % 16) ∷ []) bytes
 
--- the bytes in hexadecimal digits, or a dash for none
+-- bytes in hexadecimal digits, or a dash for none
 abbrev pub payload_word : List ℕ → List ℕ
 payload_word [] = codes "-"
 payload_word (b ∷ more) = hex (b ∷ more)
 
--- the words of a datagram of UDP
-abbrev pub udp_words : KeyFields → List (List ℕ)
-udp_words k = codes "udp" ∷ endpoint k.source k.source_port ∷ endpoint k.target k.target_port ∷ codes "id" ∷ decimal_of k.id
-    ∷ codes "length" ∷ decimal_of k.length ∷ codes "payload" ∷ payload_word k.payload ∷ []
+-- the words of both addresses with these ports, and of IPv4 of the identification
+abbrev pub network_words : Network → ℕ → ℕ → List (List ℕ)
+network_words (V4 source target id) from to = endpoint source from ∷ endpoint target to ∷ codes "id" ∷ decimal_of id ∷ []
+network_words (V6 source target) from to = wide_endpoint source from ∷ wide_endpoint target to ∷ []
 
--- the words of a segment of TCP
-abbrev pub tcp_words : KeyFields → List (List ℕ)
-tcp_words k = codes "tcp" ∷ endpoint k.source k.source_port ∷ endpoint k.target k.target_port ∷ codes "id" ∷ decimal_of k.id
-    ∷ codes "seq" ∷ decimal_of k.sequence ∷ codes "ack" ∷ decimal_of k.acknowledged ∷ codes "flags" ∷ decimal_of k.flags
-    ∷ codes "length" ∷ decimal_of k.length ∷ codes "payload" ∷ payload_word k.payload ∷ []
+-- the words of the options of a segment that are in its key, if any are
+abbrev pub option_words : List ℕ → List (List ℕ)
+option_words [] = []
+option_words (b ∷ more) = codes "options" ∷ payload_word (b ∷ more) ∷ []
 
--- the words of a datagram of UDP over IPv6, which has no identification
-abbrev pub wide_udp_words : WideFields → List (List ℕ)
-wide_udp_words k = codes "udp" ∷ wide_endpoint k.source k.source_port ∷ wide_endpoint k.target k.target_port
-    ∷ codes "length" ∷ decimal_of k.length ∷ codes "payload" ∷ payload_word k.payload ∷ []
+-- the words of a segment of TCP behind its ports
+abbrev pub segment_words : Segment → List (List ℕ)
+segment_words s = codes "seq" ∷ decimal_of s.sequence ∷ codes "ack" ∷ decimal_of s.acknowledged ∷ codes "flags" ∷ decimal_of s.flags
+    ∷ codes "length" ∷ decimal_of s.length ∷ codes "payload" ∷ payload_word s.payload.items ∷ option_words s.options.items
 
--- the words of a segment of TCP over IPv6, which has no identification
-abbrev pub wide_tcp_words : WideFields → List (List ℕ)
-wide_tcp_words k = codes "tcp" ∷ wide_endpoint k.source k.source_port ∷ wide_endpoint k.target k.target_port
-    ∷ codes "seq" ∷ decimal_of k.sequence ∷ codes "ack" ∷ decimal_of k.acknowledged ∷ codes "flags" ∷ decimal_of k.flags
-    ∷ codes "length" ∷ decimal_of k.length ∷ codes "payload" ∷ payload_word k.payload ∷ []
+-- the words of a datagram of UDP behind its ports
+abbrev pub datagram_words : UserDatagram → List (List ℕ)
+datagram_words d = codes "length" ∷ decimal_of d.length ∷ codes "payload" ∷ payload_word d.payload.items ∷ []
 
--- the words of a key: 6 is the number of TCP, and else it is UDP
+-- the words of a packet
+abbrev pub packet_words : Network → Transport → List (List ℕ)
+packet_words network (Tcp s) = codes "tcp" ∷ network_words network s.source_port s.target_port ++ segment_words s
+packet_words network (Udp d) = codes "udp" ∷ network_words network d.source_port d.target_port ++ datagram_words d
+
+-- the words of a key
 abbrev pub key_words : EventKey → List (List ℕ)
 key_words (Word w) = codes "log" ∷ w ∷ []
-key_words (Packet k) = if k.protocol == 6 then tcp_words k else udp_words k
-key_words (Wide k) = if k.protocol == 6 then wide_tcp_words k else wide_udp_words k
+key_words (Packet k) = packet_words k.network k.transport
 
 -- the text of a key
 abbrev pub key_text : EventKey → List ℕ

@@ -7,7 +7,7 @@ use Rattle.traces.specs.declared.event.NoKey.TheVariants as without
 use Rattle.traces.specs.Seen.{SeenMark, Keyed, Unkeyed, Seen}
 use Rattle.traces.specs.Traces.{Placed, events_of, name_of}
 use Rattle.traces.specs.Messages.{messages_of}
-use Rattle.msg_match.specs.Ends.{ends_of}
+use Rattle.msg_match.specs.Ends.{ends_among}
 use Rattle.msg_match.specs.Ambiguous.{EndGroup, ambiguous_ends, tallies_of}
 use Rattle.report.specs.declared.view.NoKeys.{NoKeys}
 use Rattle.report.specs.declared.view.PassedSums.{PassedSums}
@@ -33,13 +33,13 @@ is_reason without.Local without.Local = true
 is_reason _ _ = false
 
 -- whether an event with this mark has no key, for this reason
-abbrev pub lacks_key : NoKey → SeenMark → Bool
-lacks_key reason (Keyed key side) = false
-lacks_key reason (Unkeyed other) = is_reason reason other
+abbrev pub has_no_key_for : NoKey → SeenMark → Bool
+has_no_key_for reason (Keyed key side) = false
+has_no_key_for reason (Unkeyed other) = is_reason reason other
 
 -- how many events have no key for this reason
 abbrev pub count_without : List Placed → NoKey → ℕ
-count_without events reason = count_by (λ (e : Placed). lacks_key reason e.seen.mark) events
+count_without events reason = count_by (λ (e : Placed). has_no_key_for reason e.seen.mark) events
 
 -- the same for each reason
 abbrev pub nokeys_of : List Placed → NoKeys
@@ -72,11 +72,11 @@ report_of d seen passed consistent =
     record {
       events = length events;
       messages = length (messages_of events);
-      unmatched = (tallies_of (ends_of events)).unmatched;
+      unmatched = (tallies_of (ends_among events)).unmatched;
       consistent = consistent;
       nokeys = nokeys_of events;
       passed = passed_sums passed;
-      groups = map (named_key d) (ambiguous_ends (ends_of events));
+      groups = map (named_key d) (ambiguous_ends (ends_among events));
     }
 
 -- its line

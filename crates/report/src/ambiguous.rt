@@ -8,9 +8,9 @@ ghost use Rattle.msg_match.specs.Parts.{keys_in};
 ghost use Rattle.traces.specs.declared.event_id.EventId as names;
 ghost use Rattle.traces.specs.Pairs.{ComesBefore};
 ghost use Rattle.traces.specs.Traces.{events_of};
-ghost use Rattle.msg_match.specs.Ends.{AreEndsBy, End, ends_of, name_at};
+ghost use Rattle.msg_match.specs.Ends.{AreEndsBy, End, ends_among, name_as_came};
 ghost use Rattle.msg_match.specs.Ambiguous.{EndGroup, ambiguous_ends};
-ghost use Rattle.msg_match.specs.EndsInside.{AreInOrder, AreRising, HasEventsOf, IsWithin, earlier, led_group, led_groups};
+ghost use Rattle.msg_match.specs.EndsInside.{AreNamesInOrder, AreRising, HasEventsOf, IsWithin, earlier, led_group, led_groups};
 ghost use Rattle.report.specs.Inside.{ids_in, led, seen_ambiguous};
 
 use msg_match::{Group, Matcher};
@@ -34,7 +34,7 @@ pub(crate) struct Ambiguous<'a> {
 // The name of the event with this number.
 fn id_at(roster: &Roster, number: u32) -> EventId
     requires { number < length roster.now.came }
-    ensures { result ≡ name_at (ids_in roster.now) number }
+    ensures { result ≡ name_as_came (ids_in roster.now) number }
 {
     let came = roster.event(number);
     EventId {
@@ -57,7 +57,7 @@ fn earlier(a: EventId, b: EventId) -> EventId
 // The names of the events with these numbers, by label and then by number; an error where memory runs out.
 fn sorted_names(alloc: Global, roster: &Roster, numbers: &[u32]) -> Result<Vec<EventId>, AllocError>
     requires { All (λ number. number < length (ids_in roster.now)) numbers.now }
-    ensures names { (in_order : List names.EventId) → AreInOrder in_order → IsPermutation in_order (map (name_at (ids_in roster.now)) numbers.now) → IfOk result (λ sorted. sorted.items ≡ in_order) }
+    ensures names { (in_order : List names.EventId) → AreNamesInOrder in_order → IsPermutation in_order (map (name_as_came (ids_in roster.now)) numbers.now) → IfOk result (λ sorted. sorted.items ≡ in_order) }
     ensures many { IfOk result (λ sorted. length sorted.items ≡ length numbers.now) }
 {
     let mut sorted = Vec::with_capacity(alloc, numbers.len())?;
@@ -125,8 +125,7 @@ fn ambiguous_keys<'a>(
 
 // Sorts keys by the first of their events. No two have the same.
 fn sort_keys(keys: &mut [Ambiguous<'_>])
-    ensures sorted { (in_order : List (names.EventId × EndGroup)) → AllPairs (λ (a b : names.EventId × EndGroup). ComesBefore a.0 b.0) in_order → IsPermutation in_order (map led keys.old) → map led keys.new ≡ in_order }
-    ensures len { length keys.new ≡ length keys.old }
+    ensures { (in_order : List (names.EventId × EndGroup)) → AllPairs (λ (a b : names.EventId × EndGroup). ComesBefore a.0 b.0) in_order → IsPermutation in_order (map led keys.old) → map led keys.new ≡ in_order }
 {
     keys.sort_unstable_by_key(|key| (key.first.label, key.first.number));
 }
@@ -142,7 +141,7 @@ pub(crate) fn keys_in_order<'a>(
     matcher: &'a Matcher,
 ) -> Result<Vec<Ambiguous<'a>>, AllocError>
     requires { All (λ (x : SeenItem). x.event < length (ids_in roster.now)) matcher.now }
-    ensures { (seen : List (List Seen)) → AreEndsBy (ids_in roster.now) matcher.now seen → IfOk result (λ keys. map seen_ambiguous keys.items ≡ ambiguous_ends (ends_of (events_of seen))) }
+    ensures { (seen : List (List Seen)) → AreEndsBy (ids_in roster.now) matcher.now seen → IfOk result (λ keys. map seen_ambiguous keys.items ≡ ambiguous_ends (ends_among (events_of seen))) }
 {
     let mut keys = ambiguous_keys(alloc, roster, matcher.all_groups())?;
     sort_keys(&mut keys);

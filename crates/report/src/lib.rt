@@ -19,7 +19,6 @@ mod texts;
 mod trace_view;
 mod values;
 mod view;
-mod wide_texts;
 
 pub use laws::counts_add_up;
 pub use line::report_line;

@@ -1,6 +1,7 @@
 // Events in one order, and the line of each.
-ghost use Rattle.std.specs.Prelude.{◌≡◌, ◌≤◌, ◌^◌, ◌∷◌, [], ◌++◌, length, slice_get, IfOk};
+ghost use Rattle.std.specs.Prelude.{◌≡◌, ◌≤◌, ◌∷◌, [], ◌++◌, length, slice_get, IfOk};
 ghost use Rattle.std.specs.List.{range_with_len};
+ghost use Rattle.problem_model.specs.Limits.{most_items};
 ghost use Rattle.atto.specs.NsText.{ns_text};
 ghost use Rattle.line_format.specs.Words.{words};
 ghost use Rattle.ports.specs.Content.{Writes};
@@ -47,7 +48,7 @@ fn key_at(keys: &[MergeKey], position: u32) -> Option<MergeKey>
 /// No two keys have the same place and the same number, and there are at most 2^22.
 pub fn merge_order(alloc: Global, keys: &[MergeKey]) -> Result<Vec<u32>, AllocError>
     requires differ { AreApart keys.now }
-    requires few { length keys.now ≤ 2 ^ 22 }
+    requires few { length keys.now ≤ most_items }
     ensures { IfOk result (λ order. IsMergeOrder keys.now order.items) }
 {
     let mut order = positions(alloc, keys.len() as u32)?;

@@ -1,9 +1,10 @@
 // How many events have no key.
-ghost use Rattle.std.specs.Prelude.{◌≡◌, ◌≤◌, ◌^◌, length};
+ghost use Rattle.std.specs.Prelude.{◌≡◌, ◌≤◌, length};
+ghost use Rattle.problem_model.specs.Limits.{most_events};
 ghost use Rattle.traces.specs.Seen.{mark_of, seen_events};
 ghost use Rattle.traces.specs.Traces.{event_count, events_of};
 ghost use Rattle.traces.specs.Held.{seen_in};
-ghost use Rattle.report.specs.Reports.{count_without, is_reason, lacks_key, nokeys_of};
+ghost use Rattle.report.specs.Reports.{count_without, is_reason, has_no_key_for, nokeys_of};
 ghost use Rattle.report.specs.Inside.{lacking};
 
 use crate::NoKeys;
@@ -27,7 +28,7 @@ fn is_reason(reason: NoKey, other: NoKey) -> bool
 
 // Whether an event with this mark has no key, for this reason.
 fn lacks_key(mark: &Mark, reason: NoKey) -> bool
-    ensures { result ≡ lacks_key reason (mark_of mark.now) }
+    ensures { result ≡ has_no_key_for reason (mark_of mark.now) }
 {
     match mark {
         Mark::Keyed { .. } => false,
@@ -37,7 +38,7 @@ fn lacks_key(mark: &Mark, reason: NoKey) -> bool
 
 // How many events of a label have no key for this reason.
 fn count_under(events: &[Event], reason: NoKey) -> u32
-    requires { length events.now ≤ 2 ^ 21 }
+    requires { length events.now ≤ most_events }
     ensures { result ≡ lacking reason (seen_events events.now) }
 {
     let mut count: u32 = 0;
@@ -51,7 +52,7 @@ fn count_under(events: &[Event], reason: NoKey) -> u32
 
 // How many events have no key for this reason.
 fn count_without(accepted: &[Accepted], reason: NoKey) -> u32
-    requires { event_count (seen_in accepted.now) ≤ 2 ^ 21 }
+    requires { event_count (seen_in accepted.now) ≤ most_events }
     ensures { result ≡ count_without (events_of (seen_in accepted.now)) reason }
 {
     let mut count: u32 = 0;
@@ -63,7 +64,7 @@ fn count_without(accepted: &[Accepted], reason: NoKey) -> u32
 
 /// How many events have no key, by reason. Each reason is looked for among all events.
 pub(crate) fn nokeys_of(accepted: &[Accepted]) -> NoKeys
-    requires { event_count (seen_in accepted.now) ≤ 2 ^ 21 }
+    requires { event_count (seen_in accepted.now) ≤ most_events }
     ensures { result ≡ nokeys_of (events_of (seen_in accepted.now)) }
 {
     NoKeys {

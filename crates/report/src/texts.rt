@@ -1,24 +1,21 @@
 // The text of a key, word by word.
 ghost use Rattle.std.specs.Prelude.{◌≡◌, ◌∷◌, [], ◌++◌, ℕ, List, OnOk, IfOk, codes};
+ghost use Rattle.std.specs.List.{AllByRecursion};
 ghost use Rattle.std.specs.Str.{IsAscii};
 ghost use Rattle.atto.specs.Decimal.{decimal_of};
 ghost use Rattle.line_format.specs.Words.{words};
-ghost use Rattle.ip_headers.specs.Keys.{fields_of};
+ghost use Rattle.headers.specs.declared.key.Transport.TheVariants.{Tcp, Udp};
 ghost use Rattle.traces.specs.Seen.{key_of, Packet, Word};
-ghost use Rattle.report.specs.KeyTexts.{endpoint, key_text, payload_word, tcp_words, udp_words};
+ghost use Rattle.report.specs.KeyTexts.{datagram_words, endpoint, key_text, network_words, option_words, packet_words, payload_word, segment_words, wide_endpoint};
 
-use crate::key_parts::{push_decimal, push_endpoint, push_payload};
-use crate::wide_texts::wide_text;
+use crate::key_parts::{push_decimal, push_endpoint, push_payload, push_wide_endpoint};
 use event_log::WordKey;
-use ip_headers::PacketKey;
+use headers::{Network, PacketKey, Segment, Transport, UserDatagram};
 use ports::push_word;
 use std::alloc::{AllocError, Global};
 use traces::Key;
 
-// The number of TCP among the protocols over IP (RFC 9293).
-pub(crate) const TCP: u8 = 6;
-
-// Appends an address with its port behind a space.
+// Appends an address of IPv4 with its port behind a space.
 fn push_end(text: &mut Vec<u8>, address: u32, port: u16) -> Result<(), AllocError>
     ensures { (first : List ℕ) (ws : List (List ℕ)) → text.old.items ≡ words (first ∷ ws) → OnOk result (text.new.items ≡ words (first ∷ ws ++ endpoint address port ∷ [])) }
 {
@@ -27,8 +24,17 @@ fn push_end(text: &mut Vec<u8>, address: u32, port: u16) -> Result<(), AllocErro
     Ok(())
 }
 
-/// Appends the name of a field and its number.
-pub(crate) fn push_field(text: &mut Vec<u8>, name: &[u8], number: u32) -> Result<(), AllocError>
+// Appends an address of IPv6 with its port behind a space.
+fn push_wide_end(text: &mut Vec<u8>, address: u128, port: u16) -> Result<(), AllocError>
+    ensures { (first : List ℕ) (ws : List (List ℕ)) → text.old.items ≡ words (first ∷ ws) → OnOk result (text.new.items ≡ words (first ∷ ws ++ wide_endpoint address port ∷ [])) }
+{
+    text.push(b' ')?;
+    push_wide_endpoint(text, address, port)?;
+    Ok(())
+}
+
+// Appends the name of a field and its number.
+fn push_field(text: &mut Vec<u8>, name: &[u8], number: u32) -> Result<(), AllocError>
     ensures { (first : List ℕ) (ws : List (List ℕ)) → text.old.items ≡ words (first ∷ ws) → OnOk result (text.new.items ≡ words (first ∷ ws ++ name.now ∷ decimal_of number ∷ [])) }
 {
     push_word(text, name)?;
@@ -37,57 +43,113 @@ pub(crate) fn push_field(text: &mut Vec<u8>, name: &[u8], number: u32) -> Result
     Ok(())
 }
 
-/// Appends the bytes of a payload and their name.
-pub(crate) fn push_bytes(text: &mut Vec<u8>, payload: &[u8]) -> Result<(), AllocError>
-    ensures text { (first : List ℕ) (ws : List (List ℕ)) → text.old.items ≡ words (first ∷ ws) → OnOk result (text.new.items ≡ words (first ∷ ws ++ codes "payload" ∷ payload_word payload.now ∷ [])) }
-    ensures ascii { OnOk result (IsAscii (payload_word payload.now)) }
+// Appends bytes and their name.
+fn push_bytes(text: &mut Vec<u8>, name: &[u8], bytes: &[u8]) -> Result<(), AllocError>
+    ensures text { (first : List ℕ) (ws : List (List ℕ)) → text.old.items ≡ words (first ∷ ws) → OnOk result (text.new.items ≡ words (first ∷ ws ++ name.now ∷ payload_word bytes.now ∷ [])) }
+    ensures ascii { OnOk result (IsAscii (payload_word bytes.now)) }
 {
-    push_word(text, b"payload")?;
+    push_word(text, name)?;
     text.push(b' ')?;
-    push_payload(text, payload)?;
+    push_payload(text, bytes)?;
     Ok(())
 }
 
-// The text of a datagram of UDP.
-fn udp_text(alloc: Global, key: &PacketKey) -> Result<Vec<u8>, AllocError>
-    ensures text { IfOk result (λ text. text.items ≡ words (udp_words (fields_of key.now))) }
-    ensures ascii { IfOk result (λ text. IsAscii text.items) }
+// Appends the options of a segment that are in its key, if any are, and their name.
+fn push_options(text: &mut Vec<u8>, options: &[u8]) -> Result<(), AllocError>
+    ensures text { (first : List ℕ) (ws : List (List ℕ)) → text.old.items ≡ words (first ∷ ws) → OnOk result (text.new.items ≡ words (first ∷ ws ++ option_words options.now)) }
+    ensures ascii { OnOk result (AllByRecursion IsAscii (option_words options.now)) }
 {
-    let mut text = Vec::from_slice(alloc, b"udp")?;
-    push_end(&mut text, key.source, key.source_port)?;
-    push_end(&mut text, key.target, key.target_port)?;
-    push_field(&mut text, b"id", u32::from(key.id))?;
-    push_field(&mut text, b"length", u32::from(key.length))?;
-    push_bytes(&mut text, key.payload.as_slice())?;
-    Ok(text)
+    if options.is_empty() {
+        Ok(())
+    } else {
+        push_bytes(text, b"options", options)
+    }
+}
+
+// Appends both addresses with these ports, and of IPv4 the identification.
+fn push_network(
+    text: &mut Vec<u8>,
+    network: Network,
+    source_port: u16,
+    target_port: u16,
+) -> Result<(), AllocError>
+    ensures { (first : List ℕ) (ws : List (List ℕ)) → text.old.items ≡ words (first ∷ ws) → OnOk result (text.new.items ≡ words (first ∷ ws ++ network_words network source_port target_port)) }
+{
+    match network {
+        Network::V4 { source, target, id } => {
+            push_end(text, source, source_port)?;
+            push_end(text, target, target_port)?;
+            push_field(text, b"id", u32::from(id))?;
+            Ok(())
+        }
+        Network::V6 { source, target } => {
+            push_wide_end(text, source, source_port)?;
+            push_wide_end(text, target, target_port)?;
+            Ok(())
+        }
+    }
+}
+
+// Appends what stands in a segment behind its ports.
+fn push_segment(text: &mut Vec<u8>, segment: &Segment) -> Result<(), AllocError>
+    ensures text { (first : List ℕ) (ws : List (List ℕ)) → text.old.items ≡ words (first ∷ ws) → OnOk result (text.new.items ≡ words (first ∷ ws ++ segment_words segment.now)) }
+    ensures ascii { OnOk result (IsAscii (payload_word segment.now.payload.items)) }
+    ensures ascii_options { OnOk result (AllByRecursion IsAscii (option_words segment.now.options.items)) }
+{
+    push_field(text, b"seq", segment.sequence)?;
+    push_field(text, b"ack", segment.acknowledged)?;
+    push_field(text, b"flags", u32::from(segment.flags))?;
+    push_field(text, b"length", u32::from(segment.length))?;
+    push_bytes(text, b"payload", segment.payload.as_slice())?;
+    push_options(text, segment.options.as_slice())?;
+    Ok(())
+}
+
+// Appends what stands in a datagram of UDP behind its ports.
+fn push_datagram(text: &mut Vec<u8>, datagram: &UserDatagram) -> Result<(), AllocError>
+    ensures text { (first : List ℕ) (ws : List (List ℕ)) → text.old.items ≡ words (first ∷ ws) → OnOk result (text.new.items ≡ words (first ∷ ws ++ datagram_words datagram.now)) }
+    ensures ascii { OnOk result (IsAscii (payload_word datagram.now.payload.items)) }
+{
+    push_field(text, b"length", u32::from(datagram.length))?;
+    push_bytes(text, b"payload", datagram.payload.as_slice())?;
+    Ok(())
 }
 
 // The text of a segment of TCP.
-fn tcp_text(alloc: Global, key: &PacketKey) -> Result<Vec<u8>, AllocError>
-    ensures text { IfOk result (λ text. text.items ≡ words (tcp_words (fields_of key.now))) }
+fn tcp_text(alloc: Global, network: Network, segment: &Segment) -> Result<Vec<u8>, AllocError>
+    ensures text { IfOk result (λ text. text.items ≡ words (packet_words network (Tcp segment.now))) }
     ensures ascii { IfOk result (λ text. IsAscii text.items) }
 {
     let mut text = Vec::from_slice(alloc, b"tcp")?;
-    push_end(&mut text, key.source, key.source_port)?;
-    push_end(&mut text, key.target, key.target_port)?;
-    push_field(&mut text, b"id", u32::from(key.id))?;
-    push_field(&mut text, b"seq", key.sequence)?;
-    push_field(&mut text, b"ack", key.acknowledged)?;
-    push_field(&mut text, b"flags", u32::from(key.flags))?;
-    push_field(&mut text, b"length", u32::from(key.length))?;
-    push_bytes(&mut text, key.payload.as_slice())?;
+    push_network(&mut text, network, segment.source_port, segment.target_port)?;
+    push_segment(&mut text, segment)?;
+    Ok(text)
+}
+
+// The text of a datagram of UDP.
+fn udp_text(alloc: Global, network: Network, datagram: &UserDatagram) -> Result<Vec<u8>, AllocError>
+    ensures text { IfOk result (λ text. text.items ≡ words (packet_words network (Udp datagram.now))) }
+    ensures ascii { IfOk result (λ text. IsAscii text.items) }
+{
+    let mut text = Vec::from_slice(alloc, b"udp")?;
+    push_network(
+        &mut text,
+        network,
+        datagram.source_port,
+        datagram.target_port,
+    )?;
+    push_datagram(&mut text, datagram)?;
     Ok(text)
 }
 
 // The text of the key of a packet.
 fn packet_text(alloc: Global, key: &PacketKey) -> Result<Vec<u8>, AllocError>
-    ensures text { IfOk result (λ text. text.items ≡ key_text (Packet (fields_of key.now))) }
+    ensures text { IfOk result (λ text. text.items ≡ key_text (Packet key.now)) }
     ensures ascii { IfOk result (λ text. IsAscii text.items) }
 {
-    if key.protocol == TCP {
-        tcp_text(alloc, key)
-    } else {
-        udp_text(alloc, key)
+    match &key.transport {
+        Transport::Tcp(segment) => tcp_text(alloc, key.network, segment),
+        Transport::Udp(datagram) => udp_text(alloc, key.network, datagram),
     }
 }
 
@@ -110,6 +172,5 @@ pub fn key_text(alloc: Global, key: &Key) -> Result<Vec<u8>, AllocError>
     match key {
         Key::Packet(packet) => packet_text(alloc, packet),
         Key::Word(word) => word_text(alloc, word),
-        Key::Wide(packet) => wide_text(alloc, packet),
     }
 }

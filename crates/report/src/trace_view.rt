@@ -1,5 +1,6 @@
 // What is reported of the events of all labels, and of the packets that were passed over.
-ghost use Rattle.std.specs.Prelude.{◌≡◌, ◌≤◌, ◌^◌, All, length, map, IfOk};
+ghost use Rattle.std.specs.Prelude.{◌≡◌, ◌≤◌, All, length, map, IfOk};
+ghost use Rattle.problem_model.specs.Limits.{most_events};
 ghost use Rattle.decl.specs.Declaration.{IsDeclaration, declaration_of};
 ghost use Rattle.traces.specs.Traces.{event_count};
 ghost use Rattle.traces.specs.Held.{passed_in, seen_in};
@@ -35,7 +36,7 @@ pub fn view_of(
 ) -> Result<View, AllocError>
     requires declared { IsDeclaration (declaration_of decl.now) }
     requires labels { length accepted.now ≡ length decl.now.labels.items }
-    requires few { event_count (seen_in accepted.now) ≤ 2 ^ 21 }
+    requires few { event_count (seen_in accepted.now) ≤ most_events }
     requires ends { AreEndsBy (map id_of roster.now.came) matcher.now (seen_in accepted.now) }
     ensures view { IfOk result (λ view. reported view ≡ report_of (declaration_of decl.now) (seen_in accepted.now) (passed_in accepted.now) consistent) }
     ensures ascii { IfOk result (λ view. All HasAsciiKey view.groups.items) }

@@ -8,7 +8,7 @@ use Rattle.traces.proofs.Lists.{place_in}
 use Rattle.roster.specs.Readings.{Stamped, Rise, IsLastUnder, IsFirstOver, IsFirstStamp, IsLastStamp}
 use Rattle.traces.specs.declared.event_id.EventId.{EventId}
 use Rattle.roster.specs.Groups.{group_at}
-use Rattle.roster.specs.Roster.{IsUnder}
+use Rattle.roster.specs.Roster.{IsNumberUnder}
 use Rattle.roster.proofs.Telling.{among}
 
 module _ (readings : List Stamped) (rise : Rise readings) where
@@ -103,10 +103,10 @@ group_inside under label k v at = elim (cases_lt label (length under)) [
       none-some v (subst (λ (vs : List ℕ). slice_get vs k ≡ Some v) none at))
 ]
 
-pub under_of : (under : List (List ℕ)) (id : EventId) (group : List ℕ) (v : ℕ) → slice_get under id.label ≡ Some group → IsUnder under id v → (k : ℕ) × (w : ℕ) × (id.number ≡ suc k) × (slice_get group k ≡ Some w)
+pub under_of : (under : List (List ℕ)) (id : EventId) (group : List ℕ) (v : ℕ) → slice_get under id.label ≡ Some group → IsNumberUnder under id v → (k : ℕ) × (w : ℕ) × (id.number ≡ suc k) × (slice_get group k ≡ Some w)
 under_of under id group v own (k, is, at) = (k, v, is, subst (λ (vs : List ℕ). slice_get vs k ≡ Some v) (get_or_from_slice_get under id.label group [] own) at)
 
-pub is_under : (under : List (List ℕ)) (id : EventId) (group : List ℕ) (v : ℕ) → slice_get under id.label ≡ Some group → ((k : ℕ) × (id.number ≡ suc k) × (slice_get group k ≡ Some v)) → IsUnder under id v
+pub is_under : (under : List (List ℕ)) (id : EventId) (group : List ℕ) (v : ℕ) → slice_get under id.label ≡ Some group → ((k : ℕ) × (id.number ≡ suc k) × (slice_get group k ≡ Some v)) → IsNumberUnder under id v
 is_under under id group v own (k, is, at) = (k, is, subst (λ (vs : List ℕ). slice_get vs k ≡ Some v) (sym (get_or_from_slice_get under id.label group [] own)) at)
 
 -- ---- places that were found

@@ -12,7 +12,7 @@ use Rattle.problem_model.specs.declared.items.Bound.TheVariants as bounds
 use Rattle.problem_model.specs.declared.items.Bound.TheVariants.{SpanMost, SpanLeast, Late, Early, DelayMost, DelayLeast}
 use Rattle.problem_model.specs.Problem.{ProblemLists, IsChained}
 use Rattle.problem_model.specs.Bounds.{IsReading}
-use Rattle.problem_model.specs.Nodes.{Reading, AreReadings, ComesBefore}
+use Rattle.problem_model.specs.Nodes.{Reading, AreReadings, IsEarlierReading}
 use Rattle.problem_model.specs.ShortList.{short_list, neighbour_bounds, span_bounds, event_bounds, clocks_before, first_reading, nearest_reading, follow_bound, follow_bounds, most_bound, message_bounds}
 use Rattle.problem_model.proofs.NearestFollows.{Joins, follows_are}
 use Rattle.traces.proofs.Members.{here, there, head_or_tail, first_of_pairs, rest_of_pairs}
@@ -30,15 +30,15 @@ module _ (q : ProblemLists) (readings : List Reading) (are : AreReadings q readi
 
   -- the readings that are not in the list come before all of it
   abbrev AreRest : List Reading → Type 0
-  AreRest rest = (x : Reading) → Contains readings x → Contains rest x ⊎ ((y : Reading) → Contains rest y → ComesBefore x y)
+  AreRest rest = (x : Reading) → Contains readings x → Contains rest x ⊎ ((y : Reading) → Contains rest y → IsEarlierReading x y)
 
-  on_clock : (a b : Reading) → a.0 ≡ b.0 → ComesBefore a b → a.1 < b.1
+  on_clock : (a b : Reading) → a.0 ≡ b.0 → IsEarlierReading a b → a.1 < b.1
   on_clock a b same (inl less) = absurd (omega (arith, less, same))
   on_clock a b same (inr more) = more.1
 
-  are_neighbours : (a b : Reading) (rest : List Reading) → AllPairs ComesBefore (a ∷ b ∷ rest) → AreRest (a ∷ b ∷ rest) → Contains readings a → Contains readings b → a.0 ≡ b.0 → AreNeighbours q all_events a.0 a.1 b.1
+  are_neighbours : (a b : Reading) (rest : List Reading) → AllPairs IsEarlierReading (a ∷ b ∷ rest) → AreRest (a ∷ b ∷ rest) → Contains readings a → Contains readings b → a.0 ≡ b.0 → AreNeighbours q all_events a.0 a.1 b.1
   are_neighbours a b rest rising left in_a in_b same =
-      let first : ComesBefore a b = rising 0 1 a (omega arith) (omega arith) in
+      let first : IsEarlierReading a b = rising 0 1 a (omega arith) (omega arith) in
       record {
         first = read_all q a.0 a.1 (are.each a.0 a.1 in_a);
         second = subst (λ (c : ℕ). IsReadingOf q all_events c b.1) (sym same) (read_all q b.0 b.1 (are.each b.0 b.1 in_b));
@@ -46,10 +46,10 @@ module _ (q : ProblemLists) (readings : List Reading) (are : AreReadings q readi
         none = λ u read above below. between u above below (left (a.0, u) (are.every a.0 u (all_read q a.0 u read)));
       }
     where
-      behind_b : (x : Reading) → Contains rest x → ComesBefore b x
-      behind_b x among = All-contains (ComesBefore b) rest x (first_of_pairs ComesBefore b rest (rest_of_pairs ComesBefore a (b ∷ rest) rising)) among
+      behind_b : (x : Reading) → Contains rest x → IsEarlierReading b x
+      behind_b x among = All-contains (IsEarlierReading b) rest x (first_of_pairs IsEarlierReading b rest (rest_of_pairs IsEarlierReading a (b ∷ rest) rising)) among
 
-      between : (u : ℕ) → a.1 < u → u < b.1 → Contains {X = Reading} (a ∷ b ∷ rest) (a.0, u) ⊎ ((y : Reading) → Contains (a ∷ b ∷ rest) y → ComesBefore (a.0, u) y) → ⊥
+      between : (u : ℕ) → a.1 < u → u < b.1 → Contains {X = Reading} (a ∷ b ∷ rest) (a.0, u) ⊎ ((y : Reading) → Contains (a ∷ b ∷ rest) y → IsEarlierReading (a.0, u) y) → ⊥
       between u above below (inr before) =
           let less : u < a.1 = on_clock (a.0, u) a refl (before a (here a (b ∷ rest))) in
           omega (arith, less, above)
@@ -61,10 +61,10 @@ module _ (q : ProblemLists) (readings : List Reading) (are : AreReadings q readi
         ]
       ]
 
-  next_rest : (a : Reading) (rest : List Reading) → AllPairs ComesBefore (a ∷ rest) → AreRest (a ∷ rest) → AreRest rest
+  next_rest : (a : Reading) (rest : List Reading) → AllPairs IsEarlierReading (a ∷ rest) → AreRest (a ∷ rest) → AreRest rest
   next_rest a rest rising left x among = elim (left x among) [
     | inl has ↦ elim (head_or_tail a x rest has) [
-      | inl is ↦ inr (λ y c. subst (λ (z : Reading). ComesBefore z y) is (All-contains (ComesBefore a) rest y (first_of_pairs ComesBefore a rest rising) c))
+      | inl is ↦ inr (λ y c. subst (λ (z : Reading). IsEarlierReading z y) is (All-contains (IsEarlierReading a) rest y (first_of_pairs IsEarlierReading a rest rising) c))
       | inr more ↦ inl more
     ]
     | inr before ↦ inr (λ y c. before y (there a y rest c))
@@ -77,13 +77,13 @@ module _ (q : ProblemLists) (readings : List Reading) (are : AreReadings q readi
     | inr other ↦ subst (All Due) (sym (cond-false (a.0 == b.0) (SpanMost a.0 a.1 b.1 ∷ SpanLeast a.0 a.1 b.1 ∷ []) [] (ne_eqb a.0 b.0 other))) (All-nil Due)
   ]
 
-  spans : (rest : List Reading) → AllPairs ComesBefore rest → AreRest rest → All (Contains readings) rest → All Due (span_bounds rest)
+  spans : (rest : List Reading) → AllPairs IsEarlierReading rest → AreRest rest → All (Contains readings) rest → All Due (span_bounds rest)
   spans [] rising left in_all = All-nil Due
   spans (a ∷ []) rising left in_all = All-nil Due
   spans (a ∷ b ∷ rest) rising left in_all =
       All-append Due (neighbour_bounds a b) (span_bounds (b ∷ rest))
       (both_due a b (are_neighbours a b rest rising left (in_all 0 a (omega arith)) (in_all 1 a (omega arith))))
-      (spans (b ∷ rest) (rest_of_pairs ComesBefore a (b ∷ rest) rising) (next_rest a (b ∷ rest) rising left) (All-tail (Contains readings) a (b ∷ rest) in_all))
+      (spans (b ∷ rest) (rest_of_pairs IsEarlierReading a (b ∷ rest) rising) (next_rest a (b ∷ rest) rising left) (All-tail (Contains readings) a (b ∷ rest) in_all))
 
   stamps : (k : ℕ) (es : List Event) → ((i : ℕ) (e : Event) → slice_get es i ≡ Some e → slice_get q.events (k + i) ≡ Some e) → All Due (event_bounds k es)
   stamps k [] same = All-nil Due

@@ -20,7 +20,7 @@ use Rattle.sync_graph.specs.Graph.{GraphLists, arc_at}
 use Rattle.sync_graph.specs.InForce.{IsInForce}
 use Rattle.problem_graph.specs.Standing.{HasNode}
 use Rattle.traces.proofs.Members.{here, there, none_in, given_by}
-use Rattle.roster.specs.Entered.{IsReadingOf, IsNodeOf, AreNeighbours, AreLinked, IsMessageOf, IsDue, and_event}
+use Rattle.roster.specs.Entered.{IsReadingOf, IsEnteredNode, AreNeighbours, AreLinked, IsMessageOf, IsDue, and_event}
 use Rattle.roster.specs.Growing.{IsGrowing, IsGrownTo}
 use Rattle.roster.specs.Entering.{Enters, AreMessagesOf, AreNearest, IsStampBelow, IsStampAbove, span_below, span_above, follow_before, follow_after, reading_bounds, entry_bounds}
 use Rattle.roster.proofs.Linked.{linked_were, earlier_is, later_is}
@@ -145,7 +145,7 @@ module _ (p : ProblemLists) (entered : ℕ → Bool) (v : ℕ) (e : Event) (at :
     | inr old ↦ inl (w, x, (has.0, old), on, is)
   ]
 
-  node_still : (n : Node) → IsNodeOf p entered n → IsNodeOf p (and_event entered v) n
+  node_still : (n : Node) → IsEnteredNode p entered n → IsEnteredNode p (and_event entered v) n
   node_still (nodes.Event w) (x, has) = (x, (has.0, still_in w has.1))
   node_still (nodes.Reading clock stamp) is = read_still clock stamp is
 
@@ -283,14 +283,14 @@ module _ (p : ProblemLists) (entered : ℕ → Bool) (v : ℕ) (e : Event) (at :
       force_still : (a : Arc) → IsInForce g a → IsInForce h a
       force_still a (j, force, is) = (j, subst (λ (fs : List Bool). get_or fs j false ≡ true) (sym enters.in_force) force, subst (λ (xs : List Arc). arc_at xs j ≡ a) (sym enters.arcs) is)
 
-      node_of : (n : Node) → HasNode h n → IsNodeOf p (and_event entered v) n
+      node_of : (n : Node) → HasNode h n → IsEnteredNode p (and_event entered v) n
       node_of n has = elim (enters.only n has) [
         | inl old ↦ node_still n (grown.nodes n old)
-        | inr (inl event) ↦ subst (IsNodeOf p (and_event entered v)) (sym event) (e, (at, own_in))
-        | inr (inr reading) ↦ subst (IsNodeOf p (and_event entered v)) (sym reading) read_own
+        | inr (inl event) ↦ subst (IsEnteredNode p (and_event entered v)) (sym event) (e, (at, own_in))
+        | inr (inr reading) ↦ subst (IsEnteredNode p (and_event entered v)) (sym reading) read_own
       ]
 
-      has_node : (n : Node) → IsNodeOf p (and_event entered v) n → HasNode h n
+      has_node : (n : Node) → IsEnteredNode p (and_event entered v) n → HasNode h n
       has_node (nodes.Event w) (x, has) = elim (was_in w has.1) [
         | inl same ↦ subst (λ (n : ℕ). HasNode h (nodes.Event n)) (sym same) enters.event
         | inr old ↦ has_kept (nodes.Event w) (grown.every_node (nodes.Event w) (x, (has.0, old)))

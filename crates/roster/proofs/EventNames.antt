@@ -19,7 +19,7 @@ use Rattle.traces.proofs.Names.{one_place, name_at}
 use Rattle.roster.specs.declared.came.Came.{Came}
 use Rattle.roster.specs.Groups.{total, sizes_of, group_at}
 use Rattle.roster.specs.Names.{IsCutAt}
-use Rattle.roster.specs.Roster.{RosterLists, id_of, IsUnder, IsRoster, Finds, listed}
+use Rattle.roster.specs.Roster.{RosterLists, id_of, IsNumberUnder, IsRoster, Finds, listed}
 
 -- ---- texts with one `#`
 abbrev pub Lacks : List ℕ → Type 0
@@ -83,7 +83,7 @@ part_of_total (x ∷ groups) (suc g) = let more = part_of_total groups g in omeg
 
 module _ (d : Declaration) (under : List (List ℕ)) (name : List ℕ) (lawful : IsDeclaration d) (many : length under ≡ length d.labels) (few : total (sizes_of under) < 2 ^ 32) where
   -- the label of an event that stands under it, its name, and that its number is not too large
-  labelled : (id : EventId) (v : ℕ) → IsUnder under id v → (l : Label) × (slice_get d.labels id.label ≡ Some l) × (name_of d id ≡ l.name ++ 35 ∷ decimal_of id.number) × Lacks l.name × (id.number < 2 ^ 64)
+  labelled : (id : EventId) (v : ℕ) → IsNumberUnder under id v → (l : Label) × (slice_get d.labels id.label ≡ Some l) × (name_of d id ≡ l.name ++ 35 ∷ decimal_of id.number) × Lacks l.name × (id.number < 2 ^ 64)
   labelled id v (k, n, at) =
       let inside : id.label < length d.labels = (let i = past_groups under id.label k v at in omega (arith, i, many)) in
       let l = got d.labels id.label inside in
@@ -94,17 +94,17 @@ module _ (d : Declaration) (under : List (List ℕ)) (name : List ℕ) (lawful :
       wider : (n : ℕ) → n < 2 ^ 32 → n < 2 ^ 64
       wider n less = omega (arith, less)
 
-  pub no_parts : ((label : List ℕ) (n : ℕ) → Lacks label → n < 2 ^ 64 → name ≢ label ++ 35 ∷ decimal_of n) → (id : EventId) (v : ℕ) → IsUnder under id v → name_of d id ≢ name
+  pub no_parts : ((label : List ℕ) (n : ℕ) → Lacks label → n < 2 ^ 64 → name ≢ label ++ 35 ∷ decimal_of n) → (id : EventId) (v : ℕ) → IsNumberUnder under id v → name_of d id ≢ name
   no_parts none id v is same = let l = labelled id v is in none l.0.name id.number l.3 l.4 (sym same ∙ l.2)
 
-  pub no_label : (place number : ℕ) → IsCutAt name place number → ((k : ℕ) (l : Label) → slice_get d.labels k ≡ Some l → l.name ≢ take place name) → (id : EventId) (v : ℕ) → IsUnder under id v → name_of d id ≢ name
+  pub no_label : (place number : ℕ) → IsCutAt name place number → ((k : ℕ) (l : Label) → slice_get d.labels k ≡ Some l → l.name ≢ take place name) → (id : EventId) (v : ℕ) → IsNumberUnder under id v → name_of d id ≢ name
   no_label place number at none id v is same =
       let l = labelled id v is in
       let parts = cut l.0.name (take place name) (decimal_of id.number) (decimal_of number) l.3 at.first (sym l.2 ∙ same ∙ at.is) in
       none id.label l.0 l.1 parts.0
 
   pub no_number : (place number label : ℕ) (own : Label) (numbers : List ℕ) → IsCutAt name place number → slice_get d.labels label ≡ Some own → own.name ≡ take place name → slice_get under label ≡ Some numbers →
-      ((k : ℕ) → number ≡ suc k → length numbers ≤ k) → (id : EventId) (v : ℕ) → IsUnder under id v → name_of d id ≢ name
+      ((k : ℕ) → number ≡ suc k → length numbers ≤ k) → (id : EventId) (v : ℕ) → IsNumberUnder under id v → name_of d id ≢ name
   no_number place number label own numbers at there named group none id v is same =
       let l = labelled id v is in
       let parts = cut l.0.name (take place name) (decimal_of id.number) (decimal_of number) l.3 at.first (sym l.2 ∙ same ∙ at.is) in
@@ -116,24 +116,24 @@ module _ (d : Declaration) (under : List (List ℕ)) (name : List ℕ) (lawful :
       absurd (omega (arith, within, past))
 
   pub found_number : (place number label v : ℕ) (own : Label) (numbers : List ℕ) → IsCutAt name place number → slice_get d.labels label ≡ Some own → own.name ≡ take place name → slice_get under label ≡ Some numbers →
-      ((k : ℕ) × (number ≡ suc k) × (slice_get numbers k ≡ Some v)) → (id : EventId) × IsUnder under id v × (name_of d id ≡ name)
+      ((k : ℕ) × (number ≡ suc k) × (slice_get numbers k ≡ Some v)) → (id : EventId) × IsNumberUnder under id v × (name_of d id ≡ name)
   found_number place number label v own numbers at there named group (k, n, is) =
       let id : EventId = record { label = label; number = number } in
       let mine : group_at under label ≡ numbers = get_or_from_slice_get under label numbers [] group in
       (id, (k, n, subst (λ (vs : List ℕ). slice_get vs k ≡ Some v) (sym mine) is), name_at d id own there ∙ ap (λ (x : List ℕ). x ++ 35 ∷ decimal_of number) named ∙ sym at.is)
 
   module _ (place number label : ℕ) (own : Label) (numbers : List ℕ) (at : IsCutAt name place number) (there : slice_get d.labels label ≡ Some own) (named : own.name ≡ take place name) (group : slice_get under label ≡ Some numbers) where
-    pub found_in : (o : Option ℕ) → IfSome o (λ (v : ℕ). (k : ℕ) × (number ≡ suc k) × (slice_get numbers k ≡ Some v)) → IfSome o (λ (v : ℕ). (id : EventId) × IsUnder under id v × (name_of d id ≡ name))
+    pub found_in : (o : Option ℕ) → IfSome o (λ (v : ℕ). (k : ℕ) × (number ≡ suc k) × (slice_get numbers k ≡ Some v)) → IfSome o (λ (v : ℕ). (id : EventId) × IsNumberUnder under id v × (name_of d id ≡ name))
     found_in None some = tt
     found_in (Some v) some = found_number place number label v own numbers at there named group some
 
-    pub found_none : (o : Option ℕ) → IfNone o ((k : ℕ) → number ≡ suc k → length numbers ≤ k) → IfNone o ((id : EventId) (v : ℕ) → IsUnder under id v → name_of d id ≢ name)
+    pub found_none : (o : Option ℕ) → IfNone o ((k : ℕ) → number ≡ suc k → length numbers ≤ k) → IfNone o ((id : EventId) (v : ℕ) → IsNumberUnder under id v → name_of d id ≢ name)
     found_none None none = no_number place number label own numbers at there named group none
     found_none (Some v) none = tt
 
 -- ---- events by name
-pub finds_of : (r : RosterLists) (name : List ℕ) (o : Option ℕ) → IsRoster r → IfSome o (λ v. (id : EventId) × IsUnder r.under id v × (name_of r.declaration id ≡ name)) →
-    IfNone o ((id : EventId) (v : ℕ) → IsUnder r.under id v → name_of r.declaration id ≢ name) → Finds r name o
+pub finds_of : (r : RosterLists) (name : List ℕ) (o : Option ℕ) → IsRoster r → IfSome o (λ v. (id : EventId) × IsNumberUnder r.under id v × (name_of r.declaration id ≡ name)) →
+    IfNone o ((id : EventId) (v : ℕ) → IsNumberUnder r.under id v → name_of r.declaration id ≢ name) → Finds r name o
 finds_of r name (Some v) is some none =
     let under = some.1 in
     let e = is.numbered some.0.label under.0 v under.2 in

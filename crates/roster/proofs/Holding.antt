@@ -7,7 +7,7 @@ use Rattle.decl.specs.declared.items.Label.{Label}
 use Rattle.traces.specs.Seen.{Seen}
 use Rattle.roster.specs.declared.came.Came.{Came}
 use Rattle.roster.specs.Groups.{total, sizes_of, group_at}
-use Rattle.roster.specs.Roster.{RosterLists, no_event, event_at, came_from, IsRoster, IsGrown, Holds}
+use Rattle.roster.specs.Roster.{RosterLists, no_event, event_at, came_from, IsRoster, IsGrown, HoldsEvents}
 use Rattle.roster.proofs.Pushing.{get_left, get_right}
 
 abbrev stamp_at : List Came → ℕ → ℕ
@@ -34,7 +34,7 @@ empty_groups came (vs ∷ under) (l ∷ labels) long none =
     let rest = empty_groups came under labels (omega (arith, long)) (omega (arith, none)) in
     ap (λ (x : List ℕ). map (stamp_at came) x ∷ map (λ (vs : List ℕ). map (stamp_at came) vs) under) empty ∙ ap (λ (x : List (List ℕ)). [] ∷ x) rest
 
-pub holds_none : (r : RosterLists) → IsRoster r → r.came ≡ [] → Holds r (map (λ (l : Label). []) r.declaration.labels)
+pub holds_none : (r : RosterLists) → IsRoster r → r.came ≡ [] → HoldsEvents r (map (λ (l : Label). []) r.declaration.labels)
 holds_none r is none =
     let count = is.count in
     empty_groups r.came r.under r.declaration.labels is.labels (omega (arith, count, ap length none))
@@ -83,8 +83,8 @@ stamps_of_label came (vs ∷ under) (ss ∷ seen) (suc label) own e at =
     let rest : map (λ (vs : List ℕ). map (stamp_at came) vs) under ≡ map stamps_seen seen = cc in
     stamps_of_label came under seen label own rest at
 
-pub holds_more : (old new : RosterLists) (label : ℕ) (seen : List (List Seen)) (own more : List Seen) → IsRoster old → IsGrown old new label (map (λ (s : Seen). s.stamp) more) → Holds old seen → slice_get seen label ≡ Some own →
-    Holds new (set seen label (own ++ more))
+pub holds_more : (old new : RosterLists) (label : ℕ) (seen : List (List Seen)) (own more : List Seen) → IsRoster old → IsGrown old new label (map (λ (s : Seen). s.stamp) more) → HoldsEvents old seen → slice_get seen label ≡ Some own →
+    HoldsEvents new (set seen label (own ++ more))
 holds_more old new label seen own more is grown holds at =
     let fresh : List Came = came_from label (length (group_at old.under label) + 1) (stamps_seen more) in
     let group : List ℕ = group_at old.under label ++ range_with_len (length old.came) (length (stamps_seen more)) in

@@ -1,9 +1,10 @@
 -- What a roster lists at a place.
-use Rattle.std.proofs.Common.{◌≡◌, ℕ, ◌+◌, ◌<◌, ◌≤◌, ◌^◌, ◌++◌, ◌∷◌, List, length, get_or, slice_get, Some, option_map, refl, sym, ◌∙◌, ap, subst, arith}
+use Rattle.std.proofs.Common.{◌≡◌, ℕ, ◌+◌, ◌<◌, ◌≤◌, ◌++◌, ◌∷◌, List, length, get_or, slice_get, Some, option_map, refl, sym, ◌∙◌, ap, subst, arith}
 use Rattle.std.proofs.lemmas.List.{length-map}
 use Rattle.std.proofs.lemmas.Option.{slice_get_within, slice_get_read, slice_get-get_or, slice_get-map, get_or_from_slice_get}
 use Rattle.problem_model.specs.declared.items.Clock.{Clock}
 use Rattle.problem_model.specs.Name.{IsClockName}
+use Rattle.problem_model.specs.Limits.{most_nodes}
 use Rattle.atto.specs.Decimal.{decimal_of}
 use Rattle.decl.specs.declared.items.Label.{Label}
 use Rattle.traces.specs.Traces.{name_of}
@@ -29,7 +30,7 @@ module _ (r : RosterLists) (is : IsRoster r) where
   pub event_places : length (listed r).events ≡ length r.came
   event_places = events_many ∙ is.count
 
-  pub few_nodes : length (listed r).events + length (listed r).readings ≤ 2 ^ 22
+  pub few_nodes : length (listed r).events + length (listed r).readings ≤ most_nodes
   few_nodes = let a = is.count in let b = is.few in let c = is.on_clocks.few in omega (arith, events_many, readings_many, a, b, c)
 
   module _ (place g k : ℕ) (at : IsPlaceOf (sizes_of r.under) place g k) (group : List ℕ) (there : slice_get r.under g ≡ Some group) where

@@ -16,7 +16,7 @@ use Rattle.sync_graph.specs.Graph.{GraphLists, no_graph, with_node}
 use Rattle.problem_graph.specs.Standing.{HasNode}
 use Rattle.traces.proofs.Members.{none_in, no_pairs}
 use Rattle.roster.proofs.Pushing.{get_left, get_right, get_cases}
-use Rattle.roster.specs.Entered.{HasEntered, IsReadingOf, IsNodeOf, AreNeighbours, AreLinked, IsMessageOf, IsDue, all_events}
+use Rattle.roster.specs.Entered.{HasEntered, IsReadingOf, IsEnteredNode, AreNeighbours, AreLinked, IsMessageOf, IsDue, all_events}
 use Rattle.roster.specs.Growing.{IsGrowing, IsGrownTo}
 use Rattle.roster.specs.Entering.{Enters}
 use Rattle.roster.specs.Once.{IsOn, HasEachOnce}
@@ -32,7 +32,7 @@ module _ (p : ProblemLists) (no_events : p.events ≡ []) (no_messages : p.messa
   no_message : (m : Message) → Contains p.messages m → ⊥
   no_message m among = none_in m (subst (λ (ms : List Message). Contains ms m) no_messages among)
 
-  no_node : (n : Node) → IsNodeOf p all_events n → ⊥
+  no_node : (n : Node) → IsEnteredNode p all_events n → ⊥
   no_node (nodes.Event v) (e, has) = no_event v e has.0
   no_node (nodes.Reading clock stamp) (v, e, has, on, is) = no_event v e has.0
 
@@ -74,11 +74,11 @@ module _ (p : ProblemLists) (one other : ℕ → Bool) (alike : (v : ℕ) → v 
   read_back : (clock stamp : ℕ) → IsReadingOf p other clock stamp → IsReadingOf p one clock stamp
   read_back clock stamp (v, e, has, on, is) = (v, e, entered_back v e has, on, is)
 
-  node_there : (n : Node) → IsNodeOf p one n → IsNodeOf p other n
+  node_there : (n : Node) → IsEnteredNode p one n → IsEnteredNode p other n
   node_there (nodes.Event v) (e, has) = (e, entered_there v e has)
   node_there (nodes.Reading clock stamp) is = read_there clock stamp is
 
-  node_back : (n : Node) → IsNodeOf p other n → IsNodeOf p one n
+  node_back : (n : Node) → IsEnteredNode p other n → IsEnteredNode p one n
   node_back (nodes.Event v) (e, has) = (e, entered_back v e has)
   node_back (nodes.Reading clock stamp) is = read_back clock stamp is
 

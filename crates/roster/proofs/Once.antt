@@ -26,7 +26,7 @@ use Rattle.traces.proofs.Members.{here, there, none_in, first_of_pairs, rest_of_
 use Rattle.roster.specs.Growing.{HasBound, IsGrownTo}
 use Rattle.roster.specs.Withdrawing.{Withdraws, IsDelayOf}
 use Rattle.roster.specs.Entering.{Enters, AreNearest, IsStampAbove, IsLaterEnd, span_below, span_above, follow_before, follow_after, reading_bounds, entry_bounds}
-use Rattle.roster.specs.Once.{IsOn, HasEachOnce, AreApart, TakesOut}
+use Rattle.roster.specs.Once.{IsOn, HasEachOnce, HaveOwnEnds, TakesOut}
 use Rattle.roster.proofs.PushedBounds.{was}
 use Rattle.roster.proofs.Linked.{later_comes}
 
@@ -105,7 +105,7 @@ of_message P m None most least = All-cons P (DelayLeast m.send m.receive) [] lea
 of_message P m (Some n) most least = All-cons P (DelayMost m.send m.receive) (DelayLeast m.send m.receive ∷ []) most (All-cons P (DelayLeast m.send m.receive) [] least (All-nil P))
 
 module _ (p : ProblemLists) (entered : ℕ → Bool) (v : ℕ) (e : Event) (below above : Option ℕ) (earlier later : Option (ℕ × ℕ)) (messages : List Message) (g : GraphLists) (chains : IsChained p) (fresh : entered v ≡ false)
-    (nearest : AreNearest p g e below above earlier later) (apart : AreApart v messages)
+    (nearest : AreNearest p g e below above earlier later) (apart : HaveOwnEnds v messages)
     (grown : IsGrownTo p entered g) where
   abbrev Out : Bound → Type 0
   Out b = HasBound g b → ⊥

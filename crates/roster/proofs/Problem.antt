@@ -20,7 +20,7 @@ use Rattle.problem_graph.specs.ListedProblem.{IsListedBy}
 use Rattle.roster.specs.declared.came.Came.{Came}
 use Rattle.roster.specs.Groups.{group_at}
 use Rattle.roster.specs.Readings.{Stamped}
-use Rattle.roster.specs.Roster.{RosterLists, id_of, no_event, event_at, IsStamp, IsRoster, Holds, in_turn, listed}
+use Rattle.roster.specs.Roster.{RosterLists, id_of, no_event, event_at, IsStamp, IsRoster, HoldsEvents, in_turn, listed}
 use Rattle.roster.proofs.Turns.{map-map, map-in_turn, from_map, into_map, from_turn, into_turn, on_clock, turns_rise}
 
 -- ---- lists that are one when their elements are told by numbers
@@ -124,7 +124,7 @@ lengths_same f (vs ∷ under) (ss ∷ seen) e =
     let long : length vs ≡ length ss = omega (arith, ap length one, length-map vs f, length-map ss (λ (s : Seen). s.stamp)) in
     ap (λ (n : ℕ). n ∷ map (λ (vs : List ℕ). length vs) under) long ∙ ap (λ (l : List ℕ). length ss ∷ l) (lengths_same f under seen rest)
 
-module _ (r : RosterLists) (is : IsRoster r) (seen : List (List Seen)) (holds : Holds r seen) where
+module _ (r : RosterLists) (is : IsRoster r) (seen : List (List Seen)) (holds : HoldsEvents r seen) where
   abbrev stamp_by : ℕ → ℕ
   stamp_by v = (event_at r.came v).stamp
 

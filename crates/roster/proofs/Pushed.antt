@@ -1,11 +1,12 @@
 -- A roster to which events were pushed, as its lists come about.
-use Rattle.std.proofs.Common.{◌≡◌, ◌≤◌, ◌+◌, ◌++◌, ◌^◌, ℕ, List, [], length, take, set, slice_get, Some, sym, ◌∙◌, ap, subst, arith}
+use Rattle.std.proofs.Common.{◌≡◌, ◌≤◌, ◌+◌, ◌++◌, ℕ, List, [], length, take, set, slice_get, Some, sym, ◌∙◌, ap, subst, arith}
 use Rattle.std.specs.List.{range_with_len}
 use Rattle.std.proofs.lemmas.Option.{slice_get_within, get_or_from_slice_get}
+use Rattle.problem_model.specs.Limits.{most_events}
 use Rattle.decl.specs.declared.items.Label.{Label}
 use Rattle.roster.specs.declared.came.Came.{Came}
 use Rattle.roster.specs.Groups.{total, sizes_of, group_at, with_tail}
-use Rattle.roster.specs.Readings.{Stamped, Joins}
+use Rattle.roster.specs.Readings.{Stamped, JoinsStamps}
 use Rattle.roster.specs.Roster.{RosterLists, IsRoster, IsGrown, came_from}
 use Rattle.roster.proofs.EventNames.{part_of_total}
 use Rattle.roster.proofs.Pushing.{on_clock_of, pushed_so_is, pushed_so_grown}
@@ -28,7 +29,7 @@ module _ (r : RosterLists) (is : IsRoster r) where
 
   module _ (label from : ℕ) (l : Label) (stamps before numbers : List ℕ) (group tail : List Stamped) (came kept : List Came) (under : List (List ℕ)) (readings : List (List Stamped))
       (declared : slice_get r.declaration.labels label ≡ Some l) (under_at : slice_get r.under label ≡ Some before) (group_there : slice_get r.readings l.clock ≡ Some group)
-      (numbers_are : numbers ≡ range_with_len (length r.came) (length stamps)) (joins : Joins group stamps (take from group ++ tail)) (few : length r.came + length stamps ≤ 2 ^ 21)
+      (numbers_are : numbers ≡ range_with_len (length r.came) (length stamps)) (joins : JoinsStamps group stamps (take from group ++ tail)) (few : length r.came + length stamps ≤ most_events)
       (kept_is : kept ≡ r.came) (came_is : came ≡ kept ++ came_from label (length before + 1) stamps) (under_is : under ≡ set r.under label (group_at r.under label ++ numbers)) (readings_are : readings ≡ with_tail r.readings l.clock from tail) where
     abbrev now : List Stamped
     now = take from (group_at r.readings l.clock) ++ tail
@@ -39,8 +40,8 @@ module _ (r : RosterLists) (is : IsRoster r) where
     before_is : group_at r.under label ≡ before
     before_is = get_or_from_slice_get r.under label before [] under_at
 
-    joined : Joins (group_at r.readings l.clock) stamps now
-    joined = subst (λ (g : List Stamped). Joins g stamps (take from g ++ tail)) (sym group_is) joins
+    joined : JoinsStamps (group_at r.readings l.clock) stamps now
+    joined = subst (λ (g : List Stamped). JoinsStamps g stamps (take from g ++ tail)) (sym group_is) joins
 
     came_so : came ≡ r.came ++ came_from label (length (group_at r.under label) + 1) stamps
     came_so = came_is ∙ ap (λ (c : List Came). c ++ came_from label (length before + 1) stamps) kept_is ∙ ap (λ (g : List ℕ). r.came ++ came_from label (length g + 1) stamps) (sym before_is)

@@ -1,11 +1,12 @@
 -- A roster with events of a label more.
-use Rattle.std.proofs.Common.{◌≡◌, ◌≢◌, ℕ, ◌+◌, ◌<◌, ◌≤◌, ◌^◌, ◌⊎◌, zero, suc, List, [], ◌∷◌, ◌++◌, length, set, slice_get, Some, None, Contains, refl, sym, ◌∙◌, ap, subst, arith, inl, inr, length-append}
+use Rattle.std.proofs.Common.{◌≡◌, ◌≢◌, ℕ, ◌+◌, ◌<◌, ◌≤◌, ◌⊎◌, zero, suc, List, [], ◌∷◌, ◌++◌, length, set, slice_get, Some, None, Contains, refl, sym, ◌∙◌, ap, subst, arith, inl, inr, length-append}
 use Rattle.std.specs.List.{range_with_len}
 use Rattle.std.proofs.lemmas.Bool.{cases_eq}
 use Rattle.std.proofs.lemmas.List.{length-set, get_or-set_same, get_or-set_other}
 use Rattle.std.proofs.lemmas.List.FromFn.{length-range_with_len}
 use Rattle.std.proofs.lemmas.List.Elements.{Contains-append_cases, Contains-append_left, Contains-append_right}
 use Rattle.std.proofs.lemmas.Option.{none-some, same_Some, slice_get_within}
+use Rattle.problem_model.specs.Limits.{most_events}
 use Rattle.decl.specs.declared.items.Label.{Label}
 use Rattle.decl.specs.Declaration.{Declaration, IsDeclaration, IsClockOf}
 use Rattle.traces.specs.declared.event_id.EventId.{EventId}
@@ -14,9 +15,9 @@ use Rattle.traces.proofs.Members.{here, there, head_or_tail, none_in}
 use Rattle.traces.proofs.Lists.{all_at}
 use Rattle.roster.specs.declared.came.Came.{Came}
 use Rattle.roster.specs.Groups.{group_at}
-use Rattle.roster.specs.Readings.{Stamped, Rise, HasStamp, Joins}
+use Rattle.roster.specs.Readings.{Stamped, Rise, HasStamp, JoinsStamps}
 use Rattle.roster.proofs.GroupSizes.{total_sets}
-use Rattle.roster.specs.Roster.{RosterLists, id_of, IsNumbered, IsUnder, IsStamp, AreOnClocks, IsRoster, IsGrown, came_from}
+use Rattle.roster.specs.Roster.{RosterLists, id_of, IsNumbered, IsNumberUnder, IsStamp, AreOnClocks, IsRoster, IsGrown, came_from}
 
 -- ---- lists in a row
 pub get_left : {X : Type 0} (xs ys : List X) (i : ℕ) (x : X) → slice_get xs i ≡ Some x → slice_get (xs ++ ys) i ≡ Some x
@@ -95,7 +96,7 @@ id_is : (e : Came) (label number : ℕ) → e.label ≡ label → e.number ≡ n
 id_is e label number l n = rw (l, n) refl
 
 module _ (r : RosterLists) (is : IsRoster r) (label clock : ℕ) (stamps : List ℕ) (now : List Stamped) (inside : label < length r.under) (on : clock < length r.readings)
-    (own : (e : Came) → e.label ≡ label → clock_of r.declaration (id_of e) ≡ clock) (joins : Joins (group_at r.readings clock) stamps now) (few : length r.came + length stamps ≤ 2 ^ 21) where
+    (own : (e : Came) → e.label ≡ label → clock_of r.declaration (id_of e) ≡ clock) (joins : JoinsStamps (group_at r.readings clock) stamps now) (few : length r.came + length stamps ≤ most_events) where
   abbrev pub more : List Came
   more = came_from label (length (group_at r.under label) + 1) stamps
 
@@ -139,7 +140,7 @@ module _ (r : RosterLists) (is : IsRoster r) (label clock : ℕ) (stamps : List 
     | inr other ↦ still v g (suc k) (is.numbered g k v (subst (λ (vs : List ℕ). slice_get vs k ≡ Some v) (under_there g other) at))
   ]
 
-  under_still : (id : EventId) (v : ℕ) → IsUnder r.under id v → IsUnder pushed.under id v
+  under_still : (id : EventId) (v : ℕ) → IsNumberUnder r.under id v → IsNumberUnder pushed.under id v
   under_still id v (k, n, at) = (
     k,
     n,
@@ -150,7 +151,7 @@ module _ (r : RosterLists) (is : IsRoster r) (label clock : ℕ) (stamps : List 
     ],
   )
 
-  pushed_every : (v : ℕ) (e : Came) → slice_get pushed.came v ≡ Some e → IsUnder pushed.under (id_of e) v
+  pushed_every : (v : ℕ) (e : Came) → slice_get pushed.came v ≡ Some e → IsNumberUnder pushed.under (id_of e) v
   pushed_every v e at = elim (get_cases r.came more v e at) [
     | inl before ↦ under_still (id_of e) v (is.every v e before)
     | inr (j, place, there') ↦ (

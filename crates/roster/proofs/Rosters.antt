@@ -18,7 +18,7 @@ use Rattle.traces.proofs.Lists.{place_in, pairs_map}
 use Rattle.roster.specs.declared.came.Came.{Came}
 use Rattle.roster.specs.Groups.{group_at}
 use Rattle.roster.specs.Readings.{Stamped}
-use Rattle.roster.specs.Roster.{RosterLists, id_of, no_event, event_at, IsRoster, IsGrown, Holds, came_from, in_turn, listed}
+use Rattle.roster.specs.Roster.{RosterLists, id_of, no_event, event_at, IsRoster, IsGrown, HoldsEvents, came_from, in_turn, listed}
 use Rattle.roster.proofs.Turns.{map-in_turn, from_map, from_turn, into_turn}
 use Rattle.roster.proofs.Telling.{among}
 use Rattle.roster.specs.Withdrawing.{IsMore, AreMore}
@@ -100,7 +100,7 @@ module _ (d : Declaration) (f : ℕ → Event) where
       ∙ sym (map-append (event_with d) (numbered g 1 ss) (events_from (g + 1) seen))
 
 -- ---- a roster
-module _ (r : RosterLists) (is : IsRoster r) (seen : List (List Seen)) (holds : Holds r seen) where
+module _ (r : RosterLists) (is : IsRoster r) (seen : List (List Seen)) (holds : HoldsEvents r seen) where
   abbrev stamp_by : ℕ → ℕ
   stamp_by v = (event_at r.came v).stamp
 

@@ -14,12 +14,12 @@ use Rattle.std.proofs.lemmas.List.Elements.{All-contains, All-head, All-tail, Al
 use Rattle.std.proofs.lemmas.List.Filters.{dedup_is}
 use Rattle.std.proofs.lemmas.List.Kept.{AllPairs-cons, Contains-dedup, Contains-from_dedup, IsStrictlySortedBy-dedup}
 use Rattle.std.proofs.lemmas.Map.Keys.{Less-from_sorted}
-use Rattle.problem_model.specs.Nodes.{ComesBefore}
+use Rattle.problem_model.specs.Nodes.{IsEarlierReading}
 use Rattle.problem.specs.Listing.{reading_order}
 use Rattle.problem.proofs.Places.{pair_same}
 use Rattle.problem.proofs.ReadingOrder.{reading_eq, before_of_less}
 use Rattle.traces.proofs.Members.{here, head_or_tail, none_in, first_of_pairs, rest_of_pairs, no_pairs, pairs_joined}
-use Rattle.roster.specs.Readings.{Stamped, Rise, HasStamp, Joins, AreFresh, AreBefore, AreSorted}
+use Rattle.roster.specs.Readings.{Stamped, Rise, HasStamp, JoinsStamps, AreFresh, AreBefore, AreSorted}
 
 -- ---- a search by stamp
 most : (o : Ordering) → ordering_index o ≤ 2
@@ -128,7 +128,7 @@ sorted_once xs ys zs fewer shuffled sorted filtered =
     record {
       each = λ r c. Contains-permutation ys xs r (IsPermutation-sym xs ys shuffled) (Contains-from_dedup reading_eq ys r (subst (λ (l : List Stamped). Contains l r) is c));
       every = λ r c. subst (λ (l : List Stamped). Contains l r) (sym is) (Contains-dedup eq_equiv eq_same ys r (Contains-permutation xs ys r shuffled c));
-      rising = subst (AllPairs ComesBefore) (sym is) (λ i j d lt inside. before_of_less _ _ (Less-from_sorted reading_order (dedup reading_eq ys) i j d (IsStrictlySortedBy-dedup cmp_total ties ys sorted) lt inside));
+      rising = subst (AllPairs IsEarlierReading) (sym is) (λ i j d lt inside. before_of_less _ _ (Less-from_sorted reading_order (dedup reading_eq ys) i j d (IsStrictlySortedBy-dedup cmp_total ties ys sorted) lt inside));
       few = omega (arith, fewer, length_permutation xs ys shuffled);
     }
 
@@ -179,7 +179,7 @@ module _ (old fresh tail : List Stamped) (stamps : List ℕ) (from : ℕ) (rise 
     ]
   ]
 
-  lower : (a b : Stamped) → Contains tail a → Contains tail b → ComesBefore a b → a.0 < b.0
+  lower : (a b : Stamped) → Contains tail a → Contains tail b → IsEarlierReading a b → a.0 < b.0
   lower a b ca cb (inl less) = less
   lower a b ca cb (inr both) =
       let one : a ≡ b = same_stamp a b ca cb both.0 in
@@ -204,7 +204,7 @@ module _ (old fresh tail : List Stamped) (stamps : List ℕ) (from : ℕ) (rise 
     | inr back ↦ Contains-append_right (take from old) tail r (sorted.every r (Contains-append_left (drop from old) fresh r back))
   ]
 
-  pub joined : Joins old stamps (take from old ++ tail)
+  pub joined : JoinsStamps old stamps (take from old ++ tail)
   joined = record {
     rise = pairs_joined (λ (a b : Stamped). a.0 < b.0) (take from old) tail parts.0 tail_rises after;
     kept = keeps;

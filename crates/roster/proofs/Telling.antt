@@ -11,7 +11,7 @@ use Rattle.traces.proofs.Lists.{place_in}
 use Rattle.roster.specs.declared.came.Came.{Came}
 use Rattle.roster.specs.Groups.{total, group_at}
 use Rattle.roster.specs.Readings.{Stamped, Rise, HasStamp}
-use Rattle.roster.specs.Roster.{RosterLists, id_of, event_at, IsUnder, IsStamp, IsRoster, Holds, SetsReading}
+use Rattle.roster.specs.Roster.{RosterLists, id_of, event_at, IsNumberUnder, IsStamp, IsRoster, HoldsEvents, SetsReading}
 use Rattle.roster.proofs.GroupSizes.{same_sizes}
 
 -- ---- one place is written
@@ -72,7 +72,7 @@ retold_is r came is same = record {
   labels = is.labels;
   clocks = is.clocks;
   numbered = λ label k v at. (let e = is.numbered label k v at in let f = same.forth v e.0 e.1 in (f.0, f.1, f.2 ∙ e.2));
-  every = λ v f at. (let e = same.back v f at in subst (λ (id : EventId). IsUnder r.under id v) e.2 (is.every v e.0 e.1));
+  every = λ v f at. (let e = same.back v f at in subst (λ (id : EventId). IsNumberUnder r.under id v) e.2 (is.every v e.0 e.1));
   count = is.count ∙ sym same.long;
   few = (let n = is.few in let m = same.long in omega (arith, n, m));
   on_clocks = record {
@@ -176,8 +176,8 @@ stamp_there (e ∷ came) zero (suc w) f same = refl
 stamp_there (e ∷ came) (suc v) zero f same = refl
 stamp_there (e ∷ came) (suc v) (suc w) f same = stamp_there came v w f same
 
-pub holds_still : (r : RosterLists) (seen : List (List Seen)) (v : ℕ) (f : Came) → f.stamp ≡ (event_at r.came v).stamp → Holds r seen → Holds (retold r (set r.came v f)) seen
+pub holds_still : (r : RosterLists) (seen : List (List Seen)) (v : ℕ) (f : Came) → f.stamp ≡ (event_at r.came v).stamp → HoldsEvents r seen → HoldsEvents (retold r (set r.came v f)) seen
 holds_still r seen v f same holds = maps_as (λ (w : ℕ). (event_at (set r.came v f) w).stamp) (λ (w : ℕ). (event_at r.came w).stamp) r.under (λ w. stamp_there r.came v w f same) ∙ holds
 
-pub holds_restamped : (old new : RosterLists) (clock stamp node : ℕ) (seen : List (List Seen)) → SetsReading old new clock stamp node → Holds old seen → Holds new seen
-holds_restamped old new clock stamp node seen sets holds = subst (λ (r : RosterLists). Holds r seen) (sym sets.is) holds
+pub holds_restamped : (old new : RosterLists) (clock stamp node : ℕ) (seen : List (List Seen)) → SetsReading old new clock stamp node → HoldsEvents old seen → HoldsEvents new seen
+holds_restamped old new clock stamp node seen sets holds = subst (λ (r : RosterLists). HoldsEvents r seen) (sym sets.is) holds

@@ -3,7 +3,7 @@ use Rattle.std.proofs.Common.{◌≡◌, ℕ, ◌+◌, ◌-◌, ◌<◌, ◌≤�
 use Rattle.std.proofs.lemmas.List.{length-map, map-append}
 use Rattle.std.proofs.lemmas.List.Elements.{Contains-append_cases, Contains-append_left, Contains-append_right}
 use Rattle.std.proofs.lemmas.Option.{slice_get-map}
-use Rattle.problem_model.specs.Nodes.{Reading, ComesBefore}
+use Rattle.problem_model.specs.Nodes.{Reading, IsEarlierReading}
 use Rattle.traces.proofs.Members.{here, there, head_or_tail, none_in, no_pairs, pairs_joined}
 use Rattle.roster.specs.Groups.{total, sizes_of, group_at, IsPlaceOf}
 use Rattle.roster.specs.Readings.{Stamped, Rise}
@@ -93,23 +93,23 @@ at_place c [] k d e within = absurd (omega (arith, within))
 at_place c (x ∷ rs) zero d e within = refl
 at_place c (x ∷ rs) (suc k) d e within = at_place c rs k d e (omega (arith, within))
 
-one_clock : (c : ℕ) (rs : List Stamped) → Rise rs → AllPairs ComesBefore (map (on_clock c) rs)
+one_clock : (c : ℕ) (rs : List Stamped) → Rise rs → AllPairs IsEarlierReading (map (on_clock c) rs)
 one_clock c rs rise i j d less inside =
     let long = length-map rs (on_clock c) in
     let a : get_or (map (on_clock c) rs) i d ≡ on_clock c (get_or rs i d) = at_place c rs i d d (omega (arith, less, inside, long)) in
     let b : get_or (map (on_clock c) rs) j d ≡ on_clock c (get_or rs j d) = at_place c rs j d d (omega (arith, inside, long)) in
-    let before : ComesBefore (on_clock c (get_or rs i d)) (on_clock c (get_or rs j d)) = inr (refl, rise i j d less (omega (arith, inside, long))) in
-    subst (λ (x : Reading). ComesBefore x (get_or (map (on_clock c) rs) j d)) (sym a) (subst (λ (y : Reading). ComesBefore (on_clock c (get_or rs i d)) y) (sym b) before)
+    let before : IsEarlierReading (on_clock c (get_or rs i d)) (on_clock c (get_or rs j d)) = inr (refl, rise i j d less (omega (arith, inside, long))) in
+    subst (λ (x : Reading). IsEarlierReading x (get_or (map (on_clock c) rs) j d)) (sym a) (subst (λ (y : Reading). IsEarlierReading (on_clock c (get_or rs i d)) y) (sym b) before)
 
 contains_of : {X : Type 0} (xs : List X) (k : ℕ) (d : X) → k < length xs → Contains xs (get_or xs k d)
 contains_of [] k d inside = absurd (omega (arith, inside))
 contains_of (x ∷ xs) zero d inside = here x xs
 contains_of (x ∷ xs) (suc k) d inside = there x (get_or xs k d) xs (contains_of xs k d (omega (arith, inside)))
 
-pub turns_rise : (c : ℕ) (groups : List (List Stamped)) → ((h : ℕ) → Rise (group_at groups h)) → AllPairs ComesBefore (in_turn on_clock c groups)
-turns_rise c [] rise = no_pairs ComesBefore
+pub turns_rise : (c : ℕ) (groups : List (List Stamped)) → ((h : ℕ) → Rise (group_at groups h)) → AllPairs IsEarlierReading (in_turn on_clock c groups)
+turns_rise c [] rise = no_pairs IsEarlierReading
 turns_rise c (group ∷ groups) rise =
-    pairs_joined ComesBefore (map (on_clock c) group) (in_turn on_clock (c + 1) groups) (one_clock c group (rise 0)) (turns_rise (c + 1) groups (λ h. rise (suc h)))
+    pairs_joined IsEarlierReading (map (on_clock c) group) (in_turn on_clock (c + 1) groups) (one_clock c group (rise 0)) (turns_rise (c + 1) groups (λ h. rise (suc h)))
     (λ i d inside j e within.
     let x : Reading = get_or (map (on_clock c) group) i d in
     let y : Reading = get_or (in_turn on_clock (c + 1) groups) j e in

@@ -7,7 +7,7 @@ use Rattle.problem_model.specs.declared.items.Node.{Node}
 use Rattle.problem_model.specs.declared.items.Node.TheVariants as nodes
 use Rattle.problem_model.specs.declared.items.Bound.{Bound}
 use Rattle.problem_model.specs.Problem.{ProblemLists, IsProblem, IsChained}
-use Rattle.problem_model.specs.Nodes.{Reading, AreReadings, ComesBefore}
+use Rattle.problem_model.specs.Nodes.{Reading, AreReadings, IsEarlierReading}
 use Rattle.problem_model.specs.ShortList.{short_list}
 use Rattle.problem_model.proofs.Places.{event_stands, reading_stands}
 use Rattle.problem.specs.Listing.{Listed, listed_nodes}
@@ -118,19 +118,19 @@ module _ (l : Listed) (p q : ProblemLists) (readings : List Reading) (g : GraphL
       (tell_map {A = ℕ × ℕ} g.nodes (λ e. e.1) (λ e. nodes.Event e.0) l.events (λ e in'. tells.events e.0 e.1 in'))
       (tell_map {A = ℕ × ℕ × ℕ} g.nodes (λ r. r.2) (λ r. nodes.Reading r.0 r.1) l.readings (λ r in'. tells.readings r.0 r.1 r.2 in'))
 
-  not_same : (a b : Reading) → ComesBefore a b → nodes.Reading a.0 a.1 ≡ nodes.Reading b.0 b.1 → ⊥
+  not_same : (a b : Reading) → IsEarlierReading a b → nodes.Reading a.0 a.1 ≡ nodes.Reading b.0 b.1 → ⊥
   not_same a b (inl less) e = let c : a.0 ≡ b.0 = cc in omega (arith, less, c)
   not_same a b (inr more) e = let s : a.1 ≡ b.1 = cc in let less = more.1 in omega (arith, less, s)
 
   readings_differ : AllPairs (λ (m n : Node). m ≢ n) (map {A = ℕ × ℕ × ℕ} (λ r. nodes.Reading r.0 r.1) l.readings)
   readings_differ =
       pairs_map (λ (m n : Node). m ≢ n) (λ (r : ℕ × ℕ × ℕ). nodes.Reading r.0 r.1) l.readings (λ i j d less inside. (
-      let rising : AllPairs ComesBefore (map stamp_of l.readings) = subst (AllPairs ComesBefore) (sym listed.stamps) are.rising in
+      let rising : AllPairs IsEarlierReading (map stamp_of l.readings) = subst (AllPairs IsEarlierReading) (sym listed.stamps) are.rising in
       let long = length-map l.readings stamp_of in
       let a : get_or (map stamp_of l.readings) i (stamp_of d) ≡ stamp_of (get_or l.readings i d) = get_or-map stamp_of l.readings i d (stamp_of d) (omega (arith, less, inside)) in
       let b : get_or (map stamp_of l.readings) j (stamp_of d) ≡ stamp_of (get_or l.readings j d) = get_or-map stamp_of l.readings j d (stamp_of d) inside in
-      let before : ComesBefore (stamp_of (get_or l.readings i d)) (stamp_of (get_or l.readings j d)) =
-      subst (λ (x : Reading). ComesBefore x (stamp_of (get_or l.readings j d))) a (subst (ComesBefore (get_or (map stamp_of l.readings) i (stamp_of d))) b (rising i j (stamp_of d) less (omega (arith, inside, long)))) in
+      let before : IsEarlierReading (stamp_of (get_or l.readings i d)) (stamp_of (get_or l.readings j d)) =
+      subst (λ (x : Reading). IsEarlierReading x (stamp_of (get_or l.readings j d))) a (subst (IsEarlierReading (get_or (map stamp_of l.readings) i (stamp_of d))) b (rising i j (stamp_of d) less (omega (arith, inside, long)))) in
       not_same (stamp_of (get_or l.readings i d)) (stamp_of (get_or l.readings j d)) before))
 
   events_differ : AllPairs (λ (m n : Node). m ≢ n) (map {A = ℕ × ℕ} (λ e. nodes.Event e.0) l.events)

@@ -16,7 +16,7 @@ use Rattle.problem_model.specs.Problem.{ProblemLists}
 use Rattle.problem_model.specs.Bounds.{Constraint, Declares, EventAt, ClockAt, IsReading}
 use Rattle.sync_graph.specs.Graph.{GraphLists}
 use Rattle.traces.proofs.Members.{none_in}
-use Rattle.roster.specs.Entered.{HasEntered, IsReadingOf, IsNodeOf, AreNeighbours, AreLinked, IsMessageOf, IsDue, all_events, events_below}
+use Rattle.roster.specs.Entered.{HasEntered, IsReadingOf, IsEnteredNode, AreNeighbours, AreLinked, IsMessageOf, IsDue, all_events, events_below}
 use Rattle.roster.specs.Growing.{IsGrownTo}
 use Rattle.roster.specs.Withdrawing.{IsMore, IsDelayOf, Withdraws}
 use Rattle.roster.proofs.Leading.{follow_over, after_over}
@@ -81,11 +81,11 @@ module _ (before after : ProblemLists) (withdrawn : List Message) (more : IsMore
   reading_before : (clock stamp : ℕ) → IsReadingOf after old clock stamp → IsReadingOf before all_events clock stamp
   reading_before clock stamp (v, e, has, on, is) = (v, e, entered_before v e has, on, is)
 
-  node_after : (n : Node) → IsNodeOf before all_events n → IsNodeOf after old n
+  node_after : (n : Node) → IsEnteredNode before all_events n → IsEnteredNode after old n
   node_after (nodes.Event v) (e, has) = (e, entered_after v e has)
   node_after (nodes.Reading clock stamp) is = reading_after clock stamp is
 
-  node_before : (n : Node) → IsNodeOf after old n → IsNodeOf before all_events n
+  node_before : (n : Node) → IsEnteredNode after old n → IsEnteredNode before all_events n
   node_before (nodes.Event v) (e, has) = (e, entered_before v e has)
   node_before (nodes.Reading clock stamp) is = reading_before clock stamp is
 

@@ -31,9 +31,9 @@ abbrev pub IsReadingOf : ProblemLists → (ℕ → Bool) → ℕ → ℕ → Typ
 IsReadingOf p entered clock stamp = (v : ℕ) × (e : Event) × HasEntered p entered v e × (e.clock ≡ clock) × (e.stamp ≡ stamp)
 
 -- the node is an event that has entered, or a reading of one
-abbrev pub IsNodeOf : ProblemLists → (ℕ → Bool) → Node → Type 0
-IsNodeOf p entered (nodes.Event v) = (e : Event) × HasEntered p entered v e
-IsNodeOf p entered (nodes.Reading clock stamp) = IsReadingOf p entered clock stamp
+abbrev pub IsEnteredNode : ProblemLists → (ℕ → Bool) → Node → Type 0
+IsEnteredNode p entered (nodes.Event v) = (e : Event) × HasEntered p entered v e
+IsEnteredNode p entered (nodes.Reading clock stamp) = IsReadingOf p entered clock stamp
 
 -- two readings of a clock, the first below the second, and none between them
 pub record AreNeighbours (p : ProblemLists) (entered : ℕ → Bool) (clock s t : ℕ) : Type 0 where

@@ -17,7 +17,7 @@ pub record HasEachOnce (left : List Bound) (g : GraphLists) : Type 0 where
   pub left_differ : AllPairs (λ a b. a ≢ b) left
 
 -- an event is an end of each of the messages, and no two have the same ends
-pub record AreApart (v : ℕ) (messages : List Message) : Type 0 where
+pub record HaveOwnEnds (v : ℕ) (messages : List Message) : Type 0 where
   pub own : All (λ m. (m.send ≡ v) ⊎ (m.receive ≡ v)) messages
   pub differ : AllPairs (λ a b. (a.send ≡ b.send) → (a.receive ≡ b.receive) → ⊥) messages
 

@@ -1,6 +1,6 @@
 -- The readings of one clock: its stamps, each with the number of its node.
 use Rattle.std.specs.Prelude.{◌≡◌, ℕ, ◌+◌, ◌<◌, ◌≤◌, ◌⊎◌, List, Option, Some, None, map, length, All, AllPairs, Contains}
-use Rattle.problem_model.specs.Nodes.{ComesBefore}
+use Rattle.problem_model.specs.Nodes.{IsEarlierReading}
 use Rattle.traces.specs.declared.event.Event.{Event}
 
 -- a stamp and the number of its node
@@ -40,7 +40,7 @@ IsLastStamp readings (Some s) = HasStamp readings s × ((t : ℕ) → HasStamp r
 IsLastStamp readings None = (t : ℕ) → HasStamp readings t → ⊥
 
 -- the readings with those of more stamps: all that were there, and one with node 0 for each stamp that was not
-pub record Joins (old : List Stamped) (stamps : List ℕ) (new : List Stamped) : Type 0 where
+pub record JoinsStamps (old : List Stamped) (stamps : List ℕ) (new : List Stamped) : Type 0 where
   pub rise : Rise new
   pub kept : (r : Stamped) → Contains old r → Contains new r
   pub added : (stamp : ℕ) → Contains stamps stamp → HasStamp new stamp
@@ -61,5 +61,5 @@ AreBefore first second = All (λ (a : Stamped). All (λ (b : Stamped). a.0 < b.0
 pub record AreSorted (all sorted : List Stamped) : Type 0 where
   pub each : (r : Stamped) → Contains sorted r → Contains all r
   pub every : (r : Stamped) → Contains all r → Contains sorted r
-  pub rising : AllPairs ComesBefore sorted
+  pub rising : AllPairs IsEarlierReading sorted
   pub few : length sorted ≤ length all

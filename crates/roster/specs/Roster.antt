@@ -1,7 +1,8 @@
 -- What a roster holds, and what it lists.
-use Rattle.std.specs.Prelude.{◌≡◌, ℕ, ◌+◌, ◌^◌, ◌≤◌, ◌⊎◌, suc, List, [], ◌∷◌, ◌++◌, map, length, slice_get, slice_set, slice_index_or, Option, Some, None, Contains}
+use Rattle.std.specs.Prelude.{◌≡◌, ℕ, ◌+◌, ◌≤◌, ◌⊎◌, suc, List, [], ◌∷◌, ◌++◌, map, length, slice_get, slice_set, slice_index_or, Option, Some, None, Contains}
 use Rattle.std.specs.List.{range_with_len}
 use Rattle.problem_model.specs.declared.items.Clock.{Clock}
+use Rattle.problem_model.specs.Limits.{most_events}
 use Rattle.problem.specs.Listing.{Listed}
 use Rattle.decl.specs.Declaration.{Declaration, IsDeclaration}
 use Rattle.traces.specs.Seen.{Seen}
@@ -37,8 +38,8 @@ abbrev pub IsNumbered : List Came → ℕ → ℕ → ℕ → Type 0
 IsNumbered came v label number = (e : Came) × (slice_get came v ≡ Some e) × (id_of e ≡ record { label = label; number = number })
 
 -- v is the number of the event that a label numbers so, from 1 on
-abbrev pub IsUnder : List (List ℕ) → EventId → ℕ → Type 0
-IsUnder under id v = (k : ℕ) × (id.number ≡ suc k) × (slice_get (group_at under id.label) k ≡ Some v)
+abbrev pub IsNumberUnder : List (List ℕ) → EventId → ℕ → Type 0
+IsNumberUnder under id v = (k : ℕ) × (id.number ≡ suc k) × (slice_get (group_at under id.label) k ≡ Some v)
 
 -- an event was stamped so on this clock
 abbrev pub IsStamp : Declaration → List Came → ℕ → ℕ → Type 0
@@ -58,9 +59,9 @@ pub record IsRoster (r : RosterLists) : Type 0 where
   pub labels : length r.under ≡ length r.declaration.labels
   pub clocks : length r.readings ≡ length r.declaration.clocks
   pub numbered : (label k v : ℕ) → slice_get (group_at r.under label) k ≡ Some v → IsNumbered r.came v label (suc k)
-  pub every : (v : ℕ) (e : Came) → slice_get r.came v ≡ Some e → IsUnder r.under (id_of e) v
+  pub every : (v : ℕ) (e : Came) → slice_get r.came v ≡ Some e → IsNumberUnder r.under (id_of e) v
   pub count : total (sizes_of r.under) ≡ length r.came
-  pub few : length r.came ≤ 2 ^ 21
+  pub few : length r.came ≤ most_events
   pub on_clocks : AreOnClocks r.declaration r.came r.readings
 
 -- ---- what was accepted
@@ -69,8 +70,8 @@ abbrev pub stamps_by : RosterLists → List (List ℕ)
 stamps_by r = map (λ (vs : List ℕ). map (λ (v : ℕ). (event_at r.came v).stamp) vs) r.under
 
 -- under each label stand as many events as these, with the same stamps
-abbrev pub Holds : RosterLists → List (List Seen) → Type 0
-Holds r seen = stamps_by r ≡ map (λ (events : List Seen). map (λ (s : Seen). s.stamp) events) seen
+abbrev pub HoldsEvents : RosterLists → List (List Seen) → Type 0
+HoldsEvents r seen = stamps_by r ≡ map (λ (events : List Seen). map (λ (s : Seen). s.stamp) events) seen
 
 -- ---- what is listed
 -- all elements, one group behind the other, each by its group and itself; the first group has number g

@@ -5,7 +5,7 @@ ghost use Rattle.decl.specs.Declaration.{IsDeclaration, declaration_of};
 ghost use Rattle.traces.specs.Traces.{name_of};
 ghost use Rattle.traces.specs.declared.event_id.EventId.{EventId};
 ghost use Rattle.roster.specs.Groups.{total, sizes_of};
-ghost use Rattle.roster.specs.Roster.{IsUnder};
+ghost use Rattle.roster.specs.Roster.{IsNumberUnder};
 ghost use Rattle.roster.specs.Names.{IsCutAt};
 
 use crate::groups::Groups;
@@ -63,8 +63,8 @@ pub(crate) fn find_event(decl: &Decl, under: &Groups<u32>, name: &[u8]) -> Optio
     requires lawful { IsDeclaration (declaration_of decl.now) }
     requires labels { length under.now ≡ length decl.now.labels.items }
     requires few { total (sizes_of under.now) < 2 ^ 32 }
-    ensures some { IfSome result (λ v. (id : EventId) × IsUnder under.now id v × (name_of (declaration_of decl.now) id ≡ name.now)) }
-    ensures none { IfNone result ((id : EventId) (v : ℕ) → IsUnder under.now id v → name_of (declaration_of decl.now) id ≢ name.now) }
+    ensures some { IfSome result (λ v. (id : EventId) × IsNumberUnder under.now id v × (name_of (declaration_of decl.now) id ≡ name.now)) }
+    ensures none { IfNone result ((id : EventId) (v : ℕ) → IsNumberUnder under.now id v → name_of (declaration_of decl.now) id ≢ name.now) }
 {
     let (sharp, number) = parts_of(name)?;
     let label = decl.label_at(&name[..sharp])?;

@@ -17,12 +17,12 @@ ghost use Rattle.roster.specs.Entered.{all_events, events_below, and_event};
 ghost use Rattle.roster.specs.Growing.{IsGrowing, IsGrownTo, IsBoundOf};
 ghost use Rattle.roster.specs.Withdrawing.{IsMore, AreMore, Withdraws};
 ghost use Rattle.roster.specs.Entering.{Enters, AreMessagesOf, AreNearest, entry_bounds};
-ghost use Rattle.roster.specs.Once.{HasEachOnce, AreApart, TakesOut};
+ghost use Rattle.roster.specs.Once.{HasEachOnce, HaveOwnEnds, TakesOut};
 ghost use Rattle.roster.specs.ByNumber.{IsByNumber, AreCarriedMessages, TellsNodes};
 ghost use Rattle.roster.specs.Rosters.{problem_by_number, KnowsNodes};
 ghost use Rattle.traces.specs.Seen.{Seen};
 ghost use Rattle.traces.specs.Messages.{problem_of_seen};
-ghost use Rattle.roster.specs.Roster.{RosterLists, IsRoster, IsGrown, Holds, listed};
+ghost use Rattle.roster.specs.Roster.{RosterLists, IsRoster, IsGrown, HoldsEvents, listed};
 
 /// A law, which does nothing when it runs: without events the empty graph has grown to all of them; and flags that say the same of
 /// each event are as good as one another.
@@ -63,7 +63,7 @@ pub fn a_bound_is_pushed()
 pub fn bounds_are_in_force_once()
     ensures withdrawn { (messages : List Message) (numbers : List ℕ) (g h : GraphLists) → TakesOut messages numbers g h → HasEachOnce [] g → Withdraws messages g h × HasEachOnce [] h }
     ensures entered { (p : ProblemLists) (entered : ℕ → Bool) (v : ℕ) (e : Event) (below above : Option ℕ) (earlier later : Option (ℕ × ℕ)) (messages : List Message) (g h : GraphLists) → IsChained p → entered v ≡ false
-        → AreNearest p g e below above earlier later → AreApart v messages
+        → AreNearest p g e below above earlier later → HaveOwnEnds v messages
         → Enters v e g h → IsGrownTo p entered g → HasEachOnce [] g → HasEachOnce (entry_bounds v e below above earlier later messages) h }
     ensures pushed { (b : Bound) (rest : List Bound) (g : GraphLists) (a : Arc) → IsGraph g → a.name ≡ b → HasEachOnce (b ∷ rest) g → HasEachOnce rest (with_arc g a) }
 {}
@@ -85,7 +85,7 @@ pub fn a_push_brings_events()
 /// A law, which does nothing when it runs: a graph that has grown to all events of a roster, which knows its nodes, stands for the problem
 /// of the declaration and the events as the roster lists it.
 pub fn a_graph_stands_for_its_roster()
-    ensures { (r : RosterLists) (seen : List (List Seen)) (messages : List Message) (readings : List Reading) (g : GraphLists) → IsRoster r → Holds r seen → AreCarriedMessages (listed r) messages (problem_of_seen r.declaration seen).messages
+    ensures { (r : RosterLists) (seen : List (List Seen)) (messages : List Message) (readings : List Reading) (g : GraphLists) → IsRoster r → HoldsEvents r seen → AreCarriedMessages (listed r) messages (problem_of_seen r.declaration seen).messages
         → KnowsNodes r g → IsGraph g → IsProblem (problem_of_seen r.declaration seen) → AreReadings (problem_of_seen r.declaration seen) readings → IsGrownTo (problem_by_number r messages) all_events g
         → StandsForListed (listed r) (problem_of_seen r.declaration seen) readings g }
 {}

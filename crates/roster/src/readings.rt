@@ -1,6 +1,6 @@
 // The readings of one clock, in the order of their stamps, and how more come among them.
 ghost use Rattle.std.specs.Prelude.{◌≡◌, ◌<◌, ◌≤◌, ◌+◌, ◌++◌, ◌∷◌, [], ℕ, List, length, take, slice_get, Some, All, IfSome, IfNone, IfOk, OnOk};
-ghost use Rattle.roster.specs.Readings.{Stamped, Rise, HasStamp, IsLastUnder, IsFirstOver, IsFirstStamp, IsLastStamp, stamps_of, Joins, AreFresh, AreBefore, AreSorted};
+ghost use Rattle.roster.specs.Readings.{Stamped, Rise, HasStamp, IsLastUnder, IsFirstOver, IsFirstStamp, IsLastStamp, stamps_of, JoinsStamps, AreFresh, AreBefore, AreSorted};
 
 use atto::Nano;
 use std::alloc::{AllocError, Global};
@@ -184,7 +184,7 @@ pub(crate) fn change_of(
     events: &[Event],
 ) -> Result<Change, AllocError>
     requires { Rise readings.now }
-    ensures joins { IfOk result (λ c. Joins readings.now (stamps_of events.now) (take c.from readings.now ++ c.tail.items)) }
+    ensures joins { IfOk result (λ c. JoinsStamps readings.now (stamps_of events.now) (take c.from readings.now ++ c.tail.items)) }
     ensures few { IfOk result (λ c. length c.tail.items ≤ length readings.now + length events.now) }
 {
     let fresh = fresh_readings(alloc, readings, events)?;

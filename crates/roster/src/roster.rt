@@ -1,9 +1,10 @@
 // The events and readings of a session.
-ghost use Rattle.std.specs.Prelude.{◌≡◌, ℕ, ◌<◌, ◌≤◌, ◌+◌, ◌^◌, [], length, replicate, slice_get, slice_set, Some, Contains, OnOk, OnErr, IfOk, IfSome, IfNone};
+ghost use Rattle.std.specs.Prelude.{◌≡◌, ℕ, ◌<◌, ◌≤◌, ◌+◌, [], length, replicate, slice_get, slice_set, Some, Contains, OnOk, OnErr, IfOk, IfSome, IfNone};
+ghost use Rattle.problem_model.specs.Limits.{most_events};
 ghost use Rattle.decl.specs.Declaration.{IsDeclaration, declaration_of};
 ghost use Rattle.roster.specs.Readings.{Stamped, HasStamp, IsLastUnder, IsFirstOver, IsFirstStamp, IsLastStamp, stamps_of};
 ghost use Rattle.roster.specs.Groups.{group_at};
-ghost use Rattle.roster.specs.Roster.{IsRoster, IsUnder, Finds, IsGrown, SetsReading, event_at};
+ghost use Rattle.roster.specs.Roster.{IsRoster, IsNumberUnder, Finds, IsGrown, SetsReading, event_at};
 
 use crate::arrivals::{append_came, numbers_from, put_both};
 use crate::came::{Came, Partner};
@@ -70,7 +71,7 @@ impl Roster {
     /// runs out there is an error, and all is as before.
     pub fn push(&mut self, label: u32, events: &[Event]) -> Result<u32, AllocError>
         requires label { label < length self.old.declaration.labels }
-        requires few { length self.old.came + length events.now ≤ 2 ^ 21 }
+        requires few { length self.old.came + length events.now ≤ most_events }
         ensures first { IfOk result (λ first. first ≡ length self.old.came) }
         ensures grown { OnOk result (IsGrown self.old self.new label (stamps_of events.now)) }
         ensures err { OnErr result (self.new ≡ self.old) }
@@ -97,7 +98,7 @@ impl Roster {
     /// How many events came: at most 2^21.
     pub fn len(&self) -> u32
         ensures count { result ≡ length self.now.came }
-        ensures few { result ≤ 2 ^ 21 }
+        ensures few { result ≤ most_events }
     {
         self.came.len() as u32
     }
@@ -112,8 +113,8 @@ impl Roster {
 
     /// The number of the event that a label numbers so.
     pub fn number_of(&self, id: EventId) -> u32
-        requires { (v : ℕ) × IsUnder self.now.under id v }
-        ensures { IsUnder self.now.under id result }
+        requires { (v : ℕ) × IsNumberUnder self.now.under id v }
+        ensures { IsNumberUnder self.now.under id result }
     {
         event_numbered(self.under.group(id.label), id.number)
     }

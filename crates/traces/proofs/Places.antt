@@ -13,7 +13,7 @@ use Rattle.traces.specs.declared.event_id.PlacedEvent.{PlacedEvent}
 use Rattle.traces.specs.Traces.{Placed, is_same, name_of}
 use Rattle.traces.specs.Held.{placed_in, placed_of}
 use Rattle.traces.specs.Messages.{event_with, place_of}
-use Rattle.traces.specs.Making.{problem_by, IsOneOf, AreEvents}
+use Rattle.traces.specs.Making.{problem_by, IsOneOf, AreEventsOf}
 use Rattle.traces.proofs.Lists.{got, place_in, all_at, pair_at, only_at}
 use Rattle.traces.proofs.Names.{id_same, names_differ}
 
@@ -64,7 +64,7 @@ place_one events a b differ one two same =
 
 -- ---- places in the problem
 -- what has an id is under a label
-pub label_of : (d : Declaration) (events : List Placed) (id : EventId) → AreEvents d events → IsOneOf events id → id.label < length d.labels
+pub label_of : (d : Declaration) (events : List Placed) (id : EventId) → AreEventsOf d events → IsOneOf events id → id.label < length d.labels
 label_of d events id are one =
     let there : (k : ℕ) × (slice_get events k ≡ Some one.0) = place_in events one.0 one.1 in
     subst (λ (x : EventId). x.label < length d.labels) one.2 (all_at (λ (e : Placed). e.id.label < length d.labels) events there.0 one.0 are.labels there.1)
@@ -80,7 +80,7 @@ name_there d events ms k e at =
     ∙ ap (option_map (λ (x : Event). x.name)) (slice_get-map (event_with d) events k ∙ ap (option_map (event_with d)) at)
 
 -- the event of a name stands at the place of its id
-pub the_place : (d : Declaration) (events : List Placed) (ms : List Couple) (id : EventId) (k : ℕ) → HasLawfulLabels d → AreEvents d events → IsOneOf events id
+pub the_place : (d : Declaration) (events : List Placed) (ms : List Couple) (id : EventId) (k : ℕ) → HasLawfulLabels d → AreEventsOf d events → IsOneOf events id
     → HasName (problem_by d events ms) k (name_of d id) → k ≡ place_of events id
 the_place d events ms id k labels are one has =
     let within : k < length events = omega (arith, length-map events (event_with d), length-map (map (event_with d) events) (λ (x : Event). x.name), slice_get_within _ k _ has) in

@@ -3,6 +3,7 @@ use Rattle.std.proofs.Common.{◌≡◌, ◌<◌, ◌≤◌, ◌^◌, ◌+◌, �
 use Rattle.std.proofs.lemmas.List.Elements.{All-append, All-cons, All-head, All-nil, All-tail, Contains-get_or}
 use Rattle.std.proofs.lemmas.List.Sums.{get_or-le-sum_by}
 use Rattle.problem_model.specs.Problem.{IsProblem}
+use Rattle.problem_model.specs.Limits.{most_events}
 use Rattle.decl.specs.Declaration.{Declaration, IsDeclaration}
 use Rattle.traces.specs.declared.event_id.EventId.{EventId}
 use Rattle.traces.specs.declared.event_id.Couple.{Couple}
@@ -11,10 +12,10 @@ use Rattle.traces.specs.Traces.{Placed, numbered, events_from, events_of, event_
 use Rattle.traces.specs.Messages.{messages_of, problem_of_seen}
 use Rattle.traces.proofs.Ids.{ids_differ, ids_rise, ids_within, length_events}
 use Rattle.traces.proofs.MessageEnds.{ends_differ, ends_known, messages_few, sends_differ}
-use Rattle.traces.specs.Making.{AreEvents, AreMessages, IsOneOf, StampsFit}
+use Rattle.traces.specs.Making.{AreEventsOf, AreMessages, IsOneOf, StampsFit}
 use Rattle.traces.proofs.Whole.{is_problem}
 
-pub are_events : (d : Declaration) (seen : List (List Seen)) → length seen ≡ length d.labels → event_count seen ≤ 2 ^ 21 → AreEvents d (events_of seen)
+pub are_events : (d : Declaration) (seen : List (List Seen)) → length seen ≡ length d.labels → event_count seen ≤ most_events → AreEventsOf d (events_of seen)
 are_events d seen same few = record {
   labels = λ k x within. let id : EventId = (get_or (events_of seen) k x).id in
       let under : id.label < length seen = (ids_within seen k x within).0 in omega (arith, under, same);
@@ -33,7 +34,7 @@ send_known events m held = let ends = ends_known events m held in (ends.0, ends.
 receive_known : (events : List Placed) (m : Couple) → Contains (messages_of events) m → IsOneOf events m.receive
 receive_known events m held = let ends = ends_known events m held in (ends.1, ends.3, sym ends.5)
 
-pub are_messages : (seen : List (List Seen)) → event_count seen ≤ 2 ^ 21 → AreMessages (events_of seen) (messages_of (events_of seen))
+pub are_messages : (seen : List (List Seen)) → event_count seen ≤ most_events → AreMessages (events_of seen) (messages_of (events_of seen))
 are_messages seen few =
     let events : List Placed = events_of seen in
     record {
@@ -61,5 +62,5 @@ stamps_from label (rows ∷ more) all =
     All-append Stamped (numbered label 1 rows) (events_from (label + 1) more) (stamps_of label 1 rows (All-head P rows more all)) (stamps_from (label + 1) more (All-tail P rows more all))
 
 -- a lawful declaration and not too many events make a lawful problem
-pub problem_lawful : (d : Declaration) (seen : List (List Seen)) → IsDeclaration d → length seen ≡ length d.labels → event_count seen ≤ 2 ^ 21 → StampsFit seen → IsProblem (problem_of_seen d seen)
+pub problem_lawful : (d : Declaration) (seen : List (List Seen)) → IsDeclaration d → length seen ≡ length d.labels → event_count seen ≤ most_events → StampsFit seen → IsProblem (problem_of_seen d seen)
 problem_lawful d seen lawful same few stamps = is_problem d lawful (events_of seen) (messages_of (events_of seen)) (are_events d seen same few) (are_messages seen few) (stamps_from 0 seen stamps)

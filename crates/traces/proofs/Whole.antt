@@ -7,6 +7,7 @@ use Rattle.problem_model.specs.declared.items.Event.{Event}
 use Rattle.problem_model.specs.declared.items.Message.{Message}
 use Rattle.problem_model.specs.Name.{IsClockName, IsEventName}
 use Rattle.problem_model.specs.Problem.{IsProblem, MessageFits}
+use Rattle.problem_model.specs.Limits.{most_events}
 use Rattle.decl.specs.declared.items.Label.{Label}
 use Rattle.decl.specs.declared.items.Link.{Link}
 use Rattle.decl.specs.Declaration.{Declaration, IsDeclaration, HasLawfulClocks, HasLawfulLabels, IsClockOf, LinkFits, bounds_among}
@@ -15,7 +16,7 @@ use Rattle.traces.specs.declared.event_id.EventId.{EventId}
 use Rattle.traces.specs.declared.event_id.Couple.{Couple}
 use Rattle.traces.specs.Traces.{Placed, name_of, clock_of}
 use Rattle.traces.specs.Messages.{event_with, linked, place_of}
-use Rattle.traces.specs.Making.{problem_by, IsOneOf, AreEvents, AreMessages}
+use Rattle.traces.specs.Making.{problem_by, IsOneOf, AreEventsOf, AreMessages}
 use Rattle.traces.proofs.Lists.{got, all_at, pairs_map}
 use Rattle.traces.proofs.Names.{named, name_at, names_differ}
 use Rattle.traces.proofs.Places.{place_one, place_within}
@@ -27,18 +28,18 @@ clock_there d id clocks labels within =
     let own : IsClockOf d.owners l.0.host l.0.clock = all_at (λ (l : Label). IsClockOf d.owners l.host l.clock) d.labels id.label l.0 labels.label_clocks l.1 in
     rw l.1 (omega (arith, slice_get_within d.owners l.0.clock own.0 own.1, clocks.clocks_owned))
 
-event_named : (d : Declaration) (id : EventId) → HasLawfulLabels d → id.label < length d.labels → id.number ≤ 2 ^ 21 → IsEventName (name_of d id)
+event_named : (d : Declaration) (id : EventId) → HasLawfulLabels d → id.label < length d.labels → id.number ≤ most_events → IsEventName (name_of d id)
 event_named d id labels within small =
     let l : (l : Label) × (slice_get d.labels id.label ≡ Some l) = got d.labels id.label within in
     rw (name_at d id l.0 l.1) (named l.0.name id.number (all_at (λ (l : Label). IsClockName l.name) d.labels id.label l.0 labels.label_names l.1) (omega (arith, small)))
 
-module _ (d : Declaration) (lawful : IsDeclaration d) (events : List Placed) (are : AreEvents d events) where
+module _ (d : Declaration) (lawful : IsDeclaration d) (events : List Placed) (are : AreEventsOf d events) where
   pub all_names_differ : AllPairs (λ (a b : Placed). name_of d a.id ≢ name_of d b.id) events
   all_names_differ i j x less within =
       names_differ d _ _ lawful.labels.label_names lawful.labels.labels_rise (are.labels i x (omega (arith, less, within))) (are.labels j x within) (are.differ i j x less within)
 
 -- ---- messages
-module _ (d : Declaration) (events : List Placed) (couples : List Couple) (are : AreEvents d events) (messages : AreMessages events couples) where
+module _ (d : Declaration) (events : List Placed) (couples : List Couple) (are : AreEventsOf d events) (messages : AreMessages events couples) where
   -- two messages go from two places
   abbrev pub Apart : Couple → Couple → Type 0
   Apart a b = place_of events a.send ≡ place_of events b.send → place_of events a.receive ≡ place_of events b.receive → ⊥
@@ -64,7 +65,7 @@ bounds_fit [] from to all = (omega arith, tt)
 bounds_fit (l ∷ more) from to all =
     either_fits (l.from == from && l.to == to) (l.least, l.most) (bounds_among more from to) (All-head LinkFits l more all) (bounds_fit more from to (All-tail LinkFits l more all))
 
-module _ (d : Declaration) (lawful : IsDeclaration d) (events : List Placed) (couples : List Couple) (are : AreEvents d events) (messages : AreMessages events couples) where
+module _ (d : Declaration) (lawful : IsDeclaration d) (events : List Placed) (couples : List Couple) (are : AreEventsOf d events) (messages : AreMessages events couples) where
   pub is_problem : All (λ (e : Placed). e.seen.stamp < 2 ^ 62) events → IsProblem (problem_by d events couples)
   is_problem stamps = record {
     formed = record {

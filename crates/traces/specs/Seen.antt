@@ -1,16 +1,20 @@
 -- Events of traces: what is seen of a row of a log, and of a packet.
-use Rattle.std.specs.Prelude.{ℕ, List, [], map, Option, Some, None, Bool, true, false, ◌==◌, ◌&&◌}
+use Rattle.std.specs.Prelude.{ℕ, List, [], map, Option, Some, None, Result, Ok, Err, Bool, true, false, ◌==◌, ◌&&◌}
 use Rattle.std.specs.Str.{bytes_eq}
 use Rattle.event_log.specs.declared.row.Kind.{Kind}
 use Rattle.event_log.specs.declared.row.Kind.TheVariants as kinds
 use Rattle.event_log.specs.declared.row.Row.{Row}
-use Rattle.decl.specs.Declaration.{Declaration, host_at, host6_at}
-use Rattle.ip_headers.specs.Keys.{KeyFields, fields_of}
-use Rattle.ip_headers.specs.declared.key.Reason.{Reason}
-use Rattle.ip_headers.specs.declared.key.Reason.TheVariants as reasons
-use Rattle.wide_headers.specs.Keys as headers
-use Rattle.wide_headers.specs.Keys.{WideFields}
-use Rattle.wide_headers.specs.Decoding.{decoded_wide}
+use Rattle.decl.specs.Declaration.{Declaration, host_at}
+use Rattle.decl.specs.declared.items.IpVersion.{IpVersion}
+use Rattle.decl.specs.declared.items.IpVersion.TheVariants as versions
+use Rattle.headers.specs.Decoding.{decoded}
+use Rattle.headers.specs.Keys.{is_same_packet}
+use Rattle.headers.specs.declared.key.Network.{Network}
+use Rattle.headers.specs.declared.key.Network.TheVariants.{V4, V6}
+use Rattle.headers.specs.declared.key.PacketKey.{PacketKey}
+use Rattle.headers.specs.declared.key.Reason.{Reason}
+use Rattle.headers.specs.declared.key.Reason.TheVariants as reasons
+use Rattle.headers.specs.declared.key.Wanted.{Wanted}
 use Rattle.captures.specs.Capture as captured
 use Rattle.traces.specs.declared.event.Side.{Side}
 use Rattle.traces.specs.declared.event.Side.TheVariants.{Send, Receive}
@@ -23,11 +27,10 @@ use Rattle.traces.specs.declared.event.Mark.TheVariants as marks
 use Rattle.traces.specs.declared.event.Event.{Event}
 
 -- ---- what is seen of an event
--- what a message is known by at both of its ends: the fields of a packet of IPv4 or of IPv6, or a row's word
+-- what a message is known by at both of its ends: the key of a packet, or a row's word
 pub data EventKey : Type 0 where
-  Packet : KeyFields → EventKey
+  Packet : PacketKey → EventKey
   Word : List ℕ → EventKey
-  Wide : WideFields → EventKey
 
 -- which end of which message an event is, or why it is none
 pub data SeenMark : Type 0 where
@@ -41,29 +44,12 @@ pub record Seen : Type 0 where
   pub text : List ℕ
 
 -- ---- one key
--- two packets have the same fields
-abbrev pub is_same_packet : KeyFields → KeyFields → Bool
-is_same_packet a b = (a.source == b.source) && (a.target == b.target) && (a.protocol == b.protocol) && (a.id == b.id)
-    && (a.source_port == b.source_port) && (a.target_port == b.target_port) && (a.sequence == b.sequence)
-    && (a.acknowledged == b.acknowledged) && (a.flags == b.flags) && (a.length == b.length) && bytes_eq a.payload b.payload
-
--- two packets of IPv6 have the same fields
-abbrev pub is_same_wide : WideFields → WideFields → Bool
-is_same_wide a b = (a.source == b.source) && (a.target == b.target) && (a.protocol == b.protocol)
-    && (a.source_port == b.source_port) && (a.target_port == b.target_port) && (a.sequence == b.sequence)
-    && (a.acknowledged == b.acknowledged) && (a.flags == b.flags) && (a.length == b.length) && bytes_eq a.payload b.payload
-
 -- two keys are one; those of different kinds never are
 abbrev pub is_same_key : EventKey → EventKey → Bool
 is_same_key (Packet a) (Packet b) = is_same_packet a b
 is_same_key (Packet a) (Word b) = false
-is_same_key (Packet a) (Wide b) = false
 is_same_key (Word a) (Packet b) = false
 is_same_key (Word a) (Word b) = bytes_eq a b
-is_same_key (Word a) (Wide b) = false
-is_same_key (Wide a) (Packet b) = false
-is_same_key (Wide a) (Word b) = false
-is_same_key (Wide a) (Wide b) = is_same_wide a b
 
 -- two ends are both sends, or both receives
 abbrev pub is_same_side : Side → Side → Bool
@@ -105,13 +91,14 @@ abbrev pub is_host : Option ℕ → ℕ → Bool
 is_host None host = false
 is_host (Some other) host = other == host
 
--- whether an address of IPv4 is one of this host
-abbrev pub is_at : Declaration → ℕ → ℕ → Bool
-is_at d host address = is_host (host_at d address) host
+-- whether an address of a version is one of this host
+abbrev pub is_at : Declaration → ℕ → IpVersion → ℕ → Bool
+is_at d host version address = is_host (host_at d version address) host
 
--- whether an address of IPv6 is one of this host
-abbrev pub is_at6 : Declaration → ℕ → ℕ → Bool
-is_at6 d host address = is_host (host6_at d address) host
+-- whether a packet comes from this host, and whether it goes there
+abbrev pub ends_at : Declaration → ℕ → Network → Bool × Bool
+ends_at d host (V4 source target id) = (is_at d host versions.V4 source, is_at d host versions.V4 target)
+ends_at d host (V6 source target) = (is_at d host versions.V6 source, is_at d host versions.V6 target)
 
 -- a packet that a host sent, or received; where both of its addresses or neither are the host's it has no side
 abbrev pub mark_by : EventKey → Bool → Bool → SeenMark
@@ -121,21 +108,23 @@ mark_by key true true = Unkeyed without.Side
 mark_by key false false = Unkeyed without.Side
 
 -- the mark of a packet at a host, by what its headers say
-abbrev pub mark_of_packet : Declaration → ℕ → headers.WideAnswer → SeenMark
-mark_of_packet d host (headers.Narrow key) = mark_by (Packet key) (is_at d host key.source) (is_at d host key.target)
-mark_of_packet d host (headers.Wide key) = mark_by (Wide key) (is_at6 d host key.source) (is_at6 d host key.target)
-mark_of_packet d host (headers.Unkeyed reason) = Unkeyed (no_key reason)
+abbrev pub mark_of_packet : Declaration → ℕ → Result PacketKey Reason → SeenMark
+mark_of_packet d host (Ok key) = let ends = ends_at d host key.network in mark_by (Packet key) ends.0 ends.1
+mark_of_packet d host (Err reason) = Unkeyed (no_key reason)
+
+-- what belongs to the key of a packet
+abbrev pub wanted_of : Declaration → Wanted
+wanted_of d = record { payload_bytes = d.payload_bytes; tcp_options = d.tcp_options }
 
 -- the event of a packet that was captured at a host
 abbrev pub event_of_packet : Declaration → ℕ → captured.Seen → Seen
-event_of_packet d host p = record { stamp = p.stamp; mark = mark_of_packet d host (decoded_wide p.link p.bytes d.payload_bytes); text = [] }
+event_of_packet d host p = record { stamp = p.stamp; mark = mark_of_packet d host (decoded p.link p.bytes (wanted_of d)); text = [] }
 
 -- ---- events of the code
 -- the key
 abbrev pub key_of : Key → EventKey
-key_of (code.Packet key) = Packet (fields_of key)
+key_of (code.Packet key) = Packet key
 key_of (code.Word key) = Word key
-key_of (code.Wide key) = Wide (headers.fields_of key)
 
 -- the mark
 abbrev pub mark_of : Mark → SeenMark

@@ -22,9 +22,9 @@ abbrev pub Traces : Type 0
 Traces = List Trace
 
 -- how many bytes were accepted under a label
-abbrev pub size_of : Trace → ℕ
-size_of (Captured bytes capture) = length bytes
-size_of (Logged rows size) = size
+abbrev pub bytes_accepted : Trace → ℕ
+bytes_accepted (Captured bytes capture) = length bytes
+bytes_accepted (Logged rows size) = size
 
 -- how many packets under a label were passed over; of a log none are
 abbrev pub passed_of : Trace → Passed

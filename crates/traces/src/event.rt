@@ -1,8 +1,7 @@
 // Events of all traces.
 use atto::Nano;
 use event_log::{LogText, WordKey};
-use ip_headers::PacketKey;
-use wide_headers::WideKey;
+use headers::PacketKey;
 
 /// An end of a message.
 #[derive(Clone, Copy, Debug, PartialEq, Eq)]
@@ -16,12 +15,10 @@ pub enum Side {
 /// What a message is known by at both of its ends. Keys of different kinds are never equal.
 #[derive(Debug, PartialEq, Eq, PartialOrd, Ord, Drop)]
 pub enum Key {
-    /// A packet of IPv4, by its headers and the beginning of its payload.
+    /// A packet, by its headers and the beginning of its payload.
     Packet(PacketKey),
     /// A message of event logs, by its word.
     Word(WordKey),
-    /// A packet of IPv6, by its headers and the beginning of its payload.
-    Wide(WideKey),
 }
 
 /// Why an event is the end of no message.

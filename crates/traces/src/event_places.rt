@@ -1,5 +1,6 @@
 // The events of all labels, by the place of their label and then by number.
 ghost use Rattle.std.specs.Prelude.{◌≡◌, ◌≤◌, ◌-◌, ◌^◌, ◌++◌, min, length, IfOk, OnOk};
+ghost use Rattle.problem_model.specs.Limits.{most_events};
 ghost use Rattle.traces.specs.Seen.{seen_events};
 ghost use Rattle.traces.specs.Traces.{event_count, events_of, numbered};
 ghost use Rattle.traces.specs.Held.{placed_in, seen_in};
@@ -24,7 +25,7 @@ fn place_events<'a>(
     label: u32,
     events: &'a [Event],
 ) -> Result<(), AllocError>
-    requires { length events.now ≤ 2 ^ 21 }
+    requires { length events.now ≤ most_events }
     ensures { OnOk result (placed_in placed.new.items ≡ placed_in placed.old.items ++ numbered label 1 (seen_events events.now)) }
 {
     for (place, event) in events.iter().enumerate() {
@@ -42,7 +43,7 @@ fn place_events<'a>(
 /// 65,536 labels, with at most 2^21 events together.
 pub fn events(alloc: Global, accepted: &[Accepted]) -> Result<Vec<PlacedEvent<'_>>, AllocError>
     requires labels { length accepted.now ≤ 65536 }
-    requires few { event_count (seen_in accepted.now) ≤ 2 ^ 21 }
+    requires few { event_count (seen_in accepted.now) ≤ most_events }
     ensures { IfOk result (λ es. placed_in es.items ≡ events_of (seen_in accepted.now)) }
 {
     let mut events = Vec::with_capacity(alloc, event_count(accepted) as usize)?;

@@ -1,6 +1,7 @@
 // What is true of the messages and the problem of all traces.
-ghost use Rattle.std.specs.Prelude.{◌≡◌, ◌≤◌, ◌^◌, List, length, Contains, AllPairs};
+ghost use Rattle.std.specs.Prelude.{◌≡◌, ◌≤◌, List, length, Contains, AllPairs};
 ghost use Rattle.problem_model.specs.Problem.{IsProblem};
+ghost use Rattle.problem_model.specs.Limits.{most_events};
 ghost use Rattle.decl.specs.Declaration.{Declaration, IsDeclaration};
 ghost use Rattle.traces.specs.declared.event_id.Couple.{Couple};
 ghost use Rattle.traces.specs.Seen.{Seen};
@@ -20,5 +21,5 @@ pub fn messages_are_pairs()
 /// A law, which does nothing when it runs: a lawful declaration and at most 2^21 events under its labels, with stamps
 /// below 2^62 ns, make a lawful problem.
 pub fn lawful()
-    ensures { (d : Declaration) (seen : List (List Seen)) → IsDeclaration d → length seen ≡ length d.labels → event_count seen ≤ 2 ^ 21 → StampsFit seen → IsProblem (problem_of_seen d seen) }
+    ensures { (d : Declaration) (seen : List (List Seen)) → IsDeclaration d → length seen ≡ length d.labels → event_count seen ≤ most_events → StampsFit seen → IsProblem (problem_of_seen d seen) }
 {}

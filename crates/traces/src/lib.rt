@@ -4,19 +4,19 @@
 #![tactic(auto)]
 
 mod accepted;
+mod captured;
 mod event;
 mod event_id;
 mod event_names;
 mod event_places;
 mod laws;
-mod packets;
 mod rows;
 
 pub use accepted::{Accepted, Stream};
+pub use captured::packet_events;
 pub use event::{Event, Key, Mark, NoKey, Side};
 pub use event_id::{Couple, EventId, PlacedEvent};
 pub use event_names::{event_name, name_of};
 pub use event_places::{event_count, events};
 pub use laws::{lawful, messages_are_pairs};
-pub use packets::packet_events;
 pub use rows::row_events;

@@ -1,7 +1,7 @@
 use Rattle.std.proofs.Common.{◌+◌, ◌-◌, List, drop, codes, sym, subst}
 use Rattle.toml.specs.View.{view, table_view, items_view}
 use Rattle.decl.specs.Inside.{IsTurnOf}
-use Rattle.decl.specs.Keys.{entry_of}
+use Rattle.decl.specs.Keys.{entry_table}
 use Rattle.decl.specs.Values.{number_at}
 use Rattle.decl.specs.declared.items.Owner.{Owner}
 use Rattle.decl.proofs.ClockPlaces.{turn_stays}
@@ -17,7 +17,7 @@ loop-value-preserved c =
     let left = items_view (drop now.value-index values) in
     let rest = items_view (drop (now.value-index + 1) values) in
     let next = next_item values now.value-index c.value-item.result c.loop-value-test.true c.value-item.is in
-    let owner : Owner = record { host = c.args.index - 1; gap = number_at (codes "gap") (entry_of d) } in
+    let owner : Owner = record { host = c.args.index - 1; gap = number_at (codes "gap") (entry_table d) } in
     record {
       walked = tables_on _ host now.book.clocks c.add_clock.new.book.clocks d left rest now.invariant.walked next c.in_ok-add_clock.ensures.sound c.in_ok-add_clock.ensures.clocks;
       clocked = clocks_on _ host now.book.clocks c.add_clock.new.book.clocks d left rest now.invariant.clocked next c.in_ok-add_clock.ensures.clocks;

@@ -5,7 +5,7 @@ use Rattle.problem_model.specs.Name.{IsClockName}
 use Rattle.problem_model.specs.declared.items.Clock.{Clock}
 use Rattle.decl.specs.Declaration.{IsDeclaration}
 use Rattle.decl.specs.Hosts.{HostLists, host_lists}
-use Rattle.decl.specs.Inside.{lists_of}
+use Rattle.decl.specs.Inside.{hosts_and_clocks}
 use Rattle.decl.specs.Labels.{labels_of}
 use Rattle.decl.specs.Walk.{faults, hosts_in, labels_in}
 use Rattle.decl.proofs.LabelTurns.{RiseLabels}
@@ -31,7 +31,7 @@ read_source-requires c =
 pub returns-in-Err-read_source-clause-fault : goal.returns-in-Err-read_source-clause-fault
 returns-in-Err-read_source-clause-fault c =
     source_first (table_view c.args.table.now) c.in-Ok.ensures.0 (table_view c.table_or_empty.result.now) c.table_or_empty.ensures
-    c.in-Ok-read_hosts.ensures.sound (lists_of c.in-Ok-read_hosts.hosts) c.in-Ok-read_hosts.ensures.lists (table_view c.table_or_empty-2.result.now) c.table_or_empty-2.ensures
+    c.in-Ok-read_hosts.ensures.sound (hosts_and_clocks c.in-Ok-read_hosts.hosts) c.in-Ok-read_hosts.ensures.lists (table_view c.table_or_empty-2.result.now) c.table_or_empty-2.ensures
     c.in-Ok-read_labels.ensures.sound (items_view c.items_or_none.result.now) c.items_or_none.ensures
     (rw c.deref.ensures.value at c.in-Ok-read_links.ensures.sound) c.in-Err-read_source.cause c.at-in-Err-read_source.result c.in-Err-read_source.ensures c.at-in-Err-read_source.ensures
 
@@ -41,7 +41,7 @@ returns-clause-lawful c =
     let hosts = table_view c.table_or_empty.result.now in
     let labels = table_view c.table_or_empty-2.result.now in
     let links = items_view c.items_or_none.result.now in
-    let lists = lists_of c.in-Ok-read_hosts.hosts in
+    let lists = hosts_and_clocks c.in-Ok-read_hosts.hosts in
     let known = c.in-Ok-read_hosts.ensures in
     let labelled = c.in-Ok-read_labels.ensures in
     let linked = rw c.deref.ensures.value at c.in-Ok-read_links.ensures.sound in
@@ -51,6 +51,6 @@ returns-clause-lawful c =
     let labels_are : c.in-Ok-read_labels.labels.items ≡ labels_of (host_lists (hosts_in ms)) (labels_in ms) = labelled.labels ∙ rw (lists_are, c.table_or_empty-2.ensures) refl in
     let none : faults ms ≡ [] = no_faults ms c.in-Ok.ensures.0 hosts c.table_or_empty.ensures known.sound lists known.lists labels c.table_or_empty-2.ensures labelled.sound links c.items_or_none.ensures linked source.0 in
     let is =
-    declared_is ms hosts labels links lists c.into_lists-clocks.result.0.items c.into_lists-clocks.result.1.items c.in-Ok-read_hosts.hosts.addresses c.in-Ok-read_hosts.hosts.addresses6 c.in-Ok-read_labels.labels.items c.in-Ok-read_links.links c.in-Ok.bytes c.in-Ok-read_source.source
-    c.table_or_empty.ensures c.table_or_empty-2.ensures c.items_or_none.ensures known.lists c.into_lists-clocks.ensures.clocks c.into_lists-clocks.ensures.owners known.addresses known.addresses6 labelled.labels link_list c.in-Ok.ensures.1 source.1 in
+    declared_is ms hosts labels links lists c.into_lists-clocks.result.0.items c.into_lists-clocks.result.1.items c.in-Ok-read_hosts.hosts.addresses c.in-Ok-read_hosts.hosts.addresses6 c.in-Ok-read_labels.labels.items c.in-Ok-read_links.links c.in-Ok.bytes c.flag_at.result c.in-Ok-read_source.source
+    c.table_or_empty.ensures c.table_or_empty-2.ensures c.items_or_none.ensures known.lists c.into_lists-clocks.ensures.clocks c.into_lists-clocks.ensures.owners known.addresses known.addresses6 labelled.labels link_list c.in-Ok.ensures.1 c.flag_at.ensures source.1 in
     subst IsDeclaration (sym is) (lawful ms (subst Rise (ap (λ (l : HostLists). l.names) lists_are) known.rising) (subst RiseLabels labels_are labelled.rising) none)

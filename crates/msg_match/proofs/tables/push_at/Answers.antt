@@ -1,7 +1,7 @@
 use Rattle.std.proofs.Common.{◌≡◌, [], set}
 use Rattle.msg_match.specs.Groups.{SeenGroup}
 use Rattle.msg_match.specs.Held.{seen_groups}
-use Rattle.msg_match.specs.Parts.{group_at, with_event}
+use Rattle.msg_match.specs.Parts.{group_at_place, with_entry}
 use Rattle.msg_match.proofs.TableLemmas.{changed, same, so_err}
 use Rattle.msg_match.proofs.tables.push_at.Goals as goal
 
@@ -12,4 +12,4 @@ returns-in_err-push-clause-groups_err c =
 
 pub returns-clause-groups_ok : goal.returns-clause-groups_ok
 returns-clause-groups_ok c =
-    changed c.args.groups.now.items c.args.place c.index_mut-group.result.now c.push.new.self (group_at [] 0) (λ (g : SeenGroup). with_event g c.args.item.now.side c.args.item.now.event) c.requires.within c.index_mut-group.ensures.value c.in_ok-push.ensures.ok
+    changed c.args.groups.now.items c.args.place c.index_mut-group.result.now c.push.new.self (group_at_place [] 0) (λ (g : SeenGroup). with_entry g c.args.item.now.side c.args.item.now.event) c.requires.within c.index_mut-group.ensures.value c.in_ok-push.ensures.ok

@@ -10,7 +10,7 @@ use Rattle.traces.specs.declared.event_id.Couple.{Couple}
 use Rattle.traces.specs.Traces.{Placed}
 use Rattle.traces.specs.Messages.{event_with, linked}
 use Rattle.traces.specs.Held.{placed_in, placed_of}
-use Rattle.reference_traces.specs.Known.{IsKnown}
+use Rattle.reference_traces.specs.Known.{IsKnownEvent}
 use Rattle.traces.proofs.Lists.{all_at}
 use Rattle.traces.proofs.Places.{label_of, placed_at}
 use Rattle.reference_traces.proofs.Growth.{clock_new, event_more, event_new, known, linked_is, made_more, made_new}
@@ -83,14 +83,14 @@ pub message_of-message-requires-clause-send_known : goal.message_of-message-requ
 message_of-message-requires-clause-send_known c =
     let d : Declaration = declaration_of c.args.decl.now in
     let m : Couple = get_or c.args.couples.now c.loop-couple.couple-index no_couple in
-    subst (λ (p : ProblemLists). IsKnown d p m.send) (sym c.loop-couple.invariant)
+    subst (λ (p : ProblemLists). IsKnownEvent d p m.send) (sym c.loop-couple.invariant)
     (known d (placed_in c.args.events.now) (take c.loop-couple.couple-index c.args.couples.now) m.send c.requires.events (c.requires.messages.sends c.loop-couple.couple-index no_couple c.loop-couple-test.true))
 
 pub message_of-message-requires-clause-receive_known : goal.message_of-message-requires-clause-receive_known
 message_of-message-requires-clause-receive_known c =
     let d : Declaration = declaration_of c.args.decl.now in
     let m : Couple = get_or c.args.couples.now c.loop-couple.couple-index no_couple in
-    subst (λ (p : ProblemLists). IsKnown d p m.receive) (sym c.loop-couple.invariant)
+    subst (λ (p : ProblemLists). IsKnownEvent d p m.receive) (sym c.loop-couple.invariant)
     (known d (placed_in c.args.events.now) (take c.loop-couple.couple-index c.args.couples.now) m.receive c.requires.events (c.requires.messages.receives c.loop-couple.couple-index no_couple c.loop-couple-test.true))
 
 pub add_message-requires-clause-new : goal.add_message-requires-clause-new

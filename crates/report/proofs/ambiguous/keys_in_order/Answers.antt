@@ -22,4 +22,4 @@ returns c = λ seen ends.
     ap (map seen_ambiguous) (ap (λ (n : ℕ). take n (sorted ++ past)) len ∙ take-append_seam sorted past)
     ∙ all_told (λ (a : Ambiguous). a.first) seen_ambiguous (ids_in c.args.roster.now) c.args.matcher.now (seen_groups c.all_groups.result.now) seen found sorted ends.ends c.all_groups.ensures
     (λ others rising have. c.in_ok-keys.ensures others rising have)
-    (λ in_order rising same. c.sort_keys.ensures.sorted in_order rising (subst (λ (l : List Ambiguous). IsPermutation in_order (map led l)) (sym c.deref_mut.ensures.value) same))
+    (λ in_order rising same. c.sort_keys.ensures in_order rising (subst (λ (l : List Ambiguous). IsPermutation in_order (map led l)) (sym c.deref_mut.ensures.value) same))

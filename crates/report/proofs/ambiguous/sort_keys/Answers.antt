@@ -8,8 +8,8 @@ use Rattle.report.specs.Inside.{led}
 use Rattle.msg_match.proofs.Sorting.{rank, sorted_one}
 use Rattle.report.proofs.ambiguous.sort_keys.Goals as goal
 
-pub returns-clause-sorted : goal.returns-clause-sorted
-returns-clause-sorted c = λ in_order rising moved.
+pub returns : goal.returns
+returns c = λ in_order rising moved.
     let old = c.args.keys.now in
     let new = c.sort_unstable_by_key.new.self in
     sorted_one led (λ (p : EventId × EndGroup). p.0) in_order new rising

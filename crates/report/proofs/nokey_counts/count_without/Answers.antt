@@ -1,6 +1,7 @@
-use Rattle.std.proofs.Common.{◌≡◌, ◌≤◌, ◌^◌, List, length, ap, sym, subst, ◌∙◌, arith, take, take_all}
+use Rattle.std.proofs.Common.{◌≡◌, ◌≤◌, List, length, ap, sym, subst, ◌∙◌, arith, take, take_all}
 use Rattle.std.specs.Prelude.{sum_by}
 use Rattle.std.proofs.lemmas.List.{length-map}
+use Rattle.problem_model.specs.Limits.{most_events}
 use Rattle.traces.specs.declared.event.Event.{Event}
 use Rattle.traces.specs.Seen.{Seen, seen_events}
 use Rattle.traces.specs.declared.accepted.Accepted.{Accepted}
@@ -11,7 +12,7 @@ use Rattle.report.proofs.nokey_counts.count_without.Goals as goal
 
 pub count_under-count-requires : goal.count_under-count-requires
 count_under-count-requires c =
-    subst (λ (l : List Event). length l ≤ 2 ^ 21) (sym c.deref.ensures.value) (few_under c.args.accepted.now c.args.reason c.loop-under.under-index c.under-item.result c.loop-under-test.true c.under-item.is c.requires)
+    subst (λ (l : List Event). length l ≤ most_events) (sym c.deref.ensures.value) (few_under c.args.accepted.now c.args.reason c.loop-under.under-index c.under-item.result c.loop-under-test.true c.under-item.is c.requires)
 
 pub overflow_add-count : goal.overflow_add-count
 overflow_add-count c =

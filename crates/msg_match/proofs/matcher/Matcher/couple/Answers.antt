@@ -2,7 +2,7 @@ use Rattle.std.proofs.Common.{◌≡◌, ◌<◌, ℕ, List, length, sym, ap, su
 use Rattle.std.proofs.lemmas.List.{length-map}
 use Rattle.traces.specs.declared.event.Side.TheVariants.{Receive}
 use Rattle.traces.specs.Seen.{key_of}
-use Rattle.msg_match.specs.Groups.{SeenItem, SeenGroup, couple_of, events_with, group_of, only_two}
+use Rattle.msg_match.specs.Groups.{SeenItem, SeenGroup, couple_of, events_with, group_of, only_couple}
 use Rattle.msg_match.specs.Held.{seen_group, seen_groups}
 use Rattle.msg_match.specs.Inside.{items_by}
 use Rattle.msg_match.proofs.Keeping.{group_found, group_missing, same_length}
@@ -15,7 +15,7 @@ returns-in_err-place c =
     let log = c.self.inside.log.items in
     let key = key_of c.args.key.now in
     c.from_residual.ensures
-    ∙ sym (ap (λ (l : List ℕ). only_two l (events_with (items_by keys log) key Receive)) (group_missing keys log (seen_groups c.self.inside.groups.items) key c.self.invariant c.in_err-place.ensures.none))
+    ∙ sym (ap (λ (l : List ℕ). only_couple l (events_with (items_by keys log) key Receive)) (group_missing keys log (seen_groups c.self.inside.groups.items) key c.self.invariant c.in_err-place.ensures.none))
     ∙ ap (λ (items : List SeenItem). couple_of (group_of items key)) c.self.view_is
 
 pub returns : goal.returns

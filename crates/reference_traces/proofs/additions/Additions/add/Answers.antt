@@ -12,7 +12,7 @@ use Rattle.msg_match.specs.Ends.{items_from}
 use Rattle.msg_match.proofs.Grown.{few_more}
 use Rattle.roster.specs.Readings.{stamps_of}
 use Rattle.roster.specs.Roster.{RosterLists, IsGrown}
-use Rattle.reference_traces.specs.Added.{AreAdded}
+use Rattle.reference_traces.specs.Added.{AreAllAdded}
 use Rattle.reference_traces.proofs.Added.{added_more, items_few, labels_many, own_numbers, seen_more}
 use Rattle.reference_traces.proofs.additions.Additions.add.Goals as goal
 
@@ -46,7 +46,7 @@ returns-clause-added c =
     let after : Accepted = record { events = c.append.new.self; size = under.size; stream = under.stream } in
     let appended : c.append.new.self.items ≡ under.events.items ++ more = search rules in
     let grown : IsGrown r c.push.new.self c.args.label (stamps_of more) = subst (λ (l : List Event). IsGrown r c.push.new.self c.args.label (stamps_of l)) c.deref-3.ensures.value c.in_ok-_first.ensures.grown in
-    subst (λ (l : List SeenItem). AreAdded c.push.new.self l (seen_in (slice_set accepted c.args.label after))) (sym c.in_ok-change.ensures.ok)
+    subst (λ (l : List SeenItem). AreAllAdded c.push.new.self l (seen_in (slice_set accepted c.args.label after))) (sym c.in_ok-change.ensures.ok)
     (added_more r c.decl.ensures.lawful c.args.self.now.matcher accepted c.requires more c.len-first.result (seen_items c.deref-2.result.now) c.len-first.ensures.count found c.push.new.self c.args.label under after inside
     c.index_mut.ensures.value grown appended)
 

@@ -3,6 +3,7 @@ use Rattle.std.specs.List.{range_with_len}
 use Rattle.std.proofs.lemmas.List.{length-map}
 use Rattle.std.proofs.lemmas.List.FromFn.{length-range_with_len}
 use Rattle.std.proofs.lemmas.Option.{slice_get_within, slice_get_read, get_or_from_slice_get}
+use Rattle.problem_model.specs.Limits.{most_events}
 use Rattle.decl.specs.Declaration.{declaration_of}
 use Rattle.traces.specs.declared.event.Event.{Event}
 use Rattle.roster.specs.Groups.{total, sizes_of}
@@ -29,7 +30,7 @@ put_both-requires-clause-clock c = slice_get_within c.self.inside.readings c.ind
 
 pub put_both-requires-clause-few_under : goal.put_both-requires-clause-few_under
 put_both-requires-clause-few_under c =
-    let few : length c.self.inside.came.items + length c.args.events.now ≤ 2097152 = subst (λ (r : RosterLists). length r.came + length c.args.events.now ≤ 2097152) (sym c.self.view_is) c.requires.few in
+    let few : length c.self.inside.came.items + length c.args.events.now ≤ most_events = subst (λ (r : RosterLists). length r.came + length c.args.events.now ≤ most_events) (sym c.self.view_is) c.requires.few in
     let numbers : c.deref.result.now ≡ range_with_len c.len-first.result (length c.args.events.now) = c.deref.ensures.value ∙ c.in_ok-numbers.ensures in
     let long : length c.deref.result.now ≡ length c.args.events.now = ap length numbers ∙ length-range_with_len c.len-first.result (length c.args.events.now) in
     let count : total (sizes_of c.self.inside.under) ≡ length c.self.inside.came.items = c.self.invariant.count in
@@ -37,7 +38,7 @@ put_both-requires-clause-few_under c =
 
 pub put_both-requires-clause-few_readings : goal.put_both-requires-clause-few_readings
 put_both-requires-clause-few_readings c =
-    let few : length c.self.inside.came.items + length c.args.events.now ≤ 2097152 = subst (λ (r : RosterLists). length r.came + length c.args.events.now ≤ 2097152) (sym c.self.view_is) c.requires.few in
+    let few : length c.self.inside.came.items + length c.args.events.now ≤ most_events = subst (λ (r : RosterLists). length r.came + length c.args.events.now ≤ most_events) (sym c.self.view_is) c.requires.few in
     let part : total (sizes_of c.self.inside.readings) + length c.group.result.now ≤ length c.self.inside.came.items + length c.self.inside.came.items =
     clock_few _ c.self.invariant c.index.result.now.clock c.group.result.now c.group.ensures in
     let tail : length c.in_ok-change.change.tail.items ≤ length c.group.result.now + length c.args.events.now = c.in_ok-change.ensures.few in
@@ -46,21 +47,21 @@ put_both-requires-clause-few_readings c =
 pub overflow_cast-before : goal.overflow_cast-before
 overflow_cast-before c =
     let part : length c.group-before.result.now ≤ length c.self.inside.came.items = label_few _ c.self.invariant c.args.label c.group-before.result.now c.group-before.ensures in
-    let few : length c.self.inside.came.items ≤ 2097152 = c.self.invariant.few in
+    let few : length c.self.inside.came.items ≤ most_events = c.self.invariant.few in
     let small : length c.group-before.result.now < 4294967296 = omega (arith, part, few) in
     search rules
 
 pub overflow_add-before : goal.overflow_add-before
 overflow_add-before c =
     let part : length c.group-before.result.now ≤ length c.self.inside.came.items = label_few _ c.self.invariant c.args.label c.group-before.result.now c.group-before.ensures in
-    let few : length c.self.inside.came.items ≤ 2097152 = c.self.invariant.few in
+    let few : length c.self.inside.came.items ≤ most_events = c.self.invariant.few in
     let small : length c.group-before.result.now + 1 < 4294967296 = omega (arith, part, few) in
     search rules
 
 pub append_came-requires-clause-few : goal.append_came-requires-clause-few
 append_came-requires-clause-few c =
     let part : length c.group-before.result.now ≤ length c.self.inside.came.items = label_few _ c.self.invariant c.args.label c.group-before.result.now c.group-before.ensures in
-    let few : length c.self.inside.came.items + length c.args.events.now ≤ 2097152 = subst (λ (r : RosterLists). length r.came + length c.args.events.now ≤ 2097152) (sym c.self.view_is) c.requires.few in
+    let few : length c.self.inside.came.items + length c.args.events.now ≤ most_events = subst (λ (r : RosterLists). length r.came + length c.args.events.now ≤ most_events) (sym c.self.view_is) c.requires.few in
     omega (arith, part, few)
 
 pub invariant_of-self-2 : goal.invariant_of-self-2
@@ -68,7 +69,7 @@ invariant_of-self-2 c =
     let d = declaration_of c.self.inside.decl in
     let asked = subst (λ (r : RosterLists). c.args.label < length r.declaration.labels) (sym c.self.view_is) c.requires.label in
     let l = slice_get_read d.labels (length d.labels) c.args.label c.index.result.now refl asked c.index.ensures in
-    let few : length c.self.inside.came.items + length c.args.events.now ≤ 2097152 = subst (λ (r : RosterLists). length r.came + length c.args.events.now ≤ 2097152) (sym c.self.view_is) c.requires.few in
+    let few : length c.self.inside.came.items + length c.args.events.now ≤ most_events = subst (λ (r : RosterLists). length r.came + length c.args.events.now ≤ most_events) (sym c.self.view_is) c.requires.few in
     let many : length (stamps_of c.args.events.now) ≡ length c.args.events.now = length-map c.args.events.now (λ (e : Event). e.stamp) in
     let first : c.len-first.result ≡ length c.self.inside.came.items = search rules in
     let numbers : c.deref.result.now ≡ range_with_len (length c.self.inside.came.items) (length (stamps_of c.args.events.now)) =
@@ -84,7 +85,7 @@ returns-clause-grown c =
     let d = declaration_of c.self.inside.decl in
     let asked = subst (λ (r : RosterLists). c.args.label < length r.declaration.labels) (sym c.self.view_is) c.requires.label in
     let l = slice_get_read d.labels (length d.labels) c.args.label c.index.result.now refl asked c.index.ensures in
-    let few : length c.self.inside.came.items + length c.args.events.now ≤ 2097152 = subst (λ (r : RosterLists). length r.came + length c.args.events.now ≤ 2097152) (sym c.self.view_is) c.requires.few in
+    let few : length c.self.inside.came.items + length c.args.events.now ≤ most_events = subst (λ (r : RosterLists). length r.came + length c.args.events.now ≤ most_events) (sym c.self.view_is) c.requires.few in
     let many : length (stamps_of c.args.events.now) ≡ length c.args.events.now = length-map c.args.events.now (λ (e : Event). e.stamp) in
     let first : c.len-first.result ≡ length c.self.inside.came.items = search rules in
     let numbers : c.deref.result.now ≡ range_with_len (length c.self.inside.came.items) (length (stamps_of c.args.events.now)) =

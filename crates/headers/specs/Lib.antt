@@ -1,0 +1,12 @@
+pub mod Bytes
+pub mod Checks
+pub mod Layers
+pub mod Frame
+pub mod Ipv4
+pub mod Ipv6
+pub mod Options
+pub mod Transport
+pub mod Packet
+pub mod Keys
+pub mod Decoding
+pub mod Inside

@@ -1,3 +1,0 @@
-pub mod Checking
-pub mod Fragments
-pub mod Layers
