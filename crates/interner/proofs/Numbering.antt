@@ -11,7 +11,7 @@ use Rattle.std.proofs.lemmas.List.Sums.{sum_by-cons}
 use Rattle.std.proofs.lemmas.Map.Entries.{place_from_lookup, lookup_from_place, sum_by-insert_entry, sum_by-remove_entry}
 use Rattle.std.proofs.lemmas.Map.Keys.{IsDistinct-from_sorted}
 use Rattle.std.proofs.lemmas.Option.{slice_get_past}
-use Rattle.interner.specs.Numbers.{value_at, by_number, AreNumbered, IsLast}
+use Rattle.interner.specs.Numbers.{value_at, by_number, HaveNumbers, IsLast}
 use Rattle.interner.proofs.Positions.{IsFirstAt, position_is, position_none}
 
 same_some : {X : Type 0} (a b : X) → Some a ≡ Some b → a ≡ b
@@ -94,7 +94,7 @@ module _ {T : Type 0} where
       ap (λ o. length (cons_option o (filter_map f (range_with_len (a + 1) n)))) here
       ∙ ap suc (length-drawn f (a + 1) n (λ k within. let s = some (suc k) (omega (arith, within)) in (s.0, ap f (omega arith) ∙ s.1)))
 
-  module _ (es : List (T × ℕ)) (are : AreNumbered es) where
+  module _ (es : List (T × ℕ)) (are : HaveNumbers es) where
     once : (k : ℕ) → count es k ≤ 1
     once k = let a = are k in grind (arith, tests, a)
 
@@ -118,7 +118,7 @@ module _ {T : Type 0} where
     ]
 
   -- ---- a value is found by its place
-  module _ (E : T → T → Bool) (R : T → T → Ordering) (o : IsTotalOrder R) (ties : (x y : T) → E x y ≡ is_eq (R x y)) (m : BTreeMap T ℕ) (are : AreNumbered m.entries) (ordered : IsOrdered R m) (q : T) where
+  module _ (E : T → T → Bool) (R : T → T → Ordering) (o : IsTotalOrder R) (ties : (x y : T) → E x y ≡ is_eq (R x y)) (m : BTreeMap T ℕ) (are : HaveNumbers m.entries) (ordered : IsOrdered R m) (q : T) where
     found_by : (j : ℕ) (z : T) → slice_get (by_number m.entries) j ≡ Some z → E q z ≡ true → get_by (R q) m ≡ Some j
     found_by j z there same =
         let entry = entry_at m.entries j z (sym (listed m.entries are j) ∙ there) in
@@ -166,7 +166,7 @@ module _ {T : Type 0} where
         | inr f ↦ (let rest = later none (subst (λ b. cond b (Some e.0) (value_at es n) ≡ None) f free) k in grind (arith, tests, f, rest))
       ]
 
-  module _ (E : T → T → Bool) (R : T → T → Ordering) (o : IsTotalOrder R) (ties : (x y : T) → E x y ≡ is_eq (R x y)) (m m' : BTreeMap T ℕ) (are : AreNumbered m.entries) (ordered : IsOrdered R m) (v : T)
+  module _ (E : T → T → Bool) (R : T → T → Ordering) (o : IsTotalOrder R) (ties : (x y : T) → E x y ≡ is_eq (R x y)) (m m' : BTreeMap T ℕ) (are : HaveNumbers m.entries) (ordered : IsOrdered R m) (v : T)
       (new : position (E v) (by_number m.entries) ≡ None)
       (number : ℕ)
       (end : number ≡ length m.entries)
@@ -189,7 +189,7 @@ module _ {T : Type 0} where
           let none : unwrap_or (option_map weight (get_by (R v) m)) 0 ≡ 0 = ap (λ w. unwrap_or (option_map weight w) 0) absent in
           ap (λ es. count es k) put ∙ omega (arith, sum, none)
 
-      pub more_numbered : AreNumbered m'.entries
+      pub more_numbered : HaveNumbers m'.entries
       more_numbered k = let sum = count_more k in let old = are k in grind (arith, tests, sum, old, by_one)
 
       pub one_more : by_number m'.entries ≡ by_number m.entries ++ v ∷ []
@@ -224,7 +224,7 @@ module _ {T : Type 0} where
           let rest = later found (omega (arith, c, single)) k in
           grind (arith, tests, other, rest)
 
-  module _ (E : T → T → Bool) (R : T → T → Ordering) (o : IsTotalOrder R) (ties : (x y : T) → E x y ≡ is_eq (R x y)) (m m' : BTreeMap T ℕ) (are : AreNumbered m.entries) (ordered : IsOrdered R m) (q : T)
+  module _ (E : T → T → Bool) (R : T → T → Ordering) (o : IsTotalOrder R) (ties : (x y : T) → E x y ≡ is_eq (R x y)) (m m' : BTreeMap T ℕ) (are : HaveNumbers m.entries) (ordered : IsOrdered R m) (q : T)
       (last : IsLast (E q) (by_number m.entries))
       (is : m'.entries ≡ remove_entry (is_at (R q)) m.entries)
       (shorter : length m'.entries + cond (is_some (get_by (R q) m)) 1 0 ≡ length m.entries)
@@ -249,7 +249,7 @@ module _ {T : Type 0} where
           let less : count m'.entries k ≡ count (remove_entry (is_at (R q)) m.entries) k = ap (λ es. count es k) is in
           omega (arith, sum, one, less)
 
-      pub less_numbered : AreNumbered m'.entries
+      pub less_numbered : HaveNumbers m'.entries
       less_numbered k = let sum = count_less k in let old = are k in grind (arith, tests, sum, old, as_long, one_longer)
 
       but_last : (k : ℕ) → slice_get (by_number m'.entries) k ≡ cond (nat_eq k (length last.0)) None (slice_get (by_number m.entries) k)

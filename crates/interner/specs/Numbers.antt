@@ -13,8 +13,8 @@ abbrev pub by_number : {T : Type 0} → List (T × ℕ) → List T
 by_number es = filter_map (value_at es) (range_with_len 0 (length es))
 
 -- the numbers are those below their count, each once
-abbrev pub AreNumbered : {T : Type 0} → List (T × ℕ) → Type 0
-AreNumbered es = (k : ℕ) → count_by (nat_eq k) (values_of es) ≡ (if nat_lt k (length es) then 1 else 0)
+abbrev pub HaveNumbers : {T : Type 0} → List (T × ℕ) → Type 0
+HaveNumbers es = (k : ℕ) → count_by (nat_eq k) (values_of es) ≡ (if nat_lt k (length es) then 1 else 0)
 
 -- the last value passes the test
 abbrev pub IsLast : {T : Type 0} → (T → Bool) → List T → Type 0

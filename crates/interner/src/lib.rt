@@ -20,13 +20,13 @@ pub struct Places<T: Ord> {
 impl<T: Ord> Model for Places<T> {
     ghost use Rattle.std.specs.Prelude.{List};
     ghost use Rattle.std.specs.BTreeMap.{IsOrdered};
-    ghost use Rattle.interner.specs.Numbers.{by_number, AreNumbered};
+    ghost use Rattle.interner.specs.Numbers.{by_number, HaveNumbers};
 
     ghost Value = { List T };
 
     ghost view = { λ p. by_number p.numbers.entries };
 
-    ghost invariant = { λ p. AreNumbered p.numbers.entries × IsOrdered T.cmp p.numbers };
+    ghost invariant = { λ p. HaveNumbers p.numbers.entries × IsOrdered T.cmp p.numbers };
 }
 
 impl<T: Ord + Drop> Places<T> {

@@ -14,7 +14,7 @@ use Rattle.intervals.specs.declared.ends.Ends.{Ends}
 use Rattle.intervals.specs.declared.order.Order.TheVariants.{Before, After, Same, Undecided}
 use Rattle.intervals.specs.Ends.{IsSmall, FitsPair, ends_of, shifted}
 use Rattle.intervals.specs.Orders.{IsInterval, IsOrder}
-use Rattle.intervals.specs.Executions.{IsPairOf, difference, time_by, IsGreatestEnd, IsLeastEnd, AreEndsOf, IsOrderOf}
+use Rattle.intervals.specs.Executions.{IsPairOf, time_difference, time_by, IsGreatestEnd, IsLeastEnd, AreEndsOf, IsOrderOf}
 use Rattle.intervals.proofs.Times.{ends_are}
 use Rattle.intervals.proofs.NodeOrders.{orders}
 
@@ -83,7 +83,7 @@ free_pair = record {
   back = λ h. (at_two (h +ℤ pos 1) (pos 0), all_execute (at_two (h +ℤ pos 1) (pos 0)), omega (arith, ints));
 }
 
-free_ends : AreEndsOf empty_problem (difference (nodes.Event 0) (nodes.Event 1)) (record { least = Unbounded; greatest = Unbounded })
+free_ends : AreEndsOf empty_problem (time_difference (nodes.Event 0) (nodes.Event 1)) (record { least = Unbounded; greatest = Unbounded })
 free_ends = ends_are empty_problem (nodes.Event 0) (nodes.Event 1) free free_pair
 
 free_undecided : IsOrderOf empty_problem (nodes.Event 0) (nodes.Event 1) Undecided
@@ -110,13 +110,13 @@ own_same = λ x e. refl
 own_not_before : IsOrderOf empty_problem (nodes.Event 0) (nodes.Event 0) Before → ⊥
 own_not_before b = let l : pos 0 <ℤ pos 0 = b (λ n. pos 0) (all_execute (λ n. pos 0)) in absurd (omega (arith, ints, l))
 
-own_ends : AreEndsOf empty_problem (difference (nodes.Event 0) (nodes.Event 0)) (record { least = At (pos 0); greatest = At (pos 0) })
+own_ends : AreEndsOf empty_problem (time_difference (nodes.Event 0) (nodes.Event 0)) (record { least = At (pos 0); greatest = At (pos 0) })
 own_ends = ends_are empty_problem (nodes.Event 0) (nodes.Event 0) none own_pair
 
-own_not_unbounded : IsGreatestEnd empty_problem (difference (nodes.Event 0) (nodes.Event 0)) Unbounded → ⊥
+own_not_unbounded : IsGreatestEnd empty_problem (time_difference (nodes.Event 0) (nodes.Event 0)) Unbounded → ⊥
 own_not_unbounded past = let found = (past (pos 0)).2 in absurd (omega (arith, ints, found))
 
-own_not_below : IsLeastEnd empty_problem (difference (nodes.Event 0) (nodes.Event 0)) (At (neg_ℤ (pos 1))) → ⊥
+own_not_below : IsLeastEnd empty_problem (time_difference (nodes.Event 0) (nodes.Event 0)) (At (neg_ℤ (pos 1))) → ⊥
 own_not_below is = let found = is.attained.2 in absurd (omega (arith, ints, found))
 
 -- an event with its reading of 3 ns

@@ -11,7 +11,7 @@ use Rattle.intervals.specs.declared.order.Order.{Order}
 use Rattle.intervals.specs.declared.order.Order.TheVariants.{Before, After, Same, Undecided}
 use Rattle.intervals.specs.Ends.{greatest_end, least_end, ends_of}
 use Rattle.intervals.specs.Orders.{IsAbove, IsBelow, IsZero, IsOrder}
-use Rattle.intervals.specs.Executions.{IsReachOf, IsPairOf, ComesBefore, ComeTogether, IsOrderOf}
+use Rattle.intervals.specs.Executions.{IsReachOf, IsPairOf, AlwaysComesBefore, ComeTogether, IsOrderOf}
 use Rattle.intervals.proofs.Orders.{one_order}
 use Rattle.intervals.proofs.Times.{are_interval}
 
@@ -47,7 +47,7 @@ turned_same : (a b : ℤ) → a ≡ b → b ≡ a
 turned_same a b same = omega (arith, ints)
 
 -- ---- each order
-before : (p : ProblemLists) (from to : Node) (down : Reach) → IsReachOf p to from down → IsAbove (least_end down) ↔ ComesBefore p from to
+before : (p : ProblemLists) (from to : Node) (down : Reach) → IsReachOf p to from down → IsAbove (least_end down) ↔ AlwaysComesBefore p from to
 before p from to (reaches.At h) is = (
   λ above x e. less (x from) (x to) h (is.most x e) (turned_down h above),
   λ b. turned_up h (falls (is.attained.0 from) (is.attained.0 to) h is.attained.2 (b is.attained.0 is.attained.1)),
@@ -57,7 +57,7 @@ before p from to reaches.Never past = (
   λ b. not_less ((past (pos 0)).0 from) ((past (pos 0)).0 to) (past (pos 0)).2 (b (past (pos 0)).0 (past (pos 0)).1),
 )
 
-after : (p : ProblemLists) (from to : Node) (up : Reach) → IsReachOf p from to up → IsBelow (greatest_end up) ↔ ComesBefore p to from
+after : (p : ProblemLists) (from to : Node) (up : Reach) → IsReachOf p from to up → IsBelow (greatest_end up) ↔ AlwaysComesBefore p to from
 after p from to (reaches.At h) is = (
   λ below x e. less (x to) (x from) h (is.most x e) below,
   λ b. falls (is.attained.0 to) (is.attained.0 from) h is.attained.2 (b is.attained.0 is.attained.1),
@@ -96,8 +96,8 @@ orders p from to pair is Before = before p from to pair.down is.back
 orders p from to pair is After = after p from to pair.up is.there
 orders p from to pair is Same = same p from to pair.up pair.down is.there is.back
 orders p from to pair is Undecided =
-    let b : IsAbove (least_end pair.down) ↔ ComesBefore p from to = before p from to pair.down is.back in
-    let a : IsBelow (greatest_end pair.up) ↔ ComesBefore p to from = after p from to pair.up is.there in
+    let b : IsAbove (least_end pair.down) ↔ AlwaysComesBefore p from to = before p from to pair.down is.back in
+    let a : IsBelow (greatest_end pair.up) ↔ AlwaysComesBefore p to from = after p from to pair.up is.there in
     let s : (IsZero (least_end pair.down) × IsZero (greatest_end pair.up)) ↔ ComeTogether p from to = same p from to pair.up pair.down is.there is.back in (
       λ u. ((λ x. u.0 (b.1 x)), (λ x. u.1 (a.1 x)), (λ x. u.2 (s.1 x))),
       λ u. ((λ x. u.0 (b.0 x)), (λ x. u.1 (a.0 x)), (λ x. u.2 (s.0 x))),

@@ -14,7 +14,7 @@ use Rattle.intervals.specs.declared.ends.End.TheVariants.{At, Unbounded}
 use Rattle.intervals.specs.declared.ends.Ends.{Ends}
 use Rattle.intervals.specs.Ends.{greatest_end, least_end, ends_of, shifted_end, shifted}
 use Rattle.intervals.specs.Orders.{AreInOrder, IsInterval}
-use Rattle.intervals.specs.Executions.{IsReachOf, IsPairOf, difference, time_by, RisesPast, FallsPast, IsGreatestEnd, IsLeastEnd, AreEndsOf}
+use Rattle.intervals.specs.Executions.{IsReachOf, IsPairOf, time_difference, time_by, RisesPast, FallsPast, IsGreatestEnd, IsLeastEnd, AreEndsOf}
 
 -- ---- sums and signs
 turned_is : (a b h : ℤ) → b -ℤ a ≡ h → a -ℤ b ≡ neg_ℤ h
@@ -48,11 +48,11 @@ not_past : (v h : ℤ) → h <ℤ v → v ≤ℤ h → ⊥
 not_past v h lt le = omega (arith, ints)
 
 -- ---- differences
-greatest_is : (p : ProblemLists) (from to : Node) (r : Reach) → IsReachOf p from to r → IsGreatestEnd p (difference from to) (greatest_end r)
+greatest_is : (p : ProblemLists) (from to : Node) (r : Reach) → IsReachOf p from to r → IsGreatestEnd p (time_difference from to) (greatest_end r)
 greatest_is p from to (reaches.At h) is = record { attained = is.attained; most = is.most }
 greatest_is p from to reaches.Never past = past
 
-least_is : (p : ProblemLists) (from to : Node) (r : Reach) → IsReachOf p to from r → IsLeastEnd p (difference from to) (least_end r)
+least_is : (p : ProblemLists) (from to : Node) (r : Reach) → IsReachOf p to from r → IsLeastEnd p (time_difference from to) (least_end r)
 least_is p from to (reaches.At h) is = record {
   attained = (is.attained.0, is.attained.1, turned_is (is.attained.0 to) (is.attained.0 from) h is.attained.2);
   least = λ x e. turned_le (x to) (x from) h (is.most x e);
@@ -63,7 +63,7 @@ least_is p from to reaches.Never past = λ h. (
   turned_lt ((past (neg_ℤ h)).0 to) ((past (neg_ℤ h)).0 from) h (past (neg_ℤ h)).2,
 )
 
-pub ends_are : (p : ProblemLists) (from to : Node) (pair : Pair) → IsPairOf p from to pair → AreEndsOf p (difference from to) (ends_of pair)
+pub ends_are : (p : ProblemLists) (from to : Node) (pair : Pair) → IsPairOf p from to pair → AreEndsOf p (time_difference from to) (ends_of pair)
 ends_are p from to pair is = record {
   below = least_is p from to pair.down is.back;
   above = greatest_is p from to pair.up is.there;
@@ -129,4 +129,4 @@ pub source_ends : (p : ProblemLists) (clock stamp : ℕ) (node : Node) (pair : P
     → IsPairOf p (Reading clock stamp) node pair
     → AreEndsOf p (time_by clock stamp node) (shifted (pos (stamp * 1000000000)) (ends_of pair))
 source_ends p clock stamp node pair is =
-    later_ends p (difference (Reading clock stamp) node) (pos (stamp * 1000000000)) (ends_of pair) (ends_are p (Reading clock stamp) node pair is)
+    later_ends p (time_difference (Reading clock stamp) node) (pos (stamp * 1000000000)) (ends_of pair) (ends_are p (Reading clock stamp) node pair is)

@@ -25,12 +25,12 @@ pub record IsPairOf (p : ProblemLists) (from to : Node) (pair : Pair) : Type 0 w
   pub back : IsReachOf p to from pair.down
 
 -- how much later the second node is than the first
-abbrev pub difference : Node → Node → Times → ℤ
-difference from to x = x to -ℤ x from
+abbrev pub time_difference : Node → Node → Times → ℤ
+time_difference from to x = x to -ℤ x from
 
 -- the time at a node by the clock's reading of this stamp: the stamp, in units, and the real time from the reading to the node
 abbrev pub time_by : ℕ → ℕ → Node → Times → ℤ
-time_by clock stamp node x = pos (stamp * 1000000000) +ℤ difference (Reading clock stamp) node x
+time_by clock stamp node x = pos (stamp * 1000000000) +ℤ time_difference (Reading clock stamp) node x
 
 -- a time has the value h in some execution, and no more in any
 pub record IsGreatestTime (p : ProblemLists) (time : Times → ℤ) (h : ℤ) : Type 0 where
@@ -66,8 +66,8 @@ pub record AreEndsOf (p : ProblemLists) (time : Times → ℤ) (e : Ends) : Type
   pub above : IsGreatestEnd p time e.greatest
 
 -- the first node comes before the second in every execution
-abbrev pub ComesBefore : ProblemLists → Node → Node → Type 0
-ComesBefore p from to = (x : Times) → IsExecution p x → x from <ℤ x to
+abbrev pub AlwaysComesBefore : ProblemLists → Node → Node → Type 0
+AlwaysComesBefore p from to = (x : Times) → IsExecution p x → x from <ℤ x to
 
 -- both nodes come at the same time in every execution
 abbrev pub ComeTogether : ProblemLists → Node → Node → Type 0
@@ -75,7 +75,7 @@ ComeTogether p from to = (x : Times) → IsExecution p x → x from ≡ x to
 
 -- the order of two nodes in every execution; not decided where none of the three is so in every one
 abbrev pub IsOrderOf : ProblemLists → Node → Node → Order → Type 0
-IsOrderOf p from to Before = ComesBefore p from to
-IsOrderOf p from to After = ComesBefore p to from
+IsOrderOf p from to Before = AlwaysComesBefore p from to
+IsOrderOf p from to After = AlwaysComesBefore p to from
 IsOrderOf p from to Same = ComeTogether p from to
-IsOrderOf p from to Undecided = (ComesBefore p from to → ⊥) × (ComesBefore p to from → ⊥) × (ComeTogether p from to → ⊥)
+IsOrderOf p from to Undecided = (AlwaysComesBefore p from to → ⊥) × (AlwaysComesBefore p to from → ⊥) × (ComeTogether p from to → ⊥)

@@ -12,12 +12,12 @@ ghost use Rattle.intervals.specs.declared.ends.Ends.{Ends};
 ghost use Rattle.intervals.specs.declared.order.Order.{Order};
 ghost use Rattle.intervals.specs.Ends.{ends_of, shifted};
 ghost use Rattle.intervals.specs.Orders.{IsInterval, IsOrder};
-ghost use Rattle.intervals.specs.Executions.{IsPairOf, difference, time_by, RisesPast, FallsPast, IsGreatestEnd, IsLeastEnd, AreEndsOf, IsOrderOf};
+ghost use Rattle.intervals.specs.Executions.{IsPairOf, time_difference, time_by, RisesPast, FallsPast, IsGreatestEnd, IsLeastEnd, AreEndsOf, IsOrderOf};
 
 /// The ends of a pair are the least and the greatest difference over all executions. A time has one end above and one
 /// below, which is unbounded exactly where executions pass every number on this side.
 pub fn intervals()
-    ensures ends { (p : ProblemLists) (from to : Node) (pair : Pair) → IsPairOf p from to pair → AreEndsOf p (difference from to) (ends_of pair) }
+    ensures ends { (p : ProblemLists) (from to : Node) (pair : Pair) → IsPairOf p from to pair → AreEndsOf p (time_difference from to) (ends_of pair) }
     ensures interval { (p : ProblemLists) (from to : Node) (pair : Pair) → IsPairOf p from to pair → IsInterval (ends_of pair) }
     ensures one_greatest { (p : ProblemLists) (time : Times → ℤ) (a b : End) → IsGreatestEnd p time a → IsGreatestEnd p time b → a ≡ b }
     ensures one_least { (p : ProblemLists) (time : Times → ℤ) (a b : End) → IsLeastEnd p time a → IsLeastEnd p time b → a ≡ b }

@@ -3,7 +3,7 @@ use Rattle.std.proofs.Common.{◌≡◌, ◌≢◌, ◌≤◌, ◌+◌, ℕ, Lis
 use Rattle.std.proofs.lemmas.List.{append-nil}
 use Rattle.line_format.specs.Words.{words}
 use Rattle.line_format.specs.Cut.{cut, Lacks}
-use Rattle.line_format.specs.Format.{Format, Begins, FaultBehind, FaultIn, Answers, Takes, head_line, whole_text, end_line, most_bytes}
+use Rattle.line_format.specs.Format.{Format, Begins, FaultBehind, FaultIn, Answers, Takes, head_line, whole_text, end_line, most_text_bytes}
 use Rattle.line_format.specs.Format.Front.{Nothing, Open, Closed}
 use Rattle.line_format.specs.Format.Answer.{Found, Faulty}
 use Rattle.line_format.specs.declared.fault.FaultKind.{FaultKind}
@@ -27,7 +27,7 @@ module _ {State Line : Type 0} (f : Format State Line) (lacks : (line : Line) �
     pub is : text ≡ f.text_of s ++ rest
     pub number : n ≡ f.lines_of s + 1
     pub sound : f.IsSound s
-    pub short : length text ≤ most_bytes
+    pub short : length text ≤ most_text_bytes
 
   front_line : (s : State) (rest : List ℕ) (line : Line) → Begins f s rest line → (more : List ℕ) × (cut 10 rest ≡ Some (words (f.line_words line), more))
   front_line s rest line begins = (
@@ -97,11 +97,11 @@ module _ {State Line : Type 0} (f : Format State Line) (lacks : (line : Line) �
   }
 
   -- a text with no head
-  pub head_answers : (text : List ℕ) → length text ≤ most_bytes → ((more : List ℕ) → text ≡ head_line f ++ more → ⊥) → Answers f text (Faulty kinds.Syntax 1)
+  pub head_answers : (text : List ℕ) → length text ≤ most_text_bytes → ((more : List ℕ) → text ≡ head_line f ++ more → ⊥) → Answers f text (Faulty kinds.Syntax 1)
   head_answers text short none = (short, record { front = Nothing; sound = tt; rest = text; is = refl; number = refl; fault = (refl, none) })
 
   -- a text with a head, before its first line
-  pub stands_first : (text rest : List ℕ) (start : State) → length text ≤ most_bytes → text ≡ head_line f ++ rest → f.text_of start ≡ head_line f → f.lines_of start ≡ 1 → f.IsSound start → Stands text rest start 2
+  pub stands_first : (text rest : List ℕ) (start : State) → length text ≤ most_text_bytes → text ≡ head_line f ++ rest → f.text_of start ≡ head_line f → f.lines_of start ≡ 1 → f.IsSound start → Stands text rest start 2
   stands_first text rest start short is head lines sound = record {
     is = is ∙ ap (λ (h : List ℕ). h ++ rest) (sym head);
     number = omega (arith, lines);

@@ -8,8 +8,8 @@ use Rattle.ports.specs.declared.line.LineFault.{LineFault}
 use Rattle.ports.specs.declared.line.LineFault.TheVariants.{Read, Limit}
 use Rattle.ports.specs.declared.reader.Piece.TheVariants.{Whole, Part}
 use Rattle.ports.specs.Lines.{NoFeed, most_taken}
-use Rattle.ports.specs.Reader.{Reader, Came, IsFirst, Gives, IsNext, Answers, NeedsNoRead, is_final, room}
-use Rattle.ports.specs.Block.{IsKept, IsTold, TakesPiece, Refills, EndsLine}
+use Rattle.ports.specs.Reader.{Reader, Came, IsFirstLine, GivesLine, IsNextLine, AnswersOneLine, NeedsNoRead, is_final, room}
+use Rattle.ports.specs.Block.{IsKeptFront, IsTold, TakesPiece, Refills, EndsLine}
 use Rattle.ports.proofs.Feeds.{none_append, none_front, none_contained}
 use Rattle.ports.proofs.Pieces.{nothing_came, came_more, none_later}
 
@@ -19,7 +19,7 @@ pub record IsGoing (old now : Reader) (begun before : SourceTold) (line : List �
   pub bytes : List ℕ
   pub parts : old.held ++ bytes ≡ front ++ now.held
   pub no_feed : NoFeed front
-  pub kept : IsKept front line long
+  pub kept : IsKeptFront front line long
   pub came : Came begun before bytes
   pub counted : now.taken ≡ old.taken + length bytes
   pub within : now.taken ≤ most_taken
@@ -30,7 +30,7 @@ pub record IsGoing (old now : Reader) (begun before : SourceTold) (line : List �
 
 -- what each clause says of the reader
 pub record IsAnswered (old new : Reader) (begun after : SourceTold) (line : List ℕ) (result : Result Line LineFault) : Type 0 where
-  pub next : Answers old new begun after line result
+  pub next : AnswersOneLine old new begun after line result
   pub limit : IsErrOf result Limit ↔ (most_taken < new.taken)
   pub over : new.over ≡ is_final result
   pub progress : IfOk result (λ found. (found ≡ End) ⊎ (room new < room old))
@@ -64,8 +64,8 @@ pub none_held : (old now mid : Reader) (begun before : SourceTold) (line line' :
 none_held old now mid begun before line line' long long' going part =
     none_front old.held going.bytes (rw going.parts (none_append going.front now.held going.no_feed part.0))
 
-told_next : (old new : Reader) (begun after : SourceTold) (came whole line : List ℕ) (found : Line) → IsTold whole line found → Gives old new begun after came whole →
-    IsNext old new begun after came line (Ok found)
+told_next : (old new : Reader) (begun after : SourceTold) (came whole line : List ℕ) (found : Line) → IsTold whole line found → GivesLine old new begun after came whole →
+    IsNextLine old new begun after came line (Ok found)
 told_next old new begun after came whole line Text told gives = (rw told.0 told.1, rw told.0 gives)
 told_next old new begun after came whole line TooLong told gives = (whole, told, gives)
 told_next old new begun after came whole line End told gives = absurd told
@@ -75,11 +75,11 @@ told_final whole line Text told = refl
 told_final whole line TooLong told = refl
 told_final whole line End told = absurd told
 
-first_whole : (all line rest : List ℕ) (ended : Bool) → ended ≡ false → NoFeed line → all ≡ line ++ 10 ∷ rest → IsFirst all line rest ended
+first_whole : (all line rest : List ℕ) (ended : Bool) → ended ≡ false → NoFeed line → all ≡ line ++ 10 ∷ rest → IsFirstLine all line rest ended
 first_whole all line rest true is none cut = absurd cc
 first_whole all line rest false is none cut = (none, cut)
 
-first_last : (all line rest : List ℕ) (ended : Bool) → ended ≡ true → NoFeed line → 0 < length line → all ≡ line → rest ≡ [] → IsFirst all line rest ended
+first_last : (all line rest : List ℕ) (ended : Bool) → ended ≡ true → NoFeed line → 0 < length line → all ≡ line → rest ≡ [] → IsFirstLine all line rest ended
 first_last all line rest true is none some cut no_rest = (none, some, cut, no_rest)
 first_last all line rest false is none some cut no_rest = absurd cc
 
@@ -108,7 +108,7 @@ whole_answered old now new begun before line line' long found going takes same =
     let ended : new.ended ≡ false = ap (λ (r : Reader). r.ended) same ∙ going.going in
     let counted : new.taken ≡ old.taken + length going.bytes = taken ∙ going.counted in
     let within : new.taken ≤ most_taken = rw taken going.within in
-    let gives : Gives old new begun before going.bytes (going.front ++ takes.0) = record {
+    let gives : GivesLine old new begun before going.bytes (going.front ++ takes.0) = record {
       going = going.began;
       first = first_whole _ _ new.held new.ended ended (none_append going.front takes.0 going.no_feed takes.1) all;
       last = λ is. absurd (let e : true ≡ false = sym is ∙ ended in cc);
@@ -136,7 +136,7 @@ pub record IsBehind (old now : Reader) (begun before : SourceTold) (front line :
   pub bytes : List ℕ
   pub parts : old.held ++ bytes ≡ front
   pub no_feed : NoFeed front
-  pub kept : IsKept front line long
+  pub kept : IsKeptFront front line long
   pub none : now.held ≡ []
   pub came : Came begun before bytes
   pub counted : now.taken ≡ old.taken + length bytes
@@ -178,7 +178,7 @@ last_answered old mid new begun before after front line long found behind none s
     let counted : new.taken ≡ old.taken + length behind.bytes = taken ∙ behind.counted in
     let within : new.taken ≤ most_taken = rw taken behind.within in
     let sum : length old.held + length behind.bytes ≡ length front = sym (length-append old.held behind.bytes) ∙ ap length behind.parts in
-    let gives : Gives old new begun after behind.bytes front = record {
+    let gives : GivesLine old new begun after behind.bytes front = record {
       going = behind.began;
       first = first_last _ front new.held new.ended (ap (λ (r : Reader). r.ended) is) behind.no_feed some behind.parts held;
       last = λ ended. none_later begun before after behind.bytes behind.came none.read.1;

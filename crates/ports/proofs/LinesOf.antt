@@ -3,7 +3,7 @@ use Rattle.std.proofs.Common.{◌≡◌, ◌≢◌, ℕ, ◌<◌, List, [], ◌�
 use Rattle.std.specs.List.{onto_first}
 use Rattle.ports.specs.Content.{SourceTold}
 use Rattle.ports.specs.Lines.{NoFeed, parts, before_last, with_last, last_line, whole_lines, lines_of}
-use Rattle.ports.specs.Reader.{Reader, IsFirst, Gives}
+use Rattle.ports.specs.Reader.{Reader, IsFirstLine, GivesLine}
 
 not_feed : (x : ℕ) → x ≢ 10 → nat_eq x 10 ≡ false
 not_feed x ne = grind (arith, ne)
@@ -53,7 +53,7 @@ pub only_line : (line : List ℕ) → NoFeed line → 0 < length line → lines_
 only_line line none some = ap with_last (parts_last line none) ∙ last_of line some
 
 -- the same with more bytes behind, where there is a line feed
-pub first_more : (all line rest more : List ℕ) (ended : Bool) → IsFirst all line rest ended → (ended ≡ true → more ≡ []) → IsFirst (all ++ more) line (rest ++ more) ended
+pub first_more : (all line rest more : List ℕ) (ended : Bool) → IsFirstLine all line rest ended → (ended ≡ true → more ≡ []) → IsFirstLine (all ++ more) line (rest ++ more) ended
 first_more all line rest more false first none = (first.0, ap (λ (l : List ℕ). l ++ more) first.1 ∙ append_assoc line (10 ∷ rest) more)
 first_more all line rest more true first none =
     let gone : more ≡ [] = none refl in
@@ -61,6 +61,6 @@ first_more all line rest more true first none =
 
 -- a line that is given is the first of the bytes held, those that came and any more, of which there are none behind a
 -- line with no line feed
-pub gives_first : (old new : Reader) (before after : SourceTold) (came line more : List ℕ) → Gives old new before after came line → (new.ended ≡ true → more ≡ []) →
-    IsFirst (old.held ++ came ++ more) line (new.held ++ more) new.ended
+pub gives_first : (old new : Reader) (before after : SourceTold) (came line more : List ℕ) → GivesLine old new before after came line → (new.ended ≡ true → more ≡ []) →
+    IsFirstLine (old.held ++ came ++ more) line (new.held ++ more) new.ended
 gives_first old new before after came line more gives none = first_more (old.held ++ came) line new.held more new.ended gives.first none

@@ -3,14 +3,14 @@ use Rattle.std.proofs.Common.{◌≡◌, ℕ, zero, suc, ◌+◌, ◌-◌, ◌<�
 use Rattle.std.proofs.lemmas.List.{take-take, drop-drop, length-take-le, length-drop, take_all}
 use Rattle.std.proofs.lemmas.Grind.{common_steps}
 use Rattle.std.specs.Prelude.{IfSome}
-use Rattle.ports.specs.Content.{SourceTold, Takes}
+use Rattle.ports.specs.Content.{SourceTold, TakesBytes}
 use Rattle.ports.specs.declared.line.Line.{Line}
 use Rattle.ports.specs.Lines.{NoFeed}
 use Rattle.ports.specs.Reader.{Came, NoneLeft}
-use Rattle.ports.specs.Block.{IsKept, IsTold, found_as}
+use Rattle.ports.specs.Block.{IsKeptFront, IsTold, found_as}
 use Rattle.ports.proofs.Feeds.{feed_found}
 
-pub told_as : (whole line : List ℕ) (long : Bool) → IsKept whole line long → IsTold whole line (found_as long)
+pub told_as : (whole line : List ℕ) (long : Bool) → IsKeptFront whole line long → IsTold whole line (found_as long)
 told_as whole line true kept = kept
 told_as whole line false kept = kept
 
@@ -40,7 +40,7 @@ range_size block start end le fits = length-take-le (end - start) (drop start bl
 
 -- the bytes held up to a line feed
 pub piece_whole : (block front line : List ℕ) (start end k : ℕ) (long : Bool) (found : Line) → start ≤ end → end ≤ length block →
-    position (λ b. b == 10) (slice_range block start end) ≡ Some k → IsKept (front ++ slice_range block start (start + k)) line long → found ≡ found_as long →
+    position (λ b. b == 10) (slice_range block start end) ≡ Some k → IsKeptFront (front ++ slice_range block start (start + k)) line long → found ≡ found_as long →
     (piece : List ℕ) × NoFeed piece × (slice_range block start end ≡ piece ++ 10 ∷ slice_range block (start + k + 1) end) × IsTold (front ++ piece) line found
 piece_whole block front line start end k long found le fits is kept told =
     let feed = feed_found (slice_range block start end) k is in
@@ -62,14 +62,14 @@ CameOff left after bytes = IfSome left (λ left. (rest : List ℕ) × (left ≡ 
 abbrev NoneOff : Option (List ℕ) → Option (List ℕ) → Type 0
 NoneOff left after = IfSome left (λ left. after ≡ Some [])
 
-in_front : (left after : Option (List ℕ)) (block : List ℕ) (n : ℕ) → Takes left after block n → CameOff left after (take n block)
+in_front : (left after : Option (List ℕ)) (block : List ℕ) (n : ℕ) → TakesBytes left after block n → CameOff left after (take n block)
 in_front None after block n takes = tt
 in_front (Some left) after block n takes = (drop n left, cut, takes.2)
   where
     cut : left ≡ take n block ++ drop n left
     cut = rw takes.1 (grind (arith, common_steps))
 
-no_front : (left after : Option (List ℕ)) (block : List ℕ) → 0 < length block → Takes left after block 0 → NoneOff left after
+no_front : (left after : Option (List ℕ)) (block : List ℕ) → 0 < length block → TakesBytes left after block 0 → NoneOff left after
 no_front None after block some takes = tt
 no_front (Some left) after block some takes = let e = takes.3 refl some in takes.2 ∙ ap Some e
 
@@ -87,9 +87,9 @@ later_off : (left mid after : Option (List ℕ)) (a : List ℕ) → CameOff left
 later_off None mid after a came none = tt
 later_off (Some left) mid after a came none = rw came.2 at none
 
-one_off : (left after : Option (List ℕ)) (block : List ℕ) (n : ℕ) → n ≡ 1 → 0 < length block → Takes left after block n → (another : ℕ) × CameOff left after (another ∷ [])
+one_off : (left after : Option (List ℕ)) (block : List ℕ) (n : ℕ) → n ≡ 1 → 0 < length block → TakesBytes left after block n → (another : ℕ) × CameOff left after (another ∷ [])
 one_off left after [] n one some takes = absurd (omega (arith, some))
-one_off left after (b ∷ bs) n one some takes = (b, let came : Takes left after (b ∷ bs) 1 = rw one at takes in in_front left after (b ∷ bs) 1 came)
+one_off left after (b ∷ bs) n one some takes = (b, let came : TakesBytes left after (b ∷ bs) 1 = rw one at takes in in_front left after (b ∷ bs) 1 came)
 
 end_off : (left after : Option (List ℕ)) (all : List ℕ) → left ≡ Some all → NoneOff left after → after ≡ Some []
 end_off left after all is none = rw is at none
@@ -98,11 +98,11 @@ told_off : (left after : Option (List ℕ)) (all bytes : List ℕ) → left ≡ 
 told_off left after all bytes is came = rw is at came
 
 -- what came into the front of a block
-pub came_in : (before after : SourceTold) (block : List ℕ) (n : ℕ) → Takes before.left after.left block n → Came before after (take n block)
+pub came_in : (before after : SourceTold) (block : List ℕ) (n : ℕ) → TakesBytes before.left after.left block n → Came before after (take n block)
 came_in before after = in_front before.left after.left
 
 -- no byte is the end
-pub none_in : (before after : SourceTold) (block : List ℕ) → 0 < length block → Takes before.left after.left block 0 → NoneLeft before after
+pub none_in : (before after : SourceTold) (block : List ℕ) → 0 < length block → TakesBytes before.left after.left block 0 → NoneLeft before after
 none_in before after = no_front before.left after.left
 
 pub nothing_came : (now : SourceTold) → Came now now []
@@ -115,7 +115,7 @@ pub none_later : (begun before after : SourceTold) (a : List ℕ) → Came begun
 none_later begun before after = later_off begun.left before.left after.left
 
 -- one byte came
-pub one_came : (before after : SourceTold) (block : List ℕ) (n : ℕ) → n ≡ 1 → 0 < length block → Takes before.left after.left block n → (another : ℕ) × Came before after (another ∷ [])
+pub one_came : (before after : SourceTold) (block : List ℕ) (n : ℕ) → n ≡ 1 → 0 < length block → TakesBytes before.left after.left block n → (another : ℕ) × Came before after (another ∷ [])
 one_came before after = one_off before.left after.left
 
 -- the bytes that came off a source that tells what it has left, and the rest

@@ -11,9 +11,9 @@ use Rattle.ports.specs.Lines.{NoFeed, most_line, most_taken}
 use Rattle.ports.specs.Reader.{Reader, Came, NoneLeft}
 
 -- what is kept of the front of a line: its bytes, or that they are too many
-abbrev pub IsKept : List ℕ → List ℕ → Bool → Type 0
-IsKept front line false = (line ≡ front) × (length front ≤ most_line)
-IsKept front line true = most_line < length front
+abbrev pub IsKeptFront : List ℕ → List ℕ → Bool → Type 0
+IsKeptFront front line false = (line ≡ front) × (length front ≤ most_line)
+IsKeptFront front line true = most_line < length front
 
 -- what a line is told as
 abbrev pub found_as : Bool → Line
@@ -29,7 +29,7 @@ IsTold whole line End = ⊥
 -- the bytes held up to a line feed, or all of them, go on with a line
 abbrev pub TakesPiece : Reader → Reader → List ℕ → List ℕ → Piece → Type 0
 TakesPiece old new front line (Whole found) = (piece : List ℕ) × NoFeed piece × (old.held ≡ piece ++ 10 ∷ new.held) × IsTold (front ++ piece) line found
-TakesPiece old new front line (Part long) = NoFeed old.held × (new.held ≡ []) × IsKept (front ++ old.held) line long
+TakesPiece old new front line (Part long) = NoFeed old.held × (new.held ≡ []) × IsKeptFront (front ++ old.held) line long
 
 -- bytes are read and held, or there are none, or none may be held
 abbrev pub IsRefilled : Reader → Reader → SourceTold → SourceTold → Result Bool LineFault → Type 0

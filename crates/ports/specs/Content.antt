@@ -6,9 +6,9 @@ abbrev pub Rose : ℕ → ℕ → Type 0
 Rose old new = (old < new) ⊎ (new ≡ 2 ^ 64 - 1)
 
 -- n bytes came out of a source into the front of a buffer, where the source tells what it has
-abbrev pub Takes : Option (List ℕ) → Option (List ℕ) → List ℕ → ℕ → Type 0
-Takes None new buf n = Unit {0}
-Takes (Some left) new buf n = (n ≤ length left) × (take n buf ≡ take n left) × (new ≡ Some (drop n left))
+abbrev pub TakesBytes : Option (List ℕ) → Option (List ℕ) → List ℕ → ℕ → Type 0
+TakesBytes None new buf n = Unit {0}
+TakesBytes (Some left) new buf n = (n ≤ length left) × (take n buf ≡ take n left) × (new ≡ Some (drop n left))
     × (n ≡ 0 → 0 < length buf → left ≡ [])
 
 -- the bytes are appended to a sink, where it tells what it has
@@ -33,7 +33,7 @@ pub record SinkTold : Type 0 where
 -- a read took the first bytes off a source, or it failed, took none, and the count of faults rose
 pub record TakesSome {E : Type 0} (old new : SourceTold) (before after : List ℕ) (result : Result ℕ E) : Type 0 where
   pub count : IfOk result (λ n. n ≤ length before)
-  pub taken : IfOk result (λ n. Takes old.left new.left after n)
+  pub taken : IfOk result (λ n. TakesBytes old.left new.left after n)
   pub same : OnErr result (new.left ≡ old.left)
   pub cause : OnErr result (Rose old.faults new.faults)
   pub no_fall : old.faults ≤ new.faults

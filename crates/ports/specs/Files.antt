@@ -61,10 +61,10 @@ ReadSoFar None path front = Unit {0}
 ReadSoFar (Some files) path front = (bytes : List ℕ) → files path ≡ Some bytes → front ≡ take (length front) bytes
 
 -- why a whole file was not read: a read of it failed (`IsFailOf`), or there was no memory
-abbrev pub IsFaultOf : List ℕ → FilesTold → FilesTold → FileFault → Type 0
-IsFaultOf path old new faults.Absent = Rose old.absences new.absences × IsAbsent old.content path
-IsFaultOf path old new faults.Read = Rose old.faults new.faults
-IsFaultOf path old new faults.Memory = Unit {0}
+abbrev pub IsFileFault : List ℕ → FilesTold → FilesTold → FileFault → Type 0
+IsFileFault path old new faults.Absent = Rose old.absences new.absences × IsAbsent old.content path
+IsFileFault path old new faults.Read = Rose old.faults new.faults
+IsFileFault path old new faults.Memory = Unit {0}
 
 -- the fault of reading a whole file, by that of one read
 abbrev pub fault_of : FileFail → FileFault

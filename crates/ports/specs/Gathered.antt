@@ -9,8 +9,8 @@ pub record Gathered (O : Type 0) : Type 0 where
   pub room : ℕ
 
 -- a piece is held, and the sink below is as it was
-abbrev pub Holds : {O : Type 0} → List ℕ → Gathered O → Gathered O → Type 0
-Holds piece old new = (new.below ≡ old.below) × (new.held ≡ old.held ++ piece)
+abbrev pub HoldsPiece : {O : Type 0} → List ℕ → Gathered O → Gathered O → Type 0
+HoldsPiece piece old new = (new.below ≡ old.below) × (new.held ≡ old.held ++ piece)
 
 -- the bytes written below, if that tells them, and those held behind them
 abbrev pub behind : Option (List ℕ) → List ℕ → Option (List ℕ)

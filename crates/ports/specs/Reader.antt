@@ -28,14 +28,14 @@ abbrev pub NoneLeft : SourceTold → SourceTold → Type 0
 NoneLeft before after = IfSome before.left (λ left. after.left ≡ Some [])
 
 -- the first line of some bytes and what follows it; whether it is a last line, with bytes and no line feed
-abbrev pub IsFirst : List ℕ → List ℕ → List ℕ → Bool → Type 0
-IsFirst all line rest false = NoFeed line × (all ≡ line ++ 10 ∷ rest)
-IsFirst all line rest true = NoFeed line × (0 < length line) × (all ≡ line) × (rest ≡ [])
+abbrev pub IsFirstLine : List ℕ → List ℕ → List ℕ → Bool → Type 0
+IsFirstLine all line rest false = NoFeed line × (all ≡ line ++ 10 ∷ rest)
+IsFirstLine all line rest true = NoFeed line × (0 < length line) × (all ≡ line) × (rest ≡ [])
 
 -- the first line of the bytes held and those that came is given; where it has no line feed, nothing is left
-pub record Gives (old new : Reader) (before after : SourceTold) (came line : List ℕ) : Type 0 where
+pub record GivesLine (old new : Reader) (before after : SourceTold) (came line : List ℕ) : Type 0 where
   pub going : old.ended ≡ false
-  pub first : IsFirst (old.held ++ came) line new.held new.ended
+  pub first : IsFirstLine (old.held ++ came) line new.held new.ended
   pub last : new.ended ≡ true → NoneLeft before after
 
 -- no byte was held and none came; none is left, or the end was found before
@@ -59,19 +59,19 @@ pub record GoesPast (old new : Reader) (came : List ℕ) : Type 0 where
   pub broken : BreaksOff old new front
 
 -- what a call answers by the bytes that came in it from a source
-abbrev pub IsNext : Reader → Reader → SourceTold → SourceTold → List ℕ → List ℕ → Result Line LineFault → Type 0
-IsNext old new before after came line (Ok Text) = (length line ≤ most_line) × Gives old new before after came line
-IsNext old new before after came line (Ok TooLong) = (long : List ℕ) × (most_line < length long) × Gives old new before after came long
-IsNext old new before after came line (Ok End) = Ends old before after came
-IsNext old new before after came line (Err Read) = BreaksOff old new came
-IsNext old new before after came line (Err Limit) = GoesPast old new came
+abbrev pub IsNextLine : Reader → Reader → SourceTold → SourceTold → List ℕ → List ℕ → Result Line LineFault → Type 0
+IsNextLine old new before after came line (Ok Text) = (length line ≤ most_line) × GivesLine old new before after came line
+IsNextLine old new before after came line (Ok TooLong) = (long : List ℕ) × (most_line < length long) × GivesLine old new before after came long
+IsNextLine old new before after came line (Ok End) = Ends old before after came
+IsNextLine old new before after came line (Err Read) = BreaksOff old new came
+IsNextLine old new before after came line (Err Limit) = GoesPast old new came
 
 -- a call answers so by the bytes that came in it, and counts them; it finds a fault only where the source's count of them rose
-pub record Answers (old new : Reader) (before after : SourceTold) (line : List ℕ) (result : Result Line LineFault) : Type 0 where
+pub record AnswersOneLine (old new : Reader) (before after : SourceTold) (line : List ℕ) (result : Result Line LineFault) : Type 0 where
   pub bytes : List ℕ
   pub came : Came before after bytes
   pub counted : new.taken ≡ old.taken + length bytes
-  pub next : IsNext old new before after bytes line result
+  pub next : IsNextLine old new before after bytes line result
   pub cause : IsErrOf result Read → Rose before.faults after.faults
   pub no_fall : before.faults ≤ after.faults
 

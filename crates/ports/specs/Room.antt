@@ -6,5 +6,5 @@ abbrev pub line_room : ℕ
 line_room = 512
 
 -- there is room for n bytes more behind such a line
-abbrev pub HasRoom : List ℕ → ℕ → Type 0
-HasRoom line n = length line + n ≤ line_room
+abbrev pub HasRoomBehind : List ℕ → ℕ → Type 0
+HasRoomBehind line n = length line + n ≤ line_room

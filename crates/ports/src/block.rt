@@ -1,7 +1,7 @@
 // Blocks of bytes: where a line feed is, what is kept of a line, and a read from a source.
 ghost use Rattle.std.specs.Prelude.{◌≡◌, ◌≤◌, ◌<◌, ◌++◌, ◌==◌, ℕ, List, length, position, take};
 ghost use Rattle.ports.specs.Content.{TakesSome};
-ghost use Rattle.ports.specs.Block.{IsKept};
+ghost use Rattle.ports.specs.Block.{IsKeptFront};
 
 use crate::{Failed, LineText, Source};
 
@@ -14,7 +14,7 @@ pub fn feed_place(bytes: &[u8]) -> Option<usize>
 
 // Appends a piece to what is kept of a line, and answers whether the line is too long.
 pub fn keep(line: &mut LineText, long: bool, piece: &[u8]) -> bool
-    ensures { (front : List ℕ) → IsKept front line.old.items long → IsKept (front ++ piece.now) line.new.items result }
+    ensures { (front : List ℕ) → IsKeptFront front line.old.items long → IsKeptFront (front ++ piece.now) line.new.items result }
 {
     long || line.try_extend_from_slice(piece).is_err()
 }

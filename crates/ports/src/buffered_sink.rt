@@ -1,7 +1,7 @@
 // A sink that holds what is written, and passes it on in large pieces.
 ghost use Rattle.std.specs.Prelude.{◌≡◌, ◌⊎◌, ◌++◌, ◌+◌, ◌-◌, ◌≤◌, ◌<◌, [], Ok, IfOk, OnErr, min, length, take, drop, vec_len, vec_capacity};
 ghost use Rattle.ports.specs.Content.{WritesSome};
-ghost use Rattle.ports.specs.Gathered.{Finishes, Holds, with_held};
+ghost use Rattle.ports.specs.Gathered.{Finishes, HoldsPiece, with_held};
 
 use crate::{Failed, Sink, write_whole};
 use std::alloc::{AllocError, Global};
@@ -103,7 +103,7 @@ impl<O: Sink + Drop> Sink for Gathering<O> {
         ensures every { WritesSome piece.now (with_held (O.told self.old.below) self.old.held) (with_held (O.told self.new.below) self.new.held) result }
 
         // A piece that fits makes no call below, and a call that failed leaves what is held.
-        ensures held { length self.old.held + length piece.now ≤ self.old.room → Holds piece.now self.old self.new × (result ≡ Ok (length piece.now)) }
+        ensures held { length self.old.held + length piece.now ≤ self.old.room → HoldsPiece piece.now self.old self.new × (result ≡ Ok (length piece.now)) }
         ensures kept { OnErr result (self.new.held ≡ self.old.held) }
         ensures room { self.new.room ≡ self.old.room }
 

@@ -1,6 +1,6 @@
 // Files that are read by their paths.
 ghost use Rattle.std.specs.Prelude.{◌≡◌, ◌≤◌, ◌<◌, ◌+◌, length, IsTrue, IfOk, OnOk, IfErr, vec_len};
-ghost use Rattle.ports.specs.Files.{FilesTold, HasBytes, ReadsAt, IsFailOf, IsFront, IsFaultOf, RaisesNoFault, Keeps, ReadSoFar, fault_of};
+ghost use Rattle.ports.specs.Files.{FilesTold, HasBytes, ReadsAt, IsFailOf, IsFront, IsFileFault, RaisesNoFault, Keeps, ReadSoFar, fault_of};
 ghost use Rattle.ports.specs.declared.files.FileFault.TheVariants.{Memory};
 
 use crate::Failed;
@@ -109,7 +109,7 @@ fn read_more<F: Files>(
     ensures within { vec_len bytes.new ≤ most }
     ensures end { IfOk result (λ n. n ≡ 0 → HasBytes (F.told files.old).content path.now (λ all. length all ≤ vec_len bytes.old)) }
     ensures there { OnOk result (HasBytes (F.told files.old).content path.now (λ all. Unit {0})) }
-    ensures cause { IfErr result (IsFaultOf path.now (F.told files.old) (F.told files.new)) }
+    ensures cause { IfErr result (IsFileFault path.now (F.told files.old) (F.told files.new)) }
     ensures no_fault { RaisesNoFault path.now (F.told files.old) (F.told files.new) }
     ensures keeps { Keeps (F.told files.old) (F.told files.new) }
 {
@@ -132,7 +132,7 @@ fn read_pieces<F: Files>(
     ensures read { IfOk result (λ f. HasBytes (F.told files.old).content path.now (IsFront most f.bytes.items f.more)) }
     ensures within { IfOk result (λ f. length f.bytes.items ≤ most) }
     ensures full { IfOk result (λ f. IsTrue f.more → length f.bytes.items ≡ most) }
-    ensures cause { IfErr result (IsFaultOf path.now (F.told files.old) (F.told files.new)) }
+    ensures cause { IfErr result (IsFileFault path.now (F.told files.old) (F.told files.new)) }
     ensures no_fault { RaisesNoFault path.now (F.told files.old) (F.told files.new) }
     ensures keeps { Keeps (F.told files.old) (F.told files.new) }
 {
@@ -163,7 +163,7 @@ pub fn read_file<F: Files>(
     ensures read { IfOk result (λ f. HasBytes (F.told files.old).content path.now (IsFront most f.bytes.items f.more)) }
     ensures within { IfOk result (λ f. length f.bytes.items ≤ most) }
     ensures full { IfOk result (λ f. IsTrue f.more → length f.bytes.items ≡ most) }
-    ensures cause { IfErr result (IsFaultOf path.now (F.told files.old) (F.told files.new)) }
+    ensures cause { IfErr result (IsFileFault path.now (F.told files.old) (F.told files.new)) }
     ensures no_fault { RaisesNoFault path.now (F.told files.old) (F.told files.new) }
     ensures keeps { Keeps (F.told files.old) (F.told files.new) }
 {

@@ -3,7 +3,7 @@ ghost use Rattle.std.specs.Prelude.{◌≡◌, ◌≤◌, ◌+◌, ◌++◌, ◌
 ghost use Rattle.atto.specs.Decimal.{decimal_of};
 ghost use Rattle.atto.specs.NsText.{ns_text};
 ghost use Rattle.line_format.specs.Words.{words, line_of};
-ghost use Rattle.ports.specs.Room.{HasRoom};
+ghost use Rattle.ports.specs.Room.{HasRoomBehind};
 
 use arrayvec::ArrayVec;
 use atto::{NsText, write_decimal, write_ns};
@@ -17,7 +17,7 @@ pub type Line = ArrayVec<u8, LINE_ROOM>;
 
 // Appends bytes.
 fn push_bytes(line: &mut Line, bytes: &[u8])
-    requires { HasRoom line.old.items (length bytes.now) }
+    requires { HasRoomBehind line.old.items (length bytes.now) }
     ensures { line.new.items ≡ line.old.items ++ bytes.now }
 {
     for byte in bytes {
@@ -38,7 +38,7 @@ pub fn first_word(word: &[u8]) -> Line
 /// Appends a word of at most 48 bytes behind a space.
 pub fn push_word(line: &mut Line, word: &[u8])
     requires short { length word.now ≤ 48 }
-    requires room { HasRoom line.old.items 49 }
+    requires room { HasRoomBehind line.old.items 49 }
     ensures appended { (first : List ℕ) (ws : List (List ℕ)) → line.old.items ≡ words (first ∷ ws) → line.new.items ≡ words (first ∷ ws ++ word.now ∷ []) }
     ensures grown { length line.new.items ≤ length line.old.items + 49 }
 {
@@ -48,7 +48,7 @@ pub fn push_word(line: &mut Line, word: &[u8])
 
 /// Appends a decimal behind a space.
 pub fn push_decimal(line: &mut Line, number: u64)
-    requires { HasRoom line.old.items 49 }
+    requires { HasRoomBehind line.old.items 49 }
     ensures appended { (first : List ℕ) (ws : List (List ℕ)) → line.old.items ≡ words (first ∷ ws) → line.new.items ≡ words (first ∷ ws ++ decimal_of number ∷ []) }
     ensures grown { length line.new.items ≤ length line.old.items + 49 }
 {
@@ -59,7 +59,7 @@ pub fn push_decimal(line: &mut Line, number: u64)
 
 /// Appends a number of units as ns text behind a space.
 pub fn push_ns(line: &mut Line, units: i128)
-    requires { HasRoom line.old.items 49 }
+    requires { HasRoomBehind line.old.items 49 }
     ensures appended { (first : List ℕ) (ws : List (List ℕ)) → line.old.items ≡ words (first ∷ ws) → line.new.items ≡ words (first ∷ ws ++ ns_text units ∷ []) }
     ensures grown { length line.new.items ≤ length line.old.items + 49 }
 {

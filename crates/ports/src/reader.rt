@@ -1,7 +1,7 @@
 // A reader of lines.
 ghost use Rattle.std.specs.Prelude.{◌≡◌, ◌<◌, ◌≤◌, ◌^◌, ◌⊎◌, ◌↔◌, ℕ, List, [], true, false, IfOk, IsErrOf};
-ghost use Rattle.ports.specs.Reader.{Answers, NeedsNoRead, fresh, is_final, room};
-ghost use Rattle.ports.specs.Block.{EndsLine, IsKept, Refills, TakesPiece, found_as};
+ghost use Rattle.ports.specs.Reader.{AnswersOneLine, NeedsNoRead, fresh, is_final, room};
+ghost use Rattle.ports.specs.Block.{EndsLine, IsKeptFront, Refills, TakesPiece, found_as};
 ghost use Rattle.ports.specs.Lines.{most_taken};
 
 use crate::block::{feed_place, keep, read_block};
@@ -78,7 +78,7 @@ impl LineReader {
         line: &mut LineText,
     ) -> Result<Line, LineFault>
         requires { self.old.over ≡ false }
-        ensures next { Answers self.old self.new (S.told source.old) (S.told source.new) line.new.items result }
+        ensures next { AnswersOneLine self.old self.new (S.told source.old) (S.told source.new) line.new.items result }
         ensures unread { NeedsNoRead self.old → (source.new ≡ source.old) × (self.new.taken ≡ self.old.taken) }
         ensures limit { IsErrOf result LineFault.Limit ↔ (most_taken < self.new.taken) }
         ensures over { self.new.over ≡ is_final result }
@@ -120,7 +120,7 @@ impl LineReader {
     // Takes the bytes held up to a line feed, or all of them, as what follows in a line.
     fn take_piece(&mut self, line: &mut LineText, long: bool) -> Piece
         requires { self.old.ended ≡ false }
-        ensures piece { (front : List ℕ) → IsKept front line.old.items long → TakesPiece self.old self.new front line.new.items result }
+        ensures piece { (front : List ℕ) → IsKeptFront front line.old.items long → TakesPiece self.old self.new front line.new.items result }
         ensures same { self.new ≡ record self.old { held = self.new.held } }
     {
         match feed_place(&self.block[self.start..self.end]) {
@@ -173,7 +173,7 @@ impl LineReader {
 
     // What is answered at the end of the source, behind the front of a line.
     fn end_line(&mut self, line: &LineText, long: bool) -> Line
-        ensures { (front : List ℕ) → IsKept front line.now.items long → EndsLine self.old self.new front line.now.items result }
+        ensures { (front : List ℕ) → IsKeptFront front line.now.items long → EndsLine self.old self.new front line.now.items result }
     {
         if line.is_empty() && !long {
             self.over = true;

@@ -4,7 +4,7 @@ use Rattle.std.proofs.lemmas.Bool.{cases_lt}
 use Rattle.std.specs.List.{flat_map}
 use Rattle.line_format.specs.Words.{words, line_of}
 use Rattle.line_format.specs.Cut.{cut}
-use Rattle.line_format.specs.Format.{Answer, Answers, Takes, head_line, whole_text, most_bytes}
+use Rattle.line_format.specs.Format.{Answer, Answers, Takes, head_line, whole_text, most_text_bytes}
 use Rattle.line_format.specs.Format.Answer.{Found, Faulty}
 use Rattle.line_format.specs.declared.fault.FaultKind.{FaultKind}
 use Rattle.line_format.specs.declared.fault.FaultKind.TheVariants as kinds
@@ -14,13 +14,13 @@ use Rattle.line_format.specs.declared.fault.Taken.TheVariants as taken
 use Rattle.line_format.proofs.Reading.{Stands, fault_answers, cut_answers, end_answers, more_answers, head_answers, stands_first}
 use Rattle.problem_model.specs.declared.items.Follow.{Follow}
 use Rattle.problem_model.specs.Problem.{ProblemLists, IsProblem, empty_problem}
-use Rattle.problem_model.specs.ProblemText.{problem_text, problem_head, followed_head, head_of, clock_line, follow_line, event_line, message_line}
+use Rattle.problem_model.specs.ProblemText.{problem_text, problem_head, followed_head, head_words, clock_line, follow_line, event_line, message_line}
 use Rattle.problem.specs.declared.errors.ProblemError.TheVariants as problems
 use Rattle.problem.specs.Line.{head_with, IsInOrder, IsSaid, HasFollow, open_text, open_lines, problem_format}
 use Rattle.problem.proofs.Taking.{clocks_in_order}
 use Rattle.problem.specs.declared.version.Version.{Version}
 use Rattle.problem.specs.declared.version.Version.TheVariants.{First, Second}
-use Rattle.problem.specs.Faults.{kind_at, fault_at}
+use Rattle.problem.specs.Faults.{fault_of_kind, text_fault}
 use Rattle.problem.specs.Reading.{IsSecond, AnswersProblem, Reads}
 use Rattle.problem.proofs.OneLine.{line_lacks}
 
@@ -71,11 +71,11 @@ start_is Second = refl
 regrouped : (h a b c e : List ℕ) → (h ++ a ++ b ++ c) ++ e ≡ h ++ a ++ b ++ c ++ e
 regrouped h a b c e = simp append_assoc
 
-head_is : (version : Version) (p : ProblemLists) → IsSaid version p → HasFollow version p → head_with version ≡ head_of p.follows
-head_is First p said has = sym (ap head_of said.1)
+head_is : (version : Version) (p : ProblemLists) → IsSaid version p → HasFollow version p → head_with version ≡ head_words p.follows
+head_is First p said has = sym (ap head_words said.1)
 head_is Second p said has = followed p.follows has
   where
-    followed : (follows : List Follow) → follows ≢ [] → followed_head ≡ head_of follows
+    followed : (follows : List Follow) → follows ≢ [] → followed_head ≡ head_words follows
     followed [] some = absurd (some refl)
     followed (f ∷ follows) some = refl
 
@@ -120,7 +120,7 @@ reads_found text p reads =
     (reads.0, (reads.1, v.1), v.2, is)
 
 -- ---- what the reader answers
-kind_reads : (version : Version) (text lines : List ℕ) (kind : FaultKind) (n : ℕ) → text ≡ head_line (problem_format version) ++ lines → Answers (problem_format version) text (Faulty kind n) → Reads text (Err (kind_at kind n))
+kind_reads : (version : Version) (text lines : List ℕ) (kind : FaultKind) (n : ℕ) → text ≡ head_line (problem_format version) ++ lines → Answers (problem_format version) text (Faulty kind n) → Reads text (Err (fault_of_kind kind n))
 kind_reads version text lines kinds.Syntax n is fault = version_answers version text lines (Faulty kinds.Syntax n) is fault
 kind_reads version text lines kinds.Name n is fault = version_answers version text lines (Faulty kinds.Name n) is fault
 kind_reads version text lines kinds.Range n is fault = version_answers version text lines (Faulty kinds.Range n) is fault
@@ -133,7 +133,7 @@ module _ (version : Version) (lines : List ℕ) where
   abbrev the_text : List ℕ
   the_text = head_line (problem_format version) ++ lines
 
-  pub fault_reads : (rest body after : List ℕ) (p q : ProblemLists) (n : ℕ) (e : LineError) → StandsAt rest p n → cut 10 rest ≡ Some (body, after) → Takes (problem_format version) p body (Err e) q → Reads the_text (Err (fault_at e n))
+  pub fault_reads : (rest body after : List ℕ) (p q : ProblemLists) (n : ℕ) (e : LineError) → StandsAt rest p n → cut 10 rest ≡ Some (body, after) → Takes (problem_format version) p body (Err e) q → Reads the_text (Err (text_fault e n))
   fault_reads rest body after p q n errors.Memory stands parts r = tt
   fault_reads rest body after p q n (errors.Fault kind) stands parts r = kind_reads version the_text lines kind n refl (fault_answers (problem_format version) line_lacks the_text rest body after p q n kind stands parts r)
 
@@ -146,10 +146,10 @@ module _ (version : Version) (lines : List ℕ) where
   pub more_reads : (rest body after : List ℕ) (p q : ProblemLists) (n : ℕ) → StandsAt rest p n → cut 10 rest ≡ Some (body, after) → Takes (problem_format version) p body (Ok taken.End) q → after ≢ [] → Reads the_text (Err (problems.Syntax (n + 1)))
   more_reads rest body after p q n stands parts r some = version_answers version the_text lines (Faulty kinds.Syntax (n + 1)) refl (more_answers (problem_format version) line_lacks the_text rest body after p q n stands parts r some)
 
-  pub starts : length the_text ≤ most_bytes → IsProblem empty_problem → StandsAt lines empty_problem 2
+  pub starts : length the_text ≤ most_text_bytes → IsProblem empty_problem → StandsAt lines empty_problem 2
   starts short lawful = stands_first (problem_format version) line_lacks the_text lines empty_problem short refl (start_is version) refl (lawful, clocks_in_order version empty_problem refl refl refl)
 
-pub head_reads : (text : List ℕ) → length text ≤ most_bytes → ((version : Version) (more : List ℕ) → text ≡ head_line (problem_format version) ++ more → ⊥) → Reads text (Err (problems.Syntax 1))
+pub head_reads : (text : List ℕ) → length text ≤ most_text_bytes → ((version : Version) (more : List ℕ) → text ≡ head_line (problem_format version) ++ more → ⊥) → Reads text (Err (problems.Syntax 1))
 head_reads text short none = record {
   second = λ second. absurd (none Second second.0 second.1);
   first = λ other. head_answers (problem_format First) line_lacks text short (none First);
@@ -188,7 +188,7 @@ lines_fit version p =
     )
 
 -- a line's number is no more than the text has bytes, and one
-pub number_fits : (version : Version) (lines rest : List ℕ) (p : ProblemLists) (n : ℕ) → StandsAt version lines rest p n → n ≤ most_bytes + 1
+pub number_fits : (version : Version) (lines rest : List ℕ) (p : ProblemLists) (n : ℕ) → StandsAt version lines rest p n → n ≤ most_text_bytes + 1
 number_fits version lines rest p n stands =
     let few = lines_fit version p in
     let size : length (head_line (problem_format version) ++ lines) ≡ length (open_text version p) + length rest = ap length stands.is ∙ length-append (open_text version p) rest in

@@ -6,7 +6,7 @@ use Rattle.std.proofs.lemmas.Bool.{cases_lt, cases_eq}
 use Rattle.std.proofs.lemmas.List.{get_or-map, get_or_past, length-map}
 use Rattle.std.proofs.lemmas.List.Sums.{sum_by-cons, sum_by_push, sum_by-set}
 use Rattle.problem.specs.declared.chains.Link.{Link}
-use Rattle.problem.specs.Inside.{link_at, chain_size, AreCounted, renumber, renumbered, merged}
+use Rattle.problem.specs.Inside.{link_at, chain_size, AreChainCounts, renumber, renumbered, merged}
 use Rattle.problem.proofs.OneLink.{lone, nothing, test_true, test_false, by_write, written_here, written_else, more_at}
 
 -- whether a clock has the number, as 1 or 0
@@ -100,7 +100,7 @@ size_still (l ∷ ls) a b n first second =
     let old = size_behind l ls n in omega (arith, one, rest, new, old)
 
 -- ---- a clock's number and its size stay
-pub counted_written : (ls : List Link) (i : ℕ) (l : Link) → i < length ls → l.number ≡ (link_at ls i).number → l.size ≡ (link_at ls i).size → AreCounted ls → AreCounted (slice_set ls i l)
+pub counted_written : (ls : List Link) (i : ℕ) (l : Link) → i < length ls → l.number ≡ (link_at ls i).number → l.size ≡ (link_at ls i).size → AreChainCounts ls → AreChainCounts (slice_set ls i l)
 counted_written ls i l inside number size counted = record {
   places = λ k within.
       let old = counted.places k (within_old k within) in
@@ -118,7 +118,7 @@ counted_written ls i l inside number size counted = record {
     within_old k within = let count = length-set ls i l in omega (arith, within, count)
 
 -- ---- a clock more
-module _ (ls : List Link) (counted : AreCounted ls) where
+module _ (ls : List Link) (counted : AreChainCounts ls) where
   abbrev more : List Link
   more = ls ++ lone (length ls) ∷ []
 
@@ -167,7 +167,7 @@ module _ (ls : List Link) (counted : AreCounted ls) where
         )
   ]
 
-  pub counted_more : AreCounted (ls ++ lone (length ls) ∷ [])
+  pub counted_more : AreChainCounts (ls ++ lone (length ls) ∷ [])
   counted_more = record { places = λ k within. (counts k within).0; sizes = λ k within. (counts k within).1 }
 
 -- ---- one number for two
@@ -234,7 +234,7 @@ module _ (ls : List Link) (a b : ℕ) (differ : a ≢ b) (place : b < length ls)
           written_else (renumbered ls a b) b place_in (λ l. l.size) both n second
           ∙ ap (λ (l : Link). l.size) (renumbered_at n inside) ∙ kept_size (link_at ls n)
 
-  well_counted : AreCounted ls → (k : ℕ) → k < length ls → WellCounted (link_at (merged ls a b) k).number
+  well_counted : AreChainCounts ls → (k : ℕ) → k < length ls → WellCounted (link_at (merged ls a b) k).number
   well_counted counted k inside = elim (cases_eq (link_at ls k).number a) [
     | inl is ↦ counted_both (link_at (merged ls a b) k).number (number_merged k inside ∙ ap (λ (l : Link). l.number) (renumber_yes a b (link_at ls k) is))
     | inr other ↦
@@ -245,7 +245,7 @@ module _ (ls : List Link) (a b : ℕ) (differ : a ≢ b) (place : b < length ls)
         ]
   ]
 
-  pub counted_merged : AreCounted ls → AreCounted (merged ls a b)
+  pub counted_merged : AreChainCounts ls → AreChainCounts (merged ls a b)
   counted_merged counted = record {
     places = λ k within. (well_counted counted k (omega (arith, count_merged, within))).0;
     sizes = λ k within. (well_counted counted k (omega (arith, count_merged, within))).1;

@@ -11,8 +11,8 @@ use Rattle.problem_model.specs.declared.items.Message.{Message}
 use Rattle.problem_model.specs.Name.{IsClockName, IsEventName}
 use Rattle.problem_model.specs.Problem.{ProblemLists, IsProblem, ClockFits, MessageFits, LeadsOn}
 use Rattle.problem_model.specs.ChainNumbers.{with_follow}
-use Rattle.problem.specs.Growing.{IsNewClock, IsNewFollow, IsNewEvent, IsNewPair, IsNewMessage, HasRoomForClock, HasRoomForEvent, HasRoomForMessage, with_clock, with_event, with_message}
-use Rattle.problem.specs.Inside.{AreItems, AreLinks}
+use Rattle.problem.specs.Growing.{IsNewClock, IsNewFollow, IsNewEvent, IsNewPair, IsMessageOfNewPair, HasRoomForClock, HasRoomForEvent, HasRoomForMessage, with_clock, with_event, with_message}
+use Rattle.problem.specs.Inside.{AreProblemItems, AreLinks}
 use Rattle.problem.specs.declared.chains.Link.{Link}
 use Rattle.problem.proofs.OneLink.{lone}
 use Rattle.problem.proofs.Linked.{links_clock, links_event, links_message}
@@ -133,7 +133,7 @@ more_event p e lawful named fits new room = record {
   };
 }
 
-pub more_message : (p : ProblemLists) (m : Message) → IsProblem p → MessageFits m → IsNewMessage p m → HasRoomForMessage p → IsProblem (with_message p m)
+pub more_message : (p : ProblemLists) (m : Message) → IsProblem p → MessageFits m → IsMessageOfNewPair p m → HasRoomForMessage p → IsProblem (with_message p m)
 more_message p m lawful fits new room = record {
   formed = record {
     clock_names = lawful.formed.clock_names;
@@ -161,8 +161,8 @@ more_message p m lawful fits new room = record {
 }
 
 -- ---- with the look-ups
-pub items_clock : (p : ProblemLists) (ns ns' es : List (List ℕ)) (ps : List (ℕ × ℕ)) (ls ls' : List Link) (cs : List Clock) (c : Clock) → AreItems p ns es ps ls → ClockFits c → IsNewClock p c → HasRoomForClock p →
-    cs ≡ p.clocks ++ c ∷ [] → ns' ≡ ns ++ c.name ∷ [] → ls' ≡ ls ++ lone (length p.clocks) ∷ [] → AreItems (record p { clocks = cs }) ns' es ps ls'
+pub items_clock : (p : ProblemLists) (ns ns' es : List (List ℕ)) (ps : List (ℕ × ℕ)) (ls ls' : List Link) (cs : List Clock) (c : Clock) → AreProblemItems p ns es ps ls → ClockFits c → IsNewClock p c → HasRoomForClock p →
+    cs ≡ p.clocks ++ c ∷ [] → ns' ≡ ns ++ c.name ∷ [] → ls' ≡ ls ++ lone (length p.clocks) ∷ [] → AreProblemItems (record p { clocks = cs }) ns' es ps ls'
 items_clock p ns ns' es ps ls ls' cs c items fits new room grown names links =
     rw (grown, names, links) (record {
       lawful = more_clock p c items.lawful fits new room;
@@ -172,8 +172,8 @@ items_clock p ns ns' es ps ls ls' cs c items fits new room grown names links =
       links_are = links_clock p c ls items.lawful.formed items.links_are;
     })
 
-pub items_follow : (p : ProblemLists) (ns es : List (List ℕ)) (ps : List (ℕ × ℕ)) (ls ls' : List Link) (fs : List Follow) (f : Follow) → AreItems p ns es ps ls → f.gap < 2 ^ 62 → IsNewFollow p f →
-    fs ≡ p.follows ++ f ∷ [] → AreLinks (with_follow p f) ls' → AreItems (record p { follows = fs }) ns es ps ls'
+pub items_follow : (p : ProblemLists) (ns es : List (List ℕ)) (ps : List (ℕ × ℕ)) (ls ls' : List Link) (fs : List Follow) (f : Follow) → AreProblemItems p ns es ps ls → f.gap < 2 ^ 62 → IsNewFollow p f →
+    fs ≡ p.follows ++ f ∷ [] → AreLinks (with_follow p f) ls' → AreProblemItems (record p { follows = fs }) ns es ps ls'
 items_follow p ns es ps ls ls' fs f items fits new grown links =
     rw grown (record {
       lawful = more_follow p f items.lawful fits new;
@@ -183,8 +183,8 @@ items_follow p ns es ps ls ls' fs f items fits new grown links =
       links_are = links;
     })
 
-pub items_event : (p : ProblemLists) (ns es es' : List (List ℕ)) (ps : List (ℕ × ℕ)) (ls : List Link) (vs : List Event) (e : Event) → AreItems p ns es ps ls → IsEventName e.name → e.stamp < 2 ^ 62 → IsNewEvent p e → HasRoomForEvent p →
-    vs ≡ p.events ++ e ∷ [] → es' ≡ es ++ e.name ∷ [] → AreItems (record p { events = vs }) ns es' ps ls
+pub items_event : (p : ProblemLists) (ns es es' : List (List ℕ)) (ps : List (ℕ × ℕ)) (ls : List Link) (vs : List Event) (e : Event) → AreProblemItems p ns es ps ls → IsEventName e.name → e.stamp < 2 ^ 62 → IsNewEvent p e → HasRoomForEvent p →
+    vs ≡ p.events ++ e ∷ [] → es' ≡ es ++ e.name ∷ [] → AreProblemItems (record p { events = vs }) ns es' ps ls
 items_event p ns es es' ps ls vs e items named fits new room grown names =
     rw (grown, names) (record {
       lawful = more_event p e items.lawful named fits new room;
@@ -194,8 +194,8 @@ items_event p ns es es' ps ls vs e items named fits new room grown names =
       links_are = links_event p e ls items.links_are;
     })
 
-pub items_message : (p : ProblemLists) (ns es : List (List ℕ)) (ps ps' : List (ℕ × ℕ)) (ls : List Link) (ms : List Message) (m : Message) → AreItems p ns es ps ls → MessageFits m → IsNewMessage p m → HasRoomForMessage p →
-    ms ≡ p.messages ++ m ∷ [] → ps' ≡ ps ++ (m.send, m.receive) ∷ [] → AreItems (record p { messages = ms }) ns es ps' ls
+pub items_message : (p : ProblemLists) (ns es : List (List ℕ)) (ps ps' : List (ℕ × ℕ)) (ls : List Link) (ms : List Message) (m : Message) → AreProblemItems p ns es ps ls → MessageFits m → IsMessageOfNewPair p m → HasRoomForMessage p →
+    ms ≡ p.messages ++ m ∷ [] → ps' ≡ ps ++ (m.send, m.receive) ∷ [] → AreProblemItems (record p { messages = ms }) ns es ps' ls
 items_message p ns es ps ps' ls ms m items fits new room grown pairs =
     rw (grown, pairs) (record {
       lawful = more_message p m items.lawful fits new room;
@@ -207,29 +207,29 @@ items_message p ns es ps ps' ls ms m items fits new room grown pairs =
 
 -- ---- the look-ups answer what may be added
 module _ (p : ProblemLists) (ns es : List (List ℕ)) (ps : List (ℕ × ℕ)) (ls : List Link) where
-  pub known_clock : (c : Clock) (k : ℕ) → AreItems p ns es ps ls → slice_get ns k ≡ Some c.name → IsNewClock p c → ⊥
+  pub known_clock : (c : Clock) (k : ℕ) → AreProblemItems p ns es ps ls → slice_get ns k ≡ Some c.name → IsNewClock p c → ⊥
   known_clock c k items at new = at_none (λ x. x.name) p.clocks c.name new.new k (rw items.clock_names_are at at)
 
-  pub unknown_clock : (c : Clock) → AreItems p ns es ps ls → ((k : ℕ) → slice_get ns k ≡ Some c.name → ⊥) → IsClockName c.name → IsNewClock p c
+  pub unknown_clock : (c : Clock) → AreProblemItems p ns es ps ls → ((k : ℕ) → slice_get ns k ≡ Some c.name → ⊥) → IsClockName c.name → IsNewClock p c
   unknown_clock c items none named = record { named = named; new = absent (λ x. x.name) p.clocks c.name (rw items.clock_names_are at none) }
 
-  pub still_new_clock : (c : Clock) → AreItems p ns es ps ls → IsNewClock p c → (k : ℕ) → slice_get ns k ≡ Some c.name → ⊥
+  pub still_new_clock : (c : Clock) → AreProblemItems p ns es ps ls → IsNewClock p c → (k : ℕ) → slice_get ns k ≡ Some c.name → ⊥
   still_new_clock c items new k at = known_clock c k items at new
 
-  pub known_event : (e : Event) (k : ℕ) → AreItems p ns es ps ls → slice_get es k ≡ Some e.name → IsNewEvent p e → ⊥
+  pub known_event : (e : Event) (k : ℕ) → AreProblemItems p ns es ps ls → slice_get es k ≡ Some e.name → IsNewEvent p e → ⊥
   known_event e k items at new = at_none (λ x. x.name) p.events e.name new.new k (rw items.event_names_are at at)
 
-  pub unknown_event : (e : Event) → AreItems p ns es ps ls → ((k : ℕ) → slice_get es k ≡ Some e.name → ⊥) → e.clock < length p.clocks → IsNewEvent p e
+  pub unknown_event : (e : Event) → AreProblemItems p ns es ps ls → ((k : ℕ) → slice_get es k ≡ Some e.name → ⊥) → e.clock < length p.clocks → IsNewEvent p e
   unknown_event e items none known = record { new = absent (λ x. x.name) p.events e.name (rw items.event_names_are at none); clock = known }
 
-  pub still_new_event : (e : Event) → AreItems p ns es ps ls → IsNewEvent p e → (k : ℕ) → slice_get es k ≡ Some e.name → ⊥
+  pub still_new_event : (e : Event) → AreProblemItems p ns es ps ls → IsNewEvent p e → (k : ℕ) → slice_get es k ≡ Some e.name → ⊥
   still_new_event e items new k at = known_event e k items at new
 
-  pub known_pair : (send receive : ℕ) (k : ℕ) → AreItems p ns es ps ls → slice_get {X = ℕ × ℕ} ps k ≡ Some (send, receive) → IsNewPair p send receive → ⊥
+  pub known_pair : (send receive : ℕ) (k : ℕ) → AreProblemItems p ns es ps ls → slice_get {X = ℕ × ℕ} ps k ≡ Some (send, receive) → IsNewPair p send receive → ⊥
   known_pair send receive k items at new = pair_at_none p.messages send receive new.new k (rw items.pairs_are at at)
 
-  pub unknown_pair : (send receive : ℕ) → AreItems p ns es ps ls → ((k : ℕ) → slice_get {X = ℕ × ℕ} ps k ≡ Some (send, receive) → ⊥) → (send < length p.events) × (receive < length p.events) × (send ≢ receive) → IsNewPair p send receive
+  pub unknown_pair : (send receive : ℕ) → AreProblemItems p ns es ps ls → ((k : ℕ) → slice_get {X = ℕ × ℕ} ps k ≡ Some (send, receive) → ⊥) → (send < length p.events) × (receive < length p.events) × (send ≢ receive) → IsNewPair p send receive
   unknown_pair send receive items none ends = record { sends = ends.0; receives = ends.1; two_ends = ends.2; new = pair_absent p.messages send receive (rw items.pairs_are at none) }
 
-  pub still_new_pair : (send receive : ℕ) → AreItems p ns es ps ls → IsNewPair p send receive → (k : ℕ) → slice_get {X = ℕ × ℕ} ps k ≡ Some (send, receive) → ⊥
+  pub still_new_pair : (send receive : ℕ) → AreProblemItems p ns es ps ls → IsNewPair p send receive → (k : ℕ) → slice_get {X = ℕ × ℕ} ps k ≡ Some (send, receive) → ⊥
   still_new_pair send receive items new k at = known_pair send receive k items at new

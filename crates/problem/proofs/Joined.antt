@@ -7,14 +7,14 @@ use Rattle.std.proofs.Math.ListN.{length-set}
 use Rattle.problem_model.specs.declared.items.Follow.{Follow}
 use Rattle.problem_model.specs.Problem.{ProblemLists, IsWellFormed, IsChained}
 use Rattle.problem_model.specs.Bounds.{LinesLead}
-use Rattle.problem_model.specs.ChainNumbers.{AreChainNumbers, with_follow, IsFrom, Joins}
+use Rattle.problem_model.specs.ChainNumbers.{AreChainNumbers, with_follow, IsFrom, JoinsChains}
 use Rattle.problem_model.specs.ShortList.{follow_to}
 use Rattle.problem_model.proofs.Following.{chained_by, by_last, ends_rise, line_to}
 use Rattle.problem_model.proofs.NearestFollows.{rises_after}
 use Rattle.problem_model.proofs.Numbered.{numbers_joined}
 use Rattle.problem.specs.declared.chains.Link.{Link}
 use Rattle.problem.specs.Growing.{IsNewFollow}
-use Rattle.problem.specs.Inside.{AreLinks, AreCounted, AreMerged, IsNext, LeadInOrder, link_at, follow_from, merged}
+use Rattle.problem.specs.Inside.{AreLinks, AreChainCounts, AreMerged, IsNextClock, LeadInOrder, link_at, follow_of_earlier, merged}
 use Rattle.problem.proofs.OneLink.{nothing, test_true, test_false, told_after, told_before, by_write, written_here, written_else}
 use Rattle.problem.proofs.Counted.{counted_written, counted_merged, count_merged, number_merged, kept_merged, renumber_number}
 use Rattle.problem.proofs.Linked.{found_end, none_end, one_end, more_here, more_else}
@@ -51,7 +51,7 @@ module _ (p : ProblemLists) (ls : List Link) (formed : IsWellFormed p) (links : 
   before_is : (k : ℕ) (f : Follow) → Contains p.follows f → f.later ≡ k → (link_at ls k).before ≡ Some f
   before_is k f at is = links.befores k ∙ line_to p chained f k at is
 
-  next_by : (f : Follow) (k l : ℕ) → Contains p.follows f → f.earlier ≡ k → f.later ≡ l → IsNext ls k l
+  next_by : (f : Follow) (k l : ℕ) → Contains p.follows f → f.earlier ≡ k → f.later ≡ l → IsNextClock ls k l
   next_by f k l at from to =
       let ends = ends_rise p chained [] tt f at in
       let rise = ends.0 in
@@ -122,7 +122,7 @@ module _ (p : ProblemLists) (ls : List Link) (formed : IsWellFormed p) (links : 
     other_chain k above inside differ (inl is) = omega (arith, above, is)
     other_chain k above inside differ (inr after) = differ (sym ((links.numbers f.later k above inside).1 after))
 
-    taken : Joins p f (λ k. (link_at ls k).number) (λ k. instead later_number earlier_number (link_at ls k).number)
+    taken : JoinsChains p f (λ k. (link_at ls k).number) (λ k. instead later_number earlier_number (link_at ls k).number)
     taken k inside = elim (cases_lt k f.later) [
       | inl below ↦ off k (not_below f.later k below) (in_order.first k f.later begins_later below inside_later)
       | inr from ↦ elim (cases_eq f.later k) [
@@ -151,7 +151,7 @@ module _ (p : ProblemLists) (ls : List Link) (formed : IsWellFormed p) (links : 
       pub befores : (k : ℕ) → (link_at ms k).before ≡ (link_at ls k).before
       pub afters : (k : ℕ) → (link_at ms k).after ≡ (link_at ls k).after
       pub numbers : AreChainNumbers (with_follow p f) (λ k. (link_at ms k).number)
-      pub counted : AreCounted ms
+      pub counted : AreChainCounts ms
 
     by_numbers : (a b : ℕ) → a ≢ b → b < length ls
         → ((m n : ℕ) → (instead a b m ≡ instead a b n) ↔ (instead later_number earlier_number m ≡ instead later_number earlier_number n)) → IsOneChain (merged ls a b)
@@ -218,7 +218,7 @@ module _ (p : ProblemLists) (ls : List Link) (formed : IsWellFormed p) (links : 
             ∙ one.befores k ∙ links.befores k ∙ sym (more_else (λ g. g.later) p.follows f k differ)
       ]
 
-      afters_joined : (k : ℕ) → (link_at both_told k).after ≡ follow_from (p.follows ++ f ∷ []) k
+      afters_joined : (k : ℕ) → (link_at both_told k).after ≡ follow_of_earlier (p.follows ++ f ∷ []) k
       afters_joined k =
           by_write half_told f.later later_in (λ l. l.after) second k refl ∙ elim (cases_eq k f.earlier) [
             | inl is ↦

@@ -21,7 +21,7 @@ use Rattle.problem_model.proofs.Following.{chained_by, by_last, ends_rise}
 use Rattle.problem_model.proofs.NearestFollows.{rises_after}
 use Rattle.problem.specs.declared.chains.Link.{Link}
 use Rattle.problem.specs.Growing.{IsNewFollow, with_clock, with_event, with_message}
-use Rattle.problem.specs.Inside.{AreLinks, AreCounted, link_at, follow_from}
+use Rattle.problem.specs.Inside.{AreLinks, AreChainCounts, link_at, follow_of_earlier}
 use Rattle.problem.proofs.OneLink.{lone, nothing, test_true, test_false, more_at}
 use Rattle.problem.proofs.Counted.{counted_more}
 
@@ -98,14 +98,14 @@ module _ (end : Follow → ℕ) where
       rw (find-append (λ g. nat_eq (end g) k) follows (f ∷ []), test_false (end f) k (λ is. differ (sym is))) (or_none (by_end follows k))
 
 -- ---- what may be added
-pub new_ends : (p : ProblemLists) (f : Follow) → LeadsOn p.clocks f → None ≡ follow_from p.follows f.earlier → None ≡ follow_to p.follows f.later → IsNewFollow p f
+pub new_ends : (p : ProblemLists) (f : Follow) → LeadsOn p.clocks f → None ≡ follow_of_earlier p.follows f.earlier → None ≡ follow_to p.follows f.later → IsNewFollow p f
 new_ends p f leads from to = record {
   leads = leads;
   earlier_new = all_end (λ g. g.earlier) p.follows f.earlier (sym from);
   later_new = all_end (λ g. g.later) p.follows f.later (sym to);
 }
 
-pub taken_from : (p : ProblemLists) (f g : Follow) → Some g ≡ follow_from p.follows f.earlier → IsNewFollow p f → ⊥
+pub taken_from : (p : ProblemLists) (f g : Follow) → Some g ≡ follow_of_earlier p.follows f.earlier → IsNewFollow p f → ⊥
 taken_from p f g is new = let none = none_end (λ g. g.earlier) p.follows f.earlier new.earlier_new in cc
 
 pub taken_to : (p : ProblemLists) (f g : Follow) → Some g ≡ follow_to p.follows f.later → IsNewFollow p f → ⊥
@@ -231,5 +231,5 @@ module _ (p : ProblemLists) (c : Clock) (ls : List Link) (formed : IsWellFormed 
     befores = λ k. before_more k ∙ links.befores k;
     afters = λ k. after_more k ∙ links.afters k;
     numbers = numbers_more;
-    counted = subst (λ (n : ℕ). AreCounted (ls ++ lone n ∷ [])) links.each (counted_more ls links.counted);
+    counted = subst (λ (n : ℕ). AreChainCounts (ls ++ lone n ∷ [])) links.each (counted_more ls links.counted);
   }

@@ -3,7 +3,8 @@ use Rattle.std.proofs.Common.{◌≡◌, ◌<◌, ◌≤◌, ◌+◌, ℕ, zero,
 use Rattle.std.proofs.lemmas.List.{length-map, length-append}
 use Rattle.problem_model.specs.declared.items.Event.{Event}
 use Rattle.problem_model.specs.Problem.{ProblemLists, IsProblem}
-use Rattle.problem_model.specs.Nodes.{most_nodes, Reading, AreReadings, nodes_of, event_nodes, reading_nodes}
+use Rattle.problem_model.specs.Nodes.{Reading, AreReadings, nodes_of, event_nodes, reading_nodes}
+use Rattle.problem_model.specs.Limits.{most_nodes}
 use Rattle.problem.specs.Listing.{Listed, listing_of, listed_nodes, event_places, reading_places, all_readings}
 use Rattle.problem.proofs.AllReadings.{readings_are, few_readings}
 

@@ -11,7 +11,7 @@ use Rattle.problem_model.specs.declared.items.Follow.{Follow}
 use Rattle.problem_model.specs.Problem.{ProblemLists, IsChained}
 use Rattle.problem_model.specs.declared.items.Bound.TheVariants as bounds
 use Rattle.problem_model.specs.Bounds.{IsReading, ComesAfter, Declares}
-use Rattle.problem_model.specs.Nodes.{Reading, ComesBefore, AreReadings}
+use Rattle.problem_model.specs.Nodes.{Reading, IsEarlierReading, AreReadings}
 use Rattle.problem_model.specs.ShortList.{follow_to, clocks_before, first_reading, last_reading, nearest_reading, follow_bound}
 use Rattle.problem_model.proofs.Chains.{Among, among, Rises, rises}
 use Rattle.problem_model.proofs.OneList.{contained}
@@ -130,21 +130,21 @@ last_one clock readings (Some a) (Some b) x y =
     ap (λ (v : Reading). Some v) (pair_same a b (x.0 ∙ sym y.0) (omega (arith, low, high)))
 
 -- ---- where a clock's readings begin and end
-module _ (clock : ℕ) (readings : List Reading) (rising : AllPairs ComesBefore readings) where
+module _ (clock : ℕ) (readings : List Reading) (rising : AllPairs IsEarlierReading readings) where
   up : (i j : ℕ) (d : Reading) → i ≤ j → j < length readings → (get_or readings i d).0 ≤ (get_or readings j d).0
   up i j d le inside = elim (cases_lt i j) [
     | inl below ↦ no_less (rising i j d below inside)
     | inr above ↦ (let same : i ≡ j = omega (arith, le, above) in subst (λ (k : ℕ). (get_or readings i d).0 ≤ (get_or readings k d).0) same (omega arith))
   ]
     where
-      no_less : {a b : Reading} → ComesBefore a b → a.0 ≤ b.0
+      no_less : {a b : Reading} → IsEarlierReading a b → a.0 ≤ b.0
       no_less (inl less) = omega (arith, less)
       no_less (inr later) = let same = later.0 in omega (arith, same)
 
   pub starts_below : IsNonDecreasingBy (λ (r : Reading). r.0) readings
   starts_below i j d le inside = up i j d le inside
 
-  stamp_up : (a b : Reading) → ComesBefore a b → a.0 ≡ b.0 → a.1 ≤ b.1
+  stamp_up : (a b : Reading) → IsEarlierReading a b → a.0 ≡ b.0 → a.1 ≤ b.1
   stamp_up a b (inl less) same = absurd (omega (arith, less, same))
   stamp_up a b (inr later) same = omega (arith, later.1)
 

@@ -5,7 +5,7 @@ use Rattle.std.proofs.lemmas.List.Elements.{All-from_recursion}
 use Rattle.std.proofs.lemmas.List.Kept.{AllPairs-cons}
 use Rattle.problem_model.specs.declared.items.Event.{Event}
 use Rattle.problem_model.specs.Problem.{ProblemLists}
-use Rattle.problem_model.specs.Nodes.{Reading, ComesBefore, AreReadings}
+use Rattle.problem_model.specs.Nodes.{Reading, IsEarlierReading, AreReadings}
 use Rattle.problem_model.proofs.Chains.{Among, among, Rises}
 use Rattle.problem_model.proofs.OneList.{contained}
 use Rattle.problem.specs.Growing.{reading_of}
@@ -13,16 +13,16 @@ use Rattle.problem.specs.Listing.{reading_order, put_by, put, all_readings}
 use Rattle.problem.proofs.ReadingOrder.{before_of_less, before_of_equal, before_of_greater, before_trans}
 
 -- ---- a reading that is put keeps the order
-all_later : (r x : Reading) (xs : List Reading) → ComesBefore r x → AllByRecursion (ComesBefore x) xs → AllByRecursion (ComesBefore r) xs
+all_later : (r x : Reading) (xs : List Reading) → IsEarlierReading r x → AllByRecursion (IsEarlierReading x) xs → AllByRecursion (IsEarlierReading r) xs
 all_later r x [] before all = tt
 all_later r x (y ∷ xs) before all = (before_trans r x y before all.0, all_later r x xs before all.1)
 
-above_by : (o : Ordering) (y r x : Reading) (xs more : List Reading) → ComesBefore y r → AllByRecursion (ComesBefore y) (x ∷ xs) → AllByRecursion (ComesBefore y) more → AllByRecursion (ComesBefore y) (put_by o r x xs more)
+above_by : (o : Ordering) (y r x : Reading) (xs more : List Reading) → IsEarlierReading y r → AllByRecursion (IsEarlierReading y) (x ∷ xs) → AllByRecursion (IsEarlierReading y) more → AllByRecursion (IsEarlierReading y) (put_by o r x xs more)
 above_by Less y r x xs more before all rest = (before, all)
 above_by Equal y r x xs more before all rest = all
 above_by Greater y r x xs more before all rest = (all.0, rest)
 
-put_above : (y r : Reading) (xs : List Reading) → ComesBefore y r → AllByRecursion (ComesBefore y) xs → AllByRecursion (ComesBefore y) (put r xs)
+put_above : (y r : Reading) (xs : List Reading) → IsEarlierReading y r → AllByRecursion (IsEarlierReading y) xs → AllByRecursion (IsEarlierReading y) (put r xs)
 put_above y r [] before all = (before, tt)
 put_above y r (x ∷ xs) before all = above_by (reading_order r x) y r x xs (put r xs) before all (put_above y r xs before all.1)
 
@@ -39,9 +39,9 @@ all_rise : (es : List Event) → Rises (all_readings es)
 all_rise [] = tt
 all_rise (e ∷ es) = put_rises (reading_of e) (all_readings es) (all_rise es)
 
-pairs_rise : (xs : List Reading) → Rises xs → AllPairs ComesBefore xs
+pairs_rise : (xs : List Reading) → Rises xs → AllPairs IsEarlierReading xs
 pairs_rise [] rises = λ i j d below inside. absurd (omega (arith, inside))
-pairs_rise (x ∷ xs) rises = AllPairs-cons ComesBefore x xs (All-from_recursion (ComesBefore x) xs rises.0) (pairs_rise xs rises.1)
+pairs_rise (x ∷ xs) rises = AllPairs-cons IsEarlierReading x xs (All-from_recursion (IsEarlierReading x) xs rises.0) (pairs_rise xs rises.1)
 
 -- ---- what stands in the list
 kept_by : (o : Ordering) (r x q : Reading) (xs more : List Reading) → Among (x ∷ xs) q → (Among xs q → Among more q) → Among (put_by o r x xs more) q

@@ -21,7 +21,7 @@ use Rattle.problem_model.specs.declared.items.Message.{Message}
 use Rattle.problem_model.specs.Problem.{ProblemLists}
 use Rattle.problem_model.specs.Bounds.{IsReading}
 use Rattle.problem_model.specs.ChainNumbers.{with_follow}
-use Rattle.problem_model.specs.Nodes.{Reading, ComesBefore, AreReadings}
+use Rattle.problem_model.specs.Nodes.{Reading, IsEarlierReading, AreReadings}
 use Rattle.problem.specs.Growing.{reading_of, AddsReading, with_clock, with_event, with_message}
 use Rattle.problem.specs.Listing.{reading_order}
 use Rattle.problem.proofs.Places.{pair_same}
@@ -44,7 +44,7 @@ less_before a b c d e =
           ]
     ]
 
-pub before_of_less : (a b : Reading) → reading_order a b ≡ Less → ComesBefore a b
+pub before_of_less : (a b : Reading) → reading_order a b ≡ Less → IsEarlierReading a b
 before_of_less a b e = less_before a.0 a.1 b.0 b.1 e
 
 greater_after : (a b c d : ℕ) → ordering_then (nat_cmp a c) (nat_cmp b d) ≡ Greater → (c < a) ⊎ ((c ≡ a) × (d < b))
@@ -62,11 +62,11 @@ greater_after a b c d e =
           ]
     ]
 
-pub before_of_greater : (a b : Reading) → reading_order a b ≡ Greater → ComesBefore b a
+pub before_of_greater : (a b : Reading) → reading_order a b ≡ Greater → IsEarlierReading b a
 before_of_greater a b e = greater_after a.0 a.1 b.0 b.1 e
 
 -- what cmp answers where one comes before the other
-less_of_before : (a b : Reading) → ComesBefore a b → reading_order a b ≡ Less
+less_of_before : (a b : Reading) → IsEarlierReading a b → reading_order a b ≡ Less
 less_of_before a b (inl below) = let less : nat_cmp a.0 b.0 ≡ Less = grind (arith, nat_tests) in rw less refl
 less_of_before a b (inr same) =
     let here = same.0 in
@@ -75,7 +75,7 @@ less_of_before a b (inr same) =
     let less : nat_cmp a.1 b.1 ≡ Less = grind (arith, nat_tests) in
     rw (equal, less) refl
 
-pub before_trans : (a b c : Reading) → ComesBefore a b → ComesBefore b c → ComesBefore a c
+pub before_trans : (a b c : Reading) → IsEarlierReading a b → IsEarlierReading b c → IsEarlierReading a c
 before_trans a b c (inl x) (inl y) = inl (omega (arith, x, y))
 before_trans a b c (inl x) (inr y) = inl (omega (arith, x, y.0))
 before_trans a b c (inr x) (inl y) = inl (omega (arith, x.0, y))
@@ -100,9 +100,9 @@ pub before_of_equal : (a b : Reading) → reading_order a b ≡ Equal → a ≡ 
 before_of_equal a b e = let both = equal_both a.0 a.1 b.0 b.1 e in rw (both.0, both.1) refl
 
 -- the answers rise along readings in their order
-rises : (a b r : Reading) → ComesBefore a b → (o : Ordering) → reading_order b r ≡ o → ordering_index (reading_order a r) ≤ ordering_index o
+rises : (a b r : Reading) → IsEarlierReading a b → (o : Ordering) → reading_order b r ≡ o → ordering_index (reading_order a r) ≤ ordering_index o
 rises a b r before Less e = rw (less_of_before a r (before_trans a b r before (before_of_less b r e))) (omega arith)
-rises a b r before Equal e = let same = before_of_equal b r e in rw (less_of_before a r (subst (ComesBefore a) same before)) (omega arith)
+rises a b r before Equal e = let same = before_of_equal b r e in rw (less_of_before a r (subst (IsEarlierReading a) same before)) (omega arith)
 rises a b r before Greater e = most (reading_order a r)
   where
     most : (o : Ordering) → ordering_index o ≤ 2
@@ -110,7 +110,7 @@ rises a b r before Greater e = most (reading_order a r)
     most Equal = omega arith
     most Greater = omega arith
 
-pub answers_rise : (xs : List Reading) (r : Reading) → AllPairs ComesBefore xs → IsNonDecreasingBy (λ y. ordering_index (reading_order y r)) xs
+pub answers_rise : (xs : List Reading) (r : Reading) → AllPairs IsEarlierReading xs → IsNonDecreasingBy (λ y. ordering_index (reading_order y r)) xs
 answers_rise xs r rising = λ i j d le inside.
     elim (cases_lt i j) [
       | inl below ↦ rises (get_or xs i d) (get_or xs j d) r (rising i j d below inside) (reading_order (get_or xs j d) r) refl
@@ -128,8 +128,8 @@ module _ (xs : List Reading) (at : ℕ) (r : Reading) (within : at ≤ length xs
   above : (k m : ℕ) (d : Reading) → k ≡ m + 1 → at ≤ m → get_or (insert xs at r) k d ≡ get_or xs m d
   above k m d e le = rw e (get_or-insert_above xs at r d m le within)
 
-  pub inserted_rising : ((k : ℕ) (d : Reading) → k < at → ComesBefore (get_or xs k d) r) → ((k : ℕ) (d : Reading) → at ≤ k → k < length xs → ComesBefore r (get_or xs k d)) →
-      AllPairs ComesBefore xs → AllPairs ComesBefore (insert xs at r)
+  pub inserted_rising : ((k : ℕ) (d : Reading) → k < at → IsEarlierReading (get_or xs k d) r) → ((k : ℕ) (d : Reading) → at ≤ k → k < length xs → IsEarlierReading r (get_or xs k d)) →
+      AllPairs IsEarlierReading xs → AllPairs IsEarlierReading (insert xs at r)
   inserted_rising low high rising = λ i j d lt inside.
       let long = length-insert xs at r within in
       elim (cases_lt j at) [
@@ -185,7 +185,7 @@ alone : (e x : Event) → Contains (e ∷ []) x → x ≡ e
 alone e x (zero, inside, is) = sym is
 alone e x (suc k, inside, is) = absurd (omega (arith, inside))
 
-pub readings_more : (p : ProblemLists) (e : Event) (old new : List Reading) → AreReadings p old → AddsReading old new (reading_of e) → AllPairs ComesBefore new → AreReadings (with_event p e) new
+pub readings_more : (p : ProblemLists) (e : Event) (old new : List Reading) → AreReadings p old → AddsReading old new (reading_of e) → AllPairs IsEarlierReading new → AreReadings (with_event p e) new
 readings_more p e old new are adds rising = record {
   each = λ clock stamp c.
       elim (adds.only (clock, stamp) c) [
@@ -246,8 +246,8 @@ readings_made p xs ys zs all shuffled sorted filtered =
     })
 
 -- ---- where a search ended
-pub put_rising : (xs : List Reading) (at : ℕ) (r : Reading) → at ≤ length xs → AllPairs ComesBefore xs →
-    (IsNonDecreasingBy (λ y. ordering_index (reading_order y r)) xs → IsPartitionPoint (λ y. reading_order y r ≡ Less) (λ y. reading_order y r ≡ Greater) xs at) → AllPairs ComesBefore (insert xs at r)
+pub put_rising : (xs : List Reading) (at : ℕ) (r : Reading) → at ≤ length xs → AllPairs IsEarlierReading xs →
+    (IsNonDecreasingBy (λ y. ordering_index (reading_order y r)) xs → IsPartitionPoint (λ y. reading_order y r ≡ Less) (λ y. reading_order y r ≡ Greater) xs at) → AllPairs IsEarlierReading (insert xs at r)
 put_rising xs at r within rising parted =
     let point = parted (answers_rise xs r rising) in
     inserted_rising xs at r within (λ k d lt. before_of_less _ _ (point.0 k d (omega arith) lt)) (λ k d le lt. before_of_greater _ _ (point.1 k d le lt)) rising

@@ -16,13 +16,13 @@ line_error pushes.Limit = Fault kinds.Limit
 line_error pushes.Memory = Memory
 
 -- a fault of this kind at a line
-abbrev pub kind_at : FaultKind → ℕ → ProblemError
-kind_at kinds.Syntax n = problems.Syntax n
-kind_at kinds.Name n = problems.Name n
-kind_at kinds.Range n = problems.Range n
-kind_at kinds.Limit n = problems.Limit n
+abbrev pub fault_of_kind : FaultKind → ℕ → ProblemError
+fault_of_kind kinds.Syntax n = problems.Syntax n
+fault_of_kind kinds.Name n = problems.Name n
+fault_of_kind kinds.Range n = problems.Range n
+fault_of_kind kinds.Limit n = problems.Limit n
 
 -- the error of a line as that of its text: why a text is refused whose line n is
-abbrev pub fault_at : LineError → ℕ → ProblemError
-fault_at Memory n = problems.Memory
-fault_at (Fault kind) n = kind_at kind n
+abbrev pub text_fault : LineError → ℕ → ProblemError
+text_fault Memory n = problems.Memory
+text_fault (Fault kind) n = fault_of_kind kind n

@@ -5,8 +5,9 @@ use Rattle.problem_model.specs.declared.items.Follow.{Follow}
 use Rattle.problem_model.specs.declared.items.Event.{Event}
 use Rattle.problem_model.specs.declared.items.Message.{Message}
 use Rattle.problem_model.specs.Name.{IsClockName}
-use Rattle.problem_model.specs.Problem.{ProblemLists, LeadsOn, most_clocks, most_events, most_messages}
+use Rattle.problem_model.specs.Problem.{ProblemLists, LeadsOn}
 use Rattle.problem_model.specs.Nodes.{Reading}
+use Rattle.problem_model.specs.Limits.{most_clocks, most_events, most_messages}
 use Rattle.problem.specs.declared.errors.PushError.{PushError}
 use Rattle.problem.specs.declared.errors.PushError.TheVariants as errors
 
@@ -35,8 +36,8 @@ pub record IsNewPair (p : ProblemLists) (send receive : ℕ) : Type 0 where
   pub new : All (λ m. (m.send ≡ send) → (m.receive ≡ receive) → ⊥) p.messages
 
 -- a message of a new pair
-abbrev pub IsNewMessage : ProblemLists → Message → Type 0
-IsNewMessage p m = IsNewPair p m.send m.receive
+abbrev pub IsMessageOfNewPair : ProblemLists → Message → Type 0
+IsMessageOfNewPair p m = IsNewPair p m.send m.receive
 
 -- there is room for one more
 abbrev pub HasRoomForClock : ProblemLists → Type 0

@@ -79,8 +79,8 @@ abbrev pub IsUnknown : ProblemLists → List ℕ → Type 0
 IsUnknown p name = (k : ℕ) → HasEvent p k name → ⊥
 
 -- the message at this place goes from the one event to the other
-abbrev pub HasMessage : ProblemLists → ℕ → ℕ → ℕ → Type 0
-HasMessage p k send receive = slice_get {X = ℕ × ℕ} (map (λ m. (m.send, m.receive)) p.messages) k ≡ Some (send, receive)
+abbrev pub HasMessageAt : ProblemLists → ℕ → ℕ → ℕ → Type 0
+HasMessageAt p k send receive = slice_get {X = ℕ × ℕ} (map (λ m. (m.send, m.receive)) p.messages) k ≡ Some (send, receive)
 
 -- a name of its own; two known clocks in their order, the one not followed yet and the other not following; a clock that is
 -- known; two known events that no message joins in this order
@@ -102,12 +102,12 @@ NumbersFit (MessageLine send receive least most) = (least < 2 ^ 62) × IfSome mo
 NumbersFit EndLine = Unit {0}
 
 -- there is room for one more of its kind
-abbrev pub HasRoom : ProblemLists → Line → Type 0
-HasRoom p (ClockLine name short long early late) = HasRoomForClock p
-HasRoom p (FollowLine earlier later gap) = Unit {0}
-HasRoom p (EventLine name clock stamp) = HasRoomForEvent p
-HasRoom p (MessageLine send receive least most) = HasRoomForMessage p
-HasRoom p EndLine = Unit {0}
+abbrev pub HasRoomForLine : ProblemLists → Line → Type 0
+HasRoomForLine p (ClockLine name short long early late) = HasRoomForClock p
+HasRoomForLine p (FollowLine earlier later gap) = Unit {0}
+HasRoomForLine p (EventLine name clock stamp) = HasRoomForEvent p
+HasRoomForLine p (MessageLine send receive least most) = HasRoomForMessage p
+HasRoomForLine p EndLine = Unit {0}
 
 -- the text of a problem without its end
 abbrev pub open_text : Version → ProblemLists → List ℕ
@@ -128,7 +128,7 @@ problem_format version = record {
   MayStand = MayStand version;
   NamesFit = NamesFit;
   NumbersFit = NumbersFit;
-  HasRoom = HasRoom;
+  HasRoom = HasRoomForLine;
   IsSound = IsSaid version;
   text_of = open_text version;
   lines_of = open_lines;

@@ -64,5 +64,5 @@ abbrev pub listed_nodes : Listed → List ℕ
 listed_nodes l = map (λ e. e.1) l.events ++ map (λ r. r.2) l.readings
 
 -- the real time with a number
-abbrev pub value_at : List ℤ → ℕ → ℤ
-value_at xs k = slice_index_or xs k (pos 0)
+abbrev pub listed_time : List ℤ → ℕ → ℤ
+listed_time xs k = slice_index_or xs k (pos 0)

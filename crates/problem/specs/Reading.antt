@@ -1,7 +1,7 @@
 -- What reading the text of a problem answers.
 use Rattle.std.specs.Prelude.{◌≡◌, ℕ, ◌≤◌, List, ◌++◌, length, Result, Ok, Err}
 use Rattle.line_format.specs.Words.{line_of}
-use Rattle.line_format.specs.Format.{Answer, Answers, most_bytes}
+use Rattle.line_format.specs.Format.{Answer, Answers, most_text_bytes}
 use Rattle.line_format.specs.Format.Answer.{Faulty, Long}
 use Rattle.line_format.specs.declared.fault.FaultKind.TheVariants.{Syntax, Name, Range, Limit}
 use Rattle.problem_model.specs.Problem.{ProblemLists, IsProblem}
@@ -23,7 +23,7 @@ pub record AnswersProblem (text : List ℕ) (answer : Answer ProblemLists) : Typ
 -- what `read_problem` answers: the lawful problem of this text, its first fault, or that it is too long; want of memory
 -- says nothing
 abbrev pub Reads : List ℕ → Result ProblemLists ProblemError → Type 0
-Reads text (Ok p) = (length text ≤ most_bytes) × IsProblem p × (text ≡ problem_text p)
+Reads text (Ok p) = (length text ≤ most_text_bytes) × IsProblem p × (text ≡ problem_text p)
 Reads text (Err (errors.Syntax n)) = AnswersProblem text (Faulty Syntax n)
 Reads text (Err (errors.Name n)) = AnswersProblem text (Faulty Name n)
 Reads text (Err (errors.Range n)) = AnswersProblem text (Faulty Range n)

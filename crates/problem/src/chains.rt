@@ -2,7 +2,7 @@
 ghost use Rattle.std.specs.Prelude.{◌≡◌, ◌≢◌, ◌<◌, ◌^◌, None, length, slice_set};
 ghost use Rattle.problem_model.specs.Problem.{ProblemLists, IsProblem};
 ghost use Rattle.problem_model.specs.ChainNumbers.{with_follow};
-ghost use Rattle.problem.specs.Inside.{AreLinks, AreCounted, AreMerged, LeadInOrder, chain_size, link_at, renumbered};
+ghost use Rattle.problem.specs.Inside.{AreLinks, AreChainCounts, AreMerged, LeadInOrder, chain_size, link_at, renumbered};
 ghost use Rattle.problem.specs.Growing.{IsNewFollow};
 
 use problem_model::Follow;
@@ -71,7 +71,7 @@ fn renumber_back(links: &mut [Link], last: u32, number: u32)
 // How many clocks there are in the chain of a clock.
 fn size_of(links: &[Link], clock: u32) -> u32
     requires inside { clock < length links.now }
-    requires counted { AreCounted links.now }
+    requires counted { AreChainCounts links.now }
     ensures { result ≡ chain_size links.now (link_at links.now clock).number }
 {
     let number = links[clock as usize].number;
@@ -87,7 +87,7 @@ fn merge(links: &mut [Link], last: u32, first: u32)
     requires first { (link_at links.old first).before ≡ None }
     requires apart { (link_at links.old last).number ≢ (link_at links.old first).number }
     requires order { LeadInOrder links.old }
-    requires counted { AreCounted links.old }
+    requires counted { AreChainCounts links.old }
     ensures { AreMerged links.old links.new (link_at links.old last).number (link_at links.old first).number }
 {
     let ahead = size_of(links, last);

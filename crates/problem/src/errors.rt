@@ -2,7 +2,7 @@
 ghost use Rattle.std.specs.Prelude.{◌≡◌};
 ghost use Rattle.problem.specs.declared.errors.PushError.TheVariants.{Memory};
 ghost use Rattle.problem.specs.declared.errors.ProblemError.TheVariants as problems;
-ghost use Rattle.problem.specs.Faults.{line_error, fault_at};
+ghost use Rattle.problem.specs.Faults.{line_error, text_fault};
 
 use line_format::{FaultKind, LineError};
 use std::alloc::{AllocError, AllocFailed};
@@ -85,7 +85,7 @@ impl From<AllocError> for ProblemError {
 
 /// The error of a text whose line of this number is refused.
 pub fn fault_at(fault: LineError, line: u32) -> ProblemError
-    ensures { result ≡ fault_at fault line }
+    ensures { result ≡ text_fault fault line }
 {
     match fault {
         LineError::Memory => ProblemError::Memory,

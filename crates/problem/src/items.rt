@@ -3,27 +3,18 @@ ghost use Rattle.std.specs.Prelude.{◌≡◌, ◌≢◌, ◌↔◌, ◌<◌, �
 ghost use Rattle.problem_model.specs.Problem.{IsProblem, MessageFits, empty_problem};
 ghost use Rattle.problem_model.specs.Bounds.{ComesAfter};
 ghost use Rattle.problem_model.specs.ShortList.{follow_to};
-ghost use Rattle.problem.specs.Line.{HasClock, HasEvent, HasMessage};
+ghost use Rattle.problem.specs.Line.{HasClock, HasEvent, HasMessageAt};
 ghost use Rattle.problem_model.specs.ChainNumbers.{with_follow};
-ghost use Rattle.problem.specs.Inside.{follow_from};
-ghost use Rattle.problem.specs.Growing.{IsNewClock, IsNewFollow, IsNewEvent, IsNewPair, IsNewMessage, HasRoomForClock, HasRoomForEvent, HasRoomForMessage, Allows, with_clock, with_event, with_message};
+ghost use Rattle.problem.specs.Inside.{follow_of_earlier};
+ghost use Rattle.problem.specs.Growing.{IsNewClock, IsNewFollow, IsNewEvent, IsNewPair, IsMessageOfNewPair, HasRoomForClock, HasRoomForEvent, HasRoomForMessage, Allows, with_clock, with_event, with_message};
 
 use crate::chains::{Link, join};
 use crate::errors::PushError;
 use crate::names::{Names, Pairs};
 use atto::Nano;
-use problem_model::{Clock, Event, Follow, Message, Name};
+use problem_model::{Clock, Event, Follow, MOST_CLOCKS, MOST_EVENTS, MOST_MESSAGES, Message, Name};
 use std::alloc::{AllocError, Global};
 use std::marker::Model;
-
-/// The most clocks of a problem.
-pub const MOST_CLOCKS: usize = 65_536;
-
-/// The most events of a problem: with its readings it then has at most 2^22 nodes, so that no sum of weights overflows.
-pub const MOST_EVENTS: usize = 1 << 21;
-
-/// The most messages of a problem.
-pub const MOST_MESSAGES: usize = 1 << 21;
 
 /// The lists of a problem, each with a look-up of its names, pairs or clocks.
 #[derive(Drop)]
@@ -40,13 +31,13 @@ pub struct Items {
 
 impl Model for Items {
     ghost use Rattle.problem_model.specs.Problem.{ProblemLists};
-    ghost use Rattle.problem.specs.Inside.{AreItems};
+    ghost use Rattle.problem.specs.Inside.{AreProblemItems};
 
     ghost Value = { ProblemLists };
 
     ghost view = { λ i. record { clocks = i.clocks.items; follows = i.follows.items; events = i.events.items; messages = i.messages.items } };
 
-    ghost invariant = { λ i. AreItems (record { clocks = i.clocks.items; follows = i.follows.items; events = i.events.items; messages = i.messages.items }) i.clock_names i.event_names i.pairs i.links.items };
+    ghost invariant = { λ i. AreProblemItems (record { clocks = i.clocks.items; follows = i.follows.items; events = i.events.items; messages = i.messages.items }) i.clock_names i.event_names i.pairs i.links.items };
 }
 
 impl Items {
@@ -122,8 +113,8 @@ impl Items {
 
     /// The place of the message from one event to another.
     pub fn message_place(&self, send: u32, receive: u32) -> Option<u32>
-        ensures some { IfSome result (λ k. HasMessage self.now k send receive) }
-        ensures none { IfNone result ((k : ℕ) → HasMessage self.now k send receive → ⊥) }
+        ensures some { IfSome result (λ k. HasMessageAt self.now k send receive) }
+        ensures none { IfNone result ((k : ℕ) → HasMessageAt self.now k send receive → ⊥) }
     {
         let place = self.pairs.place(send, receive)?;
         Some(place as u32)
@@ -194,7 +185,7 @@ impl Items {
 
     // The follow whose earlier clock this is.
     fn follow_from(&self, earlier: u32) -> Option<Follow>
-        ensures { result ≡ follow_from self.now.follows earlier }
+        ensures { result ≡ follow_of_earlier self.now.follows earlier }
     {
         match self.links.get(earlier as usize) {
             Some(link) => link.after,
@@ -298,7 +289,7 @@ impl Items {
 
     /// Whether this message may be added.
     pub fn allows_message(&self, m: &Message) -> Result<(), PushError>
-        ensures { Allows (IsNewMessage self.now m.now) (HasRoomForMessage self.now) result }
+        ensures { Allows (IsMessageOfNewPair self.now m.now) (HasRoomForMessage self.now) result }
     {
         if !self.is_new_pair(m.send, m.receive) {
             return Err(PushError::Name);
@@ -311,7 +302,7 @@ impl Items {
 
     /// Adds a message, and leaves all as it was where memory runs out.
     pub fn add_message(&mut self, m: &Message) -> Result<(), AllocError>
-        requires new { IsNewMessage self.old m.now }
+        requires new { IsMessageOfNewPair self.old m.now }
         requires room { HasRoomForMessage self.old }
         ensures ok { OnOk result (self.new ≡ with_message self.old m.now) }
         ensures err { OnErr result (self.new ≡ self.old) }

@@ -1,7 +1,7 @@
 // What is printed of a problem: its names, its events and its readings.
 ghost use Rattle.std.specs.Prelude.{◌≡◌, ◌<◌, ◌≤◌, ◌+◌, Some, length, slice_get};
+ghost use Rattle.problem_model.specs.Limits.{most_nodes};
 ghost use Rattle.problem.specs.Listing.{Listed};
-ghost use Rattle.problem_model.specs.Nodes.{most_nodes};
 
 use crate::problem::Problem;
 use atto::Nano;

@@ -2,7 +2,7 @@
 ghost use Rattle.std.specs.Prelude.{◌≡◌, ◌<◌, AllPairs, IfSome};
 ghost use Rattle.problem_model.specs.declared.items.Bound.TheVariants as bounds;
 ghost use Rattle.problem_model.specs.Bounds.{Declares};
-ghost use Rattle.problem_model.specs.Nodes.{AreReadings, ComesBefore};
+ghost use Rattle.problem_model.specs.Nodes.{AreReadings, IsEarlierReading};
 ghost use Rattle.problem_model.specs.ShortList.{clocks_before, first_reading, nearest_reading, follow_bound};
 ghost use Rattle.problem.specs.Nearest.{listed_follow, gap_between};
 
@@ -26,7 +26,7 @@ pub struct NearestFollow {
 
 // The last reading of the nearest clock before this one in its chain that has one.
 fn last_before(items: &Items, readings: &[(u32, Nano)], later: u32) -> Option<(u32, Nano)>
-    requires { AllPairs ComesBefore readings.now }
+    requires { AllPairs IsEarlierReading readings.now }
     ensures { result ≡ nearest_reading readings.now (clocks_before items.now.follows later later) }
 {
     let mut clock = later;

@@ -7,8 +7,8 @@ ghost use Rattle.problem.specs.Nearest.{listed_follow, gap_between};
 ghost use Rattle.problem_model.specs.Bounds.{IsReading, ComesAfter, Declares};
 ghost use Rattle.problem_model.specs.Nodes.{Reading, AreReadings};
 ghost use Rattle.problem_model.specs.Problem.{IsProblem, empty_problem};
-ghost use Rattle.problem.specs.Line.{HasClock, HasEvent, HasMessage};
-ghost use Rattle.problem.specs.Growing.{IsNewClock, IsNewFollow, IsNewEvent, IsNewMessage, HasRoomForClock, HasRoomForEvent, HasRoomForMessage, with_clock, with_event, with_message};
+ghost use Rattle.problem.specs.Line.{HasClock, HasEvent, HasMessageAt};
+ghost use Rattle.problem.specs.Growing.{IsNewClock, IsNewFollow, IsNewEvent, IsMessageOfNewPair, HasRoomForClock, HasRoomForEvent, HasRoomForMessage, with_clock, with_event, with_message};
 
 use crate::errors::PushError;
 use crate::items::Items;
@@ -113,8 +113,8 @@ impl Problem {
 
     /// The place of the message from one event to another, where there is one.
     pub fn message_place(&self, send: u32, receive: u32) -> Option<u32>
-        ensures some { IfSome result (λ k. HasMessage self.now k send receive) }
-        ensures none { IfNone result ((k : ℕ) → HasMessage self.now k send receive → ⊥) }
+        ensures some { IfSome result (λ k. HasMessageAt self.now k send receive) }
+        ensures none { IfNone result ((k : ℕ) → HasMessageAt self.now k send receive → ⊥) }
     {
         self.items.message_place(send, receive)
     }
@@ -209,8 +209,8 @@ impl Problem {
     pub fn push_message(&mut self, m: Message) -> Result<(), PushError>
         ensures ok { OnOk result (self.new ≡ with_message self.old m) }
         ensures err { OnErr result (self.new ≡ self.old) }
-        ensures name { IsErrOf result PushError.Name ↔ (IsNewMessage self.old m → ⊥) }
-        ensures limit { IsErrOf result PushError.Limit ↔ (IsNewMessage self.old m × (HasRoomForMessage self.old → ⊥)) }
+        ensures name { IsErrOf result PushError.Name ↔ (IsMessageOfNewPair self.old m → ⊥) }
+        ensures limit { IsErrOf result PushError.Limit ↔ (IsMessageOfNewPair self.old m × (HasRoomForMessage self.old → ⊥)) }
     {
         self.items.allows_message(&m)?;
         self.items.add_message(&m)?;

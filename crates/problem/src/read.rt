@@ -1,7 +1,7 @@
 // The text of a problem, line by line.
 ghost use Rattle.std.specs.Prelude.{◌≡◌, ◌≤◌, ◌++◌, ◌↔◌, List, [], ℕ, length, IfSome, IfNone, IsTrue, Ok};
 ghost use Rattle.line_format.specs.Words.{words};
-ghost use Rattle.line_format.specs.Format.{Answer, head_line, most_bytes};
+ghost use Rattle.line_format.specs.Format.{Answer, head_line, most_text_bytes};
 ghost use Rattle.line_format.specs.Format.Answer.{Found};
 ghost use Rattle.problem_model.specs.Problem.{ProblemLists};
 ghost use Rattle.problem.specs.Line.{head_with, problem_format};
@@ -52,7 +52,7 @@ fn after_head(text: &[u8]) -> Option<(Version, &[u8])>
 
 // The lines behind the head of a version.
 fn read_lines(alloc: Global, version: Version, lines: &[u8]) -> Result<Items, ProblemError>
-    requires { length (head_line (problem_format version) ++ lines.now) ≤ most_bytes }
+    requires { length (head_line (problem_format version) ++ lines.now) ≤ most_text_bytes }
     ensures { Reads (head_line (problem_format version) ++ lines.now) result }
 {
     let mut items = Items::new(alloc);

@@ -1,7 +1,7 @@
 // The readings of a problem: the clocks and stamps of its events, without repeats.
 ghost use Rattle.std.specs.Prelude.{◌≡◌, ◌<◌, map, AllPairs, Contains, slice_get, Some, IfSome, IfNone, IfOk};
 ghost use Rattle.std.specs.Vec.{vec_len, vec_capacity};
-ghost use Rattle.problem_model.specs.Nodes.{Reading, AreReadings, ComesBefore};
+ghost use Rattle.problem_model.specs.Nodes.{Reading, AreReadings, IsEarlierReading};
 ghost use Rattle.problem_model.specs.ShortList.{first_reading, last_reading};
 ghost use Rattle.problem.specs.Growing.{AddsReading, reading_of};
 
@@ -13,8 +13,8 @@ use std::alloc::{AllocError, Global};
 /// Puts a reading into its place, unless it stands there. There is room for it.
 pub fn insert_reading(readings: &mut Vec<(u32, Nano)>, reading: (u32, Nano))
     requires room { vec_len readings.old < vec_capacity readings.old }
-    requires rising { AllPairs ComesBefore readings.old.items }
-    ensures rising { AllPairs ComesBefore readings.new.items }
+    requires rising { AllPairs IsEarlierReading readings.old.items }
+    ensures rising { AllPairs IsEarlierReading readings.new.items }
     ensures adds { AddsReading readings.old.items readings.new.items reading }
 {
     if let Err(place) = readings.as_slice().binary_search(&reading) {
@@ -46,7 +46,7 @@ pub fn readings_of(alloc: Global, items: &Items) -> Result<Vec<(u32, Nano)>, All
 
 /// The place of a reading among readings in their order, where it is there.
 pub fn place_of(readings: &[(u32, Nano)], clock: u32, stamp: Nano) -> Option<usize>
-    requires rising { AllPairs ComesBefore readings.now }
+    requires rising { AllPairs IsEarlierReading readings.now }
     ensures some { IfSome result (λ k. slice_get {X = Reading} readings.now k ≡ Some (clock, stamp)) }
     ensures none { IfNone result (Contains {X = Reading} readings.now (clock, stamp) → ⊥) }
 {
@@ -69,7 +69,7 @@ fn reading_at(readings: &[(u32, Nano)], place: usize, clock: u32) -> Option<(u32
 
 /// The first reading of a clock among readings in their order, where it has one.
 pub fn first_of(readings: &[(u32, Nano)], clock: u32) -> Option<(u32, Nano)>
-    requires { AllPairs ComesBefore readings.now }
+    requires { AllPairs IsEarlierReading readings.now }
     ensures { result ≡ first_reading readings.now clock }
 {
     let start = readings.partition_point(|reading| reading.0 < clock);
@@ -78,7 +78,7 @@ pub fn first_of(readings: &[(u32, Nano)], clock: u32) -> Option<(u32, Nano)>
 
 /// The last reading of a clock among readings in their order, where it has one.
 pub fn last_of(readings: &[(u32, Nano)], clock: u32) -> Option<(u32, Nano)>
-    requires { AllPairs ComesBefore readings.now }
+    requires { AllPairs IsEarlierReading readings.now }
     ensures { result ≡ last_reading readings.now clock }
 {
     let end = readings.partition_point(|reading| reading.0 <= clock);

@@ -4,7 +4,7 @@ use Rattle.std.specs.Prelude.{AllPairs, Contains, ℤ, pos, neg_ℤ, ◌-ℤ◌,
 use Rattle.std.specs.List.{AllByRecursion}
 use Rattle.std.proofs.lemmas.List.Elements.{recursion_from_All}
 use Rattle.std.proofs.lemmas.Int.{ints}
-use Rattle.problem_model.specs.Nodes.{Reading, ComesBefore}
+use Rattle.problem_model.specs.Nodes.{Reading, IsEarlierReading}
 
 -- ---- membership and order by recursion
 abbrev pub Among : {X : Type 0} → List X → X → Type 0
@@ -23,12 +23,12 @@ each_among P (y ∷ ys) x all (inr at) = each_among P ys x all.1 at
 
 abbrev pub Rises : List Reading → Type 0
 Rises [] = Unit {0}
-Rises (a ∷ rest) = AllByRecursion (ComesBefore a) rest × Rises rest
+Rises (a ∷ rest) = AllByRecursion (IsEarlierReading a) rest × Rises rest
 
-pub rises : (readings : List Reading) → AllPairs ComesBefore readings → Rises readings
+pub rises : (readings : List Reading) → AllPairs IsEarlierReading readings → Rises readings
 rises [] pairs = tt
 rises (a ∷ rest) pairs = (
-  recursion_from_All (ComesBefore a) rest (λ k d inside. pairs 0 (suc k) d (omega arith) (omega (arith, inside))),
+  recursion_from_All (IsEarlierReading a) rest (λ k d inside. pairs 0 (suc k) d (omega arith) (omega (arith, inside))),
   rises rest (λ i j d below inside. pairs (suc i) (suc j) d (omega (arith, below)) (omega (arith, inside))),
 )
 
@@ -41,11 +41,11 @@ all_append_right P [] ys all = all
 all_append_right P (x ∷ xs) ys all = all_append_right P xs ys all.1
 
 -- ---- on one clock, by stamps
-before_same : (a b : Reading) → ComesBefore a b → a.0 ≡ b.0 → a.1 < b.1
+before_same : (a b : Reading) → IsEarlierReading a b → a.0 ≡ b.0 → a.1 < b.1
 before_same a b (inl less) same = absurd (omega (arith, less, same))
 before_same a b (inr later) same = later.1
 
-between_same : (clock : ℕ) (a b c : Reading) → ComesBefore a b → ComesBefore b c → a.0 ≡ clock → c.0 ≡ clock → b.0 ≡ clock
+between_same : (clock : ℕ) (a b c : Reading) → IsEarlierReading a b → IsEarlierReading b c → a.0 ≡ clock → c.0 ≡ clock → b.0 ≡ clock
 between_same clock a b c (inl x) (inl y) p q = omega (arith, x, y, p, q)
 between_same clock a b c (inl x) (inr y) p q = omega (arith, x, y.0, p, q)
 between_same clock a b c (inr x) (inl y) p q = omega (arith, x.0, y, p, q)
@@ -62,7 +62,7 @@ module _ (clock : ℕ) (Spans : ℕ → ℕ → Type 0) (joined : (s u t : ℕ) 
   from_head a [] t rising spans on at = absurd at
   from_head a (b ∷ rest) t rising spans on (inl is) = subst (λ (u : ℕ). Spans a.1 u) (ap (λ (r : Reading). r.1) is) (spans.0 on (ap (λ (r : Reading). r.0) is))
   from_head a (b ∷ rest) t rising spans on (inr at) =
-      let later : ComesBefore b (clock, t) = each_among (ComesBefore b) rest (clock, t) rising.1.0 at in
+      let later : IsEarlierReading b (clock, t) = each_among (IsEarlierReading b) rest (clock, t) rising.1.0 at in
       let same : b.0 ≡ clock = between_same clock a b (clock, t) rising.0.0 later on refl in
       joined a.1 b.1 t (before_same a b rising.0.0 (on ∙ sym same)) (before_same b (clock, t) later same)
       (spans.0 on same) (from_head b rest t rising.1 spans.1 same at)
@@ -75,7 +75,7 @@ module _ (clock : ℕ) (Spans : ℕ → ℕ → Type 0) (joined : (s u t : ℕ) 
   all_spans (a ∷ rest) s t rising spans (inl is) (inr at') below =
       subst (λ (u : ℕ). Spans u t) (ap (λ (r : Reading). r.1) is) (from_head a rest t rising spans (ap (λ (r : Reading). r.0) is) at')
   all_spans (a ∷ rest) s t rising spans (inr at) (inl is') below =
-      let later : ComesBefore a (clock, s) = each_among (ComesBefore a) rest (clock, s) rising.0 at in
+      let later : IsEarlierReading a (clock, s) = each_among (IsEarlierReading a) rest (clock, s) rising.0 at in
       let less : a.1 < s = before_same a (clock, s) later (ap (λ (r : Reading). r.0) is') in
       let same : a.1 ≡ t = ap (λ (r : Reading). r.1) is' in absurd (omega (arith, less, same, below))
   all_spans (a ∷ []) s t rising spans (inr at) (inr at') below = absurd at

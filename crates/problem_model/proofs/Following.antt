@@ -9,7 +9,7 @@ use Rattle.problem_model.specs.declared.items.Follow.{Follow}
 use Rattle.problem_model.specs.declared.items.Node.TheVariants as nodes
 use Rattle.problem_model.specs.Problem.{ProblemLists, IsWellFormed, IsChained, LeadsOn}
 use Rattle.problem_model.specs.Bounds.{Times, IsReading, LinesLead, ComesAfter}
-use Rattle.problem_model.specs.Nodes.{Reading, ComesBefore}
+use Rattle.problem_model.specs.Nodes.{Reading, IsEarlierReading}
 use Rattle.problem_model.specs.ShortList.{ObeysNamed, follow_to, clocks_before, first_reading, last_reading, nearest_reading, follow_bound}
 use Rattle.problem_model.proofs.Chains.{Among, among, each_among, Rises}
 
@@ -92,7 +92,7 @@ module _ (clock : ℕ) where
   IsFirst readings None = (s : ℕ) → Among readings (clock, s) → ⊥
   IsFirst readings (Some r) = (r.0 ≡ clock) × Among readings r × ((s : ℕ) → Among readings (clock, s) → r.1 ≤ s)
 
-  stamp_less : (a b : Reading) → ComesBefore a b → a.0 ≡ clock → b.0 ≡ clock → a.1 ≤ b.1
+  stamp_less : (a b : Reading) → IsEarlierReading a b → a.0 ≡ clock → b.0 ≡ clock → a.1 ≤ b.1
   stamp_less a b (inl less) p q = absurd (omega (arith, less, p, q))
   stamp_less a b (inr later) p q = omega (arith, later.1)
 
@@ -104,7 +104,7 @@ module _ (clock : ℕ) where
   last_more a readings (Some r) on rising test last = (last.0, inr last.1, below)
     where
       below : (s : ℕ) → Among (a ∷ readings) (clock, s) → s ≤ r.1
-      below s (inl is) = subst (λ (t : ℕ). t ≤ r.1) (ap (λ (v : Reading). v.1) is) (stamp_less a r (each_among (ComesBefore a) readings r rising.0 last.1) (on_clock a s is) last.0)
+      below s (inl is) = subst (λ (t : ℕ). t ≤ r.1) (ap (λ (v : Reading). v.1) is) (stamp_less a r (each_among (IsEarlierReading a) readings r rising.0 last.1) (on_clock a s is) last.0)
       below s (inr at) = last.2 s at
   last_more a readings None true rising test last = (grind (arith, test), inl refl, below)
     where
@@ -127,7 +127,7 @@ module _ (clock : ℕ) where
     where
       above : (s : ℕ) → Among (a ∷ readings) (clock, s) → a.1 ≤ s
       above s (inl is) = let same : a.1 ≡ s = ap (λ (v : Reading). v.1) is in omega (arith, same)
-      above s (inr at) = stamp_less a (clock, s) (each_among (ComesBefore a) readings (clock, s) rising.0 at) (grind (arith, test)) refl
+      above s (inr at) = stamp_less a (clock, s) (each_among (IsEarlierReading a) readings (clock, s) rising.0 at) (grind (arith, test)) refl
   first_more a readings None false rising test first = none
     where
       none : (s : ℕ) → Among (a ∷ readings) (clock, s) → ⊥

@@ -1,12 +1,13 @@
--- No value of the earliest execution is above the number of nodes times the greatest weight.
+-- No value of the earliest execution is above the number of nodes times the greatest weight, and no greatest difference of two nodes.
 use Rattle.std.proofs.Common.{◌≡◌, ℕ, zero, suc, ◌+◌, ◌*◌, ◌^◌, ◌<◌, ◌≤◌, true, false, cond, List, [], ◌∷◌, length, get_or, refl, ap, subst, arith, inl, inr, ◌⊎◌}
 use Rattle.std.specs.Prelude.{ℤ, pos, neg_ℤ, ◌+ℤ◌, ◌-ℤ◌, ◌≤ℤ◌, ◌<ℤ◌, All, int_lt, if◌then◌else◌}
 use Rattle.std.proofs.lemmas.Int.{ints}
 use Rattle.std.proofs.lemmas.Bool.{cases_Bool, cond-true, cond-false, cases_lt}
 use Rattle.std.proofs.lemmas.List.{get_or_past}
-use Rattle.problem_model.specs.Nodes.{most_nodes}
 use Rattle.problem_model.specs.Executions.{Arc, at, Obeys, IsExecution, AreWithin, values_by}
 use Rattle.problem_model.specs.Earliest.{IsNonNegative, IsEarliest}
+use Rattle.problem_model.specs.Differences.{IsGreatest}
+use Rattle.problem_model.specs.Limits.{most_nodes, path_bits}
 use Rattle.problem_model.proofs.Executions.{at-values_by, execution_by}
 
 -- how many values are above t
@@ -186,7 +187,94 @@ earliest_height nodes arcs xs height w lw e k l =
     let z : above (pos (nodes * height)) xs ≡ 0 = elim (levels nodes arcs xs height w lw e nodes) [ inl h ↦ omega arith | inr h ↦ h ] in
     from_none_above (pos (nodes * height)) xs z k (omega (arith, e.execution.one_each))
 
+-- ---- the greatest difference of two nodes
+-- the values above t, each one greater
+raised : ℤ → List ℤ → ℕ → ℤ
+raised t xs k = if int_lt t (at xs k) then (at xs k +ℤ pos 1) else at xs k
+
+raised-low : (t : ℤ) (xs : List ℤ) (k : ℕ) → at xs k ≤ℤ t → raised t xs k ≡ at xs k
+unfolding raised
+raised-low t xs k h = cond-false (int_lt t (at xs k)) (at xs k +ℤ pos 1) (at xs k) (test_false t (at xs k) h)
+
+raised-high : (t : ℤ) (xs : List ℤ) (k : ℕ) → t <ℤ at xs k → raised t xs k ≡ at xs k +ℤ pos 1
+unfolding raised
+raised-high t xs k h = cond-true (int_lt t (at xs k)) (at xs k +ℤ pos 1) (at xs k) (test_true t (at xs k) h)
+
+module _ (nodes : ℕ) (arcs : List Arc) (height : ℕ) (within : AreWithin nodes arcs) (low_enough : All (λ a. a.weight ≤ℤ pos height) arcs) (p q : ℕ) (h : ℤ)
+    (p_below : p < nodes) (q_below : q < nodes) (greatest : IsGreatest nodes arcs p q h)
+  where
+    abbrev xs : List ℤ
+    xs = greatest.attained.0
+
+    execution : IsExecution nodes arcs xs
+    execution = greatest.attained.1
+
+    -- where no value lies between, all above it could come later
+    module _ (t : ℤ) (from : at xs p ≤ℤ t) (split : (k : ℕ) → k < nodes → (at xs k ≤ℤ t) ⊎ ((t +ℤ pos height) <ℤ at xs k)) where
+      raised_arc : (a : Arc) → a.from < nodes → a.to < nodes → a.weight ≤ℤ pos height → Obeys (at xs) a → Obeys (raised t xs) a
+      raised_arc a lf lt w o = elim (split a.from lf) [
+        | inl f ↦
+            let ef : raised t xs a.from ≡ at xs a.from = raised-low t xs a.from f in
+            elim (split a.to lt) [
+              | inl g ↦ omega (arith, ints, raised-low t xs a.to g)
+              | inr g ↦ absurd (omega (arith, ints))
+            ]
+        | inr f ↦
+            let ef : raised t xs a.from ≡ at xs a.from +ℤ pos 1 = raised-high t xs a.from (omega (arith, ints)) in
+            elim (split a.to lt) [
+              | inl g ↦ omega (arith, ints, raised-low t xs a.to g)
+              | inr g ↦ omega (arith, ints, raised-high t xs a.to (omega (arith, ints)))
+            ]
+      ]
+
+      raised_execution : IsExecution nodes arcs (values_by (raised t xs) nodes)
+      raised_execution = execution_by (raised t xs) nodes arcs within (λ k d l. raised_arc (get_or arcs k d) (within k d l).0 (within k d l).1 (low_enough k d l) (execution.obeys k d l))
+
+      not_above : at xs q ≤ℤ t
+      not_above = elim (split q q_below) [
+        | inl f ↦ f
+        | inr f ↦
+            let one : at (values_by (raised t xs) nodes) q ≡ raised t xs q = at-values_by (raised t xs) nodes q q_below in
+            let other : at (values_by (raised t xs) nodes) p ≡ raised t xs p = at-values_by (raised t xs) nodes p p_below in
+            let later : raised t xs q ≡ at xs q +ℤ pos 1 = raised-high t xs q (omega (arith, ints)) in
+            let same : raised t xs p ≡ at xs p = raised-low t xs p from in
+            let is : (at xs q -ℤ at xs p) ≡ h = greatest.attained.2 in
+            let most : (at (values_by (raised t xs) nodes) q -ℤ at (values_by (raised t xs) nodes) p) ≤ℤ h = greatest.most (values_by (raised t xs) nodes) raised_execution in
+            absurd (omega (arith, ints))
+      ]
+
+    abbrev rung : ℕ → ℤ
+    rung j = at xs p +ℤ pos (j * height)
+
+    -- at each level fewer values are left, or the second node is not above it
+    rungs : (j : ℕ) → (above (rung j) xs + j ≤ nodes) ⊎ (at xs q ≤ℤ rung j)
+    rungs zero = inl (omega (arith, above-le (rung 0) xs, execution.one_each))
+    rungs (suc j) =
+        let more : pos (suc j * height) ≡ pos (j * height) +ℤ pos height = (let m : suc j * height ≡ j * height + height = omega arith in ap pos m) in
+        let next : rung (suc j) ≡ rung j +ℤ pos height = omega (arith, ints, more) in
+        let up : rung j ≤ℤ rung (suc j) = omega (arith, ints, next) in
+        elim (rungs j) [
+          | inr z ↦ inr (omega (arith, ints, up, z))
+          | inl fewer ↦ elim (gap (rung j) (rung (suc j)) xs up) [
+            | inl f ↦ inl (omega (arith, f, fewer))
+            | inr g ↦
+                let split : (k : ℕ) → k < nodes → (at xs k ≤ℤ rung j) ⊎ ((rung j +ℤ pos height) <ℤ at xs k) =
+                (λ k l. subst (λ v. (at xs k ≤ℤ rung j) ⊎ (v <ℤ at xs k)) next (g k (omega (arith, l, execution.one_each)))) in
+                let no_more : at xs q ≤ℤ rung j = not_above (rung j) (omega (arith, ints)) split in
+                inr (omega (arith, ints, up, no_more))
+          ]
+        ]
+
+    pub greatest_height : h ≤ℤ pos (nodes * height)
+    greatest_height =
+        let below : at xs q ≤ℤ rung nodes = elim (rungs nodes) [
+          | inl few ↦ from_none_above (rung nodes) xs (omega (arith, few)) q (omega (arith, q_below, execution.one_each))
+          | inr is ↦ is
+        ] in
+        let is : (at xs q -ℤ at xs p) ≡ h = greatest.attained.2 in
+        omega (arith, ints, below, is)
+
 -- ---- how high a height of a graph may be
 -- weights are below 2^93, so over at most so many nodes every sum of a simple path is at most 2^115
-pub height_low : (n : ℕ) → n ≤ most_nodes → n * 2 ^ 93 ≤ 2 ^ 115
+pub height_low : (n : ℕ) → n ≤ most_nodes → n * 2 ^ 93 ≤ 2 ^ path_bits
 height_low n few = omega (arith, few)

@@ -5,7 +5,7 @@ use Rattle.std.proofs.lemmas.Int.{ints}
 use Rattle.std.proofs.lemmas.List.Elements.{All-from_recursion, All-contains}
 use Rattle.problem_model.specs.Executions.{Arc, at, Obeys, IsExecution, AreWithin, values_by}
 use Rattle.problem_model.specs.Paths.{sum_of, IsPath, IsContradiction, IsSimple}
-use Rattle.problem_model.specs.Differences.{IsGreatest, IsUnbounded, IsLeast, IsBefore, IsAfter, IsSame, IsOpen}
+use Rattle.problem_model.specs.Differences.{IsGreatest, IsUnbounded, IsLeast, IsAlwaysBefore, IsAfter, IsSimultaneous, IsOpen}
 use Rattle.problem_model.specs.Earliest.{IsNonNegative, IsEarliest, AreUpTo}
 use Rattle.problem_model.specs.Cuts.{IsCut, raised_outside}
 use Rattle.problem_model.specs.Rows.{IsClosedRow, IsGreatestLead, IsLeastLead, attaining, least_differences}
@@ -161,26 +161,26 @@ unbounded = cut_unbounded 3 three first_two low 0 2 three-within cut low-executi
 bounded : IsUnbounded 3 three 0 1 → ⊥
 bounded u = unbounded_not_greatest 3 three 0 1 (pos 5) u greatest-five
 
-before : IsBefore 3 three 0 1
+before : IsAlwaysBefore 3 three 0 1
 before xs x = let o : Obeys (at xs) least_two = All-contains (Obeys (at xs)) three least_two x.obeys has_two in omega (arith, ints)
 
 after : IsAfter 3 three 1 0
 after = before
 
-not_before : IsBefore 3 three 1 0 → ⊥
+not_before : IsAlwaysBefore 3 three 1 0 → ⊥
 not_before b = let l : pos 2 <ℤ pos 0 = b low low-execution in omega (arith, ints)
 
 -- x1 - x0 ≤ 0 and x0 - x1 ≤ 0
 abbrev level : List Arc
 level = record { from = 0; to = 1; weight = pos 0 } ∷ record { from = 1; to = 0; weight = pos 0 } ∷ []
 
-same : IsSame 2 level 0 1
+same : IsSimultaneous 2 level 0 1
 same xs x =
     let up : Obeys (at xs) (record { from = 0; to = 1; weight = pos 0 }) = All-contains (Obeys (at xs)) level (record { from = 0; to = 1; weight = pos 0 }) x.obeys (0, omega arith, refl) in
     let down : Obeys (at xs) (record { from = 1; to = 0; weight = pos 0 }) = All-contains (Obeys (at xs)) level (record { from = 1; to = 0; weight = pos 0 }) x.obeys (1, omega arith, refl) in
     omega (arith, ints)
 
-not_same : IsSame 3 three 0 1 → ⊥
+not_same : IsSimultaneous 3 three 0 1 → ⊥
 not_same s = let e : pos 0 ≡ pos 2 = s low low-execution in omega (arith, ints)
 
 -- without any arc two nodes may lie each way

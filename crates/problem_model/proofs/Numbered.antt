@@ -6,7 +6,7 @@ use Rattle.std.proofs.lemmas.List.Elements.{All-contains}
 use Rattle.problem_model.specs.declared.items.Follow.{Follow}
 use Rattle.problem_model.specs.Problem.{ProblemLists, IsChained, LeadsOn}
 use Rattle.problem_model.specs.Bounds.{LinesLead, ComesAfter}
-use Rattle.problem_model.specs.ChainNumbers.{AreChainNumbers, with_follow, IsFrom, Joins}
+use Rattle.problem_model.specs.ChainNumbers.{AreChainNumbers, with_follow, IsFrom, JoinsChains}
 use Rattle.problem_model.proofs.Chains.{Among, among}
 use Rattle.problem_model.proofs.OneList.{contained}
 use Rattle.problem_model.proofs.Following.{by_last, follow_one, ends_rise}
@@ -117,7 +117,7 @@ module _ (p : ProblemLists) (chained : IsChained p) (f : Follow) (leads_on : Lea
       by_line (inr is) (inl way) = inr (([], sym leads.1 ∙ sym (ap (λ (v : Follow). v.earlier) is)), subst (λ (v : Follow). Way p v.later d) (sym is) way)
       by_line (inr is) (inr both) = absurd (not_back (subst (λ (v : Follow). Way p v.later f.earlier) (sym is) both.0))
 
-  module _ (old new : ℕ → ℕ) (numbers : AreChainNumbers p old) (joins : Joins p f old new) where
+  module _ (old new : ℕ → ℕ) (numbers : AreChainNumbers p old) (joins : JoinsChains p f old new) where
     inside_earlier : f.earlier < length p.clocks
     inside_earlier = let a = leads_on.0 in let b = leads_on.1 in omega (arith, a, b)
 

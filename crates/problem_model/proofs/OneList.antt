@@ -7,15 +7,15 @@ use Rattle.problem_model.specs.declared.items.Node.{Node}
 use Rattle.problem_model.specs.declared.items.Node.TheVariants as nodes
 use Rattle.problem_model.specs.Problem.{ProblemLists}
 use Rattle.problem_model.specs.Bounds.{Times}
-use Rattle.problem_model.specs.Nodes.{Reading, ComesBefore, AreReadings, event_nodes, reading_nodes, nodes_of, Lists}
+use Rattle.problem_model.specs.Nodes.{Reading, IsEarlierReading, AreReadings, event_nodes, reading_nodes, nodes_of, Lists}
 use Rattle.problem_model.proofs.Chains.{Among, among, each_among, Rises, rises}
 
 -- ---- one list of readings
-irreflexive : (a b : Reading) → ComesBefore a b → a ≡ b → ⊥
+irreflexive : (a b : Reading) → IsEarlierReading a b → a ≡ b → ⊥
 irreflexive a b (inl less) is = let same : a.0 ≡ b.0 = ap (λ (r : Reading). r.0) is in omega (arith, less, same)
 irreflexive a b (inr later) is = let same : a.1 ≡ b.1 = ap (λ (r : Reading). r.1) is in omega (arith, later.1, same)
 
-no_circle : (a b : Reading) → ComesBefore a b → ComesBefore b a → ⊥
+no_circle : (a b : Reading) → IsEarlierReading a b → IsEarlierReading b a → ⊥
 no_circle a b (inl x) (inl y) = omega (arith, x, y)
 no_circle a b (inl x) (inr y) = omega (arith, x, y.0)
 no_circle a b (inr x) (inl y) = omega (arith, x.0, y)
@@ -32,7 +32,7 @@ Within rs ss = (r : Reading) → Among rs r → Among ss r
 heads_one : (a b : Reading) (rs ss : List Reading) → Rises (a ∷ rs) → Rises (b ∷ ss) → (a ≡ b) ⊎ Among ss a → (b ≡ a) ⊎ Among rs b → a ≡ b
 heads_one a b rs ss x y (inl is) other = is
 heads_one a b rs ss x y (inr at) (inl is) = sym is
-heads_one a b rs ss x y (inr at) (inr at') = absurd (no_circle a b (each_among (ComesBefore a) rs b x.0 at') (each_among (ComesBefore b) ss a y.0 at))
+heads_one a b rs ss x y (inr at) (inr at') = absurd (no_circle a b (each_among (IsEarlierReading a) rs b x.0 at') (each_among (IsEarlierReading b) ss a y.0 at))
 
 flip : (a b : Reading) (rs : List Reading) → Among (b ∷ rs) a → (a ≡ b) ⊎ Among rs a
 flip a b rs (inl is) = inl (sym is)
@@ -42,7 +42,7 @@ tail_within : (a b : Reading) (rs ss : List Reading) → Rises (a ∷ rs) → a 
 tail_within a b rs ss x is all r at = behind (all r (inr at))
   where
     behind : Among (b ∷ ss) r → Among ss r
-    behind (inl same) = absurd (irreflexive a r (each_among (ComesBefore a) rs r x.0 at) (is ∙ same))
+    behind (inl same) = absurd (irreflexive a r (each_among (IsEarlierReading a) rs r x.0 at) (is ∙ same))
     behind (inr there) = there
 
 lists_one : (rs ss : List Reading) → Rises rs → Rises ss → ((r : Reading) → Among rs r → Among ss r) → ((r : Reading) → Among ss r → Among rs r) → rs ≡ ss
@@ -112,11 +112,11 @@ both_apart : {X : Type 0} (P : X → Type 0) (xs ys : List X) → AllByRecursion
 both_apart P [] ys all all' = all'
 both_apart P (x ∷ xs) ys all all' = (all.0, both_apart P xs ys all.1 all')
 
-later_apart : (a b : Reading) → ComesBefore a b → (nat_eq b.0 a.0 && nat_eq b.1 a.1) ≡ false
+later_apart : (a b : Reading) → IsEarlierReading a b → (nat_eq b.0 a.0 && nat_eq b.1 a.1) ≡ false
 later_apart a b (inl less) = grind (arith, less)
 later_apart a b (inr later) = grind (arith, later.1)
 
-rest_apart : (a : Reading) (rs : List Reading) → AllByRecursion (ComesBefore a) rs → AllByRecursion (λ m. node_eq m (nodes.Reading a.0 a.1) ≡ false) (reading_nodes rs)
+rest_apart : (a : Reading) (rs : List Reading) → AllByRecursion (IsEarlierReading a) rs → AllByRecursion (λ m. node_eq m (nodes.Reading a.0 a.1) ≡ false) (reading_nodes rs)
 unfolding node_eq
 rest_apart a [] all = tt
 rest_apart a (r ∷ rs) all = (later_apart a r all.0, rest_apart a rs all.1)

@@ -3,10 +3,10 @@ use Rattle.std.proofs.Common.{◌≡◌, ℕ, List, arith}
 use Rattle.std.specs.Prelude.{ℤ, pos, ◌≤ℤ◌, ◌<ℤ◌, ◌↔◌}
 use Rattle.std.proofs.lemmas.Int.{ints}
 use Rattle.problem_model.specs.Executions.{Arc, at, difference}
-use Rattle.problem_model.specs.Differences.{IsGreatest, IsUnbounded, IsBefore, IsSame}
+use Rattle.problem_model.specs.Differences.{IsGreatest, IsUnbounded, IsAlwaysBefore, IsSimultaneous}
 
 -- p comes before q exactly where the greatest x_p - x_q is below 0
-pub before_greatest : (nodes : ℕ) (arcs : List Arc) (p q : ℕ) (h : ℤ) → IsGreatest nodes arcs q p h → IsBefore nodes arcs p q ↔ (h <ℤ pos 0)
+pub before_greatest : (nodes : ℕ) (arcs : List Arc) (p q : ℕ) (h : ℤ) → IsGreatest nodes arcs q p h → IsAlwaysBefore nodes arcs p q ↔ (h <ℤ pos 0)
 before_greatest nodes arcs p q h g = (
   λ b.
       let l : at g.attained.0 p <ℤ at g.attained.0 q = b g.attained.0 g.attained.1 in
@@ -16,7 +16,7 @@ before_greatest nodes arcs p q h g = (
 )
 
 -- where x_p - x_q is unbounded, p does not come before q
-pub unbounded_not_before : (nodes : ℕ) (arcs : List Arc) (p q : ℕ) → IsUnbounded nodes arcs q p → IsBefore nodes arcs p q → ⊥
+pub unbounded_not_before : (nodes : ℕ) (arcs : List Arc) (p q : ℕ) → IsUnbounded nodes arcs q p → IsAlwaysBefore nodes arcs p q → ⊥
 unbounded_not_before nodes arcs p q u b =
     let more : pos 0 <ℤ difference (at (u (pos 0)).0) q p = (u (pos 0)).2 in
     let l : at (u (pos 0)).0 p <ℤ at (u (pos 0)).0 q = b (u (pos 0)).0 (u (pos 0)).1 in
@@ -25,7 +25,7 @@ unbounded_not_before nodes arcs p q u b =
 -- p and q come at the same time exactly where both greatest differences are 0
 pub same_greatest : (nodes : ℕ) (arcs : List Arc) (p q : ℕ) (g h : ℤ)
     → IsGreatest nodes arcs p q g → IsGreatest nodes arcs q p h
-    → IsSame nodes arcs p q ↔ ((g ≡ pos 0) × (h ≡ pos 0))
+    → IsSimultaneous nodes arcs p q ↔ ((g ≡ pos 0) × (h ≡ pos 0))
 same_greatest nodes arcs p q g h a b = (
   λ s.
       let ea : at a.attained.0 p ≡ at a.attained.0 q = s a.attained.0 a.attained.1 in
@@ -42,7 +42,7 @@ same_greatest nodes arcs p q g h a b = (
 )
 
 -- where x_q - x_p is unbounded, p and q do not come at the same time
-pub unbounded_not_same : (nodes : ℕ) (arcs : List Arc) (p q : ℕ) → IsUnbounded nodes arcs p q → IsSame nodes arcs p q → ⊥
+pub unbounded_not_same : (nodes : ℕ) (arcs : List Arc) (p q : ℕ) → IsUnbounded nodes arcs p q → IsSimultaneous nodes arcs p q → ⊥
 unbounded_not_same nodes arcs p q u s =
     let more : pos 0 <ℤ difference (at (u (pos 0)).0) p q = (u (pos 0)).2 in
     let e : at (u (pos 0)).0 p ≡ at (u (pos 0)).0 q = s (u (pos 0)).0 (u (pos 0)).1 in

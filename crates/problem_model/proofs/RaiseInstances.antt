@@ -3,7 +3,7 @@ use Rattle.std.proofs.Common.{ℕ, zero, suc, ◌<◌, ◌≤◌, List, [], ◌�
 use Rattle.std.specs.Prelude.{ℤ, pos, neg_ℤ, ◌+ℤ◌, ◌-ℤ◌, ◌≤ℤ◌, ◌<ℤ◌, ◌≢◌, slice_index_or}
 use Rattle.std.proofs.lemmas.Int.{ints}
 use Rattle.problem_model.specs.Executions.{Arc, at}
-use Rattle.problem_model.specs.Insertions.{Raises, IsMet, IsLifted, IsKeptRaise, IsAsked, GoesOn, FollowsParents, HasChain, HaveChains, IsAsking, IsRaisedTo}
+use Rattle.problem_model.specs.Insertions.{Raises, IsMet, IsLifted, IsKeptRaise, IsAsked, ChainGoesOn, FollowsParents, HasChain, HaveChains, IsAsking, IsRaisedTo}
 use Rattle.problem_model.proofs.Instances.{most_five, least_two, least_one, most_two, low, less_not_equal}
 use Rattle.problem_model.proofs.ArcInstances.{three_numbered, four_numbered}
 
@@ -79,10 +79,10 @@ other_arc_not_asked : IsAsked four_numbered 0 zero_asked (raises (pos 1 ∷ pos 
 other_arc_not_asked a = less_not_equal 0 1 (omega arith) a.begins
 
 -- a chain goes on at node 0, which has risen, and not at node 1
-goes_on : GoesOn (at low) one_asked 0 (most_two ∷ [])
+goes_on : ChainGoesOn (at low) one_asked 0 (most_two ∷ [])
 goes_on = omega (arith, ints)
 
-resting_not_on : GoesOn (at low) one_asked 1 (least_two ∷ most_two ∷ []) → ⊥
+resting_not_on : ChainGoesOn (at low) one_asked 1 (least_two ∷ most_two ∷ []) → ⊥
 resting_not_on g = let l : pos 2 <ℤ pos 2 = g in omega (arith, ints)
 
 -- B and D lead from node 1 to the head of D

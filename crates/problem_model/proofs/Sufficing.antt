@@ -14,7 +14,7 @@ use Rattle.problem_model.specs.declared.items.Bound.TheVariants.{SpanMost, SpanL
 use Rattle.problem_model.specs.declared.items.Node.TheVariants as nodes
 use Rattle.problem_model.specs.Problem.{ProblemLists, IsChained}
 use Rattle.problem_model.specs.Bounds.{Constraint, Obeys, Times, IsReading, ClockAt, IsExecution}
-use Rattle.problem_model.specs.Nodes.{Reading, ComesBefore, AreReadings}
+use Rattle.problem_model.specs.Nodes.{Reading, IsEarlierReading, AreReadings}
 use Rattle.problem_model.specs.ShortList.{ObeysNamed, short_list, span_bounds, event_bounds, message_bounds, most_bound, clocks_before, first_reading, nearest_reading, follow_bound, follow_bounds}
 use Rattle.problem_model.proofs.Chains.{Among, among, Rises, rises, all_append_left, all_append_right, SpansNeighbours, all_spans, AtMost, AtLeast, most_joined, least_joined}
 use Rattle.problem_model.proofs.Following.{RunsOn, every_before}
@@ -23,7 +23,7 @@ use Rattle.problem_model.proofs.OneList.{contained}
 equal_true : (a b : ℕ) → a ≡ b → nat_eq a b ≡ true
 equal_true a b is = grind (arith, is)
 
-neighbour_less : (a b : Reading) → ComesBefore a b → a.0 ≡ b.0 → a.1 < b.1
+neighbour_less : (a b : Reading) → IsEarlierReading a b → a.0 ≡ b.0 → a.1 < b.1
 neighbour_less a b (inl less) same = absurd (omega (arith, less, same))
 neighbour_less a b (inr later) same = later.1
 

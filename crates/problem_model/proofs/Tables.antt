@@ -6,41 +6,41 @@ use Rattle.std.proofs.lemmas.List.Elements.{All-contains, Contains-get_or, Conta
 use Rattle.problem_model.specs.Executions.{Arc, at, Obeys, IsExecution, AreWithin}
 use Rattle.problem_model.specs.Earliest.{IsNonNegative, IsEarliest}
 use Rattle.problem_model.specs.Reversal.{reversed, all_reversed}
-use Rattle.problem_model.specs.Tables.{ArcTable, Lists, listed, ObeysAll, without, reversed_table}
+use Rattle.problem_model.specs.Tables.{ArcTable, Lists, arcs_among, ObeysAll, without, reversed_table}
 use Rattle.problem_model.proofs.Earliest.{earliest_least}
 
 nothing_in : {X : Type 0} (x : X) → Contains [] x → ⊥
 nothing_in x c = let l : c.0 < 0 = c.1 in omega arith
 
-listed-one : (table : ArcTable) (n : ℕ) → table.in_force n ≡ true → listed table (suc n) ≡ listed table n ++ table.arc n ∷ []
-listed-one table n h = ap (λ r. listed table n ++ r) (cond-true (table.in_force n) (table.arc n ∷ []) [] h)
+listed-one : (table : ArcTable) (n : ℕ) → table.in_force n ≡ true → arcs_among table (suc n) ≡ arcs_among table n ++ table.arc n ∷ []
+listed-one table n h = ap (λ r. arcs_among table n ++ r) (cond-true (table.in_force n) (table.arc n ∷ []) [] h)
 
-listed-none : (table : ArcTable) (n : ℕ) → table.in_force n ≡ false → listed table (suc n) ≡ listed table n ++ []
-listed-none table n h = ap (λ r. listed table n ++ r) (cond-false (table.in_force n) (table.arc n ∷ []) [] h)
+listed-none : (table : ArcTable) (n : ℕ) → table.in_force n ≡ false → arcs_among table (suc n) ≡ arcs_among table n ++ []
+listed-none table n h = ap (λ r. arcs_among table n ++ r) (cond-false (table.in_force n) (table.arc n ∷ []) [] h)
 
-listed_all : (table : ArcTable) (n j : ℕ) → j < n → table.in_force j ≡ true → Contains (listed table n) (table.arc j)
+listed_all : (table : ArcTable) (n j : ℕ) → j < n → table.in_force j ≡ true → Contains (arcs_among table n) (table.arc j)
 listed_all table zero j l h = absurd (omega arith)
 listed_all table (suc n) j l h = elim (cases_eq j n) [
   | inl e ↦ subst (λ r. Contains r (table.arc j)) (sym (listed-one table n (ap table.in_force (sym e) ∙ h))) (subst (λ i. Contains
-      (listed table n ++ table.arc i ∷ []) (table.arc j)) e (Contains-push (listed table n) (table.arc j)))
-  | inr w ↦ Contains-append_left (listed table n) (if table.in_force n then table.arc n ∷ [] else []) (table.arc j) (listed_all table n j (omega arith) h)
+      (arcs_among table n ++ table.arc i ∷ []) (table.arc j)) e (Contains-push (arcs_among table n) (table.arc j)))
+  | inr w ↦ Contains-append_left (arcs_among table n) (if table.in_force n then table.arc n ∷ [] else []) (table.arc j) (listed_all table n j (omega arith) h)
 ]
 
-listed_only : (table : ArcTable) (n : ℕ) (a : Arc) → Contains (listed table n) a → (j : ℕ) × (table.in_force j ≡ true) × (table.arc j ≡ a)
+listed_only : (table : ArcTable) (n : ℕ) (a : Arc) → Contains (arcs_among table n) a → (j : ℕ) × (table.in_force j ≡ true) × (table.arc j ≡ a)
 listed_only table zero a c = absurd (nothing_in a c)
 listed_only table (suc n) a c = elim (cases_Bool (table.in_force n)) [
-  | inl t ↦ elim (Contains-push_cases (listed table n) (table.arc n) a (subst (λ r. Contains r a) (listed-one table n t) c)) [
+  | inl t ↦ elim (Contains-push_cases (arcs_among table n) (table.arc n) a (subst (λ r. Contains r a) (listed-one table n t) c)) [
     | inl d ↦ listed_only table n a d
     | inr e ↦ (n, t, e)
   ]
-  | inr f ↦ elim (Contains-append_cases (listed table n) [] a (subst (λ r. Contains r a) (listed-none table n f) c)) [
+  | inr f ↦ elim (Contains-append_cases (arcs_among table n) [] a (subst (λ r. Contains r a) (listed-none table n f) c)) [
     | inl d ↦ listed_only table n a d
     | inr d ↦ absurd (nothing_in a d)
   ]
 ]
 
 -- where only the first so many numbers are in force, their list has the arcs in force
-pub lists_listed : (table : ArcTable) (n : ℕ) → ((j : ℕ) → table.in_force j ≡ true → j < n) → Lists table (listed table n)
+pub lists_listed : (table : ArcTable) (n : ℕ) → ((j : ℕ) → table.in_force j ≡ true → j < n) → Lists table (arcs_among table n)
 lists_listed table n few = record { all = λ j h. listed_all table n j (few j h) h; only = listed_only table n }
 
 -- the list of the reversed table

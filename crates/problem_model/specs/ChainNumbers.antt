@@ -17,5 +17,5 @@ abbrev pub IsFrom : ProblemLists → ℕ → ℕ → Type 0
 IsFrom p l k = (l ≡ k) ⊎ ComesAfter p l k
 
 -- the clocks from the later one of the follow on take the number of the earlier one, and all others keep theirs
-abbrev pub Joins : ProblemLists → Follow → (ℕ → ℕ) → (ℕ → ℕ) → Type 0
-Joins p f old new = (k : ℕ) → k < length p.clocks → (IsFrom p f.later k × (new k ≡ old f.earlier)) ⊎ ((IsFrom p f.later k → ⊥) × (new k ≡ old k))
+abbrev pub JoinsChains : ProblemLists → Follow → (ℕ → ℕ) → (ℕ → ℕ) → Type 0
+JoinsChains p f old new = (k : ℕ) → k < length p.clocks → (IsFrom p f.later k × (new k ≡ old f.earlier)) ⊎ ((IsFrom p f.later k → ⊥) × (new k ≡ old k))

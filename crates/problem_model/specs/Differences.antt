@@ -16,17 +16,17 @@ abbrev pub IsLeast : ℕ → List Arc → ℕ → ℕ → ℤ → Type 0
 IsLeast nodes arcs p q h = IsGreatest nodes arcs q p (neg_ℤ h)
 
 -- p comes before q in every execution
-abbrev pub IsBefore : ℕ → List Arc → ℕ → ℕ → Type 0
-IsBefore nodes arcs p q = (xs : List ℤ) → IsExecution nodes arcs xs → at xs p <ℤ at xs q
+abbrev pub IsAlwaysBefore : ℕ → List Arc → ℕ → ℕ → Type 0
+IsAlwaysBefore nodes arcs p q = (xs : List ℤ) → IsExecution nodes arcs xs → at xs p <ℤ at xs q
 
 -- p comes after q in every execution
 abbrev pub IsAfter : ℕ → List Arc → ℕ → ℕ → Type 0
-IsAfter nodes arcs p q = IsBefore nodes arcs q p
+IsAfter nodes arcs p q = IsAlwaysBefore nodes arcs q p
 
 -- p and q come at the same time in every execution
-abbrev pub IsSame : ℕ → List Arc → ℕ → ℕ → Type 0
-IsSame nodes arcs p q = (xs : List ℤ) → IsExecution nodes arcs xs → at xs p ≡ at xs q
+abbrev pub IsSimultaneous : ℕ → List Arc → ℕ → ℕ → Type 0
+IsSimultaneous nodes arcs p q = (xs : List ℤ) → IsExecution nodes arcs xs → at xs p ≡ at xs q
 
 -- none of these three is so
 abbrev pub IsOpen : ℕ → List Arc → ℕ → ℕ → Type 0
-IsOpen nodes arcs p q = (IsBefore nodes arcs p q → ⊥) × (IsAfter nodes arcs p q → ⊥) × (IsSame nodes arcs p q → ⊥)
+IsOpen nodes arcs p q = (IsAlwaysBefore nodes arcs p q → ⊥) × (IsAfter nodes arcs p q → ⊥) × (IsSimultaneous nodes arcs p q → ⊥)

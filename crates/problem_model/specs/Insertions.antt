@@ -57,15 +57,15 @@ pub record IsRaiseStep (table : ArcTable) (node : ℕ) (s s' : Raises) : Type 0 
   pub met : (j : ℕ) → table.in_force j ≡ true → (table.arc j).to ≡ node → IsMet table s' j
 
 -- where the chain goes on, the node has risen
-abbrev pub GoesOn : (ℕ → ℤ) → Raises → ℕ → List Arc → Type 0
-GoesOn old s k [] = Unit {0}
-GoesOn old s k (a ∷ steps) = old k <ℤ s.value k
+abbrev pub ChainGoesOn : (ℕ → ℤ) → Raises → ℕ → List Arc → Type 0
+ChainGoesOn old s k [] = Unit {0}
+ChainGoesOn old s k (a ∷ steps) = old k <ℤ s.value k
 
 -- the steps are the parents' arcs, from k to the head
 abbrev pub FollowsParents : ArcTable → (ℕ → ℤ) → Raises → ℕ → ℕ → List Arc → Type 0
 FollowsParents table old s head k [] = k ≡ head
 FollowsParents table old s head k (a ∷ steps) =
-    (table.in_force (s.parent k) ≡ true) × (table.arc (s.parent k) ≡ a) × (a.from ≡ k) × GoesOn old s a.to steps × FollowsParents table old s head a.to steps
+    (table.in_force (s.parent k) ≡ true) × (table.arc (s.parent k) ≡ a) × (a.from ≡ k) × ChainGoesOn old s a.to steps × FollowsParents table old s head a.to steps
 
 -- parents lead from k to the head; the value that k rises to and their weights make the head's old value; they are at
 -- most one more than the nodes that have risen. Where the head itself is to rise, this is a contradiction

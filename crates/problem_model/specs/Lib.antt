@@ -1,5 +1,6 @@
 pub mod Name
 pub mod NameInside
+pub mod Limits
 pub mod Problem
 pub mod Bounds
 pub mod Nodes

@@ -22,5 +22,5 @@ pub record IsClockName (text : List ℕ) : Type 0 where
   pub bytes : All (λ c. IsTrue (is_clock_byte c)) text
 
 -- a text in 48 bytes, with zeros behind it
-abbrev pub padded : List ℕ → List ℕ
-padded text = text ++ replicate (48 - length text) 0
+abbrev pub padded_name : List ℕ → List ℕ
+padded_name text = text ++ replicate (48 - length text) 0

@@ -6,23 +6,19 @@ use Rattle.problem_model.specs.declared.items.Event.{Event}
 use Rattle.problem_model.specs.Problem.{ProblemLists}
 use Rattle.problem_model.specs.Bounds.{IsReading, Times}
 
--- the most nodes of a graph or of a list of real times; as a problem of 2^21 events may have
-abbrev pub most_nodes : ℕ
-most_nodes = 2 ^ 22
-
 -- the place of a clock, and a stamp
 abbrev pub Reading : Type 0
 Reading = ℕ × ℕ
 
 -- by the clock's place, then by stamp
-abbrev pub ComesBefore : Reading → Reading → Type 0
-ComesBefore a b = (a.0 < b.0) ⊎ ((a.0 ≡ b.0) × (a.1 < b.1))
+abbrev pub IsEarlierReading : Reading → Reading → Type 0
+IsEarlierReading a b = (a.0 < b.0) ⊎ ((a.0 ≡ b.0) × (a.1 < b.1))
 
 -- the readings of a problem, each once, in their order
 pub record AreReadings (p : ProblemLists) (readings : List Reading) : Type 0 where
   pub each : (clock stamp : ℕ) → Contains readings (clock, stamp) → IsReading p clock stamp
   pub every : (clock stamp : ℕ) → IsReading p clock stamp → Contains readings (clock, stamp)
-  pub rising : AllPairs ComesBefore readings
+  pub rising : AllPairs IsEarlierReading readings
 
 -- the events by their numbers, from k on
 abbrev pub event_nodes : ℕ → List Event → List Node

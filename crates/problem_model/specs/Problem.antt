@@ -5,6 +5,7 @@ use Rattle.problem_model.specs.declared.items.Follow.{Follow}
 use Rattle.problem_model.specs.declared.items.Event.{Event}
 use Rattle.problem_model.specs.declared.items.Message.{Message}
 use Rattle.problem_model.specs.Name.{IsEventName, IsClockName}
+use Rattle.problem_model.specs.Limits.{most_clocks, most_events, most_messages}
 
 -- what a problem says: clocks, follows, events, messages. A follow has the places of two clocks and a gap, an event the
 -- place of its clock, a message the places of its two events
@@ -34,18 +35,6 @@ LeadsOn clocks f = (f.earlier < f.later) × (f.later < length clocks)
 pub record IsChained (p : ProblemLists) : Type 0 where
   pub follow_ends : All (LeadsOn p.clocks) p.follows
   pub laters_differ : AllPairs (λ a b. a.later ≢ b.later) p.follows
-
--- the most clocks of a problem: 65,536
-abbrev pub most_clocks : ℕ
-most_clocks = 65536
-
--- the most events of a problem: 2^21, which is 2,097,152
-abbrev pub most_events : ℕ
-most_events = 2 ^ 21
-
--- the most messages of a problem: 2^21
-abbrev pub most_messages : ℕ
-most_messages = 2 ^ 21
 
 -- names are spelled as names and tell clocks and events apart, each place is one of its list, follows make chains in which
 -- no clock is the earlier or the later of two, and a message joins two events, no other one the same two in this order

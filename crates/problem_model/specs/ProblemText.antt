@@ -18,9 +18,9 @@ abbrev pub followed_head : List (List ℕ)
 followed_head = codes "problem" ∷ codes "2" ∷ []
 
 -- the words of the first line of a problem with these follows
-abbrev pub head_of : List Follow → List (List ℕ)
-head_of [] = problem_head
-head_of (f ∷ follows) = followed_head
+abbrev pub head_words : List Follow → List (List ℕ)
+head_words [] = problem_head
+head_words (f ∷ follows) = followed_head
 
 -- the line of a clock
 abbrev pub clock_line : Clock → List ℕ
@@ -61,5 +61,5 @@ message_line events m = line_of (codes "message" ∷ event_name events m.send �
 
 -- the only text of a problem
 abbrev pub problem_text : ProblemLists → List ℕ
-problem_text p = line_of (head_of p.follows) ++ flat_map clock_line p.clocks ++ (flat_map (follow_line p.clocks) p.follows ++ flat_map (event_line p.clocks) p.events)
+problem_text p = line_of (head_words p.follows) ++ flat_map clock_line p.clocks ++ (flat_map (follow_line p.clocks) p.follows ++ flat_map (event_line p.clocks) p.events)
     ++ flat_map (message_line p.events) p.messages ++ line_of (codes "end" ∷ [])

@@ -14,9 +14,9 @@ pub record Lists (table : ArcTable) (arcs : List Arc) : Type 0 where
   pub only : (a : Arc) → Contains arcs a → (j : ℕ) × (table.in_force j ≡ true) × (table.arc j ≡ a)
 
 -- the arcs in force among the first so many numbers
-abbrev pub listed : ArcTable → ℕ → List Arc
-listed table zero = []
-listed table (suc n) = listed table n ++ (if table.in_force n then table.arc n ∷ [] else [])
+abbrev pub arcs_among : ArcTable → ℕ → List Arc
+arcs_among table zero = []
+arcs_among table (suc n) = arcs_among table n ++ (if table.in_force n then table.arc n ∷ [] else [])
 
 -- the values obey each arc in force
 abbrev pub ObeysAll : ArcTable → (ℕ → ℤ) → Type 0

@@ -3,10 +3,10 @@
 ghost use Rattle.std.specs.Prelude.{◌≡◌, ℕ, ◌+◌, ◌*◌, ◌<◌, ◌≤◌, ◌↔◌, List, [], ◌∷◌, ◌++◌, length, map, ℤ, pos, neg_ℤ, ◌-ℤ◌, ◌≤ℤ◌, ◌<ℤ◌, Bool, true, false, All};
 ghost use Rattle.problem_model.specs.Executions.{Arc, at, difference, IsExecution, AreWithin, values_by};
 ghost use Rattle.problem_model.specs.Paths.{sum_of, IsPath, IsContradiction, IsSimple};
-ghost use Rattle.problem_model.specs.Differences.{IsGreatest, IsLeast, IsUnbounded, IsBefore, IsSame};
+ghost use Rattle.problem_model.specs.Differences.{IsGreatest, IsLeast, IsUnbounded, IsAlwaysBefore, IsSimultaneous};
 ghost use Rattle.problem_model.specs.Earliest.{IsEarliest, AreUpTo};
 ghost use Rattle.problem_model.specs.Rows.{IsClosedRow, IsGreatestLead, IsLeastLead, attaining, least_differences};
-ghost use Rattle.problem_model.specs.Tables.{ArcTable, Lists, listed, ObeysAll, reversed_table};
+ghost use Rattle.problem_model.specs.Tables.{ArcTable, Lists, arcs_among, ObeysAll, reversed_table};
 ghost use Rattle.problem_model.specs.Parents.{Cells, IsRow};
 ghost use Rattle.problem_model.specs.Reversal.{all_reversed, negated, walked_back};
 ghost use Rattle.problem_model.specs.Cuts.{IsCut, raised_outside};
@@ -33,12 +33,12 @@ pub fn paths()
 
 /// The order of two nodes is that of their greatest differences both ways.
 pub fn orders()
-    ensures before { (nodes : ℕ) (arcs : List Arc) (p q : ℕ) (h : ℤ) → IsGreatest nodes arcs q p h → IsBefore nodes arcs p q ↔ (h <ℤ pos 0) }
-    ensures not_before { (nodes : ℕ) (arcs : List Arc) (p q : ℕ) → IsUnbounded nodes arcs q p → IsBefore nodes arcs p q → ⊥ }
+    ensures before { (nodes : ℕ) (arcs : List Arc) (p q : ℕ) (h : ℤ) → IsGreatest nodes arcs q p h → IsAlwaysBefore nodes arcs p q ↔ (h <ℤ pos 0) }
+    ensures not_before { (nodes : ℕ) (arcs : List Arc) (p q : ℕ) → IsUnbounded nodes arcs q p → IsAlwaysBefore nodes arcs p q → ⊥ }
     ensures same { (nodes : ℕ) (arcs : List Arc) (p q : ℕ) (g h : ℤ)
         → IsGreatest nodes arcs p q g → IsGreatest nodes arcs q p h
-        → IsSame nodes arcs p q ↔ ((g ≡ pos 0) × (h ≡ pos 0)) }
-    ensures not_same { (nodes : ℕ) (arcs : List Arc) (p q : ℕ) → IsUnbounded nodes arcs p q → IsSame nodes arcs p q → ⊥ }
+        → IsSimultaneous nodes arcs p q ↔ ((g ≡ pos 0) × (h ≡ pos 0)) }
+    ensures not_same { (nodes : ℕ) (arcs : List Arc) (p q : ℕ) → IsUnbounded nodes arcs p q → IsSimultaneous nodes arcs p q → ⊥ }
 {}
 
 /// A cut makes differences out of it unbounded.
@@ -152,7 +152,7 @@ pub fn simple_paths()
 
 /// Arcs by number have a list, whose executions are the values that obey each arc in force.
 pub fn tables()
-    ensures listed { (table : ArcTable) (count : ℕ) → ((j : ℕ) → table.in_force j ≡ true → j < count) → Lists table (listed table count) }
+    ensures listed { (table : ArcTable) (count : ℕ) → ((j : ℕ) → table.in_force j ≡ true → j < count) → Lists table (arcs_among table count) }
     ensures reversed { (table : ArcTable) (arcs : List Arc) → Lists table arcs → Lists (reversed_table table) (all_reversed arcs) }
     ensures obeyed { (nodes : ℕ) (table : ArcTable) (arcs : List Arc) (xs : List ℤ)
         → Lists table arcs → IsExecution nodes arcs xs

@@ -10,9 +10,11 @@
 mod bounds;
 pub mod differences;
 mod items;
+mod limits;
 mod name;
 pub mod numbers;
 
 pub use bounds::{follows_join_neighbours, nodes_are_one_list, short_list_suffices};
 pub use items::{Bound, Clock, Event, Follow, Message, Node};
+pub use limits::{MOST_CLOCKS, MOST_EVENTS, MOST_MESSAGES, MOST_STEPS};
 pub use name::Name;

@@ -19,15 +19,15 @@ pub struct Name {
 
 impl Model for Name {
     ghost use Rattle.std.specs.Prelude.{◌≡◌, ◌-◌, ◌≤◌, ℕ, List, take, drop, length};
-    ghost use Rattle.problem_model.specs.Name.{IsEventName, padded};
+    ghost use Rattle.problem_model.specs.Name.{IsEventName, padded_name};
 
     ghost Value = { List ℕ };
 
     ghost view = { λ n. take n.len n.bytes };
 
-    ghost invariant = { λ n. (n.len ≤ 48) × IsEventName (take n.len n.bytes) × (n.bytes ≡ padded (take n.len n.bytes)) };
+    ghost invariant = { λ n. (n.len ≤ 48) × IsEventName (take n.len n.bytes) × (n.bytes ≡ padded_name (take n.len n.bytes)) };
 
-    ghost inverse = { λ text. record { bytes = padded text; len = length text } };
+    ghost inverse = { λ text. record { bytes = padded_name text; len = length text } };
 
     ghost use Rattle.problem_model.specs.NameInside.{name_back};
 

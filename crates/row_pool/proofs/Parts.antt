@@ -2,15 +2,15 @@
 use Rattle.std.proofs.Common.{◌≡◌, ℕ, ◌+◌, ◌-◌, ◌≤◌, List, ◌++◌, length, take, drop, refl, sym, ap, ◌∙◌, arith, append_assoc, length-append, length-drop, length-take}
 use Rattle.std.proofs.lemmas.List.{take-append-le, drop-append-le, length-take-le, take_at, drop_at, take-append-drop, drop-take, take-take}
 use Rattle.row_pool.specs.declared.cell.Cell.{Cell}
-use Rattle.row_pool.specs.Writing.{put, Two, LeavesBoth, WritesParts}
+use Rattle.row_pool.specs.Writing.{put_cells, Two, LeavesBoth, WritesParts}
 use Rattle.std.specs.Borrow.{MutBor}
 use Rattle.std.specs.Fn.{Once}
 
-pub length-put : (start : ℕ) (cells part : List Cell) → start + length part ≤ length cells → length (put start cells part) ≡ length cells
+pub length-put : (start : ℕ) (cells part : List Cell) → start + length part ≤ length cells → length (put_cells start cells part) ≡ length cells
 length-put start cells part h = simp (length-append, length-take, length-drop) (omega (arith, h))
 
 -- a part of the front is written: what is behind the front stays
-put_front : (start : ℕ) (p q part : List Cell) → start + length part ≤ length p → put start (p ++ q) part ≡ put start p part ++ q
+put_front : (start : ℕ) (p q part : List Cell) → start + length part ≤ length p → put_cells start (p ++ q) part ≡ put_cells start p part ++ q
 put_front start p q part h =
     let n : ℕ = length part in
     let le : start ≤ length p = omega arith in
@@ -22,26 +22,26 @@ put_front start p q part h =
     ∙ simp append_assoc
 
 -- a part right behind the front is written
-put_behind : (start : ℕ) (p q part : List Cell) → length p ≡ start → put start (p ++ q) part ≡ p ++ (part ++ drop (length part) q)
+put_behind : (start : ℕ) (p q part : List Cell) → length p ≡ start → put_cells start (p ++ q) part ≡ p ++ (part ++ drop (length part) q)
 put_behind start p q part h =
     ap (λ (zs : List Cell). zs ++ (part ++ drop (length part) (drop start (p ++ q)))) (take_at p q start h)
     ∙ ap (λ (zs : List Cell). p ++ (part ++ drop (length part) zs)) (drop_at p q start h)
 
 -- the earlier part within what is cut off before the later one
 pub put_up : (first second : ℕ) (cells one two : List Cell) → first + length one ≤ second → second ≤ length cells
-    → put first (take second cells) one ++ (two ++ drop (length two) (drop second cells)) ≡ put second (put first cells one) two
+    → put_cells first (take second cells) one ++ (two ++ drop (length two) (drop second cells)) ≡ put_cells second (put_cells first cells one) two
 put_up first second cells one two apart within =
     let p : List Cell = take second cells in
     let q : List Cell = drop second cells in
     let long : length p ≡ second = length-take-le second cells within in
     let fits : first + length one ≤ length p = omega (arith, long) in
     let whole : p ++ q ≡ cells = take-append-drop second cells in
-    let same : length (put first p one) ≡ second = length-put first p one fits ∙ long in
-    sym (put_behind second (put first p one) q two same) ∙ ap (λ (zs : List Cell). put second zs two) (sym (put_front first p q one fits) ∙ ap (λ (zs : List Cell). put first zs one) whole)
+    let same : length (put_cells first p one) ≡ second = length-put first p one fits ∙ long in
+    sym (put_behind second (put_cells first p one) q two same) ∙ ap (λ (zs : List Cell). put_cells second zs two) (sym (put_front first p q one fits) ∙ ap (λ (zs : List Cell). put_cells first zs one) whole)
 
 -- the other way round
 pub put_down : (first second : ℕ) (cells one two : List Cell) → second + length two ≤ first → first ≤ length cells
-    → put second (take first cells) two ++ (one ++ drop (length one) (drop first cells)) ≡ put second (put first cells one) two
+    → put_cells second (take first cells) two ++ (one ++ drop (length one) (drop first cells)) ≡ put_cells second (put_cells first cells one) two
 put_down first second cells one two apart within =
     let p : List Cell = take first cells in
     let long : length p ≡ first = length-take-le first cells within in
@@ -86,7 +86,7 @@ wrote_up g f first second width k m cells front back new p q p' q' met apart wit
           is ∙ ap (λ (zs : List Cell). (take first zs ++ (one ++ drop m (drop first zs))) ++ (two ++ drop width back)) fs
           ∙ ap (λ (zs : List Cell). (take first (take second cells) ++ (one ++ drop m (drop first (take second cells)))) ++ (two ++ drop width zs)) bs
           ∙ ap (λ (n : ℕ). (take first (take second cells) ++ (one ++ drop n (drop first (take second cells)))) ++ (two ++ drop width (drop second cells))) (mw ∙ sym wa)
-          ∙ ap (λ (n : ℕ). put first (take second cells) one ++ (two ++ drop n (drop second cells))) (sym wb)
+          ∙ ap (λ (n : ℕ). put_cells first (take second cells) one ++ (two ++ drop n (drop second cells))) (sym wb)
           ∙ put_up first second cells one two (omega arith) (omega arith);
     }
 
@@ -113,6 +113,6 @@ wrote_down g f first second width k m cells front back new p q p' q' met apart w
           is ∙ ap (λ (zs : List Cell). (take second zs ++ (two ++ drop m (drop second zs))) ++ (one ++ drop width back)) fs
           ∙ ap (λ (zs : List Cell). (take second (take first cells) ++ (two ++ drop m (drop second (take first cells)))) ++ (one ++ drop width zs)) bs
           ∙ ap (λ (n : ℕ). (take second (take first cells) ++ (two ++ drop n (drop second (take first cells)))) ++ (one ++ drop width (drop first cells))) (mw ∙ sym wb)
-          ∙ ap (λ (n : ℕ). put second (take first cells) two ++ (one ++ drop n (drop first cells))) (sym wa)
+          ∙ ap (λ (n : ℕ). put_cells second (take first cells) two ++ (one ++ drop n (drop first cells))) (sym wa)
           ∙ put_down first second cells one two (omega arith) (omega arith);
     }

@@ -5,7 +5,7 @@ use lib.ListN.{get_or-map}
 use Rattle.std.proofs.lemmas.Bool.{cases_lt}
 use Rattle.std.proofs.lemmas.List.Elements.{All-get_or, All-set}
 use Rattle.row_pool.specs.declared.cell.Cell.{Cell}
-use Rattle.row_pool.specs.Pool.{PoolRow, Pool, IsPool, row_at, row_of, IsTaken, laid_over, written, with_cells, widened, free_row, grown}
+use Rattle.row_pool.specs.Pool.{PoolRow, Pool, IsPool, row_at, row_of, IsTakenRow, laid_over, written_pool, with_cells, widened_row, free_row, grown}
 
 abbrev none : PoolRow
 none = record { taken = false; cells = [] }
@@ -34,7 +34,7 @@ laid_one width cells row rows e h =
 
 -- cells of a whole row that are written are its cells, and no other row is changed
 pub written_row : (pool : Pool) (number : ℕ) (cells : List Cell) → IsPool pool → number < length pool.rows → length cells ≡ pool.width
-    → written pool number cells ≡ with_cells pool number cells
+    → written_pool pool number cells ≡ with_cells pool number cells
 written_row pool number cells lawful below e =
     let row : PoolRow = get_or pool.rows number none in
     let new : PoolRow = record { taken = row.taken; cells = cells } in
@@ -64,7 +64,7 @@ pub other_cells : (pool : Pool) (number other : ℕ) (cells : List Cell) → oth
 other_cells pool number other cells differ = get_or-set_other pool.rows number other (record { taken = (row_at pool number).taken; cells = cells }) none differ
 
 -- a number past the rows is no row that is taken
-pub below_rows : (pool : Pool) (number : ℕ) → IsTaken pool number → number < length pool.rows
+pub below_rows : (pool : Pool) (number : ℕ) → IsTakenRow pool number → number < length pool.rows
 below_rows pool number taken =
     elim (cases_lt number (length pool.rows)) [
       | inl h ↦ h
@@ -72,16 +72,16 @@ below_rows pool number taken =
     ]
 
 -- a row that was there, in the pool that has grown
-pub grown_row : (pool : Pool) (count nodes number : ℕ) → number < length pool.rows → row_at (grown pool count nodes) number ≡ widened (max pool.width nodes) (row_at pool number)
+pub grown_row : (pool : Pool) (count nodes number : ℕ) → number < length pool.rows → row_at (grown pool count nodes) number ≡ widened_row (max pool.width nodes) (row_at pool number)
 grown_row pool count nodes number below =
     let w : ℕ = max pool.width nodes in
-    let front : List PoolRow = map (widened w) pool.rows in
+    let front : List PoolRow = map (widened_row w) pool.rows in
     let counted : number < length front = rw length-map below in
     get_or_append_left front (replicate (count - length pool.rows) (free_row w)) none number counted
-    ∙ get_or_default front number none (widened w none) counted
-    ∙ get_or-map (widened w) pool.rows number none
+    ∙ get_or_default front number none (widened_row w none) counted
+    ∙ get_or-map (widened_row w) pool.rows number none
 
-pub grown_taken : (pool : Pool) (count nodes number : ℕ) → IsTaken pool number → IsTaken (grown pool count nodes) number
+pub grown_taken : (pool : Pool) (count nodes number : ℕ) → IsTakenRow pool number → IsTakenRow (grown pool count nodes) number
 grown_taken pool count nodes number taken = ap (λ (r : PoolRow). r.taken) (grown_row pool count nodes number (below_rows pool number taken)) ∙ taken
 
 pub grown_begins : (pool : Pool) (count nodes number : ℕ) → number < length pool.rows → (more : List Cell) × (row_of (grown pool count nodes) number ≡ row_of pool number ++ more)

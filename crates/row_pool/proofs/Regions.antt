@@ -11,7 +11,7 @@ use Rattle.std.proofs.Common.{Vec, map, max, replicate, append_assoc, Some, None
 use Rattle.std.specs.Vec.{with_items_from}
 use native.Mathlib.Nat.{mul-le-mul_right}
 use Rattle.row_pool.specs.declared.cell.Cell.{Cell}
-use Rattle.row_pool.specs.Pool.{PoolRow, Pool, IsPool, IsTaken, IsFree, row_at, row_of, laid_over, written, marked, widened, free_row, grown}
+use Rattle.row_pool.specs.Pool.{PoolRow, Pool, IsPool, IsTakenRow, IsFree, row_at, row_of, laid_over, written_pool, marked, widened_row, free_row, grown}
 use Rattle.row_pool.specs.Row.{unknown}
 use Rattle.row_pool.specs.Region.{rows_cut, pool_of, IsRegion, spaced}
 
@@ -65,7 +65,7 @@ row_cut width (t ∷ flags) cells (suc k) d h =
     ∙ ap (λ (zs : List Cell). let r : PoolRow = record { taken = get_or flags k false; cells = take width zs } in r) (drop-drop (k * width) width cells ∙ ap (λ (n : ℕ). drop n cells) s)
 
 -- a row that is taken is one of the pool's
-pub taken_below : (width : ℕ) (flags : List Bool) (cells : List Cell) (k : ℕ) → IsTaken (pool_of width flags cells) k → k < length flags
+pub taken_below : (width : ℕ) (flags : List Bool) (cells : List Cell) (k : ℕ) → IsTakenRow (pool_of width flags cells) k → k < length flags
 taken_below width flags cells k taken =
     elim (cases_lt k (length flags)) [
       | inl h ↦ h
@@ -193,9 +193,9 @@ rows_written width flags cells ws k region h =
     ∙ ap (λ (rs : List PoolRow). take k (front ++ behind) ++ laid_over width ws rs) (sym (drop_at front behind k counted))
     ∙ ap (λ (rs : List PoolRow). take k rs ++ laid_over width ws (drop k rs)) (sym all)
 
-module _ {Z : Type 0} (width : ℕ) (flags : List Bool) (cells : Vec Cell Z) (pool : Pool) (n k : ℕ) (region : IsRegion width flags cells.items) (view : pool_of width flags cells.items ≡ pool) (id : n ≡ k) (taken : IsTaken pool k) where
+module _ {Z : Type 0} (width : ℕ) (flags : List Bool) (cells : Vec Cell Z) (pool : Pool) (n k : ℕ) (region : IsRegion width flags cells.items) (view : pool_of width flags cells.items ≡ pool) (id : n ≡ k) (taken : IsTakenRow pool k) where
   abbrev pub inside : n < length flags
-  inside = taken_below width flags cells.items n (subst (λ (x : Pool). IsTaken x n) (sym view) (subst (λ (j : ℕ). IsTaken pool j) (sym id) taken))
+  inside = taken_below width flags cells.items n (subst (λ (x : Pool). IsTakenRow x n) (sym view) (subst (λ (j : ℕ). IsTakenRow pool j) (sym id) taken))
 
   pub row_bounds : n * width + width ≤ length cells.items
   row_bounds = row_within width flags cells.items n region inside
@@ -209,7 +209,7 @@ module _ {Z : Type 0} (width : ℕ) (flags : List Bool) (cells : Vec Cell Z) (po
       ap length (sym row_is) ∙ length-take-le width (drop (n * width) cells.items) fits
 
   -- what the pool is once the row was lent and these cells stand there
-  pub row_written : (ws : List Cell) → pool_of width flags (with_items_from cells (n * width) ws).items ≡ written pool k ws
+  pub row_written : (ws : List Cell) → pool_of width flags (with_items_from cells (n * width) ws).items ≡ written_pool pool k ws
   row_written ws =
       let x : List Cell = take (n * width) cells.items ++ (ws ++ drop (length ws) (drop (n * width) cells.items)) in
       let count : cells.len ≡ length cells.items = cells.ok.0 in
@@ -222,7 +222,7 @@ module _ {Z : Type 0} (width : ℕ) (flags : List Bool) (cells : Vec Cell Z) (po
       ∙ ap (λ (zs : List Cell). rows_cut width flags (take cells.len zs)) (append-nil x)
       ∙ cut_enough width flags x cells.len whole enough
       ∙ rows_written width flags cells.items ws n region inside)
-      ∙ ap (λ (x : Pool). written x n ws) view ∙ ap (λ (j : ℕ). written pool j ws) id
+      ∙ ap (λ (x : Pool). written_pool x n ws) view ∙ ap (λ (j : ℕ). written_pool pool j ws) id
 
   -- the part of the region from the row's first cell to behind its last
   pub row_range : (end : ℕ) → end ≡ n * width + width → slice_range cells.items (n * width) end ≡ row_of pool k
@@ -260,7 +260,7 @@ spaced_step width more n i rest out all h e =
     simp append_assoc (simp append_assoc at known)
 
 spaced_cut : (width more : ℕ) (flags : List Bool) (cells : List Cell) → length cells ≡ length flags * width
-    → rows_cut (width + more) flags (spaced width more (length flags) cells) ≡ map (widened (width + more)) (rows_cut width flags cells)
+    → rows_cut (width + more) flags (spaced width more (length flags) cells) ≡ map (widened_row (width + more)) (rows_cut width flags cells)
 spaced_cut width more [] cells e = refl
 spaced_cut width more (t ∷ flags) cells e =
     let s : suc (length flags) * width ≡ length flags * width + width = grind arith in
@@ -275,7 +275,7 @@ spaced_cut width more (t ∷ flags) cells e =
     ap (λ (zs : List Cell). let r : PoolRow = record { taken = t; cells = zs } in r ∷ rows_cut (width + more) flags (drop (width + more) (x ++ behind))) (take_at x behind (width + more) long)
     ∙ ap (λ (zs : List Cell). let r : PoolRow = record { taken = t; cells = x } in r ∷ rows_cut (width + more) flags zs) (drop_at x behind (width + more) long)
     ∙ ap (λ (n : ℕ). let r : PoolRow = record { taken = t; cells = row ++ replicate n unknown } in r ∷ rows_cut (width + more) flags behind) gap
-    ∙ ap (λ (rs : List PoolRow). widened (width + more) (record { taken = t; cells = row }) ∷ rs) (spaced_cut width more flags (drop width cells) rest)
+    ∙ ap (λ (rs : List PoolRow). widened_row (width + more) (record { taken = t; cells = row }) ∷ rs) (spaced_cut width more flags (drop width cells) rest)
 
 free_cells : (width n : ℕ) → rows_cut width (replicate n false) (replicate (n * width) unknown) ≡ replicate n (free_row width)
 free_cells width zero = refl
@@ -300,27 +300,27 @@ grown_cut width more j nodes count flags cells pool view whole wide added =
     let q : List Cell = replicate (j * (width + more)) unknown in
     let long : length p ≡ n * (width + more) = length-spaced width more n cells whole in
     let fits : n ≤ length (flags ++ replicate j false) = simp length-append (omega arith) in
-    let rows : rows_cut (width + more) (flags ++ replicate j false) (p ++ q) ≡ map (widened (width + more)) (rows_cut width flags cells) ++ replicate j (free_row (width + more)) =
+    let rows : rows_cut (width + more) (flags ++ replicate j false) (p ++ q) ≡ map (widened_row (width + more)) (rows_cut width flags cells) ++ replicate j (free_row (width + more)) =
     cut-append (width + more) n (flags ++ replicate j false) p q long fits
     ∙ ap (λ (fs : List Bool). rows_cut (width + more) fs p ++ rows_cut (width + more) (drop n (flags ++ replicate j false)) q) (take_at flags (replicate j false) n refl)
     ∙ ap (λ (fs : List Bool). rows_cut (width + more) flags p ++ rows_cut (width + more) fs q) (drop_at flags (replicate j false) n refl)
     ∙ ap (λ (rs : List PoolRow). rs ++ rows_cut (width + more) (replicate j false) q) (spaced_cut width more flags cells whole)
-    ∙ ap (λ (rs : List PoolRow). map (widened (width + more)) (rows_cut width flags cells) ++ rs) (free_cells (width + more) j) in
+    ∙ ap (λ (rs : List PoolRow). map (widened_row (width + more)) (rows_cut width flags cells) ++ rs) (free_cells (width + more) j) in
     let counted : j ≡ count - length (rows_cut width flags cells) = added ∙ ap (λ (m : ℕ). count - m) (sym (length-cut width flags cells)) in
     let made : ℕ → List PoolRow → Pool = λ w rs. record { width = w; rows = rs } in
-    let at_width : ℕ → Pool = λ w. record { width = w; rows = map (widened w) (rows_cut width flags cells) ++ replicate (count - length (rows_cut width flags cells)) (free_row w) } in
+    let at_width : ℕ → Pool = λ w. record { width = w; rows = map (widened_row w) (rows_cut width flags cells) ++ replicate (count - length (rows_cut width flags cells)) (free_row w) } in
     ap (made (width + more)) rows
-    ∙ ap (λ (m : ℕ). made (width + more) (map (widened (width + more)) (rows_cut width flags cells) ++ replicate m (free_row (width + more)))) counted
+    ∙ ap (λ (m : ℕ). made (width + more) (map (widened_row (width + more)) (rows_cut width flags cells) ++ replicate m (free_row (width + more)))) counted
     ∙ ap at_width wide
     ∙ ap (λ (x : Pool). grown x count nodes) view
 
-widened_same : (width : ℕ) (rows : List PoolRow) → All (λ row. length row.cells ≡ width) rows → map (widened width) rows ≡ rows
+widened_same : (width : ℕ) (rows : List PoolRow) → All (λ row. length row.cells ≡ width) rows → map (widened_row width) rows ≡ rows
 widened_same width [] even = refl
 widened_same width (row ∷ rows) even =
     let here : length row.cells ≡ width = All-head (λ (r : PoolRow). length r.cells ≡ width) row rows even in
     let none : width - length row.cells ≡ 0 = omega arith in
-    ap (λ (n : ℕ). let r : PoolRow = record { taken = row.taken; cells = row.cells ++ replicate n unknown } in r ∷ map (widened width) rows) none
-    ∙ ap (λ (zs : List Cell). let r : PoolRow = record { taken = row.taken; cells = zs } in r ∷ map (widened width) rows) (append-nil row.cells)
+    ap (λ (n : ℕ). let r : PoolRow = record { taken = row.taken; cells = row.cells ++ replicate n unknown } in r ∷ map (widened_row width) rows) none
+    ∙ ap (λ (zs : List Cell). let r : PoolRow = record { taken = row.taken; cells = zs } in r ∷ map (widened_row width) rows) (append-nil row.cells)
     ∙ ap (λ (rs : List PoolRow). row ∷ rs) (widened_same width rows (All-tail (λ (r : PoolRow). length r.cells ≡ width) row rows even))
 
 -- where nothing is to be added the pool is as it was
@@ -328,11 +328,11 @@ pub grown_same : (pool : Pool) (count nodes : ℕ) → IsPool pool → count ≤
 grown_same pool count nodes lawful few narrow =
     let wide : max pool.width nodes ≡ pool.width = omega arith in
     let none : count - length pool.rows ≡ 0 = omega arith in
-    let at_width : ℕ → Pool = λ w. record { width = w; rows = map (widened w) pool.rows ++ replicate (count - length pool.rows) (free_row w) } in
+    let at_width : ℕ → Pool = λ w. record { width = w; rows = map (widened_row w) pool.rows ++ replicate (count - length pool.rows) (free_row w) } in
     let made : List PoolRow → Pool = λ rs. record { width = pool.width; rows = rs } in
     sym (ap at_width wide
-    ∙ ap (λ (n : ℕ). made (map (widened pool.width) pool.rows ++ replicate n (free_row pool.width))) none
-    ∙ ap made (append-nil (map (widened pool.width) pool.rows) ∙ widened_same pool.width pool.rows lawful.even))
+    ∙ ap (λ (n : ℕ). made (map (widened_row pool.width) pool.rows ++ replicate n (free_row pool.width))) none
+    ∙ ap made (append-nil (map (widened_row pool.width) pool.rows) ∙ widened_same pool.width pool.rows lawful.even))
 
 -- what is left of so many times a number, one turn on
 pub left_less : (n i width : ℕ) → i < n → (n - i) * width ≡ (n - (i + 1)) * width + width

@@ -6,9 +6,9 @@ use Rattle.std.specs.Vec.{with_items}
 use Rattle.std.specs.Fn.{Once}
 use native.Mathlib.Nat.{mul-le-mul_right}
 use Rattle.row_pool.specs.declared.cell.Cell.{Cell}
-use Rattle.row_pool.specs.Pool.{PoolRow, Pool, IsTaken, row_of, with_cells}
+use Rattle.row_pool.specs.Pool.{PoolRow, Pool, IsTakenRow, row_of, with_cells}
 use Rattle.row_pool.specs.Region.{rows_cut, pool_of, IsRegion}
-use Rattle.row_pool.specs.Writing.{Two, TakesBoth, WritesParts, WritesTwo, put}
+use Rattle.row_pool.specs.Writing.{Two, TakesBoth, WritesParts, WritesTwo, put_cells}
 use Rattle.row_pool.proofs.Regions.{length-cut, row_within, rows_written, is_pool, inside, row_is}
 use Rattle.row_pool.proofs.Pools.{written_row}
 use Rattle.row_pool.proofs.Parts.{length-put}
@@ -28,19 +28,19 @@ rows_apart a b width differ =
 
 -- the cells of a row are written in the region
 put_row : (width : ℕ) (flags : List Bool) (cells ws : List Cell) (k : ℕ) → IsRegion width flags cells → k < length flags → length ws ≡ width
-    → pool_of width flags (put (k * width) cells ws) ≡ with_cells (pool_of width flags cells) k ws
+    → pool_of width flags (put_cells (k * width) cells ws) ≡ with_cells (pool_of width flags cells) k ws
 put_row width flags cells ws k region below e =
     let made : List PoolRow → Pool = λ rs. record { width = width; rows = rs } in
     let counted : k < length (rows_cut width flags cells) = rw length-cut below in
     ap made (rows_written width flags cells ws k region below) ∙ written_row (pool_of width flags cells) k ws (is_pool width flags cells region) counted e
 
-put_region : (width : ℕ) (flags : List Bool) (cells ws : List Cell) (k : ℕ) → IsRegion width flags cells → k < length flags → length ws ≡ width → IsRegion width flags (put (k * width) cells ws)
+put_region : (width : ℕ) (flags : List Bool) (cells ws : List Cell) (k : ℕ) → IsRegion width flags cells → k < length flags → length ws ≡ width → IsRegion width flags (put_cells (k * width) cells ws)
 put_region width flags cells ws k region below e =
     let fits : k * width + width ≤ length cells = row_within width flags cells k region below in
     record { whole = length-put (k * width) cells ws (omega arith) ∙ region.whole; few = region.few; narrow = region.narrow }
 
 module _ {Z : Type 0} (width : ℕ) (flags : List Bool) (cells : Vec Cell Z) (pool : Pool) (a b first second : ℕ) (region : IsRegion width flags cells.items) (view : pool_of width flags cells.items ≡ pool)
-    (ida : a ≡ first) (idb : b ≡ second) (taken : IsTaken pool first) (other : IsTaken pool second) where
+    (ida : a ≡ first) (idb : b ≡ second) (taken : IsTakenRow pool first) (other : IsTakenRow pool second) where
   in_a : a < length flags
   in_a = inside width flags cells pool a first region view ida taken
 
@@ -72,11 +72,11 @@ module _ {Z : Type 0} (width : ℕ) (flags : List Bool) (cells : Vec Cell Z) (po
     };
     wide = let same : width ≡ pool.width = ap (λ (x : Pool). x.width) view in (parts.wide.0 ∙ same, parts.wide.1 ∙ same);
     written =
-        let one : List Cell = put (a * width) cells.items parts.one in
-        let two : List Cell = put (b * width) one parts.two in
+        let one : List Cell = put_cells (a * width) cells.items parts.one in
+        let two : List Cell = put_cells (b * width) one parts.two in
         let between : IsRegion width flags one = put_region width flags cells.items parts.one a region in_a parts.wide.0 in
         let after : IsRegion width flags two = put_region width flags one parts.two b between in_b parts.wide.1 in
-        let is : ws ≡ two = parts.written ∙ ap (λ (zs : List Cell). put (b * width) (put (a * width) zs parts.one) parts.two) e in
+        let is : ws ≡ two = parts.written ∙ ap (λ (zs : List Cell). put_cells (b * width) (put_cells (a * width) zs parts.one) parts.two) e in
         let count : cells.len ≡ length cells.items = cells.ok.0 in
         let same : length two ≡ length cells.items = after.whole ∙ sym region.whole in
         let long : length ws ≡ length cells.items = ap length is ∙ same in

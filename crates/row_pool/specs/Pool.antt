@@ -1,6 +1,6 @@
 -- A pool of rows of cells.
 use Rattle.std.specs.Prelude.{◌≡◌, ℕ, ◌-◌, ◌<◌, ◌≤◌, Bool, true, false, not, List, [], ◌∷◌, ◌++◌, length, take, drop, map, max, replicate, count_by, slice_set, slice_index_or, All}
-use Rattle.problem_model.specs.Nodes.{most_nodes}
+use Rattle.problem_model.specs.Limits.{most_nodes}
 use Rattle.row_pool.specs.declared.cell.Cell.{Cell}
 use Rattle.row_pool.specs.Row.{unknown}
 
@@ -29,8 +29,8 @@ abbrev pub row_of : Pool → ℕ → List Cell
 row_of pool number = (row_at pool number).cells
 
 -- the pool has a row of this number, and it is taken
-abbrev pub IsTaken : Pool → ℕ → Type 0
-IsTaken pool number = (row_at pool number).taken ≡ true
+abbrev pub IsTakenRow : Pool → ℕ → Type 0
+IsTakenRow pool number = (row_at pool number).taken ≡ true
 
 -- the pool has a row of this number, and it is free
 abbrev pub IsFree : Pool → ℕ → Type 0
@@ -50,16 +50,16 @@ laid_over width cells [] = []
 laid_over width cells (row ∷ rows) = record { taken = row.taken; cells = take width cells ++ drop (length cells) row.cells } ∷ laid_over width (drop width cells) rows
 
 -- the pool once cells are written from the start of a row on
-abbrev pub written : Pool → ℕ → List Cell → Pool
-written pool number cells = record { width = pool.width; rows = take number pool.rows ++ laid_over pool.width cells (drop number pool.rows) }
+abbrev pub written_pool : Pool → ℕ → List Cell → Pool
+written_pool pool number cells = record { width = pool.width; rows = take number pool.rows ++ laid_over pool.width cells (drop number pool.rows) }
 
 -- the pool with one row taken, or given back
 abbrev pub marked : Pool → ℕ → Bool → Pool
 marked pool number taken = record { width = pool.width; rows = slice_set pool.rows number (record { taken = taken; cells = (row_at pool number).cells }) }
 
 -- the row with unknown cells behind its own, up to this width
-abbrev pub widened : ℕ → PoolRow → PoolRow
-widened width row = record { taken = row.taken; cells = row.cells ++ replicate (width - length row.cells) unknown }
+abbrev pub widened_row : ℕ → PoolRow → PoolRow
+widened_row width row = record { taken = row.taken; cells = row.cells ++ replicate (width - length row.cells) unknown }
 
 -- a free row of unknown cells
 abbrev pub free_row : ℕ → PoolRow
@@ -67,4 +67,4 @@ free_row width = record { taken = false; cells = replicate width unknown }
 
 -- the pool with at least so many rows of at least so many cells: its rows begin with their old cells, and all that is new is unknown and free
 abbrev pub grown : Pool → ℕ → ℕ → Pool
-grown pool count nodes = record { width = max pool.width nodes; rows = map (widened (max pool.width nodes)) pool.rows ++ replicate (count - length pool.rows) (free_row (max pool.width nodes)) }
+grown pool count nodes = record { width = max pool.width nodes; rows = map (widened_row (max pool.width nodes)) pool.rows ++ replicate (count - length pool.rows) (free_row (max pool.width nodes)) }

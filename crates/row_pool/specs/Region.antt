@@ -1,6 +1,6 @@
 -- Rows that lie one behind the other in one list of cells.
 use Rattle.std.specs.Prelude.{◌≡◌, ℕ, zero, suc, ◌*◌, ◌≤◌, Bool, List, [], ◌∷◌, ◌++◌, length, take, drop, replicate}
-use Rattle.problem_model.specs.Nodes.{most_nodes}
+use Rattle.problem_model.specs.Limits.{most_nodes}
 use Rattle.row_pool.specs.declared.cell.Cell.{Cell}
 use Rattle.row_pool.specs.Row.{unknown}
 use Rattle.row_pool.specs.Pool.{PoolRow, Pool}

@@ -30,8 +30,8 @@ pub record WritesTwo {F : Type 0} (g : Once F Two (Unit {0} × Two)) (f : F) (ol
   pub written : new ≡ with_cells (with_cells old first one) second two
 
 -- the list with other cells from a place on
-abbrev pub put : ℕ → List Cell → List Cell → List Cell
-put start cells part = take start cells ++ (part ++ drop (length part) (drop start cells))
+abbrev pub put_cells : ℕ → List Cell → List Cell → List Cell
+put_cells start cells part = take start cells ++ (part ++ drop (length part) (drop start cells))
 
 -- the same of two parts of a list
 pub record WritesParts {F : Type 0} (g : Once F Two (Unit {0} × Two)) (f : F) (old new : List Cell) (first second width : ℕ) : Type 0 where
@@ -39,4 +39,4 @@ pub record WritesParts {F : Type 0} (g : Once F Two (Unit {0} × Two)) (f : F) (
   pub two : List Cell
   pub leaves : LeavesBoth g f (take width (drop first old)) (take width (drop second old)) one two
   pub wide : (length one ≡ width) × (length two ≡ width)
-  pub written : new ≡ put second (put first old one) two
+  pub written : new ≡ put_cells second (put_cells first old one) two

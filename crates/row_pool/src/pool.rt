@@ -1,9 +1,9 @@
 // A pool that lends rows.
 ghost use Rattle.std.specs.Prelude.{◌≡◌, ◌≢◌, ℕ, ◌+◌, ◌*◌, ◌<◌, ◌≤◌, ◌↔◌, [], true, false, ◌^◌, length, position, not, IfNone, IfSome, IsTrue, OnOk, OnErr};
 ghost use Rattle.std.specs.Borrow.{sem, Lends, Array};
-ghost use Rattle.problem_model.specs.Nodes.{most_nodes};
+ghost use Rattle.problem_model.specs.Limits.{most_nodes};
 ghost use Rattle.row_pool.specs.Region.{spaced};
-ghost use Rattle.row_pool.specs.Pool.{IsPool, IsTaken, IsFree, row_of, free_rows, written, marked, grown};
+ghost use Rattle.row_pool.specs.Pool.{IsPool, IsTakenRow, IsFree, row_of, free_rows, written_pool, marked, grown};
 ghost use Rattle.row_pool.specs.Writing.{TakesBoth, WritesTwo};
 ghost use Rattle.row_pool.specs.contracts.cell.Cell.{the_row as cell_row};
 ghost use Rattle.row_pool.specs.contracts.pool.RowPool.{the_row};
@@ -105,7 +105,7 @@ impl RowPool {
 
     /// Whether the pool has a row of this number that is taken.
     pub fn is_taken(&self, id: &RowId) -> bool
-        ensures { IsTrue result ↔ IsTaken self.now id.now }
+        ensures { IsTrue result ↔ IsTakenRow self.now id.now }
     {
         self.taken.get(id.number as usize).copied().unwrap_or(false)
     }
@@ -130,7 +130,7 @@ impl RowPool {
 
     /// Gives a row back, which is free from then on.
     pub fn give(&mut self, id: RowId)
-        requires { IsTaken self.old id }
+        requires { IsTakenRow self.old id }
         ensures { self.new ≡ marked self.old id false }
     {
         self.taken[id.number as usize] = false;
@@ -138,7 +138,7 @@ impl RowPool {
 
     /// The cells of a row that is taken.
     pub fn row(&self, id: &RowId) -> &[Cell]
-        requires { IsTaken self.now id.now }
+        requires { IsTakenRow self.now id.now }
         ensures value { result.now ≡ row_of self.now id.now }
         ensures width { length result.now ≡ self.now.width }
     {
@@ -149,8 +149,8 @@ impl RowPool {
 
     /// The cells of a row that is taken, for writing. What is written changes this row and no other.
     pub fn row_mut(&mut self, id: &RowId) -> &mut [Cell]
-        requires { IsTaken self.old id.now }
-        ensures* writes_back { sem 𝓛 (Lends the_row (Array cell_row 0) self.entry result (written self.old id.now)) }
+        requires { IsTakenRow self.old id.now }
+        ensures* writes_back { sem 𝓛 (Lends the_row (Array cell_row 0) self.entry result (written_pool self.old id.now)) }
         ensures value { result.now ≡ row_of self.old id.now }
         ensures width { length result.now ≡ self.old.width }
     {
@@ -167,8 +167,8 @@ impl RowPool {
         second: &RowId,
         write: F,
     )
-        requires first { IsTaken self.old first.now }
-        requires second { IsTaken self.old second.now }
+        requires first { IsTakenRow self.old first.now }
+        requires second { IsTakenRow self.old second.now }
         requires apart { first.now ≢ second.now }
         requires callable { TakesBoth F.FnOnce write (row_of self.old first.now) (row_of self.old second.now) }
         ensures { WritesTwo F.FnOnce write self.old self.new first.now second.now }

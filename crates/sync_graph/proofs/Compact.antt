@@ -12,27 +12,27 @@ use Rattle.sync_graph.specs.declared.arcs.Ends.{Ends}
 use Rattle.sync_graph.specs.declared.arcs.Kind.{Kind}
 use Rattle.sync_graph.specs.declared.arcs.Kind.TheVariants as kinds
 use Rattle.sync_graph.specs.declared.arcs.KindArc.{KindArc}
-use Rattle.sync_graph.specs.Names.{Joins, IsNamed}
-use Rattle.sync_graph.specs.Kinds.{kind_of, name_between, place_of, clock_of, stamp_of, of_kind, node_at, named_arc, named_arcs, joined}
+use Rattle.sync_graph.specs.Names.{JoinsNodes, IsNamed}
+use Rattle.sync_graph.specs.Kinds.{bound_kind, name_between, place_of_node, clock_of_node, stamp_of_node, of_kind, node_at, named_arc, named_arcs, joined}
 use Rattle.sync_graph.specs.Graph.{IsSound}
 
 -- a bound's name is that of its kind between its nodes
-pub name_back : (name : Bound) (m n : Node) → Joins name m n → name_between (kind_of name) m n ≡ name
-name_back (bounds.SpanMost clock s t) m n (e, f) = ap (λ v. bounds.SpanMost (clock_of v) (stamp_of v) (stamp_of n)) e ∙ ap (λ v. bounds.SpanMost clock s (stamp_of v)) f
-name_back (bounds.SpanLeast clock s t) m n (e, f) = ap (λ v. bounds.SpanLeast (clock_of v) (stamp_of n) (stamp_of v)) e ∙ ap (λ v. bounds.SpanLeast clock (stamp_of v) t) f
-name_back (bounds.Late e) m n (clock, stamp, from, to) = ap (λ v. bounds.Late (place_of v)) to
-name_back (bounds.Early e) m n (clock, stamp, from, to) = ap (λ v. bounds.Early (place_of v)) from
-name_back (bounds.Follow c s d t) m n (e, f) = ap (λ v. bounds.Follow (clock_of n) (stamp_of n) (clock_of v) (stamp_of v)) e ∙ ap (λ v. bounds.Follow (clock_of v) (stamp_of v) d t) f
-name_back (bounds.DelayMost send receive) m n (e, f) = ap (λ v. bounds.DelayMost (place_of v) (place_of n)) e ∙ ap (λ v. bounds.DelayMost send (place_of v)) f
-name_back (bounds.DelayLeast send receive) m n (e, f) = ap (λ v. bounds.DelayLeast (place_of n) (place_of v)) e ∙ ap (λ v. bounds.DelayLeast (place_of v) receive) f
+pub name_back : (name : Bound) (m n : Node) → JoinsNodes name m n → name_between (bound_kind name) m n ≡ name
+name_back (bounds.SpanMost clock s t) m n (e, f) = ap (λ v. bounds.SpanMost (clock_of_node v) (stamp_of_node v) (stamp_of_node n)) e ∙ ap (λ v. bounds.SpanMost clock s (stamp_of_node v)) f
+name_back (bounds.SpanLeast clock s t) m n (e, f) = ap (λ v. bounds.SpanLeast (clock_of_node v) (stamp_of_node n) (stamp_of_node v)) e ∙ ap (λ v. bounds.SpanLeast clock (stamp_of_node v) t) f
+name_back (bounds.Late e) m n (clock, stamp, from, to) = ap (λ v. bounds.Late (place_of_node v)) to
+name_back (bounds.Early e) m n (clock, stamp, from, to) = ap (λ v. bounds.Early (place_of_node v)) from
+name_back (bounds.Follow c s d t) m n (e, f) = ap (λ v. bounds.Follow (clock_of_node n) (stamp_of_node n) (clock_of_node v) (stamp_of_node v)) e ∙ ap (λ v. bounds.Follow (clock_of_node v) (stamp_of_node v) d t) f
+name_back (bounds.DelayMost send receive) m n (e, f) = ap (λ v. bounds.DelayMost (place_of_node v) (place_of_node n)) e ∙ ap (λ v. bounds.DelayMost send (place_of_node v)) f
+name_back (bounds.DelayLeast send receive) m n (e, f) = ap (λ v. bounds.DelayLeast (place_of_node n) (place_of_node v)) e ∙ ap (λ v. bounds.DelayLeast (place_of_node v) receive) f
 
 -- so an arc is had back from its kind
 pub arc_back : (all : List Node) (a : Arc) → IsNamed all a → named_arc all (of_kind a) ≡ a
 arc_back all a is =
     let from : node_at all a.from ≡ is.tail = get_or_from_slice_get all a.from is.tail (nodes.Event 0) is.from in
     let to : node_at all a.to ≡ is.head = get_or_from_slice_get all a.to is.head (nodes.Event 0) is.to in
-    let e : name_between (kind_of a.name) (node_at all a.from) (node_at all a.to) ≡ a.name =
-    ap (λ m. name_between (kind_of a.name) m (node_at all a.to)) from ∙ ap (name_between (kind_of a.name) is.tail) to ∙ name_back a.name is.tail is.head is.joins in
+    let e : name_between (bound_kind a.name) (node_at all a.from) (node_at all a.to) ≡ a.name =
+    ap (λ m. name_between (bound_kind a.name) m (node_at all a.to)) from ∙ ap (name_between (bound_kind a.name) is.tail) to ∙ name_back a.name is.tail is.head is.joins in
     ap (λ name. record { from = a.from; to = a.to; weight = a.weight; name = name }) e
 
 map_end : {X Y : Type 0} (f : X → Y) (xs : List X) (x : X) → map f (xs ++ x ∷ []) ≡ map f xs ++ f x ∷ []
@@ -100,18 +100,18 @@ module _ (all : List Node) (arcs : List KindArc) (k : ℕ) (a : KindArc) (sound 
   pub arc_sound : IsSound (length all) (named_arc all a)
   arc_sound = subst (IsSound (length all)) here (sound k (named_arc all a) inside)
 
-  pub arc_joins : (m n : Node) → slice_get all a.from ≡ Some m → slice_get all a.to ≡ Some n → Joins (name_between a.kind m n) m n
+  pub arc_joins : (m n : Node) → slice_get all a.from ≡ Some m → slice_get all a.to ≡ Some n → JoinsNodes (name_between a.kind m n) m n
   arc_joins m n from to =
       let is : IsNamed all (named_arc all a) = subst (IsNamed all) here (named k (named_arc all a) inside) in
       let em : is.tail ≡ m = same_some is.tail m (sym is.from ∙ from) in
       let en : is.head ≡ n = same_some is.head n (sym is.to ∙ to) in
       let fm : node_at all a.from ≡ m = get_or_from_slice_get all a.from m (nodes.Event 0) from in
       let fn : node_at all a.to ≡ n = get_or_from_slice_get all a.to n (nodes.Event 0) to in
-      let j : Joins (name_between a.kind (node_at all a.from) (node_at all a.to)) is.tail is.head = is.joins in
-      subst (λ v. Joins (name_between a.kind m n) m v) en
-      (subst (λ v. Joins (name_between a.kind m n) v is.head) em
-      (subst (λ v. Joins (name_between a.kind m v) is.tail is.head) fn
-      (subst (λ v. Joins (name_between a.kind v (node_at all a.to)) is.tail is.head) fm j)))
+      let j : JoinsNodes (name_between a.kind (node_at all a.from) (node_at all a.to)) is.tail is.head = is.joins in
+      subst (λ v. JoinsNodes (name_between a.kind m n) m v) en
+      (subst (λ v. JoinsNodes (name_between a.kind m n) v is.head) em
+      (subst (λ v. JoinsNodes (name_between a.kind m v) is.tail is.head) fn
+      (subst (λ v. JoinsNodes (name_between a.kind v (node_at all a.to)) is.tail is.head) fm j)))
     where
       same_some : {X : Type 0} (x y : X) → Some x ≡ Some y → x ≡ y
       same_some x y e = cc

@@ -5,20 +5,20 @@ use Rattle.std.specs.List.{swap_remove}
 use Rattle.std.proofs.lemmas.Bool.{cases_eq, cases_lt}
 use Rattle.std.proofs.lemmas.List.{get_or-drop, get_or-set_same, get_or-set_other, get_or-map, get_or_default, get_or_read, length-map, length-take-le, length-drop, ext_get_or, take_more_set, drop-set-add, take-take, take_all}
 use Rattle.sync_graph.specs.declared.lists.Span.{Span}
-use Rattle.sync_graph.specs.Layout.{entries_of, LiesWithin, AreApart, IsLaidOut, HasPlace}
+use Rattle.sync_graph.specs.Layout.{entries_of, LiesWithin, AreDisjointSpans, IsLaidOut, HasPlaceForOne}
 
 -- what stands behind the last list
 abbrev pub no_span : Span
 no_span = record { start = 0; len = 0; room = 0 }
 
-flipped : (s t : Span) → AreApart s t → AreApart t s
+flipped : (s t : Span) → AreDisjointSpans s t → AreDisjointSpans t s
 flipped s t apart = elim apart [ inl l ↦ inr l | inr l ↦ inl l ]
 
 -- any two lists are apart
-apart_at : (spans : List Span) (table : List ℕ) → IsLaidOut spans table → (i j : ℕ) (d e : Span) → i ≢ j → i < length spans → j < length spans → AreApart (get_or spans i d) (get_or spans j e)
+apart_at : (spans : List Span) (table : List ℕ) → IsLaidOut spans table → (i j : ℕ) (d e : Span) → i ≢ j → i < length spans → j < length spans → AreDisjointSpans (get_or spans i d) (get_or spans j e)
 apart_at spans table is i j d e differ li lj = elim (cases_lt i j) [
-  | inl l ↦ subst (λ s. AreApart (get_or spans i d) s) (get_or_default spans j d e lj) (is.apart i j d l lj)
-  | inr l ↦ subst (λ s. AreApart (get_or spans i d) s) (get_or_default spans j d e lj) (flipped (get_or spans j d) (get_or spans i d) (is.apart j i d (omega arith) li))
+  | inl l ↦ subst (λ s. AreDisjointSpans (get_or spans i d) s) (get_or_default spans j d e lj) (is.apart i j d l lj)
+  | inr l ↦ subst (λ s. AreDisjointSpans (get_or spans i d) s) (get_or_default spans j d e lj) (flipped (get_or spans j d) (get_or spans i d) (is.apart j i d (omega arith) li))
 ]
 
 -- ---- the entries of one list
@@ -47,10 +47,10 @@ module _ (spans : List Span) (table table' : List ℕ) (node : ℕ) (s s' : Span
     (stands : ((s'.start ≡ s.start) × (s'.room ≡ s.room)) ⊎ (length table ≤ s'.start))
     (same : (p : ℕ) → p < length table → (p < s.start) ⊎ (s.start + s.room ≤ p) → get_or table' p 0 ≡ get_or table p 0)
   where
-    other_apart : (k : ℕ) (d : Span) → k ≢ node → k < length spans → AreApart s (get_or spans k d)
-    other_apart k d n l = subst (λ t. AreApart t (get_or spans k d)) here (apart_at spans table is node k no_span d (λ e. n (sym e)) inside l)
+    other_apart : (k : ℕ) (d : Span) → k ≢ node → k < length spans → AreDisjointSpans s (get_or spans k d)
+    other_apart k d n l = subst (λ t. AreDisjointSpans t (get_or spans k d)) here (apart_at spans table is node k no_span d (λ e. n (sym e)) inside l)
 
-    clear : (k : ℕ) (d : Span) → k ≢ node → k < length spans → AreApart s' (get_or spans k d)
+    clear : (k : ℕ) (d : Span) → k ≢ node → k < length spans → AreDisjointSpans s' (get_or spans k d)
     clear k d n l =
         let t : Span = get_or spans k d in
         let w : LiesWithin table t = is.within k d l in
@@ -83,12 +83,12 @@ module _ (spans : List Span) (table table' : List ℕ) (node : ℕ) (s s' : Span
           elim (cases_eq i node) [
             | inl q ↦
                 let n : j ≢ node = (λ e. omega arith) in
-                subst (λ t. AreApart t (get_or (set spans node s') j d)) (sym (ap (λ k. get_or (set spans node s') k d) q ∙ now_here d))
-                (subst (AreApart s') (sym (now_there j d n)) (clear j d n lj))
+                subst (λ t. AreDisjointSpans t (get_or (set spans node s') j d)) (sym (ap (λ k. get_or (set spans node s') k d) q ∙ now_here d))
+                (subst (AreDisjointSpans s') (sym (now_there j d n)) (clear j d n lj))
             | inr m ↦
-                subst (λ t. AreApart t (get_or (set spans node s') j d)) (sym (now_there i d m)) (elim (cases_eq j node) [
-                  | inl q ↦ subst (AreApart (get_or spans i d)) (sym (ap (λ k. get_or (set spans node s') k d) q ∙ now_here d)) (flipped s' (get_or spans i d) (clear i d m li))
-                  | inr n ↦ subst (AreApart (get_or spans i d)) (sym (now_there j d n)) (apart_at spans table is i j d d (λ e. omega arith) li lj)
+                subst (λ t. AreDisjointSpans t (get_or (set spans node s') j d)) (sym (now_there i d m)) (elim (cases_eq j node) [
+                  | inl q ↦ subst (AreDisjointSpans (get_or spans i d)) (sym (ap (λ k. get_or (set spans node s') k d) q ∙ now_here d)) (flipped s' (get_or spans i d) (clear i d m li))
+                  | inr n ↦ subst (AreDisjointSpans (get_or spans i d)) (sym (now_there j d n)) (apart_at spans table is i j d d (λ e. omega arith) li lj)
                 ])
           ];
     }
@@ -140,7 +140,7 @@ kept_longer table table' e = elim (cases_lt (length table') (length table)) [
 -- ---- an entry is appended
 module _ (spans : List Span) (table table' : List ℕ) (now : List (List ℕ)) (node x : ℕ) (s s' : Span)
     (is : IsLaidOut spans table) (en : map (entries_of table) spans ≡ now) (l : node < length now) (es : s ≡ get_or spans node s)
-    (place : HasPlace table s table' s')
+    (place : HasPlaceForOne table s table' s')
   where
     pushed_inside : node < length spans
     pushed_inside = omega (arith, ap length en, length-map spans (entries_of table), l)

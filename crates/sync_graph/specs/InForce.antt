@@ -2,7 +2,7 @@
 use Rattle.std.specs.Prelude.{◌≡◌, ℕ, true, false, ℤ, List, length, slice_index_or}
 use Rattle.problem_model.specs.Executions as bounds
 use Rattle.problem_model.specs.Earliest.{IsEarliest}
-use Rattle.problem_model.specs.Tables.{listed}
+use Rattle.problem_model.specs.Tables.{arcs_among}
 use Rattle.sync_graph.specs.declared.arc.Arc.{Arc}
 use Rattle.sync_graph.specs.Graph.{GraphLists, arc_at, table_of}
 
@@ -12,7 +12,7 @@ IsInForce g a = (j : ℕ) × (slice_index_or g.in_force j false ≡ true) × (ar
 
 -- the arcs in force, without their names
 abbrev pub arcs_of : GraphLists → List bounds.Arc
-arcs_of g = listed (table_of g) (length g.arcs)
+arcs_of g = arcs_among (table_of g) (length g.arcs)
 
 -- the values are the earliest execution of the arcs in force
 abbrev pub IsEarliestOf : GraphLists → List ℤ → Type 0

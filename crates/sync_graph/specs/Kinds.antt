@@ -11,41 +11,41 @@ use Rattle.sync_graph.specs.declared.arcs.Kind.TheVariants as kinds
 use Rattle.sync_graph.specs.declared.arcs.KindArc.{KindArc}
 
 -- the kind of a bound of this name
-abbrev pub kind_of : Bound → Kind
-kind_of (bounds.SpanMost clock s t) = kinds.SpanMost
-kind_of (bounds.SpanLeast clock s t) = kinds.SpanLeast
-kind_of (bounds.Late e) = kinds.Late
-kind_of (bounds.Early e) = kinds.Early
-kind_of (bounds.Follow c s d t) = kinds.Follow
-kind_of (bounds.DelayMost send receive) = kinds.DelayMost
-kind_of (bounds.DelayLeast send receive) = kinds.DelayLeast
+abbrev pub bound_kind : Bound → Kind
+bound_kind (bounds.SpanMost clock s t) = kinds.SpanMost
+bound_kind (bounds.SpanLeast clock s t) = kinds.SpanLeast
+bound_kind (bounds.Late e) = kinds.Late
+bound_kind (bounds.Early e) = kinds.Early
+bound_kind (bounds.Follow c s d t) = kinds.Follow
+bound_kind (bounds.DelayMost send receive) = kinds.DelayMost
+bound_kind (bounds.DelayLeast send receive) = kinds.DelayLeast
 
 -- the place of an event, and the clock and the stamp of a reading
-abbrev pub place_of : Node → ℕ
-place_of (nodes.Event e) = e
-place_of (nodes.Reading clock stamp) = 0
+abbrev pub place_of_node : Node → ℕ
+place_of_node (nodes.Event e) = e
+place_of_node (nodes.Reading clock stamp) = 0
 
-abbrev pub clock_of : Node → ℕ
-clock_of (nodes.Event e) = 0
-clock_of (nodes.Reading clock stamp) = clock
+abbrev pub clock_of_node : Node → ℕ
+clock_of_node (nodes.Event e) = 0
+clock_of_node (nodes.Reading clock stamp) = clock
 
-abbrev pub stamp_of : Node → ℕ
-stamp_of (nodes.Event e) = 0
-stamp_of (nodes.Reading clock stamp) = stamp
+abbrev pub stamp_of_node : Node → ℕ
+stamp_of_node (nodes.Event e) = 0
+stamp_of_node (nodes.Reading clock stamp) = stamp
 
 -- the name of the bound of this kind from the first node to the second
 abbrev pub name_between : Kind → Node → Node → Bound
-name_between kinds.SpanMost m n = bounds.SpanMost (clock_of m) (stamp_of m) (stamp_of n)
-name_between kinds.SpanLeast m n = bounds.SpanLeast (clock_of m) (stamp_of n) (stamp_of m)
-name_between kinds.Late m n = bounds.Late (place_of n)
-name_between kinds.Early m n = bounds.Early (place_of m)
-name_between kinds.Follow m n = bounds.Follow (clock_of n) (stamp_of n) (clock_of m) (stamp_of m)
-name_between kinds.DelayMost m n = bounds.DelayMost (place_of m) (place_of n)
-name_between kinds.DelayLeast m n = bounds.DelayLeast (place_of n) (place_of m)
+name_between kinds.SpanMost m n = bounds.SpanMost (clock_of_node m) (stamp_of_node m) (stamp_of_node n)
+name_between kinds.SpanLeast m n = bounds.SpanLeast (clock_of_node m) (stamp_of_node n) (stamp_of_node m)
+name_between kinds.Late m n = bounds.Late (place_of_node n)
+name_between kinds.Early m n = bounds.Early (place_of_node m)
+name_between kinds.Follow m n = bounds.Follow (clock_of_node n) (stamp_of_node n) (clock_of_node m) (stamp_of_node m)
+name_between kinds.DelayMost m n = bounds.DelayMost (place_of_node m) (place_of_node n)
+name_between kinds.DelayLeast m n = bounds.DelayLeast (place_of_node n) (place_of_node m)
 
 -- an arc with its kind in place of its name
 abbrev pub of_kind : Arc → KindArc
-of_kind a = record { from = a.from; to = a.to; weight = a.weight; kind = kind_of a.name }
+of_kind a = record { from = a.from; to = a.to; weight = a.weight; kind = bound_kind a.name }
 
 -- the node of a number
 abbrev pub node_at : List Node → ℕ → Node

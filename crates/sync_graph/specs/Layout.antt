@@ -12,16 +12,16 @@ pub record LiesWithin (table : List ℕ) (s : Span) : Type 0 where
   pub room : s.start + s.room ≤ length table
 
 -- the rooms of both have no place in common
-abbrev pub AreApart : Span → Span → Type 0
-AreApart s t = (s.start + s.room ≤ t.start) ⊎ (t.start + t.room ≤ s.start)
+abbrev pub AreDisjointSpans : Span → Span → Type 0
+AreDisjointSpans s t = (s.start + s.room ≤ t.start) ⊎ (t.start + t.room ≤ s.start)
 
 -- each list lies within the table, and no two share a place
 pub record IsLaidOut (spans : List Span) (table : List ℕ) : Type 0 where
   pub within : All (LiesWithin table) spans
-  pub apart : AllPairs AreApart spans
+  pub apart : AllPairs AreDisjointSpans spans
 
 -- the list with a place left for one entry more: where it stood, or behind the whole table
-pub record HasPlace (table : List ℕ) (s : Span) (table' : List ℕ) (s' : Span) : Type 0 where
+pub record HasPlaceForOne (table : List ℕ) (s : Span) (table' : List ℕ) (s' : Span) : Type 0 where
   pub kept : take (length table) table' ≡ table
   pub within : LiesWithin table' s'
   pub entries : entries_of table' s' ≡ entries_of table s

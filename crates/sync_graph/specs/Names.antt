@@ -8,14 +8,14 @@ use Rattle.problem_model.specs.declared.items.Bound.TheVariants.{SpanMost, SpanL
 use Rattle.sync_graph.specs.declared.arc.Arc.{Arc}
 
 -- a bound of this name is one on the real time from the first node to the second
-abbrev pub Joins : Bound → Node → Node → Type 0
-Joins (SpanMost clock s t) m n = (m ≡ nodes.Reading clock s) × (n ≡ nodes.Reading clock t)
-Joins (SpanLeast clock s t) m n = (m ≡ nodes.Reading clock t) × (n ≡ nodes.Reading clock s)
-Joins (Late e) m n = (clock : ℕ) × (stamp : ℕ) × (m ≡ nodes.Reading clock stamp) × (n ≡ nodes.Event e)
-Joins (Early e) m n = (clock : ℕ) × (stamp : ℕ) × (m ≡ nodes.Event e) × (n ≡ nodes.Reading clock stamp)
-Joins (bounds.Follow c s d t) m n = (m ≡ nodes.Reading d t) × (n ≡ nodes.Reading c s)
-Joins (DelayMost send receive) m n = (m ≡ nodes.Event send) × (n ≡ nodes.Event receive)
-Joins (DelayLeast send receive) m n = (m ≡ nodes.Event receive) × (n ≡ nodes.Event send)
+abbrev pub JoinsNodes : Bound → Node → Node → Type 0
+JoinsNodes (SpanMost clock s t) m n = (m ≡ nodes.Reading clock s) × (n ≡ nodes.Reading clock t)
+JoinsNodes (SpanLeast clock s t) m n = (m ≡ nodes.Reading clock t) × (n ≡ nodes.Reading clock s)
+JoinsNodes (Late e) m n = (clock : ℕ) × (stamp : ℕ) × (m ≡ nodes.Reading clock stamp) × (n ≡ nodes.Event e)
+JoinsNodes (Early e) m n = (clock : ℕ) × (stamp : ℕ) × (m ≡ nodes.Event e) × (n ≡ nodes.Reading clock stamp)
+JoinsNodes (bounds.Follow c s d t) m n = (m ≡ nodes.Reading d t) × (n ≡ nodes.Reading c s)
+JoinsNodes (DelayMost send receive) m n = (m ≡ nodes.Event send) × (n ≡ nodes.Event receive)
+JoinsNodes (DelayLeast send receive) m n = (m ≡ nodes.Event receive) × (n ≡ nodes.Event send)
 
 -- the arc's name is that of a bound from its tail to its head
 pub record IsNamed (all : List Node) (a : Arc) : Type 0 where
@@ -23,4 +23,4 @@ pub record IsNamed (all : List Node) (a : Arc) : Type 0 where
   pub head : Node
   pub from : slice_get all a.from ≡ Some tail
   pub to : slice_get all a.to ≡ Some head
-  pub joins : Joins a.name tail head
+  pub joins : JoinsNodes a.name tail head

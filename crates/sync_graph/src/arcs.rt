@@ -1,8 +1,8 @@
 // Arcs without the places in their names.
 ghost use Rattle.std.specs.Prelude.{◌≡◌, ℕ, ◌<◌, ◌++◌, ◌∷◌, [], length, slice_index_or, OnOk, OnErr};
 ghost use Rattle.problem_model.specs.declared.items.Node.TheVariants as nodes;
-ghost use Rattle.sync_graph.specs.Names.{Joins};
-ghost use Rattle.sync_graph.specs.Kinds.{kind_of, name_between, of_kind};
+ghost use Rattle.sync_graph.specs.Names.{JoinsNodes};
+ghost use Rattle.sync_graph.specs.Kinds.{bound_kind, name_between, of_kind};
 
 use crate::arc::Arc;
 use atto::Nano;
@@ -42,7 +42,7 @@ struct Ends {
 
 // The kind of a bound of this name.
 fn kind_of(name: Bound) -> Kind
-    ensures { result ≡ kind_of name }
+    ensures { result ≡ bound_kind name }
 {
     match name {
         Bound::SpanMost { .. } => Kind::SpanMost,
@@ -91,7 +91,7 @@ fn event(node: Node) -> u32
 
 /// The name of the bound of this kind from one node to another.
 pub fn name_between(kind: Kind, from: Node, to: Node) -> Bound
-    requires { Joins (name_between kind from to) from to }
+    requires { JoinsNodes (name_between kind from to) from to }
     ensures { result ≡ name_between kind from to }
 {
     match kind {

@@ -1,10 +1,11 @@
 // A graph of numbered arcs.
 ghost use Rattle.std.specs.Prelude.{◌≡◌, ℕ, ◌<◌, ◌+◌, ◌++◌, ◌∷◌, [], length, true, false, slice_get, slice_set, slice_index_or, Some, IfSome, IfNone, OnOk, OnErr, IfOk};
 ghost use Rattle.problem_model.specs.Sums.{sum_to};
+ghost use Rattle.problem_model.specs.Limits.{most_arcs, most_nodes};
 ghost use Rattle.sync_graph.specs.Lists.{list_at};
 ghost use Rattle.sync_graph.specs.Neighbours.{IsNearestBelow, IsNearestAbove, IsFirstReading, IsLastReading, HasNoReading};
 ghost use Rattle.sync_graph.specs.Names.{IsNamed};
-ghost use Rattle.sync_graph.specs.Graph.{GraphLists, IsGraph, IsSound, most_nodes, most_arcs, arc_at, no_graph, with_node, with_arc, departing, reaching, arcs_in_force};
+ghost use Rattle.sync_graph.specs.Graph.{GraphLists, IsGraph, IsSound, arc_at, no_graph, with_node, with_arc, departing, reaching, arcs_in_force};
 
 use crate::arc::Arc;
 use crate::arcs::{Arcs, KindArc, name_between, of_kind};

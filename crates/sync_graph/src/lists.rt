@@ -1,8 +1,8 @@
 // A list of arc numbers for each node, all in one table.
 ghost use Rattle.std.specs.Prelude.{◌≡◌, ℕ, ◌-◌, ◌<◌, ◌++◌, ◌∷◌, [], length, take, slice_get, slice_set, slice_index_or, OnOk, OnErr, IfOk};
 ghost use Rattle.std.specs.List.{swap_remove};
-ghost use Rattle.sync_graph.specs.Graph.{most_arcs};
-ghost use Rattle.sync_graph.specs.Layout.{LiesWithin, HasPlace};
+ghost use Rattle.problem_model.specs.Limits.{most_arcs};
+ghost use Rattle.sync_graph.specs.Layout.{LiesWithin, HasPlaceForOne};
 ghost use Rattle.sync_graph.specs.Lists.{list_at, entry_at};
 
 use std::alloc::{AllocError, Global};
@@ -44,7 +44,7 @@ fn moved(table: &mut Vec<u32>, span: Span) -> Result<Span, AllocError>
     requires within { LiesWithin table.old.items span }
     requires full { span.len ≡ span.room }
     requires few { span.len < most_arcs }
-    ensures ok { IfOk result (λ s. HasPlace table.old.items span table.new.items s) }
+    ensures ok { IfOk result (λ s. HasPlaceForOne table.old.items span table.new.items s) }
     ensures err { OnErr result (table.new.items ≡ table.old.items) }
 {
     let start = table.len();
@@ -68,7 +68,7 @@ fn moved(table: &mut Vec<u32>, span: Span) -> Result<Span, AllocError>
 fn roomy(table: &mut Vec<u32>, span: Span) -> Result<Span, AllocError>
     requires within { LiesWithin table.old.items span }
     requires few { span.len < most_arcs }
-    ensures ok { IfOk result (λ s. HasPlace table.old.items span table.new.items s) }
+    ensures ok { IfOk result (λ s. HasPlaceForOne table.old.items span table.new.items s) }
     ensures err { OnErr result (table.new.items ≡ table.old.items) }
 {
     if span.len < span.room {

@@ -12,8 +12,8 @@ abbrev pub rounds_of : ℕ → List ℕ
 rounds_of batch = range_with_len (100 * (batch - 1) + 1) 100
 
 -- the messages of a batch
-abbrev pub messages_of : ℕ → ℕ → List Message
-messages_of seed batch = map (message seed) (rounds_of batch)
+abbrev pub batch_messages : ℕ → ℕ → List Message
+batch_messages seed batch = map (message seed) (rounds_of batch)
 
 -- a row of a log: a message is named by its number
 abbrev pub row : ℕ → List ℕ → ℕ → List ℕ
@@ -65,11 +65,11 @@ batches = range_with_len 1 20
 
 -- all files
 unfoldable pub files_of : ℕ → List PutFile
-files_of seed = flat_map (λ batch. batch_files batch (messages_of seed batch)) batches
+files_of seed = flat_map (λ batch. batch_files batch (batch_messages seed batch)) batches
 
 -- the whole script
 unfoldable pub script_of : ℕ → List ℕ
-script_of seed = flat_map (λ batch. batch_lines batch (messages_of seed batch)) batches
+script_of seed = flat_map (λ batch. batch_lines batch (batch_messages seed batch)) batches
 
 -- of files that were put so, each path has the bytes that it has among these
 abbrev pub HasFiles : List PutFile → List PutFile → Type 0

@@ -1,5 +1,5 @@
 use Rattle.std.proofs.Common.{◌≡◌, ◌+◌, [], ◌∷◌, ◌++◌, length, sym, ◌∙◌, ap, subst, None, position, is_some, cond}
-use Rattle.interner.specs.Numbers.{by_number, AreNumbered}
+use Rattle.interner.specs.Numbers.{by_number, HaveNumbers}
 use Rattle.interner.proofs.Numbering.{one_more, more_numbered}
 use Rattle.interner.proofs.Places.push.Goals as goal
 use Rattle.interner.proofs.Places.push.Goals.{in-Ok, in-Err}
@@ -14,7 +14,7 @@ invariant_of-self g c =
       | in-Ok w ↦ (
           let longer = w.in-Ok.ensures.len ∙ ap (λ r. length m.entries + cond (is_some r) 0 1) w.in-Ok.ensures.old in
           (more_numbered E g.T.Ord.cmp g.met.T.Ord.total g.met.T.Ord.matches_eq m c.insert.new.self c.self.invariant.0 c.self.invariant.1 v new c.len-number.result c.len-number.ensures.len w.in-Ok.ensures.entries longer, c.insert.ensures.ordered))
-      | in-Err w ↦ (subst AreNumbered (sym w.in-Err.ensures.err) c.self.invariant.0, c.insert.ensures.ordered)
+      | in-Err w ↦ (subst HaveNumbers (sym w.in-Err.ensures.err) c.self.invariant.0, c.insert.ensures.ordered)
     ]
 
 pub returns-clause-ok : goal.returns-clause-ok
