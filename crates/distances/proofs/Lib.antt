@@ -4,5 +4,6 @@ pub mod Spreading
 pub mod Popping
 pub mod Beginning
 pub mod Repairing
+pub mod Searching
 pub mod Pushed
 pub mod Stopping

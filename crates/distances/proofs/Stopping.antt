@@ -1,13 +1,14 @@
 -- A search that is left before all nodes are taken has the greatest difference of the node that it would take next.
 use Rattle.std.proofs.Common.{◌≡◌, ℕ, ◌<◌, Bool, true, false, length, List, get_or, refl, ap, sym, ◌∙◌, subst, arith, inl, inr, ◌⊎◌}
-use Rattle.std.specs.Prelude.{◌^◌, Option, ℤ, pos, neg_ℤ, ◌+ℤ◌, ◌-ℤ◌, ◌≤ℤ◌, ◌<ℤ◌, All}
+use Rattle.std.specs.Prelude.{◌+◌, ◌^◌, Option, ℤ, pos, neg_ℤ, ◌+ℤ◌, ◌-ℤ◌, ◌≤ℤ◌, ◌<ℤ◌, All}
 use Rattle.std.proofs.lemmas.Int.{ints, by_lt_z}
 use Rattle.std.proofs.lemmas.List.Elements.{Contains-get_or}
 use Rattle.problem_model.specs.Executions as bounds
-use Rattle.problem_model.specs.Executions.{at, difference, Obeys, IsExecution, AreWithin, values_by}
+use Rattle.problem_model.specs.Executions.{at, difference, Obeys, IsExecution, values_by}
 use Rattle.problem_model.specs.Tables.{ArcTable, Lists, ObeysAll, reversed_table}
 use Rattle.problem_model.specs.Parents.{Cells, IsRelaxed}
 use Rattle.problem_model.specs.RowPops.{reduced, IsRelaxing, IsUnderWay}
+use Rattle.problem_model.specs.Limits.{path_bits}
 use Rattle.problem_model.proofs.Executions.{at-values_by, execution_by}
 use Rattle.problem_model.proofs.Tables.{obeys_all}
 use Rattle.sync_graph.specs.Graph.{GraphLists, IsGraph, table_of}
@@ -20,7 +21,10 @@ use Rattle.row_pool.specs.declared.cell.Reach.TheVariants.{At, Never}
 use Rattle.row_pool.specs.Reach.{known_reach, reach_of}
 use Rattle.row_pool.specs.Row.{cell_at, cells_of}
 use Rattle.distances.specs.Relaxed.{waits_of, AreKeyed}
-use Rattle.distances.specs.Reaches.{IsReachIn, IsReachOver}
+use Rattle.distances.specs.declared.side.Side.{Side}
+use Rattle.distances.specs.declared.side.Side.TheVariants.{From, Towards}
+use Rattle.distances.specs.Facing.{facing}
+use Rattle.distances.specs.Reaches.{IsReachIn, IsReachBy, IsReachOver}
 use Rattle.distances.proofs.Puts.{waits_true, none_waits, least_reduced}
 
 -- one of two values, by whether a node is known and whether it waits
@@ -179,7 +183,7 @@ module _ (table : ArcTable) (p : ℕ) (e : ℕ → ℤ) (top : ℤ) (rank : ℕ 
 -- ---- the cells of a row and the frontier
 
 module _ (nodes : ℕ) (table : ArcTable) (p : ℕ) (e : ℕ → ℤ) (old row : List Cell) (front : List (Option ℤ))
-    (u : IsUnderWay nodes table p e (2 ^ 117) (2 ^ 93) (cells_of old) (cells_of row) (waits_of front))
+    (u : IsUnderWay nodes table p e (2 ^ (path_bits + 2)) (2 ^ 93) (cells_of old) (cells_of row) (waits_of front))
     (fresh : (k : ℕ) → (cell_at old k).known ≡ false)
     (x : ObeysAll table e)
   where
@@ -241,7 +245,7 @@ module _ (g : GraphLists) (is : IsGraph g) (p q : ℕ) (lp : p < length g.nodes)
       let vq : at (values_by x (length g.nodes)) q ≡ x q = at-values_by x (length g.nodes) q lq in
       omega (arith, ints)
 
-  pub reach_in : (r : Reach) → IsReachOver (table_of g) p q r → IsReachIn g p q r
+  reach_in : (r : Reach) → IsReachOver (table_of g) p q r → IsReachIn g p q r
   reach_in (At h) m = record {
     attained = (values_by m.attained.0 (length g.nodes), as_execution m.attained.0 m.attained.1, as_difference m.attained.0 ∙ m.attained.2);
     most = λ xs run. m.most (at xs) (obeys_all (length g.nodes) (table_of g) (arcs_of g) xs (arcs_listed g is) run);
@@ -250,6 +254,7 @@ module _ (g : GraphLists) (is : IsGraph g) (p q : ℕ) (lp : p < length g.nodes)
       let y : (x : ℕ → ℤ) × ObeysAll (table_of g) x × (h <ℤ (x q -ℤ x p)) = m h in
       (values_by y.0 (length g.nodes), as_execution y.0 y.1, subst (λ d. h <ℤ d) (sym (as_difference y.0)) y.2)
 
--- the search towards p
-pub reach_in_turned : (g : GraphLists) → IsGraph g → (p q : ℕ) → p < length g.nodes → q < length g.nodes → (r : Reach) → IsReachOver (reversed_table (table_of g)) p q r → IsReachIn g q p r
-reach_in_turned g is p q lp lq r m = reach_in g is q p lq lp r (reach_turned (table_of g) p q r m)
+-- the search either way
+pub reach_by : (side : Side) (g : GraphLists) → IsGraph g → (p q : ℕ) → p < length g.nodes → q < length g.nodes → (r : Reach) → IsReachOver (facing side g) p q r → IsReachBy side g p q r
+reach_by From g is p q lp lq r m = reach_in g is p q lp lq r m
+reach_by Towards g is p q lp lq r m = reach_in g is q p lq lp r (reach_turned (table_of g) p q r m)

@@ -11,9 +11,13 @@ mod reach;
 mod relax;
 mod repair;
 mod row;
+mod search;
 mod settle;
+mod side;
 
-pub use reach::{reach_from, reach_to};
-pub use relax::{far_end, next_arc, relax_arc, relax_arcs};
-pub use repair::{repair_from, repair_to};
-pub use row::{row_from, row_to};
+pub use reach::find_reach;
+pub use relax::{relax_arc, relax_arcs};
+pub use repair::repair_row;
+pub use row::make_row;
+pub use search::Search;
+pub use side::Side;

@@ -6,7 +6,7 @@ use Rattle.problem_model.specs.Executions.{at}
 use Rattle.problem_model.specs.Sums.{sum_to}
 use Rattle.sync_graph.specs.Graph.{GraphLists, reaching, arcs_in_force}
 use Rattle.earliest.specs.declared.inserted.Inserted.TheVariants.{Kept}
-use Rattle.earliest.specs.Steps.{differing_sum, most_steps}
+use Rattle.earliest.specs.Steps.{differing_sum, most_insert_steps}
 use Rattle.earliest.specs.UnderWay.{raise_steps}
 
 -- terms that are no greater have a sum that is no greater
@@ -42,7 +42,7 @@ all_steps g old values degrees =
 
 -- the steps of raises, as an insertion counts them
 module _ (g : GraphLists) (old olds values : List ℤ) (first last : ℕ) (same : olds ≡ old) (raises : last ≤ first + raise_steps g olds values + 1) where
-  pub kept_steps : last ≤ first + most_steps g old values Kept
+  pub kept_steps : last ≤ first + most_insert_steps g old values Kept
   kept_steps =
       let few : raise_steps g old values ≤ differing_sum (length g.nodes) (λ k. reaching g k + 2) old values = differing_steps g old values in
       let r : last ≤ first + raise_steps g old values + 1 = subst (λ xs. last ≤ first + raise_steps g xs values + 1) same raises in

@@ -1,6 +1,6 @@
 -- The start of an insertion.
 use Rattle.std.proofs.Common.{◌≡◌, ℕ, ◌*◌, ◌^◌, ◌<◌, ◌≤◌, true, false, List, length, set, get_or, refl, sym, ◌∙◌, subst, arith, inl, inr, length-set}
-use Rattle.std.specs.Prelude.{ℤ, pos, neg_ℤ, ◌-ℤ◌, ◌≤ℤ◌, ◌<ℤ◌, Option, Some, All}
+use Rattle.std.specs.Prelude.{◌+◌, ℤ, pos, neg_ℤ, ◌-ℤ◌, ◌≤ℤ◌, ◌<ℤ◌, Option, Some, All}
 use lib.Signed.{le_z}
 use Rattle.std.proofs.lemmas.Int.{ints}
 use Rattle.std.proofs.lemmas.Bool.{cases_lt}
@@ -10,13 +10,14 @@ use Rattle.problem_model.specs.Executions.{Arc, at, AreWithin}
 use Rattle.problem_model.specs.Numbers.{IsUpTo}
 use Rattle.problem_model.specs.Tables.{Lists, without}
 use Rattle.problem_model.specs.Insertions.{IsFirstRaise}
+use Rattle.problem_model.specs.Limits.{path_bits}
 use Rattle.problem_model.proofs.Heights.{earliest_height, height_low}
 use Rattle.problem_model.proofs.Insertions.{obeyed_elsewhere, kept_earliest, first_raising, first_chains}
 use Rattle.problem_model.proofs.Tables.{lists_listed, without_force}
 use Rattle.frontier.specs.Keys.{IsEmpty}
 use Rattle.sync_graph.specs.Graph.{GraphLists, IsGraph, IsSound, arc_at, unnamed, table_of}
-use Rattle.earliest.specs.Values.{arcs_of, arcs_but, IsEarliestOf, IsEarliestBut}
-use Rattle.earliest.specs.UnderWay.{IsNeeded, raises_of, IsBefore, IsUnderWay}
+use Rattle.earliest.specs.Values.{arcs_of, arcs_but, IsEarliestOf, IsEarliestBut, AreSmall}
+use Rattle.earliest.specs.UnderWay.{IsNeeded, raises_of, IsBefore, IsBetweenPops}
 use Rattle.earliest.proofs.Waiting.{neg_neg, raise_none, raise-set_same, raise-set_other, raises_in, raises_none, in_force_below}
 use Rattle.earliest.proofs.Bounds.{no_arc}
 
@@ -26,19 +27,19 @@ pos_le a b h = omega (arith, ints)
 pub weight_low : (w : ℤ) → neg_ℤ (pos (2 ^ 93)) <ℤ w → neg_ℤ (pos (2 ^ 93)) ≤ℤ w
 weight_low w h = omega (arith, ints)
 
-pub value_low : (x y : ℤ) → x ≤ℤ y → y ≤ℤ pos (2 ^ 115) → x ≤ℤ pos (2 ^ 115)
+pub value_low : (x y : ℤ) → x ≤ℤ y → y ≤ℤ pos (2 ^ path_bits) → x ≤ℤ pos (2 ^ path_bits)
 value_low x y a b = omega (arith, ints)
 
-first_low : (a b w r : ℤ) → a ≤ℤ pos (2 ^ 115) → pos 0 ≤ℤ b → neg_ℤ (pos (2 ^ 93)) <ℤ w → r ≡ a -ℤ w -ℤ b → r ≤ℤ pos (2 ^ 116)
+first_low : (a b w r : ℤ) → a ≤ℤ pos (2 ^ path_bits) → pos 0 ≤ℤ b → neg_ℤ (pos (2 ^ 93)) <ℤ w → r ≡ a -ℤ w -ℤ b → r ≤ℤ pos (2 ^ (path_bits + 1))
 first_low a b w r ha hb hw e = omega (arith, ints)
 
 obeyed_from : (a b w r : ℤ) → r ≡ a -ℤ w -ℤ b → r ≤ℤ pos 0 → (a -ℤ b) ≤ℤ w
 obeyed_from a b w r e h = omega (arith, ints)
 
-pub up_to : (x : ℤ) → pos 0 ≤ℤ x → x ≤ℤ pos (2 ^ 115) → IsUpTo 118 x
+pub up_to : (x : ℤ) → pos 0 ≤ℤ x → x ≤ℤ pos (2 ^ path_bits) → IsUpTo (path_bits + 3) x
 up_to x l h = (omega (arith, ints), omega (arith, ints))
 
-pub zero_low : (x : ℤ) → x ≡ pos 0 → x ≤ℤ pos (2 ^ 115)
+pub zero_low : (x : ℤ) → x ≡ pos 0 → x ≤ℤ pos (2 ^ path_bits)
 zero_low x e = omega (arith, ints)
 
 module _ (g : GraphLists) (is : IsGraph g) (arc : ℕ) (olds : List ℤ)
@@ -67,16 +68,19 @@ module _ (g : GraphLists) (is : IsGraph g) (arc : ℕ) (olds : List ℤ)
     within : AreWithin (length g.nodes) (arcs_but g arc)
     within = each_sound (λ a. (a.from < length g.nodes) × (a.to < length g.nodes)) (λ j s. (s.from, s.to))
 
-    pub olds_low : (k : ℕ) → at olds k ≤ℤ pos (2 ^ 115)
+    pub olds_low : (k : ℕ) → at olds k ≤ℤ pos (2 ^ path_bits)
     olds_low k = elim (cases_lt k (length g.nodes)) [
       | inl l ↦ value_low (at olds k) (pos (length g.nodes * 2 ^ 93))
           (earliest_height (length g.nodes) (arcs_but g arc) olds (2 ^ 93) within (each_sound (λ a. neg_ℤ (pos (2 ^ 93)) ≤ℤ a.weight) (λ j s. weight_low (arc_at g.arcs j).weight s.low)) e k l)
-          (pos_le (length g.nodes * 2 ^ 93) (2 ^ 115) (height_low (length g.nodes) is.node_limit))
+          (pos_le (length g.nodes * 2 ^ 93) (2 ^ path_bits) (height_low (length g.nodes) is.node_limit))
       | inr l ↦ zero_low (at olds k) (get_or_past olds k (pos 0) (omega (arith, l, e.execution.one_each)))
     ]
 
-    pub olds_small : All (IsUpTo 118) olds
-    olds_small k d l = subst (IsUpTo 118) (get_or_default olds k (pos 0) d l) (up_to (at olds k) (e.non_negative k) (olds_low k))
+    pub olds_small : AreSmall g olds
+    olds_small = record {
+      one_each = e.execution.one_each;
+      small = λ k d l. subst (IsUpTo (path_bits + 3)) (get_or_default olds k (pos 0) d l) (up_to (at olds k) (e.non_negative k) (olds_low k));
+    }
 
     pub is_before : IsBefore g (arc_at g.arcs arc).to olds
     is_before = record {
@@ -113,7 +117,7 @@ module _ (g : GraphLists) (is : IsGraph g) (arc : ℕ) (olds : List ℤ)
             positive = positive;
           }
 
-          first_under_way : IsUnderWay g (arc_at g.arcs arc).to olds olds (set front (arc_at g.arcs arc).from (Some (neg_ℤ r))) (set parents (arc_at g.arcs arc).from arc)
+          first_under_way : IsBetweenPops g (arc_at g.arcs arc).to olds olds (set front (arc_at g.arcs arc).from (Some (neg_ℤ r))) (set parents (arc_at g.arcs arc).from arc)
           first_under_way = record {
             first = r;
             top = r;
@@ -129,9 +133,9 @@ module _ (g : GraphLists) (is : IsGraph g) (arc : ℕ) (olds : List ℤ)
           }
 
           pub starts : front' ≡ set front (arc_at g.arcs arc).from (Some (neg_ℤ r)) → parents' ≡ set parents (arc_at g.arcs arc).from arc
-              → IsUnderWay g (arc_at g.arcs arc).to olds olds front' parents'
-          starts ef ep = subst (λ f. IsUnderWay g (arc_at g.arcs arc).to olds olds f parents') (sym ef)
-              (subst (λ p. IsUnderWay g (arc_at g.arcs arc).to olds olds (set front (arc_at g.arcs arc).from (Some (neg_ℤ r))) p) (sym ep) first_under_way)
+              → IsBetweenPops g (arc_at g.arcs arc).to olds olds front' parents'
+          starts ef ep = subst (λ f. IsBetweenPops g (arc_at g.arcs arc).to olds olds f parents') (sym ef)
+              (subst (λ p. IsBetweenPops g (arc_at g.arcs arc).to olds olds (set front (arc_at g.arcs arc).from (Some (neg_ℤ r))) p) (sym ep) first_under_way)
 
 pub test_low : (x : ℤ) → le_z x (pos 0) ≡ true → x ≤ℤ pos 0
 test_low x h = grind (arith, ints)

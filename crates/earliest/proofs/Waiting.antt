@@ -9,7 +9,7 @@ use Rattle.problem_model.specs.Tables.{ArcTable}
 use Rattle.problem_model.specs.Insertions.{Raises, IsAsking, IsRaiseStep, IsRaisedTo}
 use Rattle.problem_model.proofs.Asking.{asking_start, asking_kept, asking_raised, asking_done}
 use Rattle.problem_model.proofs.SimplePaths.{pigeons}
-use Rattle.frontier.specs.Keys.{Waits, IsFree, IsEmpty}
+use Rattle.frontier.specs.Keys.{Waits, IsFreeNode, IsEmpty}
 use Rattle.sync_graph.specs.Graph.{GraphLists, IsGraph, table_of}
 use Rattle.sync_graph.specs.Lists.{list_at, entry_at}
 use Rattle.earliest.specs.UnderWay.{raise_of, raise_at, raises_of, AreRaises, IsAskedBy}
@@ -178,7 +178,7 @@ arriving_arc g is node k arc w =
     (r.1, q.0, q.1)
 
 -- where none waits each node is free
-pub free_where_empty : (front : List (Option ℤ)) (node : ℕ) → IsEmpty front → node < length front → IsFree front node
+pub free_where_empty : (front : List (Option ℤ)) (node : ℕ) → IsEmpty front → node < length front → IsFreeNode front node
 free_where_empty [] node e l = absurd (omega arith)
 free_where_empty (None ∷ front) zero e l = refl
 free_where_empty (Some key ∷ front) zero e l = absurd (e 0 key refl)

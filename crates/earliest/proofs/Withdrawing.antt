@@ -9,6 +9,7 @@ use Rattle.problem_model.specs.Executions.{at, Obeys, AreWithin}
 use Rattle.problem_model.specs.Numbers.{IsUpTo}
 use Rattle.problem_model.specs.Sums.{sum_to}
 use Rattle.problem_model.specs.Tables.{Lists}
+use Rattle.problem_model.specs.Limits.{path_bits}
 use Rattle.problem_model.proofs.Heights.{earliest_height, height_low}
 use Rattle.problem_model.proofs.Sums.{sum-same}
 use Rattle.problem_model.proofs.Tables.{lists_listed}
@@ -18,8 +19,8 @@ use Rattle.withdrawals.proofs.Marking.{are_marks, few_found}
 use Rattle.withdrawals.proofs.Sums.{flagged_below, flagged_both}
 use Rattle.sync_graph.specs.declared.arc.Arc.{Arc}
 use Rattle.sync_graph.specs.Graph.{GraphLists, IsGraph, IsSound, table_of, unnamed, arc_at, reaching, departing}
-use Rattle.earliest.specs.Values.{arcs_of}
-use Rattle.earliest.specs.Withdrawn.{waits_at, fall_at, falls_of, found_at, arcs_before, IsEarliestWith, IsAffectedBy, AreLow, IsMarkingIn, IsPulledIn, IsFallingIn}
+use Rattle.earliest.specs.Values.{arcs_of, AreSmall}
+use Rattle.earliest.specs.Withdrawn.{waits_at, fall_at, falls_of, found_at, arcs_before, IsEarliestWith, IsAffectedBy, AreLow, IsFallMarking, IsPulledIn, IsFallingIn}
 use Rattle.earliest.proofs.Waiting.{in_force_below}
 use Rattle.earliest.proofs.Bounds.{no_arc}
 use Rattle.earliest.proofs.Starting.{pos_le, value_low, weight_low, zero_low, up_to}
@@ -48,19 +49,22 @@ module _ (g : GraphLists) (is : IsGraph g) (removed : List Arc) (olds : List ℤ
     within : AreWithin (length g.nodes) (arcs_before g removed)
     within = each_sound (λ a. (a.from < length g.nodes) × (a.to < length g.nodes)) (λ a s. (s.from, s.to))
 
-    olds_low : (k : ℕ) → at olds k ≤ℤ pos (2 ^ 115)
+    olds_low : (k : ℕ) → at olds k ≤ℤ pos (2 ^ path_bits)
     olds_low k = elim (cases_lt k (length g.nodes)) [
       | inl l ↦ value_low (at olds k) (pos (length g.nodes * 2 ^ 93))
           (earliest_height (length g.nodes) (arcs_before g removed) olds (2 ^ 93) within (each_sound (λ a. neg_ℤ (pos (2 ^ 93)) ≤ℤ a.weight) (λ a s. weight_low a.weight s.low)) e k l)
-          (pos_le (length g.nodes * 2 ^ 93) (2 ^ 115) (height_low (length g.nodes) is.node_limit))
+          (pos_le (length g.nodes * 2 ^ 93) (2 ^ path_bits) (height_low (length g.nodes) is.node_limit))
       | inr l ↦ zero_low (at olds k) (get_or_past olds k (pos 0) (omega (arith, l, e.execution.one_each)))
     ]
 
     pub are_low : AreLow (length g.nodes) olds
     are_low = record { one_each = e.execution.one_each; non_negative = e.non_negative; low = olds_low }
 
-    pub are_small : All (IsUpTo 118) olds
-    are_small k d l = subst (IsUpTo 118) (get_or_default olds k (pos 0) d l) (up_to (at olds k) (e.non_negative k) (olds_low k))
+    pub are_small : AreSmall g olds
+    are_small = record {
+      one_each = e.execution.one_each;
+      small = λ k d l. subst (IsUpTo (path_bits + 3)) (get_or_default olds k (pos 0) d l) (up_to (at olds k) (e.non_negative k) (olds_low k));
+    }
 
     pub are_obeyed : (j : ℕ) → (table_of g).in_force j ≡ true → Obeys (at olds) ((table_of g).arc j)
     are_obeyed j f = All-contains (Obeys (at olds)) (arcs_before g removed) ((table_of g).arc j) e.execution.obeys
@@ -68,7 +72,7 @@ module _ (g : GraphLists) (is : IsGraph g) (removed : List Arc) (olds : List ℤ
 
     module _ (front : List (Option ℤ)) (found : List ℕ) (count : ℕ) where
       -- all affected nodes are marked, and none is pulled yet
-      pub pulled_first : IsMarkingIn g (arcs_before g removed) (map unnamed removed) olds front found count count
+      pub pulled_first : IsFallMarking g (arcs_before g removed) (map unnamed removed) olds front found count count
           → All (λ a. IsExact (at olds) a → waits_at front a.from ≡ true) (map unnamed removed)
           → IsPulledIn g olds front found count 0
       pulled_first m gone = record {
@@ -92,14 +96,14 @@ module _ (g : GraphLists) (is : IsGraph g) (removed : List Arc) (olds : List ℤ
         room = p.room;
       }
 
-      pub found_few : IsMarkingIn g (arcs_before g removed) (map unnamed removed) olds front found count count → count ≤ length found
+      pub found_few : IsFallMarking g (arcs_before g removed) (map unnamed removed) olds front found count count → count ≤ length found
       found_few m =
           let few : count ≤ length g.nodes = few_found (length g.nodes) (table_of g) (arcs_before g removed) (map unnamed removed) (at olds) (waits_at front) (found_at found) count count m.marking in
           omega (arith, m.found_each)
 
       -- the steps of all three loops
       pub all_cost : (front' : List (Option ℤ)) (s0 s1 s2 s3 : ℕ) (affected : ℕ → Bool)
-          → IsMarkingIn g (arcs_before g removed) (map unnamed removed) olds front found count count
+          → IsFallMarking g (arcs_before g removed) (map unnamed removed) olds front found count count
           → ((k : ℕ) → waits_at front' k ≡ waits_at front k)
           → s1 ≤ s0 + sum_to count (λ i. reaching g (found_at found i) + 1)
           → s2 ≤ s1 + sum_to count (λ i. departing g (found_at found i) + 1)

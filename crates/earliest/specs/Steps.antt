@@ -13,6 +13,6 @@ differing_sum nodes each before after =
 
 -- the most steps: two, and where the values are kept two and the arcs in force that reach it for each node whose value
 -- differs; at a negative cycle two for each node, and the arcs in force
-abbrev pub most_steps : GraphLists → List ℤ → List ℤ → Inserted → ℕ
-most_steps g before after Kept = differing_sum (length g.nodes) (λ k. reaching g k + 2) before after + 2
-most_steps g before after (Negative cycle) = arcs_in_force g + 2 * length g.nodes + 2
+abbrev pub most_insert_steps : GraphLists → List ℤ → List ℤ → Inserted → ℕ
+most_insert_steps g before after Kept = differing_sum (length g.nodes) (λ k. reaching g k + 2) before after + 2
+most_insert_steps g before after (Negative cycle) = arcs_in_force g + 2 * length g.nodes + 2

@@ -3,10 +3,11 @@ use Rattle.std.specs.Prelude.{◌≡◌, ℕ, ◌+◌, ◌^◌, ◌<◌, ◌≤�
 use Rattle.problem_model.specs.Executions as bounds
 use Rattle.problem_model.specs.Executions.{at}
 use Rattle.problem_model.specs.Earliest.{IsEarliest, IsNonNegative}
+use Rattle.problem_model.specs.Limits.{path_bits}
 use Rattle.sync_graph.specs.declared.arc.Arc.{Arc}
 use Rattle.sync_graph.specs.Graph.{GraphLists, table_of, unnamed}
 use Rattle.withdrawals.specs.Withdrawals.{IsExact, IsAffected}
-use Rattle.withdrawals.specs.Falls.{Falls, IsMarking, IsPoised, IsHeld, IsFalling}
+use Rattle.withdrawals.specs.Falls.{Falls, IsMarking, IsPoised, IsObeyedAfter, IsFalling}
 use Rattle.earliest.specs.Values.{arcs_of}
 
 -- the arcs in force and those removed, without their names
@@ -65,11 +66,11 @@ IsMarkedBy values a front front' found found' count count' = IsLeft values a fro
 pub record AreLow (nodes : ℕ) (values : List ℤ) : Type 0 where
   pub one_each : length values ≡ nodes
   pub non_negative : IsNonNegative (at values)
-  pub low : (k : ℕ) → at values k ≤ℤ pos (2 ^ 115)
+  pub low : (k : ℕ) → at values k ≤ℤ pos (2 ^ path_bits)
 
 -- how far the search for affected nodes has come: the marks and the list of those found, of which the first so many are
 -- done; each is to fall to 0
-pub record IsMarkingIn (g : GraphLists) (before gone : List bounds.Arc) (values : List ℤ) (front : List (Option ℤ)) (found : List ℕ) (count done : ℕ) : Type 0 where
+pub record IsFallMarking (g : GraphLists) (before gone : List bounds.Arc) (values : List ℤ) (front : List (Option ℤ)) (found : List ℕ) (count done : ℕ) : Type 0 where
   pub arcs : (j : ℕ) → (table_of g).in_force j ≡ true → Contains before ((table_of g).arc j)
   pub marking : IsMarking (length g.nodes) (table_of g) before gone (at values) (waits_at front) (found_at found) count done
   pub keys : (k : ℕ) → waits_at front k ≡ true → fall_at front k ≡ at values k
@@ -85,14 +86,14 @@ pub record IsLoweredTo (node : ℕ) (fall : ℤ) (front front' : List (Option �
   pub front_is : front' ≡ slice_set front node (Some fall)
 
 -- only nodes wait
-abbrev pub AreNodes : ℕ → List (Option ℤ) → Type 0
-AreNodes nodes front = (node : ℕ) → waits_at front node ≡ true → node < nodes
+abbrev pub OnlyNodesWait : ℕ → List (Option ℤ) → Type 0
+OnlyNodesWait nodes front = (node : ℕ) → waits_at front node ≡ true → node < nodes
 
 -- marked nodes wait at their old values; the first so many found are held by the arcs that lead from them to nodes that
 -- rest
 pub record IsPulledIn (g : GraphLists) (values : List ℤ) (front : List (Option ℤ)) (found : List ℕ) (count done : ℕ) : Type 0 where
   pub poised : IsPoised (table_of g) (pos 0) (at values) (falls_of values front)
-  pub held : (i : ℕ) → i < done → (j : ℕ) → (table_of g).in_force j ≡ true → ((table_of g).arc j).from ≡ found_at found i → IsHeld (table_of g) (falls_of values front) j
+  pub held : (i : ℕ) → i < done → (j : ℕ) → (table_of g).in_force j ≡ true → ((table_of g).arc j).from ≡ found_at found i → IsObeyedAfter (table_of g) (falls_of values front) j
   pub listed : (k : ℕ) → waits_at front k ≡ true → (i : ℕ) × (i < count) × (found_at found i ≡ k)
   pub marked : (i : ℕ) → i < count → (waits_at front (found_at found i) ≡ true) × (found_at found i < length g.nodes)
   pub room : length g.nodes ≤ length front
@@ -101,6 +102,6 @@ pub record IsPulledIn (g : GraphLists) (values : List ℤ) (front : List (Option
 pub record IsFallingIn (g : GraphLists) (old values : List ℤ) (front : List (Option ℤ)) : Type 0 where
   pub top : ℤ
   pub falling : IsFalling (table_of g) top (at old) (falls_of values front)
-  pub nodes : AreNodes (length g.nodes) front
+  pub nodes : OnlyNodesWait (length g.nodes) front
   pub one_each : length values ≡ length g.nodes
   pub room : length g.nodes ≤ length front

@@ -1,14 +1,15 @@
 // The falls of marked nodes: each falls only as far as arcs to nodes that do not wait allow, the least fall first.
-ghost use Rattle.std.specs.Prelude.{◌≡◌, ℕ, ◌+◌, ◌<◌, ◌≤◌, neg_ℤ, ◌≤ℤ◌, false, true, All, length, Some, None};
+ghost use Rattle.std.specs.Prelude.{◌≡◌, ℕ, ◌+◌, ◌<◌, ◌≤◌, neg_ℤ, ◌≤ℤ◌, false, true, length, Some, None};
 ghost use Rattle.problem_model.specs.Executions.{at, Obeys};
 ghost use Rattle.problem_model.specs.Numbers.{IsUpTo};
 ghost use Rattle.problem_model.specs.Sums.{sum_to};
+ghost use Rattle.problem_model.specs.Limits.{path_bits};
 ghost use Rattle.frontier.specs.Keys.{IsEmpty};
 ghost use Rattle.sync_graph.specs.Graph.{table_of, reaching, departing};
 ghost use Rattle.sync_graph.specs.Lists.{list_at};
 ghost use Rattle.withdrawals.specs.Withdrawals.{flagged_sum};
-ghost use Rattle.withdrawals.specs.Falls.{IsHolding, IsHeldBy};
-ghost use Rattle.earliest.specs.Values.{IsEarliestOf};
+ghost use Rattle.withdrawals.specs.Falls.{IsHolding, HoldsTail};
+ghost use Rattle.earliest.specs.Values.{IsEarliestOf, AreSmall};
 ghost use Rattle.earliest.specs.Withdrawn.{waits_at, fall_at, falls_of, found_at, AreLow, IsLoweredTo, IsPulledIn, IsFallingIn};
 
 use crate::raises::{lift, raise_asked};
@@ -21,7 +22,7 @@ use sync_graph::Graph;
 /// does so now.
 pub fn stop(front: &mut Frontier, node: u32, raise: i128) -> bool
     requires node { node < length front.old }
-    requires raise { IsUpTo 122 raise }
+    requires raise { IsUpTo (path_bits + 7) raise }
     ensures lowered { result ≡ true → IsLoweredTo node (neg_ℤ raise) front.old front.new }
     ensures same { result ≡ false → front.new ≡ front.old }
     ensures enough { result ≡ false → waits_at front.old node ≡ true → fall_at front.old node ≤ℤ neg_ℤ raise }
@@ -41,10 +42,9 @@ pub fn stop(front: &mut Frontier, node: u32, raise: i128) -> bool
 /// Lets the tail of an arc fall no farther than the arc allows, where the tail waits and the head does not.
 pub fn stop_tail(values: &[i128], g: &Graph, arc: u32, front: &mut Frontier)
     requires arc { arc < length g.now.arcs }
-    requires values { length values.now ≡ length g.now.nodes }
-    requires small { All (IsUpTo 118) values.now }
+    requires values { AreSmall g.now values.now }
     requires room { length g.now.nodes ≤ length front.old }
-    ensures held { IsHeldBy (table_of g.now) arc (falls_of values.now front.old) (falls_of values.now front.new) }
+    ensures held { HoldsTail (table_of g.now) arc (falls_of values.now front.old) (falls_of values.now front.new) }
     ensures nodes { (k : ℕ) → waits_at front.new k ≡ waits_at front.old k }
     ensures room { length front.new ≡ length front.old }
 {
@@ -66,19 +66,17 @@ pub fn pull<L: Ledger>(
     steps: &mut Steps<L>,
 )
     requires node { node < length g.now.nodes }
-    requires values { length values.now ≡ length g.now.nodes }
-    requires small { All (IsUpTo 118) values.now }
+    requires values { AreSmall g.now values.now }
     requires room { length g.now.nodes ≤ length front.old }
     ensures holding { IsHolding (table_of g.now) (list_at g.now.leaving node) (departing g.now node) (falls_of values.now front.old) (falls_of values.now front.new) }
     ensures room { length front.new ≡ length front.old }
     ensures steps { steps.new ≤ steps.old + departing g.now node + 1 }
 {
     g.exact();
-    for k in 0..g.arcs() {
-        let Some(arc) = g.leaving(node, k, steps) else {
-            return;
-        };
+    let mut k = 0;
+    while let Some(arc) = g.leaving(node, k, steps) {
         stop_tail(values, g, arc, front);
+        k += 1;
     }
 }
 
@@ -91,19 +89,17 @@ pub fn stop_tails<L: Ledger>(
     steps: &mut Steps<L>,
 )
     requires node { node < length g.now.nodes }
-    requires values { length values.now ≡ length g.now.nodes }
-    requires small { All (IsUpTo 118) values.now }
+    requires values { AreSmall g.now values.now }
     requires room { length g.now.nodes ≤ length front.old }
     ensures holding { IsHolding (table_of g.now) (list_at g.now.arriving node) (reaching g.now node) (falls_of values.now front.old) (falls_of values.now front.new) }
     ensures room { length front.new ≡ length front.old }
     ensures steps { steps.new ≤ steps.old + reaching g.now node + 1 }
 {
     g.exact();
-    for k in 0..g.arcs() {
-        let Some(arc) = g.arriving(node, k, steps) else {
-            return;
-        };
+    let mut k = 0;
+    while let Some(arc) = g.arriving(node, k, steps) {
         stop_tail(values, g, arc, front);
+        k += 1;
     }
 }
 
@@ -116,8 +112,7 @@ pub fn pull_all<L: Ledger>(
     front: &mut Frontier,
     steps: &mut Steps<L>,
 )
-    requires values { length values.now ≡ length g.now.nodes }
-    requires small { All (IsUpTo 118) values.now }
+    requires values { AreSmall g.now values.now }
     requires obeyed { (j : ℕ) → (table_of g.now).in_force j ≡ true → Obeys (at values.now) ((table_of g.now).arc j) }
     requires few { count ≤ length found.now }
     requires pulled { IsPulledIn g.now values.now front.old found.now count 0 }
@@ -145,7 +140,6 @@ pub fn settle_falls<L: Ledger>(
     requires first { IsFallingIn g.now values.old values.old front.old }
     ensures earliest { IsEarliestOf g.now values.new }
     ensures empty { IsEmpty front.new }
-    ensures values { length values.new ≡ length values.old }
     ensures room { length front.new ≡ length front.old }
     ensures steps { steps.new ≤ steps.old + flagged_sum (length g.now.nodes) (λ k. reaching g.now k + 2) (waits_at front.old) + 1 }
 {

@@ -2,11 +2,10 @@
 ghost use Rattle.std.specs.Prelude.{◌≡◌, ℕ, Bool, ◌+◌, ◌*◌, ◌<◌, ◌≤◌, ◌++◌, ◌∷◌, [], false, true, IfOk, OnOk, OnErr, All, length, pos, replicate, slice_index_or};
 ghost use Rattle.problem_model.specs.Executions.{at};
 ghost use Rattle.withdrawals.specs.Withdrawals.{flagged_sum};
-ghost use Rattle.frontier.specs.Keys.{IsEmpty};
 ghost use Rattle.sync_graph.specs.Graph.{IsSound, reaching, departing};
 ghost use Rattle.earliest.specs.Values.{IsEarliestOf, IsEarliestBut};
 ghost use Rattle.earliest.specs.Inserted.{IsInserted};
-ghost use Rattle.earliest.specs.Steps.{most_steps};
+ghost use Rattle.earliest.specs.Steps.{most_insert_steps};
 ghost use Rattle.earliest.specs.Withdrawn.{IsEarliestWith, IsAffectedBy};
 
 use crate::cycle::cycle_of;
@@ -14,7 +13,7 @@ use crate::inserted::Inserted;
 use crate::settle::add_arc;
 use crate::withdraw::withdraw_arcs;
 use atto::Steps;
-use frontier::Frontier;
+use frontier::IdleQueue;
 use std::alloc::{AllocError, Global};
 use std::marker::Model;
 use std::sync::ledger::Ledger;
@@ -106,8 +105,8 @@ impl Earliest {
         self.alloc
     }
 
-    /// Brings in one arc in force, where the values are the earliest execution of the others. `front` has room for all
-    /// nodes, and is empty before and after. Where memory runs out it is not solved.
+    /// Brings in one arc in force, where the values are the earliest execution of the others. `queue` has room for all
+    /// nodes. Where memory runs out it is not solved.
     ///
     /// A step is one call of `leaving`, `arriving` or `pop`. Where the values are kept there are at most two and, for
     /// each node whose value differs before and after, two and the arcs in force that reach it. Where there is a
@@ -116,22 +115,21 @@ impl Earliest {
         &mut self,
         g: &Graph,
         arc: u32,
-        front: &mut Frontier,
+        queue: &mut IdleQueue,
         steps: &mut Steps<L>,
     ) -> Result<Inserted, AllocError>
         requires in_force { slice_index_or g.now.in_force arc false ≡ true }
         requires solved { self.old.is_solved ≡ true }
         requires before { IsEarliestBut g.now arc self.old.values }
-        requires empty { IsEmpty front.old }
-        requires room { length g.now.nodes ≤ length front.old }
+        requires room { length g.now.nodes ≤ queue.old }
         ensures found { IfOk result (λ found. IsInserted g.now self.new found) }
-        ensures steps { IfOk result (λ found. steps.new ≤ steps.old + most_steps g.now self.old.values self.new.values found) }
+        ensures steps { IfOk result (λ found. steps.new ≤ steps.old + most_insert_steps g.now self.old.values self.new.values found) }
         ensures unsolved { OnErr result (self.new.is_solved ≡ false) }
         ensures values { length self.new.values ≡ length self.old.values }
-        ensures empty { IsEmpty front.new }
-        ensures room { length front.new ≡ length front.old }
+        ensures queue { queue.new ≡ queue.old }
     {
         g.degrees();
+        let front = &mut queue.front;
         self.solved = add_arc(&mut self.values, &mut self.parents, g, arc, front, steps);
         if self.solved {
             return Ok(Inserted::Kept);
@@ -142,7 +140,7 @@ impl Earliest {
     }
 
     /// Brings the values to the earliest execution of `g`, where they are that of `g` with the arcs `removed` in force
-    /// as well. `front` has room for all nodes, and is empty before and after. It takes no memory.
+    /// as well. `queue` has room for all nodes. It takes no memory.
     ///
     /// A node is affected where a chain of arcs that the values before meet exactly starts at it and ends by one of
     /// those removed. There are at most two steps and, for each affected node, five and two for each arc in force that
@@ -151,21 +149,20 @@ impl Earliest {
         &mut self,
         g: &Graph,
         removed: &[Arc],
-        front: &mut Frontier,
+        queue: &mut IdleQueue,
         steps: &mut Steps<L>,
     )
         requires solved { self.old.is_solved ≡ true }
         requires sound { All (IsSound (length g.now.nodes)) removed.now }
         requires before { IsEarliestWith g.now removed.now self.old.values }
-        requires empty { IsEmpty front.old }
-        requires room { length g.now.nodes ≤ length front.old }
+        requires room { length g.now.nodes ≤ queue.old }
         ensures solved { self.new.is_solved ≡ true }
         ensures earliest { IsEarliestOf g.now self.new.values }
-        ensures empty { IsEmpty front.new }
-        ensures room { length front.new ≡ length front.old }
+        ensures queue { queue.new ≡ queue.old }
         ensures steps { (affected : ℕ → Bool) → ((k : ℕ) → IsAffectedBy g.now removed.now self.old.values k → affected k ≡ true)
             → steps.new ≤ steps.old + flagged_sum (length g.now.nodes) (λ k. 2 * (reaching g.now k + departing g.now k) + 5) affected + 2 }
     {
+        let front = &mut queue.front;
         withdraw_arcs(
             &mut self.values,
             &mut self.parents,

@@ -1,5 +1,5 @@
 // The withdrawal of arcs.
-ghost use Rattle.std.specs.Prelude.{◌≡◌, ℕ, ◌+◌, ◌*◌, ◌<◌, ◌≤◌, true, Bool, All, length};
+ghost use Rattle.std.specs.Prelude.{◌≡◌, ℕ, ◌+◌, ◌*◌, ◌≤◌, true, Bool, All, length};
 ghost use Rattle.frontier.specs.Keys.{IsEmpty};
 ghost use Rattle.sync_graph.specs.Graph.{IsSound, reaching, departing};
 ghost use Rattle.withdrawals.specs.Withdrawals.{flagged_sum};
@@ -30,8 +30,6 @@ pub fn withdraw_arcs<L: Ledger>(
     requires room { length g.now.nodes ≤ length front.old }
     ensures earliest { IsEarliestOf g.now values.new }
     ensures empty { IsEmpty front.new }
-    ensures values { length values.new ≡ length values.old }
-    ensures found { length found.new ≡ length found.old }
     ensures room { length front.new ≡ length front.old }
     ensures steps { (affected : ℕ → Bool) → ((k : ℕ) → IsAffectedBy g.now removed.now values.old k → affected k ≡ true)
         → steps.new ≤ steps.old + flagged_sum (length g.now.nodes) (λ k. 2 * (reaching g.now k + departing g.now k) + 5) affected + 2 }

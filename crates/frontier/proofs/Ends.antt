@@ -3,8 +3,8 @@ use Rattle.std.proofs.Common.{◌≡◌, ℕ, ◌+◌, ◌<◌, List, [], ◌∷
 use Rattle.std.specs.Prelude.{◌≢◌, Option, None}
 use Rattle.std.proofs.lemmas.Grind.{common_steps}
 use Rattle.std.proofs.lemmas.List.{length-set}
-use Rattle.frontier.specs.Keys.{Waits, IsFree}
-use Rattle.frontier.specs.Heap.{nowhere, waiting_keys, node_at, place_of, above, IsBelow, IsWaiting, IsAhead, IsHeap, HasHole, IsAheadBelow}
+use Rattle.frontier.specs.Keys.{Waits, IsFreeNode}
+use Rattle.frontier.specs.Heap.{nowhere, waiting_keys, heap_node, heap_place, above, IsChildPlace, IsWaiting, IsAhead, IsHeap, HasHole, IsAheadBelow}
 use Rattle.frontier.proofs.Waiting.{waits_before, waiting_after, ahead_after, free_apart, taken_apart}
 use Rattle.frontier.proofs.Moving.{ahead_by}
 use Rattle.frontier.proofs.Tables.{place_lost}
@@ -16,14 +16,14 @@ module _ (heap : List ℕ) (node : ℕ) where
   pub more : length (heap ++ node ∷ []) ≡ length heap + 1
   more = length-append heap (node ∷ [])
 
-  pub at_front : (place : ℕ) → place < length heap → node_at (heap ++ node ∷ []) place ≡ node_at heap place
+  pub at_front : (place : ℕ) → place < length heap → heap_node (heap ++ node ∷ []) place ≡ heap_node heap place
   at_front place l = grind (arith, common_steps)
 
-  pub at_end : node_at (heap ++ node ∷ []) (length heap) ≡ node
+  pub at_end : heap_node (heap ++ node ∷ []) (length heap) ≡ node
   at_end = grind (arith, common_steps)
 
 -- a node that did not wait is put behind all others
-module _ (keys : List (Option ℤ)) (heap places : List ℕ) (h : IsHeap keys heap places) (node : ℕ) (free : IsFree keys node) (v : Option ℤ) where
+module _ (keys : List (Option ℤ)) (heap places : List ℕ) (h : IsHeap keys heap places) (node : ℕ) (free : IsFreeNode keys node) (v : Option ℤ) where
   abbrev keys' : List (Option ℤ)
   keys' = set keys node v
 
@@ -33,24 +33,24 @@ module _ (keys : List (Option ℤ)) (heap places : List ℕ) (h : IsHeap keys he
   front : (place : ℕ) → place < length heap' → place ≢ length heap → place < length heap
   front place l n = omega (arith, more heap node)
 
-  was_apart : (place : ℕ) → place < length heap → node_at heap place ≢ node
-  was_apart place l = free_apart keys node (node_at heap place) free (h.waiting place l)
+  was_apart : (place : ℕ) → place < length heap → heap_node heap place ≢ node
+  was_apart place l = free_apart keys node (heap_node heap place) free (h.waiting place l)
 
-  ordered' : (place : ℕ) → place < length heap' → 0 < place → place ≢ length heap → above place ≢ length heap → IsAhead keys' (node_at heap' (above place)) (node_at heap' place)
+  ordered' : (place : ℕ) → place < length heap' → 0 < place → place ≢ length heap → above place ≢ length heap → IsAhead keys' (heap_node heap' (above place)) (heap_node heap' place)
   ordered' place l a n m =
       let l2 : place < length heap = front place l n in
       let l3 : above place < length heap = omega arith in
-      ahead_by keys' (node_at heap (above place)) (node_at heap place) (node_at heap' (above place)) (node_at heap' place) (at_front heap node (above place) l3) (at_front heap node place l2)
-      (ahead_after keys node v (node_at heap (above place)) (node_at heap place) (was_apart (above place) l3) (was_apart place l2) (h.ordered place l2 a))
+      ahead_by keys' (heap_node heap (above place)) (heap_node heap place) (heap_node heap' (above place)) (heap_node heap' place) (at_front heap node (above place) l3) (at_front heap node place l2)
+      (ahead_after keys node v (heap_node heap (above place)) (heap_node heap place) (was_apart (above place) l3) (was_apart place l2) (h.ordered place l2 a))
 
-  none_below : (place : ℕ) → place < length heap' → IsBelow place (length heap) → ⊥
+  none_below : (place : ℕ) → place < length heap' → IsChildPlace place (length heap) → ⊥
   none_below place l b = let e : above place ≡ length heap = b.1 in let p : 0 < place = b.0 in omega (arith, more heap node)
 
-  held' : (other : ℕ) (key : ℤ) → Waits keys' other key → other ≢ node → (place_of places other < length heap') × (place_of places other ≢ length heap) × (node_at heap' (place_of places other) ≡ other)
+  held' : (other : ℕ) (key : ℤ) → Waits keys' other key → other ≢ node → (heap_place places other < length heap') × (heap_place places other ≢ length heap) × (heap_node heap' (heap_place places other) ≡ other)
   held' other key w n =
-      let old : (place_of places other < length heap) × (node_at heap (place_of places other) ≡ other) = h.held other key (waits_before keys node v other key n w) in
-      let l : place_of places other < length heap = old.0 in
-      (omega (arith, more heap node), (λ q. omega arith), at_front heap node (place_of places other) l ∙ old.1)
+      let old : (heap_place places other < length heap) × (heap_node heap (heap_place places other) ≡ other) = h.held other key (waits_before keys node v other key n w) in
+      let l : heap_place places other < length heap = old.0 in
+      (omega (arith, more heap node), (λ q. omega arith), at_front heap node (heap_place places other) l ∙ old.1)
 
   pub pushed : HasHole keys' heap' places (length heap) node
   pushed = record {
@@ -58,8 +58,8 @@ module _ (keys : List (Option ℤ)) (heap places : List ℕ) (h : IsHeap keys he
     within = omega (arith, more heap node);
     ordered = ordered';
     across = λ place l b p. absurd (none_below place l b);
-    waiting = λ place l n. subst (IsWaiting keys') (sym (at_front heap node place (front place l n))) (waiting_after keys node v (node_at heap place) (was_apart place (front place l n)) (h.waiting place (front place l n)));
-    placed = λ place l n. ap (place_of places) (at_front heap node place (front place l n)) ∙ h.placed place (front place l n);
+    waiting = λ place l n. subst (IsWaiting keys') (sym (at_front heap node place (front place l n))) (waiting_after keys node v (heap_node heap place) (was_apart place (front place l n)) (h.waiting place (front place l n)));
+    placed = λ place l n. ap (heap_place places) (at_front heap node place (front place l n)) ∙ h.placed place (front place l n);
     others = λ place l n e. was_apart place (front place l n) (sym (at_front heap node place (front place l n)) ∙ e);
     held = held';
   }
@@ -75,27 +75,27 @@ module _ (keys : List (Option ℤ)) (heap places : List ℕ) (node : ℕ) (h : I
   last : length heap < length (heap ++ node ∷ [])
   last = omega (arith, more heap node)
 
-  apart : (place : ℕ) → place < length heap → node_at heap place ≢ node
+  apart : (place : ℕ) → place < length heap → heap_node heap place ≢ node
   apart place l e =
       nodes_differ keys (heap ++ node ∷ []) places h place (length heap) (longer place l) last (λ q. omega arith) (at_front heap node place l ∙ e ∙ sym (at_end heap node))
 
-  dropped_held : (other : ℕ) (key : ℤ) → Waits (set keys node None) other key → (place_of places other < length heap) × (node_at heap (place_of places other) ≡ other)
+  dropped_held : (other : ℕ) (key : ℤ) → Waits (set keys node None) other key → (heap_place places other < length heap) × (heap_node heap (heap_place places other) ≡ other)
   dropped_held other key w =
       let n : other ≢ node = taken_apart keys node other key w in
-      let old : (place_of places other < length (heap ++ node ∷ [])) × (node_at (heap ++ node ∷ []) (place_of places other) ≡ other) = h.held other key (waits_before keys node None other key n w) in
-      let m : place_of places other ≢ length heap = (λ q. n (sym old.1 ∙ ap (node_at (heap ++ node ∷ [])) q ∙ at_end heap node)) in
-      let l : place_of places other < length heap = omega (arith, old.0, more heap node) in
-      (l, sym (at_front heap node (place_of places other) l) ∙ old.1)
+      let old : (heap_place places other < length (heap ++ node ∷ [])) × (heap_node (heap ++ node ∷ []) (heap_place places other) ≡ other) = h.held other key (waits_before keys node None other key n w) in
+      let m : heap_place places other ≢ length heap = (λ q. n (sym old.1 ∙ ap (heap_node (heap ++ node ∷ [])) q ∙ at_end heap node)) in
+      let l : heap_place places other < length heap = omega (arith, old.0, more heap node) in
+      (l, sym (at_front heap node (heap_place places other) l) ∙ old.1)
 
   pub dropped : IsHeap (set keys node None) heap places
   dropped = record {
     room = omega (arith, h.room, length-set keys node None);
     ordered = λ place l a.
         let l2 : above place < length heap = omega arith in
-        ahead_after keys node None (node_at heap (above place)) (node_at heap place) (apart (above place) l2) (apart place l)
-        (ahead_by keys (node_at (heap ++ node ∷ []) (above place)) (node_at (heap ++ node ∷ []) place) (node_at heap (above place)) (node_at heap place) (sym (at_front heap node (above place) l2)) (sym (at_front heap node place l)) (h.ordered place (longer place l) a));
-    waiting = λ place l. waiting_after keys node None (node_at heap place) (apart place l) (subst (IsWaiting keys) (at_front heap node place l) (h.waiting place (longer place l)));
-    placed = λ place l. ap (place_of places) (sym (at_front heap node place l)) ∙ h.placed place (longer place l);
+        ahead_after keys node None (heap_node heap (above place)) (heap_node heap place) (apart (above place) l2) (apart place l)
+        (ahead_by keys (heap_node (heap ++ node ∷ []) (above place)) (heap_node (heap ++ node ∷ []) place) (heap_node heap (above place)) (heap_node heap place) (sym (at_front heap node (above place) l2)) (sym (at_front heap node place l)) (h.ordered place (longer place l) a));
+    waiting = λ place l. waiting_after keys node None (heap_node heap place) (apart place l) (subst (IsWaiting keys) (at_front heap node place l) (h.waiting place (longer place l)));
+    placed = λ place l. ap (heap_place places) (sym (at_front heap node place l)) ∙ h.placed place (longer place l);
     held = dropped_held;
   }
 
@@ -111,7 +111,7 @@ let_go keys heap places node h =
     (replaced (set seen node None) heap places d (set places node nowhere) (λ other w. get_or-set_other places node other nowhere 0 (taken_apart seen node other w.0 w.1)) (omega (arith, d.room, length-set places node nowhere)))
 
 -- the last node is taken away, to be put in the hole at the root
-module _ (keys : List (Option ℤ)) (heap places : List ℕ) (node root : ℕ) (h : HasHole keys (heap ++ node ∷ []) places 0 root) (gone : IsFree keys root) where
+module _ (keys : List (Option ℤ)) (heap places : List ℕ) (node root : ℕ) (h : HasHole keys (heap ++ node ∷ []) places 0 root) (gone : IsFreeNode keys root) where
   module _ (some : 0 < length heap) where
     grown : (place : ℕ) → place < length heap → place < length (heap ++ node ∷ [])
     grown place l = omega (arith, more heap node)
@@ -125,19 +125,19 @@ module _ (keys : List (Option ℤ)) (heap places : List ℕ) (node root : ℕ) (
     pub last_waits : IsWaiting keys node
     last_waits = subst (IsWaiting keys) (at_end heap node) (h.waiting (length heap) end not_root)
 
-    last_apart : (place : ℕ) → place < length heap → place ≢ 0 → node_at heap place ≢ node
+    last_apart : (place : ℕ) → place < length heap → place ≢ 0 → heap_node heap place ≢ node
     last_apart place l n e =
-        let p : place_of places (node_at (heap ++ node ∷ []) place) ≡ place = h.placed place (grown place l) n in
-        let q : place_of places (node_at (heap ++ node ∷ []) (length heap)) ≡ length heap = h.placed (length heap) end not_root in
-        let same : place ≡ length heap = sym p ∙ ap (place_of places) (at_front heap node place l ∙ e ∙ sym (at_end heap node)) ∙ q in
+        let p : heap_place places (heap_node (heap ++ node ∷ []) place) ≡ place = h.placed place (grown place l) n in
+        let q : heap_place places (heap_node (heap ++ node ∷ []) (length heap)) ≡ length heap = h.placed (length heap) end not_root in
+        let same : place ≡ length heap = sym p ∙ ap (heap_place places) (at_front heap node place l ∙ e ∙ sym (at_end heap node)) ∙ q in
         omega arith
 
-    shrunk_held : (other : ℕ) (key : ℤ) → Waits keys other key → other ≢ node → (place_of places other < length heap) × (place_of places other ≢ 0) × (node_at heap (place_of places other) ≡ other)
+    shrunk_held : (other : ℕ) (key : ℤ) → Waits keys other key → other ≢ node → (heap_place places other < length heap) × (heap_place places other ≢ 0) × (heap_node heap (heap_place places other) ≡ other)
     shrunk_held other key w n =
-        let old : (place_of places other < length (heap ++ node ∷ [])) × (place_of places other ≢ 0) × (node_at (heap ++ node ∷ []) (place_of places other) ≡ other) = h.held other key w (free_apart keys root other gone (key, w)) in
-        let m : place_of places other ≢ length heap = (λ q. n (sym old.2 ∙ ap (node_at (heap ++ node ∷ [])) q ∙ at_end heap node)) in
-        let l : place_of places other < length heap = omega (arith, old.0, more heap node) in
-        (l, old.1, sym (at_front heap node (place_of places other) l) ∙ old.2)
+        let old : (heap_place places other < length (heap ++ node ∷ [])) × (heap_place places other ≢ 0) × (heap_node (heap ++ node ∷ []) (heap_place places other) ≡ other) = h.held other key w (free_apart keys root other gone (key, w)) in
+        let m : heap_place places other ≢ length heap = (λ q. n (sym old.2 ∙ ap (heap_node (heap ++ node ∷ [])) q ∙ at_end heap node)) in
+        let l : heap_place places other < length heap = omega (arith, old.0, more heap node) in
+        (l, old.1, sym (at_front heap node (heap_place places other) l) ∙ old.2)
 
     pub shrunk : HasHole keys heap places 0 node
     shrunk = record {
@@ -145,10 +145,10 @@ module _ (keys : List (Option ℤ)) (heap places : List ℕ) (node root : ℕ) (
       within = some;
       ordered = λ place l a n m.
           let l2 : above place < length heap = omega arith in
-          ahead_by keys (node_at (heap ++ node ∷ []) (above place)) (node_at (heap ++ node ∷ []) place) (node_at heap (above place)) (node_at heap place) (sym (at_front heap node (above place) l2)) (sym (at_front heap node place l)) (h.ordered place (grown place l) a n m);
+          ahead_by keys (heap_node (heap ++ node ∷ []) (above place)) (heap_node (heap ++ node ∷ []) place) (heap_node heap (above place)) (heap_node heap place) (sym (at_front heap node (above place) l2)) (sym (at_front heap node place l)) (h.ordered place (grown place l) a n m);
       across = λ place l b p. absurd (omega arith);
       waiting = λ place l n. subst (IsWaiting keys) (at_front heap node place l) (h.waiting place (grown place l) n);
-      placed = λ place l n. ap (place_of places) (sym (at_front heap node place l)) ∙ h.placed place (grown place l) n;
+      placed = λ place l n. ap (heap_place places) (sym (at_front heap node place l)) ∙ h.placed place (grown place l) n;
       others = last_apart;
       held = shrunk_held;
     }

@@ -5,33 +5,33 @@ use Rattle.std.proofs.lemmas.Bool.{cases_eq, cases_lt, eq-eqb, ne_eqb, cond-true
 use Rattle.std.proofs.lemmas.Grind.{get_or_default_zero}
 use Rattle.std.proofs.lemmas.List.{get_or_past, same_lists, get_or-replicate, length-replicate}
 use Rattle.std.proofs.lemmas.Option.{slice_get_within}
-use Rattle.frontier.specs.Keys.{IsFree, IsEmpty, ComesFirst, IsLeastEntry}
-use Rattle.frontier.specs.Heap.{node_at, place_of, above, key_of, IsAhead, IsHeap}
+use Rattle.frontier.specs.Keys.{IsFreeNode, IsEmpty, IsFirstKey, IsLeastEntry}
+use Rattle.frontier.specs.Heap.{heap_node, heap_place, above, waiting_key, IsAhead, IsHeap}
 use Rattle.frontier.proofs.Waiting.{waiting_within, waits_key_of, key_of_waits, free_apart, ahead_same, ahead_on}
 use Rattle.frontier.proofs.Filling.{nodes_differ}
 
 -- the root is ahead of the nodes at all places
-pub root_ahead : (keys : List (Option ℤ)) (heap places : List ℕ) → IsHeap keys heap places → (fuel place : ℕ) → place < fuel → place < length heap → IsAhead keys (node_at heap 0) (node_at heap place)
+pub root_ahead : (keys : List (Option ℤ)) (heap places : List ℕ) → IsHeap keys heap places → (fuel place : ℕ) → place < fuel → place < length heap → IsAhead keys (heap_node heap 0) (heap_node heap place)
 root_ahead keys heap places h zero place f l = absurd (omega arith)
 root_ahead keys heap places h (suc fuel) place f l = elim (cases_eq place 0) [
-  | inl e ↦ subst (λ p. IsAhead keys (node_at heap 0) (node_at heap p)) (sym e) (ahead_same keys (node_at heap 0))
-  | inr n ↦ ahead_on keys (node_at heap 0) (node_at heap (above place)) (node_at heap place) (root_ahead keys heap places h fuel (above place) (omega arith) (omega arith)) (h.ordered place l (omega arith))
+  | inl e ↦ subst (λ p. IsAhead keys (heap_node heap 0) (heap_node heap p)) (sym e) (ahead_same keys (heap_node heap 0))
+  | inr n ↦ ahead_on keys (heap_node heap 0) (heap_node heap (above place)) (heap_node heap place) (root_ahead keys heap places h fuel (above place) (omega arith) (omega arith)) (h.ordered place l (omega arith))
 ]
 
-pub root_least : (keys : List (Option ℤ)) (heap places : List ℕ) → IsHeap keys heap places → 0 < length heap → IsLeastEntry keys (node_at heap 0) (key_of keys (node_at heap 0))
+pub root_least : (keys : List (Option ℤ)) (heap places : List ℕ) → IsHeap keys heap places → 0 < length heap → IsLeastEntry keys (heap_node heap 0) (waiting_key keys (heap_node heap 0))
 root_least keys heap places h some = record {
-  waits = waits_key_of keys (node_at heap 0) (h.waiting 0 some);
+  waits = waits_key_of keys (heap_node heap 0) (h.waiting 0 some);
   least = λ other key w.
-      let at : (place_of places other < length heap) × (node_at heap (place_of places other) ≡ other) = h.held other key w in
-      let a : IsAhead keys (node_at heap 0) other = subst (IsAhead keys (node_at heap 0)) at.1 (root_ahead keys heap places h (length heap) (place_of places other) at.0 at.0) in
-      subst (λ k. ComesFirst (key_of keys (node_at heap 0)) (node_at heap 0) k other) (key_of_waits keys other key w) a;
+      let at : (heap_place places other < length heap) × (heap_node heap (heap_place places other) ≡ other) = h.held other key w in
+      let a : IsAhead keys (heap_node heap 0) other = subst (IsAhead keys (heap_node heap 0)) at.1 (root_ahead keys heap places h (length heap) (heap_place places other) at.0 at.0) in
+      subst (λ k. IsFirstKey (waiting_key keys (heap_node heap 0)) (heap_node heap 0) k other) (key_of_waits keys other key w) a;
 }
 
 -- where the heap has no node none waits
 pub none_waits : (keys : List (Option ℤ)) (heap places : List ℕ) → IsHeap keys heap places → length heap ≡ 0 → IsEmpty keys
 none_waits keys heap places h e node key w =
-    let at : (place_of places node < length heap) × (node_at heap (place_of places node) ≡ node) = h.held node key w in
-    let l : place_of places node < length heap = at.0 in
+    let at : (heap_place places node < length heap) × (heap_node heap (heap_place places node) ≡ node) = h.held node key w in
+    let l : heap_place places node < length heap = at.0 in
     omega arith
 
 free_at : (keys : List (Option ℤ)) → IsEmpty keys → (k : ℕ) (d : Option ℤ) → k < length keys → get_or keys k d ≡ None
@@ -91,13 +91,13 @@ different (suc top) (suc count) f below apart =
     omega arith
 
 pub fits : (keys : List (Option ℤ)) (heap places : List ℕ) → IsHeap keys heap places → length heap ≤ length keys
-fits keys heap places h = different (length keys) (length heap) (node_at heap) (λ i l. waiting_within keys (node_at heap i) (h.waiting i l)) (nodes_differ keys heap places h)
+fits keys heap places h = different (length keys) (length heap) (heap_node heap) (λ i l. waiting_within keys (heap_node heap i) (h.waiting i l)) (nodes_differ keys heap places h)
 
 -- the nodes of a heap and then one more
 with_node : List ℕ → ℕ → ℕ → ℕ
 with_node heap node place = get_or heap place node
 
-with_node-front : (heap : List ℕ) (node place : ℕ) → place < length heap → with_node heap node place ≡ node_at heap place
+with_node-front : (heap : List ℕ) (node place : ℕ) → place < length heap → with_node heap node place ≡ heap_node heap place
 unfolding with_node
 with_node-front heap node place l = get_or_default_zero heap place node l
 
@@ -106,20 +106,20 @@ unfolding with_node
 with_node-end heap node place l = get_or_past heap place node l
 
 -- one node more fits where one is free
-pub fits_more : (keys : List (Option ℤ)) (heap places : List ℕ) → IsHeap keys heap places → (node : ℕ) → IsFree keys node → length heap < length keys
+pub fits_more : (keys : List (Option ℤ)) (heap places : List ℕ) → IsHeap keys heap places → (node : ℕ) → IsFreeNode keys node → length heap < length keys
 fits_more keys heap places h node free =
     let l : length heap + 1 ≤ length keys = different (length keys) (length heap + 1) (with_node heap node)
     (λ i l. elim (cases_lt i (length heap)) [
-      | inl m ↦ subst (λ n. n < length keys) (sym (with_node-front heap node i m)) (waiting_within keys (node_at heap i) (h.waiting i m))
+      | inl m ↦ subst (λ n. n < length keys) (sym (with_node-front heap node i m)) (waiting_within keys (heap_node heap i) (h.waiting i m))
       | inr m ↦ subst (λ n. n < length keys) (sym (with_node-end heap node i m)) (slice_get_within keys node None free)
     ])
     (λ i j li lj n e. elim (cases_lt i (length heap)) [
       | inl m ↦ elim (cases_lt j (length heap)) [
         | inl k ↦ nodes_differ keys heap places h i j m k n (sym (with_node-front heap node i m) ∙ e ∙ with_node-front heap node j k)
-        | inr k ↦ free_apart keys node (node_at heap i) free (h.waiting i m) (sym (with_node-front heap node i m) ∙ e ∙ with_node-end heap node j k)
+        | inr k ↦ free_apart keys node (heap_node heap i) free (h.waiting i m) (sym (with_node-front heap node i m) ∙ e ∙ with_node-end heap node j k)
       ]
       | inr m ↦ elim (cases_lt j (length heap)) [
-        | inl k ↦ free_apart keys node (node_at heap j) free (h.waiting j k) (sym (with_node-front heap node j k) ∙ sym e ∙ with_node-end heap node i m)
+        | inl k ↦ free_apart keys node (heap_node heap j) free (h.waiting j k) (sym (with_node-front heap node j k) ∙ sym e ∙ with_node-end heap node i m)
         | inr k ↦ n (omega arith)
       ]
     ]) in

@@ -3,8 +3,8 @@ use Rattle.std.proofs.Common.{◌≡◌, ℕ, zero, suc, ◌+◌, ◌-◌, ◌/�
 use Rattle.std.specs.Prelude.{◌≢◌, ◌==◌, if◌then◌else◌, Option, Some, None, replicate}
 use Rattle.std.proofs.lemmas.Bool.{cases_eq, eq-eqb, ne_eqb, cond-true, cond-false}
 use Rattle.std.proofs.lemmas.List.{take_at}
-use Rattle.frontier.specs.Keys.{Waits, ComesFirst}
-use Rattle.frontier.specs.Heap.{nowhere, waiting_keys, node_at, key_of, place_of, IsBelow, IsWaiting, IsAhead, IsFirstOf, IsHeap, HasHole}
+use Rattle.frontier.specs.Keys.{Waits, IsFirstKey}
+use Rattle.frontier.specs.Heap.{nowhere, waiting_keys, heap_node, waiting_key, heap_place, IsChildPlace, IsWaiting, IsAhead, ComesOutFirst, IsHeap, HasHole}
 use Rattle.frontier.proofs.Waiting.{waiting_within, key_of_waits}
 
 -- what one key and one place say
@@ -50,7 +50,7 @@ pub seen_place : (keys : List ℤ) (places : List ℕ) (node : ℕ) → node < l
 seen_place keys places node l = omega (arith, (no_longer keys places).1)
 
 -- a node that waits has a place, and its key stands in the table
-pub stored : (keys : List ℤ) (places : List ℕ) (node : ℕ) (key : ℤ) → Waits (waiting_keys keys places) node key → (get_or keys node (pos 0) ≡ key) × (place_of places node ≢ nowhere)
+pub stored : (keys : List ℤ) (places : List ℕ) (node : ℕ) (key : ℤ) → Waits (waiting_keys keys places) node key → (get_or keys node (pos 0) ≡ key) × (heap_place places node ≢ nowhere)
 unfolding waiting_keys
 stored [] places node key w = absurd cc
 stored (k ∷ keys) [] node key w = absurd cc
@@ -58,38 +58,38 @@ stored (k ∷ keys) (p ∷ places) zero key w = entry_waits k p key w
 stored (k ∷ keys) (p ∷ places) (suc node) key w = stored keys places node key w
 
 -- what is seen of a node is its key where it has a place, and else nothing
-pub at_nowhere : (keys : List ℤ) (places : List ℕ) (node : ℕ) → place_of places node ≡ nowhere → ◌≡◌ {A = Option ℤ} (get_or (waiting_keys keys places) node None) None
+pub at_nowhere : (keys : List ℤ) (places : List ℕ) (node : ℕ) → heap_place places node ≡ nowhere → ◌≡◌ {A = Option ℤ} (get_or (waiting_keys keys places) node None) None
 unfolding waiting_keys
 at_nowhere [] places node e = refl
 at_nowhere (k ∷ keys) [] node e = refl
 at_nowhere (k ∷ keys) (p ∷ places) zero e = entry_none k p e
 at_nowhere (k ∷ keys) (p ∷ places) (suc node) e = at_nowhere keys places node e
 
-pub at_somewhere : (keys : List ℤ) (places : List ℕ) (node : ℕ) → node < length places → length places ≤ length keys → place_of places node ≢ nowhere → get_or (waiting_keys keys places) node None ≡ Some (get_or keys node (pos 0))
+pub at_somewhere : (keys : List ℤ) (places : List ℕ) (node : ℕ) → node < length places → length places ≤ length keys → heap_place places node ≢ nowhere → get_or (waiting_keys keys places) node None ≡ Some (get_or keys node (pos 0))
 unfolding waiting_keys
 at_somewhere keys [] node l m n = absurd (omega arith)
 at_somewhere [] (p ∷ places) node l m n = absurd (omega arith)
 at_somewhere (k ∷ keys) (p ∷ places) zero l m n = entry_some k p n
 at_somewhere (k ∷ keys) (p ∷ places) (suc node) l m n = at_somewhere keys places node (omega arith) (omega arith) n
 
-pub key_stored : (keys : List ℤ) (places : List ℕ) (node : ℕ) → IsWaiting (waiting_keys keys places) node → key_of (waiting_keys keys places) node ≡ get_or keys node (pos 0)
+pub key_stored : (keys : List ℤ) (places : List ℕ) (node : ℕ) → IsWaiting (waiting_keys keys places) node → waiting_key (waiting_keys keys places) node ≡ get_or keys node (pos 0)
 key_stored keys places node w = key_of_waits (waiting_keys keys places) node w.0 w.1 ∙ sym (stored keys places node w.0 w.1).0
 
-pub below_apart : (place over : ℕ) → IsBelow place over → place ≢ over
+pub below_apart : (place over : ℕ) → IsChildPlace place over → place ≢ over
 below_apart place over b q = (let p : 0 < place = b.0 in let e : (place - 1) / 2 ≡ over = b.1 in omega arith)
 
 -- of two nodes that wait, the order by the table is the order by what is seen
-pub ahead_stored : (keys : List ℤ) (places : List ℕ) (a b : ℕ) → IsWaiting (waiting_keys keys places) a → IsWaiting (waiting_keys keys places) b → IsFirstOf keys a b → IsAhead (waiting_keys keys places) a b
+pub ahead_stored : (keys : List ℤ) (places : List ℕ) (a b : ℕ) → IsWaiting (waiting_keys keys places) a → IsWaiting (waiting_keys keys places) b → ComesOutFirst keys a b → IsAhead (waiting_keys keys places) a b
 ahead_stored keys places a b v w h =
-    subst (λ k. ComesFirst k a (key_of (waiting_keys keys places) b) b) (sym (key_stored keys places a v))
-    (subst (λ k. ComesFirst (get_or keys a (pos 0)) a k b) (sym (key_stored keys places b w)) h)
+    subst (λ k. IsFirstKey k a (waiting_key (waiting_keys keys places) b) b) (sym (key_stored keys places a v))
+    (subst (λ k. IsFirstKey (get_or keys a (pos 0)) a k b) (sym (key_stored keys places b w)) h)
 
 -- so the one that comes first below the hole by the table is so by what is seen
-pub first_stored : (keys : List ℤ) (places heap places' : List ℕ) (hole node : ℕ) → HasHole (waiting_keys keys places) heap places' hole node → (first : ℕ) → first < length heap → IsBelow first hole
-    → ((k : ℕ) → k < length heap → IsBelow k hole → k ≢ first → IsFirstOf keys (node_at heap first) (node_at heap k))
-    → (k : ℕ) → k < length heap → IsBelow k hole → k ≢ first → IsAhead (waiting_keys keys places) (node_at heap first) (node_at heap k)
+pub first_stored : (keys : List ℤ) (places heap places' : List ℕ) (hole node : ℕ) → HasHole (waiting_keys keys places) heap places' hole node → (first : ℕ) → first < length heap → IsChildPlace first hole
+    → ((k : ℕ) → k < length heap → IsChildPlace k hole → k ≢ first → ComesOutFirst keys (heap_node heap first) (heap_node heap k))
+    → (k : ℕ) → k < length heap → IsChildPlace k hole → k ≢ first → IsAhead (waiting_keys keys places) (heap_node heap first) (heap_node heap k)
 first_stored keys places heap places' hole node h first lf bf least k l b n =
-    ahead_stored keys places (node_at heap first) (node_at heap k) (h.waiting first lf (below_apart first hole bf)) (h.waiting k l (below_apart k hole b)) (least k l b n)
+    ahead_stored keys places (heap_node heap first) (heap_node heap k) (h.waiting first lf (below_apart first hole bf)) (h.waiting k l (below_apart k hole b)) (least k l b n)
 
 -- a node that waits gets another place
 pub place_moved : (keys : List ℤ) (places : List ℕ) (node place : ℕ) → IsWaiting (waiting_keys keys places) node → place ≢ nowhere → waiting_keys keys (set places node place) ≡ waiting_keys keys places

@@ -3,8 +3,8 @@ use Rattle.std.proofs.Common.{◌≡◌, ℕ, zero, suc, ◌+◌, ◌<◌, ◌�
 use Rattle.std.specs.Prelude.{pos, Option, Some, None, replicate, unwrap_or}
 use Rattle.std.proofs.lemmas.List.{get_or_append_left, get_or-replicate, length-replicate}
 use Rattle.std.proofs.lemmas.Option.{slice_get-get_or, get_or_from_slice_get}
-use Rattle.frontier.specs.Keys.{Waits, ComesFirst}
-use Rattle.frontier.specs.Heap.{node_at, place_of, above, key_of, IsWaiting, IsAhead, IsHeap}
+use Rattle.frontier.specs.Keys.{Waits, IsFirstKey}
+use Rattle.frontier.specs.Heap.{heap_node, heap_place, above, waiting_key, IsWaiting, IsAhead, IsHeap}
 use Rattle.frontier.proofs.Waiting.{waits_within, waiting_within}
 
 none_beyond : (free : List (Option ℤ)) (node : ℕ) (key : ℤ) → get_or free node None ≡ None → Waits free node key → ⊥
@@ -36,23 +36,23 @@ module _ (keys : List (Option ℤ)) (more : ℕ) where
   pub waits_narrow : (node : ℕ) (key : ℤ) → Waits wide node key → Waits keys node key
   waits_narrow node key w = narrow keys more node key w
 
-  pub key_wide : (node : ℕ) → node < length keys → key_of wide node ≡ key_of keys node
+  pub key_wide : (node : ℕ) → node < length keys → waiting_key wide node ≡ waiting_key keys node
   key_wide node l = ap (λ v. unwrap_or v (pos 0)) (wide_at node l)
 
   pub ahead_wide : (a b : ℕ) → a < length keys → b < length keys → IsAhead keys a b → IsAhead wide a b
   ahead_wide a b la lb h =
-      subst (λ k. ComesFirst k a (key_of wide b) b) (sym (key_wide a la))
-      (subst (λ k. ComesFirst (key_of keys a) a k b) (sym (key_wide b lb)) h)
+      subst (λ k. IsFirstKey k a (waiting_key wide b) b) (sym (key_wide a la))
+      (subst (λ k. IsFirstKey (waiting_key keys a) a k b) (sym (key_wide b lb)) h)
 
 -- the same nodes wait, and have the places that they had
-module _ (keys : List (Option ℤ)) (heap places : List ℕ) (h : IsHeap keys heap places) (places' : List ℕ) (same : (node : ℕ) → IsWaiting keys node → place_of places' node ≡ place_of places node) where
+module _ (keys : List (Option ℤ)) (heap places : List ℕ) (h : IsHeap keys heap places) (places' : List ℕ) (same : (node : ℕ) → IsWaiting keys node → heap_place places' node ≡ heap_place places node) where
   pub replaced : length keys ≤ length places' → IsHeap keys heap places'
   replaced room = record {
     room = room;
     ordered = h.ordered;
     waiting = h.waiting;
-    placed = λ place l. same (node_at heap place) (h.waiting place l) ∙ h.placed place l;
-    held = λ node key w. subst (λ p. (p < length heap) × (node_at heap p ≡ node)) (sym (same node (key, w))) (h.held node key w);
+    placed = λ place l. same (heap_node heap place) (h.waiting place l) ∙ h.placed place l;
+    held = λ node key w. subst (λ p. (p < length heap) × (heap_node heap p ≡ node)) (sym (same node (key, w))) (h.held node key w);
   }
 
 pub widened : (keys : List (Option ℤ)) (heap places : List ℕ) (more : ℕ) → IsHeap keys heap places → length keys + more ≤ length places → IsHeap (keys ++ replicate more None) heap places
@@ -60,8 +60,8 @@ widened keys heap places more h room = record {
   room = omega (arith, length-append keys (replicate more None), length-replicate {A = Option ℤ} more None);
   ordered = λ place l a.
       let over : above place < length heap = omega arith in
-      ahead_wide keys more (node_at heap (above place)) (node_at heap place) (waiting_within keys (node_at heap (above place)) (h.waiting (above place) over)) (waiting_within keys (node_at heap place) (h.waiting place l)) (h.ordered place l a);
-  waiting = λ place l. let w : IsWaiting keys (node_at heap place) = h.waiting place l in (w.0, waits_wide keys more (node_at heap place) w.0 w.1);
+      ahead_wide keys more (heap_node heap (above place)) (heap_node heap place) (waiting_within keys (heap_node heap (above place)) (h.waiting (above place) over)) (waiting_within keys (heap_node heap place) (h.waiting place l)) (h.ordered place l a);
+  waiting = λ place l. let w : IsWaiting keys (heap_node heap place) = h.waiting place l in (w.0, waits_wide keys more (heap_node heap place) w.0 w.1);
   placed = h.placed;
   held = λ node key w. h.held node key (waits_narrow keys more node key w);
 }

@@ -1,7 +1,7 @@
 // A heap of the nodes that wait, and the place of each. One place, the hole, is moved up or down to where a node belongs.
 ghost use Rattle.std.specs.Prelude.{◌≡◌, ◌≢◌, ℕ, ◌<◌, ◌^◌, length, slice_set, vec_capacity, IfNone, IfSome};
-ghost use Rattle.frontier.specs.Keys.{IsFree};
-ghost use Rattle.frontier.specs.Heap.{node_at, waiting_keys, IsHeap, HasHole, IsWaiting, IsFirstOf, IsAheadBelow, IsBehindAbove, IsBelow};
+ghost use Rattle.frontier.specs.Keys.{IsFreeNode};
+ghost use Rattle.frontier.specs.Heap.{heap_node, waiting_keys, IsHeap, HasHole, IsWaiting, ComesOutFirst, IsAheadBelow, IsBehindAbove, IsChildPlace};
 
 use crate::order::comes_first;
 
@@ -50,11 +50,11 @@ pub fn sift_down(keys: &[i128], heap: &mut [u32], places: &mut [u32], mut hole: 
 fn first_below(keys: &[i128], heap: &[u32], place: usize) -> Option<usize>
     requires few { length heap.now < 2 ^ 32 }
     requires place { place < length heap.now }
-    requires nodes { (k : ℕ) → k < length heap.now → k ≢ place → node_at heap.now k < length keys.now }
-    ensures none { IfNone result ((k : ℕ) → k < length heap.now → IsBelow k place → ⊥) }
-    ensures below { IfSome result (λ first. IsBelow first place) }
+    requires nodes { (k : ℕ) → k < length heap.now → k ≢ place → heap_node heap.now k < length keys.now }
+    ensures none { IfNone result ((k : ℕ) → k < length heap.now → IsChildPlace k place → ⊥) }
+    ensures below { IfSome result (λ first. IsChildPlace first place) }
     ensures within { IfSome result (λ first. first < length heap.now) }
-    ensures first { IfSome result (λ first. (k : ℕ) → k < length heap.now → IsBelow k place → k ≢ first → IsFirstOf keys.now (node_at heap.now first) (node_at heap.now k)) }
+    ensures first { IfSome result (λ first. (k : ℕ) → k < length heap.now → IsChildPlace k place → k ≢ first → ComesOutFirst keys.now (heap_node heap.now first) (heap_node heap.now k)) }
 {
     let left = 2 * place + 1;
     let right = left + 1;
@@ -82,8 +82,8 @@ fn seat(heap: &mut [u32], places: &mut [u32], place: usize, node: u32)
 /// Takes the root out, whose node waits no more.
 pub fn remove_root(keys: &[i128], heap: &mut Vec<u32>, places: &mut [u32])
     requires few { length heap.old.items < 2 ^ 32 }
-    requires gone { IsFree (waiting_keys keys.now places.old) (node_at heap.old.items 0) }
-    requires hole { HasHole (waiting_keys keys.now places.old) heap.old.items places.old 0 (node_at heap.old.items 0) }
+    requires gone { IsFreeNode (waiting_keys keys.now places.old) (heap_node heap.old.items 0) }
+    requires hole { HasHole (waiting_keys keys.now places.old) heap.old.items places.old 0 (heap_node heap.old.items 0) }
     ensures keys { waiting_keys keys.now places.new ≡ waiting_keys keys.now places.old }
     ensures heap { IsHeap (waiting_keys keys.now places.old) heap.new.items places.new }
     ensures capacity { vec_capacity heap.new ≡ vec_capacity heap.old }

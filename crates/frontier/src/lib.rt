@@ -2,13 +2,15 @@
 #![tactic(auto)]
 
 mod heap;
+mod idle;
 mod order;
 
 ghost use Rattle.std.specs.Prelude.{◌≡◌, ◌+◌, ◌-◌, ◌<◌, ◌≤◌, ◌^◌, [], ◌++◌, length, replicate, IfNone, IfSome, IfOk, OnOk, OnErr, List, ℤ, ◌≤ℤ◌, slice_set, slice_index_or, Option, Some, None};
-ghost use Rattle.frontier.specs.Keys.{Waits, IsFree, IsEmpty, IsLeastEntry};
+ghost use Rattle.frontier.specs.Keys.{Waits, IsFreeNode, IsEmpty, IsLeastEntry};
 
 use crate::heap::{remove_root, sift_up};
 use atto::Steps;
+pub use idle::IdleQueue;
 use std::alloc::{AllocError, Global};
 use std::marker::Model;
 use std::sync::ledger::Ledger;
@@ -89,7 +91,7 @@ impl Frontier {
 
     /// A free node waits from now on, with this key.
     pub fn put(&mut self, node: u32, key: i128)
-        requires { IsFree self.old node }
+        requires { IsFreeNode self.old node }
         ensures { self.new ≡ slice_set self.old node (Some key) }
     {
         let last = self.heap.len();

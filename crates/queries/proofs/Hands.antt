@@ -2,7 +2,7 @@
 use Rattle.std.proofs.Common.{◌≡◌, ◌==◌, ℕ, false, List, [], length, inl, inr, ◌∙◌, subst}
 use Rattle.sync_graph.specs.declared.arc.Arc.{Arc}
 use Rattle.solver.specs.Solver.{SolverLists}
-use Rattle.queries.specs.Asking.{IsKept, HoldsContradiction, IsAtHand, IsPairAtHand}
+use Rattle.queries.specs.Asking.{HasKeptRows, HoldsContradiction, IsAtHand, IsPairAtHand}
 
 -- what is not empty is a contradiction that is held
 pub some_held : (s : SolverLists) (cycle : List Arc) → cycle ≡ s.contradiction → (length cycle == 0) ≡ false → HoldsContradiction s
@@ -12,11 +12,11 @@ some_held s cycle is some none =
 
 module _ (s : SolverLists) (none : s.contradiction ≡ []) (Same : Type 0) where
   -- where no contradiction is held the node is kept
-  pub where_kept : (node : ℕ) → (IsKept s node → Same) → IsAtHand s node → Same
+  pub where_kept : (node : ℕ) → (HasKeptRows s node → Same) → IsAtHand s node → Same
   where_kept node same (inl holds) = absurd (holds none)
   where_kept node same (inr kept) = same kept
 
   -- or one of the two is
-  pub where_one_kept : (first second : ℕ) → (IsKept s first → Same) → (IsKept s second → Same) → IsPairAtHand s first second → Same
+  pub where_one_kept : (first second : ℕ) → (HasKeptRows s first → Same) → (HasKeptRows s second → Same) → IsPairAtHand s first second → Same
   where_one_kept first second same same' (inl hand) = where_kept first same hand
   where_one_kept first second same same' (inr hand) = where_kept second same' hand

@@ -5,6 +5,5 @@ pub mod Hands
 pub mod Consistency
 mod OneReply
 mod KeptTimes
-pub mod GreatHeights
 pub mod ListedAnswers
 pub mod ListedPairs

@@ -14,7 +14,7 @@ use Rattle.problem_model.proofs.Solutions.{no_execution}
 use Rattle.problem.specs.Listing.{Listed, listed_nodes}
 use Rattle.cert.specs.declared.chain.Step.{Step}
 use Rattle.cert.specs.declared.certificate.Cert.TheVariants.{Cycle, Run}
-use Rattle.cert.specs.Listed.{IsNamed, listed_cycle, listed_run}
+use Rattle.cert.specs.Listed.{HasNames, listed_cycle, listed_run}
 use Rattle.cert.specs.Shows.{weighed_bounds}
 use Rattle.cert.specs.CertificateText.{certificate_text}
 use Rattle.attain.specs.ListedProblem.{AreCarried}
@@ -29,7 +29,7 @@ use Rattle.problem_graph.proofs.ListedExecutions.{earliest_of}
 use Rattle.solver.specs.Solver.{SolverLists}
 use Rattle.solver.specs.Current.{IsSolvedNow, IsContradicted}
 use Rattle.solver.proofs.Staying.{solved_now, contradicted_now}
-use Rattle.queries.specs.Contradiction.{steps_of, HasContradictionBy}
+use Rattle.queries.specs.Contradiction.{weighed_steps, HasContradictionBy}
 use Rattle.solver.specs.Solution.{IsSolutionBy}
 
 -- ---- arcs in force as bounds of the problem
@@ -44,7 +44,7 @@ module _ (l : Listed) (p : ProblemLists) (readings : List Reading) (g : GraphLis
   as_many [] each = refl
   as_many (a ∷ arcs) each = ap (λ (n : ℕ). suc n) (as_many arcs (All-tail (IsInForce g) a arcs each))
 
-  are_carried : (arcs : List Arc) (each : All (IsInForce g) arcs) → AreCarried l (steps_of arcs) (carried_steps arcs each)
+  are_carried : (arcs : List Arc) (each : All (IsInForce g) arcs) → AreCarried l (weighed_steps arcs) (carried_steps arcs each)
   unfolding carried_steps
   are_carried [] each = tt
   are_carried (a ∷ arcs) each = ((stands.each a (All-head (IsInForce g) a arcs each)).1.named, refl, are_carried arcs (All-tail (IsInForce g) a arcs each))
@@ -99,8 +99,8 @@ module _ (l : Listed) (p : ProblemLists) (readings : List Reading) (are : AreRea
       run_listed l p readings stands.listed (at s.earliest.values) ∙ ap (λ (xs : List ℤ). certificate_text p (nodes_of p readings) (Run xs)) earliest_there.1,
     )
 
-  pub cycle_written : (has : HasContradictionBy l p s.contradiction) → listed_cycle l (steps_of s.contradiction) ≡ certificate_text p (nodes_of p readings) (Cycle has.steps)
-  cycle_written has = cycle_carried l p readings stands.listed (steps_of s.contradiction) has.steps has.carried
+  pub cycle_written : (has : HasContradictionBy l p s.contradiction) → listed_cycle l (weighed_steps s.contradiction) ≡ certificate_text p (nodes_of p readings) (Cycle has.steps)
+  cycle_written has = cycle_carried l p readings stands.listed (weighed_steps s.contradiction) has.steps has.carried
 
   module _ (some : s.contradiction ≡ [] → ⊥) where
     held : IsContradicted s
@@ -126,7 +126,7 @@ module _ (l : Listed) (p : ProblemLists) (readings : List Reading) (are : AreRea
     contradicts = record {
       named = λ k d inside. (
           let force = each k d inside in
-          subst (λ (a : Arc). IsNamed l a.name) force.2 (named l p readings s.graph stands force.0 force.1));
+          subst (λ (a : Arc). HasNames l a.name) force.2 (named l p readings s.graph stands force.0 force.1));
       steps = steps;
       carried = are_carried l p readings s.graph stands s.contradiction each;
       contradiction = steps_contradict;

@@ -8,7 +8,8 @@ use Rattle.problem_model.specs.Problem.{ProblemLists}
 use Rattle.problem_model.specs.Nodes.{Reading, AreReadings}
 use Rattle.problem_model.specs.Executions.{Arc, at}
 use Rattle.problem_model.specs.Differences.{IsGreatest}
-use Rattle.problem_model.proofs.Heights.{earliest_height, height_low}
+use Rattle.problem_model.specs.Limits.{path_bits}
+use Rattle.problem_model.proofs.Heights.{earliest_height, greatest_height, height_low}
 use Rattle.problem.specs.Listing.{Listed}
 use Rattle.row_pool.specs.declared.cell.Reach.{Reach}
 use Rattle.row_pool.specs.declared.cell.Reach.TheVariants as reaches
@@ -27,7 +28,6 @@ use Rattle.repair.specs.Pairs.{IsPairIn}
 use Rattle.solver.specs.Solver.{SolverLists}
 use Rattle.solver.proofs.Staying.{solved_now}
 use Rattle.solver.specs.Solution.{IsSolutionBy}
-use Rattle.queries.proofs.GreatHeights.{greatest_height}
 
 -- ---- of the problem
 module _ (l : Listed) (p : ProblemLists) (readings : List Reading) (g : GraphLists) (stands : StandsForListed l p readings g) (is : IsGraph g)
@@ -67,7 +67,7 @@ module _ (g : GraphLists) (is : IsGraph g) where
   module _ (values : List ℤ) (earliest : IsEarliestOf g values) (j k : ℕ) (j_below : j < length g.nodes) (k_below : k < length g.nodes) where
     small : (h : ℤ) → IsGreatest (length g.nodes) (arcs_of g) j k h → IsSmall h
     small h greatest =
-        let limit : length g.nodes * 2 ^ 93 ≤ 2 ^ 115 = height_low (length g.nodes) is.node_limit in
+        let limit : length g.nodes * 2 ^ 93 ≤ 2 ^ path_bits = height_low (length g.nodes) is.node_limit in
         let high : h ≤ℤ pos (length g.nodes * 2 ^ 93) = greatest_height (length g.nodes) (arcs_of g) (2 ^ 93) (arcs_within g is) (λ i d inside. (all_light i d inside).1) j k h j_below k_below greatest in
         let most : (at values k -ℤ at values j) ≤ℤ h = greatest.most values earliest.execution in
         let from : pos 0 ≤ℤ at values k = earliest.non_negative k in
@@ -75,7 +75,7 @@ module _ (g : GraphLists) (is : IsGraph g) where
         earliest_height (length g.nodes) (arcs_of g) values (2 ^ 93) (arcs_within g is) (λ i d inside. (all_light i d inside).0) earliest j j_below in
         sized (length g.nodes * 2 ^ 93) h (at values j) (at values k) limit high most from below
       where
-        sized : (n : ℕ) (h x y : ℤ) → n ≤ 2 ^ 115 → h ≤ℤ pos n → (y -ℤ x) ≤ℤ h → pos 0 ≤ℤ y → x ≤ℤ pos n → IsSmall h
+        sized : (n : ℕ) (h x y : ℤ) → n ≤ 2 ^ path_bits → h ≤ℤ pos n → (y -ℤ x) ≤ℤ h → pos 0 ≤ℤ y → x ≤ℤ pos n → IsSmall h
         sized n h x y limit high most from below = (omega (arith, ints, limit, high, most, from, below), omega (arith, ints, limit, high, most, from, below))
 
     fits : (r : Reach) → IsReachIn g j k r → FitsReach r

@@ -11,7 +11,7 @@ use Rattle.intervals.specs.declared.ends.End.{End}
 use Rattle.intervals.specs.declared.ends.Ends.{Ends}
 use Rattle.intervals.specs.declared.order.Order.{Order}
 use Rattle.intervals.specs.declared.order.Order.TheVariants.{Before, After, Same, Undecided}
-use Rattle.intervals.specs.Executions.{difference, time_by, AreEndsOf, IsOrderOf}
+use Rattle.intervals.specs.Executions.{time_difference, time_by, AreEndsOf, IsOrderOf}
 use Rattle.intervals.proofs.Times.{one_greatest, one_least}
 use Rattle.queries.specs.Words.{end_word, order_word}
 use Rattle.queries.specs.Replies.{HasReading, IsIntervalLine, IsOrderLine, IsTimeLine, Replies}
@@ -58,7 +58,7 @@ one_line p time first e f are are' =
 
 pub one_interval : (p : ProblemLists) (first second : ℕ) (a b : List ℕ) → IsIntervalLine p first second a → IsIntervalLine p first second b → a ≡ b
 one_interval p first second a b (e, are, is) (f, are', is') =
-    is ∙ one_line p (difference (nodes.Event first) (nodes.Event second)) (codes "interval") e f are are' ∙ sym is'
+    is ∙ one_line p (time_difference (nodes.Event first) (nodes.Event second)) (codes "interval") e f are are' ∙ sym is'
 
 pub one_time_line : (p : ProblemLists) (clock event : ℕ) (a b : List ℕ) → HasReading p clock → IsTimeLine p clock event a → IsTimeLine p clock event b → a ≡ b
 one_time_line p clock event a b (stamp, reads) (e, each, is) (f, each', is') =

@@ -13,13 +13,12 @@ use Rattle.problem.proofs.ListedNodes.{event_node, reading_node, map_at, stamp_o
 use Rattle.sync_graph.specs.InForce.{IsEarliestOf}
 use Rattle.problem_graph.specs.ListedStanding.{IsNodeBy, IsEventAt, StandsForListed}
 use Rattle.problem_graph.proofs.NodeNumbers.{events_count, number_below}
-use Rattle.row_pool.specs.Pool.{Pool}
 use Rattle.repair.specs.declared.slot.Slot.{Slot}
 use Rattle.solver.specs.Solver.{SolverLists}
-use Rattle.solver.specs.Changes.{KeepsAnswer, LeavesTaken}
+use Rattle.solver.specs.Changes.{KeepsAnswer}
 use Rattle.solver.specs.Current.{IsCurrent}
 use Rattle.solver.specs.Solution.{IsSolutionBy}
-use Rattle.queries.specs.Asking.{IsReadingAt, IsSourceReading}
+use Rattle.queries.specs.Asking.{IsListedReading, IsSourceReading}
 use Rattle.problem.proofs.OwnReadings.{own_readings}
 
 -- where the graph and what is held of it stay, so does the answer
@@ -35,13 +34,6 @@ keeps_both old mid new first second = record {
   earliest = second.earliest ∙ first.earliest;
   contradiction = second.contradiction ∙ first.contradiction;
 }
-
--- where nothing is done all stays
-pub keeps_all : (s : SolverLists) → KeepsAnswer s s
-keeps_all s = record { graph = refl; earliest = refl; contradiction = refl }
-
-pub leaves_all : (pool : Pool) → LeavesTaken pool pool
-leaves_all pool = record { width = refl; count = refl; taken = λ k. refl; cells = λ k taken. refl; free = refl }
 
 module _ (l : Listed) (p : ProblemLists) (s : SolverLists) (solution : IsSolutionBy l p s) where
   pub stands : StandsForListed l p (all_readings p.events) s.graph
@@ -76,7 +68,7 @@ module _ (l : Listed) (p : ProblemLists) (s : SolverLists) (solution : IsSolutio
       subst (λ (rs : List Reading). slice_get rs place ≡ Some (clock, stamp)) stands.listed.stamps
       (map_at stamp_of l.readings place (clock, stamp, number) at)
 
-  pub reading_by : (clock stamp number : ℕ) → IsReadingAt l clock stamp number → IsNodeBy l p (all_readings p.events) number (nodes.Reading clock stamp)
+  pub reading_by : (clock stamp number : ℕ) → IsListedReading l clock stamp number → IsNodeBy l p (all_readings p.events) number (nodes.Reading clock stamp)
   reading_by clock stamp number (place, at) =
       let count = events_count l p (all_readings p.events) s.graph stands in (
         length l.events + place,
@@ -85,10 +77,10 @@ module _ (l : Listed) (p : ProblemLists) (s : SolverLists) (solution : IsSolutio
             (reading_stands p (all_readings p.events) place (clock, stamp) (reading_there clock stamp number place at)),
       )
 
-  pub reading_below : (clock stamp number : ℕ) → IsReadingAt l clock stamp number → number < length s.graph.nodes
+  pub reading_below : (clock stamp number : ℕ) → IsListedReading l clock stamp number → number < length s.graph.nodes
   reading_below clock stamp number at = number_below l p (all_readings p.events) s.graph stands number (nodes.Reading clock stamp) (reading_by clock stamp number at)
 
-  pub reading_is : (clock stamp number : ℕ) → IsReadingAt l clock stamp number → IsReading p clock stamp
+  pub reading_is : (clock stamp number : ℕ) → IsListedReading l clock stamp number → IsReading p clock stamp
   reading_is clock stamp number (place, at) =
       let there = reading_there clock stamp number place at in
       let r : Reading = (clock, stamp) in
@@ -97,5 +89,5 @@ module _ (l : Listed) (p : ProblemLists) (s : SolverLists) (solution : IsSolutio
       (Contains-get_or (all_readings p.events) place r (slice_get_within (all_readings p.events) place r there)))
 
   -- the source's slot is that of this reading
-  pub slot_reading : (slot : Slot) → s.kept.source ≡ Some slot → (clock stamp : ℕ) → IsSourceReading l s clock stamp → IsReadingAt l clock stamp slot.node
-  slot_reading slot is clock stamp (other, is', at) = subst (λ (o : Slot). IsReadingAt l clock stamp o.node) (same_Some other slot (sym is' ∙ is)) at
+  pub slot_reading : (slot : Slot) → s.kept.source ≡ Some slot → (clock stamp : ℕ) → IsSourceReading l s clock stamp → IsListedReading l clock stamp slot.node
+  slot_reading slot is clock stamp (other, is', at) = subst (λ (o : Slot). IsListedReading l clock stamp o.node) (same_Some other slot (sym is' ∙ is)) at

@@ -9,8 +9,8 @@ use Rattle.solver.specs.Solver.{SolverLists}
 use Rattle.solver.specs.Solution.{IsSolutionBy}
 
 -- the rows of the node are kept
-abbrev pub IsKept : SolverLists → ℕ → Type 0
-IsKept s node = slot_of s.kept node ≡ None → ⊥
+abbrev pub HasKeptRows : SolverLists → ℕ → Type 0
+HasKeptRows s node = slot_of s.kept node ≡ None → ⊥
 
 -- a contradiction is held
 abbrev pub HoldsContradiction : SolverLists → Type 0
@@ -18,7 +18,7 @@ HoldsContradiction s = s.contradiction ≡ [] → ⊥
 
 -- what there is to say of the node and others needs no row: a contradiction is held, or the node is kept
 abbrev pub IsAtHand : SolverLists → ℕ → Type 0
-IsAtHand s node = HoldsContradiction s ⊎ IsKept s node
+IsAtHand s node = HoldsContradiction s ⊎ HasKeptRows s node
 
 -- so it is of one of two nodes
 abbrev pub IsPairAtHand : SolverLists → ℕ → ℕ → Type 0
@@ -29,9 +29,9 @@ abbrev pub IsHeldContradiction : Listed → ProblemLists → List Arc → Type 0
 IsHeldContradiction l p cycle = (s : SolverLists) × IsSolutionBy l p s × HoldsContradiction s × (s.contradiction ≡ cycle)
 
 -- the listed reading of this stamp on this clock is the node of the graph with this number
-abbrev pub IsReadingAt : Listed → ℕ → ℕ → ℕ → Type 0
-IsReadingAt l clock stamp number = (place : ℕ) × (slice_get l.readings place ≡ Some (clock, stamp, number))
+abbrev pub IsListedReading : Listed → ℕ → ℕ → ℕ → Type 0
+IsListedReading l clock stamp number = (place : ℕ) × (slice_get l.readings place ≡ Some (clock, stamp, number))
 
 -- the source's rows are those of this reading
 abbrev pub IsSourceReading : Listed → SolverLists → ℕ → ℕ → Type 0
-IsSourceReading l s clock stamp = (slot : Slot) × (s.kept.source ≡ Some slot) × IsReadingAt l clock stamp slot.node
+IsSourceReading l s clock stamp = (slot : Slot) × (s.kept.source ≡ Some slot) × IsListedReading l clock stamp slot.node

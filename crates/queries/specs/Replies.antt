@@ -11,15 +11,15 @@ use Rattle.cert.specs.declared.certificate.Cert.TheVariants.{Cycle}
 use Rattle.cert.specs.CertificateText.{certificate_text}
 use Rattle.intervals.specs.declared.ends.Ends.{Ends}
 use Rattle.intervals.specs.declared.order.Order.{Order}
-use Rattle.intervals.specs.Executions.{difference, time_by, AreEndsOf, IsOrderOf}
+use Rattle.intervals.specs.Executions.{time_difference, time_by, AreEndsOf, IsOrderOf}
 use Rattle.attain.specs.Tight.{IsTightText}
-use Rattle.queries.specs.declared.question.Asked.{Asked}
-use Rattle.queries.specs.declared.question.Asked.TheVariants as asked
+use Rattle.queries.specs.declared.comparison.Asked.{Asked}
+use Rattle.queries.specs.declared.comparison.Asked.TheVariants as asked
 use Rattle.queries.specs.Words.{end_word, order_word}
 
 -- the line has the least and the greatest difference from one event to another over all executions
 abbrev pub IsIntervalLine : ProblemLists → ℕ → ℕ → List ℕ → Type 0
-IsIntervalLine p first second text = (e : Ends) × AreEndsOf p (difference (nodes.Event first) (nodes.Event second)) e
+IsIntervalLine p first second text = (e : Ends) × AreEndsOf p (time_difference (nodes.Event first) (nodes.Event second)) e
     × (text ≡ line_of (codes "interval" ∷ end_word (codes "-inf") e.least ∷ end_word (codes "+inf") e.greatest ∷ []))
 
 -- the line has the order of two events in every execution
@@ -42,9 +42,9 @@ abbrev pub IsProofText : ProblemLists → ℕ → ℕ → List ℕ → Type 0
 IsProofText p first second text = (readings : List Reading) × AreReadings p readings × IsTightText p readings first second text
 
 -- the line says what is asked of two events
-abbrev pub IsLineOf : Asked → ProblemLists → ℕ → ℕ → List ℕ → Type 0
-IsLineOf asked.Interval = IsIntervalLine
-IsLineOf asked.Order = IsOrderLine
+abbrev pub IsComparisonLine : Asked → ProblemLists → ℕ → ℕ → List ℕ → Type 0
+IsComparisonLine asked.Interval = IsIntervalLine
+IsComparisonLine asked.Order = IsOrderLine
 
 -- no real times obey the bounds, and the text is the certificate of a contradiction of at most as many steps as nodes
 abbrev pub IsContradictionText : ProblemLists → List ℕ → Type 0

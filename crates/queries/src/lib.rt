@@ -12,22 +12,23 @@
 //! do not ask.
 #![tactic(auto)]
 
+mod comparison;
 mod consistent;
 mod contradiction;
 mod lines;
 mod prove;
-mod question;
 mod reply;
 mod reply_laws;
 mod solver_laws;
 mod stop;
 mod time;
 
+pub use comparison::{Asked, Comparison};
 pub use consistent::is_consistent;
 pub use contradiction::write_contradiction;
 pub use lines::order_word;
 pub use prove::write_proof;
-pub use reply::{write_interval, write_order};
+pub use reply::write_comparison;
 pub use reply_laws::replies_are_one;
 pub use solver_laws::{contradictions, executions, own_graphs, pairs};
 pub use stop::Stop;

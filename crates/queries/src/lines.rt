@@ -6,9 +6,9 @@ ghost use Rattle.problem_model.specs.Problem.{ProblemLists};
 ghost use Rattle.intervals.specs.Ends.{FitsPair};
 ghost use Rattle.intervals.specs.Executions.{IsPairOf};
 ghost use Rattle.queries.specs.Words.{end_word, order_word};
-ghost use Rattle.queries.specs.Replies.{IsLineOf};
+ghost use Rattle.queries.specs.Replies.{IsComparisonLine};
 
-use crate::question::Asked;
+use crate::comparison::Asked;
 use intervals::{End, Ends, Order, ends_from, order_of};
 use ports::fixed_line::{Line, first_word, push_ns, push_word};
 use row_pool::Pair;
@@ -79,7 +79,7 @@ fn order_line(order: Order) -> Line
 /// 1e-9 ns.
 pub fn line_for(asked: Asked, pair: Pair) -> Line
     requires { FitsPair pair }
-    ensures { (p : ProblemLists) (first second : ℕ) → IsPairOf p (nodes.Event first) (nodes.Event second) pair → IsLineOf asked p first second result.items }
+    ensures { (p : ProblemLists) (first second : ℕ) → IsPairOf p (nodes.Event first) (nodes.Event second) pair → IsComparisonLine asked p first second result.items }
 {
     let ends = ends_from(pair);
     match asked {

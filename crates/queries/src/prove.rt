@@ -1,13 +1,12 @@
 // The certificate of the interval of two events.
-ghost use Rattle.std.specs.Prelude.{◌≡◌, ◌≤◌, ℕ, List, [], length};
+ghost use Rattle.std.specs.Prelude.{◌≡◌, ◌≤◌, ℕ, List, []};
 ghost use Rattle.problem_model.specs.Problem.{ProblemLists};
 ghost use Rattle.ports.specs.Content.{Writes};
 ghost use Rattle.problem.specs.Listing.{Listed};
 ghost use Rattle.problem_graph.specs.ListedStanding.{IsEventAt};
-ghost use Rattle.attain.specs.Ends.{AreRowsOf, AreEventNodes};
+ghost use Rattle.attain.specs.Ends.{AreRowsAt, AreEventNodes};
 ghost use Rattle.row_pool.specs.Pool.{free_rows};
-ghost use Rattle.solver.specs.Changes.{KeepsAnswer, LeavesTaken};
-ghost use Rattle.solver.specs.Current.{IsCurrent};
+ghost use Rattle.solver.specs.Changes.{LeavesAnswer};
 ghost use Rattle.solver.specs.Solution.{IsSolutionBy};
 ghost use Rattle.queries.specs.Asking.{IsAtHand};
 ghost use Rattle.queries.specs.Replies.{IsProofText, Replies};
@@ -34,7 +33,7 @@ fn write_by<N: Listing, O: Sink>(
 ) -> Result<(), Failed>
     requires solution { (p : ProblemLists) × IsSolutionBy (N.listed names.now) p solver.now }
     requires solved { solver.now.contradiction ≡ [] }
-    requires rows { AreRowsOf solver.now.graph first from.now to.now }
+    requires rows { AreRowsAt solver.now.graph first from.now to.now }
     requires events { AreEventNodes (N.listed names.now) first second }
     ensures { (p : ProblemLists) (i j : ℕ) → IsSolutionBy (N.listed names.now) p solver.now
         → IsEventAt (N.listed names.now) i first → IsEventAt (N.listed names.now) j second
@@ -69,11 +68,7 @@ fn write_lent<N: Listing, O: Sink, L: Ledger>(
     ensures writes { (p : ProblemLists) (i j : ℕ) → IsSolutionBy (N.listed names.now) p solver.old
         → IsEventAt (N.listed names.now) i first → IsEventAt (N.listed names.now) j second
         → (text : List ℕ) × Replies p (IsProofText p i j) text × Writes text (O.told out.old) (O.told out.new) result }
-    ensures answer { KeepsAnswer solver.old solver.new }
-    ensures kept { solver.new.kept ≡ solver.old.kept }
-    ensures rows { LeavesTaken solver.old.pool solver.new.pool }
-    ensures room { length solver.new.front ≡ length solver.old.front }
-    ensures current { IsCurrent solver.new }
+    ensures leaves { LeavesAnswer solver.old solver.new }
 {
     let rows = solver.lend(first, steps);
     let (from, to) = solver.lent(&rows);
@@ -98,11 +93,7 @@ fn write_answer<N: Listing, O: Sink, L: Ledger>(
     ensures writes { (p : ProblemLists) (i j : ℕ) → IsSolutionBy (N.listed names.now) p solver.old
         → IsEventAt (N.listed names.now) i first → IsEventAt (N.listed names.now) j second
         → (text : List ℕ) × Replies p (IsProofText p i j) text × Writes text (O.told out.old) (O.told out.new) result }
-    ensures answer { KeepsAnswer solver.old solver.new }
-    ensures kept { solver.new.kept ≡ solver.old.kept }
-    ensures rows { LeavesTaken solver.old.pool solver.new.pool }
-    ensures room { length solver.new.front ≡ length solver.old.front }
-    ensures current { IsCurrent solver.new }
+    ensures leaves { LeavesAnswer solver.old solver.new }
     ensures steps { IsAtHand solver.old first → steps.new ≡ steps.old }
 {
     match solver.rows_of(first) {
@@ -132,11 +123,7 @@ pub fn write_proof<N: Listing, O: Sink, L: Ledger>(
     ensures writes { (p : ProblemLists) (i j : ℕ) → IsSolutionBy (N.listed names.now) p solver.old
         → IsEventAt (N.listed names.now) i first → IsEventAt (N.listed names.now) j second
         → (text : List ℕ) × Replies p (IsProofText p i j) text × Writes text (O.told out.old) (O.told out.new) result }
-    ensures answer { KeepsAnswer solver.old solver.new }
-    ensures kept { solver.new.kept ≡ solver.old.kept }
-    ensures rows { LeavesTaken solver.old.pool solver.new.pool }
-    ensures room { length solver.new.front ≡ length solver.old.front }
-    ensures current { IsCurrent solver.new }
+    ensures leaves { LeavesAnswer solver.old solver.new }
     ensures solution { (l : Listed) (p : ProblemLists) → IsSolutionBy l p solver.old → IsSolutionBy l p solver.new }
     ensures steps { IsAtHand solver.old first → steps.new ≡ steps.old }
 {

@@ -10,3 +10,5 @@ pub mod Clearing
 pub mod Pulls
 pub mod Repairs
 pub mod Sameness
+pub mod Turning
+pub mod Whole

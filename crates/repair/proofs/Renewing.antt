@@ -10,25 +10,25 @@ use Rattle.row_pool.specs.Row.{cells_of}
 use Rattle.row_pool.specs.Pool.{Pool, row_of}
 use Rattle.distances.specs.Changes.{AreBlank, steps_of_changes}
 use Rattle.repair.specs.declared.slot.Slot.{Slot}
-use Rattle.repair.specs.Slots.{behind, HasRows, AreApart, AreOwn, IsRowsOf, ChangesRowsOf}
+use Rattle.repair.specs.Slots.{behind, HasRows, HaveOwnRows, AreOwn, IsRowsOf, ChangesRowsOf}
 use Rattle.repair.specs.Renewals.{Renews, Repairs, insertion_steps}
 
 -- neither row of the slot has this number
 abbrev Misses : ℕ → Slot → Type 0
 Misses k slot = (slot.from ≢ k) × (slot.to ≢ k)
 
-pub pairs-head : (slot : Slot) (rest : List Slot) → AllPairs AreApart (slot ∷ rest) → All (AreApart slot) rest
+pub pairs-head : (slot : Slot) (rest : List Slot) → AllPairs HaveOwnRows (slot ∷ rest) → All (HaveOwnRows slot) rest
 pairs-head slot rest pairs k d below = pairs 0 (suc k) d (omega arith) (let b : suc k < suc (length rest) = omega arith in b)
 
-pairs-tail : (slot : Slot) (rest : List Slot) → AllPairs AreApart (slot ∷ rest) → AllPairs AreApart rest
+pairs-tail : (slot : Slot) (rest : List Slot) → AllPairs HaveOwnRows (slot ∷ rest) → AllPairs HaveOwnRows rest
 pairs-tail slot rest pairs i j d less below = pairs (suc i) (suc j) d (omega arith) (let b : suc j < suc (length rest) = omega arith in b)
 
 -- later slots do not have the rows of an earlier one
-miss_from : (slot : Slot) (rest : List Slot) → All (AreApart slot) rest → All (Misses slot.from) rest
-miss_from slot rest = All-weaker (AreApart slot) (Misses slot.from) (λ other apart. (λ e. apart.from_from (sym e), λ e. apart.from_to (sym e))) rest
+miss_from : (slot : Slot) (rest : List Slot) → All (HaveOwnRows slot) rest → All (Misses slot.from) rest
+miss_from slot rest = All-weaker (HaveOwnRows slot) (Misses slot.from) (λ other apart. (λ e. apart.from_from (sym e), λ e. apart.from_to (sym e))) rest
 
-miss_to : (slot : Slot) (rest : List Slot) → All (AreApart slot) rest → All (Misses slot.to) rest
-miss_to slot rest = All-weaker (AreApart slot) (Misses slot.to) (λ other apart. (λ e. apart.to_from (sym e), λ e. apart.to_to (sym e))) rest
+miss_to : (slot : Slot) (rest : List Slot) → All (HaveOwnRows slot) rest → All (Misses slot.to) rest
+miss_to slot rest = All-weaker (HaveOwnRows slot) (Misses slot.to) (λ other apart. (λ e. apart.to_from (sym e), λ e. apart.to_to (sym e))) rest
 
 -- nor an earlier one those of a later
 one : (slot : Slot) (k : ℕ) → Misses k slot → All (Misses k) (slot ∷ [])
@@ -38,9 +38,9 @@ one slot k misses = All-cons (Misses k) slot [] misses (All-nil (Misses k))
 abbrev pub IsSame : Pool → Pool → Slot → Type 0
 IsSame old new slot = (row_of new slot.from ≡ row_of old slot.from) × (row_of new slot.to ≡ row_of old slot.to)
 
-pub others_same : (slot : Slot) (rest : List Slot) (old mid : Pool) → All (AreApart slot) rest → ChangesRowsOf (slot ∷ []) old mid → All (IsSame old mid) rest
+pub others_same : (slot : Slot) (rest : List Slot) (old mid : Pool) → All (HaveOwnRows slot) rest → ChangesRowsOf (slot ∷ []) old mid → All (IsSame old mid) rest
 others_same slot rest old mid apart changes =
-    All-weaker (AreApart slot) (IsSame old mid)
+    All-weaker (HaveOwnRows slot) (IsSame old mid)
     (λ other a. (changes.others other.from (one slot other.from (a.from_from, a.to_from)), changes.others other.to (one slot other.to (a.from_to, a.to_to)))) rest apart
 
 pub rows_same : (nodes : ℕ) (table : ArcTable) (old new : Pool) (slot : Slot) → IsSame old new slot → IsRowsOf nodes table old slot → IsRowsOf nodes table new slot
@@ -96,7 +96,7 @@ renews_none g pool = record { rows = All-nil (IsRowsOf (length g.nodes) (table_o
 pub renews_more : (g : GraphLists) (slot : Slot) (rest : List Slot) (old mid new : Pool) → AreOwn old (slot ∷ rest) → IsRowsOf (length g.nodes) (table_of g) mid slot → ChangesRowsOf (slot ∷ []) old mid
     → Renews g rest mid new → Renews g (slot ∷ rest) old new
 renews_more g slot rest old mid new own is first then =
-    let apart : All (AreApart slot) rest = pairs-head slot rest own.apart in
+    let apart : All (HaveOwnRows slot) rest = pairs-head slot rest own.apart in
     let same : IsSame mid new slot = (then.changes.others slot.from (miss_from slot rest apart), then.changes.others slot.to (miss_to slot rest apart)) in
     record {
       rows = All-cons (IsRowsOf (length g.nodes) (table_of g) new) slot rest (rows_same (length g.nodes) (table_of g) mid new slot same is) then.rows;
@@ -124,7 +124,7 @@ repairs_none g pool steps = record { renews = renews_none g pool; few = omega ar
 pub repairs_more : (g : GraphLists) (slot : Slot) (rest : List Slot) (old mid new : Pool) (before between after : ℕ) → AreOwn old (slot ∷ rest) → IsRowsOf (length g.nodes) (table_of g) mid slot
     → ChangesRowsOf (slot ∷ []) old mid → between ≤ (before + insertion_steps g old mid slot) → Repairs g rest mid new between after → Repairs g (slot ∷ rest) old new before after
 repairs_more g slot rest old mid new before between after own is first few then =
-    let apart : All (AreApart slot) rest = pairs-head slot rest own.apart in
+    let apart : All (HaveOwnRows slot) rest = pairs-head slot rest own.apart in
     let from : row_of new slot.from ≡ row_of mid slot.from = then.renews.changes.others slot.from (miss_from slot rest apart) in
     let to : row_of new slot.to ≡ row_of mid slot.to = then.renews.changes.others slot.to (miss_to slot rest apart) in
     let own_steps : insertion_steps g old mid slot ≡ insertion_steps g old new slot =
@@ -138,22 +138,8 @@ repairs_more g slot rest old mid new before between after own is first few then 
     few_more : (before between after a b c d e : ℕ) → between ≤ before + a → after ≤ between + c → a ≡ b → c ≡ d → e ≡ b + d → after ≤ before + e
     few_more before between after a b c d e h k p q r = omega arith
 
--- one slot alone
-pub renews_one : (g : GraphLists) (slot : Slot) (old mid : Pool) → IsRowsOf (length g.nodes) (table_of g) mid slot → ChangesRowsOf (slot ∷ []) old mid → Renews g (slot ∷ []) old mid
-renews_one g slot old mid is changes = record {
-  rows = All-cons (IsRowsOf (length g.nodes) (table_of g) mid) slot [] is (All-nil (IsRowsOf (length g.nodes) (table_of g) mid));
-  changes = changes;
-}
-
 pub steps_of_one : (f : Slot → ℕ) (slot : Slot) → sum_by f (slot ∷ []) ≡ f slot
 steps_of_one f slot = let all : sum_by f (slot ∷ []) ≡ f slot + 0 = sum_by-cons f slot [] in omega (arith, all)
-
-pub repairs_one : (g : GraphLists) (slot : Slot) (old mid : Pool) (before between : ℕ) → IsRowsOf (length g.nodes) (table_of g) mid slot → ChangesRowsOf (slot ∷ []) old mid
-    → between ≤ (before + insertion_steps g old mid slot) → Repairs g (slot ∷ []) old mid before between
-repairs_one g slot old mid before between is changes few = record {
-  renews = renews_one g slot old mid is changes;
-  few = subst (λ (n : ℕ). between ≤ (before + n)) (sym (steps_of_one (insertion_steps g old mid) slot)) few;
-}
 
 -- nothing is changed, and then the rows of slots
 changes_then : (slots : List Slot) (old mid new : Pool) → ChangesRowsOf [] old mid → ChangesRowsOf slots mid new → ChangesRowsOf slots old new

@@ -1,5 +1,5 @@
 -- One slot more.
-use Rattle.std.proofs.Common.{◌≡◌, ℕ, List, [], ◌∷◌, ◌++◌, length, get_or, Option, Some, None, All, refl, sym, subst, ap, ◌+◌, ◌∙◌}
+use Rattle.std.proofs.Common.{◌≡◌, ℕ, List, [], ◌∷◌, ◌++◌, length, get_or, Option, Some, None, IfSome, All, refl, sym, subst, ap, ◌+◌, ◌∙◌}
 use Rattle.std.proofs.lemmas.List.{length_push}
 use Rattle.std.proofs.lemmas.List.Elements.{All-cons, All-push, All-weaker}
 use Rattle.std.proofs.lemmas.List.Kept.{AllPairs-cons}
@@ -9,9 +9,10 @@ use Rattle.problem_model.specs.Tables.{ArcTable, reversed_table}
 use Rattle.row_pool.specs.declared.cell.Cell.{Cell}
 use Rattle.row_pool.specs.Row.{cells_of}
 use Rattle.row_pool.specs.Pool.{Pool}
+use Rattle.distances.specs.Searched.{Searched}
 use Rattle.distances.specs.Changes.{AreBlank}
 use Rattle.repair.specs.declared.slot.Slot.{Slot}
-use Rattle.repair.specs.Slots.{slots_in, HasRows, AreApart, AreOwn, IsRowsOf, behind}
+use Rattle.repair.specs.Slots.{slots_in, HasRows, HaveOwnRows, AreOwn, IsRowsOf, behind}
 use Rattle.repair.specs.Keeping.{TakesRows}
 use Rattle.repair.proofs.Found.{slots_push}
 use Rattle.repair.proofs.Taking.{has_still, from_still, to_still, apart_of, apart_from}
@@ -42,13 +43,13 @@ module _ (old new : Pool) (slot : Slot) (takes : TakesRows old new slot) (slots 
   pub own_last : AreOwn new (slots ++ slot ∷ [])
   own_last = record {
     taken = All-push (HasRows new) slots slot taken_still takes.has;
-    apart = all_pairs_push AreApart slots slot own.apart (λ k d below. apart_of old new slot takes (get_or slots k d) (own.taken k d below));
+    apart = all_pairs_push HaveOwnRows slots slot own.apart (λ k d below. apart_of old new slot takes (get_or slots k d) (own.taken k d below));
   }
 
   pub own_first : AreOwn new (slot ∷ slots)
   own_first = record {
     taken = All-cons (HasRows new) slot slots takes.has taken_still;
-    apart = AllPairs-cons AreApart slot slots (each (HasRows old) (AreApart slot) slots own.taken (λ other has. apart_from old new slot takes other has)) own.apart;
+    apart = AllPairs-cons HaveOwnRows slot slots (each (HasRows old) (HaveOwnRows slot) slots own.taken (λ other has. apart_from old new slot takes other has)) own.apart;
   }
 
   module _ (nodes : ℕ) (table : ArcTable) (rows : All (IsRowsOf nodes table old) slots) (made : IsRowsOf nodes table new slot) where
@@ -65,3 +66,9 @@ module _ (old new : Pool) (slot : Slot) (takes : TakesRows old new slot) (slots 
 
     pub rows_first : All (IsRowsOf nodes table new) (slot ∷ slots)
     rows_first = All-cons (IsRowsOf nodes table new) slot slots made rows_still
+
+-- ---- where there is a search
+-- what holds of it by what else holds of it
+pub if_both : (P Q R : Searched → Type 0) (search : Option Searched) → ((s : Searched) → P s → Q s → R s) → IfSome search P → IfSome search Q → IfSome search R
+if_both P Q R None go p q = tt
+if_both P Q R (Some s) go p q = go s p q

@@ -5,7 +5,7 @@ use Rattle.std.proofs.lemmas.List.Elements.{All-get_or, All-set}
 use Rattle.std.proofs.lemmas.List.Sums.{sum_by-cons, sum_by-set}
 use Rattle.row_pool.specs.Pool.{PoolRow, Pool, IsPool, row_at, row_of, IsFree, free_rows, marked}
 use Rattle.repair.specs.declared.slot.Slot.{Slot}
-use Rattle.repair.specs.Slots.{HasRows, AreApart}
+use Rattle.repair.specs.Slots.{HasRows, HaveOwnRows}
 use Rattle.repair.specs.Keeping.{TakesRows}
 
 abbrev none : PoolRow
@@ -86,8 +86,8 @@ module _ (old new : Pool) (slot : Slot) (takes : TakesRows old new slot) (other 
   pub to_still : row_of new other.to ≡ row_of old other.to
   to_still = takes.others other.to miss_from.1 miss_to.1
 
-  pub apart_of : AreApart other slot
+  pub apart_of : HaveOwnRows other slot
   apart_of = record { from_from = miss_from.0; from_to = miss_to.0; to_from = miss_from.1; to_to = miss_to.1 }
 
-  pub apart_from : AreApart slot other
+  pub apart_from : HaveOwnRows slot other
   apart_from = record { from_from = λ e. miss_from.0 (sym e); from_to = λ e. miss_from.1 (sym e); to_from = λ e. miss_to.0 (sym e); to_to = λ e. miss_to.1 (sym e) }

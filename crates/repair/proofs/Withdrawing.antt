@@ -10,7 +10,7 @@ use Rattle.repair.specs.RowWithdrawals.{IsAffectedFrom, IsAffectedTo}
 use Rattle.repair.specs.declared.slot.Slot.{Slot}
 use Rattle.repair.specs.Slots.{behind, AreOwn, IsRowsOf, ChangesRowsOf}
 use Rattle.repair.specs.Renewals.{Renews}
-use Rattle.repair.specs.Withdrawals.{WereRows, MarksAffected, withdrawal_steps, TakesFewToWithdraw, Withdraws}
+use Rattle.repair.specs.Withdrawals.{WereRows, MarksAffected, withdrawal_steps, TakesFewToWithdraw, WithdrawsRows}
 use Rattle.repair.proofs.Renewing.{IsSame, pairs-head, others_same, rows_same, rows_rest, both, unchanged, all_source, renews_none, renews_more, renews_behind, steps_of_one}
 
 -- ---- what the rows were
@@ -56,14 +56,14 @@ few_rows before between after f t s h k e = omega arith
 
 -- ---- one slot after the other
 
-pub withdraws_none : (g : GraphLists) (removed : List Arc) (pool : Pool) (steps : ℕ) → Withdraws g removed [] pool pool steps steps
+pub withdraws_none : (g : GraphLists) (removed : List Arc) (pool : Pool) (steps : ℕ) → WithdrawsRows g removed [] pool pool steps steps
 withdraws_none g removed pool steps = record { renews = renews_none g pool; few = λ marks all. omega arith }
 
 few_more : (before between after a b c e : ℕ) → between ≤ before + a → after ≤ between + c → a ≡ b → e ≡ b + c → after ≤ (before + e)
 few_more before between after a b c e h k p q = omega arith
 
 pub withdraws_more : (g : GraphLists) (removed : List Arc) (slot : Slot) (rest : List Slot) (old mid new : Pool) (before between after : ℕ) → AreOwn old (slot ∷ rest) → IsRowsOf (length g.nodes) (table_of g) mid slot
-    → ChangesRowsOf (slot ∷ []) old mid → TakesFewToWithdraw g removed (slot ∷ []) old before between → Withdraws g removed rest mid new between after → Withdraws g removed (slot ∷ rest) old new before after
+    → ChangesRowsOf (slot ∷ []) old mid → TakesFewToWithdraw g removed (slot ∷ []) old before between → WithdrawsRows g removed rest mid new between after → WithdrawsRows g removed (slot ∷ rest) old new before after
 withdraws_more g removed slot rest old mid new before between after own is first few then = record {
   renews = renews_more g slot rest old mid new own is first then.renews;
   few = λ marks all.
@@ -79,7 +79,7 @@ few_then before between after a h k = omega arith
 
 -- the slot of the source first, and then those of events
 pub withdraws_behind : (g : GraphLists) (removed : List Arc) (source : Option Slot) (slots : List Slot) (old mid new : Pool) (before between after : ℕ) → AreOwn old (behind source slots)
-    → Withdraws g removed (behind source []) old mid before between → Withdraws g removed slots mid new between after → Withdraws g removed (behind source slots) old new before after
+    → WithdrawsRows g removed (behind source []) old mid before between → WithdrawsRows g removed slots mid new between after → WithdrawsRows g removed (behind source slots) old new before after
 withdraws_behind g removed None slots old mid new before between after own first then = record {
   renews = renews_behind g None slots old mid new own first.renews then.renews;
   few = λ marks all.

@@ -2,7 +2,7 @@
 use Rattle.std.proofs.Common.{◌≡◌, ◌≢◌, ℕ, ◌+◌, ◌<◌, ◌≤◌, arith, false, List, [], ◌∷◌, length, refl, sym, ap, subst, inl, inr, ◌∙◌, length-set, get_or-set_same}
 use Rattle.std.proofs.lemmas.List.Elements.{All-head}
 use Rattle.row_pool.specs.declared.cell.Cell.{Cell}
-use Rattle.row_pool.specs.Pool.{PoolRow, Pool, IsPool, row_at, row_of, IsTaken, written, with_cells}
+use Rattle.row_pool.specs.Pool.{PoolRow, Pool, IsPool, row_at, row_of, IsTakenRow, written_pool, with_cells}
 use Rattle.row_pool.proofs.Pools.{written_row, with_cells_lawful, own_cells, other_cells, below_rows}
 use Rattle.repair.specs.declared.slot.Slot.{Slot}
 use Rattle.repair.specs.Slots.{HasRows, IsRowsOf, ChangesRowsOf}
@@ -32,7 +32,7 @@ with_cells_taken pool number k cells below =
 
 module _ (pool : Pool) (slot : Slot) (lawful : IsPool pool) (has : HasRows pool slot) (one : List Cell) (wide : length one ≡ pool.width) where
   abbrev first : Pool
-  first = written pool slot.from one
+  first = written_pool pool slot.from one
 
   below_from : slot.from < length pool.rows
   below_from = below_rows pool slot.from has.from
@@ -43,7 +43,7 @@ module _ (pool : Pool) (slot : Slot) (lawful : IsPool pool) (has : HasRows pool 
   lawful_first : IsPool first
   lawful_first = subst IsPool (sym is_first) (with_cells_lawful pool slot.from one lawful wide)
 
-  pub taken_still : IsTaken first slot.to
+  pub taken_still : IsTakenRow first slot.to
   taken_still = ap (λ (x : Pool). (row_at x slot.to).taken) is_first ∙ ap (λ (r : PoolRow). r.taken) (other_cells pool slot.from slot.to one (λ e. has.two (sym e))) ∙ has.to
 
   pub other_still : row_of first slot.to ≡ row_of pool slot.to
@@ -54,7 +54,7 @@ module _ (pool : Pool) (slot : Slot) (lawful : IsPool pool) (has : HasRows pool 
     in_between = subst (λ (n : ℕ). slot.to < n) (sym (length-set pool.rows slot.from (record { taken = (row_at pool slot.from).taken; cells = one }))) (below_rows pool slot.to has.to)
 
     abbrev last : Pool
-    last = written first slot.to two
+    last = written_pool first slot.to two
 
     below_to : slot.to < length first.rows
     below_to = below_rows first slot.to taken_still

@@ -24,10 +24,10 @@ abbrev pub with_source : KeptRows → Slot → KeptRows
 with_source kept slot = record { slots = kept.slots; source = Some slot; present = kept.present; room = kept.room }
 
 -- the slot of the node has this number, counted from 1
-abbrev pub IsPlaceOf : KeptRows → ℕ → ℕ → Type 0
-IsPlaceOf kept p place = (slot : Slot) × (slot_of kept p ≡ Some slot) × (k : ℕ) × (place ≡ k + 1) × (slice_get kept.slots k ≡ Some slot)
+abbrev pub IsSlotNumber : KeptRows → ℕ → ℕ → Type 0
+IsSlotNumber kept p place = (slot : Slot) × (slot_of kept p ≡ Some slot) × (k : ℕ) × (place ≡ k + 1) × (slice_get kept.slots k ≡ Some slot)
 
 -- the node has this slot already, or it has none and there are eight
-abbrev pub IsRefused : KeptRows → ℕ → KeepError → Type 0
-IsRefused kept p (Already place) = IsPlaceOf kept p place
-IsRefused kept p Full = (slot_of kept p ≡ None) × (length kept.slots ≡ 8)
+abbrev pub IsKeepRefused : KeptRows → ℕ → KeepError → Type 0
+IsKeepRefused kept p (Already place) = IsSlotNumber kept p place
+IsKeepRefused kept p Full = (slot_of kept p ≡ None) × (length kept.slots ≡ 8)

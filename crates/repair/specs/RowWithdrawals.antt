@@ -5,6 +5,7 @@ use Rattle.row_pool.specs.Row.{cells_of}
 use Rattle.sync_graph.specs.declared.arc.Arc.{Arc}
 use Rattle.sync_graph.specs.Graph.{GraphLists, arc_at}
 use Rattle.withdrawals.specs.Regrowths.{IsAffectedIn}
+use Rattle.distances.specs.declared.side.Side.TheVariants.{From, Towards}
 use Rattle.distances.specs.Facing.{facing}
 
 -- the graph before had the same nodes and arcs; what is in force was so, and whatever else was equals one of the removed arcs
@@ -22,8 +23,8 @@ IsRemoved g removed j = Contains removed (arc_at g.arcs j)
 
 -- the cell of the node is known, and its path by parents has an arc that equals one of those removed
 abbrev pub IsAffectedFrom : GraphLists → List Arc → ℕ → List Cell → ℕ → Type 0
-IsAffectedFrom g removed p row k = IsAffectedIn (facing true g) (IsRemoved g removed) p (cells_of row) k
+IsAffectedFrom g removed p row k = IsAffectedIn (facing From g) (IsRemoved g removed) p (cells_of row) k
 
 -- the same of a row towards p, whose paths go the other way
 abbrev pub IsAffectedTo : GraphLists → List Arc → ℕ → List Cell → ℕ → Type 0
-IsAffectedTo g removed p row k = IsAffectedIn (facing false g) (IsRemoved g removed) p (cells_of row) k
+IsAffectedTo g removed p row k = IsAffectedIn (facing Towards g) (IsRemoved g removed) p (cells_of row) k

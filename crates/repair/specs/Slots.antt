@@ -4,7 +4,7 @@ use Rattle.problem_model.specs.Parents.{IsRow}
 use Rattle.problem_model.specs.Tables.{ArcTable, reversed_table, without}
 use Rattle.sync_graph.specs.Graph.{GraphLists, table_of}
 use Rattle.row_pool.specs.Row.{cells_of}
-use Rattle.row_pool.specs.Pool.{Pool, row_at, row_of, IsTaken}
+use Rattle.row_pool.specs.Pool.{Pool, row_at, row_of, IsTakenRow}
 use Rattle.distances.specs.Changes.{AreBlank}
 use Rattle.repair.specs.declared.slot.Slot.{Slot}
 
@@ -47,12 +47,12 @@ slot_of kept p = find (λ slot. slot.node == p) kept.slots
 
 -- both rows of the slot are taken, and they differ
 pub record HasRows (pool : Pool) (slot : Slot) : Type 0 where
-  pub from : IsTaken pool slot.from
-  pub to : IsTaken pool slot.to
+  pub from : IsTakenRow pool slot.from
+  pub to : IsTakenRow pool slot.to
   pub two : slot.from ≢ slot.to
 
 -- no row of one is a row of the other
-pub record AreApart (slot other : Slot) : Type 0 where
+pub record HaveOwnRows (slot other : Slot) : Type 0 where
   pub from_from : slot.from ≢ other.from
   pub from_to : slot.from ≢ other.to
   pub to_from : slot.to ≢ other.from
@@ -61,7 +61,7 @@ pub record AreApart (slot other : Slot) : Type 0 where
 -- the rows of the slots are taken, and no two of them are one
 pub record AreOwn (pool : Pool) (slots : List Slot) : Type 0 where
   pub taken : All (HasRows pool) slots
-  pub apart : AllPairs AreApart slots
+  pub apart : AllPairs HaveOwnRows slots
 
 abbrev pub AreOwnRows : KeptRows → Pool → Type 0
 AreOwnRows kept pool = AreOwn pool (all_slots kept)

@@ -36,6 +36,6 @@ TakesFewToWithdraw g removed slots old before after =
     (marks : ℕ → ℕ → Bool) → All (MarksAffected g removed old marks) slots → after ≤ (before + sum_by (withdrawal_steps g marks) slots)
 
 -- the rows of these slots are repaired in few steps
-pub record Withdraws (g : GraphLists) (removed : List Arc) (slots : List Slot) (old new : Pool) (before after : ℕ) : Type 0 where
+pub record WithdrawsRows (g : GraphLists) (removed : List Arc) (slots : List Slot) (old new : Pool) (before after : ℕ) : Type 0 where
   pub renews : Renews g slots old new
   pub few : TakesFewToWithdraw g removed slots old before after

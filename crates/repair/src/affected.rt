@@ -1,21 +1,24 @@
 // The clearing of the cells whose paths had a removed arc: a list has their nodes in the order in which they were found.
-ghost use Rattle.std.specs.Prelude.{◌≡◌, ◌≢◌, ℕ, ◌+◌, ◌<◌, ◌≤◌, Bool, true, false, length};
+ghost use Rattle.std.specs.Prelude.{◌≡◌, ◌≢◌, ℕ, ◌+◌, ◌<◌, ◌≤◌, Bool, true, false, List, length};
 ghost use Rattle.problem_model.specs.Parents.{Cells};
 ghost use Rattle.problem_model.specs.Sums.{sum_to};
+ghost use Rattle.problem_model.specs.Limits.{most_nodes};
 ghost use Rattle.row_pool.specs.Row.{cell_at, cells_of};
-ghost use Rattle.sync_graph.specs.Graph.{arc_at, most_nodes};
+ghost use Rattle.sync_graph.specs.declared.arc.Arc.{Arc as Removed};
+ghost use Rattle.sync_graph.specs.Graph.{arc_at};
 ghost use Rattle.earliest.specs.Withdrawn.{found_at};
 ghost use Rattle.distances.specs.Changes.{AreBlank};
 ghost use Rattle.distances.specs.Facing.{end_of};
+ghost use Rattle.distances.specs.Searched.{nodes};
 ghost use Rattle.repair.specs.RowWithdrawals.{IsRemoved};
 ghost use Rattle.repair.specs.Clearings.{IsRowBefore, IsMarkingOf, IsChildBy, IsChildOf, IsClearedAt, IsClearedIf};
 ghost use Rattle.repair.specs.Pulling.{onward};
 
 use atto::Steps;
-use distances::{far_end, next_arc};
+use distances::Search;
 use row_pool::Cell;
 use std::sync::ledger::Ledger;
-use sync_graph::{Arc, Graph};
+use sync_graph::Arc;
 
 // Whether two arcs are equal, names and all.
 fn is_same(a: &Arc, b: &Arc) -> bool
@@ -26,14 +29,14 @@ fn is_same(a: &Arc, b: &Arc) -> bool
 }
 
 // Whether a cell is known, with a parent that equals an arc.
-fn is_child_of(g: &Graph, cell: &Cell, a: &Arc) -> bool
-    ensures child { result ≡ true → (cell.now.known ≡ true) × (cell.now.parent < length g.now.arcs) × (arc_at g.now.arcs cell.now.parent ≡ a.now) }
-    ensures other { result ≡ false → (cell.now.known ≡ true) × (cell.now.parent < length g.now.arcs) × (arc_at g.now.arcs cell.now.parent ≡ a.now) → ⊥ }
+fn is_child_of(search: &Search, cell: &Cell, a: &Arc) -> bool
+    ensures child { result ≡ true → (cell.now.known ≡ true) × (cell.now.parent < length search.now.graph.arcs) × (arc_at search.now.graph.arcs cell.now.parent ≡ a.now) }
+    ensures other { result ≡ false → (cell.now.known ≡ true) × (cell.now.parent < length search.now.graph.arcs) × (arc_at search.now.graph.arcs cell.now.parent ≡ a.now) → ⊥ }
 {
-    if !cell.known || cell.parent >= g.arcs() {
+    if !cell.known || cell.parent >= search.arcs() {
         return false;
     }
-    is_same(&g.arc(cell.parent), a)
+    is_same(&search.arc(cell.parent), a)
 }
 
 // Clears the cell of a node and lists the node. How many are found.
@@ -49,50 +52,35 @@ fn clear_cell(row: &mut [Cell], found: &mut [u32], count: u32, node: u32) -> u32
 }
 
 // Clears the cell of the node to which a removed arc is followed, where the arc is its parent. How many are found.
-fn clear_head(
-    g: &Graph,
-    outward: bool,
-    a: &Arc,
-    row: &mut [Cell],
-    found: &mut [u32],
-    count: u32,
-) -> u32
-    requires place { IsChildOf g.now row.old (end_of outward a.now) a.now → count < length found.old }
+fn clear_head(search: &Search, a: &Arc, row: &mut [Cell], found: &mut [u32], count: u32) -> u32
+    requires place { IsChildOf search.now.graph row.old (end_of search.now.side a.now) a.now → count < length found.old }
     requires few { count ≤ most_nodes }
-    ensures cleared { IsClearedIf (IsChildOf g.now row.old (end_of outward a.now) a.now) row.old row.new found.old found.new count (end_of outward a.now) result }
+    ensures cleared { IsClearedIf (IsChildOf search.now.graph row.old (end_of search.now.side a.now) a.now) row.old row.new found.old found.new count (end_of search.now.side a.now) result }
 {
-    let head = far_end(a, outward);
+    let head = search.head(a);
     if head as usize >= row.len() {
         return count;
     }
-    if !is_child_of(g, &row[head as usize], a) {
+    if !is_child_of(search, &row[head as usize], a) {
         return count;
     }
     clear_cell(row, found, count, head)
 }
 
 /// Clears the cells of all nodes that have one of the removed arcs as parent. How many are found.
-pub fn clear_heads(
-    g: &Graph,
-    outward: bool,
-    removed: &[Arc],
-    row: &mut [Cell],
-    found: &mut [u32],
-) -> u32
-    requires cells { length g.now.nodes ≤ length row.old }
-    requires found { length g.now.nodes ≤ length found.old }
-    requires before { (was : ℕ → Bool) × (p : ℕ) × IsRowBefore g.now outward was removed.now p (cells_of row.old) }
-    ensures marking { (was : ℕ → Bool) (p : ℕ) → IsRowBefore g.now outward was removed.now p (cells_of row.old)
-        → (marks : ℕ → Bool) × IsMarkingOf g.now outward removed.now p (cells_of row.old) row.new marks found.new result 0
-        × ((k : ℕ) → k ≢ p → (cell_at row.old k).known ≡ true → IsRemoved g.now removed.now (cell_at row.old k).parent → marks k ≡ true) }
+pub fn clear_heads(search: &Search, removed: &[Arc], row: &mut [Cell], found: &mut [u32]) -> u32
+    requires cells { nodes search.now ≤ length row.old }
+    requires found { nodes search.now ≤ length found.old }
+    requires before { (was : ℕ → Bool) × (p : ℕ) × IsRowBefore search.now.graph search.now.side was removed.now p (cells_of row.old) }
+    ensures marking { (was : ℕ → Bool) (p : ℕ) → IsRowBefore search.now.graph search.now.side was removed.now p (cells_of row.old)
+        → (marks : ℕ → Bool) × IsMarkingOf search.now.graph search.now.side removed.now p (cells_of row.old) row.new marks found.new result 0
+        × ((k : ℕ) → k ≢ p → (cell_at row.old k).known ≡ true → IsRemoved search.now.graph removed.now (cell_at row.old k).parent → marks k ≡ true) }
     ensures blank { AreBlank row.old → AreBlank row.new }
-    ensures cells { length row.new ≡ length row.old }
-    ensures found { length found.new ≡ length found.old }
 {
-    g.exact();
+    search.exact();
     let mut count = 0;
     for i in 0..removed.len() {
-        count = clear_head(g, outward, &removed[i], row, found, count);
+        count = clear_head(search, &removed[i], row, found, count);
     }
     count
 }
@@ -115,71 +103,62 @@ fn clear_child(row: &mut [Cell], found: &mut [u32], count: u32, head: u32, arc: 
 
 /// Clears the cells of all children of a node. How many are found.
 pub fn clear_children<L: Ledger>(
-    g: &Graph,
-    outward: bool,
-    removed: &[Arc],
+    search: &Search,
     node: u32,
     row: &mut [Cell],
     found: &mut [u32],
     first: u32,
     steps: &mut Steps<L>,
 ) -> u32
-    requires node { node < length g.now.nodes }
-    requires cells { length g.now.nodes ≤ length row.old }
-    requires found { length g.now.nodes ≤ length found.old }
-    requires first { (was : ℕ → Bool) × (p : ℕ) × (old : Cells) × (marked : ℕ → Bool) × (done : ℕ)
-        × IsRowBefore g.now outward was removed.now p old × IsMarkingOf g.now outward removed.now p old row.old marked found.old first done × (done < first) × (found_at found.old done ≡ node) }
-    ensures marking { (was : ℕ → Bool) (p : ℕ) (old : Cells) (marked : ℕ → Bool) (done : ℕ)
-        → IsRowBefore g.now outward was removed.now p old → IsMarkingOf g.now outward removed.now p old row.old marked found.old first done → done < first → found_at found.old done ≡ node
-        → (marks : ℕ → Bool) × IsMarkingOf g.now outward removed.now p old row.new marks found.new result (done + 1) × ((k : ℕ) → marked k ≡ true → marks k ≡ true) }
+    requires node { node < nodes search.now }
+    requires cells { nodes search.now ≤ length row.old }
+    requires found { nodes search.now ≤ length found.old }
+    requires first { (removed : List Removed) × (was : ℕ → Bool) × (p : ℕ) × (old : Cells) × (marked : ℕ → Bool) × (done : ℕ)
+        × IsRowBefore search.now.graph search.now.side was removed p old × IsMarkingOf search.now.graph search.now.side removed p old row.old marked found.old first done × (done < first) × (found_at found.old done ≡ node) }
+    ensures marking { (removed : List Removed) (was : ℕ → Bool) (p : ℕ) (old : Cells) (marked : ℕ → Bool) (done : ℕ)
+        → IsRowBefore search.now.graph search.now.side was removed p old → IsMarkingOf search.now.graph search.now.side removed p old row.old marked found.old first done → done < first → found_at found.old done ≡ node
+        → (marks : ℕ → Bool) × IsMarkingOf search.now.graph search.now.side removed p old row.new marks found.new result (done + 1) × ((k : ℕ) → marked k ≡ true → marks k ≡ true) }
     ensures before { (i : ℕ) → i < first → found_at found.new i ≡ found_at found.old i }
     ensures more { first ≤ result }
     ensures blank { AreBlank row.old → AreBlank row.new }
-    ensures cells { length row.new ≡ length row.old }
-    ensures found { length found.new ≡ length found.old }
-    ensures steps { steps.new ≤ steps.old + onward outward g.now node + 1 }
+    ensures steps { steps.new ≤ steps.old + onward search.now.side search.now.graph node + 1 }
 {
-    g.exact();
+    search.exact();
     let mut count = first;
-    for k in 0..g.arcs() {
-        let Some(arc) = next_arc(g, outward, node, k, steps) else {
-            return count;
-        };
-        let a = g.arc(arc);
-        let head = far_end(&a, outward);
+    let mut k = 0;
+    while let Some(arc) = search.next_arc(node, k, steps) {
+        let a = search.arc(arc);
+        let head = search.head(&a);
         count = clear_child(row, found, count, head, arc);
+        k += 1;
     }
     count
 }
 
 /// Clears the cells of all nodes whose paths pass a cleared one. How many are found.
 pub fn clear_all<L: Ledger>(
-    g: &Graph,
-    outward: bool,
-    removed: &[Arc],
+    search: &Search,
     row: &mut [Cell],
     found: &mut [u32],
     first: u32,
     steps: &mut Steps<L>,
 ) -> u32
-    requires cells { length g.now.nodes ≤ length row.old }
-    requires found { length g.now.nodes ≤ length found.old }
-    requires first { (was : ℕ → Bool) × (p : ℕ) × (old : Cells) × (marked : ℕ → Bool)
-        × IsRowBefore g.now outward was removed.now p old × IsMarkingOf g.now outward removed.now p old row.old marked found.old first 0 }
-    ensures marking { (was : ℕ → Bool) (p : ℕ) (old : Cells) (marked : ℕ → Bool)
-        → IsRowBefore g.now outward was removed.now p old → IsMarkingOf g.now outward removed.now p old row.old marked found.old first 0
-        → (marks : ℕ → Bool) × IsMarkingOf g.now outward removed.now p old row.new marks found.new result result × ((k : ℕ) → marked k ≡ true → marks k ≡ true) }
+    requires cells { nodes search.now ≤ length row.old }
+    requires found { nodes search.now ≤ length found.old }
+    requires first { (removed : List Removed) × (was : ℕ → Bool) × (p : ℕ) × (old : Cells) × (marked : ℕ → Bool)
+        × IsRowBefore search.now.graph search.now.side was removed p old × IsMarkingOf search.now.graph search.now.side removed p old row.old marked found.old first 0 }
+    ensures marking { (removed : List Removed) (was : ℕ → Bool) (p : ℕ) (old : Cells) (marked : ℕ → Bool)
+        → IsRowBefore search.now.graph search.now.side was removed p old → IsMarkingOf search.now.graph search.now.side removed p old row.old marked found.old first 0
+        → (marks : ℕ → Bool) × IsMarkingOf search.now.graph search.now.side removed p old row.new marks found.new result result × ((k : ℕ) → marked k ≡ true → marks k ≡ true) }
     ensures blank { AreBlank row.old → AreBlank row.new }
-    ensures cells { length row.new ≡ length row.old }
-    ensures found { length found.new ≡ length found.old }
-    ensures steps { steps.new ≤ steps.old + sum_to result (λ i. onward outward g.now (found_at found.new i) + 1) }
+    ensures steps { steps.new ≤ steps.old + sum_to result (λ i. onward search.now.side search.now.graph (found_at found.new i) + 1) }
 {
-    g.exact();
+    search.exact();
     let mut count = first;
     let mut done = 0;
     while done < count {
         let node = found[done as usize];
-        count = clear_children(g, outward, removed, node, row, found, count, steps);
+        count = clear_children(search, node, row, found, count, steps);
         done += 1;
     }
     count

@@ -1,20 +1,19 @@
 // Nodes that are kept from now on.
-ghost use Rattle.std.specs.Prelude.{◌≡◌, ◌<◌, ◌≤◌, true, length};
-ghost use Rattle.frontier.specs.Keys.{IsEmpty};
+ghost use Rattle.std.specs.Prelude.{◌≡◌, ◌<◌, ◌≤◌, IfSome};
 ghost use Rattle.sync_graph.specs.Graph.{table_of};
-ghost use Rattle.earliest.specs.Values.{IsEarliestOf};
 ghost use Rattle.row_pool.specs.Pool.{free_rows};
+ghost use Rattle.distances.specs.Searched.{nodes};
 ghost use Rattle.repair.specs.Slots.{IsRowsOf};
 ghost use Rattle.repair.specs.Keeping.{TakesRows};
+ghost use Rattle.repair.specs.Renewals.{CanRenew};
 
 use crate::renew::make_rows;
 use crate::slot::Slot;
 use atto::Steps;
-use earliest::Earliest;
-use frontier::Frontier;
+use distances::Search;
+use frontier::IdleQueue;
 use row_pool::RowPool;
 use std::sync::ledger::Ledger;
-use sync_graph::Graph;
 
 /// Why a node gets no slot.
 #[derive(Clone, Copy, Debug, PartialEq, Eq, thiserror::Error)]
@@ -43,30 +42,25 @@ fn take_rows(node: u32, pool: &mut RowPool) -> Slot
     Slot { node, from, to }
 }
 
-/// Takes two free rows for a node, and makes them where an execution exists.
+/// Takes two free rows for a node, and makes them where there is a search, of an execution that exists.
 pub fn new_slot<L: Ledger>(
-    g: &Graph,
-    e: &Earliest,
+    search: &Option<Search>,
     node: u32,
     pool: &mut RowPool,
-    front: &mut Frontier,
+    queue: &mut IdleQueue,
     steps: &mut Steps<L>,
 ) -> Slot
     requires free { 2 ≤ free_rows pool.old }
-    requires node { node < length g.now.nodes }
-    requires earliest { e.now.is_solved ≡ true → IsEarliestOf g.now e.now.values }
-    requires wide { length g.now.nodes ≤ pool.old.width }
-    requires empty { IsEmpty front.old }
-    requires room { length g.now.nodes ≤ length front.old }
+    requires node { IfSome search.now (λ s. node < nodes s) }
+    requires can { IfSome search.now (λ s. CanRenew s pool.old queue.old) }
     ensures node { result.node ≡ node }
     ensures takes { TakesRows pool.old pool.new result }
-    ensures rows { e.now.is_solved ≡ true → IsRowsOf (length g.now.nodes) (table_of g.now) pool.new result }
-    ensures empty { IsEmpty front.new }
-    ensures room { length front.new ≡ length front.old }
+    ensures rows { IfSome search.now (λ s. IsRowsOf (nodes s) (table_of s.graph) pool.new result) }
+    ensures queue { queue.new ≡ queue.old }
 {
     let slot = take_rows(node, pool);
-    if e.solved() {
-        make_rows(&slot, g, e, pool, front, steps);
+    if let Some(search) = search {
+        make_rows(search, &slot, pool, queue, steps);
     }
     slot
 }

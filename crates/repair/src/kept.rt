@@ -1,33 +1,33 @@
 // The rows that are kept.
-ghost use Rattle.std.specs.Prelude.{◌≡◌, ◌+◌, ◌<◌, ◌≤◌, ℤ, List, length, max, true, false, Some, None, slice_index_or, MatchOption, OnOk, OnErr, IfOk, IfErr};
-ghost use Rattle.problem_model.specs.Nodes.{most_nodes};
+ghost use Rattle.std.specs.Prelude.{◌≡◌, ◌+◌, ◌<◌, ◌≤◌, ℤ, List, length, max, true, false, Some, None, MatchOption, OnOk, OnErr, IfOk, IfErr, IfSome};
 ghost use Rattle.problem_model.specs.Executions.{IsExecution};
+ghost use Rattle.problem_model.specs.Limits.{most_nodes};
 ghost use Rattle.sync_graph.specs.Graph.{GraphLists, IsGraph};
 ghost use Rattle.sync_graph.specs.InForce.{arcs_of};
 ghost use Rattle.repair.specs.declared.slot.Slot as slots;
-ghost use Rattle.frontier.specs.Keys.{IsEmpty};
-ghost use Rattle.earliest.specs.Values.{IsEarliestOf};
 ghost use Rattle.row_pool.specs.Pool.{free_rows};
+ghost use Rattle.distances.specs.Searched.{nodes, table};
 ghost use Rattle.repair.specs.Slots.{nothing_kept, with_presence, with_room, slot_of, all_slots, AreNodes, AreOwnRows, AreRowsOf, AreRowsBut, ChangesRowsOf};
-ghost use Rattle.repair.specs.Keeping.{TakesRows, with_slot, with_source, IsPlaceOf, IsRefused};
-ghost use Rattle.repair.specs.Renewals.{TakesFewSteps};
+ghost use Rattle.repair.specs.Keeping.{TakesRows, with_slot, with_source, IsSlotNumber, IsKeepRefused};
+ghost use Rattle.repair.specs.Renewals.{CanRenew, TakesFewSteps};
 ghost use Rattle.repair.specs.Withdrawals.{WereRows, TakesFewToWithdraw};
 ghost use Rattle.repair.specs.Pairs.{IsPairIn};
 
 use crate::keep::{KeepError, new_slot};
 use crate::look::look_in;
-use crate::renew::{make_all, make_source, repair_all, repair_source};
+use crate::renew::{make_all, repair_all};
 use crate::slot::{Slot, find_slot, place_of};
-use crate::withdrawal::{withdraw_all, withdraw_source};
+use crate::withdraw::Withdrawal;
+use crate::withdrawal::withdraw_all;
 use arrayvec::ArrayVec;
 use atto::Steps;
-use earliest::Earliest;
-use frontier::Frontier;
+use distances::Search;
+use frontier::IdleQueue;
 use row_pool::{Pair, RowId, RowPool};
 use std::alloc::{AllocError, Global};
 use std::marker::Model;
+use std::slice::from_ref;
 use std::sync::ledger::Ledger;
-use sync_graph::{Arc, Graph};
 
 /// Up to eight nodes of events and the node of the source's clock, each with two rows of a pool. It is seen as these slots,
 /// with whether their rows are those of the graph, and with the room for the nodes of a graph.
@@ -140,7 +140,7 @@ impl Kept {
 
     /// The number of a node's slot, from 1. It is `None` where the node has no slot, and only there.
     pub fn place_of(&self, p: u32) -> Option<u32>
-        ensures { MatchOption result (slot_of self.now p ≡ None) (λ place. IsPlaceOf self.now p place) }
+        ensures { MatchOption result (slot_of self.now p ≡ None) (λ place. IsSlotNumber self.now p place) }
     {
         match place_of(&self.slots, p) {
             None => None,
@@ -148,35 +148,29 @@ impl Kept {
         }
     }
 
-    /// Gives a node of the graph a slot with two free rows of the pool, and makes these where an execution exists. The
-    /// rows are present exactly where one does. Answers the number of the slot, from 1. It takes no memory. An error leaves
-    /// all as it was: the node has a slot already, or else there are eight.
+    /// Gives a node of the graph a slot with two free rows of the pool, and makes these where there is a search, of an
+    /// execution that exists. Answers the number of the slot, from 1. It takes no memory. An error leaves all as it was: the
+    /// node has a slot already, or else there are eight.
     pub fn keep<L: Ledger>(
         &mut self,
-        g: &Graph,
-        e: &Earliest,
+        search: &Option<Search>,
         p: u32,
         pool: &mut RowPool,
-        front: &mut Frontier,
+        queue: &mut IdleQueue,
         steps: &mut Steps<L>,
     ) -> Result<u32, KeepError>
         requires own { AreOwnRows self.old pool.old }
         requires free { 2 ≤ free_rows pool.old }
-        requires node { p < length g.now.nodes }
-        requires present { self.old.present ≡ e.now.is_solved }
-        requires earliest { e.now.is_solved ≡ true → IsEarliestOf g.now e.now.values }
-        requires rows { e.now.is_solved ≡ true → AreRowsOf g.now self.old pool.old }
-        requires wide { length g.now.nodes ≤ pool.old.width }
-        requires empty { IsEmpty front.old }
-        requires room { length g.now.nodes ≤ length front.old }
+        requires node { IfSome search.now (λ s. p < nodes s) }
+        requires rows { IfSome search.now (λ s. AreRowsOf s.graph self.old pool.old) }
+        requires can { IfSome search.now (λ s. CanRenew s pool.old queue.old) }
         ensures slot { IfOk result (λ place. (slot_of self.old p ≡ None) × (length self.old.slots < 8) × (place ≡ length self.old.slots + 1)) }
         ensures takes { OnOk result ((slot : slots.Slot) × (slot.node ≡ p) × (self.new ≡ with_slot self.old slot) × TakesRows pool.old pool.new slot) }
         ensures own { AreOwnRows self.new pool.new }
-        ensures rows { e.now.is_solved ≡ true → AreRowsOf g.now self.new pool.new }
-        ensures refused { IfErr result (IsRefused self.old p) }
+        ensures rows { IfSome search.now (λ s. AreRowsOf s.graph self.new pool.new) }
+        ensures refused { IfErr result (IsKeepRefused self.old p) }
         ensures err { OnErr result ((self.new ≡ self.old) × (pool.new ≡ pool.old)) }
-        ensures empty { IsEmpty front.new }
-        ensures front { length front.new ≡ length front.old }
+        ensures queue { queue.new ≡ queue.old }
     {
         if let Some(place) = place_of(&self.slots, p) {
             return Err(KeepError::Already(place));
@@ -184,7 +178,7 @@ impl Kept {
         if self.slots.is_full() {
             return Err(KeepError::Full);
         }
-        let slot = new_slot(g, e, p, pool, front, steps);
+        let slot = new_slot(search, p, pool, queue, steps);
         self.slots.push(Some(slot));
         Ok(self.slots.len() as u32)
     }
@@ -193,147 +187,111 @@ impl Kept {
     /// memory.
     pub fn keep_source<L: Ledger>(
         &mut self,
-        g: &Graph,
-        e: &Earliest,
+        search: &Option<Search>,
         node: u32,
         pool: &mut RowPool,
-        front: &mut Frontier,
+        queue: &mut IdleQueue,
         steps: &mut Steps<L>,
     )
         requires none { self.old.source ≡ None }
         requires own { AreOwnRows self.old pool.old }
         requires free { 2 ≤ free_rows pool.old }
-        requires node { node < length g.now.nodes }
-        requires present { self.old.present ≡ e.now.is_solved }
-        requires earliest { e.now.is_solved ≡ true → IsEarliestOf g.now e.now.values }
-        requires rows { e.now.is_solved ≡ true → AreRowsOf g.now self.old pool.old }
-        requires wide { length g.now.nodes ≤ pool.old.width }
-        requires empty { IsEmpty front.old }
-        requires room { length g.now.nodes ≤ length front.old }
+        requires node { IfSome search.now (λ s. node < nodes s) }
+        requires rows { IfSome search.now (λ s. AreRowsOf s.graph self.old pool.old) }
+        requires can { IfSome search.now (λ s. CanRenew s pool.old queue.old) }
         ensures takes { (slot : slots.Slot) × (slot.node ≡ node) × (self.new ≡ with_source self.old slot) × TakesRows pool.old pool.new slot }
         ensures own { AreOwnRows self.new pool.new }
-        ensures rows { e.now.is_solved ≡ true → AreRowsOf g.now self.new pool.new }
-        ensures empty { IsEmpty front.new }
-        ensures front { length front.new ≡ length front.old }
+        ensures rows { IfSome search.now (λ s. AreRowsOf s.graph self.new pool.new) }
+        ensures queue { queue.new ≡ queue.old }
     {
-        let slot = new_slot(g, e, node, pool, front, steps);
+        let slot = new_slot(search, node, pool, queue, steps);
         self.source = Some(slot);
     }
 
-    /// Makes the rows of all slots anew, which are then present. It takes no memory.
+    /// Makes the rows of all slots anew by a search from nodes, and they are then present. It takes no memory.
     pub fn refresh<L: Ledger>(
         &mut self,
-        g: &Graph,
-        e: &Earliest,
+        search: &Search,
         pool: &mut RowPool,
-        front: &mut Frontier,
+        queue: &mut IdleQueue,
         steps: &mut Steps<L>,
     )
         requires own { AreOwnRows self.old pool.old }
-        requires nodes { AreNodes g.now self.old }
-        requires solved { e.now.is_solved ≡ true }
-        requires earliest { IsEarliestOf g.now e.now.values }
-        requires wide { length g.now.nodes ≤ pool.old.width }
-        requires empty { IsEmpty front.old }
-        requires room { length g.now.nodes ≤ length front.old }
+        requires nodes { AreNodes search.now.graph self.old }
+        requires can { CanRenew search.now pool.old queue.old }
         ensures slots { self.new ≡ with_presence self.old true }
         ensures own { AreOwnRows self.new pool.new }
-        ensures rows { AreRowsOf g.now self.new pool.new }
+        ensures rows { AreRowsOf search.now.graph self.new pool.new }
         ensures others { ChangesRowsOf (all_slots self.old) pool.old pool.new }
-        ensures empty { IsEmpty front.new }
-        ensures front { length front.new ≡ length front.old }
+        ensures queue { queue.new ≡ queue.old }
     {
-        make_source(&self.source, g, e, pool, front, steps);
-        make_all(&self.slots, g, e, pool, front, steps);
+        make_all(search, from_ref(&self.source), pool, queue, steps);
+        make_all(search, &self.slots, pool, queue, steps);
         self.present = true;
     }
 
-    /// Repairs the rows of all slots after an arc in force was brought in: they were those of the graph without it, and are
-    /// those of the graph now. `e` is the earliest execution of the graph. It takes no memory, and few steps: for each row
-    /// two, and for each node whose cell gets another value or becomes known two and one for each arc in force that leaves
-    /// the node, or that arrives at it in a row towards the slot's node.
+    /// Repairs the rows of all slots after an arc in force was brought in, by a search from nodes: they were those of the
+    /// graph without it, and are those of the graph now. It takes no memory, and few steps: for each row two, and for each
+    /// node whose cell gets another value or becomes known two and one for each arc in force that leaves the node, or that
+    /// arrives at it in a row towards the slot's node.
     pub fn after_insert<L: Ledger>(
         &mut self,
-        g: &Graph,
-        e: &Earliest,
+        search: &Search,
         arc: u32,
         pool: &mut RowPool,
-        front: &mut Frontier,
+        queue: &mut IdleQueue,
         steps: &mut Steps<L>,
     )
         requires own { AreOwnRows self.old pool.old }
-        requires before { AreRowsBut g.now arc self.old pool.old }
-        requires in_force { slice_index_or g.now.in_force arc false ≡ true }
-        requires solved { e.now.is_solved ≡ true }
-        requires earliest { IsEarliestOf g.now e.now.values }
-        requires wide { length g.now.nodes ≤ pool.old.width }
-        requires empty { IsEmpty front.old }
-        requires room { length g.now.nodes ≤ length front.old }
+        requires before { AreRowsBut search.now.graph arc self.old pool.old }
+        requires in_force { (table search.now).in_force arc ≡ true }
+        requires can { CanRenew search.now pool.old queue.old }
         ensures slots { self.new ≡ with_presence self.old true }
         ensures own { AreOwnRows self.new pool.new }
-        ensures rows { AreRowsOf g.now self.new pool.new }
+        ensures rows { AreRowsOf search.now.graph self.new pool.new }
         ensures others { ChangesRowsOf (all_slots self.old) pool.old pool.new }
-        ensures few { TakesFewSteps g.now (all_slots self.old) pool.old pool.new steps.old steps.new }
-        ensures empty { IsEmpty front.new }
-        ensures front { length front.new ≡ length front.old }
+        ensures few { TakesFewSteps search.now.graph (all_slots self.old) pool.old pool.new steps.old steps.new }
+        ensures queue { queue.new ≡ queue.old }
     {
-        repair_source(&self.source, g, e, arc, pool, front, steps);
-        repair_all(&self.slots, g, e, arc, pool, front, steps);
+        repair_all(search, arc, from_ref(&self.source), pool, queue, steps);
+        repair_all(search, arc, &self.slots, pool, queue, steps);
         self.present = true;
     }
 
-    /// Repairs the rows of all slots once arcs were withdrawn: they were those of the graph before, and are those of the
-    /// graph now. `removed` are these arcs, or more; `e` is the earliest execution of the graph. It takes no memory, since
-    /// room was reserved for all nodes, and nothing is laid out or cleared for a node that is not affected.
+    /// Repairs the rows of all slots once arcs were withdrawn, by a search from nodes: they were those of the graph before,
+    /// and are those of the graph now. It takes no memory, since room was reserved for all nodes, and nothing is laid out or
+    /// cleared for a node that is not affected.
     ///
     /// A node is affected in a row where its path by parents had an arc that equals one of those removed. There are few
     /// steps: for each row two, and for each node that is affected in it five and two for each arc in force that reaches or
     /// leaves it.
     pub fn after_withdraw<L: Ledger>(
         &mut self,
-        g: &Graph,
-        e: &Earliest,
-        removed: &[Arc],
+        withdrawal: &Withdrawal,
         pool: &mut RowPool,
-        front: &mut Frontier,
+        queue: &mut IdleQueue,
         steps: &mut Steps<L>,
     )
         requires own { AreOwnRows self.old pool.old }
-        requires before { WereRows g.now removed.now pool.old (all_slots self.old) }
-        requires solved { e.now.is_solved ≡ true }
-        requires earliest { IsEarliestOf g.now e.now.values }
-        requires wide { length g.now.nodes ≤ pool.old.width }
-        requires found { length g.now.nodes ≤ self.old.room }
-        requires empty { IsEmpty front.old }
-        requires room { length g.now.nodes ≤ length front.old }
+        requires before { WereRows withdrawal.now.search.graph withdrawal.now.removed.now pool.old (all_slots self.old) }
+        requires can { CanRenew withdrawal.now.search pool.old queue.old }
+        requires found { nodes withdrawal.now.search ≤ self.old.room }
         ensures slots { self.new ≡ with_presence self.old true }
         ensures own { AreOwnRows self.new pool.new }
-        ensures rows { AreRowsOf g.now self.new pool.new }
+        ensures rows { AreRowsOf withdrawal.now.search.graph self.new pool.new }
         ensures others { ChangesRowsOf (all_slots self.old) pool.old pool.new }
-        ensures few { TakesFewToWithdraw g.now removed.now (all_slots self.old) pool.old steps.old steps.new }
-        ensures empty { IsEmpty front.new }
-        ensures front { length front.new ≡ length front.old }
+        ensures few { TakesFewToWithdraw withdrawal.now.search.graph withdrawal.now.removed.now (all_slots self.old) pool.old steps.old steps.new }
+        ensures queue { queue.new ≡ queue.old }
     {
-        withdraw_source(
-            &self.source,
-            g,
-            e,
-            removed,
-            pool,
-            &mut self.found,
-            front,
-            steps,
-        );
         withdraw_all(
-            &self.slots,
-            g,
-            e,
-            removed,
+            withdrawal,
+            from_ref(&self.source),
             pool,
             &mut self.found,
-            front,
+            queue,
             steps,
         );
+        withdraw_all(withdrawal, &self.slots, pool, &mut self.found, queue, steps);
         self.present = true;
     }
 }

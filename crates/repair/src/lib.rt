@@ -25,4 +25,4 @@ pub use keep::{KeepError, new_slot};
 pub use kept::Kept;
 pub use laws::{rows_in_a_grown_pool, rows_of_a_grown_graph};
 pub use slot::Slot;
-pub use withdraw::{withdraw_from, withdraw_to};
+pub use withdraw::{Withdrawal, withdraw_row};

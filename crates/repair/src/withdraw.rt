@@ -1,125 +1,86 @@
 // Rows that are repaired once arcs are withdrawn.
 ghost use Rattle.std.specs.Prelude.{◌≡◌, ℕ, ◌+◌, ◌*◌, ◌≤◌, Bool, true, length};
 ghost use Rattle.problem_model.specs.Parents.{IsRow};
-ghost use Rattle.problem_model.specs.Tables.{reversed_table};
 ghost use Rattle.withdrawals.specs.Withdrawals.{flagged_sum};
-ghost use Rattle.frontier.specs.Keys.{IsEmpty};
-ghost use Rattle.sync_graph.specs.Graph.{GraphLists, table_of, reaching, departing};
-ghost use Rattle.earliest.specs.Values.{IsEarliestOf};
+ghost use Rattle.sync_graph.specs.Graph.{GraphLists, reaching, departing};
 ghost use Rattle.withdrawals.specs.Regrowths.{IsAffectedIn};
 ghost use Rattle.row_pool.specs.Row.{cells_of};
-ghost use Rattle.distances.specs.Facing.{facing};
+ghost use Rattle.earliest.specs.Values.{IsEarliestOf};
+ghost use Rattle.distances.specs.declared.side.Side.TheVariants.{From};
+ghost use Rattle.distances.specs.Facing.{opposite, facing};
+ghost use Rattle.distances.specs.Searched.{nodes, table};
 ghost use Rattle.distances.specs.Changes.{AreBlank};
-ghost use Rattle.repair.specs.RowWithdrawals.{AreWithdrawn, IsRemoved, IsAffectedFrom, IsAffectedTo};
-ghost use Rattle.repair.specs.Clearings.{IsRowBefore};
+ghost use Rattle.repair.specs.RowWithdrawals.{AreWithdrawn, IsRemoved};
 
 use crate::affected::{clear_all, clear_heads};
-use crate::regrow::regrow;
+use crate::regrow::{Found, regrow};
 use atto::Steps;
+use distances::{Search, Side};
 use earliest::Earliest;
-use frontier::Frontier;
+use frontier::IdleQueue;
 use row_pool::Cell;
 use std::sync::ledger::Ledger;
 use sync_graph::{Arc, Graph};
 
-/// Makes the row from node `p` of a graph that of the graph once arcs were withdrawn. `removed` are these arcs, or more; `e`
-/// is the earliest execution of the graph as it is now. `found` is a list to work in, with a place for each node; `front`
-/// has room for all nodes, and is empty before and after. It takes no memory.
+/// A search of a graph from which arcs were withdrawn, and these arcs, or more.
+#[derive(Drop)]
+pub struct Withdrawal<'a> {
+    pub search: Search<'a>,
+    pub removed: &'a [Arc],
+}
+
+impl<'a> Withdrawal<'a> {
+    /// A search from nodes of a graph whose earliest execution is known, and these arcs.
+    pub fn new(graph: &'a Graph, earliest: &'a Earliest, removed: &'a [Arc]) -> Withdrawal<'a>
+        requires solved { earliest.now.is_solved ≡ true }
+        requires earliest { IsEarliestOf graph.now earliest.now.values }
+        ensures search { result.search ≡ record { graph = graph.now; values = earliest.now.values; side = From } }
+        ensures removed { result.removed.now ≡ removed.now }
+    {
+        let search = Search::new(graph, earliest, Side::From);
+        Withdrawal { search, removed }
+    }
+
+    /// The same for rows the other way round.
+    pub fn turned(&self) -> Withdrawal<'a>
+        ensures search { result.search ≡ record { graph = self.now.search.graph; values = self.now.search.values; side = opposite self.now.search.side } }
+        ensures removed { result.removed.now ≡ self.now.removed.now }
+    {
+        Withdrawal {
+            search: self.search.turned(),
+            removed: self.removed,
+        }
+    }
+}
+
+/// Makes the row of node `p` of a graph that of the graph once arcs were withdrawn. `found` is a list to work in, with a
+/// place for each node. It takes no memory.
 ///
 /// A node is affected where its path by parents had an arc that equals one of those removed. There are at most two steps
 /// and, for each affected node, five and two for each arc in force that reaches or leaves it.
-pub fn withdraw_from<L: Ledger>(
-    g: &Graph,
-    e: &Earliest,
-    removed: &[Arc],
+pub fn withdraw_row<L: Ledger>(
+    withdrawal: &Withdrawal,
     p: u32,
     row: &mut [Cell],
     found: &mut [u32],
-    front: &mut Frontier,
+    queue: &mut IdleQueue,
     steps: &mut Steps<L>,
 )
-    requires solved { e.now.is_solved ≡ true }
-    requires earliest { IsEarliestOf g.now e.now.values }
-    requires before { (before : GraphLists) × AreWithdrawn before removed.now g.now × IsRow (length before.nodes) (table_of before) p (cells_of row.old) }
+    requires before { (before : GraphLists) × AreWithdrawn before withdrawal.now.removed.now withdrawal.now.search.graph × IsRow (length before.nodes) (facing withdrawal.now.search.side before) p (cells_of row.old) }
     requires blank { AreBlank row.old }
-    requires cells { length g.now.nodes ≤ length row.old }
-    requires found { length g.now.nodes ≤ length found.old }
-    requires empty { IsEmpty front.old }
-    requires room { length g.now.nodes ≤ length front.old }
-    ensures row { IsRow (length g.now.nodes) (table_of g.now) p (cells_of row.new) }
+    requires cells { nodes withdrawal.now.search ≤ length row.old }
+    requires found { nodes withdrawal.now.search ≤ length found.old }
+    requires room { nodes withdrawal.now.search ≤ queue.old }
+    ensures row { IsRow (nodes withdrawal.now.search) (table withdrawal.now.search) p (cells_of row.new) }
     ensures blank { AreBlank row.new }
-    ensures cells { length row.new ≡ length row.old }
-    ensures found { length found.new ≡ length found.old }
-    ensures empty { IsEmpty front.new }
-    ensures room { length front.new ≡ length front.old }
-    ensures steps { (affected : ℕ → Bool) → ((k : ℕ) → IsAffectedFrom g.now removed.now p row.old k → affected k ≡ true)
-        → steps.new ≤ steps.old + flagged_sum (length g.now.nodes) (λ k. 2 * (reaching g.now k + departing g.now k) + 5) affected + 2 }
+    ensures queue { queue.new ≡ queue.old }
+    ensures steps { (affected : ℕ → Bool) → ((k : ℕ) → IsAffectedIn (table withdrawal.now.search) (IsRemoved withdrawal.now.search.graph withdrawal.now.removed.now) p (cells_of row.old) k → affected k ≡ true)
+        → steps.new ≤ steps.old + flagged_sum (nodes withdrawal.now.search) (λ k. 2 * (reaching withdrawal.now.search.graph k + departing withdrawal.now.search.graph k) + 5) affected + 2 }
 {
-    withdraw_row(g, e, true, removed, p, row, found, front, steps);
-}
-
-/// Makes the row towards node `p` of a graph that of the graph once arcs were withdrawn. All is as for `withdraw_from`.
-pub fn withdraw_to<L: Ledger>(
-    g: &Graph,
-    e: &Earliest,
-    removed: &[Arc],
-    p: u32,
-    row: &mut [Cell],
-    found: &mut [u32],
-    front: &mut Frontier,
-    steps: &mut Steps<L>,
-)
-    requires solved { e.now.is_solved ≡ true }
-    requires earliest { IsEarliestOf g.now e.now.values }
-    requires before { (before : GraphLists) × AreWithdrawn before removed.now g.now × IsRow (length before.nodes) (reversed_table (table_of before)) p (cells_of row.old) }
-    requires blank { AreBlank row.old }
-    requires cells { length g.now.nodes ≤ length row.old }
-    requires found { length g.now.nodes ≤ length found.old }
-    requires empty { IsEmpty front.old }
-    requires room { length g.now.nodes ≤ length front.old }
-    ensures row { IsRow (length g.now.nodes) (reversed_table (table_of g.now)) p (cells_of row.new) }
-    ensures blank { AreBlank row.new }
-    ensures cells { length row.new ≡ length row.old }
-    ensures found { length found.new ≡ length found.old }
-    ensures empty { IsEmpty front.new }
-    ensures room { length front.new ≡ length front.old }
-    ensures steps { (affected : ℕ → Bool) → ((k : ℕ) → IsAffectedTo g.now removed.now p row.old k → affected k ≡ true)
-        → steps.new ≤ steps.old + flagged_sum (length g.now.nodes) (λ k. 2 * (reaching g.now k + departing g.now k) + 5) affected + 2 }
-{
-    withdraw_row(g, e, false, removed, p, row, found, front, steps);
-}
-
-// The repair over arcs that are followed outward, or else back.
-fn withdraw_row<L: Ledger>(
-    g: &Graph,
-    e: &Earliest,
-    outward: bool,
-    removed: &[Arc],
-    p: u32,
-    row: &mut [Cell],
-    found: &mut [u32],
-    front: &mut Frontier,
-    steps: &mut Steps<L>,
-)
-    requires solved { e.now.is_solved ≡ true }
-    requires earliest { IsEarliestOf g.now e.now.values }
-    requires before { (was : ℕ → Bool) × IsRowBefore g.now outward was removed.now p (cells_of row.old) }
-    requires blank { AreBlank row.old }
-    requires cells { length g.now.nodes ≤ length row.old }
-    requires found { length g.now.nodes ≤ length found.old }
-    requires empty { IsEmpty front.old }
-    requires room { length g.now.nodes ≤ length front.old }
-    ensures row { IsRow (length g.now.nodes) (facing outward g.now) p (cells_of row.new) }
-    ensures blank { AreBlank row.new }
-    ensures cells { length row.new ≡ length row.old }
-    ensures found { length found.new ≡ length found.old }
-    ensures empty { IsEmpty front.new }
-    ensures room { length front.new ≡ length front.old }
-    ensures steps { (affected : ℕ → Bool) → ((k : ℕ) → IsAffectedIn (facing outward g.now) (IsRemoved g.now removed.now) p (cells_of row.old) k → affected k ≡ true)
-        → steps.new ≤ steps.old + flagged_sum (length g.now.nodes) (λ k. 2 * (reaching g.now k + departing g.now k) + 5) affected + 2 }
-{
-    g.exact();
-    let first = clear_heads(g, outward, removed, row, found);
-    let count = clear_all(g, outward, removed, row, found, first, steps);
-    regrow(g, e, outward, p, found, count, row, front, steps);
+    let search = &withdrawal.search;
+    search.exact();
+    let first = clear_heads(search, withdrawal.removed, row, found);
+    let count = clear_all(search, row, found, first, steps);
+    let found = Found { list: found, count };
+    regrow(search, p, &found, row, queue, steps);
 }

@@ -1,125 +1,63 @@
 // Rows that are repaired once arcs are withdrawn.
-ghost use Rattle.std.specs.Prelude.{◌≡◌, ◌≤◌, ◌∷◌, [], true, length};
-ghost use Rattle.frontier.specs.Keys.{IsEmpty};
+ghost use Rattle.std.specs.Prelude.{◌≡◌, ◌≤◌, ◌∷◌, [], length};
 ghost use Rattle.sync_graph.specs.Graph.{table_of};
-ghost use Rattle.earliest.specs.Values.{IsEarliestOf};
-ghost use Rattle.repair.specs.Slots.{slots_in, behind, HasRows, AreOwn, IsRowsOf, ChangesRowsOf};
-ghost use Rattle.repair.specs.Withdrawals.{WereRows, Withdraws, TakesFewToWithdraw};
+ghost use Rattle.distances.specs.Searched.{nodes};
+ghost use Rattle.repair.specs.Slots.{slots_in, HasRows, AreOwn, IsRowsOf, ChangesRowsOf};
+ghost use Rattle.repair.specs.Renewals.{CanRenew};
+ghost use Rattle.repair.specs.Withdrawals.{WereRows, WithdrawsRows, TakesFewToWithdraw};
 
 use crate::slot::Slot;
-use crate::{withdraw_from, withdraw_to};
+use crate::withdraw::{Withdrawal, withdraw_row};
 use atto::Steps;
-use earliest::Earliest;
-use frontier::Frontier;
+use frontier::IdleQueue;
 use row_pool::RowPool;
 use std::sync::ledger::Ledger;
-use sync_graph::{Arc, Graph};
 
 // Repairs both rows of a slot.
 fn withdraw_rows<L: Ledger>(
+    withdrawal: &Withdrawal,
     slot: &Slot,
-    g: &Graph,
-    e: &Earliest,
-    removed: &[Arc],
     pool: &mut RowPool,
     found: &mut [u32],
-    front: &mut Frontier,
+    queue: &mut IdleQueue,
     steps: &mut Steps<L>,
 )
     requires has { HasRows pool.old slot.now }
-    requires before { WereRows g.now removed.now pool.old (slot.now ∷ []) }
-    requires solved { e.now.is_solved ≡ true }
-    requires earliest { IsEarliestOf g.now e.now.values }
-    requires wide { length g.now.nodes ≤ pool.old.width }
-    requires found { length g.now.nodes ≤ length found.old }
-    requires empty { IsEmpty front.old }
-    requires room { length g.now.nodes ≤ length front.old }
-    ensures rows { IsRowsOf (length g.now.nodes) (table_of g.now) pool.new slot.now }
+    requires before { WereRows withdrawal.now.search.graph withdrawal.now.removed.now pool.old (slot.now ∷ []) }
+    requires can { CanRenew withdrawal.now.search pool.old queue.old }
+    requires found { nodes withdrawal.now.search ≤ length found.old }
+    ensures rows { IsRowsOf (nodes withdrawal.now.search) (table_of withdrawal.now.search.graph) pool.new slot.now }
     ensures changes { ChangesRowsOf (slot.now ∷ []) pool.old pool.new }
-    ensures few { TakesFewToWithdraw g.now removed.now (slot.now ∷ []) pool.old steps.old steps.new }
-    ensures found { length found.new ≡ length found.old }
-    ensures empty { IsEmpty front.new }
-    ensures room { length front.new ≡ length front.old }
+    ensures few { TakesFewToWithdraw withdrawal.now.search.graph withdrawal.now.removed.now (slot.now ∷ []) pool.old steps.old steps.new }
+    ensures queue { queue.new ≡ queue.old }
 {
     let _width = pool.width();
-    withdraw_from(
-        g,
-        e,
-        removed,
-        slot.node,
-        pool.row_mut(&slot.from),
-        found,
-        front,
-        steps,
-    );
-    withdraw_to(
-        g,
-        e,
-        removed,
-        slot.node,
-        pool.row_mut(&slot.to),
-        found,
-        front,
-        steps,
-    );
-}
-
-/// Repairs the rows of the source's slot, if there is one.
-pub fn withdraw_source<L: Ledger>(
-    source: &Option<Slot>,
-    g: &Graph,
-    e: &Earliest,
-    removed: &[Arc],
-    pool: &mut RowPool,
-    found: &mut [u32],
-    front: &mut Frontier,
-    steps: &mut Steps<L>,
-)
-    requires own { AreOwn pool.old (behind source.now []) }
-    requires before { WereRows g.now removed.now pool.old (behind source.now []) }
-    requires solved { e.now.is_solved ≡ true }
-    requires earliest { IsEarliestOf g.now e.now.values }
-    requires wide { length g.now.nodes ≤ pool.old.width }
-    requires found { length g.now.nodes ≤ length found.old }
-    requires empty { IsEmpty front.old }
-    requires room { length g.now.nodes ≤ length front.old }
-    ensures withdraws { Withdraws g.now removed.now (behind source.now []) pool.old pool.new steps.old steps.new }
-    ensures found { length found.new ≡ length found.old }
-    ensures empty { IsEmpty front.new }
-    ensures room { length front.new ≡ length front.old }
-{
-    if let Some(slot) = source {
-        withdraw_rows(slot, g, e, removed, pool, found, front, steps);
-    }
+    let back = withdrawal.turned();
+    let from = pool.row_mut(&slot.from);
+    withdraw_row(withdrawal, slot.node, from, found, queue, steps);
+    let to = pool.row_mut(&slot.to);
+    withdraw_row(&back, slot.node, to, found, queue, steps);
 }
 
 /// Repairs the rows of these slots.
 pub fn withdraw_all<L: Ledger>(
+    withdrawal: &Withdrawal,
     entries: &[Option<Slot>],
-    g: &Graph,
-    e: &Earliest,
-    removed: &[Arc],
     pool: &mut RowPool,
     found: &mut [u32],
-    front: &mut Frontier,
+    queue: &mut IdleQueue,
     steps: &mut Steps<L>,
 )
     requires own { AreOwn pool.old (slots_in entries.now) }
-    requires before { WereRows g.now removed.now pool.old (slots_in entries.now) }
-    requires solved { e.now.is_solved ≡ true }
-    requires earliest { IsEarliestOf g.now e.now.values }
-    requires wide { length g.now.nodes ≤ pool.old.width }
-    requires found { length g.now.nodes ≤ length found.old }
-    requires empty { IsEmpty front.old }
-    requires room { length g.now.nodes ≤ length front.old }
-    ensures withdraws { Withdraws g.now removed.now (slots_in entries.now) pool.old pool.new steps.old steps.new }
-    ensures found { length found.new ≡ length found.old }
-    ensures empty { IsEmpty front.new }
-    ensures room { length front.new ≡ length front.old }
+    requires before { WereRows withdrawal.now.search.graph withdrawal.now.removed.now pool.old (slots_in entries.now) }
+    requires can { CanRenew withdrawal.now.search pool.old queue.old }
+    requires found { nodes withdrawal.now.search ≤ length found.old }
+    ensures withdraws { WithdrawsRows withdrawal.now.search.graph withdrawal.now.removed.now (slots_in entries.now) pool.old pool.new steps.old steps.new }
+    ensures queue { queue.new ≡ queue.old }
 {
     for entry in entries {
         if let Some(slot) = entry {
-            withdraw_rows(slot, g, e, removed, pool, found, front, steps);
+            withdraw_rows(withdrawal, slot, pool, found, queue, steps);
         }
     }
 }

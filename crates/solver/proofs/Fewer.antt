@@ -41,7 +41,6 @@ module _ (s : SolverLists) (g : GraphLists) (numbers : List ℕ) (set_up : IsSet
     own = set_up.own;
     nodes = subst (λ (n : ℕ). All (λ (slot : Slot). slot.node < n) (all_slots s.kept)) (sym as_many) set_up.nodes;
     room = subst (λ (n : ℕ). HasRoom n without_arcs) (sym as_many) (record { rows = set_up.room.rows; found = set_up.room.found; front = set_up.room.front });
-    idle = set_up.idle;
   }
 
   -- where none of them is a step of the contradiction, it is one still

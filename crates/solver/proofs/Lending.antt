@@ -4,7 +4,7 @@ use Rattle.std.proofs.lemmas.Bool.{cases_eq}
 use Rattle.std.proofs.lemmas.List.Elements.{All-weaker}
 use Rattle.std.proofs.lemmas.List.Sums.{sum_by-cons}
 use Rattle.row_pool.specs.declared.cell.Cell.{Cell}
-use Rattle.row_pool.specs.Pool.{PoolRow, Pool, IsPool, row_at, row_of, IsTaken, IsFree, free_rows, marked, written, with_cells}
+use Rattle.row_pool.specs.Pool.{PoolRow, Pool, IsPool, row_at, row_of, IsTakenRow, IsFree, free_rows, marked, written_pool, with_cells}
 use Rattle.row_pool.proofs.Pools.{written_row, other_cells, below_rows}
 use Rattle.repair.specs.declared.slot.Slot.{Slot}
 use Rattle.repair.specs.Slots.{HasRows, AreOwn, IsRowsOf}
@@ -83,7 +83,7 @@ module _ (pool : Pool) (lawful : IsPool pool) (row : ℕ) (cells : List Cell) (f
   lent = marked pool row true
 
   abbrev filled : Pool
-  filled = written lent row cells
+  filled = written_pool lent row cells
 
   below_lent : row < length lent.rows
   below_lent = subst (λ (n : ℕ). row < n) (sym (length-set pool.rows row (record { taken = true; cells = row_of pool row }))) free.0
@@ -94,7 +94,7 @@ module _ (pool : Pool) (lawful : IsPool pool) (row : ℕ) (cells : List Cell) (f
   is_filled : filled ≡ with_cells lent row cells
   is_filled = written_row lent row cells lawful_lent below_lent wide
 
-  pub taken_filled : IsTaken filled row
+  pub taken_filled : IsTakenRow filled row
   taken_filled =
       ap (λ (x : Pool). (row_at x row).taken) is_filled
       ∙ ap (λ (r : PoolRow). r.taken) (get_or-set_same lent.rows row (record { taken = (row_at lent row).taken; cells = cells }) none below_lent)

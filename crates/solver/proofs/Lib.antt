@@ -2,6 +2,7 @@ pub mod Staying
 mod Longer
 mod Fewer
 mod Lending
+mod Searching
 pub mod Returning
 mod Telling
 mod KeptSlots

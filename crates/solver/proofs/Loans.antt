@@ -1,18 +1,16 @@
 -- Two rows that are lent, and rows that are given back.
 use Rattle.std.proofs.Common.{◌≡◌, ◌≢◌, ◌<◌, ℕ, false, List, [], length, get_or, All, refl, sym, ap, subst, ◌∙◌, arith, length-set}
-use Rattle.std.specs.Prelude.{ℤ, Option}
 use Rattle.std.proofs.lemmas.List.Elements.{All-tail}
 use Rattle.problem_model.specs.Parents.{IsRow}
 use Rattle.problem_model.specs.Tables.{ArcTable, reversed_table}
 use Rattle.sync_graph.specs.Graph.{table_of}
-use Rattle.frontier.specs.Keys.{IsEmpty}
 use Rattle.distances.specs.Changes.{AreBlank}
 use Rattle.row_pool.specs.declared.cell.Cell.{Cell}
 use Rattle.row_pool.specs.Row.{cells_of}
-use Rattle.row_pool.specs.Pool.{PoolRow, Pool, row_of, IsTaken, marked}
+use Rattle.row_pool.specs.Pool.{PoolRow, Pool, row_of, IsTakenRow, marked}
 use Rattle.row_pool.proofs.Pools.{below_rows}
 use Rattle.repair.specs.declared.slot.Slot.{Slot}
-use Rattle.repair.specs.Slots.{all_slots, HasRows, AreApart, AreOwn, IsRowsOf}
+use Rattle.repair.specs.Slots.{all_slots, HasRows, HaveOwnRows, AreOwn, IsRowsOf}
 use Rattle.repair.specs.Keeping.{TakesRows}
 use Rattle.repair.proofs.Slotting.{own_first, rows_first}
 use Rattle.repair.proofs.Taking.{apart_of, marked_other}
@@ -23,28 +21,28 @@ use Rattle.solver.specs.Lending.{IsLent}
 use Rattle.solver.proofs.Staying.{with_rows, current_with_rows, rows_now}
 
 -- ---- lent
-module _ (s : SolverLists) (current : IsCurrent s) (pool : Pool) (front : List (Option ℤ)) (slot : Slot) (takes : TakesRows s.pool pool slot) where
+module _ (s : SolverLists) (current : IsCurrent s) (pool : Pool) (front : ℕ) (slot : Slot) (takes : TakesRows s.pool pool slot) where
   pub lent_is : IsLent (record { from = slot.from; to = slot.to }) (with_rows s pool s.kept front)
   lent_is = record {
     from = takes.has.from;
     to = takes.has.to;
     two = takes.has.two;
     apart_from = λ k d below. (
-        let apart : AreApart (get_or (all_slots s.kept) k d) slot = apart_of s.pool pool slot takes (get_or (all_slots s.kept) k d) (current.set_up.own.taken k d below) in
+        let apart : HaveOwnRows (get_or (all_slots s.kept) k d) slot = apart_of s.pool pool slot takes (get_or (all_slots s.kept) k d) (current.set_up.own.taken k d below) in
         (apart.from_from, apart.to_from));
     apart_to = λ k d below. (
-        let apart : AreApart (get_or (all_slots s.kept) k d) slot = apart_of s.pool pool slot takes (get_or (all_slots s.kept) k d) (current.set_up.own.taken k d below) in
+        let apart : HaveOwnRows (get_or (all_slots s.kept) k d) slot = apart_of s.pool pool slot takes (get_or (all_slots s.kept) k d) (current.set_up.own.taken k d below) in
         (apart.from_to, apart.to_to));
   }
 
-  pub lent_current : IsRowsOf (length s.graph.nodes) (table_of s.graph) pool slot → length front ≡ length s.front → IsEmpty front → IsCurrent (with_rows s pool s.kept front)
-  lent_current made long idle =
+  pub lent_current : IsRowsOf (length s.graph.nodes) (table_of s.graph) pool slot → front ≡ s.front → IsCurrent (with_rows s pool s.kept front)
+  lent_current made long =
       current_with_rows s current pool s.kept front
       (record { taken = All-tail (HasRows pool) slot (all_slots s.kept) (own_first s.pool pool slot takes (all_slots s.kept) current.set_up.own).taken; apart = current.set_up.own.apart })
       current.set_up.nodes refl
       (λ solved. All-tail (IsRowsOf (length s.graph.nodes) (table_of s.graph) pool) slot (all_slots s.kept)
       (rows_first s.pool pool slot takes (all_slots s.kept) current.set_up.own (length s.graph.nodes) (table_of s.graph) (rows_now s current solved) made))
-      (omega (arith, takes.width)) (omega arith) (omega (arith, long)) idle
+      (omega (arith, takes.width)) (omega arith) (omega (arith, long))
 
 -- ---- given back
 abbrev none : PoolRow
@@ -83,7 +81,7 @@ module _ (pool : Pool) (k : ℕ) where
         }
 
   -- one row more is free
-  module _ (taken : IsTaken pool k) where
+  module _ (taken : IsTakenRow pool k) where
     below : k < length pool.rows
     below = below_rows pool k taken
 
@@ -104,4 +102,4 @@ module _ (s : SolverLists) (current : IsCurrent s) (lent : Lent) (is : IsLent le
       current.set_up.nodes refl
       (λ solved. rows_given first lent.to (all_slots s.kept) is.apart_to (length s.graph.nodes) (table_of s.graph)
       (rows_given s.pool lent.from (all_slots s.kept) is.apart_from (length s.graph.nodes) (table_of s.graph) (rows_now s current solved)))
-      (omega arith) (omega arith) (omega arith) current.set_up.idle
+      (omega arith) (omega arith) (omega arith)

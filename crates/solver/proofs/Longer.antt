@@ -8,7 +8,7 @@ use Rattle.sync_graph.specs.declared.arc.Arc.{Arc}
 use Rattle.sync_graph.specs.Graph.{GraphLists, IsGraph, with_node, with_arc}
 use Rattle.sync_graph.specs.InForce.{IsEarliestOf}
 use Rattle.sync_graph.proofs.Listed.{at_other}
-use Rattle.earliest.specs.Copied.{IsPart}
+use Rattle.earliest.specs.Copied.{IsPartOfGraph}
 use Rattle.earliest.specs.Values.{IsEarliestBut}
 use Rattle.earliest.specs.Inserted.{IsNegativeCycle}
 use Rattle.earliest.proofs.Waiting.{in_force_below}
@@ -48,7 +48,6 @@ module _ (s : SolverLists) (n : Node) (current : IsCurrent s) (is : IsGraph (wit
           found = omega (arith, room.found, longer);
           front = omega (arith, room.front, longer);
         };
-        idle = current.set_up.idle;
       };
       answer = elim current.answer [
         | inl now ↦ inl (record { solved = now.solved; earliest = earliest now.earliest; none = now.none; present = now.present; rows = rows now.rows })
@@ -62,7 +61,7 @@ abbrev pub with_new_arc : SolverLists → Arc → SolverLists
 with_new_arc s a = record { graph = with_arc s.graph a; earliest = s.earliest; contradiction = s.contradiction; pool = s.pool; kept = s.kept; front = s.front }
 
 module _ (g : GraphLists) (a : Arc) (is : IsGraph g) where
-  pub part_of_longer : IsPart (with_arc g a) g
+  pub part_of_longer : IsPartOfGraph (with_arc g a) g
   part_of_longer = record {
     nodes = refl;
     arcs = λ b i.
@@ -81,7 +80,6 @@ module _ (s : SolverLists) (a : Arc) (current : IsCurrent s) (is : IsGraph (with
     own = current.set_up.own;
     nodes = current.set_up.nodes;
     room = record { rows = current.set_up.room.rows; found = current.set_up.room.found; front = current.set_up.room.front };
-    idle = current.set_up.idle;
   }
 
   -- where there was an execution, values and rows are those of the graph without the arc

@@ -1,7 +1,7 @@
 -- Rows that were lent and are given back.
 use Rattle.std.proofs.Common.{◌≡◌, ◌≢◌, ℕ, ◌<◌, true, false, length, inl, inr, sym, subst, ◌∙◌, ap, length-set}
 use Rattle.std.proofs.lemmas.Bool.{cases_eq}
-use Rattle.row_pool.specs.Pool.{PoolRow, Pool, row_at, row_of, IsTaken, IsFree, marked}
+use Rattle.row_pool.specs.Pool.{PoolRow, Pool, row_at, row_of, IsTakenRow, IsFree, marked}
 use Rattle.row_pool.proofs.Pools.{below_rows}
 use Rattle.repair.specs.declared.slot.Slot.{Slot}
 use Rattle.repair.specs.Keeping.{TakesRows}
@@ -10,7 +10,7 @@ use Rattle.solver.specs.Changes.{LeavesTaken}
 use Rattle.solver.proofs.Lending.{free_same}
 
 -- a row that was free is none that was taken
-not_free : (pool : Pool) (j k : ℕ) → IsFree pool j → IsTaken pool k → k ≢ j
+not_free : (pool : Pool) (j k : ℕ) → IsFree pool j → IsTakenRow pool k → k ≢ j
 not_free pool j k free taken same =
     let set : (row_at pool j).taken ≡ true = ap (λ (i : ℕ). (row_at pool i).taken) (sym same) ∙ taken in
     let unset : (row_at pool j).taken ≡ false = free.1 in

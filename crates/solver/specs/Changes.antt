@@ -1,8 +1,9 @@
 -- What a call leaves as it was.
 use Rattle.std.specs.Prelude.{◌≡◌, ℕ, ◌∷◌, [], Bool, false, List, length, slice_set}
-use Rattle.row_pool.specs.Pool.{Pool, row_at, row_of, IsTaken, free_rows}
+use Rattle.row_pool.specs.Pool.{Pool, row_at, row_of, IsTakenRow, free_rows}
 use Rattle.repair.specs.Slots.{all_slots, ChangesRowsOf}
 use Rattle.solver.specs.Solver.{SolverLists}
+use Rattle.solver.specs.Current.{IsCurrent}
 
 -- the same nodes are kept with the same rows, no other row is changed, as many rows are free, and there is as much room
 -- as before
@@ -10,7 +11,7 @@ pub record KeepsSlots (old new : SolverLists) : Type 0 where
   pub slots : new.kept.slots ≡ old.kept.slots
   pub source : new.kept.source ≡ old.kept.source
   pub found : new.kept.room ≡ old.kept.room
-  pub front : length new.front ≡ length old.front
+  pub front : new.front ≡ old.front
   pub rows : ChangesRowsOf (all_slots old.kept) old.pool new.pool
   pub free : free_rows new.pool ≡ free_rows old.pool
 
@@ -25,8 +26,16 @@ pub record LeavesTaken (old new : Pool) : Type 0 where
   pub width : new.width ≡ old.width
   pub count : length new.rows ≡ length old.rows
   pub taken : (k : ℕ) → (row_at new k).taken ≡ (row_at old k).taken
-  pub cells : (k : ℕ) → IsTaken old k → row_of new k ≡ row_of old k
+  pub cells : (k : ℕ) → IsTakenRow old k → row_of new k ≡ row_of old k
   pub free : free_rows new ≡ free_rows old
+
+-- what is known of the graph, the slots with their rows, and the room stay, and all that is held is of the present graph
+pub record LeavesAnswer (old new : SolverLists) : Type 0 where
+  pub answer : KeepsAnswer old new
+  pub kept : new.kept ≡ old.kept
+  pub rows : LeavesTaken old.pool new.pool
+  pub room : new.front ≡ old.front
+  pub current : IsCurrent new
 
 -- the flags with those of these numbers false
 abbrev pub withdrawn : List Bool → List ℕ → List Bool

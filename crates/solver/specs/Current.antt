@@ -3,7 +3,6 @@ use Rattle.std.specs.Prelude.{◌≡◌, ◌⊎◌, [], true, false, length}
 use Rattle.sync_graph.specs.Graph.{IsGraph}
 use Rattle.sync_graph.specs.InForce.{IsEarliestOf}
 use Rattle.earliest.specs.Inserted.{IsNegativeCycle}
-use Rattle.frontier.specs.Keys.{IsEmpty}
 use Rattle.repair.specs.Slots.{AreOwnRows, AreRowsOf, AreNodes}
 use Rattle.solver.specs.Solver.{SolverLists, HasRoom}
 
@@ -21,14 +20,13 @@ pub record IsContradicted (s : SolverLists) : Type 0 where
   pub cycle : IsNegativeCycle s.graph s.contradiction
   pub absent : s.kept.present ≡ false
 
--- there is one value for each node, each slot has a node and two rows of its own, there is room for all nodes, and none waits
+-- there is one value for each node, each slot has a node and two rows of its own, and there is room for all nodes
 pub record IsSetUp (s : SolverLists) : Type 0 where
   pub graph : IsGraph s.graph
   pub one_each : length s.earliest.values ≡ length s.graph.nodes
   pub own : AreOwnRows s.kept s.pool
   pub nodes : AreNodes s.graph s.kept
   pub room : HasRoom (length s.graph.nodes) s
-  pub idle : IsEmpty s.front
 
 -- the solver is set up, and what it holds is one of the two answers, for the graph as it is now
 pub record IsCurrent (s : SolverLists) : Type 0 where

@@ -4,7 +4,7 @@ use Rattle.problem_model.specs.Parents.{IsRow}
 use Rattle.problem_model.specs.Tables.{reversed_table}
 use Rattle.sync_graph.specs.Graph.{table_of}
 use Rattle.row_pool.specs.Row.{cells_of}
-use Rattle.row_pool.specs.Pool.{row_of, IsTaken}
+use Rattle.row_pool.specs.Pool.{row_of, IsTakenRow}
 use Rattle.repair.specs.declared.slot.Slot.{Slot}
 use Rattle.repair.specs.Slots.{all_slots}
 use Rattle.solver.specs.Solver.{SolverLists}
@@ -16,8 +16,8 @@ IsOfNoSlot s k = All (λ slot. (slot.from ≢ k) × (slot.to ≢ k)) (all_slots 
 
 -- both rows are taken, they differ, and no slot has one of them
 pub record IsLent (lent : Lent) (s : SolverLists) : Type 0 where
-  pub from : IsTaken s.pool lent.from
-  pub to : IsTaken s.pool lent.to
+  pub from : IsTakenRow s.pool lent.from
+  pub to : IsTakenRow s.pool lent.to
   pub two : lent.from ≢ lent.to
   pub apart_from : IsOfNoSlot s lent.from
   pub apart_to : IsOfNoSlot s lent.to

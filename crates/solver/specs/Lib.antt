@@ -4,5 +4,6 @@ pub mod Changes
 pub mod Costs
 pub mod Pushed
 pub mod Lending
+pub mod Searches
 pub mod Withdrawn
 pub mod Solution

@@ -1,5 +1,5 @@
 -- What a solver holds.
-use Rattle.std.specs.Prelude.{◌≤◌, ◌++◌, ◌∷◌, [], ℕ, ℤ, List, Option, pos, length}
+use Rattle.std.specs.Prelude.{◌≤◌, ◌++◌, ◌∷◌, [], ℕ, List, pos}
 use Rattle.problem_model.specs.declared.items.Node.{Node}
 use Rattle.sync_graph.specs.declared.arc.Arc.{Arc}
 use Rattle.sync_graph.specs.Graph.{GraphLists, with_node}
@@ -8,20 +8,20 @@ use Rattle.row_pool.specs.Pool.{Pool}
 use Rattle.repair.specs.Slots.{KeptRows}
 
 -- a graph, its values and whether they are solved, a contradiction of it or no arc, a pool with the rows of kept nodes,
--- and the frontier
+-- and the room of the frontier
 pub record SolverLists : Type 0 where
   pub graph : GraphLists
   pub earliest : Values
   pub contradiction : List Arc
   pub pool : Pool
   pub kept : KeptRows
-  pub front : List (Option ℤ)
+  pub front : ℕ
 
 -- rows, the list of the nodes that a withdrawal affects, and the frontier have room for so many nodes
 pub record HasRoom (nodes : ℕ) (s : SolverLists) : Type 0 where
   pub rows : nodes ≤ s.pool.width
   pub found : nodes ≤ s.kept.room
-  pub front : nodes ≤ length s.front
+  pub front : nodes ≤ s.front
 
 -- one more node, of value 0
 abbrev pub with_new_node : SolverLists → Node → SolverLists

@@ -3,10 +3,11 @@ ghost use Rattle.std.specs.Prelude.{◌≡◌, ◌+◌, ◌<◌, ◌≤◌, leng
 ghost use Rattle.row_pool.specs.Pool.{free_rows};
 ghost use Rattle.repair.specs.declared.slot.Slot as slots;
 ghost use Rattle.repair.specs.Slots.{slot_of};
-ghost use Rattle.repair.specs.Keeping.{TakesRows, with_slot, with_source, IsPlaceOf, IsRefused};
+ghost use Rattle.repair.specs.Keeping.{TakesRows, with_slot, with_source, IsSlotNumber, IsKeepRefused};
 ghost use Rattle.solver.specs.Changes.{KeepsAnswer};
 ghost use Rattle.solver.specs.Current.{IsCurrent};
 
+use crate::search::search_of;
 use crate::solver::Solver;
 use atto::Steps;
 use repair::KeepError;
@@ -15,7 +16,7 @@ use std::sync::ledger::Ledger;
 impl Solver {
     /// The number of a node's slot, from 1. It is `None` where the node has no slot, and only there.
     pub fn slot_of(&self, node: u32) -> Option<u32>
-        ensures { MatchOption result (slot_of self.now.kept node ≡ None) (λ place. IsPlaceOf self.now.kept node place) }
+        ensures { MatchOption result (slot_of self.now.kept node ≡ None) (λ place. IsSlotNumber self.now.kept node place) }
     {
         self.kept.place_of(node)
     }
@@ -29,20 +30,15 @@ impl Solver {
         ensures slot { IfOk result (λ place. (slot_of self.old.kept node ≡ None) × (length self.old.kept.slots < 8) × (place ≡ length self.old.kept.slots + 1)) }
         ensures takes { OnOk result ((slot : slots.Slot) × (slot.node ≡ node) × (self.new.kept ≡ with_slot self.old.kept slot) × TakesRows self.old.pool self.new.pool slot) }
         ensures free { OnOk result (free_rows self.new.pool + 2 ≡ free_rows self.old.pool) }
-        ensures refused { IfErr result (IsRefused self.old.kept node) }
+        ensures refused { IfErr result (IsKeepRefused self.old.kept node) }
         ensures err { OnErr result ((self.new.kept ≡ self.old.kept) × (self.new.pool ≡ self.old.pool)) }
         ensures answer { KeepsAnswer self.old self.new }
-        ensures room { length self.new.front ≡ length self.old.front }
+        ensures room { self.new.front ≡ self.old.front }
         ensures current { IsCurrent self.new }
     {
-        self.kept.keep(
-            &self.graph,
-            &self.earliest,
-            node,
-            &mut self.pool,
-            &mut self.front,
-            steps,
-        )
+        let search = search_of(&self.graph, &self.earliest);
+        let pool = &mut self.pool;
+        self.kept.keep(&search, node, pool, &mut self.queue, steps)
     }
 
     /// Keeps the two rows of the source's node, which has no slot yet. It takes no memory.
@@ -54,16 +50,12 @@ impl Solver {
         ensures takes { (slot : slots.Slot) × (slot.node ≡ node) × (self.new.kept ≡ with_source self.old.kept slot) × TakesRows self.old.pool self.new.pool slot }
         ensures free { free_rows self.new.pool + 2 ≡ free_rows self.old.pool }
         ensures answer { KeepsAnswer self.old self.new }
-        ensures room { length self.new.front ≡ length self.old.front }
+        ensures room { self.new.front ≡ self.old.front }
         ensures current { IsCurrent self.new }
     {
-        self.kept.keep_source(
-            &self.graph,
-            &self.earliest,
-            node,
-            &mut self.pool,
-            &mut self.front,
-            steps,
-        );
+        let search = search_of(&self.graph, &self.earliest);
+        let pool = &mut self.pool;
+        self.kept
+            .keep_source(&search, node, pool, &mut self.queue, steps);
     }
 }

@@ -12,6 +12,7 @@ mod kept_nodes;
 mod loan;
 mod pairs;
 mod pushes;
+mod search;
 mod solver;
 mod withdrawn_arcs;
 

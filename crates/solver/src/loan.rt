@@ -10,6 +10,7 @@ ghost use Rattle.solver.specs.Changes.{KeepsAnswer};
 ghost use Rattle.solver.specs.Current.{IsCurrent};
 ghost use Rattle.solver.specs.Lending.{IsLent, AreRowsFor, lent_slot};
 
+use crate::search::search_of;
 use crate::solver::Solver;
 use atto::Steps;
 use repair::new_slot;
@@ -37,17 +38,12 @@ impl Solver {
         ensures free { free_rows self.new.pool + 2 ≡ free_rows self.old.pool }
         ensures answer { KeepsAnswer self.old self.new }
         ensures kept { self.new.kept ≡ self.old.kept }
-        ensures room { length self.new.front ≡ length self.old.front }
+        ensures room { self.new.front ≡ self.old.front }
         ensures current { IsCurrent self.new }
     {
-        let slot = new_slot(
-            &self.graph,
-            &self.earliest,
-            p,
-            &mut self.pool,
-            &mut self.front,
-            steps,
-        );
+        let search = search_of(&self.graph, &self.earliest);
+        let pool = &mut self.pool;
+        let slot = new_slot(&search, p, pool, &mut self.queue, steps);
         Lent {
             from: slot.from,
             to: slot.to,

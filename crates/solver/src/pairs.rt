@@ -1,26 +1,24 @@
 // What is asked of a graph that has an execution.
-ghost use Rattle.std.specs.Prelude.{◌≡◌, ◌<◌, ◌≤◌, [], length, true, None, Some, MatchOption};
+ghost use Rattle.std.specs.Prelude.{◌≡◌, ◌<◌, ◌≤◌, [], length, None, Some, MatchOption};
 ghost use Rattle.problem_model.specs.Parents.{IsRow};
 ghost use Rattle.problem_model.specs.Tables.{reversed_table};
-ghost use Rattle.frontier.specs.Keys.{IsEmpty};
 ghost use Rattle.sync_graph.specs.Graph.{table_of};
-ghost use Rattle.sync_graph.specs.InForce.{IsEarliestOf};
+ghost use Rattle.distances.specs.declared.side.Side.TheVariants.{From};
+ghost use Rattle.distances.specs.Searched.{nodes};
 ghost use Rattle.row_pool.specs.Row.{cells_of};
 ghost use Rattle.row_pool.specs.Pool.{free_rows};
 ghost use Rattle.repair.specs.declared.slot.Slot as slots;
 ghost use Rattle.repair.specs.Slots.{slot_of};
 ghost use Rattle.repair.specs.Pairs.{IsPairIn};
-ghost use Rattle.solver.specs.Changes.{KeepsAnswer, LeavesTaken};
+ghost use Rattle.solver.specs.Changes.{LeavesAnswer};
 ghost use Rattle.solver.specs.Current.{IsCurrent};
 
 use crate::solver::Solver;
 use atto::Steps;
-use distances::{reach_from, reach_to};
-use earliest::Earliest;
-use frontier::Frontier;
+use distances::{Search, Side, find_reach};
+use frontier::IdleQueue;
 use row_pool::{Cell, Pair};
 use std::sync::ledger::Ledger;
-use sync_graph::Graph;
 
 impl Solver {
     /// The greatest differences of two nodes p and q in both directions, in units of 1e-9 ns: `up` of `x_q - x_p`, `down`
@@ -33,11 +31,7 @@ impl Solver {
         requires q { q < length self.old.graph.nodes }
         requires free { 0 < free_rows self.old.pool }
         ensures pair { IsPairIn self.old.graph p q result }
-        ensures answer { KeepsAnswer self.old self.new }
-        ensures kept { self.new.kept ≡ self.old.kept }
-        ensures rows { LeavesTaken self.old.pool self.new.pool }
-        ensures room { length self.new.front ≡ length self.old.front }
-        ensures current { IsCurrent self.new }
+        ensures leaves { LeavesAnswer self.old self.new }
         ensures steps { (slot_of self.old.kept p ≡ None → ⊥) → steps.new ≡ steps.old }
         ensures steps_turned { (slot_of self.old.kept q ≡ None → ⊥) → steps.new ≡ steps.old }
     {
@@ -81,54 +75,41 @@ impl Solver {
         requires q { q < length self.old.graph.nodes }
         requires free { 0 < free_rows self.old.pool }
         ensures pair { IsPairIn self.old.graph p q result }
-        ensures answer { KeepsAnswer self.old self.new }
-        ensures kept { self.new.kept ≡ self.old.kept }
-        ensures rows { LeavesTaken self.old.pool self.new.pool }
-        ensures room { length self.new.front ≡ length self.old.front }
-        ensures current { IsCurrent self.new }
+        ensures leaves { LeavesAnswer self.old self.new }
     {
         let _width = self.pool.width();
         let Some(row) = self.pool.take() else {
             unreachable!()
         };
-        let pair = pair_by(
-            &self.graph,
-            &self.earliest,
-            p,
-            q,
-            self.pool.row_mut(&row),
-            &mut self.front,
-            steps,
-        );
+        let search = Search::new(&self.graph, &self.earliest, Side::From);
+        let cells = self.pool.row_mut(&row);
+        let pair = pair_by(&search, p, q, cells, &mut self.queue, steps);
         self.pool.give(row);
         pair
     }
 }
 
-// The greatest differences of two nodes, by two searches in this row that end as soon as they know.
+// The greatest differences of two nodes, by a search from the first and one towards it, in this row, that end as soon as
+// they know.
 fn pair_by<L: Ledger>(
-    g: &Graph,
-    e: &Earliest,
+    search: &Search,
     p: u32,
     q: u32,
     row: &mut [Cell],
-    front: &mut Frontier,
+    queue: &mut IdleQueue,
     steps: &mut Steps<L>,
 ) -> Pair
-    requires solved { e.now.is_solved ≡ true }
-    requires earliest { IsEarliestOf g.now e.now.values }
-    requires p { p < length g.now.nodes }
-    requires q { q < length g.now.nodes }
-    requires cells { length g.now.nodes ≤ length row.old }
-    requires empty { IsEmpty front.old }
-    requires room { length g.now.nodes ≤ length front.old }
-    ensures pair { IsPairIn g.now p q result }
-    ensures cells { length row.new ≡ length row.old }
-    ensures empty { IsEmpty front.new }
-    ensures room { length front.new ≡ length front.old }
+    requires outward { search.now.side ≡ From }
+    requires p { p < nodes search.now }
+    requires q { q < nodes search.now }
+    requires cells { nodes search.now ≤ length row.old }
+    requires room { nodes search.now ≤ queue.old }
+    ensures pair { IsPairIn search.now.graph p q result }
+    ensures queue { queue.new ≡ queue.old }
 {
-    let up = reach_from(g, e, p, q, row, front, steps);
-    let down = reach_to(g, e, p, q, row, front, steps);
+    let back = search.turned();
+    let up = find_reach(search, p, q, row, queue, steps);
+    let down = find_reach(&back, p, q, row, queue, steps);
     Pair { up, down }
 }
 

@@ -1,6 +1,7 @@
 // Nodes and arcs that come.
 ghost use Rattle.std.specs.Prelude.{◌≡◌, ◌+◌, ◌<◌, ◌≤◌, ℕ, false, true, length, slice_get, slice_index_or, Some, IfOk, OnOk};
-ghost use Rattle.sync_graph.specs.Graph.{IsSound, most_nodes, most_arcs, with_arc};
+ghost use Rattle.problem_model.specs.Limits.{most_arcs, most_nodes};
+ghost use Rattle.sync_graph.specs.Graph.{IsSound, with_arc};
 ghost use Rattle.sync_graph.specs.Names.{IsNamed};
 ghost use Rattle.solver.specs.Solver.{HasRoom, with_new_node};
 ghost use Rattle.solver.specs.Current.{IsCurrent};
@@ -10,6 +11,7 @@ ghost use Rattle.solver.specs.Pushed.{IsPushed, with_contradiction};
 
 use crate::solver::Solver;
 use atto::Steps;
+use distances::{Search, Side};
 use earliest::Inserted;
 use earliest::laws::growth;
 use problem_model::Node;
@@ -76,16 +78,14 @@ impl Solver {
     {
         match self
             .earliest
-            .insert(&self.graph, arc, &mut self.front, steps)?
+            .insert(&self.graph, arc, &mut self.queue, steps)?
         {
-            Inserted::Kept => self.kept.after_insert(
-                &self.graph,
-                &self.earliest,
-                arc,
-                &mut self.pool,
-                &mut self.front,
-                steps,
-            ),
+            Inserted::Kept => {
+                let search = Search::new(&self.graph, &self.earliest, Side::From);
+                let pool = &mut self.pool;
+                self.kept
+                    .after_insert(&search, arc, pool, &mut self.queue, steps);
+            }
             Inserted::Negative(cycle) => self.hold(cycle),
         }
         Ok(())

@@ -1,7 +1,7 @@
 // A graph with its earliest execution or a contradiction, and kept rows.
-ghost use Rattle.std.specs.Prelude.{◌≡◌, ◌-◌, ◌<◌, ◌≤◌, [], ◌++◌, length, max, replicate, None, OnOk};
-ghost use Rattle.problem_model.specs.Nodes.{most_nodes};
+ghost use Rattle.std.specs.Prelude.{◌≡◌, ◌+◌, ◌-◌, ◌<◌, ◌≤◌, [], length, max, OnOk};
 ghost use Rattle.problem_model.specs.Executions.{at};
+ghost use Rattle.problem_model.specs.Limits.{most_nodes};
 ghost use Rattle.sync_graph.specs.Graph.{no_graph};
 ghost use Rattle.row_pool.specs.Pool.{grown};
 ghost use Rattle.repair.specs.Slots.{nothing_kept, with_room};
@@ -10,7 +10,7 @@ ghost use Rattle.solver.specs.Current.{IsCurrent, IsSolvedNow, IsContradicted};
 
 use earliest::Earliest;
 use earliest::laws::growth;
-use frontier::Frontier;
+use frontier::IdleQueue;
 use repair::{Kept, rows_in_a_grown_pool};
 use row_pool::RowPool;
 use std::alloc::{AllocError, Global};
@@ -28,7 +28,7 @@ pub struct Solver {
     pub(crate) contradiction: Vec<Arc>,
     pub(crate) pool: RowPool,
     pub(crate) kept: Kept,
-    pub(crate) front: Frontier,
+    pub(crate) queue: IdleQueue,
 }
 
 impl Model for Solver {
@@ -36,7 +36,7 @@ impl Model for Solver {
 
     ghost Value = { SolverLists };
 
-    ghost view = { λ s. record { graph = s.graph; earliest = s.earliest; contradiction = s.contradiction.items; pool = s.pool; kept = s.kept; front = s.front } };
+    ghost view = { λ s. record { graph = s.graph; earliest = s.earliest; contradiction = s.contradiction.items; pool = s.pool; kept = s.kept; front = s.queue } };
 }
 
 impl Solver {
@@ -57,7 +57,7 @@ impl Solver {
             contradiction: Vec::new(alloc),
             pool: RowPool::new(alloc),
             kept: Kept::new(alloc),
-            front: Frontier::new(alloc),
+            queue: IdleQueue::new(alloc),
         }
     }
 
@@ -69,12 +69,12 @@ impl Solver {
         requires nodes { nodes ≤ most_nodes }
         ensures pool { OnOk result (self.new.pool ≡ grown self.old.pool rows nodes) }
         ensures kept { OnOk result (self.new.kept ≡ with_room self.old.kept (max self.old.kept.room nodes)) }
-        ensures front { OnOk result (self.new.front ≡ self.old.front ++ replicate (nodes - length self.old.front) None) }
+        ensures front { OnOk result (self.new.front ≡ self.old.front + (nodes - self.old.front)) }
         ensures answer { KeepsAnswer self.old self.new }
         ensures current { IsCurrent self.new }
     {
         rows_in_a_grown_pool();
-        self.front.reserve(nodes)?;
+        self.queue.reserve(nodes)?;
         self.kept.reserve(nodes)?;
         self.pool.reserve(rows, nodes)?;
         Ok(())

@@ -11,9 +11,11 @@ ghost use Rattle.solver.specs.Withdrawn.{arcs_numbered, IsCutDown};
 
 use crate::solver::Solver;
 use atto::Steps;
+use distances::{Search, Side};
 use earliest::Inserted;
 use earliest::laws::removals;
 use problem_model::Bound;
+use repair::Withdrawal;
 use repair::row_laws::withdrawals;
 use std::alloc::{AllocError, Global};
 use std::sync::ledger::Ledger;
@@ -114,15 +116,11 @@ impl Solver {
         ensures steps { TakesFewToWithdrawAll self.old self.new removed.now steps.old steps.new }
     {
         self.earliest
-            .withdraw(&self.graph, removed, &mut self.front, steps);
-        self.kept.after_withdraw(
-            &self.graph,
-            &self.earliest,
-            removed,
-            &mut self.pool,
-            &mut self.front,
-            steps,
-        );
+            .withdraw(&self.graph, removed, &mut self.queue, steps);
+        let withdrawal = Withdrawal::new(&self.graph, &self.earliest, removed);
+        let pool = &mut self.pool;
+        self.kept
+            .after_withdraw(&withdrawal, pool, &mut self.queue, steps);
     }
 
     // Makes the values and the kept rows anew, from any state.
@@ -132,7 +130,7 @@ impl Solver {
         ensures current { OnOk result (IsCurrent self.new) }
         ensures slots { OnOk result (KeepsSlots self.old self.new) }
     {
-        match self.earliest.rebuild(&self.graph, &mut self.front, steps)? {
+        match self.earliest.rebuild(&self.graph, &mut self.queue, steps)? {
             Inserted::Kept => self.renew(steps),
             Inserted::Negative(cycle) => self.hold(cycle),
         }
@@ -149,13 +147,9 @@ impl Solver {
         ensures slots { KeepsSlots self.old self.new }
     {
         self.contradiction.clear();
-        self.kept.refresh(
-            &self.graph,
-            &self.earliest,
-            &mut self.pool,
-            &mut self.front,
-            steps,
-        );
+        let search = Search::new(&self.graph, &self.earliest, Side::From);
+        let pool = &mut self.pool;
+        self.kept.refresh(&search, pool, &mut self.queue, steps);
     }
 }
 

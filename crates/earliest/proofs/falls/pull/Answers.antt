@@ -9,26 +9,34 @@ use Rattle.earliest.proofs.Dropping.{leaving_arc, holding_done}
 use Rattle.earliest.proofs.falls.pull.Goals as goal
 
 pub stop_tail-requires-clause-arc : goal.stop_tail-requires-clause-arc
-stop_tail-requires-clause-arc g c = in_force_below c.args.g.now c.exact.ensures c.in-Some.arc (leaving_arc c.args.g.now c.exact.ensures c.args.node c.loop-k.k c.in-Some.arc (sym c.leaving.ensures.entry ∙ c.in-Some.is)).2
+stop_tail-requires-clause-arc g c = in_force_below c.args.g.now c.exact.ensures c.in-Some.arc (leaving_arc c.args.g.now c.exact.ensures c.args.node c.loop-arc.k c.in-Some.arc (sym c.leaving.ensures.entry ∙ c.in-Some.is)).2
 
-pub loop-k-preserved : goal.loop-k-preserved
-loop-k-preserved g c =
-    let w = leaving_arc c.args.g.now c.exact.ensures c.args.node c.loop-k.k c.in-Some.arc (sym c.leaving.ensures.entry ∙ c.in-Some.is) in
+pub loop-arc-preserved : goal.loop-arc-preserved
+loop-arc-preserved g c =
+    let w = leaving_arc c.args.g.now c.exact.ensures c.args.node c.loop-arc.k c.in-Some.arc (sym c.leaving.ensures.entry ∙ c.in-Some.is) in
     record {
-      holding = holding_more (table_of c.args.g.now) (list_at c.args.g.now.leaving c.args.node) c.loop-k.k (falls_of c.args.values.now c.args.front.now) (falls_of c.args.values.now c.loop-k.front) (falls_of c.args.values.now c.stop_tail.new.front)
-          c.in-Some.arc c.loop-k.invariant.holding w.0 w.1 w.2 c.stop_tail.ensures.held;
+      holding = holding_more (table_of c.args.g.now) (list_at c.args.g.now.leaving c.args.node) c.loop-arc.k (falls_of c.args.values.now c.args.front.now) (falls_of c.args.values.now c.loop-arc.front) (falls_of c.args.values.now c.stop_tail.new.front)
+          c.in-Some.arc c.loop-arc.invariant.holding w.0 w.1 w.2 c.stop_tail.ensures.held;
       seen = omega (arith, w.0);
-      room = c.stop_tail.ensures.room ∙ c.loop-k.invariant.room;
-      steps = omega (arith, c.leaving.ensures.step, c.loop-k.invariant.steps);
+      room = c.stop_tail.ensures.room ∙ c.loop-arc.invariant.room;
+      steps = omega (arith, c.leaving.ensures.step, c.loop-arc.invariant.steps);
     }
-
-pub returns-in_default-clause-holding : goal.returns-in_default-clause-holding
-returns-in_default-clause-holding g c =
-    holding_done (table_of c.args.g.now) (list_at c.args.g.now.leaving c.args.node) c.loop-k.k (falls_of c.args.values.now c.args.front.now) (falls_of c.args.values.now c.loop-k.front) c.loop-k.invariant.holding
-    (past_end (list_at c.args.g.now.leaving c.args.node) c.loop-k.k (λ x q. c.in_default.not-Some x (c.leaving.ensures.entry ∙ q)))
 
 pub returns-clause-holding : goal.returns-clause-holding
 returns-clause-holding g c =
+    holding_done (table_of c.args.g.now) (list_at c.args.g.now.leaving c.args.node) c.loop-arc.k (falls_of c.args.values.now c.args.front.now) (falls_of c.args.values.now c.loop-arc.front) c.loop-arc.invariant.holding
+    (past_end (list_at c.args.g.now.leaving c.args.node) c.loop-arc.k (λ x q. c.in_default.not-Some x (c.leaving.ensures.entry ∙ q)))
+
+pub returns-clause-steps : goal.returns-clause-steps
+returns-clause-steps g c = omega (arith, c.leaving.ensures.step, c.loop-arc.invariant.steps, c.loop-arc.invariant.seen)
+
+pub loop-arc-smaller : goal.loop-arc-smaller
+loop-arc-smaller g c =
+    let w = leaving_arc c.args.g.now c.exact.ensures c.args.node c.loop-arc.k c.in-Some.arc (sym c.leaving.ensures.entry ∙ c.in-Some.is) in
+    omega (arith, w.0)
+
+pub overflow_add-k : goal.overflow_add-k
+overflow_add-k g c =
+    let w = leaving_arc c.args.g.now c.exact.ensures c.args.node c.loop-arc.k c.in-Some.arc (sym c.leaving.ensures.entry ∙ c.in-Some.is) in
     let short : length (list_at c.args.g.now.leaving c.args.node) ≤ length c.args.g.now.arcs = leaving_short c.args.g.now c.exact.ensures c.args.node in
-    holding_done (table_of c.args.g.now) (list_at c.args.g.now.leaving c.args.node) c.loop-k.k (falls_of c.args.values.now c.args.front.now) (falls_of c.args.values.now c.loop-k.front) c.loop-k.invariant.holding
-    (omega (arith, c.loop-k-test.false, c.arcs-k-end.ensures))
+    omega (arith, w.0, c.exact.ensures.arc_limit)

@@ -8,12 +8,15 @@ use Rattle.earliest.proofs.Bounds.{worth}
 use Rattle.earliest.proofs.Dropping.{values1_up, key_up, falls_earliest, falling_more, waits_more, front1_room}
 use Rattle.earliest.proofs.falls.settle_falls.Goals as goal
 
-pub stop_tails-requires-clause-small : goal.stop_tails-requires-clause-small
-stop_tails-requires-clause-small g c =
-    values1_up c.args.g.now c.exact.ensures c.args.values.now c.loop-node.values c.loop-node.front c.requires.low c.loop-node.invariant.falling c.in-Some.node c.in-Some.key c.in-Some.ensures.least
-    c.lift.new.values c.pop.new.self
-    (c.lift.ensures ∙ ap (λ k. set c.loop-node.values c.in-Some.node (at c.loop-node.values c.in-Some.node -ℤ k)) (worth c.in-Some.key (key_up c.args.g.now c.exact.ensures c.args.values.now c.loop-node.values c.loop-node.front c.requires.low c.loop-node.invariant.falling c.in-Some.node c.in-Some.key c.in-Some.ensures.least)))
-    c.in-Some.ensures.taken
+pub stop_tails-requires-clause-values : goal.stop_tails-requires-clause-values
+stop_tails-requires-clause-values g c = record {
+  one_each = omega (arith, c.lift.auto.values, c.loop-node.invariant.falling.one_each);
+  small =
+      values1_up c.args.g.now c.exact.ensures c.args.values.now c.loop-node.values c.loop-node.front c.requires.low c.loop-node.invariant.falling c.in-Some.node c.in-Some.key c.in-Some.ensures.least
+      c.lift.new.values c.pop.new.self
+      (c.lift.ensures ∙ ap (λ k. set c.loop-node.values c.in-Some.node (at c.loop-node.values c.in-Some.node -ℤ k)) (worth c.in-Some.key (key_up c.args.g.now c.exact.ensures c.args.values.now c.loop-node.values c.loop-node.front c.requires.low c.loop-node.invariant.falling c.in-Some.node c.in-Some.key c.in-Some.ensures.least)))
+      c.in-Some.ensures.taken;
+}
 
 pub loop-node-smaller : goal.loop-node-smaller
 loop-node-smaller g c =

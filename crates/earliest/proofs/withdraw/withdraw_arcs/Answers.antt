@@ -5,17 +5,17 @@ use Rattle.earliest.proofs.Dropping.{empty_rests}
 use Rattle.earliest.proofs.Withdrawing.{are_low, are_small, are_obeyed, pulled_first, falling_first, found_few, all_cost}
 use Rattle.earliest.proofs.withdraw.withdraw_arcs.Goals as goal
 
-pub mark_removed-first-requires-clause-small : goal.mark_removed-first-requires-clause-small
-mark_removed-first-requires-clause-small g c = are_small c.args.g.now c.exact.ensures c.args.removed.now c.args.values.now c.requires.sound c.requires.before
+pub mark_removed-first-requires-clause-values : goal.mark_removed-first-requires-clause-values
+mark_removed-first-requires-clause-values g c = are_small c.args.g.now c.exact.ensures c.args.removed.now c.args.values.now c.requires.sound c.requires.before
 
 pub mark_removed-first-requires-clause-empty : goal.mark_removed-first-requires-clause-empty
 mark_removed-first-requires-clause-empty g c = empty_rests c.args.front.now c.requires.empty
 
-pub mark_all-count-requires-clause-small : goal.mark_all-count-requires-clause-small
-mark_all-count-requires-clause-small g c = are_small c.args.g.now c.exact.ensures c.args.removed.now c.args.values.now c.requires.sound c.requires.before
+pub mark_all-count-requires-clause-values : goal.mark_all-count-requires-clause-values
+mark_all-count-requires-clause-values g c = are_small c.args.g.now c.exact.ensures c.args.removed.now c.args.values.now c.requires.sound c.requires.before
 
-pub pull_all-requires-clause-small : goal.pull_all-requires-clause-small
-pull_all-requires-clause-small g c = are_small c.args.g.now c.exact.ensures c.args.removed.now c.args.values.now c.requires.sound c.requires.before
+pub pull_all-requires-clause-values : goal.pull_all-requires-clause-values
+pull_all-requires-clause-values g c = are_small c.args.g.now c.exact.ensures c.args.removed.now c.args.values.now c.requires.sound c.requires.before
 
 pub pull_all-requires-clause-obeyed : goal.pull_all-requires-clause-obeyed
 pull_all-requires-clause-obeyed g c = are_obeyed c.args.g.now c.exact.ensures c.args.removed.now c.args.values.now c.requires.sound c.requires.before

@@ -4,7 +4,7 @@ use mir.Syntax.{w128}
 use Rattle.std.proofs.lemmas.Int.{to_z-of_z}
 use Rattle.std.proofs.lemmas.List.{get_or_read, length-set}
 use Rattle.frontier.specs.Keys.{Waits}
-use Rattle.frontier.specs.Heap.{waiting_keys, place_of, IsHeap}
+use Rattle.frontier.specs.Heap.{waiting_keys, heap_place, IsHeap}
 use Rattle.frontier.proofs.Tables.{no_longer, place_within, key_changed, settled, settled_keys, given_back}
 use Rattle.frontier.proofs.Root.{fits}
 use Rattle.frontier.proofs.Waiting.{waits_within, waits_put}
@@ -20,7 +20,7 @@ keys_are c = c.deref.ensures.value ∙ ap (λ k. set c.self.inside.keys.items c.
 seen_are : (c : goal.After-deref_mut-2) → waiting_keys (set c.self.inside.keys.items c.args.node c.args.key) c.self.inside.places.items ≡ set (waiting_keys c.self.inside.keys.items c.self.inside.places.items) c.args.node (Some c.args.key)
 seen_are c = key_changed c.self.inside.keys.items c.self.inside.places.items c.args.node c.args.key (c.requires.0, before_waits c)
 
-place_is : (c : goal.After-deref_mut-2) → c.index.result.now ≡ place_of c.self.inside.places.items c.args.node
+place_is : (c : goal.After-deref_mut-2) → c.index.result.now ≡ heap_place c.self.inside.places.items c.args.node
 place_is c =
     get_or_read c.self.inside.places.items c.args.node c.index.result.now (place_within c.self.inside.keys.items c.self.inside.places.items c.args.node (c.requires.0, before_waits c)) c.index.ensures 0
 

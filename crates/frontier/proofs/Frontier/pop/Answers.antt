@@ -5,8 +5,8 @@ use mir.Val.{SFits}
 use Rattle.std.proofs.lemmas.Int.{to_z-of_z}
 use Rattle.std.proofs.lemmas.List.{get_or_read}
 use Rattle.std.proofs.lemmas.Option.{slice_get_within, get_or_from_slice_get}
-use Rattle.frontier.specs.Keys.{IsFree, IsLeastEntry}
-use Rattle.frontier.specs.Heap.{nowhere, waiting_keys, node_at, key_of, IsWaiting, IsHeap, HasHole}
+use Rattle.frontier.specs.Keys.{IsFreeNode, IsLeastEntry}
+use Rattle.frontier.specs.Heap.{nowhere, waiting_keys, heap_node, waiting_key, IsWaiting, IsHeap, HasHole}
 use Rattle.frontier.proofs.Tables.{no_longer, key_within, place_within, key_stored, place_lost, settled, settled_keys, given_back}
 use Rattle.frontier.proofs.Waiting.{waiting_within, free_taken}
 use Rattle.frontier.proofs.Filling.{opened, placed_anew}
@@ -21,7 +21,7 @@ module _ (keys : List ℤ) (heap places : List ℕ) (h : IsHeap (waiting_keys ke
   here : slice_get heap 0 ≡ Some node
   here = subst (λ x. slice_get x 0 ≡ Some node) same (sym first)
 
-  root_is : node_at heap 0 ≡ node
+  root_is : heap_node heap 0 ≡ node
   root_is = get_or_from_slice_get heap 0 node 0 here
 
   some : 0 < length heap
@@ -33,21 +33,21 @@ module _ (keys : List ℤ) (heap places : List ℕ) (h : IsHeap (waiting_keys ke
   lost : waiting_keys keys (set places node nowhere) ≡ set seen node None
   lost = place_lost keys places node
 
-  root_free : IsFree (waiting_keys keys (set places node nowhere)) (node_at heap 0)
+  root_free : IsFreeNode (waiting_keys keys (set places node nowhere)) (heap_node heap 0)
   root_free =
-      subst (λ k. IsFree k (node_at heap 0)) (sym lost)
-      (subst (IsFree (set seen node None)) (sym root_is) (free_taken seen node (waiting_within seen node root_waits)))
+      subst (λ k. IsFreeNode k (heap_node heap 0)) (sym lost)
+      (subst (IsFreeNode (set seen node None)) (sym root_is) (free_taken seen node (waiting_within seen node root_waits)))
 
-  root_open : HasHole (waiting_keys keys (set places node nowhere)) heap (set places node nowhere) 0 (node_at heap 0)
+  root_open : HasHole (waiting_keys keys (set places node nowhere)) heap (set places node nowhere) 0 (heap_node heap 0)
   root_open =
-      subst (λ k. HasHole k heap (set places node nowhere) 0 (node_at heap 0)) (sym lost)
-      (subst (λ n. HasHole (set seen n None) heap (set places n nowhere) 0 (node_at heap 0)) root_is
-      (placed_anew (set seen (node_at heap 0) None) heap places 0 (node_at heap 0) (opened seen heap places h 0 some None) nowhere))
+      subst (λ k. HasHole k heap (set places node nowhere) 0 (heap_node heap 0)) (sym lost)
+      (subst (λ n. HasHole (set seen n None) heap (set places n nowhere) 0 (heap_node heap 0)) root_is
+      (placed_anew (set seen (heap_node heap 0) None) heap places 0 (heap_node heap 0) (opened seen heap places h 0 some None) nowhere))
 
   root_entry : (key : ℤ) → key ≡ get_or keys node (pos 0) → IsLeastEntry seen node key
   root_entry key e =
       subst (IsLeastEntry seen node) (key_stored keys places node root_waits ∙ sym e)
-      (subst (λ n. IsLeastEntry seen n (key_of seen n)) root_is (root_least seen heap places h some))
+      (subst (λ n. IsLeastEntry seen n (waiting_key seen n)) root_is (root_least seen heap places h some))
 
 pub index-key-requires : goal.index-key-requires
 index-key-requires g c =

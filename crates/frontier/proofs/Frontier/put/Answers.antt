@@ -3,7 +3,7 @@ use Rattle.std.specs.Prelude.{Option, Some, vec_capacity}
 use mir.Syntax.{w128}
 use Rattle.std.proofs.lemmas.Int.{to_z-of_z}
 use Rattle.std.proofs.lemmas.List.{length-set}
-use Rattle.frontier.specs.Keys.{IsFree}
+use Rattle.frontier.specs.Keys.{IsFreeNode}
 use Rattle.frontier.specs.Heap.{waiting_keys, IsHeap, HasHole}
 use Rattle.frontier.proofs.Tables.{no_longer, seen_place, key_put, settled, settled_keys, given_back}
 use Rattle.frontier.proofs.Root.{fits_more}
@@ -13,9 +13,9 @@ use Rattle.frontier.proofs.Ends.{more, pushed, pushed_ahead}
 use Rattle.frontier.proofs.Frontier.put.Goals as goal
 
 -- a node that does not wait, and the tables before it does
-module _ (keys : List ℤ) (heap places : List ℕ) (h : IsHeap (waiting_keys keys places) heap places) (node : ℕ) (seen : List (Option ℤ)) (view : waiting_keys keys places ≡ seen) (asked : IsFree seen node) where
-  free : IsFree (waiting_keys keys places) node
-  free = subst (λ k. IsFree k node) (sym view) asked
+module _ (keys : List ℤ) (heap places : List ℕ) (h : IsHeap (waiting_keys keys places) heap places) (node : ℕ) (seen : List (Option ℤ)) (view : waiting_keys keys places ≡ seen) (asked : IsFreeNode seen node) where
+  free : IsFreeNode (waiting_keys keys places) node
+  free = subst (λ k. IsFreeNode k node) (sym view) asked
 
   -- there is room for one more in the heap
   fits_one : length heap < length places

@@ -4,7 +4,7 @@ use Rattle.problem.specs.Listing.{all_readings}
 use Rattle.sync_graph.specs.Graph.{GraphLists}
 use Rattle.sync_graph.specs.InForce.{IsEarliestOf}
 use Rattle.problem_graph.specs.ListedStanding.{StandsForListed}
-use Rattle.attain.specs.Ends.{AreRowsOf}
+use Rattle.attain.specs.Ends.{AreRowsAt}
 use Rattle.problem.proofs.OwnReadings.{own_readings}
 use Rattle.queries.proofs.Solutions.{stands, earliest_so}
 use Rattle.queries.proofs.prove.write_by.Goals as goal
@@ -23,7 +23,7 @@ write_ends-requires-clause-earliest g c =
     (subst (λ (e : Values). IsEarliestOf s.graph e.values) (sym c.earliest.ensures) (earliest_so l p s solution (c.executions.ensures.solved s l p solution c.requires.solved)))
 
 pub write_ends-requires-clause-rows : goal.write_ends-requires-clause-rows
-write_ends-requires-clause-rows g c = subst (λ (h : GraphLists). AreRowsOf h c.args.first c.args.from.now c.args.to.now) (sym c.graph.ensures) c.requires.rows
+write_ends-requires-clause-rows g c = subst (λ (h : GraphLists). AreRowsAt h c.args.first c.args.from.now c.args.to.now) (sym c.graph.ensures) c.requires.rows
 
 pub write_ends-requires-clause-stands : goal.write_ends-requires-clause-stands
 write_ends-requires-clause-stands g c =

@@ -1,4 +1,4 @@
-use Rattle.std.proofs.Common.{sym, ◌∙◌, subst}
+use Rattle.std.proofs.Common.{length, sym, ◌∙◌, ap, subst}
 use Rattle.row_pool.specs.Pool.{Pool}
 use Rattle.solver.specs.Changes.{LeavesTaken}
 use Rattle.solver.specs.Lending.{lent_slot}
@@ -32,10 +32,13 @@ returns-clause-writes g c = λ p i j solution at at'.
     let l = g.N.Listing.listed c.args.names.now in
     c.write_by-written.ensures p i j (goes_on l p c.args.solver.now c.lend-rows.new.self c.lend-rows.ensures.answer c.lend-rows.ensures.current solution) at at'
 
-pub returns-clause-answer : goal.returns-clause-answer
-returns-clause-answer g c = keeps_both c.args.solver.now c.lend-rows.new.self c.give_back.new.self c.lend-rows.ensures.answer c.give_back.ensures.answer
-
-pub returns-clause-rows : goal.returns-clause-rows
-returns-clause-rows g c =
-    subst (λ (pool : Pool). LeavesTaken c.args.solver.now.pool pool) (sym c.give_back.ensures.pool)
-    (given_up c.args.solver.now.pool c.lend-rows.new.self.pool (lent_slot c.args.first c.lend-rows.result) c.lend-rows.ensures.takes)
+pub returns-clause-leaves : goal.returns-clause-leaves
+returns-clause-leaves g c = record {
+  answer = keeps_both c.args.solver.now c.lend-rows.new.self c.give_back.new.self c.lend-rows.ensures.answer c.give_back.ensures.answer;
+  kept = c.give_back.ensures.kept ∙ c.lend-rows.ensures.kept;
+  rows =
+      subst (λ (pool : Pool). LeavesTaken c.args.solver.now.pool pool) (sym c.give_back.ensures.pool)
+      (given_up c.args.solver.now.pool c.lend-rows.new.self.pool (lent_slot c.args.first c.lend-rows.result) c.lend-rows.ensures.takes);
+  room = c.give_back.ensures.room ∙ c.lend-rows.ensures.room;
+  current = c.give_back.ensures.current;
+}

@@ -1,12 +1,16 @@
 use Rattle.std.proofs.Common.{inr, sym, ◌∙◌}
+use Rattle.solver.proofs.Staying.{leaves_all}
 use Rattle.queries.proofs.Hands.{some_held}
 use Rattle.queries.proofs.Solutions.{goes_on}
 use Rattle.queries.proofs.prove.write_proof.Goals as goal
 
 pub returns-then-is_empty-clause-solution : goal.returns-then-is_empty-clause-solution
-returns-then-is_empty-clause-solution g c = λ l p solution. goes_on l p c.args.solver.now c.write_answer.new.solver c.write_answer.ensures.answer c.write_answer.ensures.current solution
+returns-then-is_empty-clause-solution g c = λ l p solution. goes_on l p c.args.solver.now c.write_answer.new.solver c.write_answer.ensures.leaves.answer c.write_answer.ensures.leaves.current solution
 
 pub returns-else-is_empty-clause-writes : goal.returns-else-is_empty-clause-writes
 returns-else-is_empty-clause-writes g c = λ p i j solution at at'.
     let text = c.write_contradiction.ensures p (c.args.solver.now, solution, some_held c.args.solver.now c.contradiction-cycle.result.now c.contradiction-cycle.ensures.value (sym c.is_empty.ensures ∙ c.if-is_empty.false), sym c.contradiction-cycle.ensures.value) in
     (text.0, inr text.1, text.2)
+
+pub returns-else-is_empty-clause-leaves : goal.returns-else-is_empty-clause-leaves
+returns-else-is_empty-clause-leaves g c = leaves_all c.args.solver.now c.requires.solution.1.current

@@ -1,6 +1,6 @@
-use Rattle.std.proofs.Common.{◌≡◌, ◌<◌, drop, length, All}
-use Rattle.frontier.specs.Keys.{IsEmpty}
+use Rattle.std.proofs.Common.{◌≡◌, ◌<◌, drop, All}
 use Rattle.row_pool.specs.Pool.{Pool}
+use Rattle.distances.specs.Searched.{nodes}
 use Rattle.repair.specs.Slots.{slots_in, AreOwn}
 use Rattle.repair.specs.Renewals.{Renews}
 use Rattle.repair.proofs.renew.make_all.Given as goal
@@ -9,9 +9,8 @@ use Rattle.repair.proofs.renew.make_all.Given as goal
 abbrev pub invariant-loop-entry : goal.invariant-loop-entry
 invariant-loop-entry g l = record {
   own : AreOwn l.pool (slots_in (drop l.entry-index l.entries));
-  nodes : All (λ slot. slot.node < length l.g.nodes) (slots_in (drop l.entry-index l.entries));
-  goes : (new : Pool) → Renews l.g (slots_in (drop l.entry-index l.entries)) l.pool new → Renews l.g (slots_in l.entries) l.initial.pool new;
+  below : All (λ slot. slot.node < nodes l.search) (slots_in (drop l.entry-index l.entries));
+  goes : (new : Pool) → Renews l.search.graph (slots_in (drop l.entry-index l.entries)) l.pool new → Renews l.search.graph (slots_in l.entries) l.initial.pool new;
   width : l.pool.width ≡ l.initial.pool.width;
-  empty : IsEmpty l.front;
-  room : length l.front ≡ length l.initial.front;
+  queue : l.queue ≡ l.initial.queue;
 }

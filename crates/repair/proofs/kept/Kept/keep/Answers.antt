@@ -1,11 +1,12 @@
 use Rattle.std.proofs.Common.{◌≡◌, ◌==◌, ◌∷◌, [], ◌++◌, List, All, Option, length, slice_get, sym, ap, subst, ◌∙◌}
 use Rattle.std.specs.Prelude.{find}
 use Rattle.sync_graph.specs.Graph.{table_of}
+use Rattle.distances.specs.Searched.{nodes}
 use Rattle.repair.specs.declared.slot.Slot.{Slot}
 use Rattle.repair.specs.Slots.{KeptRows, slots_in, slot_of, behind, AreOwn, AreOwnRows, AreRowsOf, IsRowsOf}
 use Rattle.repair.specs.Keeping.{with_slot}
 use Rattle.repair.proofs.Found.{slot_at, slots_push}
-use Rattle.repair.proofs.Slotting.{all_push, whole_push, own_last, rows_last}
+use Rattle.repair.proofs.Slotting.{all_push, whole_push, own_last, rows_last, if_both}
 use Rattle.repair.proofs.kept.Kept.keep.Goals as goal
 
 pub returns-in-Some-clause-refused : goal.returns-in-Some-clause-refused
@@ -44,11 +45,15 @@ returns-clause-own g c =
     subst (AreOwn c.new_slot-slot.new.pool) (sym more) (own_last c.args.pool.now c.new_slot-slot.new.pool c.new_slot-slot.result c.new_slot-slot.ensures.takes slots own)
 
 pub returns-clause-rows : goal.returns-clause-rows
-returns-clause-rows g c solved =
+returns-clause-rows g c =
     let slots : List Slot = behind c.self.inside.source (slots_in c.self.inside.slots.items) in
     let own : AreOwn c.args.pool.now slots = subst (λ (k : KeptRows). AreOwnRows k c.args.pool.now) (sym c.self.view_is) c.requires.own in
-    let rows : All (IsRowsOf (length c.args.g.now.nodes) (table_of c.args.g.now) c.args.pool.now) slots = subst (λ (k : KeptRows). AreRowsOf c.args.g.now k c.args.pool.now) (sym c.self.view_is) (c.requires.rows solved) in
     let more : behind c.self.inside.source (slots_in c.push.new.self.items) ≡ slots ++ c.new_slot-slot.result ∷ [] =
     ap (λ (xs : List (Option Slot)). behind c.self.inside.source (slots_in xs)) c.push.ensures.items ∙ all_push c.self.inside.source c.self.inside.slots.items c.new_slot-slot.result in
-    subst (λ (xs : List Slot). All (IsRowsOf (length c.args.g.now.nodes) (table_of c.args.g.now) c.new_slot-slot.new.pool) xs) (sym more)
-    (rows_last c.args.pool.now c.new_slot-slot.new.pool c.new_slot-slot.result c.new_slot-slot.ensures.takes slots own (length c.args.g.now.nodes) (table_of c.args.g.now) rows (c.new_slot-slot.ensures.rows solved))
+    if_both (λ s. AreRowsOf s.graph c.args.self.now c.args.pool.now) (λ s. IsRowsOf (nodes s) (table_of s.graph) c.new_slot-slot.new.pool c.new_slot-slot.result)
+    (λ s. All (IsRowsOf (nodes s) (table_of s.graph) c.new_slot-slot.new.pool) (behind c.self.inside.source (slots_in c.push.new.self.items))) c.args.search.now
+    (λ s before made.
+    let rows : All (IsRowsOf (nodes s) (table_of s.graph) c.args.pool.now) slots = subst (λ (k : KeptRows). AreRowsOf s.graph k c.args.pool.now) (sym c.self.view_is) before in
+    subst (λ (xs : List Slot). All (IsRowsOf (nodes s) (table_of s.graph) c.new_slot-slot.new.pool) xs) (sym more)
+    (rows_last c.args.pool.now c.new_slot-slot.new.pool c.new_slot-slot.result c.new_slot-slot.ensures.takes slots own (nodes s) (table_of s.graph) rows made))
+    c.requires.rows c.new_slot-slot.ensures.rows

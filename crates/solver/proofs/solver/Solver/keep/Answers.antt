@@ -1,11 +1,41 @@
 use Rattle.std.proofs.Common.{◌≡◌, ◌+◌, ◌<◌, length, sym, subst}
 use Rattle.std.specs.Prelude.{OnOk}
 use Rattle.row_pool.specs.Pool.{free_rows}
+use Rattle.distances.specs.Searched.{nodes}
+use Rattle.repair.specs.Slots.{AreRowsOf}
+use Rattle.repair.specs.Renewals.{CanRenew}
 use Rattle.solver.specs.Solver.{SolverLists}
 use Rattle.solver.specs.Current.{IsCurrent}
 use Rattle.solver.specs.contracts.solver.Solver.{the_view}
+use Rattle.solver.proofs.Staying.{rows_now, earliest_now}
+use Rattle.solver.proofs.Searching.{can_renew, if_found, found_so}
 use Rattle.solver.proofs.KeptSlots.{keep_free, keep_current}
 use Rattle.solver.proofs.solver.Solver.keep.Goals as goal
+
+pub search_of-search-requires : goal.search_of-search-requires
+search_of-search-requires g c =
+    let s : SolverLists = the_view c.self.inside in
+    let current : IsCurrent s = subst IsCurrent (sym c.self.view_is) c.requires.current in
+    earliest_now s current
+
+pub keep-requires-clause-node : goal.keep-requires-clause-node
+keep-requires-clause-node g c =
+    let s : SolverLists = the_view c.self.inside in
+    let current : IsCurrent s = subst IsCurrent (sym c.self.view_is) c.requires.current in
+    let below : c.args.node < length s.graph.nodes = subst (λ (x : SolverLists). c.args.node < length x.graph.nodes) (sym c.self.view_is) c.requires.node in
+    if_found s.graph s.earliest (λ r. c.args.node < nodes r) c.search_of-search.result c.search_of-search.ensures (λ solved. below)
+
+pub keep-requires-clause-can : goal.keep-requires-clause-can
+keep-requires-clause-can g c =
+    let s : SolverLists = the_view c.self.inside in
+    let current : IsCurrent s = subst IsCurrent (sym c.self.view_is) c.requires.current in
+    if_found s.graph s.earliest (λ r. CanRenew r s.pool s.front) c.search_of-search.result c.search_of-search.ensures (λ solved. can_renew s current)
+
+pub keep-requires-clause-rows : goal.keep-requires-clause-rows
+keep-requires-clause-rows g c =
+    let s : SolverLists = the_view c.self.inside in
+    let current : IsCurrent s = subst IsCurrent (sym c.self.view_is) c.requires.current in
+    if_found s.graph s.earliest (λ r. AreRowsOf r.graph s.kept s.pool) c.search_of-search.result c.search_of-search.ensures (λ solved. rows_now s current solved)
 
 pub returns-clause-free : goal.returns-clause-free
 returns-clause-free g c =
@@ -17,5 +47,6 @@ returns-clause-current g c =
     let s : SolverLists = the_view c.self.inside in
     let current : IsCurrent s = subst IsCurrent (sym c.self.view_is) c.requires.current in
     let below : c.args.node < length s.graph.nodes = subst (λ (x : SolverLists). c.args.node < length x.graph.nodes) (sym c.self.view_is) c.requires.node in
-    keep_current s current c.args.node below c.keep.new.pool c.keep.new.front c.keep.ensures.empty c.keep.ensures.front
-    c.keep.new.self c.keep.result c.keep.ensures.takes c.keep.ensures.err c.keep.ensures.own c.keep.ensures.rows
+    keep_current s current c.args.node below c.keep.new.pool c.keep.new.queue c.keep.ensures.queue
+    c.keep.new.self c.keep.result c.keep.ensures.takes c.keep.ensures.err c.keep.ensures.own
+    (found_so s.graph s.earliest (λ r. AreRowsOf r.graph c.keep.new.self c.keep.new.pool) c.search_of-search.result c.search_of-search.ensures c.keep.ensures.rows)

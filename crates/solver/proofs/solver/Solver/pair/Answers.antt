@@ -5,6 +5,7 @@ use Rattle.solver.specs.Solver.{SolverLists}
 use Rattle.solver.specs.Current.{IsCurrent}
 use Rattle.solver.specs.contracts.solver.Solver.{the_view}
 use Rattle.solver.proofs.Asked.{of_this}
+use Rattle.solver.proofs.Staying.{leaves_all}
 use Rattle.solver.proofs.Telling.{pair_turned}
 use Rattle.solver.proofs.solver.Solver.pair.Goals as goal
 
@@ -26,3 +27,9 @@ returns-in-Some-look-clause-pair g c =
     let back : IsPairIn s.graph c.args.q c.args.p c.in-Some-look.pair = of_this s current none (λ (h : GraphLists). IsPairIn h c.args.q c.args.p c.in-Some-look.pair) c.in-Some-look.ensures.2 in
     subst (λ (x : SolverLists). IsPairIn x.graph c.args.p c.args.q c.turned.result) c.self.view_is
     (pair_turned s.graph c.args.p c.args.q c.in-Some-look.pair c.turned.result p q back c.turned.ensures.up c.turned.ensures.down)
+
+pub returns-in-Some-clause-leaves : goal.returns-in-Some-clause-leaves
+returns-in-Some-clause-leaves g c = leaves_all c.args.self.now c.requires.current
+
+pub returns-in-Some-look-clause-leaves : goal.returns-in-Some-look-clause-leaves
+returns-in-Some-look-clause-leaves g c = leaves_all c.args.self.now c.requires.current

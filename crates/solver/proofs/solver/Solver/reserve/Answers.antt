@@ -1,4 +1,4 @@
-use Rattle.std.proofs.Common.{◌-◌, length, sym, subst}
+use Rattle.std.proofs.Common.{◌-◌, sym, subst}
 use Rattle.solver.specs.Solver.{SolverLists}
 use Rattle.solver.specs.Current.{IsCurrent}
 use Rattle.solver.specs.contracts.solver.Solver.{the_view}
@@ -13,7 +13,7 @@ returns-clause-current c =
     let kept = c.reserve-2.new.self in
     let first : SolverLists = with_rows s s.pool s.kept front in
     let second : SolverLists = with_rows first s.pool kept front in
-    let one : IsCurrent first = front_step s current front (c.args.nodes - length s.front) c.in_ok-reserve.ensures.ok in
+    let one : IsCurrent first = front_step s current front (c.args.nodes - s.front) c.in_ok-reserve.ensures.ok in
     let two : IsCurrent second = found_step first one kept c.args.nodes c.in_ok-reserve-2.ensures.ok in
     rows_step second two c.reserve-3.new.self c.args.rows c.args.nodes c.in_ok-reserve-3.ensures.ok
     (c.rows_in_a_grown_pool.ensures.own kept s.pool c.args.rows c.args.nodes)

@@ -4,7 +4,7 @@ use Rattle.problem_model.specs.Tables.{reversed_table}
 use Rattle.sync_graph.specs.Graph.{table_of}
 use Rattle.row_pool.specs.declared.cell.Cell.{Cell}
 use Rattle.row_pool.specs.Row.{cells_of}
-use Rattle.row_pool.specs.Pool.{row_of, IsTaken}
+use Rattle.row_pool.specs.Pool.{row_of, IsTakenRow}
 use Rattle.solver.specs.Solver.{SolverLists}
 use Rattle.solver.specs.Current.{IsCurrent}
 use Rattle.solver.specs.contracts.solver.Solver.{the_view}
@@ -17,7 +17,7 @@ row-requires c =
     let current : IsCurrent s = subst IsCurrent (sym c.self.view_is) c.requires.current in
     let none : s.contradiction ≡ [] = subst (λ (x : SolverLists). x.contradiction ≡ []) (sym c.self.view_is) c.requires.solved in
     let told = c.in_ok-from.ensures in
-    subst (λ (n : ℕ). IsTaken c.self.inside.pool n) (sym told.2) (slot_has s current none c.args.p told.0 told.1).from
+    subst (λ (n : ℕ). IsTakenRow c.self.inside.pool n) (sym told.2) (slot_has s current none c.args.p told.0 told.1).from
 
 pub row-requires-2 : goal.row-requires-2
 row-requires-2 c =
@@ -25,7 +25,7 @@ row-requires-2 c =
     let current : IsCurrent s = subst IsCurrent (sym c.self.view_is) c.requires.current in
     let none : s.contradiction ≡ [] = subst (λ (x : SolverLists). x.contradiction ≡ []) (sym c.self.view_is) c.requires.solved in
     let told = c.in_ok-from.ensures in
-    subst (λ (n : ℕ). IsTaken c.self.inside.pool n) (sym told.3) (slot_has s current none c.args.p told.0 told.1).to
+    subst (λ (n : ℕ). IsTakenRow c.self.inside.pool n) (sym told.3) (slot_has s current none c.args.p told.0 told.1).to
 
 pub returns-clause-rows : goal.returns-clause-rows
 returns-clause-rows c =

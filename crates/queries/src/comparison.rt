@@ -11,7 +11,7 @@ pub enum Asked {
 
 /// A question about two events, each by its node.
 #[derive(Clone, Copy, Debug, PartialEq, Eq)]
-pub struct Question {
+pub struct Comparison {
     /// What is asked.
     pub asked: Asked,
     /// The event that the difference is taken from.
