@@ -1,11 +1,12 @@
 -- The certificates of intervals that are written are accepted.
 use Rattle.std.proofs.Common.{◌<◌, ◌≤◌, ◌^◌, ℕ, List, length, get_or, sym, subst, arith}
-use Rattle.std.specs.Prelude.{ℤ, pos, negsuc, neg_ℤ, ◌≤ℤ◌, All}
+use Rattle.std.specs.Prelude.{◌+◌, ℤ, pos, negsuc, neg_ℤ, ◌≤ℤ◌, All}
 use Rattle.std.proofs.lemmas.Int.{ints}
 use Rattle.atto.specs.Number.{FitsUnits}
-use Rattle.line_format.specs.Format.{most_bytes}
+use Rattle.line_format.specs.Format.{most_text_bytes}
 use Rattle.problem_model.specs.Problem.{ProblemLists, IsProblem}
 use Rattle.problem_model.specs.Nodes.{Reading, AreReadings, nodes_of}
+use Rattle.problem_model.specs.Limits.{path_bits}
 use Rattle.problem.proofs.ListedNodes.{few_nodes}
 use Rattle.cert.specs.EndLists.{EndLists, Limited, Unlimited}
 use Rattle.cert.specs.declared.chain.Step.{Step}
@@ -20,16 +21,16 @@ units_below : (m : ℕ) (z : ℤ) → m ≤ 2 ^ 120 → neg_ℤ (pos m) ≤ℤ z
 units_below m (pos n) few low high = omega (arith, ints, few, high)
 units_below m (negsuc n) few low high = omega (arith, ints, few, low)
 
-value_fits : (z : ℤ) → IsUnder 116 z → FitsUnits z
-value_fits z (low, high) = units_below (2 ^ 116) z (omega arith) (omega (arith, ints, low)) (omega (arith, ints, high))
+value_fits : (z : ℤ) → IsUnder (path_bits + 1) z → FitsUnits z
+value_fits z (low, high) = units_below (2 ^ (path_bits + 1)) z (omega arith) (omega (arith, ints, low)) (omega (arith, ints, high))
 
-time_fits : (z : ℤ) → IsUnder 117 z → FitsUnits z
-time_fits z (low, high) = units_below (2 ^ 117) z (omega arith) (omega (arith, ints, low)) (omega (arith, ints, high))
+time_fits : (z : ℤ) → IsUnder (path_bits + 2) z → FitsUnits z
+time_fits z (low, high) = units_below (2 ^ (path_bits + 2)) z (omega arith) (omega (arith, ints, low)) (omega (arith, ints, high))
 
 weight_fits : (z : ℤ) → IsUnder 93 z → FitsUnits z
 weight_fits z (low, high) = units_below (2 ^ 93) z (omega arith) (omega (arith, ints, low)) (omega (arith, ints, high))
 
-pub values_fit : (xs : List ℤ) → All (IsUnder 117) xs → All FitsUnits xs
+pub values_fit : (xs : List ℤ) → All (IsUnder (path_bits + 2)) xs → All FitsUnits xs
 values_fit xs small i d inside = time_fits (get_or xs i d) (small i d inside)
 
 pub weights_fit : (path : List Step) → All (λ s. IsUnder 93 s.weight) path → All (λ s. FitsUnits s.weight) path
@@ -55,8 +56,8 @@ module _ (p : ProblemLists) (readings : List Reading) (lawful : IsProblem p) (ar
 pub ends_accepted : (p : ProblemLists) (readings : List Reading) (first second : ℕ) (text : List ℕ) → IsTightText p readings first second text → IsProblem p → AreReadings p readings → first < length p.events → second < length p.events
     → IsAccepted p readings text
 ends_accepted p readings first second text (upper, lower, tight, is) lawful are there there' =
-    let below : length text < most_bytes = text_short p readings first second text (upper, lower, tight, is) lawful are in
-    let short : length text ≤ most_bytes = omega (arith, below) in
+    let below : length text < most_text_bytes = text_short p readings first second text (upper, lower, tight, is) lawful are in
+    let short : length text ≤ most_text_bytes = omega (arith, below) in
     let fits = ends_fit p readings lawful are first second upper lower tight in
     subst (IsAccepted p readings) (sym is)
-    (ends_shown_again p readings first second upper lower lawful are there there' tight.upper_of tight.lower_of fits.0 fits.1 (subst (λ (t : List ℕ). length t ≤ most_bytes) is short) tight.upper_shown tight.lower_shown)
+    (ends_shown_again p readings first second upper lower lawful are there there' tight.upper_of tight.lower_of fits.0 fits.1 (subst (λ (t : List ℕ). length t ≤ most_text_bytes) is short) tight.upper_shown tight.lower_shown)

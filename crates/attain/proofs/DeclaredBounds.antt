@@ -16,7 +16,7 @@ use Rattle.problem_model.specs.declared.items.Bound.{Bound}
 use Rattle.problem_model.specs.declared.items.Bound.TheVariants.{SpanMost, SpanLeast, Late, Early, Follow, DelayMost, DelayLeast}
 use Rattle.problem_model.specs.Problem.{ProblemLists, IsProblem, ClockFits, MessageFits}
 use Rattle.problem_model.specs.Bounds.{Constraint, Declares, IsReading, ClockAt}
-use Rattle.problem_model.specs.Nodes.{Reading, AreReadings, ComesBefore}
+use Rattle.problem_model.specs.Nodes.{Reading, AreReadings, IsEarlierReading}
 use Rattle.problem_model.specs.ShortList.{short_list, neighbour_bounds, span_bounds, event_bounds, clocks_before, first_reading, nearest_reading, follow_bound, follow_bounds, most_bound, message_bounds}
 use Rattle.problem_model.proofs.Following.{chained_by, by_last}
 use Rattle.problem_model.proofs.NearestFollows.{Joins, follows_are}
@@ -92,11 +92,11 @@ module _ (p : ProblemLists) (lawful : IsProblem p) where
   clock_of : (clock stamp : ℕ) → IsReading p clock stamp → (k : Clock) × ClockAt p clock k
   clock_of clock stamp (e, has, is, is') = some_at p.clocks clock (subst (λ (n : ℕ). n < length p.clocks) is (All-contains (λ (e : Event). e.clock < length p.clocks) p.events e lawful.formed.event_clocks has))
 
-  later : (a b : Reading) → ComesBefore a b → a.0 ≡ b.0 → a.1 < b.1
+  later : (a b : Reading) → IsEarlierReading a b → a.0 ≡ b.0 → a.1 < b.1
   later a b (inl less) same = absurd (omega (arith, less, same))
   later a b (inr more) same = more.1
 
-  neighbours : (a b : Reading) → ComesBefore a b → IsReading p a.0 a.1 → IsReading p b.0 b.1 → All IsOf (neighbour_bounds a b)
+  neighbours : (a b : Reading) → IsEarlierReading a b → IsReading p a.0 a.1 → IsReading p b.0 b.1 → All IsOf (neighbour_bounds a b)
   neighbours a b before is is' = elim (cases_eq a.0 b.0) [
     | inl same ↦ (
         let k = clock_of a.0 a.1 is in
@@ -108,7 +108,7 @@ module _ (p : ProblemLists) (lawful : IsProblem p) where
     | inr other ↦ subst (All IsOf) (sym (cond-false (a.0 == b.0) (SpanMost a.0 a.1 b.1 ∷ SpanLeast a.0 a.1 b.1 ∷ []) [] (ne_eqb a.0 b.0 other))) (All-nil IsOf)
   ]
 
-  spans : (rs : List Reading) → All (λ r. IsReading p r.0 r.1) rs → AllPairs ComesBefore rs → All IsOf (span_bounds rs)
+  spans : (rs : List Reading) → All (λ r. IsReading p r.0 r.1) rs → AllPairs IsEarlierReading rs → All IsOf (span_bounds rs)
   spans [] are rising = All-nil IsOf
   spans (a ∷ []) are rising = All-nil IsOf
   spans (a ∷ b ∷ rs) are rising =

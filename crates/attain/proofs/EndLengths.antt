@@ -4,13 +4,14 @@ use Rattle.std.specs.Prelude.{ℤ, All}
 use Rattle.std.specs.List.{flat_map}
 use Rattle.std.proofs.lemmas.Int.{ints}
 use Rattle.atto.specs.NsText.{ns_text}
-use Rattle.line_format.specs.Format.{most_bytes}
+use Rattle.line_format.specs.Format.{most_text_bytes}
 use Rattle.line_format.specs.Words.{line_of}
 use Rattle.problem_model.specs.Problem.{ProblemLists, IsProblem}
 use Rattle.problem_model.specs.ProblemText.{event_name}
 use Rattle.problem_model.specs.ExecutionText.{value_lines}
-use Rattle.problem_model.specs.Nodes.{most_nodes, Reading, AreReadings, nodes_of}
+use Rattle.problem_model.specs.Nodes.{Reading, AreReadings, nodes_of}
 use Rattle.problem_model.specs.Numbers.{IsUpTo}
+use Rattle.problem_model.specs.Limits.{most_nodes, path_bits}
 use Rattle.problem.proofs.ListedNodes.{few_nodes}
 use Rattle.cert.specs.EndLists.{EndLists, Limited, Unlimited}
 use Rattle.cert.specs.declared.chain.Step.{Step}
@@ -23,10 +24,10 @@ use Rattle.attain.specs.Tight.{IsUnder, IsUpperAs, IsLowerAs, IsSmallEnd, AreTig
 up_to : (bits : ℕ) (z : ℤ) → IsUnder bits z → IsUpTo bits z
 up_to bits z (low, high) = (omega (arith, ints, low), omega (arith, ints, high))
 
-value_up_to : (z : ℤ) → IsUnder 116 z → IsUpTo 117 z
+value_up_to : (z : ℤ) → IsUnder (path_bits + 1) z → IsUpTo (path_bits + 2) z
 value_up_to z (low, high) = (omega (arith, ints, low), omega (arith, ints, high))
 
-pub values_up_to : (zs : List ℤ) → All (IsUnder 117) zs → All (IsUpTo 117) zs
+pub values_up_to : (zs : List ℤ) → All (IsUnder (path_bits + 2)) zs → All (IsUpTo (path_bits + 2)) zs
 values_up_to zs small i d inside = up_to 117 (get_or zs i d) (small i d inside)
 
 pub weights_up_to : (steps : List Step) → All (λ s. IsUnder 93 s.weight) steps → All (λ s. IsUpTo 93 s.weight) steps
@@ -68,7 +69,7 @@ module _ (p : ProblemLists) (readings : List Reading) (lawful : IsProblem p) (ar
   lower_short first (Limited value path execution) of small (earliest, K, x, is, lead, soonest, values, short) = limited_short (codes "lower") value path execution (omega arith) of small short
   lower_short first (Unlimited inside execution) of small cut = unlimited_short (codes "lower") (codes "-inf") inside execution (omega arith) (omega arith) of small
 
-  whole_short : (first second : ℕ) (upper lower : EndLists) → AreTight p readings first second upper lower → length (certified (ends_lines p (nodes_of p readings) first second upper lower)) < most_bytes
+  whole_short : (first second : ℕ) (upper lower : EndLists) → AreTight p readings first second upper lower → length (certified (ends_lines p (nodes_of p readings) first second upper lower)) < most_text_bytes
   whole_short first second upper lower tight =
       let events : List ℕ = line_of (codes "ends" ∷ event_name p.events first ∷ event_name p.events second ∷ []) in
       let above : List ℕ = end_text p (nodes_of p readings) (codes "upper") (codes "+inf") upper in
@@ -82,5 +83,5 @@ module _ (p : ProblemLists) (readings : List Reading) (lawful : IsProblem p) (ar
       let whole = three (line_of certificate_head) (events ++ above ++ below) (line_of (codes "end" ∷ [])) in
       omega (arith, head, end, named, high, low, lines, whole)
 
-pub text_short : (p : ProblemLists) (readings : List Reading) (first second : ℕ) (text : List ℕ) → IsTightText p readings first second text → IsProblem p → AreReadings p readings → length text < most_bytes
-text_short p readings first second text (upper, lower, tight, is) lawful are = subst (λ (t : List ℕ). length t < most_bytes) (sym is) (whole_short p readings lawful are first second upper lower tight)
+pub text_short : (p : ProblemLists) (readings : List Reading) (first second : ℕ) (text : List ℕ) → IsTightText p readings first second text → IsProblem p → AreReadings p readings → length text < most_text_bytes
+text_short p readings first second text (upper, lower, tight, is) lawful are = subst (λ (t : List ℕ). length t < most_text_bytes) (sym is) (whole_short p readings lawful are first second upper lower tight)

@@ -8,7 +8,7 @@ use Rattle.sync_graph.specs.Graph.{GraphLists, table_of}
 use Rattle.problem.specs.Listing.{Listed, name_at}
 use Rattle.attain.specs.declared.side.Side.TheVariants.{Upper, Lower}
 use Rattle.attain.specs.Written.{written_end}
-use Rattle.attain.specs.Intervals.{IsEventOn, IsEndText, IsInterval}
+use Rattle.attain.specs.Intervals.{IsEventOn, IsEndText, IsIntervalByRows}
 use Rattle.attain.proofs.Parts.{end_there}
 
 module _ (l : Listed) (g : GraphLists) (values : List ℤ) (from to : Cells) (p q : ℕ) where
@@ -17,7 +17,7 @@ module _ (l : Listed) (g : GraphLists) (values : List ℤ) (from to : Cells) (p 
   both_parts first second upper lower = line_of (codes "ends" ∷ name_at l.event_names first ∷ name_at l.event_names second ∷ []) ++ upper ++ lower
 
   pub interval_is : (first second : ℕ) → IsEventOn l first p → IsEventOn l second q → (upper lower : List ℕ) → IsEndText Upper l g values from p q upper → IsEndText Lower l g values to p q lower
-      → IsInterval l g values from to p q (both_parts first second upper lower)
+      → IsIntervalByRows l g values from to p q (both_parts first second upper lower)
   interval_is first second on on' upper lower up down = record {
     first = first;
     second = second;
@@ -32,7 +32,7 @@ module _ (l : Listed) (g : GraphLists) (values : List ℤ) (from to : Cells) (p 
 
   -- there is such a certificate
   pub interval_there : IsRow (length g.nodes) (table_of g) p from → IsRow (length g.nodes) (reversed_table (table_of g)) p to → AllPairs (λ (r s : ℕ × ℕ × ℕ). r.0 ≤ s.0) l.readings
-      → (event : ℕ) × IsEventOn l event p → (event : ℕ) × IsEventOn l event q → (lines : List ℕ) × IsInterval l g values from to p q lines
+      → (event : ℕ) × IsEventOn l event p → (event : ℕ) × IsEventOn l event q → (lines : List ℕ) × IsIntervalByRows l g values from to p q lines
   interval_there row back rising first second =
       let up = end_there Upper l g values from p q row rising in
       let down = end_there Lower l g values to p q back rising in

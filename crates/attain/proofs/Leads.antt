@@ -1,12 +1,13 @@
 -- Leads of nodes, and the farthest of them.
 use Rattle.std.proofs.Common.{◌≡◌, ◌<◌, ◌^◌, ℕ, true, false, List, length, get_or, refl, ap, ◌∙◌, arith, to_z, of_z}
-use Rattle.std.specs.Prelude.{ℤ, pos, neg_ℤ, ◌+ℤ◌, ◌-ℤ◌, ◌≤ℤ◌}
+use Rattle.std.specs.Prelude.{◌+◌, ℤ, pos, neg_ℤ, ◌+ℤ◌, ◌-ℤ◌, ◌≤ℤ◌}
 use Rattle.std.proofs.lemmas.Int.{ints}
 use Rattle.std.proofs.lemmas.List.{get_or_default}
 use mir.Syntax.{w128}
 use Rattle.problem_model.specs.Executions.{at}
 use Rattle.problem_model.specs.Numbers.{IsUpTo}
 use Rattle.problem_model.specs.Parents.{Cells}
+use Rattle.problem_model.specs.Limits.{path_bits}
 use Rattle.earliest.proofs.Bounds.{worth}
 use Rattle.row_pool.specs.declared.cell.Cell.{Cell}
 use Rattle.row_pool.specs.Row.{unknown, cell_at}
@@ -27,16 +28,16 @@ sum_small : (side : Side) (m v x : ℤ) → neg_ℤ m ≤ℤ v → v ≤ℤ m �
 sum_small Upper m v x low high low' high' = (omega (arith, ints), omega (arith, ints))
 sum_small Lower m v x low high low' high' = (omega (arith, ints), omega (arith, ints))
 
-pub lead_least : (side : Side) (values : List ℤ) (c : Cells) (k : ℕ) → AreMiddling (length values) values c → k < length values → c.known k ≡ true → IsUpTo 116 (lead side c values k)
+pub lead_least : (side : Side) (values : List ℤ) (c : Cells) (k : ℕ) → AreMiddling (length values) values c → k < length values → c.known k ≡ true → IsUpTo (path_bits + 1) (lead side c values k)
 lead_least side values c k sizes within known =
     let v = sizes.distances k known in
     let x = sizes.at_nodes k within in
-    sum_small side (pos (2 ^ 115)) (c.value k) (at values k) v.0 v.1 x.0 x.1
+    sum_small side (pos (2 ^ path_bits)) (c.value k) (at values k) v.0 v.1 x.0 x.1
 
-up_to_next : (x : ℤ) → IsUpTo 116 x → IsUpTo 117 x
+up_to_next : (x : ℤ) → IsUpTo (path_bits + 1) x → IsUpTo (path_bits + 2) x
 up_to_next x small = (omega (arith, ints, small.0), omega (arith, ints, small.1))
 
-pub lead_small : (side : Side) (values : List ℤ) (c : Cells) (k : ℕ) → AreMiddling (length values) values c → k < length values → c.known k ≡ true → IsUpTo 117 (lead side c values k)
+pub lead_small : (side : Side) (values : List ℤ) (c : Cells) (k : ℕ) → AreMiddling (length values) values c → k < length values → c.known k ≡ true → IsUpTo (path_bits + 2) (lead side c values k)
 lead_small side values c k sizes within known = up_to_next (lead side c values k) (lead_least side values c k sizes within known)
 
 -- ---- the farthest
@@ -54,7 +55,7 @@ lead_is Upper nodes c values k within known each = record { attained = (k, withi
 lead_is Lower nodes c values k within known each = record { attained = (k, within, known, refl); least_lead = each }
 
 -- ---- as the code computes them
-up_to_more : (x : ℤ) → IsUpTo 117 x → IsUpTo 118 x
+up_to_more : (x : ℤ) → IsUpTo (path_bits + 2) x → IsUpTo (path_bits + 3) x
 up_to_more x small = (omega (arith, ints, small.0), omega (arith, ints, small.1))
 
 pub sum_is : (side : Side) (values : List ℤ) (c : Cells) (k : ℕ) → AreMiddling (length values) values c → k < length values → c.known k ≡ true

@@ -11,10 +11,10 @@ use Rattle.problem_model.specs.declared.items.Bound.TheVariants.{SpanMost, SpanL
 use Rattle.problem_model.specs.Name.{IsEventName}
 use Rattle.problem_model.specs.Problem.{ProblemLists, IsProblem}
 use Rattle.problem_model.specs.Bounds.{Constraint, Declares, ClockAt, IsReading}
-use Rattle.problem_model.specs.Nodes.{Reading, ComesBefore}
+use Rattle.problem_model.specs.Nodes.{Reading, IsEarlierReading}
 use Rattle.sync_graph.specs.Graph.{GraphLists, arc_at}
 use Rattle.problem.specs.Listing.{Listed, name_at}
-use Rattle.cert.specs.Listed.{IsNamed}
+use Rattle.cert.specs.Listed.{HasNames}
 use Rattle.attain.specs.Written.{NamesArcs}
 use Rattle.problem_graph.specs.ListedProblem.{IsListedBy, StandsAt, IsCarried}
 use Rattle.problem_graph.specs.ListedStanding.{StandsForListed}
@@ -49,7 +49,7 @@ module _ (l : Listed) (p : ProblemLists) (readings : List Reading) (lawful : IsP
       let known : v.clock < length p.clocks = All-contains (λ (e : Event). e.clock < length p.clocks) p.events v lawful.formed.event_clocks has in
       omega (arith, known, on, ap length is.clocks, length-map p.clocks (λ (c : Clock). c.name))
 
-  bound_named : (name b : Bound) (c : Constraint) → IsCarried l name b → Declares p b c → IsNamed l name
+  bound_named : (name b : Bound) (c : Constraint) → IsCarried l name b → Declares p b c → HasNames l name
   bound_named (SpanMost clock s t) b c carried declares =
       let d : Declares p (SpanMost clock s t) c = subst (λ (v : Bound). Declares p v c) carried declares in clock_named clock d.0 d.1
   bound_named (SpanLeast clock s t) b c carried declares =
@@ -67,7 +67,7 @@ named l p readings g stands j force =
     bound_named l p readings stands.lawful stands.listed (arc_at g.arcs j).name by.0 by.1.constraint by.1.named by.1.declares
 
 -- ---- readings
-before_rises : (a b : Reading) → ComesBefore a b → a.0 ≤ b.0
+before_rises : (a b : Reading) → IsEarlierReading a b → a.0 ≤ b.0
 before_rises a b (inl less) = omega (arith, less)
 before_rises a b (inr later) = omega (arith, later.0)
 
@@ -79,9 +79,9 @@ get_or_map f (x ∷ xs) (suc k) d = get_or_map f xs k d
 -- the listed readings rise by their clocks
 pub clocks_rise : (l : Listed) (p : ProblemLists) (readings : List Reading) (g : GraphLists) → StandsForListed l p readings g → AllPairs (λ (r : ℕ × ℕ × ℕ) (s : ℕ × ℕ × ℕ). r.0 ≤ s.0) l.readings
 clocks_rise l p readings g stands i j d below inside =
-    let rising : AllPairs ComesBefore (map stamp_of l.readings) = subst (λ (rs : List Reading). AllPairs ComesBefore rs) (sym stands.listed.stamps) stands.are_readings.rising in
+    let rising : AllPairs IsEarlierReading (map stamp_of l.readings) = subst (λ (rs : List Reading). AllPairs IsEarlierReading rs) (sym stands.listed.stamps) stands.are_readings.rising in
     let here = rising i j (stamp_of d) below (let same = length-map l.readings stamp_of in omega (arith, inside, same)) in
     let r : ℕ × ℕ × ℕ = get_or l.readings i d in
     let s : ℕ × ℕ × ℕ = get_or l.readings j d in
     before_rises (stamp_of r) (stamp_of s)
-    (subst (λ (v : Reading). ComesBefore (stamp_of r) v) (get_or_map stamp_of l.readings j d) (subst (λ (v : Reading). ComesBefore v (get_or (map stamp_of l.readings) j (stamp_of d))) (get_or_map stamp_of l.readings i d) here))
+    (subst (λ (v : Reading). IsEarlierReading (stamp_of r) v) (get_or_map stamp_of l.readings j d) (subst (λ (v : Reading). IsEarlierReading v (get_or (map stamp_of l.readings) j (stamp_of d))) (get_or_map stamp_of l.readings i d) here))

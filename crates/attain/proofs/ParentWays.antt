@@ -12,8 +12,9 @@ use Rattle.problem_model.specs.Nodes.{Reading}
 use Rattle.problem_model.specs.Parents.{Cells, no_parent, IsTight, LeadsBack, IsRow}
 use Rattle.problem_model.specs.Solutions.{WeighedBound, Leads, weight_of}
 use Rattle.problem_model.specs.Tables.{ArcTable, reversed_table}
+use Rattle.problem_model.specs.Limits.{most_arcs}
 use Rattle.sync_graph.specs.declared.arc.Arc.{Arc}
-use Rattle.sync_graph.specs.Graph.{GraphLists, IsGraph, most_arcs, arc_at, table_of}
+use Rattle.sync_graph.specs.Graph.{GraphLists, IsGraph, arc_at, table_of}
 use Rattle.sync_graph.proofs.InForce.{in_force_below}
 use Rattle.cert.specs.declared.chain.Step.{Step}
 use Rattle.cert.specs.CertificateText.{IsStepOf}
@@ -23,7 +24,7 @@ use Rattle.problem_graph.specs.ListedProblem.{IsCarried}
 use Rattle.attain.specs.ListedProblem.{AreCarried}
 use Rattle.problem_graph.specs.ListedStanding.{IsNodeBy, StandsForListed}
 use Rattle.attain.specs.Tight.{HasPath}
-use Rattle.attain.specs.Written.{FollowsParents}
+use Rattle.attain.specs.Written.{NamesParents}
 use Rattle.problem_graph.proofs.ListedExecutions.{bound_of}
 use Rattle.problem_graph.proofs.NodeNumbers.{one_node}
 
@@ -67,7 +68,7 @@ module _ (l : Listed) (p : ProblemLists) (readings : List Reading) (g : GraphLis
   module _ (from : ℕ) (first : Node) (own : IsNodeBy l p readings from first) (c : Cells) where
     -- ---- outward
     module _ (row : IsRow (length g.nodes) (table_of g) from c) where
-      pub upper_way : (steps : List (Bound × ℤ)) (k : ℕ) (n : Node) → IsNodeBy l p readings k n → c.known k ≡ true → FollowsParents true g c from k steps
+      pub upper_way : (steps : List (Bound × ℤ)) (k : ℕ) (n : Node) → IsNodeBy l p readings k n → c.known k ≡ true → NamesParents true g c from k steps
           → (path : List Step) × IsWay (λ (bounds : List WeighedBound). LeadsAgainst p n bounds first) steps (c.value k) path
       upper_way [] k n by known same = (
         [],
@@ -105,7 +106,7 @@ module _ (l : Listed) (p : ProblemLists) (readings : List Reading) (g : GraphLis
 
     -- ---- towards the node
     module _ (row : IsRow (length g.nodes) (reversed_table (table_of g)) from c) where
-      pub lower_way : (steps : List (Bound × ℤ)) (k : ℕ) (n : Node) → IsNodeBy l p readings k n → c.known k ≡ true → FollowsParents false g c from k steps
+      pub lower_way : (steps : List (Bound × ℤ)) (k : ℕ) (n : Node) → IsNodeBy l p readings k n → c.known k ≡ true → NamesParents false g c from k steps
           → (path : List Step) × IsWay (λ (bounds : List WeighedBound). Leads p n bounds first) steps (c.value k) path
       lower_way [] k n by known same = (
         [],

@@ -16,7 +16,7 @@ use Rattle.problem.specs.Listing.{Listed, listed_nodes}
 use Rattle.cert.specs.Listed.{listed_step, listed_values}
 use Rattle.attain.specs.declared.side.Side.{Side}
 use Rattle.attain.specs.declared.side.Side.TheVariants.{Upper, Lower}
-use Rattle.attain.specs.Written.{Limit, NoLimit, FollowsParents, AreClocksOf, written_end}
+use Rattle.attain.specs.Written.{Limit, NoLimit, NamesParents, AreClocksOf, written_end}
 use Rattle.attain.specs.Sides.{is_upper, part, unlimited, facing, differences, lead, IsAsFar, IsLeadOf, IsEndWritten}
 use Rattle.attain.specs.Intervals.{IsEndText}
 use Rattle.attain.proofs.Cutting.{clocks_behind, clocks_of, all_tail, all_cons}
@@ -28,7 +28,7 @@ signed_is : (v : ℤ) → pos 0 -ℤ v ≡ neg_ℤ v
 signed_is v = omega (arith, ints)
 
 module _ (l : Listed) (g : GraphLists) (values : List ℤ) (c : Cells) (p q : ℕ) where
-  pub limit_is : (side : Side) (K : ℤ) (steps : List (Bound × ℤ)) → c.known q ≡ true → IsLeadOf side (length g.nodes) c values K → FollowsParents (is_upper side) g c p q steps → length steps < length g.nodes
+  pub limit_is : (side : Side) (K : ℤ) (steps : List (Bound × ℤ)) → c.known q ≡ true → IsLeadOf side (length g.nodes) c values K → NamesParents (is_upper side) g c p q steps → length steps < length g.nodes
       → IsEndWritten side l g values c p q (Limit (differences side c q) steps (attaining c.known (differences side c) values K))
   limit_is Upper K steps known is_lead follows short = (K, known, refl, is_lead, follows, short, (λ k within. refl))
   limit_is Lower K steps known is_lead follows short = (K, known, signed_is (c.value q), is_lead, follows, short, (λ k within. refl))
@@ -38,7 +38,7 @@ module _ (l : Listed) (g : GraphLists) (values : List ℤ) (c : Cells) (p q : �
   no_limit_is Lower inside unknown clocks = (unknown, clocks, refl)
 
   -- the lines of such an end, one behind another
-  pub limit_text : (side : Side) (K : ℤ) (steps : List (Bound × ℤ)) → c.known q ≡ true → IsLeadOf side (length g.nodes) c values K → FollowsParents (is_upper side) g c p q steps → length steps < length g.nodes
+  pub limit_text : (side : Side) (K : ℤ) (steps : List (Bound × ℤ)) → c.known q ≡ true → IsLeadOf side (length g.nodes) c values K → NamesParents (is_upper side) g c p q steps → length steps < length g.nodes
       → IsEndText side l g values c p q (line_of (part side ∷ ns_text (differences side c q) ∷ []) ++ flat_map (listed_step l) steps ++ listed_values l (attaining c.known (differences side c) values K))
   limit_text side K steps known is_lead follows short = (Limit (differences side c q) steps (attaining c.known (differences side c) values K), limit_is side K steps known is_lead follows short, refl)
 

@@ -14,7 +14,7 @@ use Rattle.problem.specs.Listing.{Listed}
 use Rattle.cert.specs.Listed.{listed_step}
 use Rattle.attain.specs.declared.side.Side.{Side}
 use Rattle.attain.specs.declared.side.Side.TheVariants.{Upper, Lower}
-use Rattle.attain.specs.Written.{next_node, FollowsParents}
+use Rattle.attain.specs.Written.{next_node, NamesParents}
 use Rattle.attain.specs.Sides.{is_upper, facing}
 
 -- the names and weights of so many parents' arcs from node k on
@@ -41,7 +41,7 @@ module _ (side : Side) (g : GraphLists) (p : ℕ) (c : Cells) where
     subst (LeadsBack (facing side g) p c n) (tail_is side g (c.parent k)) rest,
   )
 
-  pub chain_follows : (n k : ℕ) → LeadsBack (facing side g) p c n k → FollowsParents (is_upper side) g c p k (chain (is_upper side) g c n k)
+  pub chain_follows : (n k : ℕ) → LeadsBack (facing side g) p c n k → NamesParents (is_upper side) g c p k (chain (is_upper side) g c n k)
   chain_follows zero k back = back
   chain_follows (suc n) k back =
       let first = back_first n k back in
@@ -55,7 +55,7 @@ module _ (side : Side) (g : GraphLists) (p : ℕ) (c : Cells) where
   known_within k row known = elim (cases_lt k (length g.nodes)) [ inl below ↦ below | inr past ↦ absurd (let unknown : c.known k ≡ false = row.past k past in let z : ⊥ = cc in z) ]
 
   -- there is a path from each known node
-  pub path_of : (q : ℕ) → IsRow (length g.nodes) (facing side g) p c → c.known q ≡ true → (steps : List (Bound × ℤ)) × FollowsParents (is_upper side) g c p q steps × (length steps < length g.nodes)
+  pub path_of : (q : ℕ) → IsRow (length g.nodes) (facing side g) p c → c.known q ≡ true → (steps : List (Bound × ℤ)) × NamesParents (is_upper side) g c p q steps × (length steps < length g.nodes)
   path_of q row known =
       let back = row.back q known in
       let few = back.1 in
@@ -90,7 +90,7 @@ module _ (l : Listed) (side : Side) (g : GraphLists) (c : Cells) (p q : ℕ) (ol
 
   -- some steps follow parents all the way, and this became of their lines
   abbrev pub HasPathWritten : SinkTold → Result (Unit {0}) Failed → Type 0
-  HasPathWritten new r = (steps : List (Bound × ℤ)) × FollowsParents (is_upper side) g c p q steps × (length steps < length g.nodes) × Writes (flat_map (listed_step l) steps) old new r
+  HasPathWritten new r = (steps : List (Bound × ℤ)) × NamesParents (is_upper side) g c p q steps × (length steps < length g.nodes) × Writes (flat_map (listed_step l) steps) old new r
 
   whole_written : (total : ℕ) (new : SinkTold) (r : Result (Unit {0}) Failed) → LeadsBack (facing side g) p c total q → total < length g.nodes
       → Writes (flat_map (listed_step l) (chain (is_upper side) g c total q)) old new r → HasPathWritten new r

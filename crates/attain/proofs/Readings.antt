@@ -6,7 +6,7 @@ use Rattle.std.proofs.lemmas.List.Elements.{All-contains_itself}
 use Rattle.std.proofs.lemmas.List.Kept.{AllPairs-cons}
 use Rattle.problem_model.specs.declared.items.Event.{Event}
 use Rattle.problem_model.specs.Problem.{ProblemLists}
-use Rattle.problem_model.specs.Nodes.{Reading, ComesBefore, AreReadings}
+use Rattle.problem_model.specs.Nodes.{Reading, IsEarlierReading, AreReadings}
 
 -- ---- elements of lists
 -- the first stands in the list
@@ -36,7 +36,7 @@ same_reading : (r x : Reading) → r.0 ≡ x.0 → r.1 ≡ x.1 → r ≡ x
 same_reading r x clock stamp = ap (λ (c : ℕ). reading_at c r.1) clock ∙ ap (λ (s : ℕ). reading_at x.0 s) stamp
 
 -- of two readings one comes before the other, or they are one
-before_or_not : (r x : Reading) → ComesBefore r x ⊎ ((r ≡ x) ⊎ ComesBefore x r)
+before_or_not : (r x : Reading) → IsEarlierReading r x ⊎ ((r ≡ x) ⊎ IsEarlierReading x r)
 before_or_not r x = elim (cases_lt r.0 x.0) [
   | inl less ↦ inl (inl less)
   | inr more ↦ elim (cases_eq r.0 x.0) [
@@ -52,7 +52,7 @@ before_or_not r x = elim (cases_lt r.0 x.0) [
 ]
 
 -- what comes before one comes before all that come after it
-before_trans : (a b c : Reading) → ComesBefore a b → ComesBefore b c → ComesBefore a c
+before_trans : (a b c : Reading) → IsEarlierReading a b → IsEarlierReading b c → IsEarlierReading a c
 before_trans a b c (inl x) (inl y) = inl (omega (arith, x, y))
 before_trans a b c (inl x) (inr y) = inl (omega (arith, x, y.0))
 before_trans a b c (inr x) (inl y) = inl (omega (arith, x.0, y))
@@ -61,38 +61,38 @@ before_trans a b c (inr x) (inr y) = inr (omega (arith, x.0, y.0), omega (arith,
 -- ---- one reading more
 -- a list in order that has this reading and those of another list, and no other
 record IsPut (r : Reading) (xs ys : List Reading) : Type 0 where
-  rising : AllPairs ComesBefore ys
+  rising : AllPairs IsEarlierReading ys
   only : (q : Reading) → Contains ys q → (r ≡ q) ⊎ Contains xs q
   new : Contains ys r
   kept : (q : Reading) → Contains xs q → Contains ys q
 
 -- what is left of a list in order is in order
-rising_tail : (x : Reading) (xs : List Reading) → AllPairs ComesBefore (x ∷ xs) → AllPairs ComesBefore xs
+rising_tail : (x : Reading) (xs : List Reading) → AllPairs IsEarlierReading (x ∷ xs) → AllPairs IsEarlierReading xs
 rising_tail x xs rising i j d less inside = rising (suc i) (suc j) d (omega (arith, less)) (omega (arith, inside))
 
 -- the first of it comes before each other
-rising_head : (x q : Reading) (xs : List Reading) → AllPairs ComesBefore (x ∷ xs) → Contains xs q → ComesBefore x q
-rising_head x q xs rising (k, inside, is) = subst (ComesBefore x) is (rising 0 (suc k) q (omega arith) (omega (arith, inside)))
+rising_head : (x q : Reading) (xs : List Reading) → AllPairs IsEarlierReading (x ∷ xs) → Contains xs q → IsEarlierReading x q
+rising_head x q xs rising (k, inside, is) = subst (IsEarlierReading x) is (rising 0 (suc k) q (omega arith) (omega (arith, inside)))
 
 -- in front of a list that it comes before
-put_first : (r x : Reading) (xs : List Reading) → AllPairs ComesBefore (x ∷ xs) → ComesBefore r x → IsPut r (x ∷ xs) (r ∷ x ∷ xs)
+put_first : (r x : Reading) (xs : List Reading) → AllPairs IsEarlierReading (x ∷ xs) → IsEarlierReading r x → IsPut r (x ∷ xs) (r ∷ x ∷ xs)
 put_first r x xs rising before = record {
-  rising = AllPairs-cons ComesBefore r (x ∷ xs) (λ k d inside. after _ (All-contains_itself (x ∷ xs) k d inside)) rising;
+  rising = AllPairs-cons IsEarlierReading r (x ∷ xs) (λ k d inside. after _ (All-contains_itself (x ∷ xs) k d inside)) rising;
   only = λ q is. head_or_tail r q (x ∷ xs) is;
   new = here r (x ∷ xs);
   kept = λ q is. there r q (x ∷ xs) is;
 }
   where
-    after : (q : Reading) → Contains (x ∷ xs) q → ComesBefore r q
+    after : (q : Reading) → Contains (x ∷ xs) q → IsEarlierReading r q
     after q is = elim (head_or_tail x q xs is) [
-      | inl same ↦ subst (ComesBefore r) same before
+      | inl same ↦ subst (IsEarlierReading r) same before
       | inr more ↦ before_trans r x q before (rising_head x q xs rising more)
     ]
 
 -- behind the first of a list
-put_behind : (r x : Reading) (xs ys : List Reading) → AllPairs ComesBefore (x ∷ xs) → ComesBefore x r → IsPut r xs ys → IsPut r (x ∷ xs) (x ∷ ys)
+put_behind : (r x : Reading) (xs ys : List Reading) → AllPairs IsEarlierReading (x ∷ xs) → IsEarlierReading x r → IsPut r xs ys → IsPut r (x ∷ xs) (x ∷ ys)
 put_behind r x xs ys rising before is = record {
-  rising = AllPairs-cons ComesBefore x ys (λ k d inside. after _ (is.only _ (All-contains_itself ys k d inside))) is.rising;
+  rising = AllPairs-cons IsEarlierReading x ys (λ k d inside. after _ (is.only _ (All-contains_itself ys k d inside))) is.rising;
   only = λ q among. elim (head_or_tail x q ys among) [
     | inl same ↦ inr (subst (Contains (x ∷ xs)) same (here x xs))
     | inr more ↦ elim (is.only q more) [ inl new ↦ inl new | inr old ↦ inr (there x q xs old) ]
@@ -104,12 +104,12 @@ put_behind r x xs ys rising before is = record {
   ];
 }
   where
-    after : (q : Reading) → (r ≡ q) ⊎ Contains xs q → ComesBefore x q
-    after q (inl same) = subst (ComesBefore x) same before
+    after : (q : Reading) → (r ≡ q) ⊎ Contains xs q → IsEarlierReading x q
+    after q (inl same) = subst (IsEarlierReading x) same before
     after q (inr old) = rising_head x q xs rising old
 
 -- a reading can be put into any list in order
-put : (r : Reading) (xs : List Reading) → AllPairs ComesBefore xs → (ys : List Reading) × IsPut r xs ys
+put : (r : Reading) (xs : List Reading) → AllPairs IsEarlierReading xs → (ys : List Reading) × IsPut r xs ys
 put r [] rising = (
   r ∷ [],
   record {
@@ -134,7 +134,7 @@ IsReadBy es r = (e : Event) × Contains es e × (e.clock ≡ r.0) × (e.stamp �
 record AreReadBy (es : List Event) (rs : List Reading) : Type 0 where
   each : (r : Reading) → Contains rs r → IsReadBy es r
   every : (r : Reading) → IsReadBy es r → Contains rs r
-  rising : AllPairs ComesBefore rs
+  rising : AllPairs IsEarlierReading rs
 
 -- one event more, and its reading
 readings_more : (e : Event) (es : List Event) (rs ss : List Reading) → AreReadBy es rs → IsPut (e.clock, e.stamp) rs ss → AreReadBy (e ∷ es) ss

@@ -9,10 +9,11 @@ use Rattle.problem_model.specs.Executions.{at}
 use Rattle.problem_model.specs.Numbers.{IsUpTo}
 use Rattle.problem_model.specs.Parents.{Cells, IsRow}
 use Rattle.problem_model.specs.Tables.{ArcTable, ObeysAll, reversed_table}
+use Rattle.problem_model.specs.Limits.{most_nodes, path_bits}
 use Rattle.problem_model.proofs.Heights.{earliest_height, height_low}
 use Rattle.problem_model.proofs.Parents.{chain_bound, row_high}
 use Rattle.problem_model.proofs.Tables.{obeys_all}
-use Rattle.sync_graph.specs.Graph.{GraphLists, IsGraph, most_nodes, arc_at, table_of}
+use Rattle.sync_graph.specs.Graph.{GraphLists, IsGraph, arc_at, table_of}
 use Rattle.sync_graph.specs.InForce.{arcs_of, IsEarliestOf}
 use Rattle.attain.specs.Written.{AreMiddling}
 use Rattle.sync_graph.proofs.InForce.{no_arc, in_force_below, arcs_listed, arcs_within}
@@ -36,7 +37,7 @@ value_within m z low high = (omega (arith, ints, low, high), high)
 distance_within : (m : ℕ) (x y z : ℤ) → pos 0 ≤ℤ x → y ≤ℤ pos m → (x -ℤ y) ≤ℤ z → z ≤ℤ pos m → IsWithin m z
 distance_within m x y z low high least most = (omega (arith, ints, low, high, least), most)
 
-widened : (m : ℕ) (z : ℤ) → m ≤ 2 ^ 115 → IsWithin m z → IsUpTo 115 z
+widened : (m : ℕ) (z : ℤ) → m ≤ 2 ^ path_bits → IsWithin m z → IsUpTo path_bits z
 widened m z few (low, high) = (omega (arith, ints, few, low), omega (arith, ints, few, high))
 
 middling : (n : ℕ) (values : List ℤ) (c : Cells) → n ≤ most_nodes → AreWithinHeight (n * 2 ^ 93) n values c → AreMiddling n values c

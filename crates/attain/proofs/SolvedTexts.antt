@@ -5,17 +5,18 @@ use Rattle.std.specs.List.{flat_map}
 use Rattle.std.proofs.lemmas.Int.{ints}
 use Rattle.std.proofs.lemmas.List.{length-map, get_or_default}
 use Rattle.std.proofs.lemmas.List.Elements.{All-nil, All-cons}
-use Rattle.line_format.specs.Format.{most_bytes}
+use Rattle.line_format.specs.Format.{most_text_bytes}
 use Rattle.line_format.specs.Words.{line_of}
 use Rattle.problem_model.specs.declared.items.Node.{Node}
 use Rattle.problem_model.specs.Problem.{ProblemLists, IsProblem}
 use Rattle.problem_model.specs.Bounds.{Times}
 use Rattle.problem_model.specs.ExecutionText.{value_lines}
-use Rattle.problem_model.specs.Nodes.{most_nodes, Reading, AreReadings, nodes_of}
+use Rattle.problem_model.specs.Nodes.{Reading, AreReadings, nodes_of}
 use Rattle.problem_model.specs.Executions as bounds
 use Rattle.problem_model.specs.Executions.{at}
 use Rattle.problem_model.specs.Earliest.{IsEarliest}
 use Rattle.problem_model.specs.Solutions.{IsEarliestExecution, Leads, IsContradictionOf}
+use Rattle.problem_model.specs.Limits.{most_nodes, path_bits}
 use Rattle.problem_model.proofs.Heights.{earliest_height, height_low}
 use Rattle.problem_model.proofs.Problems.{within}
 use Rattle.problem_model.proofs.Solutions.{same_earliest}
@@ -50,7 +51,7 @@ module _ (p : ProblemLists) (lawful : IsProblem p) where
 module _ (p : ProblemLists) (readings : List Reading) (lawful : IsProblem p) (are : AreReadings p readings) where
   -- what is said between the head and the end
   framed_short : (kind lines : List ℕ) → length kind ≤ 5 → length lines ≤ end_bytes
-      → length (line_of certificate_head ++ (line_of (kind ∷ []) ++ lines) ++ line_of (codes "end" ∷ [])) < most_bytes
+      → length (line_of certificate_head ++ (line_of (kind ∷ []) ++ lines) ++ line_of (codes "end" ∷ [])) < most_text_bytes
   framed_short kind lines word short =
       let head : length (line_of certificate_head) ≡ 14 = line_size (codes "certificate") (codes "1" ∷ []) in
       let end : length (line_of (codes "end" ∷ [])) ≡ 4 = line_size (codes "end") [] in
@@ -60,7 +61,7 @@ module _ (p : ProblemLists) (readings : List Reading) (lawful : IsProblem p) (ar
       omega (arith, word, short, head, end, first, both, whole)
 
   -- ---- contradictions
-  pub cycle_short : (steps : List Step) → IsContradictionOf p (weighed_bounds steps) → length steps ≤ length (nodes_of p readings) → length (certificate_text p (nodes_of p readings) (Cycle steps)) < most_bytes
+  pub cycle_short : (steps : List Step) → IsContradictionOf p (weighed_bounds steps) → length steps ≤ length (nodes_of p readings) → length (certificate_text p (nodes_of p readings) (Cycle steps)) < most_text_bytes
   cycle_short steps contradiction short =
       let n = contradiction.closed.0 in
       let few = few_nodes p readings lawful are in
@@ -77,7 +78,7 @@ module _ (p : ProblemLists) (readings : List Reading) (lawful : IsProblem p) (ar
       let small = led_small p lawful steps n n contradiction.closed.1 in
       let few = few_nodes p readings lawful are in
       shown_again p readings (Cycle steps) lawful are declared (weights_fit steps small, omega (arith, short, few))
-      (below (length (certificate_text p (nodes_of p readings) (Cycle steps))) most_bytes (cycle_short steps contradiction short)) contradiction
+      (below (length (certificate_text p (nodes_of p readings) (Cycle steps))) most_text_bytes (cycle_short steps contradiction short)) contradiction
 
   -- ---- earliest executions
   module _ (x : Times) (e : IsEarliestExecution p x) where
@@ -96,29 +97,29 @@ module _ (p : ProblemLists) (readings : List Reading) (lawful : IsProblem p) (ar
         let low = (declared_small p lawful arc.0 arc.1 arc.2).0 in
         subst (λ (w : ℤ). neg_ℤ (pos (2 ^ 93)) ≤ℤ w) (sym arc.3.weighs) (omega (arith, ints, low))
 
-    limit_is : (n : ℕ) (z : ℤ) → n ≤ most_nodes → pos 0 ≤ℤ z → z ≤ℤ pos (n * 2 ^ 93) → IsUnder 116 z
+    limit_is : (n : ℕ) (z : ℤ) → n ≤ most_nodes → pos 0 ≤ℤ z → z ≤ℤ pos (n * 2 ^ 93) → IsUnder (path_bits + 1) z
     limit_is n z few low high =
-        let most : n * 2 ^ 93 ≤ 2 ^ 115 = height_low n few in
+        let most : n * 2 ^ 93 ≤ 2 ^ path_bits = height_low n few in
         (omega (arith, ints, most, low, high), omega (arith, ints, most, low, high))
 
     values_long : length values ≡ length (nodes_of p readings)
     values_long = length-map (nodes_of p readings) x
 
-    pub values_small : All (IsUnder 116) values
+    pub values_small : All (IsUnder (path_bits + 1)) values
     values_small i d inside =
         let here : at values i ≡ get_or values i d = get_or_default values i (pos 0) d inside in
-        subst (IsUnder 116) here
+        subst (IsUnder (path_bits + 1)) here
         (limit_is (length (nodes_of p readings)) (at values i) (few_nodes p readings lawful are) (earliest_is.non_negative i)
         (earliest_height (length (nodes_of p readings)) own_arcs values (2 ^ 93) (within p readings own_arcs are (arcs_stand p lawful readings are).1) low_weights earliest_is i (omega (arith, inside, values_long))))
 
     -- so they are small enough for real times of a certificate
-    wider : (z : ℤ) → IsUnder 116 z → IsUnder 117 z
+    wider : (z : ℤ) → IsUnder (path_bits + 1) z → IsUnder (path_bits + 2) z
     wider z (low, high) = (omega (arith, ints, low), omega (arith, ints, high))
 
-    times_small : All (IsUnder 117) values
+    times_small : All (IsUnder (path_bits + 2)) values
     times_small i d inside = wider (get_or values i d) (values_small i d inside)
 
-    pub run_short : length (certificate_text p (nodes_of p readings) (Run values)) < most_bytes
+    pub run_short : length (certificate_text p (nodes_of p readings) (Run values)) < most_text_bytes
     run_short =
         let few = few_nodes p readings lawful are in
         let lines = values_short p lawful readings values are (values_up_to values times_small) in
@@ -127,4 +128,4 @@ module _ (p : ProblemLists) (readings : List Reading) (lawful : IsProblem p) (ar
     pub run_accepted : IsAccepted p readings (certificate_text p (nodes_of p readings) (Run values))
     run_accepted =
         shown_again p readings (Run values) lawful are (readings, are, values_long) (values_fit values times_small)
-        (below (length (certificate_text p (nodes_of p readings) (Run values))) most_bytes run_short) (x, (readings, are, refl), e.execution)
+        (below (length (certificate_text p (nodes_of p readings) (Run values))) most_text_bytes run_short) (x, (readings, are, refl), e.execution)

@@ -12,7 +12,7 @@ use Rattle.row_pool.specs.Row.{cells_of}
 use Rattle.attain.specs.Tight.{IsTightText}
 
 -- the row of distances from node p and that towards it, with a cell for each node
-pub record AreRowsOf (g : GraphLists) (p : ℕ) (from to : List Cell) : Type 0 where
+pub record AreRowsAt (g : GraphLists) (p : ℕ) (from to : List Cell) : Type 0 where
   pub from_node : IsRow (length g.nodes) (table_of g) p (cells_of from)
   pub to_node : IsRow (length g.nodes) (reversed_table (table_of g)) p (cells_of to)
   pub cells_from : length g.nodes ≤ length from

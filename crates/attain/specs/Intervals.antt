@@ -19,7 +19,7 @@ IsEndText side l g values c p q text = (end : WrittenEnd) × IsEndWritten side l
 
 -- the lines name the events of two nodes and give both ends of the interval between them, the upper one by a row from the
 -- first, the lower one by a row towards it
-pub record IsInterval (l : Listed) (g : GraphLists) (values : List ℤ) (from to : Cells) (p q : ℕ) (lines : List ℕ) : Type 0 where
+pub record IsIntervalByRows (l : Listed) (g : GraphLists) (values : List ℤ) (from to : Cells) (p q : ℕ) (lines : List ℕ) : Type 0 where
   pub first : ℕ
   pub second : ℕ
   pub first_on : IsEventOn l first p
@@ -33,4 +33,4 @@ pub record IsInterval (l : Listed) (g : GraphLists) (values : List ℤ) (from to
 
 -- the text is the certificate with such lines
 abbrev pub IsIntervalText : Listed → GraphLists → List ℤ → Cells → Cells → ℕ → ℕ → List ℕ → Type 0
-IsIntervalText l g values from to p q text = (lines : List ℕ) × IsInterval l g values from to p q lines × (text ≡ certified lines)
+IsIntervalText l g values from to p q text = (lines : List ℕ) × IsIntervalByRows l g values from to p q lines × (text ≡ certified lines)

@@ -1,5 +1,5 @@
 -- The certificate of an interval that is written: the executions and cuts that show its ends.
-use Rattle.std.specs.Prelude.{◌≡◌, ℕ, ◌<◌, ◌^◌, ◌↔◌, List, length, map, Contains, ℤ, pos, neg_ℤ, ◌+ℤ◌, ◌-ℤ◌, ◌≤ℤ◌, ◌<ℤ◌, All}
+use Rattle.std.specs.Prelude.{◌+◌, ◌≡◌, ℕ, ◌<◌, ◌^◌, ◌↔◌, List, length, map, Contains, ℤ, pos, neg_ℤ, ◌+ℤ◌, ◌-ℤ◌, ◌≤ℤ◌, ◌<ℤ◌, All}
 use Rattle.problem_model.specs.declared.items.Node.{Node}
 use Rattle.problem_model.specs.declared.items.Node.TheVariants as nodes
 use Rattle.problem_model.specs.Problem.{ProblemLists}
@@ -7,6 +7,7 @@ use Rattle.problem_model.specs.Bounds.{Times}
 use Rattle.problem_model.specs.Nodes.{Reading, nodes_of}
 use Rattle.problem_model.specs.ProblemArcs.{IsGreatestOf, IsUnboundedOf}
 use Rattle.problem_model.specs.Solutions.{IsNodeOf, IsEarliestExecution, WeighedBound, Leads}
+use Rattle.problem_model.specs.Limits.{path_bits}
 use Rattle.cert.specs.EndLists.{EndLists, Limited, Unlimited}
 use Rattle.cert.specs.Listed.{certified}
 use Rattle.cert.specs.CertificateText.{AreListsOf, ends_lines}
@@ -55,8 +56,8 @@ IsUnder bits x = (neg_ℤ (pos (2 ^ bits)) <ℤ x) × (x <ℤ pos (2 ^ bits))
 
 -- the limit is below 2^116 in absolute value, the weights are below 2^93 and the real times below 2^117
 abbrev pub IsSmallEnd : EndLists → Type 0
-IsSmallEnd (Limited value path execution) = IsUnder 116 value × All (λ s. IsUnder 93 s.weight) path × All (IsUnder 117) execution
-IsSmallEnd (Unlimited inside execution) = All (IsUnder 117) execution
+IsSmallEnd (Limited value path execution) = IsUnder (path_bits + 1) value × All (λ s. IsUnder 93 s.weight) path × All (IsUnder (path_bits + 2)) execution
+IsSmallEnd (Unlimited inside execution) = All (IsUnder (path_bits + 2)) execution
 
 -- ---- ends
 -- how the upper end is shown: at a limit by the latest execution, with a path of fewer steps than there are nodes; else

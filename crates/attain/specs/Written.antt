@@ -8,10 +8,11 @@ use Rattle.problem_model.specs.Executions.{at}
 use Rattle.problem_model.specs.Numbers.{IsUpTo}
 use Rattle.problem_model.specs.Rows.{IsGreatestLead, IsLeastLead, attaining, least_differences}
 use Rattle.problem_model.specs.Parents.{Cells}
+use Rattle.problem_model.specs.Limits.{path_bits}
 use Rattle.sync_graph.specs.declared.arc.Arc.{Arc}
 use Rattle.sync_graph.specs.Graph.{GraphLists, arc_at}
 use Rattle.problem.specs.Listing.{Listed, name_at}
-use Rattle.cert.specs.Listed.{IsNamed, listed_step, listed_values, certified}
+use Rattle.cert.specs.Listed.{HasNames, listed_step, listed_values, certified}
 
 -- ---- text
 -- one end as it is written: where it is, the steps of a path, and a real time for the number of each node; or the
@@ -44,11 +45,11 @@ next_node true a = a.from
 next_node false a = a.to
 
 -- the names and weights of the parents' arcs, from node k to node p; the row is one from p, or else one towards p
-abbrev pub FollowsParents : Bool → GraphLists → Cells → ℕ → ℕ → List (Bound × ℤ) → Type 0
-FollowsParents outward g c p k [] = k ≡ p
-FollowsParents outward g c p k (s ∷ steps) = (slice_index_or g.in_force (c.parent k) false ≡ true)
+abbrev pub NamesParents : Bool → GraphLists → Cells → ℕ → ℕ → List (Bound × ℤ) → Type 0
+NamesParents outward g c p k [] = k ≡ p
+NamesParents outward g c p k (s ∷ steps) = (slice_index_or g.in_force (c.parent k) false ≡ true)
     × (s ≡ ((arc_at g.arcs (c.parent k)).name, (arc_at g.arcs (c.parent k)).weight))
-    × FollowsParents outward g c p (next_node outward (arc_at g.arcs (c.parent k))) steps
+    × NamesParents outward g c p (next_node outward (arc_at g.arcs (c.parent k))) steps
 
 -- ---- cuts
 -- rising, the clocks of all listed readings whose nodes are known, or of all whose nodes are not
@@ -62,7 +63,7 @@ pub record AreClocksOf (l : Listed) (c : Cells) (known : Bool) (inside : List �
 abbrev pub IsUpperWritten : Listed → GraphLists → List ℤ → Cells → ℕ → ℕ → WrittenEnd → Type 0
 IsUpperWritten l g values c p q (Limit value steps x) = (K : ℤ) × (c.known q ≡ true) × (value ≡ c.value q)
     × IsGreatestLead (length g.nodes) c.known c.value values K
-    × FollowsParents true g c p q steps × (length steps < length g.nodes)
+    × NamesParents true g c p q steps × (length steps < length g.nodes)
     × ((k : ℕ) → k < length g.nodes → x k ≡ attaining c.known c.value values K k)
 IsUpperWritten l g values c p q (NoLimit inside x) = (c.known q ≡ false) × AreClocksOf l c true inside × (x ≡ at values)
 
@@ -71,17 +72,17 @@ IsUpperWritten l g values c p q (NoLimit inside x) = (c.known q ≡ false) × Ar
 abbrev pub IsLowerWritten : Listed → GraphLists → List ℤ → Cells → ℕ → ℕ → WrittenEnd → Type 0
 IsLowerWritten l g values c p q (Limit value steps x) = (K : ℤ) × (c.known q ≡ true) × (value ≡ neg_ℤ (c.value q))
     × IsLeastLead (length g.nodes) c.known (least_differences c.value) values K
-    × FollowsParents false g c p q steps × (length steps < length g.nodes)
+    × NamesParents false g c p q steps × (length steps < length g.nodes)
     × ((k : ℕ) → k < length g.nodes → x k ≡ attaining c.known (least_differences c.value) values K k)
 IsLowerWritten l g values c p q (NoLimit inside x) = (c.known q ≡ false) × AreClocksOf l c false inside × (x ≡ at values)
 
 -- ---- arcs
 -- the bound of each arc in force is over clocks or events that have names
 abbrev pub NamesArcs : Listed → GraphLists → Type 0
-NamesArcs l g = (j : ℕ) → slice_index_or g.in_force j false ≡ true → IsNamed l (arc_at g.arcs j).name
+NamesArcs l g = (j : ℕ) → slice_index_or g.in_force j false ≡ true → HasNames l (arc_at g.arcs j).name
 
 -- ---- sizes
 -- values and known distances are at most 2^115 in absolute value
 pub record AreMiddling (nodes : ℕ) (values : List ℤ) (c : Cells) : Type 0 where
-  pub at_nodes : (k : ℕ) → k < nodes → IsUpTo 115 (at values k)
-  pub distances : (k : ℕ) → c.known k ≡ true → IsUpTo 115 (c.value k)
+  pub at_nodes : (k : ℕ) → k < nodes → IsUpTo path_bits (at values k)
+  pub distances : (k : ℕ) → c.known k ≡ true → IsUpTo path_bits (c.value k)

@@ -2,7 +2,7 @@
 ghost use Rattle.std.specs.Prelude.{All, map};
 ghost use Rattle.std.specs.List.{flat_map};
 ghost use Rattle.ports.specs.Content.{Writes};
-ghost use Rattle.cert.specs.Listed.{IsNamed, listed_step, listed_cycle};
+ghost use Rattle.cert.specs.Listed.{HasNames, listed_step, listed_cycle};
 
 use cert::write_step;
 use ports::{Failed, Sink, write_whole};
@@ -16,7 +16,7 @@ pub(crate) fn write_arc<N: Listing, O: Sink>(
     arc: &Arc,
     out: &mut O,
 ) -> Result<(), Failed>
-    requires named { IsNamed (N.listed names.now) arc.now.name }
+    requires named { HasNames (N.listed names.now) arc.now.name }
     ensures { Writes (listed_step (N.listed names.now) (arc.now.name, arc.now.weight)) (O.told out.old) (O.told out.new) result }
 {
     let name: Bound = arc.name;
@@ -25,7 +25,7 @@ pub(crate) fn write_arc<N: Listing, O: Sink>(
 
 // Writes the lines of the steps.
 fn write_steps<N: Listing, O: Sink>(names: &N, cycle: &[Arc], out: &mut O) -> Result<(), Failed>
-    requires named { All (λ a. IsNamed (N.listed names.now) a.name) cycle.now }
+    requires named { All (λ a. HasNames (N.listed names.now) a.name) cycle.now }
     ensures { Writes (flat_map (listed_step (N.listed names.now)) (map (λ a. (a.name, a.weight)) cycle.now)) (O.told out.old) (O.told out.new) result }
 {
     for arc in cycle {
@@ -38,7 +38,7 @@ fn write_steps<N: Listing, O: Sink>(names: &N, cycle: &[Arc], out: &mut O) -> Re
 /// order, each with the name of its bound and its weight in ns. It takes no memory. After `Failed`, which comes only
 /// where the sink's count of faults rose, some front of the certificate is written.
 pub fn write_cycle<N: Listing, O: Sink>(names: &N, cycle: &[Arc], out: &mut O) -> Result<(), Failed>
-    requires named { All (λ a. IsNamed (N.listed names.now) a.name) cycle.now }
+    requires named { All (λ a. HasNames (N.listed names.now) a.name) cycle.now }
     ensures { Writes (listed_cycle (N.listed names.now) (map (λ a. (a.name, a.weight)) cycle.now)) (O.told out.old) (O.told out.new) result }
 {
     write_whole(out, b"certificate 1\ncycle\n")?;

@@ -2,7 +2,7 @@
 ghost use Rattle.std.specs.Prelude.{◌≡◌, ℕ, List, true};
 ghost use Rattle.ports.specs.Content.{Writes};
 ghost use Rattle.sync_graph.specs.InForce.{IsEarliestOf};
-ghost use Rattle.attain.specs.Ends.{AreRowsOf, StandsForSome, AreEventNodes, IsEndsText};
+ghost use Rattle.attain.specs.Ends.{AreRowsAt, StandsForSome, AreEventNodes, IsEndsText};
 
 use crate::interval::write_interval;
 use earliest::Earliest;
@@ -28,7 +28,7 @@ pub fn write_ends<N: Listing, O: Sink>(
 ) -> Result<(), Failed>
     requires solved { e.now.is_solved ≡ true }
     requires earliest { IsEarliestOf g.now e.now.values }
-    requires rows { AreRowsOf g.now p from.now to.now }
+    requires rows { AreRowsAt g.now p from.now to.now }
     requires stands { StandsForSome (N.listed names.now) g.now }
     requires events { AreEventNodes (N.listed names.now) p q }
     ensures { (text : List ℕ) × IsEndsText (N.listed names.now) g.now p q text × Writes text (O.told out.old) (O.told out.new) result }

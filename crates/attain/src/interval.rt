@@ -8,7 +8,7 @@ ghost use Rattle.sync_graph.specs.Graph.{table_of};
 ghost use Rattle.problem.specs.Listing.{name_at, listed_nodes};
 ghost use Rattle.row_pool.specs.Row.{cells_of};
 ghost use Rattle.attain.specs.Written.{AreMiddling, NamesArcs};
-ghost use Rattle.attain.specs.Intervals.{IsEventOn, IsInterval, IsIntervalText};
+ghost use Rattle.attain.specs.Intervals.{IsEventOn, IsIntervalByRows, IsIntervalText};
 
 use crate::part::write_end;
 use crate::side::Side;
@@ -73,7 +73,7 @@ fn write_ends_lines<N: Listing, O: Sink>(
     requires rising { AllPairs (λ r s. r.0 ≤ s.0) (N.listed names.now).readings }
     requires first { (event : ℕ) × IsEventOn (N.listed names.now) event p }
     requires second { (event : ℕ) × IsEventOn (N.listed names.now) event q }
-    ensures { (text : List ℕ) × IsInterval (N.listed names.now) g.now e.now.values (cells_of from.now) (cells_of to.now) p q text × Writes text (O.told out.old) (O.told out.new) result }
+    ensures { (text : List ℕ) × IsIntervalByRows (N.listed names.now) g.now e.now.values (cells_of from.now) (cells_of to.now) p q text × Writes text (O.told out.old) (O.told out.new) result }
 {
     let line = ends_line(names, event_of(names, p), event_of(names, q));
     write_whole(out, line.as_slice())?;

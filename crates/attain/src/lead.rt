@@ -1,7 +1,8 @@
 // The execution at a limit: known nodes at their differences, the others at their earliest values and one lead more.
-ghost use Rattle.std.specs.Prelude.{◌≡◌, ◌<◌, ◌≤◌, true, length, All};
+ghost use Rattle.std.specs.Prelude.{◌+◌, ◌≡◌, ◌<◌, ◌≤◌, true, length, All};
 ghost use Rattle.problem_model.specs.Numbers.{IsUpTo};
 ghost use Rattle.problem_model.specs.Rows.{attaining};
+ghost use Rattle.problem_model.specs.Limits.{path_bits};
 ghost use Rattle.ports.specs.Content.{Writes};
 ghost use Rattle.problem.specs.Listing.{listed_nodes};
 ghost use Rattle.cert.specs.Listed.{listed_values};
@@ -25,7 +26,7 @@ fn lead_at(side: Side, e: &Earliest, cells: &[Cell], node: u32) -> i128
     requires sizes { AreMiddling (length e.now.values) e.now.values (cells_of cells.now) }
     requires known { (cells_of cells.now).known node ≡ true }
     ensures lead { result ≡ lead side (cells_of cells.now) e.now.values node }
-    ensures small { IsUpTo 117 result }
+    ensures small { IsUpTo (path_bits + 2) result }
 {
     side.difference(&cells[node as usize]) - e.value(node)
 }
@@ -64,7 +65,7 @@ pub fn lead_of(side: Side, e: &Earliest, cells: &[Cell], nodes: u32, p: u32) -> 
     requires node { p < nodes }
     requires known { (cells_of cells.now).known p ≡ true }
     ensures lead { IsLeadOf side nodes (cells_of cells.now) e.now.values result }
-    ensures small { IsUpTo 117 result }
+    ensures small { IsUpTo (path_bits + 2) result }
 {
     let mut farthest = p;
     for node in 0..nodes {
@@ -79,7 +80,7 @@ pub fn real_time(side: Side, e: &Earliest, cells: &[Cell], lead: i128, node: u32
     requires node { node < length e.now.values }
     requires cells { length e.now.values ≤ length cells.now }
     requires sizes { AreMiddling (length e.now.values) e.now.values (cells_of cells.now) }
-    requires small { IsUpTo 117 lead }
+    requires small { IsUpTo (path_bits + 2) lead }
     ensures { result ≡ attaining (cells_of cells.now).known (differences side (cells_of cells.now)) e.now.values lead node }
 {
     let cell = &cells[node as usize];
@@ -102,7 +103,7 @@ pub fn write_times<N: Listing, O: Sink>(
     requires one_each { All (λ k. k < length e.now.values) (listed_nodes (N.listed names.now)) }
     requires cells { length e.now.values ≤ length cells.now }
     requires sizes { AreMiddling (length e.now.values) e.now.values (cells_of cells.now) }
-    requires small { IsUpTo 117 lead }
+    requires small { IsUpTo (path_bits + 2) lead }
     ensures { Writes (listed_values (N.listed names.now) (attaining (cells_of cells.now).known (differences side (cells_of cells.now)) e.now.values lead)) (O.told out.old) (O.told out.new) result }
 {
     for place in 0..node_count(names) {

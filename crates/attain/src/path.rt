@@ -6,7 +6,7 @@ ghost use Rattle.problem_model.specs.Parents.{IsRow};
 ghost use Rattle.ports.specs.Content.{Writes};
 ghost use Rattle.cert.specs.Listed.{listed_step};
 ghost use Rattle.row_pool.specs.Row.{cells_of};
-ghost use Rattle.attain.specs.Written.{FollowsParents, NamesArcs};
+ghost use Rattle.attain.specs.Written.{NamesParents, NamesArcs};
 ghost use Rattle.attain.specs.Sides.{is_upper, facing};
 
 use crate::cycle::write_arc;
@@ -30,7 +30,7 @@ pub fn write_path<N: Listing, O: Sink>(
     requires cells { length g.now.nodes ≤ length cells.now }
     requires known { (cells_of cells.now).known q ≡ true }
     requires named { NamesArcs (N.listed names.now) g.now }
-    ensures { (steps : List (Bound × ℤ)) × FollowsParents (is_upper side) g.now (cells_of cells.now) p q steps × (length steps < length g.now.nodes)
+    ensures { (steps : List (Bound × ℤ)) × NamesParents (is_upper side) g.now (cells_of cells.now) p q steps × (length steps < length g.now.nodes)
         × Writes (flat_map (listed_step (N.listed names.now)) steps) (O.told out.old) (O.told out.new) result }
 {
     g.exact();

@@ -3,6 +3,7 @@ ghost use Rattle.std.specs.Prelude.{◌≡◌, ◌∷◌, [], true, false};
 ghost use Rattle.atto.specs.NsText.{ns_text};
 ghost use Rattle.line_format.specs.Words.{line_of};
 ghost use Rattle.problem_model.specs.Numbers.{IsUpTo};
+ghost use Rattle.problem_model.specs.Limits.{path_bits};
 ghost use Rattle.attain.specs.Written.{next_node};
 ghost use Rattle.attain.specs.Sides.{is_upper, part, unlimited, signed, IsAsFar};
 
@@ -32,7 +33,7 @@ impl Side {
 
     // The greatest or least difference that the distance in a cell is.
     pub fn difference(self, cell: &Cell) -> i128
-        requires { IsUpTo 115 cell.now.value }
+        requires { IsUpTo path_bits cell.now.value }
         ensures { result ≡ signed self cell.now.value }
     {
         match self {

@@ -19,7 +19,7 @@ use Rattle.problem.specs.Listing.{listing_of, listed_nodes, name_at, event_place
 use Rattle.problem.proofs.AllReadings.{readings_are}
 use Rattle.sync_graph.specs.declared.arc.Arc.{Arc}
 use Rattle.sync_graph.specs.Graph.{GraphLists, IsGraph, arc_at}
-use Rattle.problem_graph.specs.Standing.{HasBounds, IsDeclared}
+use Rattle.problem_graph.specs.Standing.{HasBounds, IsArcDeclared}
 use Rattle.problem.proofs.ListedNodes.{length-nodes_of, length-numbers, map_at, event_node, reading_node, stamp_of}
 use Rattle.sync_graph.specs.InForce.{IsInForce}
 use Rattle.sync_graph.proofs.InForce.{no_arc, in_force_below}
@@ -66,7 +66,7 @@ module _ (p : ProblemLists) (readings : List Reading) (lawful : IsProblem p) (ar
     stamps = stamps_again (length p.events) (all_readings p.events) ∙ sym (readings_are p readings are);
   }
 
-  own_event : (e : ℕ) → e < length p.events → slice_get (listing_of p).events e ≡ Some (e, e)
+  pub own_event : (e : ℕ) → e < length p.events → slice_get (listing_of p).events e ≡ Some (e, e)
   own_event e inside = let same : 0 + e ≡ e = omega arith in event_place 0 e p.events inside ∙ ap (λ (n : ℕ). Some (n, n)) same
 
   -- each node has its place as its number
@@ -112,7 +112,7 @@ module _ (p : ProblemLists) (readings : List Reading) (lawful : IsProblem p) (ar
       let to : send < length p.events = subst (λ (v : Constraint). IsNodeOf p v.to) d.4 ends.1 in
       (send, receive, (send, own_event send to), (receive, own_event receive from), refl)
 
-  own_bound : (a : Arc) → IsDeclared p readings a → IsBoundBy (listing_of p) p readings a.name a
+  own_bound : (a : Arc) → IsArcDeclared p readings a → IsBoundBy (listing_of p) p readings a.name a
   own_bound a (c, declares, arc) = record {
     constraint = c;
     declares = declares;
@@ -156,6 +156,6 @@ module _ (p : ProblemLists) (readings : List Reading) (lawful : IsProblem p) (ar
           let first : get_or (listed_nodes (listing_of p)) j d ≡ j = own_number_is j d (omega (arith, below, inside, long)) in
           let second : get_or (listed_nodes (listing_of p)) k d ≡ k = own_number_is k d (omega (arith, inside, long)) in
           omega (arith, below, first, second, same));
-      each = λ a (j, force, here). (a.name, own_bound a (subst (λ (v : Arc). IsDeclared p readings v) here (has.declared j no_arc (in_force_below g is j force))));
+      each = λ a (j, force, here). (a.name, own_bound a (subst (λ (v : Arc). IsArcDeclared p readings v) here (has.declared j no_arc (in_force_below g is j force))));
       every = λ k d inside. arc_of (get_or (short_list p readings) k d) (short k d inside);
     }

@@ -1,10 +1,8 @@
 pub mod OneMore
-pub mod Rooms
+pub mod MadeArcs
 pub mod Numbering
-pub mod Follows
 pub mod Ends
 pub mod BoundEnds
 pub mod NodeNumbers
 pub mod ListedExecutions
-pub mod OwnStanding
 pub mod HeldStanding

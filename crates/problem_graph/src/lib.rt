@@ -1,6 +1,7 @@
-//! The graph of a problem: its nodes, and the bounds of its short list as arcs, whoever numbered them.
+//! The graph of a problem, whoever numbers its nodes: which arcs a span of a clock, an event, a follow and a message
+//! bring, and when a graph of them stands for the problem.
 #![tactic(auto)]
 
-mod graph;
+mod arcs;
 
-pub use graph::graph_of;
+pub use arcs::{Arcs, follow_arcs, message_arcs, span_arcs, stamp_arcs};

@@ -1,24 +1,20 @@
 -- Nodes and bounds of a problem that are brought in.
-use Rattle.std.proofs.Common.{◌≡◌, ◌<◌, ◌≤◌, ◌+◌, ◌-◌, ℕ, zero, suc, true, List, [], ◌∷◌, ◌++◌, length, map, max, not, replicate, count_by, cond, slice_get, Some, None, refl, sym, ◌∙◌, ap, subst, arith, append_assoc, append-nil, length-append}
+use Rattle.std.proofs.Common.{◌≡◌, ◌≤◌, ◌+◌, ◌-◌, ℕ, zero, suc, true, List, [], ◌∷◌, ◌++◌, length, map, max, not, replicate, count_by, cond, slice_get, Some, None, refl, sym, ◌∙◌, ap, subst, arith, append_assoc, append-nil, length-append}
 use Rattle.std.specs.Prelude.{All}
-use Rattle.std.proofs.lemmas.Int.{ints}
 use Rattle.std.proofs.lemmas.List.{length-map, length-replicate}
 use Rattle.std.proofs.lemmas.List.Elements.{All-append, All-nil, All-cons}
 use Rattle.std.proofs.lemmas.List.Sums.{sum_by-cons}
-use Rattle.std.proofs.lemmas.Option.{slice_get_within}
 use Rattle.problem_model.specs.declared.items.Node.{Node}
 use Rattle.problem_model.specs.declared.items.Bound.{Bound}
-use Rattle.problem_model.specs.declared.items.Bound.TheVariants.{SpanMost, SpanLeast, Late, Early, Follow, DelayMost, DelayLeast}
 use Rattle.problem_model.specs.Problem.{ProblemLists, IsProblem}
-use Rattle.problem_model.specs.Bounds.{Constraint, Declares}
 use Rattle.problem_model.specs.Nodes.{Reading, AreReadings, nodes_of}
+use Rattle.problem_model.specs.Limits.{most_arcs}
 use Rattle.problem_model.proofs.OneList.{readings_one}
 use Rattle.problem.proofs.AllReadings.{few_readings}
-use Rattle.attain.proofs.DeclaredBounds.{declared_small}
 use Rattle.sync_graph.specs.declared.arc.Arc.{Arc}
-use Rattle.sync_graph.specs.Graph.{GraphLists, IsSound, with_arc, no_graph, most_arcs}
-use Rattle.sync_graph.specs.Names.{Joins, IsNamed}
-use Rattle.problem_graph.specs.Standing.{HasBounds, IsDeclared, NodesLeft}
+use Rattle.sync_graph.specs.Graph.{GraphLists, with_arc, no_graph}
+use Rattle.problem_graph.specs.BoundArcs.{IsBoundAmong}
+use Rattle.problem_graph.specs.Standing.{HasBounds, IsArcDeclared, NodesLeft}
 use Rattle.problem_graph.proofs.Numbering.{next_less}
 use Rattle.row_pool.specs.Pool.{PoolRow, Pool, free_rows, free_row, grown}
 use Rattle.solver.specs.Solver.{SolverLists, HasRoom, with_new_node}
@@ -32,57 +28,39 @@ use Rattle.solver.specs.Solution.{IsSolution}
 use Rattle.problem_solver.specs.Pushing.{HasNodesOf, NodesCome, AddsBounds}
 use Rattle.problem_graph.proofs.HeldStanding.{own_standing}
 
--- ---- a declared arc
-joins_of : (p : ProblemLists) (b : Bound) (c : Constraint) → Declares p b c → Joins b c.from c.to
-joins_of p (SpanMost clock s t) c d = (ap (λ (v : Constraint). v.from) d.5, ap (λ (v : Constraint). v.to) d.5)
-joins_of p (SpanLeast clock s t) c d = (ap (λ (v : Constraint). v.from) d.5, ap (λ (v : Constraint). v.to) d.5)
-joins_of p (Late e) c d = (d.0.clock, d.0.stamp, ap (λ (v : Constraint). v.from) d.4, ap (λ (v : Constraint). v.to) d.4)
-joins_of p (Early e) c d = (d.0.clock, d.0.stamp, ap (λ (v : Constraint). v.from) d.4, ap (λ (v : Constraint). v.to) d.4)
-joins_of p (Follow b s e t) c d = (ap (λ (v : Constraint). v.from) d.6, ap (λ (v : Constraint). v.to) d.6)
-joins_of p (DelayMost send receive) c d = (ap (λ (v : Constraint). v.from) d.6, ap (λ (v : Constraint). v.to) d.6)
-joins_of p (DelayLeast send receive) c d = (ap (λ (v : Constraint). v.from) d.4, ap (λ (v : Constraint). v.to) d.4)
-
-module _ (p : ProblemLists) (readings : List Reading) (g : GraphLists) (is : g.nodes ≡ nodes_of p readings) (a : Arc) (declared : IsDeclared p readings a) where
-  tail_at : slice_get g.nodes a.from ≡ Some declared.0.from
-  tail_at = subst (λ (ns : List Node). slice_get ns a.from ≡ Some declared.0.from) (sym is) declared.2.tail
-
-  head_at : slice_get g.nodes a.to ≡ Some declared.0.to
-  head_at = subst (λ (ns : List Node). slice_get ns a.to ≡ Some declared.0.to) (sym is) declared.2.head
-
-  pub arc_named : IsNamed g.nodes a
-  arc_named = record { tail = declared.0.from; head = declared.0.to; from = tail_at; to = head_at; joins = joins_of p a.name declared.0 declared.1 }
-
-  pub arc_sound : IsProblem p → IsSound (length g.nodes) a
-  arc_sound lawful =
-      let small = declared_small p lawful a.name declared.0 declared.1 in
-      let weighs : a.weight ≡ declared.0.weight = declared.2.weighs in
-      record {
-        from = slice_get_within g.nodes a.from declared.0.from tail_at;
-        to = slice_get_within g.nodes a.to declared.0.to head_at;
-        low = omega (arith, ints, weighs, small.0);
-        high = omega (arith, ints, weighs, small.1);
-      }
+-- ---- one arc
+-- an arc between nodes of the problem is declared over its readings
+declared_over : (p : ProblemLists) (readings : List Reading) (all : List Node) (a : Arc) → all ≡ nodes_of p readings → IsBoundAmong p all a → IsArcDeclared p readings a
+declared_over p readings all a is (c, declares, tail, head, weighs) = (
+  c,
+  declares,
+  record {
+    tail = subst (λ (ns : List Node). slice_get ns a.from ≡ Some c.from) is tail;
+    head = subst (λ (ns : List Node). slice_get ns a.to ≡ Some c.to) is head;
+    weighs = weighs;
+  },
+)
 
 map_end : {X Y : Type 0} (f : X → Y) (xs : List X) (x : X) → map f (xs ++ x ∷ []) ≡ map f xs ++ f x ∷ []
 map_end f [] x = refl
 map_end f (y ∷ xs) x = ap (λ v. f y ∷ v) (map_end f xs x)
 
 -- one more bound is an arc
-has_one_more : (p : ProblemLists) (readings : List Reading) (done : List Bound) (g : GraphLists) (a : Arc) → IsDeclared p readings a → HasBounds p readings done g → HasBounds p readings (done ++ a.name ∷ []) (with_arc g a)
+has_one_more : (p : ProblemLists) (readings : List Reading) (done : List Bound) (g : GraphLists) (a : Arc) → IsArcDeclared p readings a → HasBounds p readings done g → HasBounds p readings (done ++ a.name ∷ []) (with_arc g a)
 has_one_more p readings done g a declared has = record {
   nodes_are = has.nodes_are;
   all_in_force = ap (λ v. v ++ true ∷ []) has.all_in_force ∙ sym (map_end (λ (b : Arc). true) g.arcs a);
   named = map_end (λ (b : Arc). b.name) g.arcs a ∙ ap (λ v. v ++ a.name ∷ []) has.named;
-  declared = All-append (IsDeclared p readings) g.arcs (a ∷ []) has.declared (All-cons (IsDeclared p readings) a [] declared (All-nil (IsDeclared p readings)));
+  declared = All-append (IsArcDeclared p readings) g.arcs (a ∷ []) has.declared (All-cons (IsArcDeclared p readings) a [] declared (All-nil (IsArcDeclared p readings)));
 }
 
-pub adds_one : (p : ProblemLists) (a : Arc) (old new : SolverLists) → ((readings : List Reading) → AreReadings p readings → IsDeclared p readings a)
+pub adds_one : (p : ProblemLists) (a : Arc) (old new : SolverLists) → IsBoundAmong p old.graph.nodes a
     → new.graph ≡ with_arc old.graph a → IsCurrent new → KeepsSlots old new → AddsBounds p (a.name ∷ []) old new
 adds_one p a old new declared is current keeps = record {
   current = current;
   nodes = ap (λ (g : GraphLists). g.nodes) is;
   count = ap (λ (g : GraphLists). length g.arcs) is ∙ length-append old.graph.arcs (a ∷ []);
-  added = λ readings done are has. subst (HasBounds p readings (done ++ a.name ∷ [])) (sym is) (has_one_more p readings done old.graph a (declared readings are) has);
+  added = λ readings done are has. subst (HasBounds p readings (done ++ a.name ∷ [])) (sym is) (has_one_more p readings done old.graph a (declared_over p readings old.graph.nodes a has.nodes_are declared) has);
   slots = keeps.slots;
   source = keeps.source;
   rows = keeps.rows.count;
@@ -141,7 +119,7 @@ nodes_there p readings s come = record {
   nodes_are = sym (append-nil s.graph.nodes) ∙ come.left.nodes_are;
   all_in_force = come.left.no_flags ∙ ap (map (λ (a : Arc). true)) (sym come.left.no_arcs);
   named = ap (map (λ (a : Arc). a.name)) come.left.no_arcs;
-  declared = subst (All (IsDeclared p readings)) (sym come.left.no_arcs) (All-nil (IsDeclared p readings));
+  declared = subst (All (IsArcDeclared p readings)) (sym come.left.no_arcs) (All-nil (IsArcDeclared p readings));
 }
 
 -- ---- the start
@@ -188,30 +166,21 @@ module _ (p : ProblemLists) (readings : List Reading) (bounds : List Bound) (sta
           own_standing p others lawful are' s.graph adds.current.set_up.graph holds.0 holds.2 holds.1;
     }
 
--- ---- the bounds of an item
-pub two_added : (p : ProblemLists) (b b' : Bound) (old mid new : SolverLists) → AddsBounds p (b ∷ []) old mid → AddsBounds p (b' ∷ []) mid new → AddsBounds p (b ∷ b' ∷ []) old new
-two_added p b b' old mid new one two = adds_then p (b ∷ []) (b' ∷ []) old mid new one two
-
--- the arcs are as many as there were and these
-pub room_after : (p : ProblemLists) (bounds : List Bound) (old mid : SolverLists) (most : ℕ) → AddsBounds p bounds old mid → length bounds ≤ 1 → length old.graph.arcs + 2 ≤ most → length mid.graph.arcs < most
-room_after p bounds old mid most adds one room = omega (arith, adds.count, one, room)
-
 -- ---- from nothing to the end
 pub come_first : (p : ProblemLists) (readings : List Reading) (rows n : ℕ) (empty s : SolverLists) → empty.graph ≡ no_graph → KeepsAnswer empty s → IsCurrent s
-    → s.pool ≡ grown empty.pool rows n → s.kept ≡ with_room empty.kept (max empty.kept.room n) → s.front ≡ empty.front ++ replicate (n - length empty.front) None → n ≡ length (nodes_of p readings)
+    → s.pool ≡ grown empty.pool rows n → s.kept ≡ with_room empty.kept (max empty.kept.room n) → s.front ≡ empty.front + (n - empty.front) → n ≡ length (nodes_of p readings)
     → NodesCome p readings (nodes_of p readings) s
 come_first p readings rows n empty s none answer current pool kept front count =
     let graph : s.graph ≡ no_graph = answer.graph ∙ none in
     let wide : s.pool.width ≡ max empty.pool.width n = ap (λ (v : Pool). v.width) pool in
     let found : s.kept.room ≡ max empty.kept.room n = ap (λ (v : KeptRows). v.room) kept in
-    let long : length s.front ≡ length empty.front + (n - length empty.front) = ap length front ∙ length-append empty.front (replicate (n - length empty.front) None) ∙ ap (λ (m : ℕ). length empty.front + m) (length-replicate (n - length empty.front) None) in
     record {
       current = current;
       left = subst (NodesLeft p readings (nodes_of p readings)) (sym graph) (record { nodes_are = refl; no_arcs = refl; no_flags = refl });
       room = record {
         rows = omega (arith, wide, count);
         found = omega (arith, found, count);
-        front = omega (arith, long, count);
+        front = omega (arith, front, count);
       };
     }
 

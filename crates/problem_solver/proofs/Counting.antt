@@ -4,7 +4,7 @@ use Rattle.std.specs.Prelude.{ℤ}
 use Rattle.std.proofs.lemmas.List.Sums.{sum_by-set}
 use Rattle.std.proofs.lemmas.List.Folds.{sum_by-replicate}
 use Rattle.std.proofs.lemmas.Option.{slice_get_within, slice_get-get_or, get_or_from_slice_get}
-use Rattle.frontier.specs.Keys.{Waits, IsFree, IsEmpty}
+use Rattle.frontier.specs.Keys.{Waits, IsFreeNode, IsEmpty}
 use Rattle.problem_solver.specs.Offsets.{unset, count_unset}
 use Rattle.problem_solver.specs.Turns.{Turns}
 use Rattle.problem_solver.specs.Queues.{one_ready, are_ready, not_queued, IsQueue}
@@ -33,7 +33,7 @@ same_turns a b k l same left = rw (same, left) refl
 
 module _ (times : List ℤ) (ready : List (Option ℤ)) (flags : List Bool) (waiting : List ℕ) (are : IsQueue times ready flags waiting) (event : ℕ) where
   module _ (time : ℤ) (inside : event < length flags) (is : get_or flags event false ≡ false) where
-    pub free_yet : IsFree ready event
+    pub free_yet : IsFreeNode ready event
     free_yet = are.free event (slice_get-get_or flags event false inside ∙ ap Some is)
 
     -- it is queued

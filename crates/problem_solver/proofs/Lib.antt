@@ -2,6 +2,6 @@ pub mod Orders
 pub mod ItemSteps
 pub mod Covering
 pub mod Bringing
-pub mod DeclaredArcs
+pub mod ItemArcs
 pub mod PushedItems
 pub mod Counting

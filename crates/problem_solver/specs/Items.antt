@@ -2,7 +2,7 @@
 use Rattle.std.specs.Prelude.{◌≡◌, ◌≢◌, ℕ, ◌+◌, ◌<◌, ◌≤◌, List, [], ◌∷◌, None, map, length, slice_index_or, All, Contains}
 use Rattle.problem_model.specs.declared.items.Message.{Message}
 use Rattle.problem_model.specs.declared.items.Bound.{Bound}
-use Rattle.problem_model.specs.declared.items.Bound.TheVariants.{SpanMost, SpanLeast, Late, Early}
+use Rattle.problem_model.specs.declared.items.Bound.TheVariants.{Late, Early}
 use Rattle.problem_model.specs.Problem.{ProblemLists}
 use Rattle.problem_model.specs.Nodes.{Reading}
 use Rattle.problem_model.specs.ShortList.{neighbour_bounds, clocks_before, first_reading, nearest_reading, follow_bound, message_bounds}
@@ -32,14 +32,6 @@ bounds_of p readings (items.Span k) = neighbour_bounds (reading_at readings k) (
 bounds_of p readings (items.Follow d) = follow_bound (nearest_reading readings (clocks_before p.follows d d)) (first_reading readings d)
 bounds_of p readings (items.Event e) = Late e ∷ Early e ∷ []
 bounds_of p readings (items.Message m) = message_bounds (message_at p.messages m)
-
--- the bound on the greatest span from the reading at a place to the next one
-abbrev pub most_span : List Reading → ℕ → Bound
-most_span readings k = SpanMost (reading_at readings k).0 (reading_at readings k).1 (reading_at readings (k + 1)).1
-
--- the bound on the least span there
-abbrev pub least_span : List Reading → ℕ → Bound
-least_span readings k = SpanLeast (reading_at readings k).0 (reading_at readings k).1 (reading_at readings (k + 1)).1
 
 -- items without their ranks
 abbrev pub items_of : List Ranked → List Item

@@ -4,8 +4,8 @@ use Rattle.std.specs.List.{sum_by}
 use Rattle.problem_solver.specs.declared.offsets.Link.{Link}
 
 -- links lead to clocks
-abbrev pub AreLinks : ℕ → List Link → Type 0
-AreLinks clocks links = All (λ link. link.to < clocks) links
+abbrev pub LeadToClocks : ℕ → List Link → Type 0
+LeadToClocks clocks links = All (λ link. link.to < clocks) links
 
 -- a flag that is not set counts one
 abbrev pub unset : Bool → ℕ

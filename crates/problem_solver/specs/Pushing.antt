@@ -1,11 +1,12 @@
 -- Nodes and bounds of a problem that come one after another.
-use Rattle.std.specs.Prelude.{◌≡◌, ℕ, ℤ, ◌+◌, List, ◌++◌, length}
+use Rattle.std.specs.Prelude.{◌≡◌, ◌+◌, List, ◌++◌, length, All}
 use Rattle.problem_model.specs.declared.items.Node.{Node}
 use Rattle.problem_model.specs.declared.items.Bound.{Bound}
 use Rattle.problem_model.specs.Problem.{ProblemLists}
 use Rattle.problem_model.specs.Nodes.{Reading, AreReadings, nodes_of}
 use Rattle.sync_graph.specs.declared.arc.Arc.{Arc}
-use Rattle.problem_graph.specs.Standing.{HasBounds, IsDeclared, NodesLeft}
+use Rattle.problem_graph.specs.BoundArcs.{names_of, FitsNodes, IsBoundAmong}
+use Rattle.problem_graph.specs.Standing.{HasBounds, NodesLeft}
 use Rattle.row_pool.specs.Pool.{free_rows}
 use Rattle.solver.specs.Solver.{SolverLists, HasRoom}
 use Rattle.solver.specs.Current.{IsCurrent}
@@ -14,13 +15,11 @@ use Rattle.solver.specs.Current.{IsCurrent}
 abbrev pub HasNodesOf : ProblemLists → SolverLists → Type 0
 HasNodesOf p s = (readings : List Reading) → AreReadings p readings → s.graph.nodes ≡ nodes_of p readings
 
--- the arc of a bound, by its ends and its weight
-abbrev pub arc_of : Bound → ℕ → ℕ → ℤ → Arc
-arc_of name from to weight = record { from = from; to = to; weight = weight; name = name }
-
--- the arc is a bound of the problem, between the numbers of its nodes
-abbrev pub IsDeclaredArc : ProblemLists → Arc → Type 0
-IsDeclaredArc p a = (readings : List Reading) → AreReadings p readings → IsDeclared p readings a
+-- the arcs are these bounds of the problem, between the numbers that their nodes have among these, and a graph may have them
+pub record AreBoundsAmong (p : ProblemLists) (all : List Node) (bounds : List Bound) (arcs : List Arc) : Type 0 where
+  pub named : names_of arcs ≡ bounds
+  pub fit : All (FitsNodes all) arcs
+  pub declared : All (IsBoundAmong p all) arcs
 
 -- there is no arc, the nodes of the problem are there but for these, its last, and there is room for all
 pub record NodesCome (p : ProblemLists) (readings : List Reading) (rest : List Node) (s : SolverLists) : Type 0 where

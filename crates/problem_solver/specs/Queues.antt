@@ -1,7 +1,7 @@
 -- Events that wait for others.
 use Rattle.std.specs.Prelude.{◌≡◌, ℕ, ◌<◌, ℤ, List, length, All, Bool, false, slice_get, Option, Some, None}
 use Rattle.std.specs.List.{sum_by}
-use Rattle.frontier.specs.Keys.{IsFree}
+use Rattle.frontier.specs.Keys.{IsFreeNode}
 use Rattle.problem_solver.specs.declared.queue.Succession.{Succession}
 use Rattle.problem_solver.specs.Offsets.{count_unset}
 
@@ -10,8 +10,8 @@ abbrev pub AreSuccessions : ℕ → List Succession → Type 0
 AreSuccessions events pairs = All (λ pair. pair.after < events) pairs
 
 -- the places of so many events
-abbrev pub AreEvents : ℕ → List ℕ → Type 0
-AreEvents events order = All (λ event. event < events) order
+abbrev pub AreEventPlaces : ℕ → List ℕ → Type 0
+AreEventPlaces events order = All (λ event. event < events) order
 
 -- an event that is ready counts one
 abbrev pub one_ready : Option ℤ → ℕ
@@ -31,4 +31,4 @@ pub record IsQueue (times : List ℤ) (ready : List (Option ℤ)) (queued : List
   pub times_each : length times ≡ length queued
   pub waiting_each : length waiting ≡ length queued
   pub room : length ready ≡ length queued
-  pub free : (event : ℕ) → slice_get queued event ≡ Some false → IsFree ready event
+  pub free : (event : ℕ) → slice_get queued event ≡ Some false → IsFreeNode ready event

@@ -8,7 +8,7 @@ ghost use Rattle.problem_solver.specs.GraphSolution.{IsGraphSolution};
 use crate::solution::GraphSolution;
 use atto::Steps;
 use earliest::{Earliest, Inserted};
-use frontier::Frontier;
+use frontier::IdleQueue;
 use std::alloc::{AllocError, Global};
 use std::sync::ledger::Ledger;
 use sync_graph::Graph;
@@ -46,8 +46,8 @@ fn bring_in<L: Ledger>(
     ensures { IfOk result (λ found. IsInserted g.now e.new found) }
 {
     g.exact();
-    let mut front = Frontier::with_room(alloc, g.nodes())?;
-    e.rebuild_in_order(g, order, &mut front, steps)
+    let mut queue = IdleQueue::with_room(alloc, g.nodes())?;
+    e.rebuild_in_order(g, order, &mut queue, steps)
 }
 
 // The values that were kept, or the cycle that was found.

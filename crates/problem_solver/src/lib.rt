@@ -10,6 +10,7 @@
 #![tactic(auto)]
 
 mod graphs;
+mod item_arcs;
 mod items;
 mod offsets;
 mod problems;

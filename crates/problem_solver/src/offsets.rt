@@ -1,6 +1,6 @@
 // How far the clocks of a problem are apart, by the stamps of messages.
 ghost use Rattle.std.specs.Prelude.{◌≡◌, ◌+◌, ◌<◌, ℕ, length, IfOk, IfSome, OnOk};
-ghost use Rattle.problem_solver.specs.Offsets.{AreLinks};
+ghost use Rattle.problem_solver.specs.Offsets.{LeadToClocks};
 
 use problem::Problem;
 use problem_model::Event;
@@ -18,8 +18,8 @@ pub struct Link {
 
 // Appends a message, as both its clocks see it.
 fn push_links(links: &mut Vec<Link>, send: &Event, receive: &Event) -> Result<(), AllocError>
-    ensures { OnOk result ((clocks : ℕ) → AreLinks clocks links.old.items → send.now.clock < clocks → receive.now.clock < clocks
-        → AreLinks clocks links.new.items) }
+    ensures { OnOk result ((clocks : ℕ) → LeadToClocks clocks links.old.items → send.now.clock < clocks → receive.now.clock < clocks
+        → LeadToClocks clocks links.new.items) }
 {
     let (from, to) = (send.clock, receive.clock);
     let ahead = i128::from(receive.stamp.get()).saturating_sub(i128::from(send.stamp.get()));
@@ -34,7 +34,7 @@ fn push_links(links: &mut Vec<Link>, send: &Event, receive: &Event) -> Result<()
 
 // The messages, each as both its clocks see it, by clock.
 fn links_of(alloc: Global, p: &Problem) -> Result<Vec<Link>, AllocError>
-    ensures { IfOk result (λ links. AreLinks (length p.now.clocks) links.items) }
+    ensures { IfOk result (λ links. LeadToClocks (length p.now.clocks) links.items) }
 {
     let events = p.events();
     let mut links = Vec::new(alloc);
@@ -115,7 +115,7 @@ impl Reached {
 
     // Reaches the clocks that messages join with this one.
     fn spread(&mut self, clock: u32, ahead: i128, links: &[Link]) -> Result<(), AllocError>
-        requires { AreLinks self.old.all links.now }
+        requires { LeadToClocks self.old.all links.now }
         ensures { self.new ≡ self.old }
     {
         let first = links.partition_point(|link| link.from < clock);
@@ -131,7 +131,7 @@ impl Reached {
 
     // Gives all clocks that were reached their turn, and those that they reach.
     fn spread_all(&mut self, links: &[Link]) -> Result<(), AllocError>
-        requires { AreLinks self.old.all links.now }
+        requires { LeadToClocks self.old.all links.now }
         ensures { self.new.all ≡ self.old.all }
     {
         while let Some((clock, ahead)) = self.next() {

@@ -1,6 +1,7 @@
 // The solving of a problem.
 ghost use Rattle.std.specs.Prelude.{◌≡◌, ◌≤◌, [], List, None, length, IfOk};
-ghost use Rattle.problem_model.specs.Nodes.{Reading, AreReadings, nodes_of, most_nodes};
+ghost use Rattle.problem_model.specs.Nodes.{Reading, AreReadings, nodes_of};
+ghost use Rattle.problem_model.specs.Limits.{most_nodes};
 ghost use Rattle.row_pool.specs.Pool.{free_rows};
 ghost use Rattle.problem_graph.specs.HeldBounds.{HoldsShortList};
 ghost use Rattle.solver.specs.Solution.{IsSolution};

@@ -1,6 +1,6 @@
 // When events come.
 ghost use Rattle.std.specs.Prelude.{◌≡◌, ◌+◌, ◌<◌, ◌^◌, ◌≤◌, ℕ, length, All, IfOk, OnOk};
-ghost use Rattle.problem_solver.specs.Queues.{AreSuccessions, AreEvents};
+ghost use Rattle.problem_solver.specs.Queues.{AreSuccessions, AreEventPlaces};
 
 use crate::offsets::clock_offsets;
 use crate::queue::{Queue, Succession};
@@ -159,9 +159,9 @@ fn take_ready<L: Ledger>(
     steps: &mut Steps<L>,
 ) -> Result<(), AllocError>
     requires pairs { AreSuccessions queue.old.all pairs.now }
-    requires order { AreEvents queue.old.all order.old.items }
+    requires order { AreEventPlaces queue.old.all order.old.items }
     ensures all { queue.new.all ≡ queue.old.all }
-    ensures order { OnOk result (AreEvents queue.old.all order.new.items) }
+    ensures order { OnOk result (AreEventPlaces queue.old.all order.new.items) }
     ensures once { OnOk result (length order.new.items + queue.new.left ≡ length order.old.items + queue.old.left) }
 {
     while let Some(event) = queue.take(steps) {
@@ -181,8 +181,8 @@ fn take_all<L: Ledger>(
 ) -> Result<(), AllocError>
     requires pairs { AreSuccessions queue.old.all pairs.now }
     requires timed { All (λ entry. entry.event < queue.old.all) timed.now }
-    requires order { AreEvents queue.old.all order.old.items }
-    ensures order { OnOk result (AreEvents queue.old.all order.new.items) }
+    requires order { AreEventPlaces queue.old.all order.old.items }
+    ensures order { OnOk result (AreEventPlaces queue.old.all order.new.items) }
     ensures once { OnOk result (length order.new.items + queue.new.left ≡ length order.old.items + queue.old.left) }
 {
     for entry in timed {
@@ -203,7 +203,7 @@ fn event_order<L: Ledger>(
     p: &Problem,
     steps: &mut Steps<L>,
 ) -> Result<Vec<u32>, AllocError>
-    ensures events { IfOk result (λ order. AreEvents (length p.now.events) order.items) }
+    ensures events { IfOk result (λ order. AreEventPlaces (length p.now.events) order.items) }
     ensures once { IfOk result (λ order. length order.items ≤ length p.now.events) }
 {
     let pairs = successions(alloc, p)?;

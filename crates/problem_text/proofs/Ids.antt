@@ -9,7 +9,7 @@ use Rattle.traces.specs.Traces.{Placed, numbered, events_from, events_of, name_o
 use Rattle.traces.proofs.Lists.{got, place_in}
 use Rattle.roster.specs.declared.came.Came.{Came}
 use Rattle.roster.specs.Groups.{group_at}
-use Rattle.roster.specs.Roster.{RosterLists, id_of, no_event, event_at, IsRoster, Holds, in_turn, listed}
+use Rattle.roster.specs.Roster.{RosterLists, id_of, no_event, event_at, IsRoster, HoldsEvents, in_turn, listed}
 use Rattle.roster.proofs.Telling.{among}
 use Rattle.roster.proofs.Turns.{from_turn, map-in_turn}
 use Rattle.roster.specs.Told.{number_of}
@@ -85,7 +85,7 @@ module _ (r : RosterLists) (is : IsRoster r) where
       let same : x.1 ≡ v = ap (λ (y : ℕ × ℕ). y.0) x.3 in
       subst (λ (n : ℕ). n < length r.came) same (slice_get_within r.came x.1 e.0 e.1)
 
-  module _ (seen : List (List Seen)) (holds : Holds r seen) where
+  module _ (seen : List (List Seen)) (holds : HoldsEvents r seen) where
     -- the listed events have the ids of those that are held, in their order
     pub ids_are : map {A = ℕ × ℕ} {B = EventId} (λ e. id_by e.0) (listed r).events ≡ map (λ (e : Placed). e.id) (events_of seen)
     ids_are =

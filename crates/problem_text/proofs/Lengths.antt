@@ -12,9 +12,9 @@ use Rattle.problem_model.specs.declared.items.Event.{Event}
 use Rattle.problem_model.specs.declared.items.Message.{Message}
 use Rattle.problem_model.specs.Name.{IsEventName, IsClockName}
 use Rattle.problem_model.specs.Problem.{ProblemLists, IsProblem, ClockFits, MessageFits}
-use Rattle.problem_model.specs.ProblemText.{head_of, problem_text, clock_line, follow_line, event_line, message_line, clock_name, event_name, most_word}
+use Rattle.problem_model.specs.ProblemText.{head_words, problem_text, clock_line, follow_line, event_line, message_line, clock_name, event_name, most_word}
 use Rattle.line_format.proofs.Lengths.{line_size, lines_short}
-use Rattle.line_format.specs.Format.{most_bytes}
+use Rattle.line_format.specs.Format.{most_text_bytes}
 use Rattle.problem_text.proofs.FewFollows.{few_follows}
 
 -- ---- words
@@ -63,20 +63,20 @@ message_short es m events fits =
     omega (arith, size, event_name_short es events m.send, event_name_short es events m.receive, nano_short m.least fits.0, most_short m.most fits.1)
 
 -- ---- the whole
-head_short : (follows : List Follow) → length (line_of (head_of follows)) ≡ 10
+head_short : (follows : List Follow) → length (line_of (head_words follows)) ≡ 10
 head_short [] = refl
 head_short (f ∷ follows) = refl
 
 added : (a b c d e f : List ℕ) → length (a ++ b ++ (c ++ d) ++ e ++ f) ≡ length a + length b + length c + length d + length e + length f
 added a b c d e f = omega (arith, length-append (a ++ b ++ (c ++ d) ++ e) f, length-append (a ++ b ++ (c ++ d)) e, length-append (a ++ b) (c ++ d), length-append c d, length-append a b)
 
-pub text_short : (p : ProblemLists) → IsProblem p → length (problem_text p) ≤ most_bytes
+pub text_short : (p : ProblemLists) → IsProblem p → length (problem_text p) ≤ most_text_bytes
 text_short p lawful =
     let clocks = lines_short clock_line 100 p.clocks (λ i d inside. clock_short (get_or p.clocks i d) (lawful.formed.clock_names i d inside) (lawful.fits.clocks_fit i d inside)) in
     let follows = lines_short (follow_line p.clocks) 93 p.follows (λ i d inside. follow_short p.clocks (get_or p.follows i d) lawful.formed.clock_names (lawful.fits.gaps_fit i d inside)) in
     let events = lines_short (event_line p.clocks) 108 p.events (λ i d inside. event_short p.clocks (get_or p.events i d) lawful.formed.clock_names (lawful.formed.event_names i d inside) (lawful.fits.stamps_fit i d inside)) in
     let messages = lines_short (message_line p.events) 146 p.messages (λ i d inside. message_short p.events (get_or p.messages i d) lawful.formed.event_names (lawful.fits.messages_fit i d inside)) in
-    let sum : length (problem_text p) ≡ length (line_of (head_of p.follows)) + length (flat_map clock_line p.clocks) + length (flat_map (follow_line p.clocks) p.follows) + length (flat_map (event_line p.clocks) p.events)
+    let sum : length (problem_text p) ≡ length (line_of (head_words p.follows)) + length (flat_map clock_line p.clocks) + length (flat_map (follow_line p.clocks) p.follows) + length (flat_map (event_line p.clocks) p.events)
     + length (flat_map (message_line p.events) p.messages) + 4 =
-    added (line_of (head_of p.follows)) (flat_map clock_line p.clocks) (flat_map (follow_line p.clocks) p.follows) (flat_map (event_line p.clocks) p.events) (flat_map (message_line p.events) p.messages) (line_of (codes "end" ∷ [])) in
+    added (line_of (head_words p.follows)) (flat_map clock_line p.clocks) (flat_map (follow_line p.clocks) p.follows) (flat_map (event_line p.clocks) p.events) (flat_map (message_line p.events) p.messages) (line_of (codes "end" ∷ [])) in
     omega (arith, sum, head_short p.follows, clocks, follows, events, messages, few_follows p lawful, lawful.fits.clock_limit, lawful.fits.event_limit, lawful.fits.message_limit)

@@ -1,11 +1,11 @@
 -- What is left of the lines of a list while they are written.
-use Rattle.std.proofs.Common.{◌≡◌, ◌<◌, ◌≤◌, ◌+◌, ℕ, List, ◌++◌, length, drop, get_or, slice_get, Some, Result, Ok, Err, refl, sym, ap}
+use Rattle.std.proofs.Common.{◌≡◌, ◌<◌, ◌≤◌, ◌+◌, ℕ, List, ◌++◌, length, drop, get_or, slice_get, Some, Result, Ok, Err, refl}
 use Rattle.std.specs.Prelude.{IsErr}
 use Rattle.std.specs.List.{flat_map}
 use Rattle.std.proofs.lemmas.Option.{slice_get_read}
 use Rattle.ports.specs.declared.failed.Failed.{Failed}
 use Rattle.ports.specs.Content.{SinkTold, Writes}
-use Rattle.ports.proofs.Writing.{Leaves, leaves_all, leaves_as, leaves_less, leaves_cut, leaves_none}
+use Rattle.ports.proofs.Writing.{Leaves, leaves_as, leaves_less, leaves_cut, leaves_none}
 use Rattle.problem_model.proofs.Walking.{lines_more, lines_none}
 
 module _ {X : Type 0} (line : X → List ℕ) (xs : List X) {old now : SinkTold} {all : List ℕ} where
@@ -24,7 +24,3 @@ module _ {X : Type 0} (line : X → List ℕ) (xs : List X) {old now : SinkTold}
 
   pub lines_written : (k : ℕ) → length xs ≤ k → Leaves old now (flat_map line (drop k xs)) all → Writes {A = Unit {0}} {E = Failed} all old now (Ok tt)
   lines_written k past left = leaves_none (leaves_as (lines_none line xs k past) left)
-
--- at first all lines are left
-pub lines_left : {X : Type 0} (line : X → List ℕ) (xs ys : List X) (old : SinkTold) → xs ≡ ys → Leaves old old (flat_map line xs) (flat_map line ys)
-lines_left line xs ys old same = leaves_as (ap (flat_map line) (sym same)) (leaves_all old (flat_map line ys))

@@ -7,7 +7,7 @@ use Rattle.atto.specs.Decimal.{decimal_of}
 use Rattle.line_format.specs.Words.{line_of}
 use Rattle.problem_model.specs.declared.items.Event.{Event}
 use Rattle.problem_model.specs.declared.items.Message.{Message}
-use Rattle.problem_model.specs.ProblemText.{clock_line, event_line, event_name, follow_line, head_of, message_line, most_word, problem_text}
+use Rattle.problem_model.specs.ProblemText.{clock_line, event_line, event_name, follow_line, head_words, message_line, most_word, problem_text}
 use Rattle.problem.proofs.ListedNodes.{map_at}
 use Rattle.decl.specs.Declaration.{Declaration, follows_of, link_bounds}
 use Rattle.traces.specs.declared.event.Side.{Side}
@@ -25,7 +25,7 @@ use Rattle.traces.proofs.Lists.{got}
 use Rattle.traces.proofs.Places.{stands}
 use Rattle.roster.specs.declared.came.Came.{Came}
 use Rattle.roster.specs.declared.came.Partner.{Partner}
-use Rattle.roster.specs.Roster.{RosterLists, event_at, IsRoster, Holds, listed}
+use Rattle.roster.specs.Roster.{RosterLists, event_at, IsRoster, HoldsEvents, listed}
 use Rattle.roster.proofs.Telling.{among}
 use Rattle.roster.proofs.Turns.{from_map, into_map}
 use Rattle.roster.specs.Rosters.{named_event}
@@ -87,7 +87,7 @@ module _ (d : Declaration) (events : List Placed) (differ : AllPairs (λ (a b : 
       ∙ ap (λ (n : List ℕ). line_of (codes "message" ∷ name_of d m.send ∷ n ∷ decimal_of bounds.0 ∷ most_word bounds.1 ∷ [])) (place_named w m.receive in_w is_w)
 
 -- ---- the whole
-module _ (r : RosterLists) (is : IsRoster r) (seen : List (List Seen)) (holds : Holds r seen) (tells : TellsMessages r (messages_by_number r seen)) where
+module _ (r : RosterLists) (is : IsRoster r) (seen : List (List Seen)) (holds : HoldsEvents r seen) (tells : TellsMessages r (messages_by_number r seen)) where
   events : List Placed
   events = events_of seen
 
@@ -170,7 +170,7 @@ module _ (r : RosterLists) (is : IsRoster r) (seen : List (List Seen)) (holds : 
   pub text_is : roster_text r ≡ problem_text (problem_of_seen r.declaration seen)
   text_is =
       let d : Declaration = r.declaration in
-      let front : List ℕ = line_of (head_of (follows_of d)) ++ flat_map clock_line d.clocks in
+      let front : List ℕ = line_of (head_words (follows_of d)) ++ flat_map clock_line d.clocks in
       let follows : List ℕ = flat_map (follow_line d.clocks) (follows_of d) in
       let events : List ℕ = flat_map (event_line d.clocks) (problem_of_seen d seen).events in
       ap (λ (l : List ℕ). front ++ follows ++ l ++ sent_lines r ++ line_of (codes "end" ∷ [])) events_text

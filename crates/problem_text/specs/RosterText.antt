@@ -3,7 +3,7 @@ use Rattle.std.specs.Prelude.{◌≡◌, ◌<◌, ℕ, List, [], ◌∷◌, ◌+
 use Rattle.std.specs.List.{flat_map}
 use Rattle.atto.specs.Decimal.{decimal_of}
 use Rattle.line_format.specs.Words.{line_of}
-use Rattle.problem_model.specs.ProblemText.{clock_line, follow_line, event_line, most_word, head_of}
+use Rattle.problem_model.specs.ProblemText.{clock_line, follow_line, event_line, most_word, head_words}
 use Rattle.decl.specs.Declaration.{Declaration, link_bounds, follow_from, follows_of}
 use Rattle.traces.specs.declared.event_id.EventId.{EventId}
 use Rattle.traces.specs.Traces.{name_of, host_of}
@@ -50,4 +50,4 @@ sent_lines r = flat_map (λ (e : ℕ × ℕ). sent_line r e.0) (listed r).events
 -- the whole text: the head of its version, clocks, follows, events by label and number, the messages that they send,
 -- the end
 abbrev pub roster_text : RosterLists → List ℕ
-roster_text r = line_of (head_of (follows_of r.declaration)) ++ flat_map clock_line r.declaration.clocks ++ flat_map (follow_line r.declaration.clocks) (follows_of r.declaration) ++ came_lines r ++ sent_lines r ++ line_of (codes "end" ∷ [])
+roster_text r = line_of (head_words (follows_of r.declaration)) ++ flat_map clock_line r.declaration.clocks ++ flat_map (follow_line r.declaration.clocks) (follows_of r.declaration) ++ came_lines r ++ sent_lines r ++ line_of (codes "end" ∷ [])

@@ -7,7 +7,7 @@ ghost use Rattle.traces.specs.Traces.{host_of};
 ghost use Rattle.roster.specs.Roster.{id_of, event_at};
 ghost use Rattle.problem_text.specs.RosterText.{HasPartners, came_line, couple_line, next_line, sent_line};
 
-use crate::{write_event, write_follow, write_message};
+use crate::lines::{write_event, write_follow, write_message};
 use decl::Decl;
 use ports::{Failed, Sink};
 use problem::Listing;

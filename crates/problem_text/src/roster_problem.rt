@@ -3,17 +3,17 @@ ghost use Rattle.std.specs.Prelude.{◌≡◌, ◌≤◌, ◌⊎◌, ◌∷◌, 
 ghost use Rattle.std.specs.List.{flat_map};
 ghost use Rattle.atto.specs.Decimal.{decimal_of};
 ghost use Rattle.ports.specs.Content.{Writes};
-ghost use Rattle.problem_model.specs.Problem.{most_clocks};
-ghost use Rattle.problem_model.specs.ProblemText.{clock_line, follow_line, head_of, problem_text};
+ghost use Rattle.problem_model.specs.ProblemText.{clock_line, follow_line, head_words, problem_text};
+ghost use Rattle.problem_model.specs.Limits.{most_clocks};
 ghost use Rattle.decl.specs.Declaration.{declaration_of, follows_of};
 ghost use Rattle.traces.specs.Seen.{Seen};
 ghost use Rattle.traces.specs.Messages.{problem_of_seen};
-ghost use Rattle.roster.specs.Roster.{Holds};
+ghost use Rattle.roster.specs.Roster.{HoldsEvents};
 ghost use Rattle.roster.specs.Told.{TellsMessages, messages_by_number};
 ghost use Rattle.problem_text.specs.RosterText.{HasPartners, came_lines, roster_text, sent_lines};
 
+use crate::lines::{write_clock, write_end, write_head};
 use crate::roster_lines::{write_came, write_next, write_sent};
-use crate::{write_clock, write_end, write_head};
 use decl::Decl;
 use ports::{Failed, Sink};
 use problem::Listing;
@@ -23,7 +23,7 @@ use roster::Roster;
 fn version_of(decl: &Decl) -> u32
     requires { length decl.now.owners.items ≤ most_clocks }
     ensures known { (result ≡ 1) ⊎ (result ≡ 2) }
-    ensures head { head_of (follows_of (declaration_of decl.now)) ≡ codes "problem" ∷ decimal_of result ∷ [] }
+    ensures head { head_words (follows_of (declaration_of decl.now)) ≡ codes "problem" ∷ decimal_of result ∷ [] }
 {
     for place in 0..decl.owners.len() as u32 {
         if decl.follow_from(place).is_some() {
@@ -95,8 +95,8 @@ fn write_text<O: Sink>(roster: &Roster, out: &mut O) -> Result<(), Failed>
 /// roster tells. It takes no memory.
 /// After `Failed`, which comes only where the sink's count of faults rose, some front of the text is written.
 pub fn write_roster<O: Sink>(roster: &Roster, out: &mut O) -> Result<(), Failed>
-    requires told { (seen : List (List Seen)) × Holds roster.now seen × TellsMessages roster.now (messages_by_number roster.now seen) }
-    ensures { (seen : List (List Seen)) → Holds roster.now seen → TellsMessages roster.now (messages_by_number roster.now seen) → Writes (problem_text (problem_of_seen roster.now.declaration seen)) (O.told out.old) (O.told out.new) result }
+    requires told { (seen : List (List Seen)) × HoldsEvents roster.now seen × TellsMessages roster.now (messages_by_number roster.now seen) }
+    ensures { (seen : List (List Seen)) → HoldsEvents roster.now seen → TellsMessages roster.now (messages_by_number roster.now seen) → Writes (problem_text (problem_of_seen roster.now.declaration seen)) (O.told out.old) (O.told out.new) result }
 {
     // It tells that the roster is lawful.
     let _ = roster.decl();

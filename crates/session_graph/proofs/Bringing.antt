@@ -8,9 +8,10 @@ use Rattle.std.proofs.lemmas.Option.{slice_get_within, get_or_from_slice_get}
 use Rattle.problem_model.specs.declared.items.Bound.{Bound}
 use Rattle.problem_model.specs.declared.items.Node.{Node}
 use Rattle.problem_model.specs.Problem.{ProblemLists}
-use Rattle.problem_model.specs.Bounds.{Constraint, Declares, IsReading}
+use Rattle.problem_model.specs.Bounds.{IsReading}
 use Rattle.sync_graph.specs.declared.arc.Arc.{Arc}
 use Rattle.sync_graph.specs.Graph.{GraphLists, arc_at, with_arc}
+use Rattle.problem_graph.specs.BoundArcs.{IsBoundAmong}
 use Rattle.problem_graph.specs.Standing.{HasNode}
 use Rattle.sync_graph.proofs.InForce.{no_arc}
 use Rattle.solver.specs.Solver.{SolverLists, HasRoom}
@@ -24,7 +25,7 @@ use Rattle.roster.proofs.Once.{pushed_once}
 use Rattle.roster.proofs.PushedBounds.{bound_pushed}
 use Rattle.session_graph.specs.Kept.{KeepsRows}
 use Rattle.session_graph.specs.Pushes.{Brings}
-use Rattle.session_graph.specs.Links.{links_of}
+use Rattle.session_graph.specs.Links.{bounds_beside}
 use Rattle.session_graph.specs.declared.follows.Nearest.{Nearest}
 use Rattle.session_graph.proofs.Extending.{extends_itself, extends_then, extends_by_arc}
 
@@ -36,7 +37,7 @@ room_stays : (old new : SolverLists) (n : ℕ) → KeepsSlots old new → HasRoo
 room_stays old new n keeps room =
     let wide : new.pool.width ≡ old.pool.width = keeps.rows.width in
     let found : new.kept.room ≡ old.kept.room = keeps.found in
-    let front : length new.front ≡ length old.front = keeps.front in
+    let front : new.front ≡ old.front = keeps.front in
     record { rows = (let x = room.rows in omega (arith, x, wide)); found = (let x = room.found in omega (arith, x, found)); front = (let x = room.front in omega (arith, x, front)) }
 
 pub rows_then : (a b c : SolverLists) → KeepsRows a b → KeepsRows b c → KeepsRows a c
@@ -53,7 +54,7 @@ on_inside g k flags on = elim (cases_lt k (length g.in_force)) [
 ]
 
 module _ (g : GraphLists) (a : Arc) (flags : length g.in_force ≡ length g.arcs) where
-  stays : (k : ℕ) → IsOn g k → IsOn (with_arc g a) k × (arc_at (g.arcs ++ a ∷ []) k ≡ arc_at g.arcs k)
+  pub stays : (k : ℕ) → IsOn g k → IsOn (with_arc g a) k × (arc_at (g.arcs ++ a ∷ []) k ≡ arc_at g.arcs k)
   stays k on =
       let inside = on_inside g k flags on in
       (get_or_append_left g.in_force (true ∷ []) false k (omega (arith, inside, flags)) ∙ on, get_or_append_left g.arcs (a ∷ []) no_arc k inside)
@@ -111,25 +112,11 @@ four_behind a b c d rest =
     ∙ ap (λ (xs : List Bound). a ++ xs) (append_assoc b (c ++ d) rest)
     ∙ ap (λ (xs : List Bound). a ++ (b ++ xs)) (append_assoc c d rest)
 
--- ---- what one arc leaves
-module _ (old new : SolverLists) (a : Arc) where
-  pub nodes_of_one : new.graph ≡ with_arc old.graph a → new.graph.nodes ≡ old.graph.nodes
-  nodes_of_one is = ap (λ (h : GraphLists). h.nodes) is
-
-  pub arcs_of_one : new.graph ≡ with_arc old.graph a → length new.graph.arcs ≡ length old.graph.arcs + 1
-  arcs_of_one is = ap (λ (h : GraphLists). length h.arcs) is ∙ length-append old.graph.arcs (a ∷ [])
-
-  module _ (was : IsCurrent old) (is : new.graph ≡ with_arc old.graph a) where
-    pub on_of_one : IsOn new.graph (length old.graph.arcs)
-    on_of_one = subst (λ (h : GraphLists). IsOn h (length old.graph.arcs)) (sym is) (last_on old.graph a was.set_up.graph.flags)
-
-    pub name_of_one : (arc_at new.graph.arcs (length old.graph.arcs)).name ≡ a.name
-    name_of_one = ap (λ (h : GraphLists). (arc_at h.arcs (length old.graph.arcs)).name) is ∙ ap (λ (x : Arc). x.name) (last_is old.graph a was.set_up.graph.flags)
-
-    pub grows_one : (p : ProblemLists) (entered : ℕ → Bool) (rest : List Bound) (c : Constraint) → Declares p a.name c → slice_get old.graph.nodes a.from ≡ Some c.from → slice_get old.graph.nodes a.to ≡ Some c.to → a.weight ≡ c.weight
-        → IsGrowing p entered (a.name ∷ rest) old.graph → IsGrowing p entered rest new.graph
-    grows_one p entered rest c declares tail head weighs left =
-        subst (IsGrowing p entered rest) (sym is) (bound_pushed p entered a.name rest old.graph a was.set_up.graph (c, declares, tail, head, weighs) refl left)
+-- ---- what is left
+-- one bound less is left behind an arc
+pub grows_one : (p : ProblemLists) (entered : ℕ → Bool) (rest : List Bound) (old new : SolverLists) (a : Arc) → IsCurrent old → new.graph ≡ with_arc old.graph a → IsBoundAmong p old.graph.nodes a
+    → IsGrowing p entered (a.name ∷ rest) old.graph → IsGrowing p entered rest new.graph
+grows_one p entered rest old new a was is bound left = subst (IsGrowing p entered rest) (sym is) (bound_pushed p entered a.name rest old.graph a was.set_up.graph bound refl left)
 
 -- ---- readings
 pub reading_by : (p : ProblemLists) (entered : ℕ → Bool) (clock stamp : ℕ) → IsReadingOf p entered clock stamp → IsReading p clock stamp
@@ -154,7 +141,7 @@ after_few clock stamp (Some t) None alone = omega arith
 after_few clock stamp (Some t) (Some e) alone = absurd (cc)
 
 -- at most four
-pub links_few : (place stamp : ℕ) (n : Nearest) → IfSome n.below (λ s. n.earlier ≡ None) → IfSome n.above (λ t. n.later ≡ None) → length (links_of place stamp n) ≤ 4
+pub links_few : (place stamp : ℕ) (n : Nearest) → IfSome n.below (λ s. n.earlier ≡ None) → IfSome n.above (λ t. n.later ≡ None) → length (bounds_beside place stamp n) ≤ 4
 links_few place stamp n first last =
     let under : List Bound = span_below place stamp n.below in
     let over : List Bound = span_above place stamp n.above in

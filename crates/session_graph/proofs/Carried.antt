@@ -1,7 +1,8 @@
 -- The messages of a roster by number are those of its problem by place.
-use Rattle.std.proofs.Common.{◌≡◌, ◌≤◌, ◌^◌, ℕ, List, [], map, slice_get, Some, Contains, refl, sym, ◌∙◌, ap, subst}
+use Rattle.std.proofs.Common.{◌≡◌, ◌≤◌, ℕ, List, [], map, slice_get, Some, Contains, refl, sym, ◌∙◌, ap, subst}
 use Rattle.std.proofs.lemmas.Option.{get_or_from_slice_get}
 use Rattle.problem_model.specs.declared.items.Message.{Message}
+use Rattle.problem_model.specs.Limits.{most_events}
 use Rattle.problem.specs.Line.{HasEvent}
 use Rattle.problem.specs.Listing.{name_at}
 use Rattle.problem.proofs.ListedNodes.{map_at}
@@ -18,7 +19,7 @@ use Rattle.traces.proofs.Places.{the_place}
 use Rattle.traces.proofs.Seen.{are_events}
 use Rattle.roster.specs.declared.came.Came.{Came}
 use Rattle.roster.specs.Groups.{group_at}
-use Rattle.roster.specs.Roster.{RosterLists, id_of, event_at, IsRoster, Holds, listed}
+use Rattle.roster.specs.Roster.{RosterLists, id_of, event_at, IsRoster, HoldsEvents, listed}
 use Rattle.roster.proofs.Problem.{events_are}
 use Rattle.roster.proofs.Telling.{among}
 use Rattle.roster.proofs.Turns.{from_map, into_map, into_turn}
@@ -26,7 +27,7 @@ use Rattle.roster.specs.ByNumber.{IsCarriedMessage, AreCarriedMessages}
 use Rattle.roster.specs.Told.{messages_by_number, number_of, numbered_message}
 use Rattle.session_graph.proofs.Held.{number_is, labels_many, events_many, id_under}
 
-module _ (r : RosterLists) (is : IsRoster r) (seen : List (List Seen)) (holds : Holds r seen) where
+module _ (r : RosterLists) (is : IsRoster r) (seen : List (List Seen)) (holds : HoldsEvents r seen) where
   abbrev names : List (List ℕ)
   names = map (λ (e : Came). name_of r.declaration (id_of e)) r.came
 
@@ -43,7 +44,7 @@ module _ (r : RosterLists) (is : IsRoster r) (seen : List (List Seen)) (holds : 
       get_or_from_slice_get names v (name_of r.declaration (id_of e.0)) [] (map_at (λ (x : Came). name_of r.declaration (id_of x)) r.came v e.0 e.1) ∙ ap (name_of r.declaration) same in
       let has : HasEvent (problem_of_seen r.declaration seen) place.0 (name_of r.declaration id) =
       ap (λ (l : List (List ℕ)). slice_get l place.0) (sym (events_are r is seen holds)) ∙ map_at {X = ℕ × ℕ} (λ x. name_at names x.0) (listed r).events place.0 (v, node) place.1 ∙ ap Some named in
-      let few : event_count seen ≤ 2 ^ 21 = subst (λ (n : ℕ). n ≤ 2 ^ 21) (sym (events_many r is seen holds)) is.few in
+      let few : event_count seen ≤ most_events = subst (λ (n : ℕ). n ≤ most_events) (sym (events_many r is seen holds)) is.few in
       let here' : place.0 ≡ place_of (events_of seen) id =
       the_place r.declaration (events_of seen) (messages_of (events_of seen)) id place.0 is.declared.labels (are_events r.declaration seen (labels_many r is seen holds) few) one has in
       (node, subst (λ (p : ℕ). slice_get {X = ℕ × ℕ} (listed r).events p ≡ Some (number_of r.under id, node)) here' (place.1 ∙ ap (λ (w : ℕ). let x : ℕ × ℕ = (w, node) in Some x) (sym (number_is r.under id v under))))

@@ -26,17 +26,17 @@ use Rattle.msg_match.specs.declared.change.Couple as numbers
 use Rattle.msg_match.specs.Ends.{AreNewMessages, AreChanges, AreCouplesBelow, ids_from, named}
 use Rattle.roster.specs.Groups.{group_at, with_more}
 use Rattle.roster.specs.Readings.{stamps_of}
-use Rattle.roster.specs.Roster.{RosterLists, IsRoster, IsGrown, Holds, id_of}
+use Rattle.roster.specs.Roster.{RosterLists, IsRoster, IsGrown, HoldsEvents, id_of}
 use Rattle.roster.proofs.Turns.{map-map}
 use Rattle.roster.specs.Entered.{events_below}
 use Rattle.roster.specs.Told.{messages_by_number, numbered_message}
 use Rattle.session_graph.specs.declared.plans.Due.{Due}
 use Rattle.session_graph.specs.declared.plans.Turn.{Turn}
 use Rattle.session_graph.specs.Kept.{IsKeptFor}
-use Rattle.session_graph.specs.UnderWay.{IsUnderWay, IsEntering}
+use Rattle.session_graph.specs.UnderWay.{IsChangeUnderWay, IsEntering}
 use Rattle.session_graph.specs.Growth.{Gains, Retells, KeepsNodesThere}
 use Rattle.session_graph.specs.Withdrawn.{AreLeft}
-use Rattle.session_graph.specs.Plans.{numbers_of, messages_in}
+use Rattle.session_graph.specs.Plans.{turn_numbers, messages_in}
 use Rattle.session_graph.specs.Numbers.{message_by, names_then}
 use Rattle.session_graph.specs.Arrivals.{HaveOwnSends, HaveCome}
 use Rattle.session_graph.proofs.Alike.{AreAlike}
@@ -127,10 +127,10 @@ alike_permuted some others rest all permuted alike = record {
 pub are_by_number : (r : RosterLists) {couples all : List numbers.Couple} {messages listed : List Message} → couples ≡ all → listed ≡ map (message_by r) couples → messages ≡ listed → messages ≡ map (message_by r) all
 are_by_number r same are handed = handed ∙ are ∙ ap (map (message_by r)) same
 
-pub in_turn : (many : ℕ) {turns sorted : List Turn} {first from : ℕ} → turns ≡ sorted → from ≡ first → IsPermutation (range_with_len from many) (numbers_of sorted) → IsPermutation (range_with_len first many) (numbers_of turns)
+pub in_turn : (many : ℕ) {turns sorted : List Turn} {first from : ℕ} → turns ≡ sorted → from ≡ first → IsPermutation (range_with_len from many) (turn_numbers sorted) → IsPermutation (range_with_len first many) (turn_numbers turns)
 in_turn many {turns} {sorted} {first} {from} same begin permuted =
-    subst (λ (l : List Turn). IsPermutation (range_with_len first many) (numbers_of l)) (sym same)
-    (subst (λ (n : ℕ). IsPermutation (range_with_len n many) (numbers_of sorted)) begin permuted)
+    subst (λ (l : List Turn). IsPermutation (range_with_len first many) (turn_numbers l)) (sym same)
+    (subst (λ (n : ℕ). IsPermutation (range_with_len n many) (turn_numbers sorted)) begin permuted)
 
 pub in_queue : {messages all : List Message} {dues sorted : List Due} → messages ≡ all → dues ≡ sorted → IsPermutation messages (messages_in sorted) → IsPermutation all (messages_in dues)
 in_queue {messages} {all} {dues} {sorted} are same permuted =
@@ -140,15 +140,15 @@ in_queue {messages} {all} {dues} {sorted} are same permuted =
 -- these messages may be withdrawn
 pub record MayGo (r : RosterLists) (s : SolverLists) (some : List Message) : Type 0 where
   pub differ : AllPairs (λ (a b : Message). a ≢ b) some
-  pub ready : (all left : List Message) × IsUnderWay all r s × AreLeft all some left
+  pub ready : (all left : List Message) × IsChangeUnderWay all r s × AreLeft all some left
 
 -- events may enter in these turns, and messages join in theirs; with them there are so many events
 pub record MayCome (r : RosterLists) (s : SolverLists) (turns : List Turn) (dues : List Due) (count : ℕ) : Type 0 where
-  pub inside : All (λ v. v < length r.came) (numbers_of turns)
+  pub inside : All (λ v. v < length r.came) (turn_numbers turns)
   pub sends : All (λ (m : Message). m.send < length r.came) (messages_in dues)
   pub receives : All (λ (m : Message). m.receive < length r.came) (messages_in dues)
   pub ready : (entered : ℕ → Bool) × (messages : List Message) × IsEntering entered messages r s × HaveOwnSends (messages_in dues) messages
-  pub all : (v : ℕ) → v < length r.came → HasNode s.graph (nodes.Event v) ⊎ Contains (numbers_of turns) v
+  pub all : (v : ℕ) → v < length r.came → HasNode s.graph (nodes.Event v) ⊎ Contains (turn_numbers turns) v
   pub nodes : length s.graph.nodes + 2 * length turns ≤ 2 * count
   pub arcs : length s.graph.arcs + 6 * length turns + 2 * length dues ≤ 8 * count
 
@@ -182,7 +182,7 @@ module _ (before : List (List Seen)) (label : ℕ) (events : List Event) (c : Ch
   stay = map (numbered_message r) staying.0
 
   -- before anything comes
-  way_there : IsUnderWay (messages_by_number r before) r s
+  way_there : IsChangeUnderWay (messages_by_number r before) r s
   way_there = kept_way r is before s kept
 
   module _ (within : AreCouplesBelow (length r.came) c.withdrawn.items) (some : List Message) (by_number : some ≡ map (message_by r) c.withdrawn.items) where
@@ -203,8 +203,8 @@ module _ (before : List (List Seen)) (label : ℕ) (events : List Event) (c : Ch
 
     -- messages are withdrawn
     module _ (r1 : RosterLists) (s1 : SolverLists) (retells : Retells r r1) (arcs : s1.graph.arcs ≡ s.graph.arcs)
-        (left : (all left : List Message) → IsUnderWay all r s → AreLeft all some left → IsUnderWay left r1 s1) where
-      way_left : IsUnderWay (map (numbered_message r) staying.0) r1 s1
+        (left : (all left : List Message) → IsChangeUnderWay all r s → AreLeft all some left → IsChangeUnderWay left r1 s1) where
+      way_left : IsChangeUnderWay (map (numbered_message r) staying.0) r1 s1
       way_left = left (messages_by_number r before) stay way_there left_there
 
       -- events are pushed
@@ -230,13 +230,13 @@ module _ (before : List (List Seen)) (label : ℕ) (events : List Event) (c : Ch
         gains : Gains label (stamps_of events) r r2
         gains = gains_when r2 (keeps_none s1.graph r2)
 
-        holds : Holds r2 (with_more before label (seen_events events))
+        holds : HoldsEvents r2 (with_more before label (seen_events events))
         holds =
             let within' : label < length before = subst (λ (n : ℕ). label < n) (sym (labels_many r is before kept.holds)) inside in
             gains.holds before (group_at before label) (seen_events events) kept.holds (slice_get-get_or before label [] within') (map-map (λ (x : Seen). x.stamp) seen_event events)
 
         -- turns are taken
-        module _ (turns : List Turn) (dues : List Due) (order : IsPermutation (range_with_len (length r1.came) (length events)) (numbers_of turns)) (among : AreCouplesBelow (length r.came + length events) c.added.items)
+        module _ (turns : List Turn) (dues : List Due) (order : IsPermutation (range_with_len (length r1.came) (length events)) (turn_numbers turns)) (among : AreCouplesBelow (length r.came + length events) c.added.items)
             (queue : IsPermutation (map (message_by r2) c.added.items) (messages_in dues)) where
           named_queue : IsPermutation (map (numbered_message r2) added) (messages_in dues)
           named_queue =
@@ -268,18 +268,18 @@ module _ (before : List (List Seen)) (label : ℕ) (events : List Event) (c : Ch
 
           many_turns : length turns ≡ length events
           many_turns =
-              let many = length_permutation (range_with_len (length r1.came) (length events)) (numbers_of turns) order in
+              let many = length_permutation (range_with_len (length r1.came) (length events)) (turn_numbers turns) order in
               omega (arith, many, length-map turns (λ (t : Turn). t.event), length-range_with_len (length r1.came) (length events))
 
-          inside_turns : All (λ v. v < length r2.came) (numbers_of turns)
+          inside_turns : All (λ v. v < length r2.came) (turn_numbers turns)
           inside_turns =
-              All-permutation (λ (v : ℕ). v < length r2.came) (range_with_len (length r1.came) (length events)) (numbers_of turns) order
+              All-permutation (λ (v : ℕ). v < length r2.came) (range_with_len (length r1.came) (length events)) (turn_numbers turns) order
               (range_below (length r1.came) (length events) (length r2.came) (let many = count_there in let same = retells.count in omega (arith, many, same)))
 
-          all_turns : (v : ℕ) → v < length r2.came → HasNode s1.graph (nodes.Event v) ⊎ Contains (numbers_of turns) v
+          all_turns : (v : ℕ) → v < length r2.came → HasNode s1.graph (nodes.Event v) ⊎ Contains (turn_numbers turns) v
           all_turns v less = elim (cases_lt v (length r1.came)) [
             | inl old ↦ inl (before_there r1 r2 is1 is2 label (stamps_of events) pushed stay s1 way_left v old)
-            | inr new ↦ inr (Contains-permutation (range_with_len (length r1.came) (length events)) (numbers_of turns) v order
+            | inr new ↦ inr (Contains-permutation (range_with_len (length r1.came) (length events)) (turn_numbers turns) v order
                 (range_has (length r1.came) (length events) v new (let many = count_there in let same = retells.count in omega (arith, less, many, same))))
           ]
 
@@ -315,7 +315,7 @@ module _ (before : List (List Seen)) (label : ℕ) (events : List Event) (c : Ch
             count_all : length r3.came ≡ length r.came + length events
             count_all = have.keeps.count ∙ count_there
 
-            way_all : IsUnderWay (messages_in dues ++ map (numbered_message r) staying.0) r3 s3
+            way_all : IsChangeUnderWay (messages_in dues ++ map (numbered_message r) staying.0) r3 s3
             way_all =
                 let (now, way) = have.grown (events_below (length r1.came)) stay begins_there own_due in
                 let same = have.keeps.count in

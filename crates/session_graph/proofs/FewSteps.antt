@@ -8,7 +8,7 @@ use Rattle.std.proofs.lemmas.List.Sums.{sum_by-le-sum_by}
 use Rattle.traces.proofs.Members.{here}
 use Rattle.problem_model.specs.Executions as bounds
 use Rattle.problem_model.specs.Executions.{at}
-use Rattle.problem_model.specs.Tables.{ArcTable, listed, reversed_table}
+use Rattle.problem_model.specs.Tables.{ArcTable, arcs_among, reversed_table}
 use Rattle.problem_model.specs.Reversal.{reversed}
 use Rattle.problem_model.specs.Parents.{Cells}
 use Rattle.withdrawals.specs.Withdrawals.{IsAffected, flagged_sum}
@@ -165,8 +165,8 @@ module _ (before mid after : SolverLists) (first last : ℕ) (was : IsGraph befo
 
       arcs_same : arcs_of mid.graph ≡ arcs_of between.graph
       arcs_same =
-          ap (λ (arcs : List Arc). listed (record { arc = λ k. unnamed (arc_at arcs k); in_force = λ k. get_or mid.graph.in_force k false }) (length arcs)) same_arcs
-          ∙ ap (λ (flags : List Bool). listed (record { arc = λ k. unnamed (arc_at between.graph.arcs k); in_force = λ k. get_or flags k false }) (length between.graph.arcs)) same_in_force
+          ap (λ (arcs : List Arc). arcs_among (record { arc = λ k. unnamed (arc_at arcs k); in_force = λ k. get_or mid.graph.in_force k false }) (length arcs)) same_arcs
+          ∙ ap (λ (flags : List Bool). arcs_among (record { arc = λ k. unnamed (arc_at between.graph.arcs k); in_force = λ k. get_or flags k false }) (length between.graph.arcs)) same_in_force
 
       arcs_too : (a : bounds.Arc) → Contains (arcs_before mid.graph went) a → Contains (arcs_before between.graph removed) a
       arcs_too a among = elim (Contains-append_cases (arcs_of mid.graph) (map unnamed went) a among) [

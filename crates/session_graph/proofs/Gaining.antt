@@ -4,7 +4,7 @@ use Rattle.decl.specs.Declaration.{Declaration, link_bounds}
 use Rattle.problem_model.specs.declared.items.Message.{Message}
 use Rattle.traces.specs.declared.event_id.Couple.{Couple}
 use Rattle.traces.specs.Traces.{host_of}
-use Rattle.roster.specs.Roster.{RosterLists, IsUnder}
+use Rattle.roster.specs.Roster.{RosterLists, IsNumberUnder}
 use Rattle.roster.specs.Told.{number_of, numbered_message}
 use Rattle.session_graph.specs.Kept.{KeepsEvents, KeepsReadings}
 use Rattle.session_graph.specs.Growth.{Gains, Retells}
@@ -55,6 +55,6 @@ gains_behind label stamps a b c one two = record {
   count = two.count ∙ ap (λ (n : ℕ). n + length stamps) one.count;
   events = events_then a b c one.events two.events;
   readings = readings_then a b c one.readings two.readings;
-  under = λ id v under. two.under id v (subst (λ (u : List (List ℕ)). IsUnder u id v) (sym one.under) under);
+  under = λ id v under. two.under id v (subst (λ (u : List (List ℕ)). IsNumberUnder u id v) (sym one.under) under);
   holds = λ seen own more holds at is. two.holds seen own more (one.holds seen holds) at is;
 }

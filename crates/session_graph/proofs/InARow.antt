@@ -13,7 +13,7 @@ use Rattle.roster.specs.Roster.{RosterLists}
 use Rattle.session_graph.specs.declared.plans.Due.{Due}
 use Rattle.session_graph.specs.declared.plans.Turn.{Turn}
 use Rattle.session_graph.specs.Extensions.{Extends}
-use Rattle.session_graph.specs.Plans.{numbers_of, messages_in}
+use Rattle.session_graph.specs.Plans.{turn_numbers, messages_in}
 use Rattle.session_graph.specs.Growth.{KeepsNodesThere}
 use Rattle.session_graph.specs.Arrivals.{HaveOwnSends, HaveCome}
 use Rattle.session_graph.proofs.Bringing.{rows_same, rows_then}
@@ -131,7 +131,7 @@ pub record StandsAt (turns : List Turn) (dues : List Due) (a b : RosterLists) (s
   pub left : l ≤ length dues
   pub sum : n + length dues ≡ k + l
   pub come : HaveCome (messages_in (drop l dues)) a b s t
-  pub entered : (j w : ℕ) → j < n → slice_get (numbers_of turns) j ≡ Some w → HasNode t.graph (nodes.Event w)
+  pub entered : (j w : ℕ) → j < n → slice_get (turn_numbers turns) j ≡ Some w → HasNode t.graph (nodes.Event w)
   pub nodes : length t.graph.nodes ≤ length s.graph.nodes + 2 * n
   pub arcs : length t.graph.arcs + 2 * l ≤ length s.graph.arcs + 6 * n + 2 * length dues
   pub declaration : b.declaration ≡ a.declaration

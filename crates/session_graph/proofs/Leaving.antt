@@ -31,8 +31,8 @@ use Rattle.roster.specs.Rosters.{named_event, problem_by_number}
 use Rattle.roster.proofs.Once.{taken_out}
 use Rattle.roster.proofs.Withdrawn.{grown_after}
 use Rattle.roster.proofs.Loop.{grown_alike}
-use Rattle.session_graph.specs.Kept.{HasArcs, KnowsMessages, Tells}
-use Rattle.session_graph.specs.UnderWay.{IsUnderWay}
+use Rattle.session_graph.specs.Kept.{HasArcs, KnowsMessages, TellsArc}
+use Rattle.session_graph.specs.UnderWay.{IsChangeUnderWay}
 use Rattle.session_graph.specs.Withdrawn.{AreLeft, told_arcs, without_partners}
 use Rattle.session_graph.proofs.Messages.{OfMessage}
 use Rattle.session_graph.proofs.OneEvent.{none_behind}
@@ -42,9 +42,9 @@ use Rattle.session_graph.proofs.Forgetting.{sends_of, IsForgetting, forgets}
 is_below : (v n : ℕ) → v < n → nat_lt v n ≡ true
 is_below v n less = grind (arith, nat_tests)
 
-module _ (r : RosterLists) (s : SolverLists) (messages left went : List Message) (way : IsUnderWay messages r s) (of : AreLeft messages went left) where
-  pub all_told : All (λ m. Tells r s.graph m) went
-  all_told = all_from (λ (m : Message). Tells r s.graph m) went (λ m held. way.grown.tells.each m (of.were m held))
+module _ (r : RosterLists) (s : SolverLists) (messages left went : List Message) (way : IsChangeUnderWay messages r s) (of : AreLeft messages went left) where
+  pub all_told : All (λ m. TellsArc r s.graph m) went
+  all_told = all_from (λ (m : Message). TellsArc r s.graph m) went (λ m held. way.grown.tells.each m (of.were m held))
 
   pub numbers_on : All (IsOn s.graph) (flat_map (told_arcs r) went)
   numbers_on = all_on r s.graph messages of.own_sends way.grown.tells.each went of.were
@@ -169,7 +169,7 @@ module _ (r : RosterLists) (s : SolverLists) (messages left went : List Message)
           ap (λ (es : List Event). let x : ProblemLists = record { clocks = new.declaration.clocks; follows = follows_of new.declaration; events = es; messages = left } in x) forgetting.events
           ∙ ap (λ (d : Declaration). let x : ProblemLists = record { clocks = d.clocks; follows = follows_of d; events = map (named_event r.declaration) r.came; messages = left } in x) forgetting.retells.declaration
 
-      pub left_way : IsCurrent s' → IsUnderWay left new s'
+      pub left_way : IsCurrent s' → IsChangeUnderWay left new s'
       left_way current = record {
         current = current;
         grown = record {

@@ -1,9 +1,10 @@
 -- The ends of messages among a roster's events while events of a label come.
-use Rattle.std.proofs.Common.{◌≡◌, ◌≢◌, ◌<◌, ◌≤◌, ◌+◌, ◌^◌, ℕ, suc, List, [], ◌∷◌, ◌++◌, length, map, get_or, All, AllPairs, Contains, refl, sym, ◌∙◌, ap, subst, arith, length-append}
+use Rattle.std.proofs.Common.{◌≡◌, ◌≢◌, ◌<◌, ◌≤◌, ◌+◌, ℕ, suc, List, [], ◌∷◌, ◌++◌, length, map, get_or, All, AllPairs, Contains, refl, sym, ◌∙◌, ap, subst, arith, length-append}
 use Rattle.std.proofs.lemmas.List.{length-map}
 use Rattle.std.proofs.lemmas.List.Elements.{All-cons, All-nil, All-weaker}
 use Rattle.std.proofs.lemmas.List.Kept.{AllPairs-cons}
 use Rattle.std.proofs.lemmas.Option.{slice_get_within, slice_get-get_or}
+use Rattle.problem_model.specs.Limits.{most_events, most_items}
 use Rattle.decl.specs.declared.items.Label.{Label}
 use Rattle.traces.specs.declared.event.Event.{Event}
 use Rattle.traces.specs.Seen.{Seen, seen_event, seen_events}
@@ -19,7 +20,7 @@ use Rattle.msg_match.specs.Ends.{AreEndsBy, AreChanges, AreCouplesBelow, ids_fro
 use Rattle.msg_match.proofs.Grown.{ends_none, ends_more, ends_few, ids_many, added_within, gone_within, changes_are}
 use Rattle.roster.specs.declared.came.Came.{Came}
 use Rattle.roster.specs.Groups.{group_at, with_more}
-use Rattle.roster.specs.Roster.{RosterLists, IsRoster, Holds, id_of}
+use Rattle.roster.specs.Roster.{RosterLists, IsRoster, HoldsEvents, id_of}
 use Rattle.roster.proofs.Turns.{from_map}
 use Rattle.roster.specs.Told.{number_of}
 use Rattle.session_graph.specs.Numbers.{names_then}
@@ -100,7 +101,7 @@ pub record IsRematched (before : List (List Seen)) (label : ℕ) (events : List 
   pub withdrawn : AreCouplesBelow (length r.came) c.withdrawn.items
   pub ends : AreEndsBy (names_then r label (seen_events events)) after (with_more before label (seen_events events))
 
-module _ (before : List (List Seen)) (label : ℕ) (events : List Event) (r : RosterLists) (is : IsRoster r) (inside : label < length r.declaration.labels) (holds : Holds r before) (items : List SeenItem) (are : AreEndsBy (map id_of r.came) items before) where
+module _ (before : List (List Seen)) (label : ℕ) (events : List Event) (r : RosterLists) (is : IsRoster r) (inside : label < length r.declaration.labels) (holds : HoldsEvents r before) (items : List SeenItem) (are : AreEndsBy (map id_of r.came) items before) where
   abbrev more : List Seen
   more = seen_events events
 
@@ -119,12 +120,12 @@ module _ (before : List (List Seen)) (label : ℕ) (events : List Event) (r : Ro
   pub own_come : (first : ℕ) → first ≡ length r.came → HaveOwnNumbers (items ++ items_from first (seen_events events))
   own_come first behind = subst (λ (n : ℕ). HaveOwnNumbers (items ++ items_from n more)) (sym behind) ends_come.own
 
-  pub few_come : (first : ℕ) → first ≡ length r.came → length r.came + length events ≤ 2 ^ 21 → length items + length (items_from first (seen_events events)) ≤ 2 ^ 22
+  pub few_come : (first : ℕ) → first ≡ length r.came → length r.came + length events ≤ most_events → length items + length (items_from first (seen_events events)) ≤ most_items
   few_come first behind few =
       let most = ends_few (with_more before label more) (names_then r label more) (items ++ new) ends_come in
       let count : event_count (with_more before label more) ≡ event_count before + length more = count_appended before label more within in
       let came : event_count before ≡ length r.came = events_many r is before holds in
-      subst (λ (n : ℕ). length items + length (items_from n more) ≤ 2 ^ 22) (sym behind) (omega (arith, few, most, count, came, length-append items new, length-map events seen_event))
+      subst (λ (n : ℕ). length items + length (items_from n more) ≤ most_items) (sym behind) (omega (arith, few, most, count, came, length-append items new, length-map events seen_event))
 
   -- the matcher has got their ends
   module _ (after : List SeenItem) (first : ℕ) (c : Change) (behind : first ≡ length r.came) (matched : after ≡ items ++ items_from first (seen_events events))

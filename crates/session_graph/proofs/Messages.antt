@@ -16,7 +16,7 @@ use Rattle.problem_model.specs.Bounds.{Constraint, Declares}
 use Rattle.problem_model.specs.ShortList.{message_bounds, most_bound}
 use Rattle.sync_graph.specs.Graph.{GraphLists}
 use Rattle.traces.proofs.Members.{here, none_in, no_pairs}
-use Rattle.roster.specs.Entered.{IsNodeOf, IsDue}
+use Rattle.roster.specs.Entered.{IsEnteredNode, IsDue}
 use Rattle.roster.specs.Growing.{IsGrowing, IsGrownTo, HasBound}
 use Rattle.roster.specs.Once.{HasEachOnce}
 use Rattle.roster.proofs.Leading.{after_over}
@@ -72,11 +72,11 @@ module _ (clocks : List Clock) (follows : List Follow) (events : List Event) (ol
   declared (DelayMost send receive) c d = (d.0, d.1, forth d.0 d.2, d.3, d.4, d.5, d.6)
   declared (DelayLeast send receive) c d = (d.0, forth d.0 d.1, d.2, d.3, d.4)
 
-  node_over : (n : Node) → IsNodeOf p entered n → IsNodeOf q entered n
+  node_over : (n : Node) → IsEnteredNode p entered n → IsEnteredNode q entered n
   node_over (nodes.Event v) is = is
   node_over (nodes.Reading clock stamp) is = is
 
-  node_under : (n : Node) → IsNodeOf q entered n → IsNodeOf p entered n
+  node_under : (n : Node) → IsEnteredNode q entered n → IsEnteredNode p entered n
   node_under (nodes.Event v) is = is
   node_under (nodes.Reading clock stamp) is = is
 

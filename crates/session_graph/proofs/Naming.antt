@@ -10,12 +10,12 @@ use Rattle.traces.specs.Seen.{Seen, seen_events}
 use Rattle.traces.specs.declared.event_id.EventId.{EventId}
 use Rattle.traces.specs.Traces.{host_of}
 use Rattle.msg_match.specs.declared.change.Couple.{Couple}
-use Rattle.msg_match.specs.Ends.{no_name, name_at, named, ids_from, AreCouplesBelow}
+use Rattle.msg_match.specs.Ends.{no_name, name_as_came, named, ids_from, AreCouplesBelow}
 use Rattle.roster.specs.declared.came.Came.{Came}
 use Rattle.roster.specs.Groups.{group_at}
 use Rattle.roster.specs.Readings.{stamps_of}
 use Rattle.roster.proofs.Beside.{group_inside}
-use Rattle.roster.specs.Roster.{RosterLists, IsRoster, IsUnder, IsGrown, id_of, no_event, event_at, came_from}
+use Rattle.roster.specs.Roster.{RosterLists, IsRoster, IsNumberUnder, IsGrown, id_of, no_event, event_at, came_from}
 use Rattle.roster.specs.Told.{number_of, numbered_message}
 use Rattle.session_graph.specs.Numbers.{message_by, names_then}
 use Rattle.session_graph.proofs.Held.{number_is, one_id}
@@ -30,7 +30,7 @@ label_inside r is v e at =
     omega (arith, under, many)
 
 module _ (r : RosterLists) (is : IsRoster r) where
-  own_under : (v : ℕ) → v < length r.came → IsUnder r.under (id_of (event_at r.came v)) v
+  own_under : (v : ℕ) → v < length r.came → IsNumberUnder r.under (id_of (event_at r.came v)) v
   own_under v inside = is.every v (event_at r.came v) (slice_get-get_or r.came v no_event inside)
 
   -- the name that stands at a number has that number
@@ -46,7 +46,7 @@ module _ (r : RosterLists) (is : IsRoster r) where
         let less' : v < length r.came = subst (λ (n : ℕ). v < n) count less in
         get_or-map id_of other.came v no_event no_name less
         ∙ one_id r is (id_of (event_at other.came v)) (id_of (event_at r.came v)) v
-        (subst (λ (u : List (List ℕ)). IsUnder u (id_of (event_at other.came v)) v) under (is'.every v (event_at other.came v) (slice_get-get_or other.came v no_event less))) (own_under v less')
+        (subst (λ (u : List (List ℕ)). IsNumberUnder u (id_of (event_at other.came v)) v) under (is'.every v (event_at other.came v) (slice_get-get_or other.came v no_event less))) (own_under v less')
         ∙ sym (get_or-map id_of r.came v no_event no_name less'))
 
 -- the names of events that come
@@ -65,7 +65,7 @@ names_of_same a b label more same under =
 
 -- ---- messages
 module _ (r : RosterLists) (is : IsRoster r) (more : List EventId) where
-  name_is : (v : ℕ) → v < length r.came → name_at (map id_of r.came ++ more) v ≡ id_of (event_at r.came v)
+  name_is : (v : ℕ) → v < length r.came → name_as_came (map id_of r.came ++ more) v ≡ id_of (event_at r.came v)
   name_is v inside =
       get_or_append_left (map id_of r.came) more no_name v (subst (λ (n : ℕ). v < n) (sym (length-map r.came id_of)) inside)
       ∙ get_or-map id_of r.came v no_event no_name inside
@@ -79,12 +79,12 @@ module _ (r : RosterLists) (is : IsRoster r) (more : List EventId) where
       let ids : List EventId = map id_of r.came ++ more in
       let send = name_is c.send sent in
       let receive = name_is c.receive received in
-      let sender : number_of r.under (name_at ids c.send) ≡ c.send = ap (λ (x : EventId). number_of r.under x) send ∙ own_number r is c.send sent in
-      let receiver : number_of r.under (name_at ids c.receive) ≡ c.receive = ap (λ (x : EventId). number_of r.under x) receive ∙ own_number r is c.receive received in
+      let sender : number_of r.under (name_as_came ids c.send) ≡ c.send = ap (λ (x : EventId). number_of r.under x) send ∙ own_number r is c.send sent in
+      let receiver : number_of r.under (name_as_came ids c.receive) ≡ c.receive = ap (λ (x : EventId). number_of r.under x) receive ∙ own_number r is c.receive received in
       ap (λ (x : EventId). by x (id_of (event_at r.came c.receive)) c.send c.receive) (sym send)
-      ∙ ap (λ (x : EventId). by (name_at ids c.send) x c.send c.receive) (sym receive)
-      ∙ ap (λ (v : ℕ). by (name_at ids c.send) (name_at ids c.receive) v c.receive) (sym sender)
-      ∙ ap (λ (v : ℕ). by (name_at ids c.send) (name_at ids c.receive) (number_of r.under (name_at ids c.send)) v) (sym receiver)
+      ∙ ap (λ (x : EventId). by (name_as_came ids c.send) x c.send c.receive) (sym receive)
+      ∙ ap (λ (v : ℕ). by (name_as_came ids c.send) (name_as_came ids c.receive) v c.receive) (sym sender)
+      ∙ ap (λ (v : ℕ). by (name_as_came ids c.send) (name_as_came ids c.receive) (number_of r.under (name_as_came ids c.send)) v) (sym receiver)
 
   pub messages_are : (couples : List Couple) → AreCouplesBelow (length r.came) couples → map (message_by r) couples ≡ map (numbered_message r) (map (named (map id_of r.came ++ more)) couples)
   messages_are [] inside = refl

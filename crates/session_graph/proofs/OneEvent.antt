@@ -28,20 +28,20 @@ use Rattle.traces.proofs.Lists.{place_in}
 use Rattle.roster.specs.declared.came.Came.{Came}
 use Rattle.roster.specs.Groups.{group_at}
 use Rattle.roster.specs.Readings.{Stamped, HasStamp}
-use Rattle.roster.specs.Roster.{RosterLists, IsRoster, Holds, SetsReading, event_at, id_of, no_event}
+use Rattle.roster.specs.Roster.{RosterLists, IsRoster, HoldsEvents, SetsReading, event_at, id_of, no_event}
 use Rattle.roster.proofs.Pushing.{get_left, get_right, get_cases}
 use Rattle.roster.proofs.Telling.{among, set_here, set_elsewhere, holds_still, holds_restamped}
 use Rattle.roster.specs.Entered.{and_event}
 use Rattle.roster.specs.Growing.{IsGrowing, IsGrownTo}
 use Rattle.roster.specs.Entering.{Enters, AreMessagesOf, AreNearest}
-use Rattle.roster.specs.Once.{IsOn, HasEachOnce, AreApart}
+use Rattle.roster.specs.Once.{IsOn, HasEachOnce, HaveOwnEnds}
 use Rattle.roster.specs.Rosters.{named_event, problem_by_number}
 use Rattle.roster.proofs.Entry.{entered_now}
 use Rattle.roster.proofs.Loop.{event_enters, both_enter}
 use Rattle.roster.proofs.Once.{entered_once}
 use Rattle.session_graph.specs.Kept.{KnowsMessages, KeepsRows}
 use Rattle.session_graph.specs.Pushes.{Brings}
-use Rattle.session_graph.specs.Links.{AreThere, AreBeside, links_of}
+use Rattle.session_graph.specs.Links.{AreThere, AreBeside, bounds_beside}
 use Rattle.session_graph.specs.declared.follows.Nearest.{Nearest}
 use Rattle.session_graph.specs.Growth.{KeepsNodesThere}
 use Rattle.session_graph.specs.UnderWay.{KnowsNodesThere, IsEntering}
@@ -122,7 +122,7 @@ module _ (r : RosterLists) (is : IsRoster r) (v : ℕ) (e : Came) (at : slice_ge
 
   -- the bounds of the entry, on a clock
   abbrev own_bounds : ℕ → Nearest → List Bound
-  own_bounds c n = links_of c stamp n ++ (Late v ∷ Early v ∷ [])
+  own_bounds c n = bounds_beside c stamp n ++ (Late v ∷ Early v ∷ [])
 
   abbrev there_on : ℕ → Type 0
   there_on c = HasNode s.graph (nodes.Reading c e.stamp)
@@ -236,11 +236,11 @@ module _ (r : RosterLists) (is : IsRoster r) (v : ℕ) (e : Came) (at : slice_ge
               (subst (λ (j : ℕ). HasNode s.graph (nodes.Reading j t.0)) on there)))))
         ]
 
-        holds_kept : (seen : List (List Seen)) → Holds r seen → Holds r3 seen
+        holds_kept : (seen : List (List Seen)) → HoldsEvents r seen → HoldsEvents r3 seen
         holds_kept seen holds =
-            let held : Holds r2 seen = subst (λ (a : RosterLists). Holds a seen) (sym told) (holds_still r seen v f (ap (λ (z : Came). z.stamp) (sym (get_or_from_slice_get r.came v e no_event at))) holds) in
+            let held : HoldsEvents r2 seen = subst (λ (a : RosterLists). HoldsEvents a seen) (sym told) (holds_still r seen v f (ap (λ (z : Came). z.stamp) (sym (get_or_from_slice_get r.came v e no_event at))) holds) in
             elim (cases_Bool known) [
-              | inl k ↦ subst (λ (a : RosterLists). Holds a seen) (sym (same_roster k)) held
+              | inl k ↦ subst (λ (a : RosterLists). HoldsEvents a seen) (sym (same_roster k)) held
               | inr k ↦ holds_restamped r2 r3 place stamp (length s1.graph.nodes) seen (sets k) held
             ]
 
@@ -255,9 +255,9 @@ module _ (r : RosterLists) (is : IsRoster r) (v : ℕ) (e : Came) (at : slice_ge
         }
 
         -- ---- behind the bounds
-        module _ (s3 : SolverLists) (brings : Brings (links_of place e.stamp n ++ (Late v ∷ Early v ∷ [])) s2 s3) (clock : Clock) (clock_is : slice_get r.declaration.clocks place ≡ Some clock)
+        module _ (s3 : SolverLists) (brings : Brings (bounds_beside place e.stamp n ++ (Late v ∷ Early v ∷ [])) s2 s3) (clock : Clock) (clock_is : slice_get r.declaration.clocks place ≡ Some clock)
             (left : (p : ProblemLists) (flags : ℕ → Bool) (y : Event) → EventAt p v y → y.clock ≡ place → y.stamp ≡ e.stamp → ClockAt p place clock
-            → p.follows ≡ follows_of r3.declaration → AreBeside p place n → IsGrowing p flags (links_of place e.stamp n ++ (Late v ∷ Early v ∷ [])) s2.graph → IsGrowing p flags [] s3.graph) where
+            → p.follows ≡ follows_of r3.declaration → AreBeside p place n → IsGrowing p flags (bounds_beside place e.stamp n ++ (Late v ∷ Early v ∷ [])) s2.graph → IsGrowing p flags [] s3.graph) where
           kept_at : (k : ℕ) (n : Node) → slice_get s.graph.nodes k ≡ Some n → slice_get s3.graph.nodes k ≡ Some n
           kept_at k n at' = ap (λ (ns : List Node). slice_get ns k) brings.nodes ∙ enters.kept k n at'
 
@@ -378,7 +378,7 @@ module _ (r : RosterLists) (is : IsRoster r) (v : ℕ) (e : Came) (at : slice_ge
               received = λ send m of. absurd (in_and_not m.receive of.receive_is (way.among m of.among).1);
             }
 
-            none_apart : AreApart v []
+            none_apart : HaveOwnEnds v []
             none_apart = record {
               own = All-nil (λ (m : Message). (m.send ≡ v) ⊎ (m.receive ≡ v));
               differ = no_pairs (λ (a b : Message). (a.send ≡ b.send) → (a.receive ≡ b.receive) → ⊥);
@@ -454,6 +454,6 @@ module _ (r : RosterLists) (is : IsRoster r) (v : ℕ) (e : Came) (at : slice_ge
           pub arcs_few : length s3.graph.arcs ≤ length s.graph.arcs + 6
           arcs_few =
               let few = links_few place e.stamp n entered_there.first entered_there.last in
-              let long = length-append (links_of place e.stamp n) (Late v ∷ Early v ∷ []) in
+              let long = length-append (bounds_beside place e.stamp n) (Late v ∷ Early v ∷ []) in
               let count = brings.count in
               omega (arith, few, long, count, entered_arcs)

@@ -1,9 +1,8 @@
 -- A message that comes to a roster and its graph.
-use Rattle.std.proofs.Common.{◌≡◌, ◌≢◌, ◌<◌, ◌≤◌, ◌+◌, ℕ, suc, Bool, true, List, [], ◌∷◌, ◌++◌, Option, Some, None, Result, Ok, Err, length, map, set, slice_get, Contains, refl, sym, ◌∙◌, ap, subst, arith, inl, inr}
-use Rattle.std.specs.Prelude.{OnOk}
+use Rattle.std.proofs.Common.{◌≡◌, ◌≢◌, ◌<◌, ◌≤◌, ◌+◌, ℕ, Bool, true, List, [], ◌∷◌, ◌++◌, Option, Some, None, length, map, set, slice_get, Contains, refl, sym, ◌∙◌, ap, subst, arith, inl, inr, length-append}
 use Rattle.std.proofs.lemmas.Bool.{cases_eq}
 use Rattle.std.proofs.lemmas.List.{length-map, length-set}
-use Rattle.std.proofs.lemmas.Option.{same_Some, slice_get_within, slice_get-get_or}
+use Rattle.std.proofs.lemmas.Option.{none-some, same_Some, slice_get_within, slice_get-get_or}
 use Rattle.problem_model.specs.declared.items.Event.{Event}
 use Rattle.problem_model.specs.declared.items.Message.{Message}
 use Rattle.problem_model.specs.declared.items.Node.{Node}
@@ -14,20 +13,23 @@ use Rattle.problem_model.specs.Problem.{ProblemLists}
 use Rattle.problem_model.specs.ShortList.{most_bound, message_bounds}
 use Rattle.decl.specs.Declaration.{follows_of}
 use Rattle.sync_graph.specs.declared.arc.Arc.{Arc}
-use Rattle.sync_graph.specs.Graph.{GraphLists, arc_at}
+use Rattle.sync_graph.specs.Graph.{GraphLists, with_arc}
+use Rattle.problem_graph.specs.BoundArcs.{names_of}
 use Rattle.problem_graph.specs.Standing.{HasNode}
 use Rattle.solver.specs.Solver.{SolverLists}
+use Rattle.solver.specs.Current.{IsCurrent}
 use Rattle.traces.proofs.Members.{here, there, head_or_tail}
 use Rattle.roster.specs.declared.came.Came.{Came}
 use Rattle.roster.specs.declared.came.Partner.{Partner}
 use Rattle.roster.specs.Groups.{group_at}
-use Rattle.roster.specs.Roster.{RosterLists, Holds, event_at, no_event}
+use Rattle.roster.specs.Roster.{RosterLists, HoldsEvents, event_at, no_event}
 use Rattle.roster.proofs.Telling.{set_here, set_elsewhere, holds_still}
 use Rattle.roster.specs.Growing.{IsGrowing, IsGrownTo}
-use Rattle.roster.specs.Once.{IsOn, HasEachOnce}
+use Rattle.roster.specs.Once.{HasEachOnce}
 use Rattle.roster.specs.Rosters.{named_event, problem_by_number, KnowsNodes}
 use Rattle.session_graph.specs.Kept.{HasArcs, KnowsMessages}
-use Rattle.session_graph.specs.Pushes.{Brings}
+use Rattle.session_graph.specs.Pushes.{Brings, with_arcs}
+use Rattle.session_graph.proofs.Bringing.{last_is, last_on, stays}
 use Rattle.session_graph.specs.Growth.{Retells, KeepsNodesThere}
 use Rattle.session_graph.specs.UnderWay.{KnowsNodesThere, IsEntering}
 use Rattle.session_graph.proofs.Entered.{told_named}
@@ -35,16 +37,6 @@ use Rattle.session_graph.proofs.OneEvent.{none_behind}
 use Rattle.session_graph.proofs.Messages.{with_messages, message_once}
 
 -- ---- arcs
-pub most_of_one : {E : Type 0} (r : Result Unit E) (m : Message) (old new : SolverLists) → OnOk r (IsOn new.graph (length old.graph.arcs)) → OnOk r ((arc_at new.graph.arcs (length old.graph.arcs)).name ≡ DelayMost m.send m.receive)
-    → OnOk r (length new.graph.arcs ≡ length old.graph.arcs + 1)
-    → OnOk r ((w : ℕ) → m.most ≡ Some w → IsOn new.graph (length old.graph.arcs) × ((arc_at new.graph.arcs (length old.graph.arcs)).name ≡ DelayMost m.send m.receive) × (length new.graph.arcs ≡ suc (length old.graph.arcs)))
-most_of_one (Ok v) m old new on name long = λ w is. (on, name, omega (arith, long))
-most_of_one (Err x) m old new on name long = tt
-
-pub most_few : (m : Message) (o : Option ℕ) → length (most_bound m o) ≤ 1
-most_few m None = omega arith
-most_few m (Some n) = omega arith
-
 pub two_few : (m : Message) → length (message_bounds m) ≤ 2
 two_few m = few m m.most
   where
@@ -52,17 +44,67 @@ two_few m = few m m.most
     few m None = omega arith
     few m (Some n) = omega arith
 
-pub arcs_of_two : (m : Message) (old mid new : SolverLists) (arc : ℕ) → arc ≡ length mid.graph.arcs
-    → ((w : ℕ) → m.most ≡ Some w → IsOn mid.graph (length old.graph.arcs) × ((arc_at mid.graph.arcs (length old.graph.arcs)).name ≡ DelayMost m.send m.receive) × (length mid.graph.arcs ≡ suc (length old.graph.arcs)))
-    → Brings (DelayLeast m.send m.receive ∷ []) mid new → IsOn new.graph (length mid.graph.arcs) → (arc_at new.graph.arcs (length mid.graph.arcs)).name ≡ DelayLeast m.send m.receive → HasArcs new.graph m arc
-arcs_of_two m old mid new arc is most brings on name = record {
-  on = subst (IsOn new.graph) (sym is) on;
-  least = ap (λ (k : ℕ). (arc_at new.graph.arcs k).name) is ∙ name;
-  most = λ w is_w. (
-      let x = most w is_w in
-      let stays = brings.stay (length old.graph.arcs) x.0 in
-      (length old.graph.arcs, is ∙ x.2, stays.0, ap (λ (a : Arc). a.name) stays.1 ∙ x.1));
-}
+-- the least delay is always among them
+pub some_bound : (m : Message) → 1 ≤ length (message_bounds m)
+some_bound m = let long = length-append (most_bound m m.most) (DelayLeast m.send m.receive ∷ []) in omega (arith, long)
+
+-- the arcs of a message came last: one, or the greatest delay before the least
+module _ (m : Message) (g : GraphLists) (flags : length g.in_force ≡ length g.arcs) where
+  one_came : (a : Arc) → a.name ≡ DelayLeast m.send m.receive → m.most ≡ None → HasArcs (with_arc g a) m (length g.arcs)
+  one_came a name none = record {
+    on = last_on g a flags;
+    least = ap (λ (x : Arc). x.name) (last_is g a flags) ∙ name;
+    most = λ w is. absurd (none-some w (sym none ∙ is));
+  }
+
+  two_came : (a b : Arc) → a.name ≡ DelayMost m.send m.receive → b.name ≡ DelayLeast m.send m.receive → HasArcs (with_arc (with_arc g a) b) m (length g.arcs + 1)
+  two_came a b first second =
+      let h : GraphLists = with_arc g a in
+      let long : length h.arcs ≡ length g.arcs + 1 = length-append g.arcs (a ∷ []) in
+      let flags' : length h.in_force ≡ length h.arcs = omega (arith, flags, length-append g.in_force (true ∷ []), long) in
+      let still = stays h b flags' (length g.arcs) (last_on g a flags) in
+      subst (HasArcs (with_arc h b) m) long (record {
+        on = last_on h b flags';
+        least = ap (λ (x : Arc). x.name) (last_is h b flags') ∙ second;
+        most = λ w is. (length g.arcs, omega (arith, long), still.0, ap (λ (x : Arc). x.name) (still.1 ∙ last_is g a flags) ∙ first);
+      })
+
+  same_name : (x y : Bound) (xs ys : List Bound) → x ∷ xs ≡ y ∷ ys → x ≡ y
+  same_name x y xs ys is = cc
+
+  same_rest : (x y : Bound) (xs ys : List Bound) → x ∷ xs ≡ y ∷ ys → xs ≡ ys
+  same_rest x y xs ys is = cc
+
+  none_one : (x : Bound) (xs : List Bound) → x ∷ xs ≡ [] → ⊥
+  none_one x xs is = let long = ap length is in omega (arith, long)
+
+  all_came : (o : Option ℕ) (arcs : List Arc) → m.most ≡ o → names_of arcs ≡ most_bound m o ++ DelayLeast m.send m.receive ∷ [] → (arc : ℕ) → arc + 1 ≡ length g.arcs + length arcs
+      → HasArcs (with_arcs g arcs) m arc
+  all_came None [] is names arc last = absurd (none_one (DelayLeast m.send m.receive) [] (sym names))
+  all_came None (a ∷ []) is names arc last =
+      let here : length g.arcs ≡ arc = omega (arith, last) in
+      subst (HasArcs (with_arc g a) m) here (one_came a (same_name a.name (DelayLeast m.send m.receive) [] [] names) is)
+  all_came None (a ∷ b ∷ arcs) is names arc last = absurd (none_one b.name (names_of arcs) (same_rest a.name (DelayLeast m.send m.receive) (b.name ∷ names_of arcs) [] names))
+  all_came (Some w) [] is names arc last = absurd (none_one (DelayMost m.send m.receive) (DelayLeast m.send m.receive ∷ []) (sym names))
+  all_came (Some w) (a ∷ []) is names arc last = absurd (none_one (DelayLeast m.send m.receive) [] (sym (same_rest a.name (DelayMost m.send m.receive) [] (DelayLeast m.send m.receive ∷ []) names)))
+  all_came (Some w) (a ∷ b ∷ []) is names arc last =
+      let rest : b.name ∷ [] ≡ DelayLeast m.send m.receive ∷ [] = same_rest a.name (DelayMost m.send m.receive) (b.name ∷ []) (DelayLeast m.send m.receive ∷ []) names in
+      let here : length g.arcs + 1 ≡ arc = omega (arith, last) in
+      subst (HasArcs (with_arc (with_arc g a) b) m) here
+      (two_came a b (same_name a.name (DelayMost m.send m.receive) (b.name ∷ []) (DelayLeast m.send m.receive ∷ []) names) (same_name b.name (DelayLeast m.send m.receive) [] [] rest))
+  all_came (Some w) (a ∷ b ∷ c ∷ arcs) is names arc last =
+      absurd (none_one c.name (names_of arcs) (same_rest b.name (DelayLeast m.send m.receive) (c.name ∷ names_of arcs) []
+      (same_rest a.name (DelayMost m.send m.receive) (b.name ∷ c.name ∷ names_of arcs) (DelayLeast m.send m.receive ∷ []) names)))
+
+long_by : (g : GraphLists) (arcs : List Arc) → length (with_arcs g arcs).arcs ≡ length g.arcs + length arcs
+long_by g [] = omega arith
+long_by g (a ∷ arcs) = let rest = long_by (with_arc g a) arcs in omega (arith, rest, length-append g.arcs (a ∷ []))
+
+pub arcs_of_message : (m : Message) (old new : SolverLists) (arcs : List Arc) → IsCurrent old → new.graph ≡ with_arcs old.graph arcs → names_of arcs ≡ message_bounds m
+    → (arc : ℕ) → arc + 1 ≡ length new.graph.arcs → HasArcs new.graph m arc
+arcs_of_message m old new arcs was is names arc last =
+    let long : length new.graph.arcs ≡ length old.graph.arcs + length arcs = ap (λ (h : GraphLists). length h.arcs) is ∙ long_by old.graph arcs in
+    subst (λ (h : GraphLists). HasArcs h m arc) (sym is) (all_came m old.graph was.set_up.graph.flags m.most arcs refl names arc (omega (arith, last, long)))
 
 -- ---- a partner is told
 module _ (r new : RosterLists) (v : ℕ) (inside : v < length r.came) (partner : Option Partner) (is : new ≡ record r { came = set r.came v (record (event_at r.came v) { partner = partner }) }) where
@@ -96,7 +138,7 @@ module _ (r new : RosterLists) (v : ℕ) (inside : v < length r.came) (partner :
     ];
     readings = λ c s has. subst (λ (x : RosterLists). Contains (group_at x.readings c) s) (sym is) has;
     under = ap (λ (x : RosterLists). x.under) is;
-    holds = λ seen holds. subst (λ (x : RosterLists). Holds x seen) (sym is) (holds_still r seen v f refl holds);
+    holds = λ seen holds. subst (λ (x : RosterLists). HoldsEvents x seen) (sym is) (holds_still r seen v f refl holds);
   }
 
   pub events_same : map (named_event new.declaration) new.came ≡ map (named_event r.declaration) r.came

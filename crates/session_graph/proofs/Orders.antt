@@ -13,7 +13,7 @@ use Rattle.roster.proofs.Telling.{among}
 use Rattle.roster.proofs.Turns.{into_map}
 use Rattle.session_graph.specs.declared.plans.Due.{Due}
 use Rattle.session_graph.specs.declared.plans.Turn.{Turn}
-use Rattle.session_graph.specs.Plans.{numbers_of, messages_in}
+use Rattle.session_graph.specs.Plans.{turn_numbers, messages_in}
 
 -- numbers from one on, with one more
 pub range_more : (a n j : ℕ) → a + n ≡ j → range_with_len a (suc n) ≡ range_with_len a n ++ j ∷ []
@@ -26,11 +26,11 @@ of_due P dues k d all at = All-contains P (messages_in dues) d.message all (into
 
 -- all events of the turns stand once each has entered
 pub all_stand : (turns : List Turn) (n v : ℕ) (g h : GraphLists) → ((w : ℕ) → HasNode g (nodes.Event w) → HasNode h (nodes.Event w)) → n ≡ length turns
-    → ((j w : ℕ) → j < n → slice_get (numbers_of turns) j ≡ Some w → HasNode h (nodes.Event w)) → HasNode g (nodes.Event v) ⊎ Contains (numbers_of turns) v → HasNode h (nodes.Event v)
+    → ((j w : ℕ) → j < n → slice_get (turn_numbers turns) j ≡ Some w → HasNode h (nodes.Event w)) → HasNode g (nodes.Event v) ⊎ Contains (turn_numbers turns) v → HasNode h (nodes.Event v)
 all_stand turns n v g h stay many entered (inl old) = stay v old
 all_stand turns n v g h stay many entered (inr new) =
-    let i = place_in (numbers_of turns) v new in
-    let inside : i.0 < length (numbers_of turns) = slice_get_within (numbers_of turns) i.0 v i.1 in
+    let i = place_in (turn_numbers turns) v new in
+    let inside : i.0 < length (turn_numbers turns) = slice_get_within (turn_numbers turns) i.0 v i.1 in
     entered i.0 v (omega (arith, inside, many, length-map turns (λ (t : Turn). t.event))) i.1
 
 pub map_behind : {X Y : Type 0} (f : X → Y) (xs : List X) (y : X) → map f (xs ++ y ∷ []) ≡ map f xs ++ f y ∷ []

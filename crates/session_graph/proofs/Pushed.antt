@@ -28,7 +28,7 @@ use Rattle.roster.specs.Rosters.{named_event, problem_by_number, KnowsNodes}
 use Rattle.roster.proofs.Loop.{grown_alike}
 use Rattle.session_graph.specs.Kept.{KnowsMessages}
 use Rattle.session_graph.specs.Growth.{Gains, KeepsNodesThere}
-use Rattle.session_graph.specs.UnderWay.{IsUnderWay, KnowsNodesThere, IsEntering}
+use Rattle.session_graph.specs.UnderWay.{IsChangeUnderWay, KnowsNodesThere, IsEntering}
 use Rattle.session_graph.proofs.Both.{each_in}
 use Rattle.session_graph.proofs.Entered.{map_back, ends_below, grown_before, one_reading, tells_still}
 
@@ -92,7 +92,7 @@ module _ (old new : RosterLists) (is : IsRoster old) (is' : IsRoster new) (label
   }
 
   -- ---- the graph has not changed
-  module _ (messages : List Message) (s : SolverLists) (way : IsUnderWay messages old s) where
+  module _ (messages : List Message) (s : SolverLists) (way : IsChangeUnderWay messages old s) where
     pub event_before : (w : ℕ) → HasNode s.graph (nodes.Event w) → w < length old.came
     event_before w has =
         let x = way.grown.grown.nodes (nodes.Event w) has in
@@ -173,7 +173,7 @@ module _ (r : RosterLists) (is : IsRoster r) (entered : ℕ → Bool) (messages 
         (k.0, named_event r.declaration stamped.0, (map_at (named_event r.declaration) r.came k.0 stamped.0 k.1, entered_all k.0 (slice_get_within r.came k.0 stamped.0 k.1)), stamped.2, stamped.3)));
   }
 
-  pub ends_way : length s.graph.nodes ≤ 2 * length r.came → IsUnderWay messages r s
+  pub ends_way : length s.graph.nodes ≤ 2 * length r.came → IsChangeUnderWay messages r s
   ends_way few = record {
     current = way.current;
     grown = record {

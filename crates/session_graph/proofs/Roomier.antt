@@ -12,7 +12,7 @@ use Rattle.earliest.specs.Values.{Values}
 use Rattle.earliest.specs.Withdrawn.{IsAffectedBy}
 use Rattle.row_pool.specs.declared.cell.Cell.{Cell}
 use Rattle.row_pool.specs.Row.{unknown, cell_at, cells_of}
-use Rattle.row_pool.specs.Pool.{Pool, PoolRow, row_of, IsTaken}
+use Rattle.row_pool.specs.Pool.{Pool, PoolRow, row_of, IsTakenRow}
 use Rattle.row_pool.proofs.Pools.{below_rows, grown_row}
 use Rattle.repair.specs.RowWithdrawals.{IsRemoved}
 use Rattle.repair.specs.declared.slot.Slot.{Slot}
@@ -43,7 +43,7 @@ module _ (before start : SolverLists) (own : AreOwnRows before.kept before.pool)
   slots_kept : all_slots start.kept ≡ all_slots before.kept
   slots_kept = ap all_slots more.kept
 
-  cells_kept : (number : ℕ) → IsTaken before.pool number → cells_of (row_of start.pool number) ≡ cells_of (row_of before.pool number)
+  cells_kept : (number : ℕ) → IsTakenRow before.pool number → cells_of (row_of start.pool number) ≡ cells_of (row_of before.pool number)
   cells_kept number taken =
       ap (λ (p : Pool). cells_of (row_of p number)) more.pool
       ∙ ap (λ (r : PoolRow). cells_of r.cells) (grown_row before.pool more.rows more.nodes number (below_rows before.pool number taken))

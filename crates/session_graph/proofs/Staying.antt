@@ -12,7 +12,7 @@ use Rattle.traces.proofs.Lists.{pairs_map}
 use Rattle.traces.proofs.MessageEnds.{ends_known}
 use Rattle.traces.specs.Making.{IsOneOf}
 use Rattle.msg_match.specs.Ends.{AreNewMessages}
-use Rattle.roster.specs.Roster.{RosterLists, IsRoster, IsUnder, Holds}
+use Rattle.roster.specs.Roster.{RosterLists, IsRoster, IsNumberUnder, HoldsEvents}
 use Rattle.roster.proofs.Turns.{from_map, into_map}
 use Rattle.roster.specs.Told.{messages_by_number, number_of, numbered_message}
 use Rattle.session_graph.specs.Withdrawn.{AreLeft}
@@ -31,22 +31,22 @@ pub receive_known : (seen : List (List Seen)) (m : Couple) → Contains (message
 receive_known seen m held = let (s, w, in_s, in_w, is_s, is_w) = ends_known (events_of seen) m held in (w, in_w, sym is_w)
 
 -- a number is that of one event
-one_number : (r : RosterLists) → IsRoster r → (seen : List (List Seen)) → Holds r seen → (a b : EventId) → IsOneOf (events_of seen) a → IsOneOf (events_of seen) b → number_of r.under a ≡ number_of r.under b → a ≡ b
+one_number : (r : RosterLists) → IsRoster r → (seen : List (List Seen)) → HoldsEvents r seen → (a b : EventId) → IsOneOf (events_of seen) a → IsOneOf (events_of seen) b → number_of r.under a ≡ number_of r.under b → a ≡ b
 one_number r is seen holds a b one other same =
     let (v, under) = id_under r is seen holds a one in
     let (w, under') = id_under r is seen holds b other in
     let number : v ≡ w = sym (number_is r.under a v under) ∙ same ∙ number_is r.under b w under' in
-    one_id r is a b w (subst (IsUnder r.under a) number under) under'
+    one_id r is a b w (subst (IsNumberUnder r.under a) number under) under'
 
 -- so messages are told by their sends
-one_message : (r : RosterLists) → IsRoster r → (seen : List (List Seen)) → Holds r seen → (a b : Couple) → Contains (messages_of (events_of seen)) a → Contains (messages_of (events_of seen)) b → number_of r.under a.send ≡ number_of r.under b.send → a ≡ b
+one_message : (r : RosterLists) → IsRoster r → (seen : List (List Seen)) → HoldsEvents r seen → (a b : Couple) → Contains (messages_of (events_of seen)) a → Contains (messages_of (events_of seen)) b → number_of r.under a.send ≡ number_of r.under b.send → a ≡ b
 one_message r is seen holds a b held held' same = one_send seen a b held held' (one_number r is seen holds a.send b.send (send_known seen a held) (send_known seen b held') same)
 
 -- ---- numbers stay
-still_number : (old new : List (List ℕ)) (id : EventId) (v : ℕ) → IsUnder old id v → IsUnder new id v → number_of new id ≡ number_of old id
+still_number : (old new : List (List ℕ)) (id : EventId) (v : ℕ) → IsNumberUnder old id v → IsNumberUnder new id v → number_of new id ≡ number_of old id
 still_number old new id v under under' = number_is new id v under' ∙ sym (number_is old id v under)
 
-module _ (old new : RosterLists) (is : IsRoster old) (before : List (List Seen)) (holds : Holds old before) (declaration : new.declaration ≡ old.declaration) (under : (id : EventId) (v : ℕ) → IsUnder old.under id v → IsUnder new.under id v) where
+module _ (old new : RosterLists) (is : IsRoster old) (before : List (List Seen)) (holds : HoldsEvents old before) (declaration : new.declaration ≡ old.declaration) (under : (id : EventId) (v : ℕ) → IsNumberUnder old.under id v → IsNumberUnder new.under id v) where
   pub send_stays : (m : Couple) → Contains (messages_of (events_of before)) m → number_of new.under m.send ≡ number_of old.under m.send
   send_stays m held = let (v, at) = id_under old is before holds m.send (send_known before m held) in still_number old.under new.under m.send v at (under m.send v at)
 
@@ -63,7 +63,7 @@ module _ (old new : RosterLists) (is : IsRoster old) (before : List (List Seen))
       ∙ ap (λ (n : ℕ). by old.declaration (number_of old.under m.send) n) (receive_stays m held)
 
 -- ---- what is withdrawn
-module _ (r : RosterLists) (is : IsRoster r) (before after : List (List Seen)) (holds : Holds r before) (gone staying : List Couple) (went : AreNewMessages after before gone) (stay : AreInBoth (messages_of (events_of before)) (messages_of (events_of after)) staying) where
+module _ (r : RosterLists) (is : IsRoster r) (before after : List (List Seen)) (holds : HoldsEvents r before) (gone staying : List Couple) (went : AreNewMessages after before gone) (stay : AreInBoth (messages_of (events_of before)) (messages_of (events_of after)) staying) where
   pub gone_differ : AllPairs (λ (a b : Message). a ≢ b) (map (numbered_message r) gone)
   gone_differ =
       pairs_map (λ (a b : Message). a ≢ b) (numbered_message r) gone
@@ -97,8 +97,8 @@ module _ (r : RosterLists) (is : IsRoster r) (before after : List (List Seen)) (
   }
 
 -- ---- what comes
-module _ (old new : RosterLists) (is : IsRoster old) (is' : IsRoster new) (before after : List (List Seen)) (holds : Holds old before) (holds' : Holds new after) (declaration : new.declaration ≡ old.declaration)
-    (under : (id : EventId) (v : ℕ) → IsUnder old.under id v → IsUnder new.under id v) (added staying : List Couple) (came : AreNewMessages before after added) (stay : AreInBoth (messages_of (events_of before)) (messages_of (events_of after)) staying) where
+module _ (old new : RosterLists) (is : IsRoster old) (is' : IsRoster new) (before after : List (List Seen)) (holds : HoldsEvents old before) (holds' : HoldsEvents new after) (declaration : new.declaration ≡ old.declaration)
+    (under : (id : EventId) (v : ℕ) → IsNumberUnder old.under id v → IsNumberUnder new.under id v) (added staying : List Couple) (came : AreNewMessages before after added) (stay : AreInBoth (messages_of (events_of before)) (messages_of (events_of after)) staying) where
   pub own_sends : HaveOwnSends (map (numbered_message new) added) (map (numbered_message old) staying)
   own_sends = record {
     differ = pairs_map (λ (a b : Message). a.send ≢ b.send) (numbered_message new) added

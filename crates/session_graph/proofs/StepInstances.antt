@@ -34,7 +34,7 @@ between = record {
   contradiction = [];
   pool = record { width = 3; rows = record { taken = true; cells = own ∷ unknown ∷ unknown ∷ [] } ∷ record { taken = true; cells = own ∷ unknown ∷ unknown ∷ [] } ∷ [] };
   kept = kept;
-  front = None ∷ None ∷ None ∷ [];
+  front = 3;
 }
 
 -- a third event has come

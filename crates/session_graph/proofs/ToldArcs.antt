@@ -21,8 +21,8 @@ use Rattle.roster.specs.Growing.{IsGrownTo, HasBound}
 use Rattle.roster.specs.Withdrawing.{IsDelayOf}
 use Rattle.roster.specs.Once.{IsOn, TakesOut}
 use Rattle.roster.specs.Rosters.{problem_by_number}
-use Rattle.session_graph.specs.Kept.{HasArcs, Tells}
-use Rattle.session_graph.specs.Withdrawn.{arc_of, arcs_to, told_arcs}
+use Rattle.session_graph.specs.Kept.{HasArcs, TellsArc}
+use Rattle.session_graph.specs.Withdrawn.{partner_arc, arcs_to, told_arcs}
 use Rattle.session_graph.proofs.Flags.{stays_off, off_in, on_or_in}
 use Rattle.session_graph.proofs.Messages.{OfMessage}
 
@@ -64,7 +64,7 @@ delay_of messages m among b (inr is) = subst (IsDelayOf messages) (sym is) (m, a
 
 -- ---- numbers
 module _ (r : RosterLists) (g : GraphLists) (messages : List Message) (own_sends : (m n : Message) → Contains messages m → Contains messages n → m.send ≡ n.send → m ≡ n)
-    (tells : (m : Message) → Contains messages m → Tells r g m) where
+    (tells : (m : Message) → Contains messages m → TellsArc r g m) where
   abbrev Own : Message → ℕ → Type 0
   Own m k = IsOn g k × OfMessage m (arc_at g.arcs k).name
 
@@ -97,7 +97,7 @@ module _ (r : RosterLists) (g : GraphLists) (messages : List Message) (own_sends
   told_is m among =
       let (e, arc, at, partner, has) = tells m among in
       let event : event_at r.came m.send ≡ e = get_or_from_slice_get r.came m.send e no_event at in
-      (arc, ap (λ (p : Option Partner). arcs_to (arc_of p) m.most) (ap (λ (x : Came). x.partner) event ∙ partner), has)
+      (arc, ap (λ (p : Option Partner). arcs_to (partner_arc p) m.most) (ap (λ (x : Came). x.partner) event ∙ partner), has)
 
   own : (m : Message) → Contains messages m → All (Own m) (told_arcs r m)
   own m among = (let (arc, is, has) = told_is m among in subst (All (Own m)) (sym is) (own_to m arc m.most refl has))

@@ -6,6 +6,7 @@ use Rattle.std.proofs.lemmas.Option.{none-some}
 use Rattle.problem.specs.Listing.{Listed}
 use Rattle.problem_model.specs.declared.items.Message.{Message}
 use Rattle.problem_model.specs.Problem.{IsProblem}
+use Rattle.problem_model.specs.Limits.{most_events}
 use Rattle.decl.specs.declared.items.Label.{Label}
 use Rattle.sync_graph.specs.Graph.{GraphLists, no_graph}
 use Rattle.problem_graph.specs.ListedStanding.{StandsForListed}
@@ -18,7 +19,7 @@ use Rattle.traces.proofs.Members.{none_in}
 use Rattle.traces.specs.Making.{StampsFit}
 use Rattle.traces.proofs.Seen.{problem_lawful}
 use Rattle.roster.specs.declared.came.Came.{Came}
-use Rattle.roster.specs.Roster.{RosterLists, IsRoster, Holds, listed}
+use Rattle.roster.specs.Roster.{RosterLists, IsRoster, HoldsEvents, listed}
 use Rattle.roster.proofs.Holding.{holds_none}
 use Rattle.roster.proofs.ListedPlaces.{event_places, readings_many}
 use Rattle.roster.proofs.Problem.{all_are, listed_by}
@@ -28,7 +29,7 @@ use Rattle.roster.proofs.Loop.{nothing_grown}
 use Rattle.roster.proofs.Rosters.{by_number, tells}
 use Rattle.roster.proofs.Whole.{stands}
 use Rattle.session_graph.specs.Kept.{IsGrownBy, IsKeptFor}
-use Rattle.session_graph.specs.UnderWay.{IsUnderWay}
+use Rattle.session_graph.specs.UnderWay.{IsChangeUnderWay}
 use Rattle.session_graph.proofs.Alike.{AreAlike, grown_alike}
 use Rattle.session_graph.proofs.Carried.{carried}
 use Rattle.session_graph.proofs.Held.{labels_many, events_many}
@@ -52,16 +53,16 @@ module _ (r : RosterLists) (is : IsRoster r) (seen : List (List Seen)) (s : Solv
         few,
       )
 
-  pub kept_way : IsKeptFor seen r s → IsUnderWay (messages_by_number r seen) r s
+  pub kept_way : IsKeptFor seen r s → IsChangeUnderWay (messages_by_number r seen) r s
   kept_way kept = record { current = kept.solution.current; grown = kept.grown; nodes = few_nodes kept }
 
   -- ---- to what is kept
-  lawful : Holds r seen → StampsFit seen → IsProblem (problem_of_seen r.declaration seen)
+  lawful : HoldsEvents r seen → StampsFit seen → IsProblem (problem_of_seen r.declaration seen)
   lawful holds fit =
-      let few : event_count seen ≤ 2 ^ 21 = subst (λ (n : ℕ). n ≤ 2 ^ 21) (sym (events_many r is seen holds)) is.few in
+      let few : event_count seen ≤ most_events = subst (λ (n : ℕ). n ≤ most_events) (sym (events_many r is seen holds)) is.few in
       problem_lawful r.declaration seen is.declared (labels_many r is seen holds) few fit
 
-  pub way_kept : (messages : List Message) → Holds r seen → StampsFit seen → AreAlike messages (messages_by_number r seen) → IsUnderWay messages r s → length s.graph.arcs ≤ 8 * length r.came → IsKeptFor seen r s
+  pub way_kept : (messages : List Message) → HoldsEvents r seen → StampsFit seen → AreAlike messages (messages_by_number r seen) → IsChangeUnderWay messages r s → length s.graph.arcs ≤ 8 * length r.came → IsKeptFor seen r s
   way_kept messages holds fit alike way few =
       let grown : IsGrownBy r (messages_by_number r seen) s.graph = grown_alike r messages (messages_by_number r seen) s.graph alike way.grown in
       record {
@@ -124,7 +125,7 @@ module _ (r : RosterLists) (is : IsRoster r) (none : r.came ≡ []) (s : SolverL
   nothing_kept =
       let seen : List (List Seen) = map (λ (l : Label). []) r.declaration.labels in
       let no_messages : messages_by_number r seen ≡ [] = ap (λ (events : List Placed). map (numbered_message r) (messages_of events)) (no_events 0 r.declaration.labels) in
-      let way : IsUnderWay [] r s = record {
+      let way : IsChangeUnderWay [] r s = record {
         current = current;
         grown = subst (IsGrownBy r []) (sym empty) nothing_by;
         nodes = subst (λ (g : GraphLists). length g.nodes ≤ 2 * length r.came) (sym empty) (let z : 0 ≤ 2 * length r.came = omega arith in z);

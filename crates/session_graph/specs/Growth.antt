@@ -8,7 +8,7 @@ use Rattle.traces.specs.declared.event_id.EventId.{EventId}
 use Rattle.roster.specs.declared.came.Came.{Came}
 use Rattle.roster.specs.Groups.{group_at}
 use Rattle.roster.specs.Readings.{Stamped}
-use Rattle.roster.specs.Roster.{RosterLists, Holds, IsUnder}
+use Rattle.roster.specs.Roster.{RosterLists, HoldsEvents, IsNumberUnder}
 use Rattle.session_graph.specs.Kept.{KeepsEvents, KeepsReadings}
 
 -- the roster has events of a label with these stamps more, and knows all others as before
@@ -17,9 +17,9 @@ pub record Gains (label : ℕ) (stamps : List ℕ) (old new : RosterLists) : Typ
   pub count : length new.came ≡ length old.came + length stamps
   pub events : KeepsEvents old new
   pub readings : KeepsReadings old new
-  pub under : (id : EventId) (v : ℕ) → IsUnder old.under id v → IsUnder new.under id v
-  pub holds : (seen : List (List Seen)) (own more : List Seen) → Holds old seen → slice_get seen label ≡ Some own → map (λ (s : Seen). s.stamp) more ≡ stamps
-      → Holds new (slice_set seen label (own ++ more))
+  pub under : (id : EventId) (v : ℕ) → IsNumberUnder old.under id v → IsNumberUnder new.under id v
+  pub holds : (seen : List (List Seen)) (own more : List Seen) → HoldsEvents old seen → slice_get seen label ≡ Some own → map (λ (s : Seen). s.stamp) more ≡ stamps
+      → HoldsEvents new (slice_set seen label (own ++ more))
 
 -- the roster has the same events, and may tell other messages
 pub record Retells (old new : RosterLists) : Type 0 where
@@ -28,7 +28,7 @@ pub record Retells (old new : RosterLists) : Type 0 where
   pub events : KeepsEvents old new
   pub readings : KeepsReadings old new
   pub under : new.under ≡ old.under
-  pub holds : (seen : List (List Seen)) → Holds old seen → Holds new seen
+  pub holds : (seen : List (List Seen)) → HoldsEvents old seen → HoldsEvents new seen
 
 -- the roster has the same events, knows those that are nodes of the graph and readings that are as before, and may tell other messages
 pub record KeepsNodesThere (g : GraphLists) (old new : RosterLists) : Type 0 where
@@ -38,4 +38,4 @@ pub record KeepsNodesThere (g : GraphLists) (old new : RosterLists) : Type 0 whe
   pub events : (v : ℕ) (e : Came) → slice_get old.came v ≡ Some e → HasNode g (nodes.Event v)
       → (f : Came) × (slice_get new.came v ≡ Some f) × (f.stamp ≡ e.stamp) × (f.label ≡ e.label) × (f.number ≡ e.number) × (f.node ≡ e.node)
   pub readings : (clock : ℕ) (s : Stamped) → Contains (group_at old.readings clock) s → HasNode g (nodes.Reading clock s.0) → Contains (group_at new.readings clock) s
-  pub holds : (seen : List (List Seen)) → Holds old seen → Holds new seen
+  pub holds : (seen : List (List Seen)) → HoldsEvents old seen → HoldsEvents new seen

@@ -13,7 +13,7 @@ use Rattle.roster.specs.declared.came.Came.{Came}
 use Rattle.roster.specs.declared.came.Partner.{Partner}
 use Rattle.roster.specs.Groups.{group_at}
 use Rattle.roster.specs.Readings.{Stamped}
-use Rattle.roster.specs.Roster.{RosterLists, Holds, listed}
+use Rattle.roster.specs.Roster.{RosterLists, HoldsEvents, listed}
 use Rattle.roster.specs.Entered.{all_events}
 use Rattle.roster.specs.Growing.{IsGrownTo}
 use Rattle.roster.specs.Withdrawing.{HasMessage}
@@ -29,12 +29,12 @@ pub record HasArcs (g : GraphLists) (m : Message) (arc : ℕ) : Type 0 where
   pub most : (w : ℕ) → m.most ≡ Some w → (k : ℕ) × (arc ≡ suc k) × IsOn g k × ((arc_at g.arcs k).name ≡ DelayMost m.send m.receive)
 
 -- the roster tells of the message at its send, with the number of its arc
-abbrev pub Tells : RosterLists → GraphLists → Message → Type 0
-Tells r g m = (e : Came) × (arc : ℕ) × (slice_get r.came m.send ≡ Some e) × (e.partner ≡ Some (record { event = m.receive; arc = arc })) × HasArcs g m arc
+abbrev pub TellsArc : RosterLists → GraphLists → Message → Type 0
+TellsArc r g m = (e : Came) × (arc : ℕ) × (slice_get r.came m.send ≡ Some e) × (e.partner ≡ Some (record { event = m.receive; arc = arc })) × HasArcs g m arc
 
 -- the roster tells of each of these messages, and of no others
 pub record KnowsMessages (r : RosterLists) (messages : List Message) (g : GraphLists) : Type 0 where
-  pub each : (m : Message) → Contains messages m → Tells r g m
+  pub each : (m : Message) → Contains messages m → TellsArc r g m
   pub only : (v : ℕ) (e : Came) (p : Partner) → slice_get r.came v ≡ Some e → e.partner ≡ Some p → HasMessage messages v p.event
 
 -- ---- what is kept
@@ -49,7 +49,7 @@ pub record IsGrownBy (r : RosterLists) (messages : List Message) (g : GraphLists
 -- the roster holds these events of each label, the graph has grown to all of them and their messages, and what is held
 -- of it is the answer of their problem; arcs are at most eight an event, withdrawn ones too
 pub record IsKeptFor (seen : List (List Seen)) (r : RosterLists) (s : SolverLists) : Type 0 where
-  pub holds : Holds r seen
+  pub holds : HoldsEvents r seen
   pub stamps : StampsFit seen
   pub solution : IsSolutionBy (listed r) (problem_of_seen r.declaration seen) s
   pub grown : IsGrownBy r (messages_by_number r seen) s.graph

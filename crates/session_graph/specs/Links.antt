@@ -25,5 +25,5 @@ pub record AreBeside (p : ProblemLists) (place : ℕ) (n : Nearest) : Type 0 whe
   pub later : IfSome n.later (λ e. ComesAfter p place e.0)
 
 -- the bounds between it and them
-abbrev pub links_of : ℕ → ℕ → Nearest → List Bound
-links_of place stamp n = reading_bounds place stamp n.below n.above n.earlier n.later
+abbrev pub bounds_beside : ℕ → ℕ → Nearest → List Bound
+bounds_beside place stamp n = reading_bounds place stamp n.below n.above n.earlier n.later

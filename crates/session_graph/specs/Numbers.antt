@@ -12,13 +12,13 @@ use Rattle.roster.specs.Roster.{RosterLists, id_of, event_at}
 
 -- ---- messages
 -- the host of the event with this number
-abbrev pub host_at : RosterLists → ℕ → ℕ
-host_at r v = host_of r.declaration (id_of (event_at r.came v))
+abbrev pub host_of_event : RosterLists → ℕ → ℕ
+host_of_event r v = host_of r.declaration (id_of (event_at r.came v))
 
 -- a message between two numbers, with the bounds of the link from its send's host to its receive's
 abbrev pub message_by : RosterLists → Couple → Message
 message_by r c =
-    let bounds = link_bounds r.declaration (host_at r c.send) (host_at r c.receive) in
+    let bounds = link_bounds r.declaration (host_of_event r c.send) (host_of_event r c.receive) in
     record { send = c.send; receive = c.receive; least = bounds.0; most = bounds.1 }
 
 -- ---- names

@@ -5,8 +5,8 @@ use Rattle.session_graph.specs.declared.plans.Turn.{Turn}
 use Rattle.session_graph.specs.declared.plans.Due.{Due}
 
 -- the numbers of the events
-abbrev pub numbers_of : List Turn → List ℕ
-numbers_of turns = map (λ (t : Turn). t.event) turns
+abbrev pub turn_numbers : List Turn → List ℕ
+turn_numbers turns = map (λ (t : Turn). t.event) turns
 
 -- the messages alone
 abbrev pub messages_in : List Due → List Message

@@ -17,7 +17,7 @@ use Rattle.session_graph.specs.Kept.{KnowsMessages, IsGrownBy}
 
 -- the graph has grown to all events of the roster and these messages among them, and what is held of it is current; nodes are at
 -- most two an event
-pub record IsUnderWay (messages : List Message) (r : RosterLists) (s : SolverLists) : Type 0 where
+pub record IsChangeUnderWay (messages : List Message) (r : RosterLists) (s : SolverLists) : Type 0 where
   pub current : IsCurrent s
   pub grown : IsGrownBy r messages s.graph
   pub nodes : length s.graph.nodes ≤ 2 * length r.came

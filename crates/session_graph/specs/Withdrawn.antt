@@ -14,9 +14,9 @@ pub record AreLeft (messages withdrawn left : List Message) : Type 0 where
 
 -- ---- the arcs of messages
 -- the number of a partner's arc
-abbrev pub arc_of : Option Partner → ℕ
-arc_of None = 0
-arc_of (Some p) = p.arc
+abbrev pub partner_arc : Option Partner → ℕ
+partner_arc None = 0
+partner_arc (Some p) = p.arc
 
 -- the arc before this one and this one, or this one alone where there is no greatest delay
 abbrev pub arcs_to : ℕ → Option ℕ → List ℕ
@@ -25,7 +25,7 @@ arcs_to arc (Some most) = (arc - 1) ∷ arc ∷ []
 
 -- the numbers of a message's arcs, as the roster tells of them
 abbrev pub told_arcs : RosterLists → Message → List ℕ
-told_arcs r m = arcs_to (arc_of (event_at r.came m.send).partner) m.most
+told_arcs r m = arcs_to (partner_arc (event_at r.came m.send).partner) m.most
 
 -- ---- messages of which nothing is told
 -- the roster with no partner at an event

@@ -2,13 +2,13 @@
 ghost use Rattle.std.specs.Prelude.{◌≡◌, ◌<◌, ◌≤◌, ◌+◌, ◌-◌, ◌*◌, ◌⊎◌, ℕ, Bool, true, false, List, All, length, slice_get, Some, Contains, OnOk};
 ghost use Rattle.problem_model.specs.declared.items.Message.{Message};
 ghost use Rattle.problem_model.specs.declared.items.Node.TheVariants as nodes;
-ghost use Rattle.sync_graph.specs.Graph.{most_nodes, most_arcs};
+ghost use Rattle.problem_model.specs.Limits.{most_arcs, most_nodes};
 ghost use Rattle.problem_graph.specs.Standing.{HasNode};
 ghost use Rattle.solver.specs.Solver.{HasRoom};
 ghost use Rattle.session_graph.specs.declared.plans.Due.{Due};
 ghost use Rattle.session_graph.specs.UnderWay.{IsEntering};
 ghost use Rattle.session_graph.specs.Extensions.{Extends, TakesFewToPush};
-ghost use Rattle.session_graph.specs.Plans.{numbers_of, messages_in};
+ghost use Rattle.session_graph.specs.Plans.{turn_numbers, messages_in};
 ghost use Rattle.session_graph.specs.Arrivals.{HaveOwnSends, HaveCome};
 
 use crate::entries::{enter, has_entered};
@@ -24,7 +24,7 @@ use std::sync::ledger::Ledger;
 // The event at a place.
 fn event_at(turns: &[Turn], place: usize) -> u32
     requires { place < length turns.now }
-    ensures { slice_get (numbers_of turns.now) place ≡ Some result }
+    ensures { slice_get (turn_numbers turns.now) place ≡ Some result }
 {
     turns[place].event
 }
@@ -84,11 +84,11 @@ pub(crate) fn come<L: Ledger>(
     dues: &[Due],
     steps: &mut Steps<L>,
 ) -> Result<(), AllocError>
-    requires inside { All (λ v. v < length roster.old.came) (numbers_of turns.now) }
+    requires inside { All (λ v. v < length roster.old.came) (turn_numbers turns.now) }
     requires sends { All (λ m. m.send < length roster.old.came) (messages_in dues.now) }
     requires receives { All (λ m. m.receive < length roster.old.came) (messages_in dues.now) }
     requires ready { (entered : ℕ → Bool) × (messages : List Message) × IsEntering entered messages roster.old solver.old × HaveOwnSends (messages_in dues.now) messages }
-    requires all { (v : ℕ) → v < length roster.old.came → HasNode solver.old.graph (nodes.Event v) ⊎ Contains (numbers_of turns.now) v }
+    requires all { (v : ℕ) → v < length roster.old.came → HasNode solver.old.graph (nodes.Event v) ⊎ Contains (turn_numbers turns.now) v }
     requires nodes { length solver.old.graph.nodes + 2 * length turns.now ≤ most_nodes }
     requires room { HasRoom (length solver.old.graph.nodes + 2 * length turns.now) solver.old }
     requires arcs { length solver.old.graph.arcs + 6 * length turns.now + 2 * length dues.now ≤ most_arcs }

@@ -1,5 +1,6 @@
 // Events that come at once, and the messages that change with them.
-ghost use Rattle.std.specs.Prelude.{◌≡◌, ◌<◌, ◌≤◌, ◌+◌, ◌*◌, ◌^◌, ◌++◌, true, List, [], length, map, OnOk};
+ghost use Rattle.std.specs.Prelude.{◌≡◌, ◌<◌, ◌≤◌, ◌+◌, ◌*◌, ◌++◌, true, List, [], length, map, OnOk};
+ghost use Rattle.problem_model.specs.Limits.{most_events};
 ghost use Rattle.sync_graph.specs.declared.arc.Arc.{Arc};
 ghost use Rattle.solver.specs.Solver.{SolverLists, HasRoom};
 ghost use Rattle.traces.specs.Seen.{Seen, seen_events};
@@ -38,7 +39,7 @@ pub(crate) fn change<L: Ledger>(
     requires added { AreCouplesBelow (length roster.old.came + length events.now) change.now.added.items }
     requires withdrawn { AreCouplesBelow (length roster.old.came) change.now.withdrawn.items }
     requires label { label < length roster.old.declaration.labels }
-    requires few { length roster.old.came + length events.now ≤ 2 ^ 21 }
+    requires few { length roster.old.came + length events.now ≤ most_events }
     requires room { HasRoom (2 * (length roster.old.came + length events.now)) solver.old }
     ensures kept { OnOk result ((before : List (List Seen)) → IsKeptFor before roster.old solver.old → AreChanges (names_then roster.old label (seen_events events.now)) before (with_more before label (seen_events events.now)) change.now
         → IsKeptFor (with_more before label (seen_events events.now)) roster.new solver.new) }

@@ -6,8 +6,8 @@ ghost use Rattle.problem_model.specs.declared.items.Node.TheVariants as nodes;
 ghost use Rattle.problem_model.specs.declared.items.Bound.TheVariants.{Late, Early};
 ghost use Rattle.problem_model.specs.Problem.{ProblemLists};
 ghost use Rattle.problem_model.specs.Bounds.{ClockAt, EventAt};
+ghost use Rattle.problem_model.specs.Limits.{most_arcs, most_nodes};
 ghost use Rattle.decl.specs.Declaration.{follows_of};
-ghost use Rattle.sync_graph.specs.Graph.{most_nodes, most_arcs};
 ghost use Rattle.problem_graph.specs.Standing.{HasNode};
 ghost use Rattle.solver.specs.Solver.{HasRoom, with_new_node};
 ghost use Rattle.solver.specs.Current.{IsCurrent};
@@ -17,7 +17,7 @@ ghost use Rattle.roster.specs.Readings.{HasStamp};
 ghost use Rattle.roster.specs.Roster.{SetsReading, event_at};
 ghost use Rattle.roster.specs.Growing.{IsGrowing};
 ghost use Rattle.session_graph.specs.Pushes.{Brings};
-ghost use Rattle.session_graph.specs.Links.{AreThere, AreBeside, links_of};
+ghost use Rattle.session_graph.specs.Links.{AreThere, AreBeside, bounds_beside};
 ghost use Rattle.session_graph.specs.Extensions.{Extends, TakesFewToPush};
 ghost use Rattle.session_graph.specs.UnderWay.{IsEntering};
 ghost use Rattle.session_graph.specs.Arrivals.{HaveCome};
@@ -95,11 +95,11 @@ fn push_entry<L: Ledger>(
     requires reading { HasNode solver.old.graph (nodes.Reading place stamp) }
     requires there { AreThere (length roster.now.declaration.clocks) solver.old.graph place stamp nearest.now }
     requires room { length solver.old.graph.arcs + 6 ≤ most_arcs }
-    ensures brings { OnOk result (Brings (links_of place stamp nearest.now ++ (Late v ∷ Early v ∷ [])) solver.old solver.new) }
+    ensures brings { OnOk result (Brings (bounds_beside place stamp nearest.now ++ (Late v ∷ Early v ∷ [])) solver.old solver.new) }
     ensures steps { OnOk result (TakesFewToPush solver.old solver.new steps.old steps.new) }
     ensures left { OnOk result ((p : ProblemLists) (entered : ℕ → Bool) (e : items.Event) → EventAt p v e → e.clock ≡ place → e.stamp ≡ stamp → ClockAt p place clock.now
         → p.follows ≡ follows_of roster.now.declaration → AreBeside p place nearest.now
-        → IsGrowing p entered (links_of place stamp nearest.now ++ (Late v ∷ Early v ∷ [])) solver.old.graph → IsGrowing p entered [] solver.new.graph) }
+        → IsGrowing p entered (bounds_beside place stamp nearest.now ++ (Late v ∷ Early v ∷ [])) solver.old.graph → IsGrowing p entered [] solver.new.graph) }
 {
     push_links(roster, solver, place, clock, stamp, nearest, steps)?;
     push_stamp(solver, v, place, clock, stamp, steps)?;

@@ -1,5 +1,6 @@
 // A graph, the roster of its events and the matcher of their messages.
 ghost use Rattle.std.specs.Prelude.{◌≡◌, ◌<◌, ◌≤◌, ◌+◌, ◌^◌, ◌++◌, true, List, [], None, length, map, IfOk, OnOk};
+ghost use Rattle.problem_model.specs.Limits.{most_events, most_items};
 ghost use Rattle.decl.specs.declared.items.Label.{Label};
 ghost use Rattle.decl.specs.Declaration.{IsDeclaration, declaration_of};
 ghost use Rattle.sync_graph.specs.declared.arc.Arc.{Arc};
@@ -32,7 +33,7 @@ fn rematch(
     events: &[Event],
 ) -> Result<Change, AllocError>
     requires fits { first + length events.now < 2 ^ 32 }
-    requires few { length matcher.old + length (items_from first (seen_events events.now)) ≤ 2 ^ 22 }
+    requires few { length matcher.old + length (items_from first (seen_events events.now)) ≤ most_items }
     requires differ { HaveOwnNumbers (matcher.old ++ items_from first (seen_events events.now)) }
     ensures ok { OnOk result (matcher.new ≡ matcher.old ++ items_from first (seen_events events.now)) }
     ensures added { IfOk result (λ change. AreMessagesAnew matcher.old matcher.new change.added.items) }
@@ -90,7 +91,7 @@ impl KeptGraph {
     ) -> Result<Changed, AllocError>
         requires kept { (before : List (List Seen)) × IsKeptFor before self.old.roster self.old.solver × AreEndsBy (map id_of self.old.roster.came) self.old.matcher before }
         requires label { label < length self.old.roster.declaration.labels }
-        requires few { length self.old.roster.came + length events.now ≤ 2 ^ 21 }
+        requires few { length self.old.roster.came + length events.now ≤ most_events }
         ensures kept { OnOk result ((before : List (List Seen)) → IsKeptFor before self.old.roster self.old.solver → AreEndsBy (map id_of self.old.roster.came) self.old.matcher before
             → IsKeptFor (with_more before label (seen_events events.now)) self.new.roster self.new.solver) }
         ensures ends { OnOk result ((before : List (List Seen)) → IsKeptFor before self.old.roster self.old.solver → AreEndsBy (map id_of self.old.roster.came) self.old.matcher before

@@ -5,15 +5,15 @@ ghost use Rattle.problem_model.specs.declared.items.Node.TheVariants as nodes;
 ghost use Rattle.problem_model.specs.declared.items.Bound.{Bound};
 ghost use Rattle.problem_model.specs.Problem.{ProblemLists};
 ghost use Rattle.problem_model.specs.Bounds.{ClockAt, ComesAfter};
+ghost use Rattle.problem_model.specs.Limits.{most_arcs};
 ghost use Rattle.decl.specs.Declaration.{follows_of};
 ghost use Rattle.decl.specs.declared.items.Owner.{Owner};
-ghost use Rattle.sync_graph.specs.Graph.{most_arcs};
 ghost use Rattle.problem_graph.specs.Standing.{HasNode};
 ghost use Rattle.solver.specs.Current.{IsCurrent};
 ghost use Rattle.roster.specs.Entering.{span_below, span_above, follow_before, follow_after};
 ghost use Rattle.roster.specs.Growing.{IsGrowing};
 ghost use Rattle.session_graph.specs.Pushes.{Brings};
-ghost use Rattle.session_graph.specs.Links.{AreThere, AreBeside, links_of};
+ghost use Rattle.session_graph.specs.Links.{AreThere, AreBeside, bounds_beside};
 ghost use Rattle.session_graph.specs.Extensions.{TakesFewToPush};
 
 use crate::follows::Nearest;
@@ -152,10 +152,10 @@ pub(crate) fn push_links<L: Ledger>(
     requires reading { HasNode solver.old.graph (nodes.Reading place stamp) }
     requires there { AreThere (length roster.now.declaration.clocks) solver.old.graph place stamp nearest.now }
     requires room { length solver.old.graph.arcs + 4 ≤ most_arcs }
-    ensures brings { OnOk result (Brings (links_of place stamp nearest.now) solver.old solver.new) }
+    ensures brings { OnOk result (Brings (bounds_beside place stamp nearest.now) solver.old solver.new) }
     ensures steps { OnOk result (TakesFewToPush solver.old solver.new steps.old steps.new) }
     ensures left { OnOk result ((p : ProblemLists) (entered : ℕ → Bool) (rest : List Bound) → ClockAt p place clock.now → p.follows ≡ follows_of roster.now.declaration → AreBeside p place nearest.now
-        → IsGrowing p entered (links_of place stamp nearest.now ++ rest) solver.old.graph → IsGrowing p entered rest solver.new.graph) }
+        → IsGrowing p entered (bounds_beside place stamp nearest.now ++ rest) solver.old.graph → IsGrowing p entered rest solver.new.graph) }
 {
     push_below(solver, place, clock, stamp, nearest.below, steps)?;
     push_above(solver, place, clock, stamp, nearest.above, steps)?;

@@ -2,7 +2,7 @@
 ghost use Rattle.std.specs.Prelude.{◌≡◌, ◌<◌, length, map, IfOk};
 ghost use Rattle.decl.specs.Declaration.{link_bounds};
 ghost use Rattle.msg_match.specs.Ends.{AreCouplesBelow};
-ghost use Rattle.session_graph.specs.Numbers.{host_at, message_by};
+ghost use Rattle.session_graph.specs.Numbers.{host_of_event, message_by};
 
 use atto::Nano;
 use msg_match::Couple;
@@ -13,7 +13,7 @@ use std::alloc::{AllocError, Global};
 // The host of the event with this number.
 fn host_of(roster: &Roster, v: u32) -> u32
     requires { v < length roster.now.came }
-    ensures { result ≡ host_at roster.now v }
+    ensures { result ≡ host_of_event roster.now v }
 {
     let came = roster.event(v);
     roster.decl().labels[came.label as usize].host
@@ -23,7 +23,7 @@ fn host_of(roster: &Roster, v: u32) -> u32
 fn bounds_of(roster: &Roster, couple: &Couple) -> (Nano, Option<Nano>)
     requires send { couple.now.send < length roster.now.came }
     requires receive { couple.now.receive < length roster.now.came }
-    ensures { result ≡ link_bounds roster.now.declaration (host_at roster.now couple.now.send) (host_at roster.now couple.now.receive) }
+    ensures { result ≡ link_bounds roster.now.declaration (host_of_event roster.now couple.now.send) (host_of_event roster.now couple.now.receive) }
 {
     let from = host_of(roster, couple.send);
     let to = host_of(roster, couple.receive);

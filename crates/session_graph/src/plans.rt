@@ -2,8 +2,9 @@
 ghost use Rattle.std.specs.Prelude.{◌≡◌, ◌<◌, ◌≤◌, ◌+◌, ◌^◌, Some, All, length, slice_get, IfOk, OnOk};
 ghost use Rattle.std.specs.List.{range_with_len};
 ghost use Rattle.std.specs.List.Sorted.{IsPermutation};
+ghost use Rattle.problem_model.specs.Limits.{most_events};
 ghost use Rattle.roster.specs.Readings.{stamps_of};
-ghost use Rattle.session_graph.specs.Plans.{numbers_of, messages_in};
+ghost use Rattle.session_graph.specs.Plans.{turn_numbers, messages_in};
 
 use problem_model::Message;
 use roster::Roster;
@@ -36,8 +37,8 @@ fn stamp_of(events: &[Event], k: usize) -> u64
 
 // The turns of events that have the numbers from `first` on, as they stand.
 fn turns_from(alloc: Global, events: &[Event], first: u32) -> Result<Vec<Turn>, AllocError>
-    requires { first + length events.now ≤ 2 ^ 21 }
-    ensures numbers { IfOk result (λ turns. numbers_of turns.items ≡ range_with_len first (length events.now)) }
+    requires { first + length events.now ≤ most_events }
+    ensures numbers { IfOk result (λ turns. turn_numbers turns.items ≡ range_with_len first (length events.now)) }
     ensures fits { OnOk result (All (λ stamp. stamp < 2 ^ 62) (stamps_of events.now)) }
 {
     let mut turns = Vec::new(alloc);
@@ -53,8 +54,8 @@ fn turns_from(alloc: Global, events: &[Event], first: u32) -> Result<Vec<Turn>, 
 
 /// The turns of events that have the numbers from `first` on, in the order of their stamps.
 pub(crate) fn turns_of(alloc: Global, events: &[Event], first: u32) -> Result<Vec<Turn>, AllocError>
-    requires { first + length events.now ≤ 2 ^ 21 }
-    ensures numbers { IfOk result (λ turns. IsPermutation (range_with_len first (length events.now)) (numbers_of turns.items)) }
+    requires { first + length events.now ≤ most_events }
+    ensures numbers { IfOk result (λ turns. IsPermutation (range_with_len first (length events.now)) (turn_numbers turns.items)) }
     ensures fits { OnOk result (All (λ stamp. stamp < 2 ^ 62) (stamps_of events.now)) }
 {
     let mut turns = turns_from(alloc, events, first)?;

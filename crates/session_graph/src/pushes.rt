@@ -1,5 +1,5 @@
-// Bounds that are pushed.
-ghost use Rattle.std.specs.Prelude.{◌≡◌, ◌<◌, ◌≤◌, ◌+◌, ◌^◌, ℕ, Bool, List, [], ◌∷◌, Some, length, slice_get, pos, neg_ℤ, ◌<ℤ◌, Contains, OnOk};
+// Arcs that are brought in.
+ghost use Rattle.std.specs.Prelude.{◌≡◌, ◌<◌, ◌≤◌, ◌+◌, ℕ, Bool, List, [], ◌∷◌, ◌++◌, Some, length, slice_get, All, Contains, OnOk};
 ghost use Rattle.problem_model.specs.declared.items.Event.{Event};
 ghost use Rattle.problem_model.specs.declared.items.Follow.{Follow};
 ghost use Rattle.problem_model.specs.declared.items.Node.TheVariants as nodes;
@@ -7,67 +7,69 @@ ghost use Rattle.problem_model.specs.declared.items.Bound.{Bound};
 ghost use Rattle.problem_model.specs.declared.items.Bound.TheVariants as bounds;
 ghost use Rattle.problem_model.specs.declared.items.Bound.TheVariants.{SpanMost, SpanLeast, Late, Early};
 ghost use Rattle.problem_model.specs.Problem.{ProblemLists};
-ghost use Rattle.problem_model.specs.Bounds.{Constraint, Declares, ClockAt, EventAt, ComesAfter};
-ghost use Rattle.sync_graph.specs.Graph.{most_arcs, arc_at};
-ghost use Rattle.sync_graph.specs.Names.{Joins};
+ghost use Rattle.problem_model.specs.Bounds.{ClockAt, EventAt, ComesAfter};
+ghost use Rattle.problem_model.specs.Limits.{most_arcs};
+ghost use Rattle.sync_graph.specs.Graph.{with_arc};
+ghost use Rattle.problem_graph.specs.BoundArcs.{FitsNodes, IsBoundAmong, arcs_in, names_of};
 ghost use Rattle.problem_graph.specs.Standing.{HasNode};
 ghost use Rattle.solver.specs.Current.{IsCurrent};
 ghost use Rattle.roster.specs.Growing.{IsGrowing};
-ghost use Rattle.roster.specs.Once.{IsOn};
-ghost use Rattle.session_graph.specs.Pushes.{Brings};
+ghost use Rattle.session_graph.specs.Pushes.{Brings, with_arcs};
 ghost use Rattle.session_graph.specs.Extensions.{TakesFewToPush};
 
-use atto::{Nano, Steps, delay_units, span_least, span_most};
-use problem_model::{Bound, Clock, Node};
+use atto::{Nano, Steps};
+use problem::NearestFollow;
+use problem_graph::{Arcs, follow_arcs, span_arcs, stamp_arcs};
+use problem_model::{Clock, Node};
 use solver::Solver;
 use std::alloc::AllocError;
 use std::sync::ledger::Ledger;
 use sync_graph::Arc;
 
-// The number of a node that is there.
-fn number_of(solver: &Solver, n: Node) -> u32
+/// The number of a node that is there.
+pub(crate) fn number_of(solver: &Solver, n: Node) -> u32
     requires { HasNode solver.now.graph n }
     ensures { slice_get solver.now.graph.nodes result ≡ Some n }
 {
     solver.graph().node_of(n).unwrap()
 }
 
-/// Brings in a bound between two nodes that are there.
-pub(crate) fn push_bound<L: Ledger>(
+// Brings in an arc.
+fn push_arc<L: Ledger>(solver: &mut Solver, a: Arc, steps: &mut Steps<L>) -> Result<(), AllocError>
+    requires current { IsCurrent solver.old }
+    requires fits { FitsNodes solver.old.graph.nodes a }
+    requires room { length solver.old.graph.arcs < most_arcs }
+    ensures brings { OnOk result (Brings (a.name ∷ []) solver.old solver.new) }
+    ensures steps { OnOk result (TakesFewToPush solver.old solver.new steps.old steps.new) }
+    ensures graph { OnOk result (solver.new.graph ≡ with_arc solver.old.graph a) }
+{
+    solver.push_arc(a, steps)?;
+    Ok(())
+}
+
+/// Brings in arcs, one after another.
+pub(crate) fn push_arcs<L: Ledger>(
     solver: &mut Solver,
-    name: Bound,
-    from: Node,
-    to: Node,
-    weight: i128,
+    arcs: Arcs,
     steps: &mut Steps<L>,
 ) -> Result<(), AllocError>
     requires current { IsCurrent solver.old }
-    requires from { HasNode solver.old.graph from }
-    requires to { HasNode solver.old.graph to }
-    requires joins { Joins name from to }
-    requires low { neg_ℤ (pos (2 ^ 93)) <ℤ weight }
-    requires high { weight <ℤ pos (2 ^ 93) }
-    requires room { length solver.old.graph.arcs < most_arcs }
-    ensures brings { OnOk result (Brings (name ∷ []) solver.old solver.new) }
+    requires fit { All (FitsNodes solver.old.graph.nodes) (arcs_in arcs) }
+    requires room { length solver.old.graph.arcs + length (arcs_in arcs) ≤ most_arcs }
+    ensures brings { OnOk result (Brings (names_of (arcs_in arcs)) solver.old solver.new) }
     ensures steps { OnOk result (TakesFewToPush solver.old solver.new steps.old steps.new) }
-    ensures nodes { OnOk result (solver.new.graph.nodes ≡ solver.old.graph.nodes) }
-    ensures arcs { OnOk result (length solver.new.graph.arcs ≡ length solver.old.graph.arcs + 1) }
-    ensures on { OnOk result (IsOn solver.new.graph (length solver.old.graph.arcs)) }
-    ensures named { OnOk result ((arc_at solver.new.graph.arcs (length solver.old.graph.arcs)).name ≡ name) }
-    ensures left { OnOk result ((p : ProblemLists) (entered : ℕ → Bool) (rest : List Bound) (c : Constraint)
-        → Declares p name c → c.from ≡ from → c.to ≡ to → c.weight ≡ weight
-        → IsGrowing p entered (name ∷ rest) solver.old.graph → IsGrowing p entered rest solver.new.graph) }
+    ensures graph { OnOk result (solver.new.graph ≡ with_arcs solver.old.graph (arcs_in arcs)) }
+    ensures left { OnOk result ((p : ProblemLists) (entered : ℕ → Bool) (rest : List Bound) → All (IsBoundAmong p solver.old.graph.nodes) (arcs_in arcs)
+        → IsGrowing p entered (names_of (arcs_in arcs) ++ rest) solver.old.graph → IsGrowing p entered rest solver.new.graph) }
 {
-    let tail = number_of(solver, from);
-    let head = number_of(solver, to);
-    let a = Arc {
-        from: tail,
-        to: head,
-        weight,
-        name,
-    };
-    solver.push_arc(a, steps)?;
-    Ok(())
+    match arcs {
+        Arcs::Nothing => Ok(()),
+        Arcs::One(a) => push_arc(solver, a, steps),
+        Arcs::Two(a, b) => {
+            push_arc(solver, a, steps)?;
+            push_arc(solver, b, steps)
+        }
+    }
 }
 
 /// Brings in both bounds over the span of two readings of the clock at a place.
@@ -90,27 +92,10 @@ pub(crate) fn push_span<L: Ledger>(
         → ClockAt p place clock.now
         → IsGrowing p entered (SpanMost place s t ∷ SpanLeast place s t ∷ rest) solver.old.graph → IsGrowing p entered rest solver.new.graph) }
 {
-    let most = Bound::SpanMost { clock: place, s, t };
-    let weight = span_most(clock.rate, s, t);
-    push_bound(
-        solver,
-        most,
-        Node::Reading(place, s),
-        Node::Reading(place, t),
-        weight,
-        steps,
-    )?;
-    let least = Bound::SpanLeast { clock: place, s, t };
-    let weight = -span_least(clock.rate, s, t);
-    push_bound(
-        solver,
-        least,
-        Node::Reading(place, t),
-        Node::Reading(place, s),
-        weight,
-        steps,
-    )?;
-    Ok(())
+    let first = number_of(solver, Node::Reading(place, s));
+    let second = number_of(solver, Node::Reading(place, t));
+    let arcs = span_arcs(place, clock, s, t, first, second);
+    push_arcs(solver, arcs, steps)
 }
 
 /// Brings in both bounds on the stamp of an event, which stands on the clock at a place.
@@ -132,25 +117,10 @@ pub(crate) fn push_stamp<L: Ledger>(
         → EventAt p v e → e.clock ≡ place → e.stamp ≡ stamp → ClockAt p place clock.now
         → IsGrowing p entered (Late v ∷ Early v ∷ rest) solver.old.graph → IsGrowing p entered rest solver.new.graph) }
 {
-    let late = delay_units(clock.late);
-    push_bound(
-        solver,
-        Bound::Late(v),
-        Node::Reading(place, stamp),
-        Node::Event(v),
-        late,
-        steps,
-    )?;
-    let early = delay_units(clock.early);
-    push_bound(
-        solver,
-        Bound::Early(v),
-        Node::Event(v),
-        Node::Reading(place, stamp),
-        early,
-        steps,
-    )?;
-    Ok(())
+    let reading = number_of(solver, Node::Reading(place, stamp));
+    let event = number_of(solver, Node::Event(v));
+    let arcs = stamp_arcs(v, place, clock, stamp, reading, event);
+    push_arcs(solver, arcs, steps)
 }
 
 /// Brings in the bound from a reading of a clock to one of another that comes before it, by the later one's gap.
@@ -173,18 +143,9 @@ pub(crate) fn push_follow<L: Ledger>(
         → Contains p.follows f → f.later ≡ later → f.gap ≡ gap → ComesAfter p earlier later
         → IsGrowing p entered (bounds.Follow earlier s later t ∷ rest) solver.old.graph → IsGrowing p entered rest solver.new.graph) }
 {
-    let name = Bound::Follow {
-        earlier,
-        s,
-        later,
-        t,
-    };
-    push_bound(
-        solver,
-        name,
-        Node::Reading(later, t),
-        Node::Reading(earlier, s),
-        -delay_units(gap),
-        steps,
-    )
+    let first = number_of(solver, Node::Reading(earlier, s));
+    let second = number_of(solver, Node::Reading(later, t));
+    let nearest = NearestFollow { earlier, s, t, gap };
+    let arcs = follow_arcs(&nearest, later, first, second);
+    push_arcs(solver, arcs, steps)
 }

@@ -1,6 +1,6 @@
 // Room for nodes that come.
-ghost use Rattle.std.specs.Prelude.{◌≡◌, ◌≤◌, ◌+◌, ◌*◌, ◌^◌, length, OnOk};
-ghost use Rattle.sync_graph.specs.Graph.{most_nodes};
+ghost use Rattle.std.specs.Prelude.{◌≡◌, ◌≤◌, ◌+◌, ◌*◌, length, OnOk};
+ghost use Rattle.problem_model.specs.Limits.{most_events, most_nodes};
 ghost use Rattle.solver.specs.Solver.{HasRoom};
 ghost use Rattle.solver.specs.Current.{IsCurrent};
 ghost use Rattle.session_graph.specs.Kept.{KeepsRows};
@@ -12,7 +12,7 @@ use std::alloc::AllocError;
 
 // Room for the nodes of so many events: a power of two, so that the rows are laid out anew for few additions.
 fn room_for(events: u32) -> u32
-    requires { events ≤ 2 ^ 21 }
+    requires { events ≤ most_events }
     ensures enough { 2 * events ≤ result }
     ensures few { result ≤ most_nodes }
 {
@@ -22,7 +22,7 @@ fn room_for(events: u32) -> u32
 /// Makes room for the nodes of so many events more.
 pub(crate) fn make_room(roster: &Roster, solver: &mut Solver, more: u32) -> Result<(), AllocError>
     requires current { IsCurrent solver.old }
-    requires few { length roster.now.came + more ≤ 2 ^ 21 }
+    requires few { length roster.now.came + more ≤ most_events }
     ensures graph { OnOk result (solver.new.graph ≡ solver.old.graph) }
     ensures current { OnOk result (IsCurrent solver.new) }
     ensures room { OnOk result (HasRoom (2 * (length roster.now.came + more)) solver.new) }

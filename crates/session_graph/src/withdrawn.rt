@@ -7,11 +7,11 @@ ghost use Rattle.solver.specs.Solver.{HasRoom};
 ghost use Rattle.roster.specs.declared.came.Came.{Came};
 ghost use Rattle.roster.specs.declared.came.Partner.{Partner};
 ghost use Rattle.roster.specs.Roster.{event_at};
-ghost use Rattle.session_graph.specs.Kept.{KeepsRows, Tells};
+ghost use Rattle.session_graph.specs.Kept.{KeepsRows, TellsArc};
 ghost use Rattle.session_graph.specs.Growth.{Retells};
-ghost use Rattle.session_graph.specs.UnderWay.{IsUnderWay};
+ghost use Rattle.session_graph.specs.UnderWay.{IsChangeUnderWay};
 ghost use Rattle.session_graph.specs.Cuts.{CutsInFewSteps};
-ghost use Rattle.session_graph.specs.Withdrawn.{AreLeft, arc_of, arcs_to, told_arcs, without_partner, without_partners};
+ghost use Rattle.session_graph.specs.Withdrawn.{AreLeft, partner_arc, arcs_to, told_arcs, without_partner, without_partners};
 
 use atto::Steps;
 use problem_model::Message;
@@ -23,7 +23,7 @@ use std::sync::ledger::Ledger;
 // The number of the arc that the roster tells of at a send.
 fn arc_of(roster: &Roster, send: u32) -> u32
     requires { (e : Came) × (p : Partner) × (slice_get roster.now.came send ≡ Some e) × (e.partner ≡ Some p) }
-    ensures { result ≡ arc_of (event_at roster.now.came send).partner }
+    ensures { result ≡ partner_arc (event_at roster.now.came send).partner }
 {
     roster.event(send).partner.unwrap().arc
 }
@@ -52,7 +52,7 @@ fn list_message(
     message: &Message,
     numbers: &mut Vec<u32>,
 ) -> Result<(), AllocError>
-    requires { (g : GraphLists) × Tells roster.now g message.now }
+    requires { (g : GraphLists) × TellsArc roster.now g message.now }
     ensures { OnOk result (numbers.new.items ≡ numbers.old.items ++ told_arcs roster.now message.now) }
 {
     let arc = arc_of(roster, message.send);
@@ -65,7 +65,7 @@ fn list_messages(
     roster: &Roster,
     messages: &[Message],
 ) -> Result<Vec<u32>, AllocError>
-    requires { (g : GraphLists) × All (λ m. Tells roster.now g m) messages.now }
+    requires { (g : GraphLists) × All (λ m. TellsArc roster.now g m) messages.now }
     ensures { IfOk result (λ numbers. numbers.items ≡ flat_map (told_arcs roster.now) messages.now) }
 {
     let mut numbers = Vec::new(alloc);
@@ -102,8 +102,8 @@ pub(crate) fn withdraw<L: Ledger>(
     steps: &mut Steps<L>,
 ) -> Result<(), AllocError>
     requires differ { AllPairs (λ a b. a ≢ b) messages.now }
-    requires ready { (all left : List Message) × IsUnderWay all roster.old solver.old × AreLeft all messages.now left }
-    ensures gone { OnOk result ((all left : List Message) → IsUnderWay all roster.old solver.old → AreLeft all messages.now left → IsUnderWay left roster.new solver.new) }
+    requires ready { (all left : List Message) × IsChangeUnderWay all roster.old solver.old × AreLeft all messages.now left }
+    ensures gone { OnOk result ((all left : List Message) → IsChangeUnderWay all roster.old solver.old → AreLeft all messages.now left → IsChangeUnderWay left roster.new solver.new) }
     ensures retells { OnOk result (Retells roster.old roster.new) }
     ensures arcs { OnOk result (solver.new.graph.arcs ≡ solver.old.graph.arcs) }
     ensures rows { OnOk result (KeepsRows solver.old solver.new) }

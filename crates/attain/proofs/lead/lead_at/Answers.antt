@@ -1,7 +1,8 @@
-use Rattle.std.proofs.Common.{◌≡◌, ◌∙◌, ap, sym, subst, get_or, arith}
+use Rattle.std.proofs.Common.{◌+◌, ◌≡◌, ◌∙◌, ap, sym, subst, get_or, arith}
 use Rattle.std.proofs.lemmas.Int.{to_z-of_z}
 use mir.Syntax.{w128}
 use Rattle.problem_model.specs.Numbers.{IsUpTo}
+use Rattle.problem_model.specs.Limits.{path_bits}
 use Rattle.row_pool.specs.declared.cell.Cell.{Cell}
 use Rattle.row_pool.specs.Row.{cells_of}
 use Rattle.attain.specs.Sides.{signed}
@@ -16,4 +17,4 @@ returns-clause-lead c =
     (to_z-of_z w128 c.value.result (record { sfits = c.value.type_inv }) ∙ c.value.ensures)
 
 pub returns-clause-small : goal.returns-clause-small
-returns-clause-small c = subst (IsUpTo 117) (sym (returns-clause-lead c)) (lead_small c.args.side c.args.e.now.values (cells_of c.args.cells.now) c.args.node c.requires.sizes c.requires.node c.requires.known)
+returns-clause-small c = subst (IsUpTo (path_bits + 2)) (sym (returns-clause-lead c)) (lead_small c.args.side c.args.e.now.values (cells_of c.args.cells.now) c.args.node c.requires.sizes c.requires.node c.requires.known)

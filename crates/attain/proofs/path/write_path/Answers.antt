@@ -1,7 +1,7 @@
 use Rattle.std.proofs.Common.{◌≡◌, ◌<◌, ◌+◌, ◌∙◌, ℕ, ap, sym, subst, length, get_or, arith}
 use Rattle.sync_graph.specs.declared.arc.Arc.{Arc}
 use Rattle.sync_graph.specs.Graph.{arc_at}
-use Rattle.cert.specs.Listed.{IsNamed}
+use Rattle.cert.specs.Listed.{HasNames}
 use Rattle.sync_graph.proofs.InForce.{in_force_below}
 use Rattle.row_pool.specs.declared.cell.Cell.{Cell}
 use Rattle.row_pool.specs.Row.{cells_of}
@@ -45,7 +45,7 @@ write_arc-requires g c =
     let is : c.arc-arc.result ≡ arc_at c.args.g.now.arcs (cells.parent node) = c.arc-arc.ensures ∙ ap (λ (x : Cell). arc_at c.args.g.now.arcs x.parent) there in
     let step : IsStepFrom l c.args.side c.args.g.now cells c.args.p c.args.q (g.O.Sink.told c.args.out.now) node c.loop-step._step (g.O.Sink.told c.loop-step.out) (arc_at c.args.g.now.arcs (cells.parent node)) =
     step_from l c.args.side c.args.g.now cells c.args.p c.args.q (g.O.Sink.told c.args.out.now) node c.loop-step._step (g.O.Sink.told c.loop-step.out) on c.if-node-p.false in
-    record { named = subst (λ (a : Arc). IsNamed l a.name) (sym is) (c.requires.named (cells.parent node) step.in_force) }
+    record { named = subst (λ (a : Arc). HasNames l a.name) (sym is) (c.requires.named (cells.parent node) step.in_force) }
 
 pub returns-in_err-write_arc : goal.returns-in_err-write_arc
 returns-in_err-write_arc g c =

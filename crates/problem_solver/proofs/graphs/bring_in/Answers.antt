@@ -1,5 +1,5 @@
 use Rattle.std.proofs.Common.{◌≡◌, ◌≤◌, ℕ, length, sym, subst}
-use Rattle.sync_graph.specs.Graph.{most_arcs}
+use Rattle.problem_model.specs.Limits.{most_arcs}
 use Rattle.problem_solver.proofs.Orders.{order_long, order_in_force, order_every}
 use Rattle.problem_solver.proofs.graphs.bring_in.Goals as goal
 

@@ -1,6 +1,6 @@
 use Rattle.std.proofs.Common.{◌≤◌, ◌+◌, List, length, All, ◌∙◌, sym, subst}
 use Rattle.std.specs.List.{flat_map}
-use Rattle.sync_graph.specs.Graph.{most_arcs}
+use Rattle.problem_model.specs.Limits.{most_arcs}
 use Rattle.problem_solver.specs.declared.items.Ranked.{Ranked}
 use Rattle.problem_solver.specs.Items.{IsItem, bounds_of, items_of}
 use Rattle.problem_solver.specs.Pushing.{AddsBounds}

@@ -1,7 +1,7 @@
 use Rattle.std.proofs.Common.{take, get_or, ℕ, arith}
 use Rattle.std.proofs.lemmas.List.{get_or_default}
 use Rattle.std.specs.List.{flat_map}
-use Rattle.sync_graph.specs.Graph.{most_arcs}
+use Rattle.problem_model.specs.Limits.{most_arcs}
 use Rattle.problem_solver.specs.declared.items.Item.TheVariants.{Span}
 use Rattle.problem_solver.specs.declared.items.Ranked.{Ranked}
 use Rattle.problem_solver.specs.Items.{bounds_of, items_of}

@@ -8,7 +8,7 @@ use Rattle.problem_model.specs.declared.items.Node.TheVariants as nodes
 use Rattle.problem_graph.specs.Standing.{HasNode}
 use Rattle.roster.proofs.Telling.{among}
 use Rattle.session_graph.specs.declared.plans.Due.{Due}
-use Rattle.session_graph.specs.Plans.{numbers_of, messages_in}
+use Rattle.session_graph.specs.Plans.{turn_numbers, messages_in}
 use Rattle.solver.specs.Solver.{SolverLists}
 use Rattle.session_graph.specs.Extensions.{TakesFewToPush}
 use Rattle.session_graph.specs.Arrivals.{HaveCome}
@@ -102,7 +102,7 @@ join-requires-clause-arcs g c =
 pub enter-requires-clause-inside : goal.enter-requires-clause-inside
 enter-requires-clause-inside g c =
     let count = c.loop-k.invariant.at.come.keeps.count in
-    let inside = All-contains (λ (v : ℕ). v < length c.args.roster.now.came) (numbers_of c.args.turns.now) c.event_at-event.result c.requires.inside (among (numbers_of c.args.turns.now) c.loop-k.next c.event_at-event.result c.event_at-event.ensures) in
+    let inside = All-contains (λ (v : ℕ). v < length c.args.roster.now.came) (turn_numbers c.args.turns.now) c.event_at-event.result c.requires.inside (among (turn_numbers c.args.turns.now) c.loop-k.next c.event_at-event.result c.event_at-event.ensures) in
     omega (arith, count, inside)
 
 pub enter-requires-clause-nodes : goal.enter-requires-clause-nodes
@@ -176,7 +176,7 @@ loop-k-preserved g c = elim c.if-is_message_next.branch [
         come = come_event (messages_in (drop c.loop-k.left c.args.dues.now)) c.args.roster.now c.loop-k.roster w.enter.new.roster c.args.solver.now c.loop-k.solver w.enter.new.solver c.loop-k.invariant.at.come w.in_ok-hint.ensures.come;
         entered = λ j v below at. elim (cases_eq j c.loop-k.next) [
           | inl same ↦ (
-              let one : w.event_at-event.result ≡ v = same_Some w.event_at-event.result v (sym w.event_at-event.ensures ∙ ap (λ (n : ℕ). slice_get (numbers_of c.args.turns.now) n) (sym same) ∙ at) in
+              let one : w.event_at-event.result ≡ v = same_Some w.event_at-event.result v (sym w.event_at-event.ensures ∙ ap (λ (n : ℕ). slice_get (turn_numbers c.args.turns.now) n) (sym same) ∙ at) in
               subst (λ (n : ℕ). HasNode w.enter.new.solver.graph (nodes.Event n)) one w.in_ok-hint.ensures.entered)
           | inr other ↦ w.in_ok-hint.ensures.come.stay (nodes.Event v) (c.loop-k.invariant.at.entered j v (omega (arith, below, other)) at)
         ];

@@ -2,7 +2,7 @@ use Rattle.std.proofs.Common.{◌∷◌, [], List, arith}
 use Rattle.problem_model.specs.declared.items.Bound.{Bound}
 use Rattle.problem_model.specs.declared.items.Bound.TheVariants.{Late, Early}
 use Rattle.problem_model.specs.declared.items.Node.TheVariants as nodes
-use Rattle.session_graph.specs.Links.{links_of}
+use Rattle.session_graph.specs.Links.{bounds_beside}
 use Rattle.session_graph.proofs.Bringing.{brings_then, has_still, links_few}
 use Rattle.session_graph.proofs.Extending.{few_then}
 use Rattle.session_graph.proofs.entries.push_entry.Goals as goal
@@ -26,7 +26,7 @@ push_stamp-requires-clause-room g c =
 pub returns-clause-brings : goal.returns-clause-brings
 returns-clause-brings g c =
     let own : List Bound = Late c.args.v ∷ Early c.args.v ∷ [] in
-    brings_then (links_of c.args.place c.args.stamp c.args.nearest.now) own c.args.solver.now c.push_links.new.solver c.push_stamp.new.solver c.in_ok-push_links.ensures.brings c.in_ok-push_stamp.ensures.brings
+    brings_then (bounds_beside c.args.place c.args.stamp c.args.nearest.now) own c.args.solver.now c.push_links.new.solver c.push_stamp.new.solver c.in_ok-push_links.ensures.brings c.in_ok-push_stamp.ensures.brings
 
 pub returns-clause-left : goal.returns-clause-left
 returns-clause-left g c = λ p entered event on is stamped clock follows beside left.

@@ -5,7 +5,7 @@ use Rattle.std.proofs.lemmas.List.Elements.{All-cons, All-nil}
 use Rattle.traces.specs.declared.event.Event.{Event}
 use Rattle.roster.specs.Readings.{stamps_of}
 use Rattle.session_graph.specs.declared.plans.Turn.{Turn}
-use Rattle.session_graph.specs.Plans.{numbers_of}
+use Rattle.session_graph.specs.Plans.{turn_numbers}
 use Rattle.session_graph.proofs.InARow.{drop_next}
 use Rattle.session_graph.proofs.Orders.{range_more, map_behind, drop_all}
 use Rattle.session_graph.proofs.plans.turns_from.Goals as goal
@@ -18,7 +18,7 @@ loop-k-preserved c =
     let P : ℕ → Type 0 = λ stamp. stamp < 2 ^ 62 in
     let event : Turn = record { stamp = c.stamp_of-stamp.result; event = first + k } in
     record {
-      numbers = ap (λ (l : List Turn). numbers_of l) c.in_ok-push.ensures.items ∙ map_behind (λ (t : Turn). t.event) c.loop-k.turns.items event
+      numbers = ap (λ (l : List Turn). turn_numbers l) c.in_ok-push.ensures.items ∙ map_behind (λ (t : Turn). t.event) c.loop-k.turns.items event
           ∙ ap (λ (l : List ℕ). l ++ (first + k) ∷ []) c.loop-k.invariant.numbers ∙ sym (range_more first k (first + k) refl) ∙ ap (λ (n : ℕ). range_with_len first n) (sym (add-one k));
       fits = λ rest. c.loop-k.invariant.fits
           (subst (All P) (sym (drop_next stamps k c.stamp_of-stamp.result c.stamp_of-stamp.ensures.is))

@@ -1,0 +1,15 @@
+use Rattle.std.proofs.Common.{rules, arith}
+use Rattle.std.specs.Prelude.{pos, ◌-ℤ◌}
+use Rattle.std.proofs.lemmas.Int.{ints, to_z-of_z}
+use mir.Syntax.{w128}
+use mir.Val.{SFits}
+use Rattle.problem_graph.proofs.MadeArcs.{follow_are}
+use Rattle.problem_graph.proofs.arcs.follow_arcs.Goals as goal
+
+pub returns : goal.returns
+returns c =
+    let f = c.args.f.now in
+    let fits : SFits w128 c.delay_units.result = search rules in
+    let fits_turned : SFits w128 (pos 0 -ℤ c.delay_units.result) = search rules in
+    simp to_z-of_z (follow_are f.earlier f.s c.args.later f.t f.gap c.args.first c.args.second (pos 0 -ℤ c.delay_units.result)
+    (omega (arith, ints, c.delay_units.ensures.exact)) c.delay_units.ensures.below)
