@@ -186,7 +186,7 @@ behind_first h a l n m none is = rw (none, is, append-nil (h ++ (a ++ l)), appen
 behind_second : (h a b l m : List ℕ) → m ≡ b ++ l → h ++ a ++ m ≡ (h ++ a ++ b) ++ l
 behind_second h a b l m is = rw is (sym (append_assoc (h ++ a) b l))
 
-behind_all : (h a b l m : List ℕ) → m ≡ b ++ l → h ++ (a ++ m) ≡ (h ++ (a ++ b)) ++ l
+pub behind_all : (h a b l m : List ℕ) → m ≡ b ++ l → h ++ (a ++ m) ≡ (h ++ (a ++ b)) ++ l
 behind_all h a b l m is = rw is (ap (λ (t : List ℕ). h ++ t) (sym (append_assoc a b l)) ∙ sym (append_assoc h (a ++ b) l))
 
 module _ (p : ProblemLists) (readings : List Reading) where

@@ -1,7 +1,6 @@
 -- A certificate's text has one answer.
-use Rattle.std.proofs.Common.{◌≡◌, ◌⊎◌, ◌<◌, inl, inr, ℕ, suc, List, [], ◌∷◌, ◌++◌, length, get_or, All, Option, Some, None, refl, sym, ◌∙◌, ap, subst, arith, ℤ, length-append}
-use Rattle.std.specs.Prelude.{AllPairs, IfSome}
-use Rattle.std.proofs.Math.ListN.{get_or-append}
+use Rattle.std.proofs.Common.{◌≡◌, ◌⊎◌, ◌<◌, inl, inr, ℕ, suc, List, [], ◌∷◌, ◌++◌, length, Option, Some, None, refl, sym, ◌∙◌, ap, subst, arith, ℤ, length-append}
+use Rattle.std.specs.Prelude.{IfSome}
 use Rattle.atto.specs.Number.{FitsUnits}
 use Rattle.line_format.specs.Words.{line_of}
 use Rattle.line_format.specs.Format.{Answers, Answer}
@@ -23,52 +22,21 @@ use Rattle.cert.specs.EndLists.{EndLists, Limited, Unlimited}
 use Rattle.cert.specs.CertificateFormat.CertLine.{CycleLine, RunLine, EndsLine, SideLine, StepLine, InsideLine, NodeLine}
 use Rattle.cert.specs.CertificateFormat.Said.{NoneSaid, CycleSaid, RunSaid, EventsSaid, UpperSaid, EndsSaid}
 use Rattle.cert.specs.TakesPart.{EndGrows, begun}
+use Rattle.cert.proofs.Lasts.{ended, all_init, all_last, pairs_init, pairs_last}
 use Rattle.cert.proofs.Places.{are_named, event_named, clock_named}
 use Rattle.cert.proofs.Executions as timed
 use Rattle.cert.proofs.CertLines.{cert_lacks, cert_line_one}
 use Rattle.cert.proofs.CertGrowing.{clock_one, event_one, names_one, clock_has, event_has, declared_named, step_spelled, path_grows, inside_grows, limited_grows, unlimited_grows, upper_grows, ends_grow, cycle_grows, run_grows, cycle_begins, run_begins, events_begin, upper_begins, lower_begins}
 
--- ---- a list is empty or has a last item
-record Last {A : Type 0} (xs : List A) : Type 0 where
-  front : List A
-  last : A
-  is : xs ≡ front ++ last ∷ []
-
-last_of : {A : Type 0} (x : A) (xs : List A) → Last (x ∷ xs)
-last_of x [] = record { front = []; last = x; is = refl }
-last_of x (y ∷ xs) = let r = last_of y xs in record { front = x ∷ r.front; last = r.last; is = ap (λ ys. x ∷ ys) r.is }
-
-ended : {A : Type 0} (xs : List A) → (xs ≡ []) ⊎ Last xs
-ended [] = inl refl
-ended (x ∷ xs) = inr (last_of x xs)
-
-last_at : {A : Type 0} (xs : List A) (y d : A) → get_or (xs ++ y ∷ []) (length xs) d ≡ y
-last_at [] y d = refl
-last_at (x ∷ xs) y d = last_at xs y d
-
-all_init : {A : Type 0} (P : A → Type 0) (xs : List A) (y : A) → All P (xs ++ y ∷ []) → All P xs
-all_init P xs y all = λ k d inside. subst P (get_or-append xs (y ∷ []) d k inside) (all k d (omega (arith, inside, length-append xs (y ∷ []))))
-
-all_last : {A : Type 0} (P : A → Type 0) (xs : List A) (y : A) → All P (xs ++ y ∷ []) → P y
-all_last P xs y all = subst P (last_at xs y y) (all (length xs) y (omega (arith, length-append xs (y ∷ []))))
-
-pairs_init : {A : Type 0} (R : A → A → Type 0) (xs : List A) (y : A) → AllPairs R (xs ++ y ∷ []) → AllPairs R xs
-pairs_init {A = A} R xs y all = λ i j d below inside.
-    subst (λ (b : A). R (get_or xs i d) b) (get_or-append xs (y ∷ []) d j inside) (subst (λ (a : A). R a (get_or (xs ++ y ∷ []) j d)) (get_or-append xs (y ∷ []) d i (omega (arith, below, inside))) (all i j d below (omega (arith, inside, length-append xs (y ∷ [])))))
-
-pairs_last : {A : Type 0} (R : A → A → Type 0) (xs : List A) (y : A) → AllPairs R (xs ++ y ∷ []) → (k : ℕ) (d : A) → k < length xs → R (get_or xs k d) y
-pairs_last {A = A} R xs y all k d inside =
-    subst (λ (b : A). R (get_or xs k d) b) (last_at xs y d) (subst (λ (a : A). R a (get_or (xs ++ y ∷ []) (length xs) d)) (get_or-append xs (y ∷ []) d k inside) (all k (length xs) d inside (omega (arith, length-append xs (y ∷ [])))))
-
 -- ---- what a line adds
-abbrev EndAdds : ProblemLists → EndLists → CertLine → EndLists → Type 0
+abbrev pub EndAdds : ProblemLists → EndLists → CertLine → EndLists → Type 0
 EndAdds p (Limited v path values) (StepLine n z) t = (b : Bound) × Names p n b × (t ≡ Limited v (path ++ record { bound = b; weight = z } ∷ []) values)
 EndAdds p (Limited v path values) (NodeLine l) t = (ws : List ℤ) × timed.Adds values l ws × (t ≡ Limited v path ws)
 EndAdds p (Unlimited inside values) (InsideLine c) t = (k : ℕ) × HasClock p k c × (t ≡ Unlimited (inside ++ k ∷ []) values)
 EndAdds p (Unlimited inside values) (NodeLine l) t = (ws : List ℤ) × timed.Adds values l ws × (t ≡ Unlimited inside ws)
 EndAdds p e line t = ⊥
 
-abbrev Adds : ProblemLists → List Reading → Said → CertLine → Said → Type 0
+abbrev pub Adds : ProblemLists → List Reading → Said → CertLine → Said → Type 0
 Adds p readings NoneSaid CycleLine t = t ≡ CycleSaid []
 Adds p readings NoneSaid RunLine t = t ≡ RunSaid []
 Adds p readings NoneSaid (EndsLine a b) t = (j : ℕ) × (k : ℕ) × HasEvent p j a × HasEvent p k b × (t ≡ EventsSaid j k)
@@ -101,7 +69,7 @@ module _ (p : ProblemLists) (readings : List Reading) (lawful : IsProblem p) whe
   upper_one : (a b : ℕ) (e : EndLists) (line : CertLine) (t u : Said) → ((f : EndLists) × EndAdds p e line f × (t ≡ UpperSaid a b f)) → ((f : EndLists) × EndAdds p e line f × (u ≡ UpperSaid a b f)) → t ≡ u
   upper_one a b e line t u x y = x.2 ∙ ap (UpperSaid a b) (end_one e line x.0 y.0 x.1 y.1) ∙ sym y.2
 
-  adds_one : (s : Said) (line : CertLine) (t u : Said) → Adds p readings s line t → Adds p readings s line u → t ≡ u
+  pub adds_one : (s : Said) (line : CertLine) (t u : Said) → Adds p readings s line t → Adds p readings s line u → t ≡ u
   adds_one NoneSaid CycleLine t u x y = x ∙ sym y
   adds_one NoneSaid RunLine t u x y = x ∙ sym y
   adds_one NoneSaid (EndsLine a b) t u x y =
@@ -173,7 +141,7 @@ module _ (p : ProblemLists) (readings : List Reading) (lawful : IsProblem p) (ar
   abbrev EndLast : EndLists → Type 0
   EndLast t = ((v : Option ℤ) × (t ≡ begun v) × IfSome v FitsUnits) ⊎ ((e : EndLists) × (line : CertLine) × Before e line t)
 
-  abbrev Value : List ℤ → ExecutionLine → List ℤ → Type 0
+  abbrev pub Value : List ℤ → ExecutionLine → List ℤ → Type 0
   Value vs l ws = IsStep (executions.execution_format p readings) timed.Adds vs l ws
 
   limited_before : (v : ℤ) (path : List Step) (vs ws : List ℤ) (l : ExecutionLine) → IsSoundEnd p readings (Limited v path vs) → Value vs l ws → Before (Limited v path vs) (NodeLine l) (Limited v path ws)
@@ -283,7 +251,7 @@ module _ (p : ProblemLists) (readings : List Reading) (lawful : IsProblem p) (ar
         },
       )
 
-  value_last : (z : ℤ) (zs : List ℤ) → AreValues nodes (z ∷ zs) → (front : List ℤ) × (l : ExecutionLine) × Value front l (z ∷ zs)
+  pub value_last : (z : ℤ) (zs : List ℤ) → AreValues nodes (z ∷ zs) → (front : List ℤ) × (l : ExecutionLine) × Value front l (z ∷ zs)
   value_last z zs all = let r = timed.last_line p readings (are_named p readings lawful are) (z ∷ zs) (length zs) all refl in (r.0, r.1, r.3)
 
   end_last : (t : EndLists) → IsSoundEnd p readings t → EndLast t
@@ -308,31 +276,25 @@ module _ (p : ProblemLists) (readings : List Reading) (lawful : IsProblem p) (ar
         | inl none ↦ inl (None, ap (λ (ks : List ℕ). Unlimited ks []) none, tt)
       ]
 
-  abbrev OneLine : Said → CertLine → Said → Type 0
+  abbrev pub OneLine : Said → CertLine → Said → Type 0
   OneLine s line t = IsStep (certificate_format p readings) (Adds p readings) s line t
 
   abbrev LastLine : Said → Type 0
   LastLine t = (s : Said) × (line : CertLine) × OneLine s line t
 
-  no_steps : AreSteps p []
-  no_steps = record { declared = λ k d inside. absurd (omega (arith, inside)); weights = λ k d inside. absurd (omega (arith, inside)); few = omega arith }
-
-  cycle_last : (steps : List Step) → AreSteps p steps → LastLine (CycleSaid steps)
-  cycle_last steps all =
+  -- a list of steps is empty, or a step of a cycle more
+  pub step_last : (steps : List Step) → AreSteps p steps → (steps ≡ []) ⊎ ((front : List Step) × (line : CertLine) × OneLine (CycleSaid front) line (CycleSaid steps))
+  step_last steps all =
       elim (ended steps) [
-        | inl none ↦ subst (λ (xs : List Step). LastLine (CycleSaid xs)) (sym none) (
-          NoneSaid,
-          CycleLine,
-          record { sound = tt; may = tt; spelled = tt; names = tt; numbers = tt; room = tt; adds = refl; grows = cycle_begins p readings },
-        )
+        | inl none ↦ inl none
         | inr s ↦
             let whole = subst (AreSteps p) s.is all in
             let declared = all_last (IsStepOf p) s.front s.last whole.declared in
             let named = declared_named p lawful s.last.bound declared in
-            subst (λ (xs : List Step). LastLine (CycleSaid xs)) (sym s.is) (
-              CycleSaid s.front,
+            inr (
+              s.front,
               StepLine named.0 s.last.weight,
-              record {
+              subst (λ (xs : List Step). OneLine (CycleSaid s.front) (StepLine named.0 s.last.weight) (CycleSaid xs)) (sym s.is) (record {
                 sound = steps_init s.front s.last whole;
                 may = tt;
                 spelled = named.2;
@@ -341,8 +303,19 @@ module _ (p : ProblemLists) (readings : List Reading) (lawful : IsProblem p) (ar
                 room = omega (arith, whole.few, length-append s.front (s.last ∷ []));
                 adds = (s.last.bound, named.1, refl);
                 grows = cycle_grows p readings s.front s.last _ (step_spelled p named.0 s.last.bound s.last.weight named.1);
-              },
+              }),
             )
+      ]
+
+  cycle_last : (steps : List Step) → AreSteps p steps → LastLine (CycleSaid steps)
+  cycle_last steps all =
+      elim (step_last steps all) [
+        | inl none ↦ subst (λ (xs : List Step). LastLine (CycleSaid xs)) (sym none) (
+          NoneSaid,
+          CycleLine,
+          record { sound = tt; may = tt; spelled = tt; names = tt; numbers = tt; room = tt; adds = refl; grows = cycle_begins p readings },
+        )
+        | inr (front, line, step) ↦ (CycleSaid front, line, step)
       ]
 
   run_last : (vs : List ℤ) → AreValues nodes vs → LastLine (RunSaid vs)

@@ -26,16 +26,16 @@ use Rattle.cert.specs.ExecutionFormat.ExecutionLine.{EndLine}
 use Rattle.cert.specs.Listed.{certified}
 use Rattle.cert.specs.CertificateText.{end_lines, certificate_lines, certificate_text, HasOneEach, IsEndOf, IsCertOf}
 use Rattle.cert.specs.CertificateFormat.{Said, MayStand, IsSound, IsSoundEnd, IsWhole, side_word, unlimited_word, side_lines, said_lines, said, certificate_format}
-use Rattle.cert.specs.EndLists.{lists_of}
+use Rattle.cert.specs.EndLists.{end_lists}
 use Rattle.cert.specs.CertificateFormat.CertLine.{NodeLine}
 use Rattle.cert.specs.ReadsExecution.{error_at}
-use Rattle.cert.specs.ReadsCert.{FitsEnd, FitsCert, IsCertTextOf, ReadsCertOver}
+use Rattle.cert.specs.ReadsCert.{FitsEndProof, FitsCert, IsCertTextOf, ReadsCertOver}
 use Rattle.cert.proofs.CertLines.{cert_lacks}
 use Rattle.cert.proofs.CertReadable.{certificate_one}
 
 module _ (p : ProblemLists) (readings : List Reading) where
   -- ---- the text of what is said is that of the certificate
-  end_is : (side : Side) (e : EndProof) → side_lines p readings side (lists_of e) ≡ end_lines p (nodes_of p readings) (side_word side) (unlimited_word side) e
+  end_is : (side : Side) (e : EndProof) → side_lines p readings side (end_lists e) ≡ end_lines p (nodes_of p readings) (side_word side) (unlimited_word side) e
   end_is side (At value path execution) = refl
   end_is side (Unbounded inside execution) = refl
 
@@ -49,13 +49,13 @@ module _ (p : ProblemLists) (readings : List Reading) where
 
   -- ---- what is said is lawful where the certificate is
   module _ (are : AreReadings p readings) where
-    whole_from : (values : List ℤ) → HasOneEach p values → length values ≡ length (nodes_of p readings)
+    pub whole_from : (values : List ℤ) → HasOneEach p values → length values ≡ length (nodes_of p readings)
     whole_from values (rs, are', same) = same ∙ ap (λ (r : List Reading). length (nodes_of p r)) (readings_one p rs readings are' are)
 
-    values_from : (values : List ℤ) → HasOneEach p values → All FitsUnits values → AreValues (length (nodes_of p readings)) values
+    pub values_from : (values : List ℤ) → HasOneEach p values → All FitsUnits values → AreValues (length (nodes_of p readings)) values
     values_from values each fit = record { fit = fit; few = let same = whole_from values each in omega (arith, same) }
 
-    end_from : (e : EndProof) → IsEndOf p e → FitsEnd e → IsSoundEnd p readings (lists_of e) × IsWhole p readings (lists_of e)
+    end_from : (e : EndProof) → IsEndOf p e → FitsEndProof e → IsSoundEnd p readings (end_lists e) × IsWhole p readings (end_lists e)
     end_from (At value path execution) lawful fits =
         ((fits.0, record { declared = lawful.0; weights = fits.1.0; few = fits.1.1 }, values_from execution lawful.1 fits.2), whole_from execution lawful.1)
     end_from (Unbounded inside execution) lawful fits =
@@ -73,7 +73,7 @@ module _ (p : ProblemLists) (readings : List Reading) where
         let l = end_from (Unbounded inside execution) lawful.3 fits.1 in
         (((lawful.0, lawful.1), (u.0, u.1), l.0), l.1)
 
-    end_back : (e : EndProof) → IsSoundEnd p readings (lists_of e) → IsWhole p readings (lists_of e) → IsEndOf p e × FitsEnd e
+    end_back : (e : EndProof) → IsSoundEnd p readings (end_lists e) → IsWhole p readings (end_lists e) → IsEndOf p e × FitsEndProof e
     end_back (At value path execution) sound whole =
         ((sound.1.declared, (readings, are, whole)), (sound.0, (sound.1.weights, sound.1.few), sound.2.fit))
     end_back (Unbounded inside execution) sound whole = ((sound.0.known, sound.0.rising, (readings, are, whole)), sound.1.fit)

@@ -27,7 +27,7 @@ use Rattle.cert.specs.declared.kinds.Side.TheVariants.{Upper, Lower}
 use Rattle.cert.specs.ExecutionFormat.{ExecutionLine, execution_format, AreValues}
 use Rattle.cert.specs.ExecutionFormat.ExecutionLine.{EventLine, ReadingLine, EndLine}
 use Rattle.cert.specs.CertificateFormat.{CertLine, NamedBound, Said, cert_words, side_word, limit_word, IsBoundSpelled, MayStand, MayStandIn, AreEvents, IsSound, IsSoundEnd, IsWhole, certificate_format}
-use Rattle.cert.specs.EndLists.{EndLists, lists_of, Limited, Unlimited}
+use Rattle.cert.specs.EndLists.{EndLists, end_lists, Limited, Unlimited}
 use Rattle.cert.specs.CertificateFormat.CertLine.{CycleLine, RunLine, EndsLine, SideLine, StepLine, InsideLine, NodeLine}
 use Rattle.cert.specs.CertificateFormat.Said.{NoneSaid, CycleSaid, RunSaid, EventsSaid, UpperSaid, EndsSaid}
 use Rattle.cert.specs.SaidStep.{EndsParts, SaysEnds, NoEnds}
@@ -36,6 +36,7 @@ use Rattle.cert.proofs.CertLines.{side_lacks}
 use Rattle.cert.proofs.CertGrowing.{step_spelled, event_inside, cycle_grows, run_begins, events_begin, upper_begins, lower_begins}
 use Rattle.cert.proofs.Lacking.{event_name_lacks}
 use Rattle.cert.proofs.Places.{length-nodes_of}
+use Rattle.cert.proofs.PartTaking.{no_steps}
 use Rattle.cert.proofs.StepForms.{same_parts}
 
 -- ---- the events
@@ -90,6 +91,11 @@ module _ {State Line : Type 0} (f : Format State Line) where
   line_fault s body line kinds.Range may spelled is r = (line, may, spelled, is, r)
   line_fault s body line kinds.Limit may spelled is r = (line, may, spelled, is, r)
 
+  -- a fault is told whatever follows
+  pub fault_keeps : (s t u : State) (body : List ℕ) (e : LineError) → Takes f s body (Err e) t → Takes f s body (Err e) u
+  fault_keeps s t u body errors.Memory takes = tt
+  fault_keeps s t u body (errors.Fault kind) takes = takes
+
 module _ (p : ProblemLists) (readings : List Reading) where
   abbrev format : Format Said CertLine
   format = certificate_format p readings
@@ -99,7 +105,7 @@ module _ (p : ProblemLists) (readings : List Reading) where
   step_in_cycle old new n z body is (b, named, declared, fits, room, grown) =
       rw grown (cycle_grows p readings old (record { bound = b; weight = z }) (body ++ 10 ∷ []) (ap (λ (t : List ℕ). t ++ 10 ∷ []) is ∙ step_spelled p n b z named))
 
-  pub step_fault_in_cycle : (old new : List Step) (n : NamedBound) (z : ℤ) (body : List ℕ) (e : LineError) → IsBoundSpelled n → body ≡ words (cert_words (StepLine n z)) → TakesStep p old n z (Err e) new → Takes format (CycleSaid old) body (Err e) (CycleSaid old)
+  pub step_fault_in_cycle : (old new : List Step) (n : NamedBound) (z : ℤ) (body : List ℕ) (e : LineError) → IsBoundSpelled n → body ≡ words (cert_words (StepLine n z)) → TakesStep p old n z (Err e) new → Takes format (CycleSaid old) body (Err e) (CycleSaid new)
   step_fault_in_cycle old new n z body errors.Memory spelled is takes = tt
   step_fault_in_cycle old new n z body (errors.Fault kind) spelled is takes = line_fault format (CycleSaid old) body (StepLine n z) kind tt spelled is takes
 
@@ -120,7 +126,7 @@ module _ (p : ProblemLists) (readings : List Reading) where
   run_fault vs ws body (errors.Fault kinds.Range) (l, may, spelled, is, r) = (NodeLine l, may, spelled, is, r)
   run_fault vs ws body (errors.Fault kinds.Limit) (l, may, spelled, is, r) = absurd (r.2 tt)
 
-  none_fit : (n : ℕ) → AreValues n []
+  pub none_fit : (n : ℕ) → AreValues n []
   none_fit n = record { fit = λ k d inside. absurd (omega (arith, inside)); few = omega arith }
 
   pub run_taken : (vs : List ℤ) (body : List ℕ) → vs ≡ [] → body ≡ codes "run" → Takes format NoneSaid body (Ok taken.Line) (RunSaid vs) × IsSound p readings (RunSaid vs)
@@ -142,13 +148,13 @@ module _ (p : ProblemLists) (readings : List Reading) where
     where
       sound : (v : Option ℤ) → IfSome v FitsUnits → IsSoundEnd p readings (begun v)
       sound None fits = (record { known = λ k d inside. absurd (omega (arith, inside)); rising = λ i j d below inside. absurd (omega (arith, inside)) }, none_fit _)
-      sound (Some z) fits = (fits, record { declared = λ k d inside. absurd (omega (arith, inside)); weights = λ k d inside. absurd (omega (arith, inside)); few = omega arith }, none_fit _)
+      sound (Some z) fits = (fits, no_steps p, none_fit _)
 
-  pub upper_taken : (a b : ℕ) (e : EndProof) (body : List ℕ) → AreEvents p a b → BeginsEnd Upper body (Ok e) → Takes format (EventsSaid a b) body (Ok taken.Line) (UpperSaid a b (lists_of e)) × IsSound p readings (UpperSaid a b (lists_of e))
+  pub upper_taken : (a b : ℕ) (e : EndProof) (body : List ℕ) → AreEvents p a b → BeginsEnd Upper body (Ok e) → Takes format (EventsSaid a b) body (Ok taken.Line) (UpperSaid a b (end_lists e)) × IsSound p readings (UpperSaid a b (end_lists e))
   upper_taken a b e body known (v, is, fits, begins) = (
-    subst (λ (t : List ℕ). Grows format (EventsSaid a b) (UpperSaid a b (lists_of e)) (t ++ 10 ∷ [])) (sym is)
+    subst (λ (t : List ℕ). Grows format (EventsSaid a b) (UpperSaid a b (end_lists e)) (t ++ 10 ∷ [])) (sym is)
         (subst (λ (x : EndLists). Grows format (EventsSaid a b) (UpperSaid a b x) (line_of (cert_words (SideLine Upper v)))) (sym begins) (upper_begins p readings a b v)),
-    (known, begun_sound (lists_of e) v begins fits),
+    (known, begun_sound (end_lists e) v begins fits),
   )
 
   upper_syntax : (a b : ℕ) (body : List ℕ) → ((v : Option ℤ) → body ≡ words (cert_words (SideLine Upper v)) → ⊥) → FaultIn format (EventsSaid a b) body kinds.Syntax
@@ -169,18 +175,18 @@ module _ (p : ProblemLists) (readings : List Reading) where
   upper_not a b body (errors.Fault kinds.Limit) begins = absurd begins
 
   pub lower_taken : (a b : ℕ) (u : EndLists) (e : EndProof) (body : List ℕ) → IsSound p readings (UpperSaid a b u) → IsWhole p readings u → BeginsEnd Lower body (Ok e) →
-      Takes format (UpperSaid a b u) body (Ok taken.Line) (EndsSaid a b u (lists_of e)) × IsSound p readings (EndsSaid a b u (lists_of e))
+      Takes format (UpperSaid a b u) body (Ok taken.Line) (EndsSaid a b u (end_lists e)) × IsSound p readings (EndsSaid a b u (end_lists e))
   lower_taken a b u e body sound whole (v, is, fits, begins) = (
-    subst (λ (t : List ℕ). Grows format (UpperSaid a b u) (EndsSaid a b u (lists_of e)) (t ++ 10 ∷ [])) (sym is)
+    subst (λ (t : List ℕ). Grows format (UpperSaid a b u) (EndsSaid a b u (end_lists e)) (t ++ 10 ∷ [])) (sym is)
         (subst (λ (x : EndLists). Grows format (UpperSaid a b u) (EndsSaid a b u x) (line_of (cert_words (SideLine Lower v)))) (sym begins) (lower_begins p readings a b u v)),
-    (sound.0, (sound.1, whole), begun_sound (lists_of e) v begins fits),
+    (sound.0, (sound.1, whole), begun_sound (end_lists e) v begins fits),
   )
 
   -- where each node has its real time, no line of the part may follow
   no_step : (a b : ℕ) (vs : List ℤ) → AreEvents p a b → length vs ≡ length (nodes_of p readings) → vs ≡ [] → ⊥
   no_step a b vs known whole none = let count = length-nodes_of p readings in let empty = ap length none in omega (arith, count, empty, whole, known.0)
 
-  no_value : (vs : List ℤ) (l : ExecutionLine) → length vs ≡ length (nodes_of p readings) → MayStand p readings (RunSaid vs) (NodeLine l) → (l ≡ EndLine → ⊥) → ⊥
+  pub no_value : (vs : List ℤ) (l : ExecutionLine) → length vs ≡ length (nodes_of p readings) → MayStand p readings (RunSaid vs) (NodeLine l) → (l ≡ EndLine → ⊥) → ⊥
   no_value vs (EventLine name z) whole may other = let within = slice_get_within (nodes_of p readings) (length vs) (nodes.Event may.0) may.1 in omega (arith, within, whole)
   no_value vs (ReadingLine clock m z) whole may other = let within = slice_get_within (nodes_of p readings) (length vs) (nodes.Reading may.0 may.1) may.2 in omega (arith, within, whole)
   no_value vs EndLine whole may other = other refl

@@ -5,8 +5,6 @@ use Rattle.std.specs.List.{flat_map, zip}
 use Rattle.std.proofs.lemmas.List.{length-map}
 use Rattle.std.proofs.lemmas.Int.{to_z-of_z, fits_signed_from_abs}
 use mir.Syntax.{w128}
-use Rattle.atto.specs.NsText.{ns_text}
-use Rattle.line_format.specs.Words.{line_of}
 use Rattle.ports.specs.declared.failed.Failed.{Failed}
 use Rattle.ports.specs.Content.{SinkTold, Writes}
 use Rattle.ports.proofs.Writing.{writes_as, Leaves, leaves_as, leaves_less, leaves_cut, leaves_none}
@@ -16,11 +14,15 @@ use Rattle.problem_model.specs.ExecutionText.{node_words, value_lines}
 use Rattle.problem.specs.Listing.{listing_of, all_readings}
 use Rattle.problem.proofs.AllReadings.{readings_are}
 use Rattle.cert.specs.declared.chain.Step.{Step}
-use Rattle.cert.specs.Listed.{IsNamed, listed_step, listed_words, words_at, timed_line}
+use Rattle.cert.specs.Listed.{HasNames, listed_step, listed_words, words_at, timed_line}
 use Rattle.cert.specs.CertificateText.{step_line, IsStepOf, HasOneEach}
 use Rattle.cert.proofs.OwnListing.{is_named, step_is, words_are, lines_are}
 use Rattle.cert.proofs.Lines.{index_found}
 use Rattle.cert.proofs.Pieces.{lines_more, lines_none}
+
+-- the readings that lines are written and read by
+pub own_readings : (p : ProblemLists) (readings : List Reading) → AreReadings p readings → AreReadings p (all_readings p.events)
+own_readings p readings are = subst (AreReadings p) (readings_are p readings are) are
 
 -- ---- lines of a list
 pub line_written : {X A E : Type 0} {a : A} {old now mid : SinkTold} {all : List ℕ} (line : X → List ℕ) (xs : List X) (k : ℕ) (x : X) → slice_get xs k ≡ Some x
@@ -44,7 +46,7 @@ pub step_text : (p : ProblemLists) (s : Step) (weight : ℤ) → weight ≡ s.we
     → listed_step (listing_of p) (s.bound, to_z w128 (of_z w128 weight)) ≡ step_line p s
 step_text p s weight same small = ap (λ (w : ℤ). listed_step (listing_of p) (s.bound, w)) (units_back weight s.weight same small) ∙ step_is p s
 
-pub step_named : (p : ProblemLists) (steps : List Step) (k : ℕ) (s : Step) → IsProblem p → All (IsStepOf p) steps → k < length steps → s ≡ get_or steps k s → IsNamed (listing_of p) s.bound
+pub step_named : (p : ProblemLists) (steps : List Step) (k : ℕ) (s : Step) → IsProblem p → All (IsStepOf p) steps → k < length steps → s ≡ get_or steps k s → HasNames (listing_of p) s.bound
 step_named p steps k s lawful all inside is =
     let of_p : IsStepOf p s = subst (IsStepOf p) (sym is) (all k s inside) in
     is_named p s.bound of_p.0 of_p.1 lawful
@@ -109,8 +111,3 @@ module _ (p : ProblemLists) (values : List ℤ) (lawful : HasOneEach p values) {
   pub values_written : length values ≤ k → Leaves old now (flat_map timed_line (drop k (timed p values))) all → Writes {A = Unit {0}} {E = Failed} all old now (Ok tt)
   values_written past leaves =
       lines_written timed_line (timed p values) k (let short = zip_length (listed_words (listing_of p)) values in omega (arith, short, past)) leaves
-
--- ---- the line of a limit
-pub limit_text : (part line : List ℕ) (v z : ℤ) → line ≡ line_of (part ∷ ns_text (to_z w128 (of_z w128 v)) ∷ []) → v ≡ z → unsigned_abs z ≤ 2 ^ 120
-    → line ≡ line_of (part ∷ ns_text z ∷ [])
-limit_text part line v z is same small = is ∙ ap (λ (w : ℤ). line_of (part ∷ ns_text w ∷ [])) (units_back v z same small)

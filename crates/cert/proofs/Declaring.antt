@@ -12,14 +12,14 @@ use Rattle.problem_model.specs.Problem.{ProblemLists, IsProblem}
 use Rattle.problem_model.specs.Bounds.{IsReading, ComesAfter}
 use Rattle.problem_model.specs.Nodes.{Reading, AreReadings}
 use Rattle.problem_model.proofs.Following.{by_last}
-use Rattle.problem.specs.Line.{HasClock, HasEvent, HasMessage}
+use Rattle.problem.specs.Line.{HasClock, HasEvent, HasMessageAt}
 use Rattle.cert.specs.declared.kinds.Extreme.{Extreme}
 use Rattle.cert.specs.declared.kinds.Extreme.TheVariants.{Most, Least}
 use Rattle.cert.specs.declared.kinds.StampBound.{StampBound}
 use Rattle.cert.specs.declared.kinds.StampBound.TheVariants.{Late, Early}
 use Rattle.cert.specs.CertificateFormat.{Names, IsDeclared, span_bound, stamp_bound, delay_bound}
 use Rattle.cert.specs.CertificateFormat.NamedBound.{Span, Stamp, Follow, Delay}
-use Rattle.cert.specs.TakesPart.{HasBound}
+use Rattle.cert.specs.TakesPart.{HasDelayBound}
 use Rattle.cert.proofs.Certificates.{there_is}
 use Rattle.cert.proofs.CertGrowing.{clock_one, event_one, event_inside}
 use Rattle.cert.proofs.Places.{same_default}
@@ -129,7 +129,7 @@ module _ (p : ProblemLists) (lawful : IsProblem p) where
   pair_at (m ∷ ms) zero s r d at = let e = some_pair m.send m.receive s r at in (omega arith, e.0, e.1)
   pair_at (m ∷ ms) (suc k) s r d at = let e = pair_at ms k s r d at in (omega (arith, e.0), e.1, e.2)
 
-  pub message_at : (k s r : ℕ) (d : Message) → HasMessage p k s r → (k < length p.messages) × ((get_or p.messages k d).send ≡ s) × ((get_or p.messages k d).receive ≡ r)
+  pub message_at : (k s r : ℕ) (d : Message) → HasMessageAt p k s r → (k < length p.messages) × ((get_or p.messages k d).send ≡ s) × ((get_or p.messages k d).receive ≡ r)
   message_at k s r d at = pair_at p.messages k s r d at
 
   at_pair : (ms : List Message) (k : ℕ) (m : Message) → k < length ms → get_or ms k m ≡ m → slice_get {X = ℕ × ℕ} (map pair_of ms) k ≡ Some (m.send, m.receive)
@@ -137,7 +137,7 @@ module _ (p : ProblemLists) (lawful : IsProblem p) where
   at_pair (x ∷ ms) zero m inside is = ap (λ (y : Message). Some (y.send, y.receive)) is
   at_pair (x ∷ ms) (suc k) m inside is = at_pair ms k m (omega (arith, inside)) is
 
-  pub message_has : (m : Message) (s r : ℕ) → Contains p.messages m → m.send ≡ s → m.receive ≡ r → (k : ℕ) × HasMessage p k s r
+  pub message_has : (m : Message) (s r : ℕ) → Contains p.messages m → m.send ≡ s → m.receive ≡ r → (k : ℕ) × HasMessageAt p k s r
   message_has m s r has send receive = (has.0, rw (← send, ← receive) (at_pair p.messages has.0 m has.1 has.2))
 
   -- messages of one pair of events stand at one place
@@ -151,7 +151,7 @@ module _ (p : ProblemLists) (lawful : IsProblem p) where
         ]
       ]
 
-  pub message_same : (k s r : ℕ) (m n : Message) → HasMessage p k s r → m ≡ get_or p.messages k m → Contains p.messages n → n.send ≡ s → n.receive ≡ r → m ≡ n
+  pub message_same : (k s r : ℕ) (m n : Message) → HasMessageAt p k s r → m ≡ get_or p.messages k m → Contains p.messages n → n.send ≡ s → n.receive ≡ r → m ≡ n
   message_same k s r m n at is has send receive =
       let a = message_at k s r n at in
       let there = has.2 in
@@ -161,10 +161,10 @@ module _ (p : ProblemLists) (lawful : IsProblem p) where
   message_none : Message
   message_none = record { send = 0; receive = 0; least = 0; most = None }
 
-  pub message_inside : (k s r : ℕ) → HasMessage p k s r → k < length p.messages
+  pub message_inside : (k s r : ℕ) → HasMessageAt p k s r → k < length p.messages
   message_inside k s r at = (message_at k s r message_none at).0
 
-  pub delay_declared : (e : Extreme) (k s r : ℕ) (m : Message) → HasMessage p k s r → m ≡ get_or p.messages k m → HasBound e m → IsDeclared p (delay_bound e s r)
+  pub delay_declared : (e : Extreme) (k s r : ℕ) (m : Message) → HasMessageAt p k s r → m ≡ get_or p.messages k m → HasDelayBound e m → IsDeclared p (delay_bound e s r)
   delay_declared Most k s r m at is most =
       let a = message_at k s r m at in
       (_, (m, most.0, (k, a.0, sym is), ap (λ (x : Message). x.send) is ∙ a.1, ap (λ (x : Message). x.receive) is ∙ a.2, most.1, refl))
@@ -172,11 +172,11 @@ module _ (p : ProblemLists) (lawful : IsProblem p) where
       let a = message_at k s r m at in
       (_, (m, (k, a.0, sym is), ap (λ (x : Message). x.send) is ∙ a.1, ap (λ (x : Message). x.receive) is ∙ a.2, refl))
 
-  pub delay_place : (e : Extreme) (s r : ℕ) → IsDeclared p (delay_bound e s r) → (k : ℕ) × HasMessage p k s r
+  pub delay_place : (e : Extreme) (s r : ℕ) → IsDeclared p (delay_bound e s r) → (k : ℕ) × HasMessageAt p k s r
   delay_place Most s r (c, d) = message_has d.0 s r d.2 d.3 d.4
   delay_place Least s r (c, d) = message_has d.0 s r d.1 d.2 d.3
 
-  pub delay_has : (e : Extreme) (k s r : ℕ) (m : Message) → HasMessage p k s r → m ≡ get_or p.messages k m → IsDeclared p (delay_bound e s r) → HasBound e m
+  pub delay_has : (e : Extreme) (k s r : ℕ) (m : Message) → HasMessageAt p k s r → m ≡ get_or p.messages k m → IsDeclared p (delay_bound e s r) → HasDelayBound e m
   delay_has Most k s r m at is (c, d) =
       let same = message_same k s r m d.0 at is d.2 d.3 d.4 in
       (d.1, ap (λ (x : Message). x.most) same ∙ d.5)

@@ -11,7 +11,7 @@ use Rattle.line_format.proofs.Lacking.{lacks_test, words_lack}
 use Rattle.problem_model.specs.Name.{IsEventName, IsClockName}
 use Rattle.cert.specs.ExecutionFormat.{ExecutionLine, line_words, IsSpelled}
 use Rattle.cert.specs.ExecutionFormat.ExecutionLine.{EventLine, ReadingLine, EndLine}
-use Rattle.cert.specs.Said.{EventParts, SaysEvent, NoEvent, event_body, ReadingParts, SaysReading, NoReading, reading_body}
+use Rattle.cert.specs.Said.{EventValueParts, SaysEvent, NoEventValue, event_value_body, ReadingParts, SaysReading, NoReading, reading_body}
 use Rattle.cert.specs.declared.words.EventWords.{EventWords}
 use Rattle.cert.specs.declared.words.ReadingWords.{ReadingWords}
 use Rattle.cert.proofs.Lacking.{clock_name_lacks, event_name_lacks, decimal_lacks, ns_lacks}
@@ -31,20 +31,20 @@ none_anyway None h = h
 none_anyway (Some x) h = tt
 
 -- ---- events
-pub event_fields : (body name : List ℕ) (z : ℤ) → IsEventName name → body ≡ event_body name z → fields 2 body ≡ Some (codes "event" ∷ name ∷ ns_text z ∷ [])
+pub event_fields : (body name : List ℕ) (z : ℤ) → IsEventName name → body ≡ event_value_body name z → fields 2 body ≡ Some (codes "event" ∷ name ∷ ns_text z ∷ [])
 event_fields body name z named is =
     rw is (fields_again 2 (codes "event" ∷ name ∷ ns_text z ∷ []) refl (lacks_test 32 (codes "event") refl, (event_name_lacks 32 name (omega arith) named, tt)))
 
-pub event_not_three : (body : List ℕ) → fields 2 body ≡ None → NoEvent body
+pub event_not_three : (body : List ℕ) → fields 2 body ≡ None → NoEventValue body
 event_not_three body none name z named is = let f = event_fields body name z named is in cc
 
-pub event_not_parts : (body a b c : List ℕ) → fields 2 body ≡ Some (a ∷ b ∷ c ∷ []) → ((z : ℤ) → a ≡ codes "event" → IsEventName b → c ≡ ns_text z → ⊥) → NoEvent body
+pub event_not_parts : (body a b c : List ℕ) → fields 2 body ≡ Some (a ∷ b ∷ c ∷ []) → ((z : ℤ) → a ≡ codes "event" → IsEventName b → c ≡ ns_text z → ⊥) → NoEventValue body
 event_not_parts body a b c three none name z named is =
     let f = event_fields body name z named is in
     let b-is : name ≡ b = cc in
     none z (cc) (rw b-is at named) (cc)
 
-pub event_says : (body a b c : List ℕ) (w : EventWords) → fields 2 body ≡ Some (a ∷ b ∷ c ∷ []) → EventParts a b c w → SaysEvent body w
+pub event_says : (body a b c : List ℕ) (w : EventWords) → fields 2 body ≡ Some (a ∷ b ∷ c ∷ []) → EventValueParts a b c w → SaysEvent body w
 event_says body a b c w three parts = record {
   z = parts.value_is.z;
   named = parts.named;
@@ -95,7 +95,7 @@ word_at n ws = get_or ws n []
 pub one_line : (a b : ExecutionLine) → IsSpelled a → IsSpelled b → words (line_words a) ≡ words (line_words b) → a ≡ b
 unfolding word_at
 one_line (EventLine a y) (EventLine b z) named named' is =
-    let f = some_list _ _ (sym (event_fields (event_body a y) a y named refl) ∙ event_fields (event_body a y) b z named' is) in
+    let f = some_list _ _ (sym (event_fields (event_value_body a y) a y named refl) ∙ event_fields (event_value_body a y) b z named' is) in
     rw (ap (word_at 1) f, ns_text_injective y z (ap (word_at 2) f)) refl
 one_line (ReadingLine a m y) (ReadingLine b n z) named named' is =
     let f = some_list _ _ (sym (reading_fields (reading_body a m y) a m y named refl) ∙ reading_fields (reading_body a m y) b n z named' is) in

@@ -7,6 +7,8 @@ pub mod Executions
 pub mod Reading
 pub mod Pieces
 pub mod Lines
+pub mod FirstLines
+pub mod Lasts
 pub mod OwnListing
 pub mod CertLines
 pub mod CertGrowing
@@ -14,7 +16,7 @@ pub mod StepForms
 pub mod CertReadable
 pub mod ReadAgain
 pub mod TextLengths
-mod Certificates
+pub mod Certificates
 pub mod Declaring
 pub mod PartTaking
 pub mod CertTaking

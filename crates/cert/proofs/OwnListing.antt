@@ -27,7 +27,7 @@ use Rattle.problem.proofs.ListedNodes.{counted, numbers_are}
 pub use Rattle.problem.proofs.ListedNodes.{length-numbers, numbers_below}
 use Rattle.cert.specs.declared.chain.Step.{Step}
 use Rattle.cert.specs.declared.certificate.Cert.TheVariants.{Cycle, Run}
-use Rattle.cert.specs.Listed.{IsNamed, value_at, name_at, certified, timed_line, listed_bound, listed_step, listed_event, listed_reading, listed_words, listed_nodes, listed_values, listed_cycle, listed_run}
+use Rattle.cert.specs.Listed.{HasNames, listed_time, name_at, certified, timed_line, listed_bound, listed_step, listed_event, listed_reading, listed_words, listed_nodes, listed_values, listed_cycle, listed_run}
 use Rattle.cert.specs.CertificateText.{step_line, certificate_text}
 
 -- ---- names
@@ -49,7 +49,7 @@ ends_in p m send receive lawful has s r =
     let receives : m.receive < length p.events = subst (λ (x : Message). x.receive < length p.events) has.2 (lawful.formed.receives has.0 m has.1) in
     (event_in p send (omega (arith, sends, s)), event_in p receive (omega (arith, receives, r)))
 
-pub is_named : (p : ProblemLists) (b : Bound) (c : Constraint) → Declares p b c → IsProblem p → IsNamed (listing_of p) b
+pub is_named : (p : ProblemLists) (b : Bound) (c : Constraint) → Declares p b c → IsProblem p → HasNames (listing_of p) b
 is_named p (SpanMost clock s t) c d lawful = clock_in p clock d.0 d.1
 is_named p (SpanLeast clock s t) c d lawful = clock_in p clock d.0 d.1
 is_named p (Late e) c d lawful = event_in p e (slice_get_within p.events e d.0 d.2)
@@ -91,20 +91,20 @@ next_values : (f : ℕ → ℤ) (k n : ℕ) → map f (counted (k + 1) n) ≡ ma
 next_values f k zero = refl
 next_values f k (suc n) = ap (λ (xs : List ℤ). f (k + 1) ∷ xs) (next_values f (k + 1) n)
 
-values_behind : (x : ℤ) (xs : List ℤ) (ns : List ℕ) → map (λ i. value_at (x ∷ xs) (i + 1)) ns ≡ map (value_at xs) ns
+values_behind : (x : ℤ) (xs : List ℤ) (ns : List ℕ) → map (λ i. listed_time (x ∷ xs) (i + 1)) ns ≡ map (listed_time xs) ns
 values_behind x xs [] = refl
 values_behind x xs (n ∷ ns) =
-    let head : value_at (x ∷ xs) (n + 1) ≡ value_at xs n = rw add-one refl in
-    ap (λ (y : ℤ). y ∷ map (λ i. value_at (x ∷ xs) (i + 1)) ns) head ∙ ap (λ (ys : List ℤ). value_at xs n ∷ ys) (values_behind x xs ns)
+    let head : listed_time (x ∷ xs) (n + 1) ≡ listed_time xs n = rw add-one refl in
+    ap (λ (y : ℤ). y ∷ map (λ i. listed_time (x ∷ xs) (i + 1)) ns) head ∙ ap (λ (ys : List ℤ). listed_time xs n ∷ ys) (values_behind x xs ns)
 
-values_again : (xs : List ℤ) → map (value_at xs) (counted 0 (length xs)) ≡ xs
+values_again : (xs : List ℤ) → map (listed_time xs) (counted 0 (length xs)) ≡ xs
 values_again [] = refl
 values_again (x ∷ xs) =
-    ap (λ (ys : List ℤ). x ∷ ys) (next_values (value_at (x ∷ xs)) 0 (length xs) ∙ values_behind x xs (counted 0 (length xs)) ∙ values_again xs)
+    ap (λ (ys : List ℤ). x ∷ ys) (next_values (listed_time (x ∷ xs)) 0 (length xs) ∙ values_behind x xs (counted 0 (length xs)) ∙ values_again xs)
 
-values_back : (p : ProblemLists) (rs : List Reading) (xs : List ℤ) → AreReadings p rs → length xs ≡ length (nodes_of p rs) → map (value_at xs) (listed_nodes (listing_of p)) ≡ xs
+values_back : (p : ProblemLists) (rs : List Reading) (xs : List ℤ) → AreReadings p rs → length xs ≡ length (nodes_of p rs) → map (listed_time xs) (listed_nodes (listing_of p)) ≡ xs
 values_back p rs xs are len =
-    ap (map (value_at xs)) (numbers_are p rs are) ∙ ap (λ (n : ℕ). map (value_at xs) (counted 0 n)) (sym len) ∙ values_again xs
+    ap (map (listed_time xs)) (numbers_are p rs are) ∙ ap (λ (n : ℕ). map (listed_time xs) (counted 0 n)) (sym len) ∙ values_again xs
 
 -- ---- lines of nodes
 event_words : (p : ProblemLists) (k : ℕ) (es : List Event) → map (listed_event (listing_of p)) (event_places k es) ≡ map (node_words p) (event_nodes k es)
@@ -134,9 +134,9 @@ lines_are p (n ∷ ns) [] = refl
 lines_are p (n ∷ ns) (x ∷ xs) = ap (λ (text : List ℕ). value_line p (n, x) ++ text) (lines_are p ns xs)
 
 pub values_are : (p : ProblemLists) (rs : List Reading) (xs : List ℤ) → AreReadings p rs → length xs ≡ length (nodes_of p rs) →
-    listed_values (listing_of p) (value_at xs) ≡ value_lines p (nodes_of p rs) xs
+    listed_values (listing_of p) (listed_time xs) ≡ value_lines p (nodes_of p rs) xs
 values_are p rs xs are len =
-    ap (λ (ws : List (List (List ℕ))). flat_map timed_line (zip ws (map (value_at xs) (listed_nodes (listing_of p))))) (words_are p rs are)
+    ap (λ (ws : List (List (List ℕ))). flat_map timed_line (zip ws (map (listed_time xs) (listed_nodes (listing_of p))))) (words_are p rs are)
     ∙ ap (λ (ys : List ℤ). flat_map timed_line (zip (map (node_words p) (nodes_of p rs)) ys)) (values_back p rs xs are len)
     ∙ lines_are p (nodes_of p rs) xs
 
@@ -146,5 +146,5 @@ pub cycle_is : (p : ProblemLists) (rs : List Reading) (steps : List Step) →
 cycle_is p rs steps = ap (λ (text : List ℕ). certified (line_of (codes "cycle" ∷ []) ++ text)) (steps_are p steps)
 
 pub run_is : (p : ProblemLists) (rs : List Reading) (xs : List ℤ) → AreReadings p rs → length xs ≡ length (nodes_of p rs) →
-    listed_run (listing_of p) (value_at xs) ≡ certificate_text p (nodes_of p rs) (Run xs)
+    listed_run (listing_of p) (listed_time xs) ≡ certificate_text p (nodes_of p rs) (Run xs)
 run_is p rs xs are len = ap (λ (text : List ℕ). certified (line_of (codes "run" ∷ []) ++ text)) (values_are p rs xs are len)

@@ -54,6 +54,9 @@ same_count p q a b events same =
     ∙ ap (λ (rs : List Reading). length (nodes_of (record { clocks = q.clocks; follows = []; events = p.events; messages = [] }) rs)) same
 
 -- ---- steps and clocks more
+pub no_steps : (p : ProblemLists) → AreSteps p []
+no_steps p = record { declared = λ k d inside. absurd (omega (arith, inside)); weights = λ k d inside. absurd (omega (arith, inside)); few = omega arith }
+
 pub steps_more : (p : ProblemLists) (old new : List Step) (n : NamedBound) (z : ℤ) → TakesStep p old n z (Ok tt) new → AreSteps p old → AreSteps p new
 steps_more p old new n z (b, named, declared, fits, room, is) are =
     let s : Step = record { bound = b; weight = z } in

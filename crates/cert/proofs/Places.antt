@@ -12,7 +12,7 @@ use Rattle.problem_model.specs.Nodes.{Reading, AreReadings, nodes_of, event_node
 use Rattle.problem_model.specs.ProblemText.{clock_name, event_name}
 use Rattle.problem.proofs.ListedNodes.{length-event_nodes}
 pub use Rattle.problem.proofs.ListedNodes.{length-nodes_of}
-use Rattle.cert.specs.NodeLists.{NodeLists, AreNamed, StandsAt}
+use Rattle.cert.specs.NodeLists.{NodeLists, AreNamed, StandsAtNode}
 use Rattle.cert.specs.declared.nodes.NextNode.TheVariants as next
 use Rattle.cert.proofs.Readings.{readings_few}
 
@@ -69,17 +69,17 @@ same_default (x ∷ xs) (suc k) d e inside = same_default xs k d e (omega (arith
 
 -- the reading at a place, as it is looked up
 pub reading_found : (n : NodeLists) (k m : ℕ) (a b : Reading) (c : Clock) → AreNamed n → k ≡ length n.problem.events + m → m < length n.readings →
-    StandsAt n k (next.Reading (slice_index_or n.problem.clocks (slice_index_or n.readings m a).0 c).name (slice_index_or n.readings m b).1)
+    StandsAtNode n k (next.Reading (slice_index_or n.problem.clocks (slice_index_or n.readings m a).0 c).name (slice_index_or n.readings m b).1)
 reading_found n k m a b c named place inside =
     let r = slice_index_or n.readings m a in
     let at = reading_stands n.problem n.readings k m r place inside (same_default n.readings m a r inside) in
     let stamp : r.1 ≡ (slice_index_or n.readings m b).1 = ap (λ (x : Reading). x.1) (same_default n.readings m b a inside) in
     (r.0, at ∙ ap (λ (s : ℕ). Some (nodes.Reading r.0 s)) stamp, clock_name_is n.problem.clocks r.0 c (named.known m a inside))
 
-pub event_found : (n : NodeLists) (k : ℕ) (d : Event) → k < length n.problem.events → StandsAt n k (next.Event (slice_index_or n.problem.events k d).name)
+pub event_found : (n : NodeLists) (k : ℕ) (d : Event) → k < length n.problem.events → StandsAtNode n k (next.Event (slice_index_or n.problem.events k d).name)
 event_found n k d inside = (k, event_stands n.problem n.readings k inside, event_name_is n.problem.events k d inside)
 
-pub end_found : (n : NodeLists) (k m : ℕ) → k ≡ length n.problem.events + m → length n.readings ≤ m → StandsAt n k next.End
+pub end_found : (n : NodeLists) (k m : ℕ) → k ≡ length n.problem.events + m → length n.readings ≤ m → StandsAtNode n k next.End
 end_found n k m place past = omega (arith, place, past, length-nodes_of n.problem n.readings)
 
 known_clock : (p : ProblemLists) (readings : List Reading) → IsProblem p → AreReadings p readings → All (λ r. r.0 < length p.clocks) readings

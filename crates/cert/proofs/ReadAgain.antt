@@ -2,7 +2,7 @@
 use Rattle.std.proofs.Common.{◌≡◌, ◌<◌, ◌≤◌, ℕ, List, [], ◌∷◌, ◌++◌, length, codes, All, Result, Ok, Err, refl, sym, ◌∙◌, ap, subst, arith, ℤ, append_assoc}
 use Rattle.atto.specs.Number.{FitsUnits}
 use Rattle.line_format.specs.Words.{line_of}
-use Rattle.line_format.specs.Format.{Answers, most_bytes}
+use Rattle.line_format.specs.Format.{Answers, most_text_bytes}
 use Rattle.line_format.specs.Format.Answer.{Found, Faulty}
 use Rattle.line_format.specs.declared.fault.FaultKind.{FaultKind}
 use Rattle.line_format.specs.declared.fault.FaultKind.TheVariants as kinds
@@ -15,7 +15,7 @@ use Rattle.cert.specs.declared.certificate.Cert.TheVariants.{Cycle, Run, Ends}
 use Rattle.cert.specs.declared.error.CertError.{CertError}
 use Rattle.cert.specs.declared.error.CertError.TheVariants as errors
 use Rattle.cert.specs.declared.kinds.Side.TheVariants.{Upper, Lower}
-use Rattle.cert.specs.EndLists.{EndLists, Limited, Unlimited, lists_of}
+use Rattle.cert.specs.EndLists.{EndLists, Limited, Unlimited, end_lists}
 use Rattle.cert.specs.Listed.{certificate_head, certified}
 use Rattle.cert.specs.ExecutionFormat.{AreValues}
 use Rattle.cert.specs.CertificateText.{IsStepOf, HasOneEach, AreListsOf, IsCertOf, end_text, ends_lines, certificate_text}
@@ -24,7 +24,7 @@ use Rattle.cert.specs.CertificateFormat.CertLine.{NodeLine}
 use Rattle.cert.specs.ExecutionFormat.ExecutionLine.{EndLine}
 use Rattle.cert.specs.CertificateFormat.Said.{NoneSaid, CycleSaid, RunSaid, EventsSaid, UpperSaid, EndsSaid}
 use Rattle.cert.specs.ReadsCert.{FitsSteps, FitsEndLists, FitsCert, IsCertTextOf}
-use Rattle.cert.specs.ReadAgain.{SaysOrMemory, IsReadAs, ShowsOrMemory, IsAccepted}
+use Rattle.cert.specs.ReadAgain.{SaysOrMemory, IsReadAsCert, ShowsOrMemory, IsAccepted}
 use Rattle.cert.specs.Shows.{Shows, IsUpperEnd, IsLowerEnd}
 use Rattle.cert.proofs.CertReadable.{certificate_one}
 
@@ -112,7 +112,7 @@ module _ (p : ProblemLists) (readings : List Reading) (are : AreReadings p readi
       ∙ ap (λ (t : List ℕ). said_lines p readings (EventsSaid a b) ++ side_lines p readings Upper upper ++ t) (lower_lines lower)
 
   ends_found : (a b : ℕ) (upper lower : EndLists) (text : List ℕ) → a < length p.events → b < length p.events → AreListsOf p upper → AreListsOf p lower → FitsEndLists upper → FitsEndLists lower
-      → length text ≤ most_bytes → text ≡ certified (ends_lines p (nodes_of p readings) a b upper lower) → IsFound text (EndsSaid a b upper lower)
+      → length text ≤ most_text_bytes → text ≡ certified (ends_lines p (nodes_of p readings) a b upper lower) → IsFound text (EndsSaid a b upper lower)
   ends_found a b upper lower text there there' of of' fits fits' short is =
       let above = end_sound upper of fits in
       let below = end_sound lower of' fits' in
@@ -121,14 +121,14 @@ module _ (p : ProblemLists) (readings : List Reading) (are : AreReadings p readi
   cert_found : (c : Cert) (text : List ℕ) → IsCertTextOf p readings c text → IsFound text (said c)
   cert_found (Cycle steps) text (short, of, fits, is) = (short, steps_sound steps of fits, tt, framed text (CycleSaid steps) is)
   cert_found (Run values) text (short, of, fits, is) = (short, values_sound values of fits, one_each values of, framed text (RunSaid values) is)
-  cert_found (Ends a b upper lower) text (short, of, fits, is) = ends_found a b (lists_of upper) (lists_of lower) text of.0 of.1 of.2 of.3 fits.0 fits.1 short is
+  cert_found (Ends a b upper lower) text (short, of, fits, is) = ends_found a b (end_lists upper) (end_lists lower) text of.0 of.1 of.2 of.3 fits.0 fits.1 short is
 
   -- ---- it has no other answer
   module _ (lawful : IsProblem p) where
     faults : (text : List ℕ) (state : Said) (kind : FaultKind) (n : ℕ) → IsFound text state → Answers (certificate_format p readings) text (Faulty kind n) → ⊥
     faults text state kind n found fault = not_found kind n state (certificate_one p readings text (Faulty kind n) (Found state) lawful are fault found)
 
-    read_as : (text : List ℕ) (state : Said) → IsFound text state → IsReadAs p readings text state
+    read_as : (text : List ℕ) (state : Said) → IsFound text state → IsReadAsCert p readings text state
     read_as text state found (Ok d) reads = found_one (said d) state (certificate_one p readings text (Found (said d)) (Found state) lawful are (cert_found d text reads) found)
     read_as text state found (Err (errors.Syntax n)) reads = absurd (faults text state kinds.Syntax n found reads)
     read_as text state found (Err (errors.Name n)) reads = absurd (faults text state kinds.Name n found reads)
@@ -137,26 +137,26 @@ module _ (p : ProblemLists) (readings : List Reading) (are : AreReadings p readi
     read_as text state found (Err errors.Long) reads = absurd (let short = found.0 in omega (arith, short, reads))
     read_as text state found (Err errors.Memory) reads = refl
 
-pub certificate_again : (p : ProblemLists) (readings : List Reading) (c : Cert) → IsProblem p → AreReadings p readings → IsCertOf p c → FitsCert c → length (certificate_text p (nodes_of p readings) c) ≤ most_bytes
-    → IsReadAs p readings (certificate_text p (nodes_of p readings) c) (said c)
+pub certificate_again : (p : ProblemLists) (readings : List Reading) (c : Cert) → IsProblem p → AreReadings p readings → IsCertOf p c → FitsCert c → length (certificate_text p (nodes_of p readings) c) ≤ most_text_bytes
+    → IsReadAsCert p readings (certificate_text p (nodes_of p readings) c) (said c)
 certificate_again p readings c lawful are of fits short =
     let text : List ℕ = certificate_text p (nodes_of p readings) c in
     read_as p readings are lawful text (said c) (cert_found p readings are c text (short, of, fits, refl))
 
 pub ends_again : (p : ProblemLists) (readings : List Reading) (a b : ℕ) (upper lower : EndLists) → IsProblem p → AreReadings p readings → a < length p.events → b < length p.events
-    → AreListsOf p upper → AreListsOf p lower → FitsEndLists upper → FitsEndLists lower → length (certified (ends_lines p (nodes_of p readings) a b upper lower)) ≤ most_bytes
-    → IsReadAs p readings (certified (ends_lines p (nodes_of p readings) a b upper lower)) (EndsSaid a b upper lower)
+    → AreListsOf p upper → AreListsOf p lower → FitsEndLists upper → FitsEndLists lower → length (certified (ends_lines p (nodes_of p readings) a b upper lower)) ≤ most_text_bytes
+    → IsReadAsCert p readings (certified (ends_lines p (nodes_of p readings) a b upper lower)) (EndsSaid a b upper lower)
 ends_again p readings a b upper lower lawful are there there' of of' fits fits' short =
     let text : List ℕ = certified (ends_lines p (nodes_of p readings) a b upper lower) in
     read_as p readings are lawful text (EndsSaid a b upper lower) (ends_found p readings are a b upper lower text there there' of of' fits fits' short refl)
 
 -- ---- and shows what it should
-pub shown_again : (p : ProblemLists) (readings : List Reading) (c : Cert) → IsProblem p → AreReadings p readings → IsCertOf p c → FitsCert c → length (certificate_text p (nodes_of p readings) c) ≤ most_bytes → Shows p c
+pub shown_again : (p : ProblemLists) (readings : List Reading) (c : Cert) → IsProblem p → AreReadings p readings → IsCertOf p c → FitsCert c → length (certificate_text p (nodes_of p readings) c) ≤ most_text_bytes → Shows p c
     → IsAccepted p readings (certificate_text p (nodes_of p readings) c)
 shown_again p readings c lawful are of fits short shows result reads = one_shows p (said c) result (shown_said p c shows) (certificate_again p readings c lawful are of fits short result reads)
 
 pub ends_shown_again : (p : ProblemLists) (readings : List Reading) (a b : ℕ) (upper lower : EndLists) → IsProblem p → AreReadings p readings → a < length p.events → b < length p.events
-    → AreListsOf p upper → AreListsOf p lower → FitsEndLists upper → FitsEndLists lower → length (certified (ends_lines p (nodes_of p readings) a b upper lower)) ≤ most_bytes → IsUpperEnd p a b upper → IsLowerEnd p a b lower
+    → AreListsOf p upper → AreListsOf p lower → FitsEndLists upper → FitsEndLists lower → length (certified (ends_lines p (nodes_of p readings) a b upper lower)) ≤ most_text_bytes → IsUpperEnd p a b upper → IsLowerEnd p a b lower
     → IsAccepted p readings (certified (ends_lines p (nodes_of p readings) a b upper lower))
 ends_shown_again p readings a b upper lower lawful are there there' of of' fits fits' short above below result reads =
     one_shows p (EndsSaid a b upper lower) result (above, below) (ends_again p readings a b upper lower lawful are there there' of of' fits fits' short result reads)

@@ -3,7 +3,7 @@ use Rattle.std.proofs.Common.{codes, ◌↔◌, ◌∷◌, ◌≡◌, ◌≤◌,
 use Rattle.std.proofs.lemmas.List.{append-nil}
 use Rattle.line_format.specs.Words.{line_of}
 use Rattle.line_format.specs.Cut.{cut}
-use Rattle.line_format.specs.Format.{Answers, Takes, most_bytes}
+use Rattle.line_format.specs.Format.{Answers, Takes, most_text_bytes}
 use Rattle.line_format.specs.Format.Answer.{Found}
 use Rattle.line_format.specs.declared.fault.FaultKind.{FaultKind}
 use Rattle.line_format.specs.declared.fault.FaultKind.TheVariants as kinds
@@ -26,7 +26,7 @@ module _ (p : ProblemLists) (readings : List Reading) where
   abbrev Is : List ℕ → List ℕ → List ℤ → ℕ → Type 0
   Is = Stands (execution_format p readings) line_lacks
 
-  pub first_stands : (lines : List ℕ) → length (line_of execution_head ++ lines) ≤ most_bytes → Is (line_of execution_head ++ lines) lines [] 2
+  pub first_stands : (lines : List ℕ) → length (line_of execution_head ++ lines) ≤ most_text_bytes → Is (line_of execution_head ++ lines) lines [] 2
   first_stands lines short =
       let head = ap (λ (t : List ℕ). line_of execution_head ++ t) (value_lines-nil p (nodes_of p readings)) ∙ append-nil (line_of execution_head) in
       stands_first (execution_format p readings) line_lacks (line_of execution_head ++ lines) lines [] short refl head refl (record { fit = λ k d inside. absurd (omega (arith, inside)); few = omega arith })

@@ -9,9 +9,9 @@ use Rattle.std.proofs.lemmas.Map.Made.{is_member-Decides, IsDistinct-from_AllPai
 use Rattle.problem_model.specs.declared.items.Event.{Event}
 use Rattle.problem_model.specs.Problem.{ProblemLists}
 use Rattle.problem_model.specs.Bounds.{IsReading}
-use Rattle.problem_model.specs.Nodes.{Reading, ComesBefore, AreReadings}
+use Rattle.problem_model.specs.Nodes.{Reading, IsEarlierReading, AreReadings}
 
-asymmetric : (a b : Reading) → ComesBefore a b → ComesBefore b a → ⊥
+asymmetric : (a b : Reading) → IsEarlierReading a b → IsEarlierReading b a → ⊥
 asymmetric a b (inl x) (inl y) = omega (arith, x, y)
 asymmetric a b (inl x) (inr y) = omega (arith, x, y.0)
 asymmetric a b (inr x) (inl y) = omega (arith, x.0, y)
@@ -39,8 +39,8 @@ same_laws = record {
   congr = λ a b c e. ap (λ (x : Reading). same_reading x c) (same_is a.0 a.1 b.0 b.1 e);
 }
 
-different : (a b : Reading) → ComesBefore a b → a ≢ b
-different a b before is = asymmetric a b before (subst (λ (x : Reading). ComesBefore b x) (sym is) (subst (λ (x : Reading). ComesBefore x b) is before))
+different : (a b : Reading) → IsEarlierReading a b → a ≢ b
+different a b before is = asymmetric a b before (subst (λ (x : Reading). IsEarlierReading b x) (sym is) (subst (λ (x : Reading). IsEarlierReading x b) is before))
 
 map_at : {A B : Type 0} (f : A → B) (xs : List A) (x : A) (k : ℕ) → k < length xs → slice_index_or xs k x ≡ x → slice_index_or (map f xs) k (f x) ≡ f x
 map_at f [] x k inside is = absurd (omega (arith, inside))

@@ -19,7 +19,7 @@ use Rattle.cert.specs.declared.steps.StepWords.TheVariants as steps
 use Rattle.cert.specs.CertificateFormat.{NamedBound, cert_words, span_word, stamp_word, delay_word}
 use Rattle.cert.specs.CertificateFormat.CertLine.{StepLine}
 use Rattle.cert.specs.CertificateFormat.NamedBound.{Span, Stamp, Follow, Delay}
-use Rattle.cert.specs.SaidStep.{SpanParts, SaysSpan, NoSpan, span_rest, StampParts, SaysStamp, NoStamp, stamp_rest, FollowParts, SaysFollow, NoFollow, follow_rest, DelayParts, SaysDelay, NoDelay, delay_rest, SaysKind, NoKind, kind_word, kind_rest, SaysStep, NoStep}
+use Rattle.cert.specs.SaidStep.{SpanParts, SaysSpan, NoSpan, span_rest, StampParts, SaysStamp, NoStamp, stamp_rest, FollowStepParts, SaysFollow, NoFollowStep, follow_step_rest, DelayParts, SaysDelay, NoDelay, delay_rest, SaysKind, NoKind, bound_word, kind_rest, SaysStep, NoStep}
 use Rattle.cert.proofs.Lacking.{clock_name_lacks, event_name_lacks, decimal_lacks}
 use Rattle.cert.proofs.CertLines.{span_lacks, stamp_lacks, follow_lacks, delay_lacks}
 
@@ -82,24 +82,24 @@ stamp_says rest a b w two parts = record {
 }
 
 -- ---- follows
-follow_fields : (rest earlier later : List ℕ) (x y : ℕ) (z : ℤ) → IsClockName earlier → IsClockName later → rest ≡ follow_rest earlier x later y z
+follow_fields : (rest earlier later : List ℕ) (x y : ℕ) (z : ℤ) → IsClockName earlier → IsClockName later → rest ≡ follow_step_rest earlier x later y z
     → fields 4 rest ≡ Some (earlier ∷ decimal_of x ∷ later ∷ decimal_of y ∷ ns_text z ∷ [])
 follow_fields rest earlier later x y z named named' is =
     rw is (fields_again 4 (earlier ∷ decimal_of x ∷ later ∷ decimal_of y ∷ ns_text z ∷ []) refl
     (clock_name_lacks 32 earlier (omega arith) named, (decimal_lacks 32 x (omega arith), (clock_name_lacks 32 later (omega arith) named', (decimal_lacks 32 y (omega arith), tt)))))
 
-pub follow_not_five : (rest : List ℕ) → fields 4 rest ≡ None → NoFollow rest
+pub follow_not_five : (rest : List ℕ) → fields 4 rest ≡ None → NoFollowStep rest
 follow_not_five rest none earlier later x y z named named' is = let f = follow_fields rest earlier later x y z named named' is in cc
 
 pub follow_not_parts : (rest a b c d e : List ℕ) → fields 4 rest ≡ Some (a ∷ b ∷ c ∷ d ∷ e ∷ [])
-    → ((x : ℕ) (y : ℕ) (z : ℤ) → IsClockName a → b ≡ decimal_of x → IsClockName c → d ≡ decimal_of y → e ≡ ns_text z → ⊥) → NoFollow rest
+    → ((x : ℕ) (y : ℕ) (z : ℤ) → IsClockName a → b ≡ decimal_of x → IsClockName c → d ≡ decimal_of y → e ≡ ns_text z → ⊥) → NoFollowStep rest
 follow_not_parts rest a b c d e five none earlier later x y z named named' is =
     let f = follow_fields rest earlier later x y z named named' is in
     let a-is : earlier ≡ a = cc in
     let c-is : later ≡ c = cc in
     none x y z (rw a-is at named) (cc) (rw c-is at named') (cc) (cc)
 
-pub follow_says : (rest a b c d e : List ℕ) (w : FollowWords) → fields 4 rest ≡ Some (a ∷ b ∷ c ∷ d ∷ e ∷ []) → FollowParts a b c d e w → SaysFollow rest w
+pub follow_says : (rest a b c d e : List ℕ) (w : FollowWords) → fields 4 rest ≡ Some (a ∷ b ∷ c ∷ d ∷ e ∷ []) → FollowStepParts a b c d e w → SaysFollow rest w
 follow_says rest a b c d e w five parts = record {
   x = parts.s_is.m;
   y = parts.t_is.m;
@@ -168,20 +168,20 @@ no_kind kind rest a b c d (Follow v x w y) z spelled kind_is rest_is = c kind_is
 no_kind kind rest a b c d (Delay e v w) z spelled kind_is rest_is = d e kind_is
 
 -- ---- the whole line
-step_body : (n : NamedBound) (z : ℤ) → words (codes "step" ∷ kind_word n ∷ kind_rest n z ∷ []) ≡ words (cert_words (StepLine n z))
+step_body : (n : NamedBound) (z : ℤ) → words (codes "step" ∷ bound_word n ∷ kind_rest n z ∷ []) ≡ words (cert_words (StepLine n z))
 step_body (Span e c x y) z = refl
 step_body (Stamp k v) z = refl
 step_body (Follow c x d y) z = refl
 step_body (Delay e v w) z = refl
 
-kind_lacks : (n : NamedBound) → Lacks 32 (kind_word n)
+kind_lacks : (n : NamedBound) → Lacks 32 (bound_word n)
 kind_lacks (Span e c x y) = span_lacks 32 e (omega arith)
 kind_lacks (Stamp k v) = stamp_lacks 32 k (omega arith)
 kind_lacks (Follow c x d y) = follow_lacks 32 (omega arith)
 kind_lacks (Delay e v w) = delay_lacks 32 e (omega arith)
 
-step_fields : (body : List ℕ) (n : NamedBound) (z : ℤ) → body ≡ words (cert_words (StepLine n z)) → fields 2 body ≡ Some (codes "step" ∷ kind_word n ∷ kind_rest n z ∷ [])
-step_fields body n z is = rw (is ∙ sym (step_body n z)) (fields_again 2 (codes "step" ∷ kind_word n ∷ kind_rest n z ∷ []) refl (lacks_test 32 (codes "step") refl, (kind_lacks n, tt)))
+step_fields : (body : List ℕ) (n : NamedBound) (z : ℤ) → body ≡ words (cert_words (StepLine n z)) → fields 2 body ≡ Some (codes "step" ∷ bound_word n ∷ kind_rest n z ∷ [])
+step_fields body n z is = rw (is ∙ sym (step_body n z)) (fields_again 2 (codes "step" ∷ bound_word n ∷ kind_rest n z ∷ []) refl (lacks_test 32 (codes "step") refl, (kind_lacks n, tt)))
 
 pub step_not_three : (body : List ℕ) → fields 2 body ≡ None → NoStep body
 step_not_three body none n z spelled is = let f = step_fields body n z is in cc

@@ -15,8 +15,8 @@ use Rattle.problem_model.specs.BoundText.{span_words, stamp_words, follow_words,
 use Rattle.problem_model.specs.Bounds.{Constraint, Declares}
 use Rattle.problem_model.specs.Nodes.{Reading, nodes_of}
 use Rattle.problem_model.specs.ExecutionText.{value_lines}
+use Rattle.problem_model.specs.Limits.{most_steps}
 use Rattle.problem.specs.Line.{HasClock, HasEvent}
-use Rattle.cert.specs.Sizes.{most_steps}
 use Rattle.cert.specs.declared.chain.Step.{Step}
 use Rattle.cert.specs.declared.certificate.Cert.{Cert}
 use Rattle.cert.specs.declared.certificate.Cert.TheVariants.{Cycle, Run, Ends}
@@ -26,7 +26,7 @@ use Rattle.cert.specs.declared.kinds.StampBound.{StampBound}
 use Rattle.cert.specs.declared.kinds.StampBound.TheVariants as stamps
 use Rattle.cert.specs.declared.kinds.Side.{Side}
 use Rattle.cert.specs.declared.kinds.Side.TheVariants.{Upper, Lower}
-use Rattle.cert.specs.EndLists.{EndLists, Limited, Unlimited, lists_of}
+use Rattle.cert.specs.EndLists.{EndLists, Limited, Unlimited, end_lists}
 use Rattle.cert.specs.Listed.{certificate_head}
 use Rattle.cert.specs.ExecutionFormat as executions
 use Rattle.cert.specs.ExecutionFormat.{ExecutionLine, AreValues}
@@ -162,7 +162,7 @@ pub data Said : Type 0 where
 abbrev pub said : Cert → Said
 said (Cycle steps) = CycleSaid steps
 said (Run execution) = RunSaid execution
-said (Ends p q upper lower) = EndsSaid p q (lists_of upper) (lists_of lower)
+said (Ends p q upper lower) = EndsSaid p q (end_lists upper) (end_lists lower)
 
 -- the steps of an end, its clocks inside, its real times
 abbrev pub end_steps : EndLists → List Step

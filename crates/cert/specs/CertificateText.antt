@@ -14,7 +14,7 @@ use Rattle.cert.specs.declared.chain.Step.{Step}
 use Rattle.cert.specs.declared.certificate.EndProof.{EndProof}
 use Rattle.cert.specs.declared.certificate.Cert.{Cert}
 use Rattle.cert.specs.declared.certificate.Cert.TheVariants.{Cycle, Run, Ends}
-use Rattle.cert.specs.EndLists.{EndLists, Limited, Unlimited, lists_of}
+use Rattle.cert.specs.EndLists.{EndLists, Limited, Unlimited, end_lists}
 use Rattle.cert.specs.Listed.{certified}
 
 -- ---- text
@@ -35,7 +35,7 @@ end_text p nodes part unlimited (Unlimited inside execution) =
 
 -- the same of an end as the code holds it
 abbrev pub end_lines : ProblemLists → List Node → List ℕ → List ℕ → EndProof → List ℕ
-end_lines p nodes part unlimited end = end_text p nodes part unlimited (lists_of end)
+end_lines p nodes part unlimited end = end_text p nodes part unlimited (end_lists end)
 
 -- the line of two events, and the parts of both ends
 abbrev pub ends_lines : ProblemLists → List Node → ℕ → ℕ → EndLists → EndLists → List ℕ
@@ -47,7 +47,7 @@ ends_lines problem nodes p q upper lower =
 abbrev pub certificate_lines : ProblemLists → List Node → Cert → List ℕ
 certificate_lines p nodes (Cycle steps) = line_of (codes "cycle" ∷ []) ++ flat_map (step_line p) steps
 certificate_lines p nodes (Run execution) = line_of (codes "run" ∷ []) ++ value_lines p nodes execution
-certificate_lines problem nodes (Ends p q upper lower) = ends_lines problem nodes p q (lists_of upper) (lists_of lower)
+certificate_lines problem nodes (Ends p q upper lower) = ends_lines problem nodes p q (end_lists upper) (end_lists lower)
 
 -- the only text of a certificate, over the nodes in their order
 abbrev pub certificate_text : ProblemLists → List Node → Cert → List ℕ
@@ -70,7 +70,7 @@ AreListsOf p (Unlimited inside execution) =
 
 -- the same of an end as the code holds it
 abbrev pub IsEndOf : ProblemLists → EndProof → Type 0
-IsEndOf p end = AreListsOf p (lists_of end)
+IsEndOf p end = AreListsOf p (end_lists end)
 
 -- bounds, events, clocks and nodes are those of the problem; nothing is said of weights, of sums, or whether an
 -- execution is one

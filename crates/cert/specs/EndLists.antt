@@ -11,6 +11,6 @@ pub data EndLists : Type 0 where
   Unlimited : List ℕ → List ℤ → EndLists
 
 -- what an end says, but not how its list of clocks lies in memory
-abbrev pub lists_of : EndProof → EndLists
-lists_of (At value path execution) = Limited value path execution
-lists_of (Unbounded inside execution) = Unlimited inside.items execution
+abbrev pub end_lists : EndProof → EndLists
+end_lists (At value path execution) = Limited value path execution
+end_lists (Unbounded inside execution) = Unlimited inside.items execution

@@ -1,4 +1,3 @@
-pub mod Sizes
 pub mod CertificateFormat
 pub mod CertificateText
 pub mod EndLists

@@ -8,7 +8,7 @@ use Rattle.problem_model.specs.declared.items.Bound.{Bound}
 use Rattle.problem_model.specs.declared.items.Bound.TheVariants.{SpanMost, SpanLeast, Late, Early, Follow, DelayMost, DelayLeast}
 use Rattle.problem_model.specs.BoundText.{named_bound}
 use Rattle.problem.specs.Listing.{Listed}
-pub use Rattle.problem.specs.Listing.{value_at, name_at, listed_nodes}
+pub use Rattle.problem.specs.Listing.{listed_time, name_at, listed_nodes}
 
 -- ---- bounds
 -- the words that name a bound
@@ -16,14 +16,14 @@ abbrev pub listed_bound : Listed → Bound → List (List ℕ)
 listed_bound l b = named_bound (name_at l.clock_names) (name_at l.event_names) b
 
 -- the clocks or the events of the bound have names
-abbrev pub IsNamed : Listed → Bound → Type 0
-IsNamed l (SpanMost clock s t) = clock < length l.clock_names
-IsNamed l (SpanLeast clock s t) = clock < length l.clock_names
-IsNamed l (Late e) = e < length l.event_names
-IsNamed l (Early e) = e < length l.event_names
-IsNamed l (Follow c s d t) = (c < length l.clock_names) × (d < length l.clock_names)
-IsNamed l (DelayMost send receive) = (send < length l.event_names) × (receive < length l.event_names)
-IsNamed l (DelayLeast send receive) = (send < length l.event_names) × (receive < length l.event_names)
+abbrev pub HasNames : Listed → Bound → Type 0
+HasNames l (SpanMost clock s t) = clock < length l.clock_names
+HasNames l (SpanLeast clock s t) = clock < length l.clock_names
+HasNames l (Late e) = e < length l.event_names
+HasNames l (Early e) = e < length l.event_names
+HasNames l (Follow c s d t) = (c < length l.clock_names) × (d < length l.clock_names)
+HasNames l (DelayMost send receive) = (send < length l.event_names) × (receive < length l.event_names)
+HasNames l (DelayLeast send receive) = (send < length l.event_names) × (receive < length l.event_names)
 
 -- the line of a step: a bound and a weight
 abbrev pub listed_step : Listed → Bound × ℤ → List ℕ

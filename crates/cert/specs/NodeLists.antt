@@ -3,8 +3,9 @@ use Rattle.std.specs.Prelude.{◌≡◌, ◌<◌, ◌≤◌, ℕ, List, length, 
 use Rattle.problem_model.specs.declared.items.Node.TheVariants as nodes
 use Rattle.problem_model.specs.Name.{IsEventName, IsClockName}
 use Rattle.problem_model.specs.Problem.{ProblemLists}
-use Rattle.problem_model.specs.Nodes.{Reading, nodes_of, most_nodes}
+use Rattle.problem_model.specs.Nodes.{Reading, nodes_of}
 use Rattle.problem_model.specs.ProblemText.{clock_name, event_name}
+use Rattle.problem_model.specs.Limits.{most_nodes}
 use Rattle.cert.specs.declared.nodes.NextNode.{NextNode}
 use Rattle.cert.specs.declared.nodes.NextNode.TheVariants as next
 
@@ -21,7 +22,7 @@ pub record AreNamed (n : NodeLists) : Type 0 where
   pub few : length (nodes_of n.problem n.readings) ≤ most_nodes
 
 -- what stands at place k of the nodes
-abbrev pub StandsAt : NodeLists → ℕ → NextNode → Type 0
-StandsAt n k (next.Event name) = (event : ℕ) × (slice_get (nodes_of n.problem n.readings) k ≡ Some (nodes.Event event)) × (name ≡ event_name n.problem.events event)
-StandsAt n k (next.Reading clock stamp) = (place : ℕ) × (slice_get (nodes_of n.problem n.readings) k ≡ Some (nodes.Reading place stamp)) × (clock ≡ clock_name n.problem.clocks place)
-StandsAt n k next.End = length (nodes_of n.problem n.readings) ≤ k
+abbrev pub StandsAtNode : NodeLists → ℕ → NextNode → Type 0
+StandsAtNode n k (next.Event name) = (event : ℕ) × (slice_get (nodes_of n.problem n.readings) k ≡ Some (nodes.Event event)) × (name ≡ event_name n.problem.events event)
+StandsAtNode n k (next.Reading clock stamp) = (place : ℕ) × (slice_get (nodes_of n.problem n.readings) k ≡ Some (nodes.Reading place stamp)) × (clock ≡ clock_name n.problem.clocks place)
+StandsAtNode n k next.End = length (nodes_of n.problem n.readings) ≤ k

@@ -15,8 +15,8 @@ SaysOrMemory state (Ok d) = said d ≡ state
 SaysOrMemory state (Err e) = e ≡ Memory
 
 -- whatever reading the text answers is a certificate that says this, or it is refused for want of memory
-abbrev pub IsReadAs : ProblemLists → List Reading → List ℕ → Said → Type 0
-IsReadAs p readings text state = (result : Result Cert CertError) → ReadsCertOver p readings text result → SaysOrMemory state result
+abbrev pub IsReadAsCert : ProblemLists → List Reading → List ℕ → Said → Type 0
+IsReadAsCert p readings text state = (result : Result Cert CertError) → ReadsCertOver p readings text result → SaysOrMemory state result
 
 -- a certificate that shows what it should, or a refusal for want of memory
 abbrev pub ShowsOrMemory : ProblemLists → Result Cert CertError → Type 0

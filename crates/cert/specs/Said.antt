@@ -21,26 +21,26 @@ pub record SpellsNumber (text : List ℕ) (n : Option ℕ) : Type 0 where
   pub held : Counts (2 ^ 64) m n
 
 -- what the words of an event's line say
-pub record EventParts (word name value : List ℕ) (w : EventWords) : Type 0 where
+pub record EventValueParts (word name value : List ℕ) (w : EventWords) : Type 0 where
   pub word_is : word ≡ codes "event"
   pub name_is : name ≡ w.name
   pub named : IsEventName w.name
   pub value_is : SpellsValue value w.value
 
 -- the text of an event's line
-abbrev pub event_body : List ℕ → ℤ → List ℕ
-event_body name z = words (codes "event" ∷ name ∷ ns_text z ∷ [])
+abbrev pub event_value_body : List ℕ → ℤ → List ℕ
+event_value_body name z = words (codes "event" ∷ name ∷ ns_text z ∷ [])
 
 -- the body is an event's line
 pub record SaysEvent (body : List ℕ) (w : EventWords) : Type 0 where
   pub z : ℤ
   pub named : IsEventName w.name
-  pub is : body ≡ event_body w.name z
+  pub is : body ≡ event_value_body w.name z
   pub held : SomeIff w.value (FitsUnits z) z
 
 -- the text is that of no event's line
-abbrev pub NoEvent : List ℕ → Type 0
-NoEvent body = (name : List ℕ) (z : ℤ) → IsEventName name → body ≡ event_body name z → ⊥
+abbrev pub NoEventValue : List ℕ → Type 0
+NoEventValue body = (name : List ℕ) (z : ℤ) → IsEventName name → body ≡ event_value_body name z → ⊥
 
 -- what the words of a reading's line say
 pub record ReadingParts (word clock stamp value : List ℕ) (w : ReadingWords) : Type 0 where

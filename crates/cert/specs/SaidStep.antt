@@ -72,7 +72,7 @@ NoStamp rest = (event : List ℕ) (z : ℤ) → IsEventName event → rest ≡ s
 
 -- ---- bounds between clocks that follow each other
 -- what the words behind `step follow` say
-pub record FollowParts (earlier s later t weight : List ℕ) (w : FollowWords) : Type 0 where
+pub record FollowStepParts (earlier s later t weight : List ℕ) (w : FollowWords) : Type 0 where
   pub earlier_is : earlier ≡ w.earlier
   pub earlier_named : IsClockName w.earlier
   pub s_is : SpellsNumber s w.s
@@ -82,8 +82,8 @@ pub record FollowParts (earlier s later t weight : List ℕ) (w : FollowWords) :
   pub weight_is : SpellsValue weight w.weight
 
 -- these words
-abbrev pub follow_rest : List ℕ → ℕ → List ℕ → ℕ → ℤ → List ℕ
-follow_rest earlier s later t z = words (earlier ∷ decimal_of s ∷ later ∷ decimal_of t ∷ ns_text z ∷ [])
+abbrev pub follow_step_rest : List ℕ → ℕ → List ℕ → ℕ → ℤ → List ℕ
+follow_step_rest earlier s later t z = words (earlier ∷ decimal_of s ∷ later ∷ decimal_of t ∷ ns_text z ∷ [])
 
 -- they are those of w
 pub record SaysFollow (rest : List ℕ) (w : FollowWords) : Type 0 where
@@ -92,14 +92,14 @@ pub record SaysFollow (rest : List ℕ) (w : FollowWords) : Type 0 where
   pub z : ℤ
   pub earlier_named : IsClockName w.earlier
   pub later_named : IsClockName w.later
-  pub is : rest ≡ follow_rest w.earlier x w.later y z
+  pub is : rest ≡ follow_step_rest w.earlier x w.later y z
   pub s_held : Counts (2 ^ 64) x w.s
   pub t_held : Counts (2 ^ 64) y w.t
   pub held : SomeIff w.weight (FitsUnits z) z
 
 -- they are no such words
-abbrev pub NoFollow : List ℕ → Type 0
-NoFollow rest = (earlier later : List ℕ) (x y : ℕ) (z : ℤ) → IsClockName earlier → IsClockName later → rest ≡ follow_rest earlier x later y z → ⊥
+abbrev pub NoFollowStep : List ℕ → Type 0
+NoFollowStep rest = (earlier later : List ℕ) (x y : ℕ) (z : ℤ) → IsClockName earlier → IsClockName later → rest ≡ follow_step_rest earlier x later y z → ⊥
 
 -- ---- bounds on delays
 -- what the words behind `step delay-most` or `step delay-least` say
@@ -135,17 +135,17 @@ HoldsStep (steps.Follow w) n z = (x : ℕ) × (y : ℕ) × Counts (2 ^ 64) x w.s
 HoldsStep (steps.Delay extreme w) n z = SomeIff w.weight (FitsUnits z) z × (n ≡ Delay extreme w.send w.receive)
 
 -- the first word of a bound
-abbrev pub kind_word : NamedBound → List ℕ
-kind_word (Span extreme clock s t) = span_word extreme
-kind_word (Stamp kind event) = stamp_word kind
-kind_word (Follow earlier s later t) = codes "follow"
-kind_word (Delay extreme send receive) = delay_word extreme
+abbrev pub bound_word : NamedBound → List ℕ
+bound_word (Span extreme clock s t) = span_word extreme
+bound_word (Stamp kind event) = stamp_word kind
+bound_word (Follow earlier s later t) = codes "follow"
+bound_word (Delay extreme send receive) = delay_word extreme
 
 -- its other words, with a weight behind
 abbrev pub kind_rest : NamedBound → ℤ → List ℕ
 kind_rest (Span extreme clock s t) z = span_rest clock s t z
 kind_rest (Stamp kind event) z = stamp_rest event z
-kind_rest (Follow earlier s later t) z = follow_rest earlier s later t z
+kind_rest (Follow earlier s later t) z = follow_step_rest earlier s later t z
 kind_rest (Delay extreme send receive) z = delay_rest send receive z
 
 -- the words behind `step` are those of w
@@ -154,12 +154,12 @@ pub record SaysKind (kind rest : List ℕ) (w : StepWords) : Type 0 where
   pub z : ℤ
   pub held : HoldsStep w n z
   pub spelled : IsBoundSpelled n
-  pub kind_is : kind ≡ kind_word n
+  pub kind_is : kind ≡ bound_word n
   pub rest_is : rest ≡ kind_rest n z
 
 -- they are those of no step
 abbrev pub NoKind : List ℕ → List ℕ → Type 0
-NoKind kind rest = (n : NamedBound) (z : ℤ) → IsBoundSpelled n → kind ≡ kind_word n → rest ≡ kind_rest n z → ⊥
+NoKind kind rest = (n : NamedBound) (z : ℤ) → IsBoundSpelled n → kind ≡ bound_word n → rest ≡ kind_rest n z → ⊥
 
 -- the body is the line of the step that is held as w
 pub record SaysStep (body : List ℕ) (w : StepWords) : Type 0 where
@@ -227,8 +227,8 @@ abbrev pub FindsNoFollow : ProblemLists → FollowWords → Type 0
 FindsNoFollow p w = (x y : ℕ) → Counts (2 ^ 64) x w.s → Counts (2 ^ 64) y w.t → FindsNoNamed p (Follow w.earlier x w.later y)
 
 -- the same of any bound
-abbrev pub Finds : ProblemLists → StepWords → Bound → Type 0
-Finds p w b = (n : NamedBound) (z : ℤ) → HoldsStep w n z → FindsNamed p n b
+abbrev pub FindsBound : ProblemLists → StepWords → Bound → Type 0
+FindsBound p w b = (n : NamedBound) (z : ℤ) → HoldsStep w n z → FindsNamed p n b
 
 -- it declares no bound that is held as w
 abbrev pub FindsNone : ProblemLists → StepWords → Type 0

@@ -12,7 +12,7 @@ use Rattle.cert.specs.declared.chain.Step.{Step}
 use Rattle.cert.specs.declared.certificate.EndProof.{EndProof}
 use Rattle.cert.specs.declared.certificate.Cert.{Cert}
 use Rattle.cert.specs.declared.certificate.Cert.TheVariants.{Cycle, Run, Ends}
-use Rattle.cert.specs.EndLists.{EndLists, Limited, Unlimited, lists_of}
+use Rattle.cert.specs.EndLists.{EndLists, Limited, Unlimited, end_lists}
 
 -- ---- executions
 -- the values, one for each node, are real times that obey every declared bound
@@ -71,11 +71,11 @@ IsLowerEnd problem p q (Unlimited inside execution) = Parts problem inside q p �
 
 -- an upper end as the code holds it shows where the greatest difference is, or that there is none
 abbrev pub ShowsUpper : ProblemLists → ℕ → ℕ → EndProof → Type 0
-ShowsUpper problem p q end = IsUpperEnd problem p q (lists_of end)
+ShowsUpper problem p q end = IsUpperEnd problem p q (end_lists end)
 
 -- a lower end as the code holds it shows where the least difference is, or that there is none
 abbrev pub ShowsLower : ProblemLists → ℕ → ℕ → EndProof → Type 0
-ShowsLower problem p q end = IsLowerEnd problem p q (lists_of end)
+ShowsLower problem p q end = IsLowerEnd problem p q (end_lists end)
 
 -- a cycle is a contradiction, a run an execution, and ends have both their parts
 abbrev pub Shows : ProblemLists → Cert → Type 0

@@ -14,9 +14,9 @@ use Rattle.problem_model.specs.Problem.{ProblemLists}
 use Rattle.problem_model.specs.Nodes.{Reading}
 use Rattle.problem.specs.Line.{HasClock}
 use Rattle.problem.specs.Listing.{all_readings}
-use Rattle.cert.specs.Sizes.{most_steps}
 use Rattle.cert.specs.declared.chain.Step.{Step}
 use Rattle.problem_model.specs.declared.items.Message.{Message}
+use Rattle.problem_model.specs.Limits.{most_steps}
 use Rattle.cert.specs.declared.kinds.Extreme.{Extreme}
 use Rattle.cert.specs.declared.kinds.Extreme.TheVariants.{Most, Least}
 use Rattle.cert.specs.declared.kinds.Side.{Side}
@@ -26,7 +26,7 @@ use Rattle.cert.specs.declared.parts.Parts.TheVariants as parts
 use Rattle.cert.specs.declared.parts.Next.{Next}
 use Rattle.cert.specs.declared.parts.Next.TheVariants.{More, Done}
 use Rattle.cert.specs.CertificateFormat.{CertLine, NamedBound, Said, Names, IsDeclared, limit_word, cert_words, IsSpelled, NumbersFit, HasRoomIn, NamesFitIn, MayStandIn, IsSound, IsWhole, end_steps, end_inside, end_values, end_size, side_lines, said, certificate_format}
-use Rattle.cert.specs.EndLists.{EndLists, Limited, Unlimited, lists_of}
+use Rattle.cert.specs.EndLists.{EndLists, Limited, Unlimited, end_lists}
 use Rattle.cert.specs.CertificateFormat.CertLine.{SideLine}
 use Rattle.cert.specs.CertificateFormat.Said.{NoneSaid, EventsSaid, UpperSaid}
 
@@ -38,9 +38,9 @@ RefusedBy names numbers room Range = names × (numbers → ⊥)
 RefusedBy names numbers room Limit = names × numbers × (room → ⊥)
 
 -- the message has this bound on its delay: a least one always
-abbrev pub HasBound : Extreme → Message → Type 0
-HasBound Most m = (most : ℕ) × (m.most ≡ Some most)
-HasBound Least m = Unit {0}
+abbrev pub HasDelayBound : Extreme → Message → Type 0
+HasDelayBound Most m = (most : ℕ) × (m.most ≡ Some most)
+HasDelayBound Least m = Unit {0}
 
 -- a step of these names and this weight behind the others, or why it is refused
 abbrev pub TakesStep : ProblemLists → List Step → NamedBound → ℤ → Result (Unit {0}) LineError → List Step → Type 0
@@ -61,7 +61,7 @@ begun (Some value) = Limited value [] []
 
 -- an end begins by its limit, given that Says is so of the one that is spelled; or why that is refused
 abbrev pub BeginsBy : (Option ℤ → Type 0) → Result EndProof LineError → Type 0
-BeginsBy Says (Ok e) = (value : Option ℤ) × Says value × IfSome value FitsUnits × (lists_of e ≡ begun value)
+BeginsBy Says (Ok e) = (value : Option ℤ) × Says value × IfSome value FitsUnits × (end_lists e ≡ begun value)
 BeginsBy Says (Err errors.Memory) = Unit {0}
 BeginsBy Says (Err (errors.Fault Syntax)) = (value : Option ℤ) → Says value → ⊥
 BeginsBy Says (Err (errors.Fault Name)) = ⊥
@@ -99,7 +99,7 @@ module _ (p : ProblemLists) (readings : List Reading) where
 abbrev pub parts_said : Parts → Said
 parts_said parts.Nothing = NoneSaid
 parts_said (parts.Events p q) = EventsSaid p q
-parts_said (parts.Upper p q upper) = UpperSaid p q (lists_of upper)
+parts_said (parts.Upper p q upper) = UpperSaid p q (end_lists upper)
 parts_said (parts.Whole c) = said c
 
 -- what taking the text of a line behind these parts gives

@@ -4,8 +4,8 @@ ghost use Rattle.atto.specs.Number.{Counts};
 ghost use Rattle.problem_model.specs.declared.items.Bound.TheVariants as bounds;
 ghost use Rattle.cert.specs.CertificateFormat.{IsDeclared, span_bound, stamp_bound, delay_bound};
 ghost use Rattle.cert.specs.CertificateFormat.NamedBound.{Stamp, Delay};
-ghost use Rattle.cert.specs.SaidStep.{FindsNamed, FindsNoNamed, FindsSpan, FindsNoSpan, FindsFollow, FindsNoFollow, Finds, FindsNone};
-ghost use Rattle.cert.specs.TakesPart.{HasBound};
+ghost use Rattle.cert.specs.SaidStep.{FindsNamed, FindsNoNamed, FindsSpan, FindsNoSpan, FindsFollow, FindsNoFollow, FindsBound, FindsNone};
+ghost use Rattle.cert.specs.TakesPart.{HasDelayBound};
 
 use crate::kinds::{Extreme, StampBound};
 use crate::steps::{FollowWords, SpanWords, StepWords};
@@ -117,7 +117,7 @@ fn delay_named(extreme: Extreme, send: u32, receive: u32) -> Bound
 
 // Whether a message has this bound on its delay.
 fn has_bound(extreme: Extreme, m: &Message) -> bool
-    ensures { IsTrue result ↔ HasBound extreme m.now }
+    ensures { IsTrue result ↔ HasDelayBound extreme m.now }
 {
     match (extreme, &m.most) {
         (Extreme::Most, None) => false,
@@ -150,7 +150,7 @@ fn delay_of(p: &Problem, extreme: Extreme, send: &Name, receive: &Name) -> Optio
 
 /// The bound of a problem that a step's line names; None where the problem declares no such bound.
 pub fn bound_of(p: &Problem, words: &StepWords) -> Option<Bound>
-    ensures some { IfSome result (λ b. Finds p.now words.now b) }
+    ensures some { IfSome result (λ b. FindsBound p.now words.now b) }
     ensures none { IfNone result (FindsNone p.now words.now) }
 {
     match words {

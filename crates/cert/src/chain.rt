@@ -1,6 +1,6 @@
 // Steps of a certificate: bounds with their weights.
 ghost use Rattle.std.specs.Prelude.{◌≡◌, ◌<◌, ◌≤◌, ◌^◌, ◌↔◌, ◌++◌, ◌∷◌, [], length, IsTrue, OnOk, OnErr};
-ghost use Rattle.cert.specs.Sizes.{most_steps};
+ghost use Rattle.problem_model.specs.Limits.{most_steps};
 
 use atto::Units;
 use problem_model::Bound;
@@ -16,9 +16,6 @@ pub struct Step {
     pub weight: Units,
 }
 
-/// The most steps of a chain, so that a sum of the weights of so many bounds is below 2^116 in absolute value.
-pub const MOST_STEPS: usize = 1 << 23;
-
 /// At most 2^23 steps, one after another: a cycle or a path of difference constraints.
 #[derive(Drop)]
 pub struct Chain {
@@ -27,7 +24,7 @@ pub struct Chain {
 
 impl Model for Chain {
     ghost use Rattle.std.specs.Prelude.{List, ◌≤◌, ◌^◌, length};
-    ghost use Rattle.cert.specs.Sizes.{most_steps};
+    ghost use Rattle.problem_model.specs.Limits.{most_steps};
     ghost use Rattle.cert.specs.declared.chain.Step.{Step};
 
     ghost Value = { List Step };

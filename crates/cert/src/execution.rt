@@ -1,6 +1,6 @@
 // The real times of the nodes of a problem.
 ghost use Rattle.std.specs.Prelude.{◌≡◌, ◌≤◌, ◌<◌, ◌^◌, ◌++◌, ◌∷◌, [], length, slice_get, Some, IsTrue, ◌↔◌, OnOk, OnErr, unsigned_abs};
-ghost use Rattle.problem_model.specs.Nodes.{most_nodes};
+ghost use Rattle.problem_model.specs.Limits.{most_nodes};
 
 use atto::Units;
 use std::alloc::{AllocError, Global};
@@ -15,7 +15,7 @@ pub struct Execution {
 
 impl Model for Execution {
     ghost use Rattle.std.specs.Prelude.{ℤ, List, ◌≤◌, ◌^◌, length};
-    ghost use Rattle.problem_model.specs.Nodes.{most_nodes};
+    ghost use Rattle.problem_model.specs.Limits.{most_nodes};
 
     ghost Value = { List ℤ };
 

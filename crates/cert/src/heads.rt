@@ -1,5 +1,7 @@
-// The lines that name the events of a certificate and begin its parts.
-ghost use Rattle.std.specs.Prelude.{◌≡◌, ◌↔◌, ℕ, IsTrue, IfSome, IfNone};
+// The first lines of texts, and those that name the events of a certificate and begin its parts.
+ghost use Rattle.std.specs.Prelude.{◌≡◌, ◌↔◌, ◌++◌, ◌∷◌, [], ℕ, List, IsTrue, IfSome, IfNone};
+ghost use Rattle.line_format.specs.Words.{line_of};
+ghost use Rattle.line_format.specs.Cut.{Lacks};
 ghost use Rattle.problem_model.specs.Name.{IsEventName};
 ghost use Rattle.problem.specs.Line.{HasEvent};
 ghost use Rattle.cert.specs.CertificateFormat.{side_word, unlimited_word};
@@ -15,6 +17,18 @@ use line_format::{FaultKind, LineError, cut, three_words};
 use problem::Problem;
 use problem_model::Name;
 use std::alloc::Global;
+
+/// What follows a first line of this text.
+pub fn behind<'a>(line: &[u8], text: &'a [u8]) -> Option<&'a [u8]>
+    requires { Lacks 10 line.now }
+    ensures some { IfSome result (λ rest. text.now ≡ line_of (line.now ∷ []) ++ rest.now) }
+    ensures none { IfNone result ((more : List ℕ) → text.now ≡ line_of (line.now ∷ []) ++ more → ⊥) }
+{
+    match cut(b'\n', text) {
+        Some((first, rest)) => { if first == line { Some(rest) } else { None } }
+        None => None,
+    }
+}
 
 /// The names of the two events whose difference has the ends.
 #[derive(Clone, Copy)]

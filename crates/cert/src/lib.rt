@@ -3,13 +3,13 @@
 
 mod bounds;
 mod certificate;
-mod certify;
 mod chain;
 mod error;
 mod execution;
 mod heads;
 mod kinds;
 mod laws;
+mod lists;
 mod nodes;
 mod parts;
 mod read;
@@ -20,12 +20,13 @@ mod words;
 mod write;
 
 pub use certificate::{Cert, EndProof};
-pub use certify::write_cert;
 pub use chain::{Chain, Step};
-pub use error::CertError;
+pub use error::{CertError, error_at};
 pub use execution::Execution;
-pub use kinds::{Extreme, StampBound};
+pub use heads::behind;
+pub use kinds::{Extreme, Side, StampBound};
 pub use laws::{listings, read_again};
+pub use lists::{write_steps, write_values};
 pub use read::{execution_answers_are_one, read_execution};
 pub use read_certificate::{certificate_answers_are_one, read_cert};
 pub use write::{push_bound, push_clock, push_event, write_step, write_value};

@@ -1,7 +1,8 @@
 // The nodes of a problem, by their names.
 ghost use Rattle.std.specs.Prelude.{◌≡◌, ◌≤◌, length};
-ghost use Rattle.problem_model.specs.Nodes.{AreReadings, nodes_of, most_nodes};
-ghost use Rattle.cert.specs.NodeLists.{StandsAt};
+ghost use Rattle.problem_model.specs.Nodes.{AreReadings, nodes_of};
+ghost use Rattle.problem_model.specs.Limits.{most_nodes};
+ghost use Rattle.cert.specs.NodeLists.{StandsAtNode};
 
 use atto::Nano;
 use problem::Problem;
@@ -53,7 +54,7 @@ impl<'a> Nodes<'a> {
 
     /// What stands at place `k`, from 0 on.
     pub fn at(&self, k: u32) -> NextNode
-        ensures stands { StandsAt self.now k result }
+        ensures stands { StandsAtNode self.now k result }
         ensures few { length (nodes_of self.now.problem self.now.readings) ≤ most_nodes }
     {
         let k = k as usize;

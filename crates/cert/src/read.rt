@@ -1,18 +1,20 @@
 // The text of an execution, line by line.
-ghost use Rattle.std.specs.Prelude.{◌≡◌, ◌↔◌, ◌<◌, ◌≤◌, ◌++◌, ℕ, List, length, IfSome, IfNone, codes, ℤ};
+ghost use Rattle.std.specs.Prelude.{◌≡◌, ◌↔◌, ◌<◌, ◌≤◌, ◌++◌, ℕ, List, length, ℤ};
 ghost use Rattle.line_format.specs.Words.{line_of};
-ghost use Rattle.line_format.specs.Format.{Takes, Answers, Answer, most_bytes};
+ghost use Rattle.line_format.specs.Format.{Takes, Answers, Answer, most_text_bytes};
 ghost use Rattle.line_format.specs.Format.Answer.{Found};
 ghost use Rattle.problem_model.specs.Problem.{ProblemLists, IsProblem};
-ghost use Rattle.problem_model.specs.Nodes.{Reading, AreReadings, nodes_of, most_nodes};
+ghost use Rattle.problem_model.specs.Nodes.{Reading, AreReadings, nodes_of};
 ghost use Rattle.problem_model.specs.ExecutionText.{execution_head};
+ghost use Rattle.problem_model.specs.Limits.{most_nodes};
 ghost use Rattle.cert.specs.ExecutionFormat.{execution_format, AreValues};
-ghost use Rattle.cert.specs.NodeLists.{NodeLists, StandsAt};
+ghost use Rattle.cert.specs.NodeLists.{NodeLists, StandsAtNode};
 ghost use Rattle.cert.specs.ReadsExecution.{Reads, ReadsOver, IsTextOf};
 ghost use Rattle.cert.specs.declared.nodes.NextNode.TheVariants as next;
 
 use crate::error::{CertError, error_at};
 use crate::execution::Execution;
+use crate::heads::behind;
 use crate::nodes::{NextNode, Nodes};
 use crate::words::{event_words, reading_words};
 use atto::Nano;
@@ -24,8 +26,8 @@ use std::alloc::Global;
 // The line of the event of this name.
 fn take_event(values: &mut Execution, name: &Name, body: &[u8]) -> Result<Taken, LineError>
     requires { length values.old < most_nodes }
-    ensures takes { (n : NodeLists) → StandsAt n (length values.old) (next.Event name.now) → Takes (execution_format n.problem n.readings) values.old body.now result values.new }
-    ensures sound { (n : NodeLists) → StandsAt n (length values.old) (next.Event name.now) → AreValues (length (nodes_of n.problem n.readings)) values.old → AreValues (length (nodes_of n.problem n.readings)) values.new }
+    ensures takes { (n : NodeLists) → StandsAtNode n (length values.old) (next.Event name.now) → Takes (execution_format n.problem n.readings) values.old body.now result values.new }
+    ensures sound { (n : NodeLists) → StandsAtNode n (length values.old) (next.Event name.now) → AreValues (length (nodes_of n.problem n.readings)) values.old → AreValues (length (nodes_of n.problem n.readings)) values.new }
 {
     let Some(w) = event_words(body) else {
         return Err(LineError::Fault(FaultKind::Syntax));
@@ -48,8 +50,8 @@ fn take_reading(
     body: &[u8],
 ) -> Result<Taken, LineError>
     requires { length values.old < most_nodes }
-    ensures takes { (n : NodeLists) → StandsAt n (length values.old) (next.Reading clock.now stamp) → Takes (execution_format n.problem n.readings) values.old body.now result values.new }
-    ensures sound { (n : NodeLists) → StandsAt n (length values.old) (next.Reading clock.now stamp) → AreValues (length (nodes_of n.problem n.readings)) values.old → AreValues (length (nodes_of n.problem n.readings)) values.new }
+    ensures takes { (n : NodeLists) → StandsAtNode n (length values.old) (next.Reading clock.now stamp) → Takes (execution_format n.problem n.readings) values.old body.now result values.new }
+    ensures sound { (n : NodeLists) → StandsAtNode n (length values.old) (next.Reading clock.now stamp) → AreValues (length (nodes_of n.problem n.readings)) values.old → AreValues (length (nodes_of n.problem n.readings)) values.new }
 {
     let Some(w) = reading_words(body) else {
         return Err(LineError::Fault(FaultKind::Syntax));
@@ -69,7 +71,7 @@ fn take_reading(
 
 // The end, behind the last node.
 fn take_end(body: &[u8]) -> Result<Taken, LineError>
-    ensures { (n : NodeLists) (values : List ℤ) → StandsAt n (length values) next.End → AreValues (length (nodes_of n.problem n.readings)) values → Takes (execution_format n.problem n.readings) values body.now result values }
+    ensures { (n : NodeLists) (values : List ℤ) → StandsAtNode n (length values) next.End → AreValues (length (nodes_of n.problem n.readings)) values → Takes (execution_format n.problem n.readings) values body.now result values }
 {
     if body == b"end".as_slice() {
         Ok(Taken::End)
@@ -91,20 +93,9 @@ pub fn take_line(nodes: &Nodes<'_>, values: &mut Execution, body: &[u8]) -> Resu
     }
 }
 
-// What follows the head.
-fn after_head(text: &[u8]) -> Option<&[u8]>
-    ensures some { IfSome result (λ rest. text.now ≡ line_of execution_head ++ rest.now) }
-    ensures none { IfNone result ((more : List ℕ) → text.now ≡ line_of execution_head ++ more → ⊥) }
-{
-    match cut(b'\n', text) {
-        Some((head, rest)) if head == b"execution 1".as_slice() => Some(rest),
-        _ => None,
-    }
-}
-
 // The lines behind the head, which is line 1.
 fn read_lines(alloc: Global, nodes: &Nodes<'_>, lines: &[u8]) -> Result<Execution, CertError>
-    requires { length (line_of execution_head ++ lines.now) ≤ most_bytes }
+    requires { length (line_of execution_head ++ lines.now) ≤ most_text_bytes }
     ensures { ReadsOver nodes.now.problem nodes.now.readings (line_of execution_head ++ lines.now) result }
 {
     let mut values = Execution::new(alloc);
@@ -132,7 +123,7 @@ fn read_text(alloc: Global, nodes: &Nodes<'_>, text: &[u8]) -> Result<Execution,
     if text.len() > MOST_BYTES {
         return Err(CertError::Long);
     }
-    match after_head(text) {
+    match behind(b"execution 1", text) {
         Some(lines) => read_lines(alloc, nodes, lines),
         None => Err(CertError::Syntax(1)),
     }

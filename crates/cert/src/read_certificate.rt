@@ -1,7 +1,7 @@
 // The text of a certificate, line by line.
-ghost use Rattle.std.specs.Prelude.{◌≡◌, ◌↔◌, ◌≤◌, ◌++◌, ◌⊎◌, ℕ, List, length, IfSome, IfNone, Result, Ok, Err};
+ghost use Rattle.std.specs.Prelude.{◌≡◌, ◌↔◌, ◌≤◌, ◌++◌, ◌⊎◌, ℕ, List, length, Result, Ok, Err};
 ghost use Rattle.line_format.specs.Words.{line_of};
-ghost use Rattle.line_format.specs.Format.{Answers, Answer, most_bytes};
+ghost use Rattle.line_format.specs.Format.{Answers, Answer, most_text_bytes};
 ghost use Rattle.line_format.specs.Format.Answer.{Found};
 ghost use Rattle.problem_model.specs.Problem.{ProblemLists, IsProblem};
 ghost use Rattle.problem_model.specs.Nodes.{Reading, AreReadings, nodes_of};
@@ -9,7 +9,7 @@ ghost use Rattle.problem.specs.Listing.{all_readings};
 ghost use Rattle.cert.specs.ExecutionFormat.{AreValues};
 ghost use Rattle.cert.specs.Listed.{certificate_head};
 ghost use Rattle.cert.specs.CertificateFormat.{Said, AreSteps, AreEvents, IsSound, IsWhole, said, certificate_format};
-ghost use Rattle.cert.specs.EndLists.{lists_of};
+ghost use Rattle.cert.specs.EndLists.{end_lists};
 ghost use Rattle.cert.specs.CertificateFormat.Said.{NoneSaid, CycleSaid, RunSaid, EventsSaid, UpperSaid, EndsSaid};
 ghost use Rattle.cert.specs.CertificateText.{IsCertOf, certificate_text};
 ghost use Rattle.cert.specs.ReadsCert.{FitsCert, IsCertTextOf, ReadsCert, ReadsCertOver};
@@ -20,11 +20,10 @@ use crate::certificate::{Cert, EndProof};
 use crate::chain::Chain;
 use crate::error::{CertError, error_at};
 use crate::execution::Execution;
-use crate::heads::{begin_end, ends_words, event_places};
+use crate::heads::{begin_end, behind, ends_words, event_places};
 use crate::kinds::Side;
 use crate::parts::{Next, Parts};
-use crate::steps::step_words;
-use crate::take_part::{is_whole, push_step, take_in_end, take_value};
+use crate::take_part::{is_whole, take_in_cycle, take_in_end, take_value};
 use line_format::{FaultKind, LineError, MOST_BYTES, Taken, cut};
 use problem::Problem;
 use std::alloc::Global;
@@ -53,14 +52,9 @@ fn cycle_line(p: &Problem, mut steps: Chain, body: &[u8]) -> Result<Next, LineEr
     requires { AreSteps p.now steps }
     ensures { Gives p.now (CycleSaid steps) body.now result }
 {
-    let Some(words) = step_words(body) else {
-        if body == b"end".as_slice() {
-            return Ok(Next::Done(Cert::Cycle(steps)));
-        }
-        return Err(LineError::Fault(FaultKind::Syntax));
-    };
-    match push_step(p, &mut steps, &words) {
-        Ok(()) => Ok(Next::More(Parts::Whole(Cert::Cycle(steps)))),
+    match take_in_cycle(p, &mut steps, body) {
+        Ok(Taken::Line) => Ok(Next::More(Parts::Whole(Cert::Cycle(steps)))),
+        Ok(Taken::End) => Ok(Next::Done(Cert::Cycle(steps))),
         Err(fault) => Err(fault),
     }
 }
@@ -95,7 +89,7 @@ fn lower_begins(
     upper: EndProof,
     body: &[u8],
 ) -> Result<Next, LineError>
-    ensures { (problem : ProblemLists) → IsSound problem (all_readings problem.events) (UpperSaid p q (lists_of upper)) → IsWhole problem (all_readings problem.events) (lists_of upper) → Gives problem (UpperSaid p q (lists_of upper)) body.now result }
+    ensures { (problem : ProblemLists) → IsSound problem (all_readings problem.events) (UpperSaid p q (end_lists upper)) → IsWhole problem (all_readings problem.events) (end_lists upper) → Gives problem (UpperSaid p q (end_lists upper)) body.now result }
 {
     match begin_end(alloc, Side::Lower, body) {
         Ok(lower) => Ok(Next::More(Parts::Whole(Cert::Ends { p, q, upper, lower }))),
@@ -111,9 +105,9 @@ fn upper_line(
     mut upper: EndProof,
     body: &[u8],
 ) -> Result<Next, LineError>
-    requires sound { IsSound problem.now (all_readings problem.now.events) (UpperSaid p q (lists_of upper)) }
-    requires more { IsWhole problem.now (all_readings problem.now.events) (lists_of upper) → ⊥ }
-    ensures { Gives problem.now (UpperSaid p q (lists_of upper)) body.now result }
+    requires sound { IsSound problem.now (all_readings problem.now.events) (UpperSaid p q (end_lists upper)) }
+    requires more { IsWhole problem.now (all_readings problem.now.events) (end_lists upper) → ⊥ }
+    ensures { Gives problem.now (UpperSaid p q (end_lists upper)) body.now result }
 {
     match take_in_end(problem, &mut upper, body) {
         Ok(_) => Ok(Next::More(Parts::Upper { p, q, upper })),
@@ -130,8 +124,8 @@ fn lower_line(
     mut lower: EndProof,
     body: &[u8],
 ) -> Result<Next, LineError>
-    requires { IsSound problem.now (all_readings problem.now.events) (EndsSaid p q (lists_of upper) (lists_of lower)) }
-    ensures { Gives problem.now (EndsSaid p q (lists_of upper) (lists_of lower)) body.now result }
+    requires { IsSound problem.now (all_readings problem.now.events) (EndsSaid p q (end_lists upper) (end_lists lower)) }
+    ensures { Gives problem.now (EndsSaid p q (end_lists upper) (end_lists lower)) body.now result }
 {
     match take_in_end(problem, &mut lower, body) {
         Ok(Taken::Line) => Ok(Next::More(Parts::Whole(Cert::Ends { p, q, upper, lower }))),
@@ -170,20 +164,9 @@ fn take(alloc: Global, problem: &Problem, parts: Parts, body: &[u8]) -> Result<N
     }
 }
 
-// What follows the head.
-fn after_head(text: &[u8]) -> Option<&[u8]>
-    ensures some { IfSome result (λ rest. text.now ≡ line_of certificate_head ++ rest.now) }
-    ensures none { IfNone result ((more : List ℕ) → text.now ≡ line_of certificate_head ++ more → ⊥) }
-{
-    match cut(b'\n', text) {
-        Some((head, rest)) if head == b"certificate 1".as_slice() => Some(rest),
-        _ => None,
-    }
-}
-
 // The lines behind the head, which is line 1.
 fn read_lines(alloc: Global, p: &Problem, lines: &[u8]) -> Result<Cert, CertError>
-    requires { length (line_of certificate_head ++ lines.now) ≤ most_bytes }
+    requires { length (line_of certificate_head ++ lines.now) ≤ most_text_bytes }
     ensures { ReadsCertOver p.now (all_readings p.now.events) (line_of certificate_head ++ lines.now) result }
 {
     let _ = p.readings();
@@ -213,7 +196,7 @@ fn read_text(alloc: Global, p: &Problem, text: &[u8]) -> Result<Cert, CertError>
     if text.len() > MOST_BYTES {
         return Err(CertError::Long);
     }
-    match after_head(text) {
+    match behind(b"certificate 1", text) {
         Some(lines) => read_lines(alloc, p, lines),
         None => Err(CertError::Syntax(1)),
     }
@@ -232,6 +215,6 @@ pub fn read_cert(alloc: Global, p: &Problem, text: &[u8]) -> Result<Cert, CertEr
 pub fn certificate_answers_are_one()
     ensures one { (p : ProblemLists) (readings : List Reading) (text : List ℕ) (a : Answer Said) (b : Answer Said) → IsProblem p → AreReadings p readings → Answers (certificate_format p readings) text a → Answers (certificate_format p readings) text b → a ≡ b }
     ensures found { (p : ProblemLists) (readings : List Reading) (text : List ℕ) (c : Cert) → AreReadings p readings → (IsCertTextOf p readings c text ↔ Answers (certificate_format p readings) text (Found (said c))) }
-    ensures read_again { (p : ProblemLists) (readings : List Reading) (c : Cert) (result : Result Cert CertError) → IsProblem p → AreReadings p readings → IsCertOf p c → FitsCert c → length (certificate_text p (nodes_of p readings) c) ≤ most_bytes
+    ensures read_again { (p : ProblemLists) (readings : List Reading) (c : Cert) (result : Result Cert CertError) → IsProblem p → AreReadings p readings → IsCertOf p c → FitsCert c → length (certificate_text p (nodes_of p readings) c) ≤ most_text_bytes
         → ReadsCertOver p readings (certificate_text p (nodes_of p readings) c) result → ((d : Cert) × (result ≡ Ok d) × (said d ≡ said c)) ⊎ (result ≡ Err errors.Memory) }
 {}

@@ -6,7 +6,7 @@ ghost use Rattle.problem_model.specs.Name.{IsEventName, IsClockName};
 ghost use Rattle.cert.specs.declared.kinds.Extreme.{Extreme};
 ghost use Rattle.cert.specs.declared.kinds.StampBound.{StampBound};
 ghost use Rattle.cert.specs.CertificateFormat.{span_word, stamp_word, delay_word};
-ghost use Rattle.cert.specs.SaidStep.{SpanParts, SaysSpan, NoSpan, StampParts, SaysStamp, NoStamp, FollowParts, SaysFollow, NoFollow, DelayParts, SaysDelay, NoDelay, SaysKind, NoKind, SaysStep, NoStep};
+ghost use Rattle.cert.specs.SaidStep.{SpanParts, SaysSpan, NoSpan, StampParts, SaysStamp, NoStamp, FollowStepParts, SaysFollow, NoFollowStep, DelayParts, SaysDelay, NoDelay, SaysKind, NoKind, SaysStep, NoStep};
 
 use crate::kinds::{Extreme, StampBound};
 use crate::words::{clock_name, number_of, value_of};
@@ -162,7 +162,7 @@ fn stamp_words(rest: &[u8]) -> Option<StampWords>
 }
 
 fn follow_of(earlier: &[u8], s: &[u8], later: &[u8], t: &[u8], weight: &[u8]) -> Option<FollowWords>
-    ensures some { IfSome result (λ w. FollowParts earlier.now s.now later.now t.now weight.now w) }
+    ensures some { IfSome result (λ w. FollowStepParts earlier.now s.now later.now t.now weight.now w) }
     ensures none { IfNone result ((x : ℕ) (y : ℕ) (z : ℤ) → IsClockName earlier.now → s.now ≡ decimal_of x → IsClockName later.now → t.now ≡ decimal_of y → weight.now ≡ ns_text z → ⊥) }
 {
     Some(FollowWords {
@@ -177,7 +177,7 @@ fn follow_of(earlier: &[u8], s: &[u8], later: &[u8], t: &[u8], weight: &[u8]) ->
 // The words `EARLIER S LATER T WEIGHT`.
 fn follow_words(rest: &[u8]) -> Option<FollowWords>
     ensures some { IfSome result (λ w. SaysFollow rest.now w) }
-    ensures none { IfNone result (NoFollow rest.now) }
+    ensures none { IfNone result (NoFollowStep rest.now) }
 {
     match five_words(rest) {
         Some((earlier, s, later, t, weight)) => follow_of(earlier, s, later, t, weight),

@@ -5,14 +5,15 @@ ghost use Rattle.line_format.specs.Format.{Takes};
 ghost use Rattle.problem_model.specs.Nodes.{nodes_of};
 ghost use Rattle.problem.specs.Listing.{all_readings};
 ghost use Rattle.cert.specs.ExecutionFormat.{execution_format, AreValues};
-ghost use Rattle.cert.specs.CertificateFormat.{NamedBound, end_values, IsSoundEnd, IsWhole};
-ghost use Rattle.cert.specs.EndLists.{lists_of, Limited, Unlimited};
+ghost use Rattle.cert.specs.CertificateFormat.{NamedBound, AreSteps, end_values, IsSoundEnd, IsWhole, certificate_format};
+ghost use Rattle.cert.specs.CertificateFormat.Said.{CycleSaid};
+ghost use Rattle.cert.specs.EndLists.{end_lists, Limited, Unlimited};
 ghost use Rattle.cert.specs.SaidStep.{HoldsStep, SaysInside, NoInside};
 ghost use Rattle.cert.specs.TakesPart.{TakesStep, TakesInside, TakesInEnd};
 
 use crate::bounds::bound_of;
 use crate::certificate::EndProof;
-use crate::chain::{Chain, MOST_STEPS, Step};
+use crate::chain::{Chain, Step};
 use crate::execution::Execution;
 use crate::nodes::Nodes;
 use crate::read::take_line;
@@ -21,7 +22,7 @@ use crate::words::clock_name;
 use atto::Units;
 use line_format::{FaultKind, LineError, Taken, cut};
 use problem::Problem;
-use problem_model::Name;
+use problem_model::{MOST_STEPS, Name};
 
 /// The clock of a line `inside CLOCK`.
 fn inside_words(body: &[u8]) -> Option<Name>
@@ -67,6 +68,27 @@ pub fn push_step(p: &Problem, steps: &mut Chain, words: &StepWords) -> Result<()
     }
     steps.push(Step { bound, weight })?;
     Ok(())
+}
+
+/// Takes the line of a step of a cycle, or the end of the text: says which it was, or why it was not taken, by the format
+/// of certificates. `Memory` comes only where memory runs out.
+pub fn take_in_cycle(p: &Problem, steps: &mut Chain, body: &[u8]) -> Result<Taken, LineError>
+    ensures takes { Takes (certificate_format p.now (all_readings p.now.events)) (CycleSaid steps.old) body.now result (CycleSaid steps.new) }
+    ensures sound { AreSteps p.now steps.old → OnOk result (AreSteps p.now steps.new) }
+{
+    match step_words(body) {
+        Some(words) => match push_step(p, steps, &words) {
+            Ok(()) => Ok(Taken::Line),
+            Err(fault) => Err(fault),
+        },
+        None => {
+            if body == b"end".as_slice() {
+                Ok(Taken::End)
+            } else {
+                Err(LineError::Fault(FaultKind::Syntax))
+            }
+        }
+    }
 }
 
 // Whether a clock comes behind all these, which rise.
@@ -160,9 +182,9 @@ fn take_in_cut(
 /// Takes a line of the part of an end: says whether it was the end of the text, or why it was not taken, by the format of
 /// certificates. `Memory` comes only where memory runs out.
 pub fn take_in_end(p: &Problem, end: &mut EndProof, body: &[u8]) -> Result<Taken, LineError>
-    requires { IsSoundEnd p.now (all_readings p.now.events) (lists_of end.old) }
-    ensures takes { TakesInEnd p.now (all_readings p.now.events) (lists_of end.old) body.now result (lists_of end.new) }
-    ensures sound { OnOk result (IsSoundEnd p.now (all_readings p.now.events) (lists_of end.new)) }
+    requires { IsSoundEnd p.now (all_readings p.now.events) (end_lists end.old) }
+    ensures takes { TakesInEnd p.now (all_readings p.now.events) (end_lists end.old) body.now result (end_lists end.new) }
+    ensures sound { OnOk result (IsSoundEnd p.now (all_readings p.now.events) (end_lists end.new)) }
 {
     match end {
         EndProof::At {
@@ -176,7 +198,7 @@ pub fn take_in_end(p: &Problem, end: &mut EndProof, body: &[u8]) -> Result<Taken
 
 // How many nodes have their real time in this end.
 fn value_count(end: &EndProof) -> u32
-    ensures { result ≡ length (end_values (lists_of end.now)) }
+    ensures { result ≡ length (end_values (end_lists end.now)) }
 {
     match end {
         EndProof::At { execution, .. } => execution.len(),
@@ -186,7 +208,7 @@ fn value_count(end: &EndProof) -> u32
 
 /// Whether each node has its real time in this end.
 pub fn is_whole(p: &Problem, end: &EndProof) -> bool
-    ensures { IsTrue result ↔ IsWhole p.now (all_readings p.now.events) (lists_of end.now) }
+    ensures { IsTrue result ↔ IsWhole p.now (all_readings p.now.events) (end_lists end.now) }
 {
     u64::from(value_count(end)) == p.events().len() as u64 + p.readings().len() as u64
 }

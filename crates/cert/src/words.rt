@@ -3,7 +3,7 @@ ghost use Rattle.std.specs.Prelude.{◌≡◌, ℕ, ℤ, IfSome, IfNone, SomeIff
 ghost use Rattle.atto.specs.Decimal.{decimal_of};
 ghost use Rattle.atto.specs.NsText.{ns_text};
 ghost use Rattle.problem_model.specs.Name.{IsEventName, IsClockName};
-ghost use Rattle.cert.specs.Said.{SpellsValue, SpellsNumber, EventParts, SaysEvent, NoEvent, ReadingParts, SaysReading, NoReading};
+ghost use Rattle.cert.specs.Said.{SpellsValue, SpellsNumber, EventValueParts, SaysEvent, NoEventValue, ReadingParts, SaysReading, NoReading};
 
 use atto::{NumFault, Units, read_decimal, read_ns};
 use line_format::{four_words, three_words};
@@ -57,7 +57,7 @@ pub fn clock_name(text: &[u8]) -> Option<Name>
 }
 
 fn event_of(word: &[u8], name: &[u8], value: &[u8]) -> Option<EventWords>
-    ensures some { IfSome result (λ w. EventParts word.now name.now value.now w) }
+    ensures some { IfSome result (λ w. EventValueParts word.now name.now value.now w) }
     ensures none { IfNone result ((z : ℤ) → word.now ≡ codes "event" → IsEventName name.now → value.now ≡ ns_text z → ⊥) }
 {
     if word != b"event".as_slice() {
@@ -72,7 +72,7 @@ fn event_of(word: &[u8], name: &[u8], value: &[u8]) -> Option<EventWords>
 /// The event and the value of a line `event NAME VALUE`.
 pub fn event_words(body: &[u8]) -> Option<EventWords>
     ensures some { IfSome result (λ w. SaysEvent body.now w) }
-    ensures none { IfNone result (NoEvent body.now) }
+    ensures none { IfNone result (NoEventValue body.now) }
 {
     match three_words(body) {
         Some((word, name, value)) => event_of(word, name, value),

@@ -2,8 +2,8 @@
 ghost use Rattle.std.specs.Prelude.{◌≡◌, ◌≤◌, ◌<◌, ◌+◌, ◌++◌, ◌∷◌, [], ℕ, List, length, codes};
 ghost use Rattle.line_format.specs.Words.{words};
 ghost use Rattle.ports.specs.Content.{Writes};
-ghost use Rattle.cert.specs.Listed.{name_at, listed_bound, listed_step, listed_words, words_at, timed_line, IsNamed};
-ghost use Rattle.ports.specs.Room.{HasRoom};
+ghost use Rattle.cert.specs.Listed.{name_at, listed_bound, listed_step, listed_words, words_at, timed_line, HasNames};
+ghost use Rattle.ports.specs.Room.{HasRoomBehind};
 ghost use Rattle.problem_model.specs.BoundText.{span_words, stamp_words, follow_words, delay_words};
 
 use atto::Nano;
@@ -15,7 +15,7 @@ use problem_model::Bound;
 /// Appends the name of an event behind a space.
 pub fn push_event<N: Listing>(line: &mut Line, names: &N, event: u32)
     requires named { event < length (N.listed names.now).event_names }
-    requires room { HasRoom line.old.items 49 }
+    requires room { HasRoomBehind line.old.items 49 }
     ensures appended { (first : List ℕ) (ws : List (List ℕ)) → line.old.items ≡ words (first ∷ ws) → line.new.items ≡ words (first ∷ ws ++ name_at (N.listed names.now).event_names event ∷ []) }
     ensures grown { length line.new.items ≤ length line.old.items + 49 }
 {
@@ -26,7 +26,7 @@ pub fn push_event<N: Listing>(line: &mut Line, names: &N, event: u32)
 /// Appends the name of a clock behind a space.
 pub fn push_clock<N: Listing>(line: &mut Line, names: &N, clock: u32)
     requires named { clock < length (N.listed names.now).clock_names }
-    requires room { HasRoom line.old.items 49 }
+    requires room { HasRoomBehind line.old.items 49 }
     ensures appended { (first : List ℕ) (ws : List (List ℕ)) → line.old.items ≡ words (first ∷ ws) → line.new.items ≡ words (first ∷ ws ++ name_at (N.listed names.now).clock_names clock ∷ []) }
     ensures grown { length line.new.items ≤ length line.old.items + 49 }
 {
@@ -38,7 +38,7 @@ pub fn push_clock<N: Listing>(line: &mut Line, names: &N, clock: u32)
 fn push_span<N: Listing>(line: &mut Line, names: &N, kind: &[u8], clock: u32, s: Nano, t: Nano)
     requires kind { length kind.now ≤ 48 }
     requires named { clock < length (N.listed names.now).clock_names }
-    requires room { HasRoom line.old.items 245 }
+    requires room { HasRoomBehind line.old.items 245 }
     ensures appended { (first : List ℕ) (ws : List (List ℕ)) → line.old.items ≡ words (first ∷ ws) → line.new.items ≡ words (first ∷ ws ++ span_words kind.now (name_at (N.listed names.now).clock_names clock) s t) }
     ensures grown { length line.new.items ≤ length line.old.items + 245 }
 {
@@ -52,7 +52,7 @@ fn push_span<N: Listing>(line: &mut Line, names: &N, kind: &[u8], clock: u32, s:
 fn push_stamp<N: Listing>(line: &mut Line, names: &N, kind: &[u8], event: u32)
     requires kind { length kind.now ≤ 48 }
     requires named { event < length (N.listed names.now).event_names }
-    requires room { HasRoom line.old.items 245 }
+    requires room { HasRoomBehind line.old.items 245 }
     ensures appended { (first : List ℕ) (ws : List (List ℕ)) → line.old.items ≡ words (first ∷ ws) → line.new.items ≡ words (first ∷ ws ++ stamp_words kind.now (name_at (N.listed names.now).event_names event)) }
     ensures grown { length line.new.items ≤ length line.old.items + 245 }
 {
@@ -65,7 +65,7 @@ fn push_delay<N: Listing>(line: &mut Line, names: &N, kind: &[u8], send: u32, re
     requires kind { length kind.now ≤ 48 }
     requires send { send < length (N.listed names.now).event_names }
     requires receive { receive < length (N.listed names.now).event_names }
-    requires room { HasRoom line.old.items 245 }
+    requires room { HasRoomBehind line.old.items 245 }
     ensures appended { (first : List ℕ) (ws : List (List ℕ)) → line.old.items ≡ words (first ∷ ws) → line.new.items ≡ words (first ∷ ws ++ delay_words kind.now (name_at (N.listed names.now).event_names send) (name_at (N.listed names.now).event_names receive)) }
     ensures grown { length line.new.items ≤ length line.old.items + 245 }
 {
@@ -78,7 +78,7 @@ fn push_delay<N: Listing>(line: &mut Line, names: &N, kind: &[u8], send: u32, re
 fn push_follow<N: Listing>(line: &mut Line, names: &N, earlier: u32, s: Nano, later: u32, t: Nano)
     requires earlier { earlier < length (N.listed names.now).clock_names }
     requires later { later < length (N.listed names.now).clock_names }
-    requires room { HasRoom line.old.items 245 }
+    requires room { HasRoomBehind line.old.items 245 }
     ensures appended { (first : List ℕ) (ws : List (List ℕ)) → line.old.items ≡ words (first ∷ ws) → line.new.items ≡ words (first ∷ ws ++ follow_words (name_at (N.listed names.now).clock_names earlier) s (name_at (N.listed names.now).clock_names later) t) }
     ensures grown { length line.new.items ≤ length line.old.items + 245 }
 {
@@ -91,8 +91,8 @@ fn push_follow<N: Listing>(line: &mut Line, names: &N, earlier: u32, s: Nano, la
 
 /// Appends the words that name a bound, each behind a space. Its clocks or events have names.
 pub fn push_bound<N: Listing>(line: &mut Line, names: &N, bound: &Bound)
-    requires named { IsNamed (N.listed names.now) bound.now }
-    requires room { HasRoom line.old.items 245 }
+    requires named { HasNames (N.listed names.now) bound.now }
+    requires room { HasRoomBehind line.old.items 245 }
     ensures appended { (first : List ℕ) (ws : List (List ℕ)) → line.old.items ≡ words (first ∷ ws) → line.new.items ≡ words (first ∷ ws ++ listed_bound (N.listed names.now) bound.now) }
     ensures grown { length line.new.items ≤ length line.old.items + 245 }
 {
@@ -120,7 +120,7 @@ pub fn push_bound<N: Listing>(line: &mut Line, names: &N, bound: &Bound)
 
 // The line of a step.
 fn step_line<N: Listing>(names: &N, bound: &Bound, weight: i128) -> Line
-    requires { IsNamed (N.listed names.now) bound.now }
+    requires { HasNames (N.listed names.now) bound.now }
     ensures { result.items ≡ listed_step (N.listed names.now) (bound.now, weight) }
 {
     let mut line = first_word(b"step");
@@ -139,7 +139,7 @@ pub fn write_step<N: Listing, O: Sink>(
     weight: i128,
     out: &mut O,
 ) -> Result<(), Failed>
-    requires { IsNamed (N.listed names.now) bound.now }
+    requires { HasNames (N.listed names.now) bound.now }
     ensures { Writes (listed_step (N.listed names.now) (bound.now, weight)) (O.told out.old) (O.told out.new) result }
 {
     let line = step_line(names, bound, weight);

@@ -23,7 +23,7 @@ use Rattle.cert_check.specs.declared.answer.Part.{Part}
 use Rattle.cert_check.specs.declared.answer.Reason.{Reason}
 use Rattle.cert_check.specs.declared.answer.Reason.TheVariants.{Broken, Difference}
 use Rattle.cert_check.specs.Reasons.{IsBrokenBy, HasDifference, DifferenceIs, IsNoLater}
-use Rattle.cert_check.specs.Faults.{IsFirstOf}
+use Rattle.cert_check.specs.Faults.{IsFirstWrong}
 use Rattle.cert_check.proofs.Turns.{broken_cases, difference_cases, same_kind, broken_turn, difference_turn}
 
 -- ---- the ends of declared bounds are nodes of the problem
@@ -81,7 +81,7 @@ execution_sound p values lawful (x, listed, execution) = broken_cases p values (
     let broken : w <ℤ d = first.broken in
     omega (arith, ints))
 
-pub broken_first : (p : ProblemLists) (part : Part) (values : List ℤ) (b : Bound) (w d : ℤ) → IsBrokenBy p values (Broken b w d) → IsFirstOf part (IsBrokenBy p values) (Broken b w d)
+pub broken_first : (p : ProblemLists) (part : Part) (values : List ℤ) (b : Bound) (w d : ℤ) → IsBrokenBy p values (Broken b w d) → IsFirstWrong part (IsBrokenBy p values) (Broken b w d)
 broken_first p part values b w d so = record {
   is_so = so;
   first = broken_cases p values (IsNoLater part (Broken b w d) part) (λ b' w' d' so'. same_kind part (Broken b w d) (Broken b' w' d') refl (omega (arith, broken_turn part b w d)));
@@ -97,7 +97,7 @@ difference_sound p first second value values within within' (x, listed, executio
     let has : (x (nodes.Event second) -ℤ x (nodes.Event first)) ≡ value = is in
     differs (omega (arith, ints)))
 
-pub difference_first : (p : ProblemLists) (part : Part) (first second : ℕ) (value : ℤ) (values : List ℤ) (d : ℤ) → HasDifference p first second values d → d ≢ value → IsFirstOf part (DifferenceIs p first second value values) (Difference d)
+pub difference_first : (p : ProblemLists) (part : Part) (first second : ℕ) (value : ℤ) (values : List ℤ) (d : ℤ) → HasDifference p first second values d → d ≢ value → IsFirstWrong part (DifferenceIs p first second value values) (Difference d)
 difference_first p part first second value values d has differs = record {
   is_so = (has, differs);
   first = difference_cases p first second value values (IsNoLater part (Difference d) part) (λ d' has' differs'. same_kind part (Difference d) (Difference d') refl (omega (arith, difference_turn part d)));

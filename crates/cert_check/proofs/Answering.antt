@@ -19,7 +19,7 @@ use Rattle.cert_check.specs.declared.answer.Answer.{Answer}
 use Rattle.cert_check.specs.declared.answer.Answer.TheVariants.{Yes, No}
 use Rattle.cert_check.specs.Walks.{Goes}
 use Rattle.cert_check.specs.Reasons.{CycleIs, IsBrokenBy, EndIs, IsSo, IsNoLater, IsFirstReason, IsAnswer}
-use Rattle.cert_check.specs.Faults.{IsFirstOf, FindsFault, ShowsEnd, answer_of}
+use Rattle.cert_check.specs.Faults.{IsFirstWrong, FindsFault, ShowsEnd, verdict_at}
 use Rattle.cert_check.proofs.Cycles.{cycle_sound}
 use Rattle.cert_check.proofs.Paths.{path_sound}
 use Rattle.cert_check.proofs.Agreeing.{execution_sound, difference_sound}
@@ -86,7 +86,7 @@ module _ (p : ProblemLists) (lawful : IsWellFormed p) where
   yes_of c (No part r) of is shown = absurd (no_reason c part r of is.is_so shown)
 
   -- ---- the answer of each kind of certificate
-  cycle_first : (steps : List Step) (r : Reason) → IsFirstOf Cycle (CycleIs p steps) r → IsFirstReason p (certs.Cycle steps) Cycle r
+  cycle_first : (steps : List Step) (r : Reason) → IsFirstWrong Cycle (CycleIs p steps) r → IsFirstReason p (certs.Cycle steps) Cycle r
   cycle_first steps r found = record { is_so = found.is_so; first = before }
     where
       before : (part : Part) (o : Reason) → IsSo p (certs.Cycle steps) part o → IsNoLater Cycle r part o
@@ -95,11 +95,11 @@ module _ (p : ProblemLists) (lawful : IsWellFormed p) where
       before Upper o so = absurd so
       before Lower o so = absurd so
 
-  pub cycle_answer : (steps : List Step) (o : Option Reason) → FindsFault Cycle (CycleIs p steps) (IsContradictionOf p (weighed_bounds steps)) o → IsAnswer p (certs.Cycle steps) (answer_of Cycle o)
+  pub cycle_answer : (steps : List Step) (o : Option Reason) → FindsFault Cycle (CycleIs p steps) (IsContradictionOf p (weighed_bounds steps)) o → IsAnswer p (certs.Cycle steps) (verdict_at Cycle o)
   cycle_answer steps None found = found
   cycle_answer steps (Some r) found = cycle_first steps r found
 
-  run_first : (execution : List ℤ) (r : Reason) → IsFirstOf Run (IsBrokenBy p execution) r → IsFirstReason p (certs.Run execution) Run r
+  run_first : (execution : List ℤ) (r : Reason) → IsFirstWrong Run (IsBrokenBy p execution) r → IsFirstReason p (certs.Run execution) Run r
   run_first execution r found = record { is_so = found.is_so; first = before }
     where
       before : (part : Part) (o : Reason) → IsSo p (certs.Run execution) part o → IsNoLater Run r part o
@@ -108,12 +108,12 @@ module _ (p : ProblemLists) (lawful : IsWellFormed p) where
       before Upper o so = absurd so
       before Lower o so = absurd so
 
-  pub run_answer : (execution : List ℤ) (o : Option Reason) → FindsFault Run (IsBrokenBy p execution) (IsExecutionOf p execution) o → IsAnswer p (certs.Run execution) (answer_of Run o)
+  pub run_answer : (execution : List ℤ) (o : Option Reason) → FindsFault Run (IsBrokenBy p execution) (IsExecutionOf p execution) o → IsAnswer p (certs.Run execution) (verdict_at Run o)
   run_answer execution None found = found
   run_answer execution (Some r) found = run_first execution r found
 
   module _ (first second : ℕ) (upper lower : EndProof) where
-    upper_first : (r : Reason) → IsFirstOf Upper (EndIs p Upper first second upper) r → IsFirstReason p (certs.Ends first second upper lower) Upper r
+    upper_first : (r : Reason) → IsFirstWrong Upper (EndIs p Upper first second upper) r → IsFirstReason p (certs.Ends first second upper lower) Upper r
     upper_first r found = record { is_so = found.is_so; first = before }
       where
         before : (part : Part) (o : Reason) → IsSo p (certs.Ends first second upper lower) part o → IsNoLater Upper r part o
@@ -122,7 +122,7 @@ module _ (p : ProblemLists) (lawful : IsWellFormed p) where
         before Cycle o so = absurd so
         before Run o so = absurd so
 
-    lower_first : (r : Reason) → ((o : Reason) → EndIs p Upper first second upper o → ⊥) → IsFirstOf Lower (EndIs p Lower first second lower) r → IsFirstReason p (certs.Ends first second upper lower) Lower r
+    lower_first : (r : Reason) → ((o : Reason) → EndIs p Upper first second upper o → ⊥) → IsFirstWrong Lower (EndIs p Lower first second lower) r → IsFirstReason p (certs.Ends first second upper lower) Lower r
     lower_first r none found = record { is_so = found.is_so; first = before }
       where
         before : (part : Part) (o : Reason) → IsSo p (certs.Ends first second upper lower) part o → IsNoLater Lower r part o
@@ -131,11 +131,11 @@ module _ (p : ProblemLists) (lawful : IsWellFormed p) where
         before Cycle o so = absurd so
         before Run o so = absurd so
 
-    pub upper_answer : (o : Option Reason) → (o ≡ None → ⊥) → FindsFault Upper (EndIs p Upper first second upper) (ShowsEnd p Upper first second upper) o → IsAnswer p (certs.Ends first second upper lower) (answer_of Upper o)
+    pub upper_answer : (o : Option Reason) → (o ≡ None → ⊥) → FindsFault Upper (EndIs p Upper first second upper) (ShowsEnd p Upper first second upper) o → IsAnswer p (certs.Ends first second upper lower) (verdict_at Upper o)
     upper_answer None some found = absurd (some refl)
     upper_answer (Some r) some found = upper_first r found
 
     pub lower_answer : (o : Option Reason) → IsCertOf p (certs.Ends first second upper lower) → ShowsEnd p Upper first second upper → FindsFault Lower (EndIs p Lower first second lower) (ShowsEnd p Lower first second lower) o
-        → IsAnswer p (certs.Ends first second upper lower) (answer_of Lower o)
+        → IsAnswer p (certs.Ends first second upper lower) (verdict_at Lower o)
     lower_answer None of shown found = (upper_shown p first second upper shown, lower_shown p first second lower found)
     lower_answer (Some r) of shown found = lower_first r (end_sound Upper first second upper (λ e. absurd cc) of.0 of.1 of.2 shown) found

@@ -21,7 +21,7 @@ use Rattle.cert_check.specs.declared.answer.Part.{Part}
 use Rattle.cert_check.specs.declared.answer.Reason.{Reason}
 use Rattle.cert_check.specs.declared.answer.Reason.TheVariants.{Leaves}
 use Rattle.cert_check.specs.Reasons.{joining_bounds, home_of, away_of, IsLeaving, IsFirstLeaving, CutIs, IsNoLater}
-use Rattle.cert_check.specs.Faults.{IsFirstOf, StaysInside, FindsLeaving}
+use Rattle.cert_check.specs.Faults.{IsFirstWrong, StaysInside, FindsLeaving}
 use Rattle.cert_check.proofs.Chained.{front, back, inside_before}
 use Rattle.cert_check.proofs.Turns.{cut_cases, same_kind, leaves_turn}
 
@@ -128,7 +128,7 @@ module _ (p : ProblemLists) (inside : List ℕ) where
 
 -- ---- what is wrong with a cut first
 module _ (p : ProblemLists) (part : Part) (first second : ℕ) (inside : List ℕ) where
-  pub leaves_first : (b : Bound) → IsInside p inside (nodes.Event (home_of part first second)) → (IsInside p inside (nodes.Event (away_of part first second)) → ⊥) → IsFirstLeaving p inside b → IsFirstOf part (CutIs p part first second inside) (Leaves b)
+  pub leaves_first : (b : Bound) → IsInside p inside (nodes.Event (home_of part first second)) → (IsInside p inside (nodes.Event (away_of part first second)) → ⊥) → IsFirstLeaving p inside b → IsFirstWrong part (CutIs p part first second inside) (Leaves b)
   leaves_first b home away leaves = record {
     is_so = leaves;
     first = cut_cases p part first second inside (IsNoLater part (Leaves b) part) (λ so. absurd (so home)) (λ so. absurd (away so)) (λ b' so. same_kind part (Leaves b) (Leaves b') refl (omega (arith, leaves_turn part b)));

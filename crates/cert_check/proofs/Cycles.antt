@@ -16,7 +16,7 @@ use Rattle.cert_check.specs.declared.answer.Part.TheVariants.{Cycle}
 use Rattle.cert_check.specs.declared.answer.Reason.{Reason}
 use Rattle.cert_check.specs.declared.answer.Reason.TheVariants.{Weight, Join, Sum}
 use Rattle.cert_check.specs.Walks.{Goes}
-use Rattle.cert_check.specs.Faults.{IsFirstOf}
+use Rattle.cert_check.specs.Faults.{IsFirstWrong}
 use Rattle.cert_check.specs.Reasons.{IsMisweighedAt, IsLooseAt, CycleIs, IsNoLater}
 use Rattle.cert_check.proofs.Walking.{take_all}
 use Rattle.cert_check.proofs.Joining.{weighs_before, joins_before, begins_before, comes_there, stays_there, step_there}
@@ -76,7 +76,7 @@ module _ (p : ProblemLists) (lawful : IsWellFormed p) (steps : List Step) (each 
           λ e. apart (sym e ∙ comes_there p lawful Cycle m n steps j goes i found.0 found.2.0 before found.1 found.2.1),
         )
 
-    pub loose_first : (f : Step) (a : Constraint) (l : ℕ) → slice_get steps 0 ≡ Some f → Declares p f.bound a → a.from ≡ m → (c.from ≡ n → ⊥) → l + 1 ≡ k → IsFirstOf Cycle (CycleIs p steps) (Join l)
+    pub loose_first : (f : Step) (a : Constraint) (l : ℕ) → slice_get steps 0 ≡ Some f → Declares p f.bound a → a.from ≡ m → (c.from ≡ n → ⊥) → l + 1 ≡ k → IsFirstWrong Cycle (CycleIs p steps) (Join l)
     loose_first f a l at' declares' begins apart is = record {
       is_so = by j refl;
       first = cycle_cases p steps (IsNoLater Cycle (Join l) Cycle) (λ none. absurd (no_step steps j s at none)) later_join later_weight (λ sum so more. earlier_kind Cycle (Join l) (Sum sum) (omega arith));
@@ -99,7 +99,7 @@ module _ (p : ProblemLists) (lawful : IsWellFormed p) (steps : List Step) (each 
         ]
 
     -- ---- a step with another weight
-    pub cycle_weight_first : c.from ≡ n → c.weight ≢ s.weight → IsFirstOf Cycle (CycleIs p steps) (Weight k)
+    pub cycle_weight_first : c.from ≡ n → c.weight ≢ s.weight → IsFirstWrong Cycle (CycleIs p steps) (Weight k)
     cycle_weight_first enters differs = record {
       is_so = (s, (j, next, at), (c, declares, differs));
       first = cycle_cases p steps (IsNoLater Cycle (Weight k) Cycle) (λ none. absurd (no_step steps j s at none)) later_join later_weight (λ sum so more. earlier_kind Cycle (Weight k) (Sum sum) (omega arith));
@@ -136,7 +136,7 @@ module _ (p : ProblemLists) (lawful : IsWellFormed p) (steps : List Step) (each 
     pub no_weight : (o : ℕ) → IsMisweighedAt p steps o → ⊥
     no_weight o (t, (i, after, at), weighs) = weighs_before p lawful Cycle m n steps (length steps) whole i t (slice_get_within steps i t at) at weighs
 
-    pub open_first : (f : Step) (a : Constraint) → slice_get steps 0 ≡ Some f → Declares p f.bound a → a.from ≡ m → (n ≡ m → ⊥) → IsFirstOf Cycle (CycleIs p steps) (Join (length steps))
+    pub open_first : (f : Step) (a : Constraint) → slice_get steps 0 ≡ Some f → Declares p f.bound a → a.from ≡ m → (n ≡ m → ⊥) → IsFirstWrong Cycle (CycleIs p steps) (Join (length steps))
     open_first f a at declares begins apart = record {
       is_so = by (length steps) refl;
       first = cycle_cases p steps (IsNoLater Cycle (Join (length steps)) Cycle) (λ none. absurd (no_step steps 0 f at none)) later_join (λ o so. absurd (no_weight o so))
@@ -179,7 +179,7 @@ module _ (p : ProblemLists) (lawful : IsWellFormed p) (steps : List Step) (each 
       | inr le ↦ joins_end closed o le so
     ]
 
-    pub cycle_sum_first : (f : Step) (sum : ℤ) → slice_get steps 0 ≡ Some f → n ≡ m → sum ≡ weight_of (weighed_bounds steps) → pos 0 ≤ℤ sum → IsFirstOf Cycle (CycleIs p steps) (Sum sum)
+    pub cycle_sum_first : (f : Step) (sum : ℤ) → slice_get steps 0 ≡ Some f → n ≡ m → sum ≡ weight_of (weighed_bounds steps) → pos 0 ≤ℤ sum → IsFirstWrong Cycle (CycleIs p steps) (Sum sum)
     cycle_sum_first f sum at closed is high = record {
       is_so = (is, high);
       first = cycle_cases p steps (IsNoLater Cycle (Sum sum) Cycle) (λ none. absurd (no_step steps 0 f at none)) (λ o so. absurd (no_loose closed o so)) (λ o so. absurd (no_weight o so))

@@ -5,7 +5,7 @@ use Rattle.std.proofs.lemmas.Bool.{cases_lt}
 use Rattle.std.proofs.lemmas.Option.{slice_get_read, slice_get_within, get_or_from_slice_get}
 use Rattle.problem_model.specs.declared.items.Message.{Message}
 use Rattle.problem_model.specs.Problem.{ProblemLists, IsWellFormed}
-use Rattle.problem.specs.Line.{HasMessage}
+use Rattle.problem.specs.Line.{HasMessageAt}
 use Rattle.cert_check.specs.Walks.{HasMessageBetween}
 
 some_same : {X : Type 0} (a b : X) → Some a ≡ Some b → a ≡ b
@@ -17,7 +17,7 @@ pair_at [] k m at = absurd cc
 pair_at (n ∷ ms) zero m at = let same : n ≡ m = some_same n m at in rw same refl
 pair_at (n ∷ ms) (suc k) m at = pair_at ms k m at
 
-pub has_place : (p : ProblemLists) (send receive : ℕ) → HasMessageBetween p send receive → (k : ℕ) × HasMessage p k send receive
+pub has_place : (p : ProblemLists) (send receive : ℕ) → HasMessageBetween p send receive → (k : ℕ) × HasMessageAt p k send receive
 has_place p send receive (m, (k, inside, is), from, to) =
     let at : slice_get p.messages k ≡ Some m = slice_get_read p.messages (length p.messages) k m refl inside (sym is) in
     (k, pair_at p.messages k m at ∙ (let same : m.send ≡ send = from in let same' : m.receive ≡ receive = to in rw (same, same') refl))

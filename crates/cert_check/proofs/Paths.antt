@@ -17,7 +17,7 @@ use Rattle.cert_check.specs.declared.answer.Part.TheVariants.{Cycle}
 use Rattle.cert_check.specs.declared.answer.Reason.{Reason}
 use Rattle.cert_check.specs.declared.answer.Reason.TheVariants.{Weight, Join, Sum}
 use Rattle.cert_check.specs.Walks.{entry_of, Goes}
-use Rattle.cert_check.specs.Faults.{IsFirstOf}
+use Rattle.cert_check.specs.Faults.{IsFirstWrong}
 use Rattle.cert_check.specs.Reasons.{IsMisweighedAt, HasComeTo, ShouldBeAt, IsAstrayAt, sum_for, PathIs, IsNoLater}
 use Rattle.cert_check.proofs.Walking.{take_all}
 use Rattle.cert_check.proofs.Joining.{weighs_before, come_one, come_some, joined_before}
@@ -46,7 +46,7 @@ module _ (p : ProblemLists) (lawful : IsWellFormed p) (part : Part) (is_path : p
     no_earlier_weight : (l : ℕ) → l ≤ j → IsMisweighedAt p steps l → ⊥
     no_earlier_weight l before (t, (i, after, at'), weighs) = weighs_before p lawful part (nodes.Event q) n steps j goes i t (omega (arith, before, after)) at' weighs
 
-    pub astray_first : entry_of part c ≢ n → IsFirstOf part (PathIs p part first q value steps) (Join k)
+    pub astray_first : entry_of part c ≢ n → IsFirstWrong part (PathIs p part first q value steps) (Join k)
     astray_first apart = record {
       is_so = (j, n, entry_of part c, next, come_some p lawful part first q n steps j goes short each, inr (s, c, (j, refl, at), declares, refl), λ e. apart (sym e));
       first = path_cases p part first q value steps (IsNoLater part (Join k) part) later_join later_weight (λ sum is so. earlier_kind part (Join k) (Sum sum) (omega arith));
@@ -65,7 +65,7 @@ module _ (p : ProblemLists) (lawful : IsWellFormed p) (part : Part) (is_path : p
         ]
 
     -- ---- a step with another weight
-    pub weight_first : entry_of part c ≡ n → c.weight ≢ s.weight → IsFirstOf part (PathIs p part first q value steps) (Weight k)
+    pub weight_first : entry_of part c ≡ n → c.weight ≢ s.weight → IsFirstWrong part (PathIs p part first q value steps) (Weight k)
     weight_first enters differs = record {
       is_so = (s, (j, next, at), (c, declares, differs));
       first = path_cases p part first q value steps (IsNoLater part (Weight k) part) later_join later_weight (λ sum is so. earlier_kind part (Weight k) (Sum sum) (omega arith));
@@ -103,7 +103,7 @@ module _ (p : ProblemLists) (lawful : IsWellFormed p) (part : Part) (is_path : p
     no_join_before : (l : ℕ) → l ≤ length steps → IsAstrayAt p part first q steps l → ⊥
     no_join_before l before (i, m, o, after, come, should, differ) = differ (joined_before p lawful part first q n steps (length steps) whole (omega arith) i m o (omega (arith, before, after)) come should)
 
-    pub end_first : n ≢ nodes.Event first → IsFirstOf part (PathIs p part first q value steps) (Join (length steps + 1))
+    pub end_first : n ≢ nodes.Event first → IsFirstWrong part (PathIs p part first q value steps) (Join (length steps + 1))
     end_first apart = record {
       is_so = (length steps, n, nodes.Event first, refl, come_some p lawful part first q n steps (length steps) whole (omega arith) each, inl (refl, refl), apart);
       first = path_cases p part first q value steps (IsNoLater part (Join (length steps + 1)) part) later_join (λ l so. absurd (no_weight l so)) (λ sum is so. earlier_kind part (Join (length steps + 1)) (Sum sum) (omega arith));
@@ -132,7 +132,7 @@ module _ (p : ProblemLists) (lawful : IsWellFormed p) (part : Part) (is_path : p
           so.6 (come_one p lawful part first q n steps (length steps) whole so.1 (subst (λ (x : ℕ). HasComeTo p part q steps x so.1) end so.4) ∙ arrives ∙ sym (end_should so.0 so.2 end so.5))
     ]
 
-    pub sum_first : n ≡ nodes.Event first → (sum : ℤ) → sum ≡ weight_of (weighed_bounds steps) → sum ≢ sum_for part value → IsFirstOf part (PathIs p part first q value steps) (Sum sum)
+    pub sum_first : n ≡ nodes.Event first → (sum : ℤ) → sum ≡ weight_of (weighed_bounds steps) → sum ≢ sum_for part value → IsFirstWrong part (PathIs p part first q value steps) (Sum sum)
     sum_first arrives sum is differs = record {
       is_so = (is, differs);
       first = path_cases p part first q value steps (IsNoLater part (Sum sum) part) (λ l so. absurd (no_join arrives l so)) (λ l so. absurd (no_weight l so)) (λ other is' so. same_kind part (Sum sum) (Sum other) refl (omega (arith, sum_turn part sum)));

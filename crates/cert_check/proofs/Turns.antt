@@ -11,7 +11,7 @@ use Rattle.cert_check.specs.declared.answer.Part.{Part}
 use Rattle.cert_check.specs.declared.answer.Part.TheVariants.{Cycle, Run, Upper, Lower}
 use Rattle.cert_check.specs.declared.answer.Reason.{Reason}
 use Rattle.cert_check.specs.declared.answer.Reason.TheVariants.{Empty, Weight, Join, Sum, Broken, Difference, Home, Away, Leaves}
-use Rattle.cert_check.specs.Faults.{IsFirstOf}
+use Rattle.cert_check.specs.Faults.{IsFirstWrong}
 use Rattle.cert_check.specs.Reasons.{IsMisweighedAt, IsLooseAt, CycleIs, IsBrokenBy, HasDifference, IsAstrayAt, sum_for, home_of, away_of, IsFirstLeaving, PathIs, DifferenceIs, CutIs, kind_turn, step_turn, IsNoLater}
 
 -- ---- the kinds that may be so
@@ -120,7 +120,7 @@ leaves_turn Lower b = refl
 -- ---- one list of reasons behind another
 module _ (part : Part) (A B : Reason → Type 0) (turn : ℕ) (early : (r : Reason) → A r → kind_turn r < turn) (late : (r : Reason) → B r → turn ≤ kind_turn r) where
   -- the first of the earlier ones is the first of all
-  pub first_early : (r : Reason) → IsFirstOf part A r → IsFirstOf part (λ o. A o ⊎ B o) r
+  pub first_early : (r : Reason) → IsFirstWrong part A r → IsFirstWrong part (λ o. A o ⊎ B o) r
   first_early r found = record {
     is_so = inl found.is_so;
     first = before;
@@ -131,7 +131,7 @@ module _ (part : Part) (A B : Reason → Type 0) (turn : ℕ) (early : (r : Reas
       before o (inr so) = earlier_kind part r o (omega (arith, early r found.is_so, late o so))
 
 -- where none of the earlier ones is so, the first of the later ones is
-pub first_late : (part : Part) (A B : Reason → Type 0) → ((r : Reason) → A r → ⊥) → (r : Reason) → IsFirstOf part B r → IsFirstOf part (λ o. A o ⊎ B o) r
+pub first_late : (part : Part) (A B : Reason → Type 0) → ((r : Reason) → A r → ⊥) → (r : Reason) → IsFirstWrong part B r → IsFirstWrong part (λ o. A o ⊎ B o) r
 first_late part A B none r found = record {
   is_so = inr found.is_so;
   first = before;

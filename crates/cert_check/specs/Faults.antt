@@ -16,14 +16,14 @@ use Rattle.cert_check.specs.declared.answer.Answer.{Answer}
 use Rattle.cert_check.specs.declared.answer.Answer.TheVariants.{Yes, No}
 
 -- this is wrong with a part, and nothing that is wrong with it comes before
-pub record IsFirstOf (part : Part) (So : Reason → Type 0) (reason : Reason) : Type 0 where
+pub record IsFirstWrong (part : Part) (So : Reason → Type 0) (reason : Reason) : Type 0 where
   pub is_so : So reason
   pub first : (other : Reason) → So other → IsNoLater part reason part other
 
 -- the part shows what it should, or this is the first reason why it does not
 abbrev pub FindsFault : Part → (Reason → Type 0) → Type 0 → Option Reason → Type 0
 FindsFault part So Shown None = Shown
-FindsFault part So Shown (Some reason) = IsFirstOf part So reason
+FindsFault part So Shown (Some reason) = IsFirstWrong part So reason
 
 -- what one end of the interval from the first event to the second should show, with its path as a walk
 abbrev pub ShowsEnd : ProblemLists → Part → ℕ → ℕ → EndProof → Type 0
@@ -42,6 +42,6 @@ FindsLeaving p inside bounds None = All (StaysInside p inside) bounds
 FindsLeaving p inside bounds (Some b) = IsFirstLeavingOf p inside bounds b
 
 -- the answer where this is the first fault, found in that part, or there is none
-abbrev pub answer_of : Part → Option Reason → Answer
-answer_of part None = Yes
-answer_of part (Some reason) = No part reason
+abbrev pub verdict_at : Part → Option Reason → Answer
+verdict_at part None = Yes
+verdict_at part (Some reason) = No part reason

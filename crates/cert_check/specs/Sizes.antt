@@ -1,5 +1,6 @@
 -- How large the numbers are that checking tells.
 use Rattle.std.specs.Prelude.{◌<◌, ◌≤◌, ◌^◌, unsigned_abs}
+use Rattle.problem_model.specs.Limits.{walk_bits}
 use Rattle.cert_check.specs.declared.answer.Reason.{Reason}
 use Rattle.cert_check.specs.declared.answer.Reason.TheVariants as reasons
 use Rattle.cert_check.specs.declared.answer.Answer.{Answer}
@@ -18,11 +19,11 @@ IsSmallVerdict (Broken bound weight difference) = (unsigned_abs weight < 2 ^ 93)
 abbrev pub IsSmallWalk : Walk → Type 0
 IsSmallWalk (Astray step) = Unit {0}
 IsSmallWalk (Misweighed step) = Unit {0}
-IsSmallWalk (Arrived held) = unsigned_abs held.sum < 2 ^ 116
+IsSmallWalk (Arrived held) = unsigned_abs held.sum < 2 ^ walk_bits
 
 -- a reason tells sums below 2^116, weights below 2^93 and differences of at most 2^121
 abbrev pub IsSmallReason : Reason → Type 0
-IsSmallReason (reasons.Sum sum) = unsigned_abs sum < 2 ^ 116
+IsSmallReason (reasons.Sum sum) = unsigned_abs sum < 2 ^ walk_bits
 IsSmallReason (reasons.Broken bound weight difference) = (unsigned_abs weight < 2 ^ 93) × (unsigned_abs difference ≤ 2 ^ 121)
 IsSmallReason (reasons.Difference difference) = unsigned_abs difference ≤ 2 ^ 121
 IsSmallReason _ = Unit {0}

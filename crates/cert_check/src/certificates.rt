@@ -6,7 +6,7 @@ ghost use Rattle.cert.specs.Shows.{Shows};
 ghost use Rattle.cert_check.specs.declared.answer.Part.TheVariants as parts;
 ghost use Rattle.cert_check.specs.declared.answer.Answer.TheVariants as answers;
 ghost use Rattle.cert_check.specs.Reasons.{EndIs, IsAnswer};
-ghost use Rattle.cert_check.specs.Faults.{FindsFault, ShowsEnd, answer_of};
+ghost use Rattle.cert_check.specs.Faults.{FindsFault, ShowsEnd, verdict_at};
 ghost use Rattle.cert_check.specs.Sizes.{IsSmallReason, IsSmallAnswer};
 ghost use Rattle.cert_check.specs.Widened.{widened};
 ghost use Rattle.std.specs.Prelude.{IfSome};
@@ -51,7 +51,7 @@ fn end_fault(p: &Problem, part: Part, first: u32, second: u32, end: &EndProof) -
 
 // The answer of one part.
 fn answer(part: Part, fault: Option<Reason>) -> Answer
-    ensures { result ≡ answer_of part fault }
+    ensures { result ≡ verdict_at part fault }
 {
     match fault {
         None => Answer::Yes,

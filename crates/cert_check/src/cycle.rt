@@ -14,6 +14,7 @@ ghost use Rattle.cert_check.specs.Faults.{FindsFault};
 ghost use Rattle.cert_check.specs.Sizes.{IsSmallReason};
 ghost use Rattle.cert_check.specs.Widened.{widened};
 ghost use Rattle.std.specs.Prelude.{IfSome};
+ghost use Rattle.problem_model.specs.Limits.{walk_bits};
 
 use crate::answer::{Part, Reason};
 use crate::declared::declared;
@@ -25,7 +26,7 @@ use problem_model::Node;
 
 // What is wrong with a cycle whose walk from where the first step comes from went over all so many steps.
 fn closing_fault(start: &Node, held: Held, count: u32) -> Option<Reason>
-    requires { unsigned_abs held.sum < 2 ^ 116 }
+    requires { unsigned_abs held.sum < 2 ^ walk_bits }
     ensures found { (p : ProblemLists) (steps : List Step) (f : Step) (a : Constraint) → IsWellFormed p → All (IsStepOf p) steps → count ≡ length steps → slice_get steps 0 ≡ Some f → Declares p f.bound a → a.from ≡ start.now
         → IsWalk p parts.Cycle start.now steps (walks.Arrived held) → FindsFault parts.Cycle (CycleIs p steps) (IsContradictionOf p (weighed_bounds steps)) result }
     ensures small { IfSome result IsSmallReason }

@@ -3,7 +3,7 @@ ghost use Rattle.std.specs.Prelude.{◌≡◌, ◌<◌, ◌^◌, ◌+◌, ◌*�
 ghost use Rattle.problem_model.specs.declared.items.Bound.TheVariants as bounds;
 ghost use Rattle.problem_model.specs.Problem.{ProblemLists, IsWellFormed};
 ghost use Rattle.problem_model.specs.Bounds.{Constraint, Declares, ClockAt, EventAt, IsReading};
-ghost use Rattle.problem.specs.Line.{HasMessage};
+ghost use Rattle.problem.specs.Line.{HasMessageAt};
 ghost use Rattle.problem_model.specs.declared.items.Follow.{Follow};
 ghost use Rattle.cert_check.specs.Walks.{constraint, HasMessageBetween, LeadsTo};
 ghost use Rattle.cert_check.specs.Widened.{widened};
@@ -145,7 +145,7 @@ fn event_at(p: &Problem, place: u32) -> &Event
 // The place of the message from one event to another.
 fn message_place(p: &Problem, send: u32, receive: u32) -> u32
     requires { HasMessageBetween p.now send receive }
-    ensures { HasMessage p.now result send receive }
+    ensures { HasMessageAt p.now result send receive }
 {
     match p.message_place(send, receive) {
         Some(place) => place,

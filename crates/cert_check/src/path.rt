@@ -13,7 +13,7 @@ ghost use Rattle.cert_check.specs.Reasons.{sum_for, PathIs};
 ghost use Rattle.cert_check.specs.Faults.{FindsFault};
 ghost use Rattle.cert_check.specs.Sizes.{IsSmallReason};
 ghost use Rattle.std.specs.Prelude.{IfSome};
-ghost use Rattle.cert.specs.Sizes.{most_steps};
+ghost use Rattle.problem_model.specs.Limits.{most_steps, walk_bits};
 
 use crate::answer::{Part, Reason};
 use crate::declared::no_extra;
@@ -36,7 +36,7 @@ fn sum_for(part: Part, value: Units) -> i128
 // What is wrong with a path that went over so many steps.
 fn arrival_fault(part: Part, held: Held, first: u32, value: Units, count: u32) -> Option<Reason>
     requires few { count ≤ most_steps }
-    requires low { unsigned_abs held.sum < 2 ^ 116 }
+    requires low { unsigned_abs held.sum < 2 ^ walk_bits }
     ensures found { (p : ProblemLists) (second : ℕ) (steps : List Step) → IsWellFormed p → part ≢ parts.Cycle → All (IsStepOf p) steps → count ≡ length steps → IsWalk p part (nodes.Event second) steps (walks.Arrived held)
         → FindsFault part (PathIs p part first second value steps)
         (Goes p part (nodes.Event second) (weighed_bounds steps) (nodes.Event first) × (weight_of (weighed_bounds steps) ≡ sum_for part value)) result }

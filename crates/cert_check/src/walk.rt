@@ -1,10 +1,10 @@
 // Walks over the steps of a certificate.
 ghost use Rattle.std.specs.Prelude.{◌≡◌, ◌<◌, ◌≤◌, ◌^◌, ◌*◌, ◌+◌, ◌-◌, ◌+ℤ◌, All, unsigned_abs};
+ghost use Rattle.problem_model.specs.Limits.{most_steps};
 ghost use Rattle.cert_check.specs.Walks.{constraint, entry_of, exit_of, IsWalk};
 ghost use Rattle.cert.specs.CertificateText.{IsStepOf};
 ghost use Rattle.cert_check.specs.Sizes.{IsSmallWalk};
 ghost use Rattle.cert_check.specs.Widened.{widened};
-ghost use Rattle.cert.specs.Sizes.{most_steps};
 
 use crate::answer::Part;
 use crate::declared::{Declaration, declared};

@@ -16,13 +16,13 @@ use Rattle.intervals.specs.Executions.{IsPairOf}
 use Rattle.intervals.proofs.NodeOrders.{orders}
 use Rattle.intervals.proofs.Times.{ends_are}
 use Rattle.problem_commands.specs.Printing.{Closes, Prints}
-use Rattle.problem_commands.specs.Intervals.{IsIntervalLine, interval_line, TellsInterval}
+use Rattle.problem_commands.specs.Intervals.{IsIntervalAndOrderLine, interval_line, TellsInterval}
 use Rattle.problem_commands.specs.declared.status.Status.{Status}
 use Rattle.problem_commands.specs.declared.status.Status.TheVariants as statuses
 use Rattle.problem_commands.proofs.Printing.{closes_prints}
 
 module _ (p : ProblemLists) (from to : ℕ) (pair : Pair) (is : IsPairOf p (nodes.Event from) (nodes.Event to) pair) (order : Order) (ordered : IsOrder (ends_of pair) order) where
-  line_shows : IsIntervalLine p from to (interval_line (ends_of pair) order)
+  line_shows : IsIntervalAndOrderLine p from to (interval_line (ends_of pair) order)
   line_shows = (ends_of pair, order, ends_are p (nodes.Event from) (nodes.Event to) pair is, (orders p (nodes.Event from) (nodes.Event to) pair is order).0 ordered, refl)
 
   pub answered : (old new : SinkTold) (result : Status) → Closes (interval_line (ends_of pair) order) statuses.Done old new result → Prints (TellsInterval p from to) old new result

@@ -9,7 +9,7 @@ use Rattle.cert.specs.declared.certificate.Cert.{Cert}
 use Rattle.cert.specs.declared.certificate.Cert.TheVariants as certs
 use Rattle.cert.specs.declared.certificate.EndProof.{EndProof}
 use Rattle.cert.specs.declared.certificate.EndProof.TheVariants.{At, Unbounded}
-use Rattle.cert.specs.Listed.{IsNamed}
+use Rattle.cert.specs.Listed.{HasNames}
 use Rattle.cert.proofs.OwnListing.{is_named}
 use Rattle.cert_check.specs.Reasons.{IsBrokenBy, EndIs, IsSo}
 use Rattle.cert_check.specs.Verdict.{IsVerdict}
@@ -26,7 +26,7 @@ use Rattle.problem_commands.specs.Obey.{NamesVerdict}
 use Rattle.problem_commands.specs.Verify.{NamesReason, NamesAnswer}
 
 module _ (p : ProblemLists) (lawful : IsProblem p) where
-  first_named : (x : Times) (b : Bound) (weight difference : ℤ) → IsFirstBroken p x b weight difference → IsNamed (listing_of p) b
+  first_named : (x : Times) (b : Bound) (weight difference : ℤ) → IsFirstBroken p x b weight difference → HasNames (listing_of p) b
   first_named x b weight difference is = let first = is.2 in is_named p b first.constraint first.declares lawful
 
   pub verdict_named : (x : Times) (v : Verdict) → IsVerdict p x v → NamesVerdict p v
@@ -35,17 +35,17 @@ module _ (p : ProblemLists) (lawful : IsProblem p) where
 
   -- ---- a bound that an execution breaks
   module _ (b : Bound) (weight difference : ℤ) where
-    by_values : (values : List ℤ) → IsBrokenBy p values (Broken b weight difference) → IsNamed (listing_of p) b
+    by_values : (values : List ℤ) → IsBrokenBy p values (Broken b weight difference) → HasNames (listing_of p) b
     by_values values is = first_named is.0 b weight difference is.2
 
-    by_end : (part : Part) (first second : ℕ) (end : EndProof) → EndIs p part first second end (Broken b weight difference) → IsNamed (listing_of p) b
+    by_end : (part : Part) (first second : ℕ) (end : EndProof) → EndIs p part first second end (Broken b weight difference) → HasNames (listing_of p) b
     by_end part first second (At value path execution) (inl is) = absurd is
     by_end part first second (At value path execution) (inr (inl is)) = by_values execution is
     by_end part first second (At value path execution) (inr (inr is)) = absurd is
     by_end part first second (Unbounded inside execution) (inl is) = absurd is
     by_end part first second (Unbounded inside execution) (inr is) = by_values execution is
 
-    broken_named : (c : Cert) (part : Part) → IsSo p c part (Broken b weight difference) → IsNamed (listing_of p) b
+    broken_named : (c : Cert) (part : Part) → IsSo p c part (Broken b weight difference) → HasNames (listing_of p) b
     broken_named (certs.Cycle steps) Cycle is = absurd is
     broken_named (certs.Cycle steps) Run is = absurd is
     broken_named (certs.Cycle steps) Upper is = absurd is
@@ -61,14 +61,14 @@ module _ (p : ProblemLists) (lawful : IsProblem p) where
 
   -- ---- a bound that leaves a cut
   module _ (b : Bound) where
-    leaves_end : (part : Part) (first second : ℕ) (end : EndProof) → EndIs p part first second end (Leaves b) → IsNamed (listing_of p) b
+    leaves_end : (part : Part) (first second : ℕ) (end : EndProof) → EndIs p part first second end (Leaves b) → HasNames (listing_of p) b
     leaves_end part first second (At value path execution) (inl is) = absurd is
     leaves_end part first second (At value path execution) (inr (inl is)) = absurd is
     leaves_end part first second (At value path execution) (inr (inr is)) = absurd is
     leaves_end part first second (Unbounded inside execution) (inl is) = let leaves = is.2.leaves in is_named p b leaves.0 leaves.1 lawful
     leaves_end part first second (Unbounded inside execution) (inr is) = absurd is
 
-    leaves_named : (c : Cert) (part : Part) → IsSo p c part (Leaves b) → IsNamed (listing_of p) b
+    leaves_named : (c : Cert) (part : Part) → IsSo p c part (Leaves b) → HasNames (listing_of p) b
     leaves_named (certs.Cycle steps) Cycle is = absurd is
     leaves_named (certs.Cycle steps) Run is = absurd is
     leaves_named (certs.Cycle steps) Upper is = absurd is

@@ -2,8 +2,8 @@
 use Rattle.std.proofs.Common.{◌≡◌, inl, inr, ℕ, List, Ok, Err, refl, sym, subst, codes}
 use Rattle.ports.specs.Content.{SinkTold, Writes}
 use Rattle.ports.specs.Files.{FilesTold, HasBytes}
-use Rattle.problem_commands.specs.Printing.{Closes, IsOnly, Prints}
-use Rattle.problem_commands.specs.Refusal.{refusal_line}
+use Rattle.problem_commands.specs.Printing.{Closes, IsOnlyText, Prints}
+use Rattle.problem_commands.specs.Refusal.{refused_text_line}
 use Rattle.problem_commands.specs.Texts.{IsMissed}
 use Rattle.problem_commands.specs.Unread.{IsUnread, TellsUnread}
 use Rattle.problem_commands.specs.declared.refusal.Refusal.{Refusal}
@@ -17,7 +17,7 @@ module _ (Goes : Status → List ℕ → Type 0) where
   at_status only status text is = subst (λ (s : Status). Goes s text) (sym is)
 
   -- one line with its status
-  pub only_goes : (line : List ℕ) (only : Status) → Goes only line → (status : Status) (text : List ℕ) → IsOnly line only status text → Goes status text
+  pub only_goes : (line : List ℕ) (only : Status) → Goes only line → (status : Status) (text : List ℕ) → IsOnlyText line only status text → Goes status text
   only_goes line only goes status text is = at_status only status text is.0 (subst (Goes only) (sym is.1) goes)
 
   -- a line that is printed, and goes with its status
@@ -46,10 +46,10 @@ prints_as Goes More old new result on (inr (inr none)) = inr (inr none)
 
 -- ---- a file gave no value
 module _ (Goes : Status → List ℕ → Type 0) (Refuses : List ℕ → Refusal → Type 0) (path : List ℕ) (old new : FilesTold) (kind : List ℕ) (refused : Status)
-    (bad : (refusal : Refusal) → HasBytes old.content path (λ text. Refuses text refusal) → Goes refused (refusal_line kind refusal))
+    (bad : (refusal : Refusal) → HasBytes old.content path (λ text. Refuses text refusal) → Goes refused (refused_text_line kind refusal))
     (missed : IsMissed path old new → Goes statuses.ReadFault (codes "read fault\n")) where
   unread_goes : (u : Unread) → IsUnread Refuses path old new u → (status : Status) (text : List ℕ) → TellsUnread u kind refused status text → Goes status text
-  unread_goes (unread.Refused refusal) is status text tells = only_goes Goes (refusal_line kind refusal) refused (bad refusal is) status text tells
+  unread_goes (unread.Refused refusal) is status text tells = only_goes Goes (refused_text_line kind refusal) refused (bad refusal is) status text tells
   unread_goes unread.Fault is status text tells = only_goes Goes (codes "read fault\n") statuses.ReadFault (missed is) status text tells
   unread_goes unread.Memory is status text tells = absurd tells
 

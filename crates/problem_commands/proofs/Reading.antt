@@ -14,7 +14,7 @@ use Rattle.cert.specs.CertificateFormat.{certificate_format}
 use Rattle.cert.specs.ExecutionFormat.{execution_format}
 use Rattle.cert.specs.ReadsCert.{ReadsCert}
 use Rattle.cert.specs.ReadsExecution.{Reads}
-use Rattle.problem_commands.specs.Refusal.{answer_of}
+use Rattle.problem_commands.specs.Refusal.{refused_answer}
 use Rattle.problem_commands.specs.Texts.{SpellsExecution, SpellsCert, RefusesExecution, RefusesCert, BothHave}
 use Rattle.problem_commands.specs.Unread.{IsUnread, IsRefusedFor, IsLong, unread_cert}
 use Rattle.problem_commands.specs.declared.refusal.Refusal.{Refusal}
@@ -92,10 +92,10 @@ unread_as P Q path old new unread.Memory on is = tt
 
 -- ---- texts that are too long
 long_execution : (p : ProblemLists) (readings : List Reading) → AreReadings p readings → (text : List ℕ) (refusal : Refusal) → IsLong text refusal → RefusesExecution p text refusal
-long_execution p readings are text refusal long = (readings, are, subst (λ (r : Refusal). Answers (execution_format p readings) text (answer_of r)) (sym long.0) long.1)
+long_execution p readings are text refusal long = (readings, are, subst (λ (r : Refusal). Answers (execution_format p readings) text (refused_answer r)) (sym long.0) long.1)
 
 long_certificate : (p : ProblemLists) (readings : List Reading) → AreReadings p readings → (text : List ℕ) (refusal : Refusal) → IsLong text refusal → RefusesCert p text refusal
-long_certificate p readings are text refusal long = (readings, are, subst (λ (r : Refusal). Answers (certificate_format p readings) text (answer_of r)) (sym long.0) long.1)
+long_certificate p readings are text refusal long = (readings, are, subst (λ (r : Refusal). Answers (certificate_format p readings) text (refused_answer r)) (sym long.0) long.1)
 
 pub unread_execution : (p : ProblemLists) (readings : List Reading) (path : List ℕ) (old new : FilesTold) (u : Unread) → AreReadings p readings → IsUnread IsLong path old new u → IsUnread (RefusesExecution p) path old new u
 unread_execution p readings path old new u are is = unread_as IsLong (RefusesExecution p) path old new u (long_execution p readings are) is

@@ -4,7 +4,7 @@ use Rattle.ports.specs.Content.{SinkTold}
 use Rattle.ports.specs.Files.{FilesTold, HasBytes}
 use Rattle.problem_model.specs.Problem.{ProblemLists}
 use Rattle.problem.specs.Line.{HasEvent, IsUnknown}
-use Rattle.problem_commands.specs.Printing.{IsOnly, Prints}
+use Rattle.problem_commands.specs.Printing.{IsOnlyText, Prints}
 use Rattle.problem_commands.specs.Texts.{SpellsProblem, RefusesProblem}
 use Rattle.problem_commands.specs.Unread.{IsUnread, TellsUnread}
 use Rattle.problem_commands.specs.Solve.{TellsSolution, Solved}
@@ -47,6 +47,6 @@ module _ (p : ProblemLists) (first second : List ℕ) (out out' : SinkTold) (res
   known_names from to named named' prints =
       prints_as (TellsInterval p from to) (TellsNamed p first second) out out' result (λ status text tells. inl (from, to, named, named', tells)) prints
 
-  pub unknown_name : IsUnknown p first ⊎ IsUnknown p second → Prints (IsOnly (codes "unknown event\n") statuses.UnknownEvent) out out' result → Prints (TellsNamed p first second) out out' result
+  pub unknown_name : IsUnknown p first ⊎ IsUnknown p second → Prints (IsOnlyText (codes "unknown event\n") statuses.UnknownEvent) out out' result → Prints (TellsNamed p first second) out out' result
   unknown_name unknown prints =
-      prints_as (IsOnly (codes "unknown event\n") statuses.UnknownEvent) (TellsNamed p first second) out out' result (λ status text only. inr (unknown, only)) prints
+      prints_as (IsOnlyText (codes "unknown event\n") statuses.UnknownEvent) (TellsNamed p first second) out out' result (λ status text only. inr (unknown, only)) prints

@@ -12,7 +12,7 @@ use Rattle.cert.specs.declared.chain.Step.{Step}
 use Rattle.cert.specs.declared.certificate.Cert.TheVariants as certs
 use Rattle.cert.specs.declared.error.CertError.{CertError}
 use Rattle.cert.specs.declared.error.CertError.TheVariants as errors
-use Rattle.cert.specs.Listed.{IsNamed}
+use Rattle.cert.specs.Listed.{HasNames}
 use Rattle.cert.proofs.OwnListing.{is_named}
 use Rattle.cert_check.specs.Reasons.{IsAnswer, IsBrokenBy, IsSo}
 use Rattle.cert_check.specs.Widened.{widened}
@@ -34,7 +34,7 @@ use Rattle.widen.specs.Found.{FindsWidening}
 use Rattle.widen.proofs.Rising.{shown_least, shown_never}
 use Rattle.widen.proofs.FoundTexts.{declared_back, least_found, never_found, text_of}
 use Rattle.problem_commands.specs.Printing.{Prints}
-use Rattle.problem_commands.specs.Refusal.{answer_of}
+use Rattle.problem_commands.specs.Refusal.{refused_answer}
 use Rattle.problem_commands.specs.Texts.{SpellsProblem, RefusesProblem}
 use Rattle.problem_commands.specs.Unread.{IsUnread, IsRefusedFor, IsLong, TellsUnread, unread_cert}
 use Rattle.problem_commands.specs.Verify.{NamesReason, NamesAnswer, TellsAnswer, no_line}
@@ -82,20 +82,20 @@ pub widening_spelled : (p : ProblemLists) (text : List ℕ) (w : Widening) (read
 widening_spelled p text w readings are reads = (readings, are, reads readings are)
 
 long_widening : (p : ProblemLists) (readings : List Reading) → AreReadings p readings → (text : List ℕ) (refusal : Refusal) → IsLong text refusal → RefusesWidening p text refusal
-long_widening p readings are text refusal long = (readings, are, subst (λ (r : Refusal). Answers (widening_format p readings) text (answer_of r)) (sym long.0) long.1)
+long_widening p readings are text refusal long = (readings, are, subst (λ (r : Refusal). Answers (widening_format p readings) text (refused_answer r)) (sym long.0) long.1)
 
 pub unread_widening : (p : ProblemLists) (readings : List Reading) (path : List ℕ) (old new : FilesTold) (u : Unread) → AreReadings p readings → IsUnread IsLong path old new u → IsUnread (RefusesWidening p) path old new u
 unread_widening p readings path old new u are is = unread_as IsLong (RefusesWidening p) path old new u (long_widening p readings are) is
 
 -- ---- the bound that a reason tells of has names
 module _ (p : ProblemLists) (lawful : IsProblem p) (e : ℕ) where
-  broken_run : (b : Bound) (weight difference : ℤ) (values : List ℤ) → IsBrokenBy (widened p e) values (Broken b weight difference) → IsNamed (listing_of p) b
+  broken_run : (b : Bound) (weight difference : ℤ) (values : List ℤ) → IsBrokenBy (widened p e) values (Broken b weight difference) → HasNames (listing_of p) b
   broken_run b weight difference values is =
       let first = is.2.2 in
       let declared = declared_back p e b first.constraint first.declares in
       is_named p b declared.0 declared.1 lawful
 
-  broken_named : (b : Bound) (weight difference : ℤ) (values : List ℤ) (part : Part) → IsSo (widened p e) (certs.Run values) part (Broken b weight difference) → IsNamed (listing_of p) b
+  broken_named : (b : Bound) (weight difference : ℤ) (values : List ℤ) (part : Part) → IsSo (widened p e) (certs.Run values) part (Broken b weight difference) → HasNames (listing_of p) b
   broken_named b weight difference values Cycle is = absurd is
   broken_named b weight difference values Run is = broken_run b weight difference values is
   broken_named b weight difference values Upper is = absurd is

@@ -7,10 +7,10 @@ use Rattle.problem_model.specs.Problem.{ProblemLists}
 use Rattle.problem.specs.Line.{HasEvent, IsUnknown}
 use Rattle.intervals.specs.declared.ends.Ends.{Ends}
 use Rattle.intervals.specs.declared.order.Order.{Order}
-use Rattle.intervals.specs.Executions.{difference, AreEndsOf, IsOrderOf}
+use Rattle.intervals.specs.Executions.{time_difference, AreEndsOf, IsOrderOf}
 use Rattle.queries.specs.Words.{end_word, order_word}
 use Rattle.queries.specs.Replies.{IsContradictionText}
-use Rattle.problem_commands.specs.Printing.{IsOnly}
+use Rattle.problem_commands.specs.Printing.{IsOnlyText}
 use Rattle.problem_commands.specs.Texts.{SpellsProblem, IsMissed, IsBadProblem}
 use Rattle.problem_commands.specs.declared.status.Status.{Status}
 use Rattle.problem_commands.specs.declared.status.Status.TheVariants.{Done, BadProblem, ReadFault, UnknownEvent}
@@ -21,28 +21,28 @@ abbrev pub interval_line : Ends → Order → List ℕ
 interval_line e order = line_of (end_word (codes "-inf") e.least ∷ end_word (codes "+inf") e.greatest ∷ order_word order ∷ [])
 
 -- the line has the least and the greatest difference from one event to another over all executions, and their order
-abbrev pub IsIntervalLine : ProblemLists → ℕ → ℕ → List ℕ → Type 0
-IsIntervalLine p from to line = (e : Ends) × (order : Order) × AreEndsOf p (difference (nodes.Event from) (nodes.Event to)) e
+abbrev pub IsIntervalAndOrderLine : ProblemLists → ℕ → ℕ → List ℕ → Type 0
+IsIntervalAndOrderLine p from to line = (e : Ends) × (order : Order) × AreEndsOf p (time_difference (nodes.Event from) (nodes.Event to)) e
     × IsOrderOf p (nodes.Event from) (nodes.Event to) order × (line ≡ interval_line e order)
 
 -- the interval and the order where there is an execution, else a contradiction
-abbrev pub IsIntervalText : ProblemLists → ℕ → ℕ → List ℕ → Type 0
-IsIntervalText p from to text = IsIntervalLine p from to text ⊎ IsContradictionText p text
+abbrev pub IsIntervalAndOrderText : ProblemLists → ℕ → ℕ → List ℕ → Type 0
+IsIntervalAndOrderText p from to text = IsIntervalAndOrderLine p from to text ⊎ IsContradictionText p text
 
 -- ---- ends
 -- what is printed of two events
 abbrev pub TellsInterval : ProblemLists → ℕ → ℕ → Status → List ℕ → Type 0
-TellsInterval p from to status text = (status ≡ Done) × IsIntervalText p from to text
+TellsInterval p from to status text = (status ≡ Done) × IsIntervalAndOrderText p from to text
 
 -- what is printed of the events of two names: their interval, or that a name is no event's
 abbrev pub TellsNamed : ProblemLists → List ℕ → List ℕ → Status → List ℕ → Type 0
 TellsNamed p first second status text = ((from : ℕ) × (to : ℕ) × HasEvent p from first × HasEvent p to second × TellsInterval p from to status text)
-    ⊎ ((IsUnknown p first ⊎ IsUnknown p second) × IsOnly (codes "unknown event\n") UnknownEvent status text)
+    ⊎ ((IsUnknown p first ⊎ IsUnknown p second) × IsOnlyText (codes "unknown event\n") UnknownEvent status text)
 
 -- what `ends` prints, with which status, and when
 abbrev pub IntervalAnswered : List ℕ → List ℕ → List ℕ → FilesTold → FilesTold → Status → List ℕ → Type 0
 IntervalAnswered problem first second old new Done text = (p : ProblemLists) × (from : ℕ) × (to : ℕ)
-    × HasBytes old.content problem (SpellsProblem p) × HasEvent p from first × HasEvent p to second × IsIntervalText p from to text
+    × HasBytes old.content problem (SpellsProblem p) × HasEvent p from first × HasEvent p to second × IsIntervalAndOrderText p from to text
 IntervalAnswered problem first second old new BadProblem text = IsBadProblem problem old.content text
 IntervalAnswered problem first second old new ReadFault text = IsMissed problem old new × (text ≡ codes "read fault\n")
 IntervalAnswered problem first second old new UnknownEvent text = (p : ProblemLists)

@@ -8,10 +8,10 @@ use Rattle.problem_model.specs.ShortList.{IsFirstBroken}
 use Rattle.problem_model.specs.BoundText.{broken_line}
 use Rattle.cert_check.specs.declared.verdict.Verdict.{Verdict}
 use Rattle.problem.specs.Listing.{listing_of}
-use Rattle.cert.specs.Listed.{IsNamed}
+use Rattle.cert.specs.Listed.{HasNames}
 use Rattle.cert_check.specs.declared.verdict.Verdict.TheVariants.{Obeys, Broken}
-use Rattle.problem_commands.specs.Printing.{IsOnly}
-use Rattle.problem_commands.specs.Refusal.{refusal_line}
+use Rattle.problem_commands.specs.Printing.{IsOnlyText}
+use Rattle.problem_commands.specs.Refusal.{refused_text_line}
 use Rattle.problem_commands.specs.Texts.{SpellsProblem, SpellsExecution, RefusesExecution, IsBadProblem, BothHave, MissesOne}
 use Rattle.problem_commands.specs.declared.refusal.Refusal.{Refusal}
 use Rattle.problem_commands.specs.declared.status.Status.{Status}
@@ -20,12 +20,12 @@ use Rattle.problem_commands.specs.declared.status.Status.TheVariants.{Done, No, 
 -- the clocks or the events of the bound that a verdict tells of have names
 abbrev pub NamesVerdict : ProblemLists → Verdict → Type 0
 NamesVerdict p Obeys = Unit {0}
-NamesVerdict p (Broken b weight difference) = IsNamed (listing_of p) b
+NamesVerdict p (Broken b weight difference) = HasNames (listing_of p) b
 
 -- what is printed of a verdict, and with which status
 abbrev pub TellsVerdict : ProblemLists → Verdict → Status → List ℕ → Type 0
-TellsVerdict p Obeys = IsOnly (codes "obeys\n") Done
-TellsVerdict p (Broken b weight difference) = IsOnly (broken_line p b weight difference) No
+TellsVerdict p Obeys = IsOnlyText (codes "obeys\n") Done
+TellsVerdict p (Broken b weight difference) = IsOnlyText (broken_line p b weight difference) No
 
 -- what `obey` prints, with which status, and when
 abbrev pub Obeyed : List ℕ → List ℕ → FilesTold → FilesTold → Status → List ℕ → Type 0
@@ -38,6 +38,6 @@ Obeyed problem exec old new No line = (p : ProblemLists) × (x : Times) × (b : 
 Obeyed problem exec old new BadProblem line = IsBadProblem problem old.content line
 Obeyed problem exec old new BadExec line = (p : ProblemLists) × (refusal : Refusal)
     × BothHave old.content problem exec (λ text more. SpellsProblem p text × RefusesExecution p more refusal)
-    × (line ≡ refusal_line (codes "execution") refusal)
+    × (line ≡ refused_text_line (codes "execution") refusal)
 Obeyed problem exec old new ReadFault line = MissesOne problem exec old new × (line ≡ codes "read fault\n")
 Obeyed problem exec old new _ line = ⊥

@@ -13,8 +13,8 @@ abbrev pub Closes : List ℕ → Status → SinkTold → SinkTold → Status →
 Closes line status old new result = ((result ≡ status) × Appends old.written new.written line) ⊎ ((result ≡ WriteFault) × FailsIn line old new)
 
 -- one text alone, with one status
-abbrev pub IsOnly : List ℕ → Status → Status → List ℕ → Type 0
-IsOnly line only status text = (status ≡ only) × (text ≡ line)
+abbrev pub IsOnlyText : List ℕ → Status → Status → List ℕ → Type 0
+IsOnlyText line only status text = (status ≡ only) × (text ≡ line)
 
 -- a text that goes with the status is printed; or a write failed, behind a front of a text that goes with its own status; or memory
 -- ran out, and nothing is printed

@@ -17,20 +17,20 @@ kind_number Range = 3
 kind_number Limit = 4
 
 -- the number of the cause that is printed
-abbrev pub number_of : Refusal → ℕ
-number_of (Faulty kind line) = kind_number kind
-number_of Long = 5
+abbrev pub printed_cause : Refusal → ℕ
+printed_cause (Faulty kind line) = kind_number kind
+printed_cause Long = 5
 
 -- the line that is printed; a text that is too long has none
-abbrev pub place_of : Refusal → ℕ
-place_of (Faulty kind line) = line
-place_of Long = 0
+abbrev pub printed_line : Refusal → ℕ
+printed_line (Faulty kind line) = line
+printed_line Long = 0
 
 -- what reading the text answers
-abbrev pub answer_of : {State : Type 0} → Refusal → Answer State
-answer_of (Faulty kind line) = FaultyAnswer kind line
-answer_of Long = LongAnswer
+abbrev pub refused_answer : {State : Type 0} → Refusal → Answer State
+refused_answer (Faulty kind line) = FaultyAnswer kind line
+refused_answer Long = LongAnswer
 
 -- the line that says which text is refused and why
-abbrev pub refusal_line : List ℕ → Refusal → List ℕ
-refusal_line kind r = line_of (kind ∷ decimal_of (number_of r) ∷ decimal_of (place_of r) ∷ [])
+abbrev pub refused_text_line : List ℕ → Refusal → List ℕ
+refused_text_line kind r = line_of (kind ∷ decimal_of (printed_cause r) ∷ decimal_of (printed_line r) ∷ [])

@@ -3,7 +3,7 @@ use Rattle.std.specs.Prelude.{◌≡◌, ◌⊎◌, ◌≤◌, length, map, ℕ,
 use Rattle.atto.specs.Number.{FitsUnits}
 use Rattle.ports.specs.Content.{Rose}
 use Rattle.ports.specs.Files.{Content, FilesTold, HasBytes, IsAbsent, RaisesNoFault, Keeps}
-use Rattle.line_format.specs.Format.{Answers, most_bytes}
+use Rattle.line_format.specs.Format.{Answers, most_text_bytes}
 use Rattle.problem_model.specs.Problem.{ProblemLists, IsProblem}
 use Rattle.problem_model.specs.Bounds.{Times}
 use Rattle.problem_model.specs.Nodes.{Reading, AreReadings, nodes_of}
@@ -14,17 +14,17 @@ use Rattle.cert.specs.declared.certificate.Cert.{Cert}
 use Rattle.cert.specs.CertificateFormat.{certificate_format}
 use Rattle.cert.specs.ExecutionFormat.{execution_format}
 use Rattle.cert.specs.ReadsCert.{IsCertTextOf}
-use Rattle.problem_commands.specs.Refusal.{answer_of, refusal_line}
+use Rattle.problem_commands.specs.Refusal.{refused_answer, refused_text_line}
 use Rattle.problem_commands.specs.declared.refusal.Refusal.{Refusal}
 
 -- ---- texts
 -- the text is that of the problem p
 abbrev pub SpellsProblem : ProblemLists → List ℕ → Type 0
-SpellsProblem p text = (length text ≤ most_bytes) × IsProblem p × (text ≡ problem_text p)
+SpellsProblem p text = (length text ≤ most_text_bytes) × IsProblem p × (text ≡ problem_text p)
 
 -- the text is that of the real times x of the nodes of p
 pub record SpellsExecution (p : ProblemLists) (x : Times) (text : List ℕ) : Type 0 where
-  pub short : length text ≤ most_bytes
+  pub short : length text ≤ most_text_bytes
   pub readings : List Reading
   pub values : List ℤ
   pub are_readings : AreReadings p readings
@@ -38,15 +38,15 @@ SpellsCert p c text = (readings : List Reading) × AreReadings p readings × IsC
 
 -- the text is no problem text, for this cause
 abbrev pub RefusesProblem : List ℕ → Refusal → Type 0
-RefusesProblem text refusal = AnswersProblem text (answer_of refusal)
+RefusesProblem text refusal = AnswersProblem text (refused_answer refusal)
 
 -- the text is no execution text of p, for this cause
 abbrev pub RefusesExecution : ProblemLists → List ℕ → Refusal → Type 0
-RefusesExecution p text refusal = (readings : List Reading) × AreReadings p readings × Answers (execution_format p readings) text (answer_of refusal)
+RefusesExecution p text refusal = (readings : List Reading) × AreReadings p readings × Answers (execution_format p readings) text (refused_answer refusal)
 
 -- the text is no certificate text of p, for this cause
 abbrev pub RefusesCert : ProblemLists → List ℕ → Refusal → Type 0
-RefusesCert p text refusal = (readings : List Reading) × AreReadings p readings × Answers (certificate_format p readings) text (answer_of refusal)
+RefusesCert p text refusal = (readings : List Reading) × AreReadings p readings × Answers (certificate_format p readings) text (refused_answer refusal)
 
 -- ---- one file
 -- the file at the path was not read: a read failed, or it is not there, which is no fault where the files tell it
@@ -56,7 +56,7 @@ pub record IsMissed (path : List ℕ) (old new : FilesTold) : Type 0 where
 
 -- the file at the path is no problem text, and the line says why
 abbrev pub IsBadProblem : List ℕ → Content → List ℕ → Type 0
-IsBadProblem path files line = (refusal : Refusal) × HasBytes files path (λ text. RefusesProblem text refusal) × (line ≡ refusal_line (codes "problem") refusal)
+IsBadProblem path files line = (refusal : Refusal) × HasBytes files path (λ text. RefusesProblem text refusal) × (line ≡ refused_text_line (codes "problem") refusal)
 
 -- ---- two files, the second of which is read behind the first
 -- both are there, where the files tell it, with these bytes

@@ -1,14 +1,14 @@
 -- Why a file gave no value, and how that is told.
 use Rattle.std.specs.Prelude.{◌≡◌, ◌<◌, ℕ, List, length, codes}
 use Rattle.ports.specs.Files.{FilesTold, HasBytes}
-use Rattle.line_format.specs.Format.{most_bytes}
+use Rattle.line_format.specs.Format.{most_text_bytes}
 use Rattle.line_format.specs.declared.fault.FaultKind.TheVariants as kinds
 use Rattle.problem.specs.declared.errors.ProblemError.{ProblemError}
 use Rattle.problem.specs.declared.errors.ProblemError.TheVariants as problems
 use Rattle.cert.specs.declared.error.CertError.{CertError}
 use Rattle.cert.specs.declared.error.CertError.TheVariants as certs
-use Rattle.problem_commands.specs.Printing.{IsOnly}
-use Rattle.problem_commands.specs.Refusal.{refusal_line}
+use Rattle.problem_commands.specs.Printing.{IsOnlyText}
+use Rattle.problem_commands.specs.Refusal.{refused_text_line}
 use Rattle.problem_commands.specs.Texts.{IsMissed}
 use Rattle.problem_commands.specs.declared.refusal.Refusal.{Refusal}
 use Rattle.problem_commands.specs.declared.refusal.Refusal.TheVariants as refusals
@@ -19,7 +19,7 @@ use Rattle.problem_commands.specs.declared.texts.Unread.TheVariants.{Refused, Fa
 
 -- the text is too long
 abbrev pub IsLong : List ℕ → Refusal → Type 0
-IsLong text refusal = (refusal ≡ refusals.Long) × (most_bytes < length text)
+IsLong text refusal = (refusal ≡ refusals.Long) × (most_text_bytes < length text)
 
 -- the text is refused, or memory ran out
 abbrev pub IsRefusedFor : (List ℕ → Refusal → Type 0) → List ℕ → Unread → Type 0
@@ -35,8 +35,8 @@ IsUnread Refuses path old new Memory = Unit {0}
 
 -- what is printed of a file that gave no value, and with which status: the kind of its text, and the status of a refusal
 abbrev pub TellsUnread : Unread → List ℕ → Status → Status → List ℕ → Type 0
-TellsUnread (Refused refusal) kind refused = IsOnly (refusal_line kind refusal) refused
-TellsUnread Fault kind refused = IsOnly (codes "read fault\n") ReadFault
+TellsUnread (Refused refusal) kind refused = IsOnlyText (refused_text_line kind refusal) refused
+TellsUnread Fault kind refused = IsOnlyText (codes "read fault\n") ReadFault
 TellsUnread Memory kind refused = λ status text. ⊥
 
 -- an error of reading a problem, as the program tells it

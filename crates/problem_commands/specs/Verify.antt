@@ -12,7 +12,7 @@ use Rattle.problem_model.specs.BoundText.{bound_words}
 use Rattle.cert.specs.declared.certificate.Cert.{Cert}
 use Rattle.cert.specs.declared.certificate.Cert.TheVariants as certs
 use Rattle.problem.specs.Listing.{listing_of}
-use Rattle.cert.specs.Listed.{IsNamed}
+use Rattle.cert.specs.Listed.{HasNames}
 use Rattle.cert.specs.Shows.{Shows}
 use Rattle.cert_check.specs.Ends.{IsUpperOfAll, IsLowerOfAll}
 use Rattle.cert_check.specs.Reasons.{IsFirstReason}
@@ -22,8 +22,8 @@ use Rattle.cert_check.specs.declared.answer.Reason.{Reason}
 use Rattle.cert_check.specs.declared.answer.Reason.TheVariants.{Empty, Weight, Join, Sum, Broken, Difference, Home, Away, Leaves}
 use Rattle.cert_check.specs.declared.answer.Answer.{Answer}
 use Rattle.cert_check.specs.declared.answer.Answer.TheVariants as answers
-use Rattle.problem_commands.specs.Printing.{IsOnly}
-use Rattle.problem_commands.specs.Refusal.{refusal_line}
+use Rattle.problem_commands.specs.Printing.{IsOnlyText}
+use Rattle.problem_commands.specs.Refusal.{refused_text_line}
 use Rattle.problem_commands.specs.Texts.{SpellsProblem, SpellsCert, RefusesCert, IsBadProblem, BothHave, MissesOne}
 use Rattle.problem_commands.specs.declared.refusal.Refusal.{Refusal}
 use Rattle.problem_commands.specs.declared.status.Status.{Status}
@@ -67,8 +67,8 @@ HoldsForAll problem (certs.Ends p q upper lower) = IsUpperOfAll problem p q uppe
 -- ---- verify
 -- the clocks or the events of the bound that a reason tells of have names
 abbrev pub NamesReason : ProblemLists → Reason → Type 0
-NamesReason p (Broken b weight difference) = IsNamed (listing_of p) b
-NamesReason p (Leaves b) = IsNamed (listing_of p) b
+NamesReason p (Broken b weight difference) = HasNames (listing_of p) b
+NamesReason p (Leaves b) = HasNames (listing_of p) b
 NamesReason p _ = Unit {0}
 
 abbrev pub NamesAnswer : ProblemLists → Answer → Type 0
@@ -77,8 +77,8 @@ NamesAnswer p (answers.No part reason) = NamesReason p reason
 
 -- what is printed of an answer, and with which status
 abbrev pub TellsAnswer : ProblemLists → Answer → Status → List ℕ → Type 0
-TellsAnswer p answers.Yes = IsOnly (codes "yes\n") Done
-TellsAnswer p (answers.No part reason) = IsOnly (no_line p part reason) No
+TellsAnswer p answers.Yes = IsOnlyText (codes "yes\n") Done
+TellsAnswer p (answers.No part reason) = IsOnlyText (no_line p part reason) No
 
 -- what `verify` prints, with which status, and when
 abbrev pub Verified : List ℕ → List ℕ → FilesTold → FilesTold → Status → List ℕ → Type 0
@@ -91,6 +91,6 @@ Verified problem cert old new No line = (p : ProblemLists) × (c : Cert) × (par
 Verified problem cert old new BadProblem line = IsBadProblem problem old.content line
 Verified problem cert old new BadCert line = (p : ProblemLists) × (refusal : Refusal)
     × BothHave old.content problem cert (λ text more. SpellsProblem p text × RefusesCert p more refusal)
-    × (line ≡ refusal_line (codes "certificate") refusal)
+    × (line ≡ refused_text_line (codes "certificate") refusal)
 Verified problem cert old new ReadFault line = MissesOne problem cert old new × (line ≡ codes "read fault\n")
 Verified problem cert old new _ line = ⊥

@@ -14,7 +14,7 @@ use Rattle.widen.specs.Widening.{ShowsWidening, IsJudged}
 use Rattle.widen.specs.WideningFormat.{widening_format}
 use Rattle.widen.specs.ReadsWidening.{IsWideningTextOf}
 use Rattle.widen.specs.Found.{FindsWidening}
-use Rattle.problem_commands.specs.Refusal.{answer_of, refusal_line}
+use Rattle.problem_commands.specs.Refusal.{refused_answer, refused_text_line}
 use Rattle.problem_commands.specs.Texts.{SpellsProblem, IsMissed, IsBadProblem, BothHave, MissesOne}
 use Rattle.problem_commands.specs.Verify.{no_line}
 use Rattle.problem_commands.specs.declared.refusal.Refusal.{Refusal}
@@ -28,7 +28,7 @@ SpellsWidening p w text = (readings : List Reading) × AreReadings p readings ×
 
 -- the text is that of no widening of p, for this cause
 abbrev pub RefusesWidening : ProblemLists → List ℕ → Refusal → Type 0
-RefusesWidening p text refusal = (readings : List Reading) × AreReadings p readings × Answers (widening_format p readings) text (answer_of refusal)
+RefusesWidening p text refusal = (readings : List Reading) × AreReadings p readings × Answers (widening_format p readings) text (refused_answer refusal)
 
 -- what a widening says: that it is the least one, or that there is none
 abbrev pub IsTrueOf : ProblemLists → Widening → Type 0
@@ -63,6 +63,6 @@ WideningJudged problem widening old new No line = (p : ProblemLists) × (w : Wid
 WideningJudged problem widening old new BadProblem line = IsBadProblem problem old.content line
 WideningJudged problem widening old new BadCert line = (p : ProblemLists) × (refusal : Refusal)
     × BothHave old.content problem widening (λ text more. SpellsProblem p text × RefusesWidening p more refusal)
-    × (line ≡ refusal_line (codes "certificate") refusal)
+    × (line ≡ refused_text_line (codes "certificate") refusal)
 WideningJudged problem widening old new ReadFault line = MissesOne problem widening old new × (line ≡ codes "read fault\n")
 WideningJudged problem widening old new _ line = ⊥

@@ -3,11 +3,11 @@ ghost use Rattle.std.specs.Prelude.{◌≡◌, ◌≤◌, ◌+◌, ◌∷◌, []
 ghost use Rattle.atto.specs.Decimal.{decimal_of};
 ghost use Rattle.atto.specs.NsText.{ns_text};
 ghost use Rattle.line_format.specs.Words.{words};
-ghost use Rattle.ports.specs.Room.{HasRoom};
+ghost use Rattle.ports.specs.Room.{HasRoomBehind};
 ghost use Rattle.problem_model.specs.BoundText.{bound_words, broken_line};
 ghost use Rattle.problem.specs.Listing.{listing_of};
-ghost use Rattle.cert.specs.Listed.{IsNamed};
-ghost use Rattle.problem_commands.specs.Refusal.{refusal_line};
+ghost use Rattle.cert.specs.Listed.{HasNames};
+ghost use Rattle.problem_commands.specs.Refusal.{refused_text_line};
 ghost use Rattle.queries.specs.Words.{end_word, order_word};
 ghost use Rattle.problem_commands.specs.Intervals.{interval_line};
 ghost use Rattle.problem_commands.specs.Verify.{part_word, broken_words, reason_words, no_line, NamesReason};
@@ -25,7 +25,7 @@ use queries::order_word;
 /// The line that names a broken bound, its weight and the difference found, which are given in units of 1e-9 ns and
 /// printed as ns texts.
 pub fn broken_line(p: &Problem, bound: &Bound, weight: i128, difference: i128) -> Line
-    requires { IsNamed (listing_of p.now) bound.now }
+    requires { HasNames (listing_of p.now) bound.now }
     ensures { result.items ≡ broken_line p.now bound.now weight difference }
 {
     let mut line = first_word(b"broken");
@@ -39,7 +39,7 @@ pub fn broken_line(p: &Problem, bound: &Bound, weight: i128, difference: i128) -
 /// The line that says why a text is refused: the kind of text, the number of the cause, and the line.
 pub fn refusal_line(kind: &[u8], refusal: Refusal) -> Line
     requires { length kind.now ≤ 48 }
-    ensures { result.items ≡ refusal_line kind.now refusal }
+    ensures { result.items ≡ refused_text_line kind.now refusal }
 {
     let mut line = first_word(kind);
     push_decimal(&mut line, u64::from(refusal.number()));
@@ -65,7 +65,7 @@ fn least_word(end: End) -> Line
 
 // Appends the word of the end above.
 fn push_greatest(line: &mut Line, end: End)
-    requires { HasRoom line.old.items 49 }
+    requires { HasRoomBehind line.old.items 49 }
     ensures appended { (first : List ℕ) (ws : List (List ℕ)) → line.old.items ≡ words (first ∷ ws) → line.new.items ≡ words (first ∷ ws ++ end_word (codes "+inf") end ∷ []) }
     ensures grown { length line.new.items ≤ length line.old.items + 49 }
 {
@@ -77,7 +77,7 @@ fn push_greatest(line: &mut Line, end: End)
 
 // Appends the word of an order.
 fn push_order(line: &mut Line, order: Order)
-    requires { HasRoom line.old.items 49 }
+    requires { HasRoomBehind line.old.items 49 }
     ensures appended { (first : List ℕ) (ws : List (List ℕ)) → line.old.items ≡ words (first ∷ ws) → line.new.items ≡ words (first ∷ ws ++ order_word order ∷ []) }
     ensures grown { length line.new.items ≤ length line.old.items + 49 }
 {
@@ -111,7 +111,7 @@ fn part_word(part: Part) -> &'static [u8]
 // Appends a word and the number of a step.
 fn push_step(line: &mut Line, word: &[u8], step: u32)
     requires word { length word.now ≤ 48 }
-    requires room { HasRoom line.old.items 98 }
+    requires room { HasRoomBehind line.old.items 98 }
     ensures appended { (first : List ℕ) (ws : List (List ℕ)) → line.old.items ≡ words (first ∷ ws) → line.new.items ≡ words (first ∷ ws ++ word.now ∷ decimal_of step ∷ []) }
     ensures grown { length line.new.items ≤ length line.old.items + 98 }
 {
@@ -122,7 +122,7 @@ fn push_step(line: &mut Line, word: &[u8], step: u32)
 // Appends a word and a number of units.
 fn push_units(line: &mut Line, word: &[u8], units: i128)
     requires word { length word.now ≤ 48 }
-    requires room { HasRoom line.old.items 98 }
+    requires room { HasRoomBehind line.old.items 98 }
     ensures appended { (first : List ℕ) (ws : List (List ℕ)) → line.old.items ≡ words (first ∷ ws) → line.new.items ≡ words (first ∷ ws ++ word.now ∷ ns_text units ∷ []) }
     ensures grown { length line.new.items ≤ length line.old.items + 98 }
 {
@@ -132,8 +132,8 @@ fn push_units(line: &mut Line, word: &[u8], units: i128)
 
 // Appends what is said of a broken bound.
 fn push_broken(line: &mut Line, p: &Problem, bound: &Bound, weight: i128, difference: i128)
-    requires named { IsNamed (listing_of p.now) bound.now }
-    requires room { HasRoom line.old.items 392 }
+    requires named { HasNames (listing_of p.now) bound.now }
+    requires room { HasRoomBehind line.old.items 392 }
     ensures appended { (first : List ℕ) (ws : List (List ℕ)) → line.old.items ≡ words (first ∷ ws) → line.new.items ≡ words (first ∷ ws ++ broken_words p.now bound.now weight difference) }
     ensures grown { length line.new.items ≤ length line.old.items + 392 }
 {
@@ -145,8 +145,8 @@ fn push_broken(line: &mut Line, p: &Problem, bound: &Bound, weight: i128, differ
 
 // Appends the word and the words of a bound that leaves a cut.
 fn push_leaving(line: &mut Line, p: &Problem, bound: &Bound)
-    requires named { IsNamed (listing_of p.now) bound.now }
-    requires room { HasRoom line.old.items 392 }
+    requires named { HasNames (listing_of p.now) bound.now }
+    requires room { HasRoomBehind line.old.items 392 }
     ensures appended { (first : List ℕ) (ws : List (List ℕ)) → line.old.items ≡ words (first ∷ ws) → line.new.items ≡ words (first ∷ ws ++ codes "leaves" ∷ bound_words p.now bound.now) }
     ensures grown { length line.new.items ≤ length line.old.items + 392 }
 {
@@ -157,7 +157,7 @@ fn push_leaving(line: &mut Line, p: &Problem, bound: &Bound)
 // Appends the words of a reason.
 fn push_reason(line: &mut Line, p: &Problem, reason: &Reason)
     requires named { NamesReason p.now reason.now }
-    requires room { HasRoom line.old.items 392 }
+    requires room { HasRoomBehind line.old.items 392 }
     ensures appended { (first : List ℕ) (ws : List (List ℕ)) → line.old.items ≡ words (first ∷ ws) → line.new.items ≡ words (first ∷ ws ++ reason_words p.now reason.now) }
     ensures grown { length line.new.items ≤ length line.old.items + 392 }
 {

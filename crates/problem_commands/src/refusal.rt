@@ -1,6 +1,6 @@
 // Why a text is refused.
 ghost use Rattle.std.specs.Prelude.{◌≡◌};
-ghost use Rattle.problem_commands.specs.Refusal.{number_of, place_of};
+ghost use Rattle.problem_commands.specs.Refusal.{printed_cause, printed_line};
 
 use line_format::FaultKind;
 
@@ -16,7 +16,7 @@ pub enum Refusal {
 impl Refusal {
     /// The number of the cause: syntax, name, range, limit, length.
     pub fn number(self) -> u8
-        ensures { result ≡ number_of self }
+        ensures { result ≡ printed_cause self }
     {
         match self {
             Refusal::Faulty(FaultKind::Syntax, _) => 1,
@@ -29,7 +29,7 @@ impl Refusal {
 
     /// The line of the fault, from 1 on; 0 for a text that is too long.
     pub fn place(self) -> u32
-        ensures { result ≡ place_of self }
+        ensures { result ≡ printed_line self }
     {
         match self {
             Refusal::Faulty(_, line) => line,

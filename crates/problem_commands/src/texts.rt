@@ -1,6 +1,6 @@
 // The texts in the files that the words name.
 ghost use Rattle.std.specs.Prelude.{◌≡◌, ◌≤◌, length, IfOk, IfErr};
-ghost use Rattle.line_format.specs.Format.{most_bytes};
+ghost use Rattle.line_format.specs.Format.{most_text_bytes};
 ghost use Rattle.ports.specs.Files.{HasBytes, Keeps};
 ghost use Rattle.problem_model.specs.Bounds.{Times};
 ghost use Rattle.problem_model.specs.Nodes.{Lists};
@@ -61,7 +61,7 @@ pub fn unread_cert(error: CertError) -> Unread
 
 /// The whole text of a file, unless it is too long.
 pub fn text_in<F: Files>(alloc: Global, files: &mut F, path: &str) -> Result<Vec<u8>, Unread>
-    ensures ok { IfOk result (λ text. HasBytes (F.told files.old).content path.now (λ all. (length all ≤ most_bytes) × (text.items ≡ all))) }
+    ensures ok { IfOk result (λ text. HasBytes (F.told files.old).content path.now (λ all. (length all ≤ most_text_bytes) × (text.items ≡ all))) }
     ensures err { IfErr result (IsUnread IsLong path.now (F.told files.old) (F.told files.new)) }
     ensures keeps { Keeps (F.told files.old) (F.told files.new) }
 {

@@ -7,7 +7,7 @@ use Rattle.std.proofs.lemmas.List.Elements.{All-nil, All-cons}
 use Rattle.atto.specs.Decimal.{decimal_of}
 use Rattle.atto.proofs.DecimalLemmas.{length-decimal_of-le}
 use Rattle.line_format.specs.Words.{line_of}
-use Rattle.line_format.specs.Format.{most_bytes}
+use Rattle.line_format.specs.Format.{most_text_bytes}
 use Rattle.problem_model.specs.declared.items.Message.{Message}
 use Rattle.problem_model.specs.declared.items.Node.{Node}
 use Rattle.problem_model.specs.declared.items.Node.TheVariants as nodes
@@ -19,6 +19,7 @@ use Rattle.problem_model.specs.ExecutionText.{value_lines}
 use Rattle.problem_model.specs.Nodes.{Reading, AreReadings, nodes_of}
 use Rattle.problem.proofs.ListedNodes.{few_nodes}
 use Rattle.problem_model.specs.Solutions.{Leads}
+use Rattle.problem_model.specs.Limits.{most_nodes}
 use Rattle.cert.specs.declared.chain.Step.{Step}
 use Rattle.cert.specs.declared.error.CertError.{CertError}
 use Rattle.cert.specs.declared.error.CertError.TheVariants as errors
@@ -115,7 +116,7 @@ module _ (p : ProblemLists) (readings : List Reading) (lawful : IsProblem p) (ar
   fits (Never cycle) found = steps_fit most_extra cycle found
 
   -- of the 2 ^ 22 nodes at most each has a line of 100 bytes at most, and each step one of 149
-  steps_text : (e : ℕ) (cycle : List Step) → IsCycleAt p e cycle → length (cycle_lines p (Some cycle)) ≤ 2 ^ 22 * 149 + 6
+  steps_text : (e : ℕ) (cycle : List Step) → IsCycleAt p e cycle → length (cycle_lines p (Some cycle)) ≤ most_nodes * 149 + 6
   steps_text e cycle found =
       let head : length (line_of (codes "cycle" ∷ [])) ≡ 5 + 1 + 0 = line_size (codes "cycle") [] in
       let lines = steps_short p lawful cycle (steps_back p e cycle found) (weights_up_to cycle found.small) in
@@ -123,7 +124,7 @@ module _ (p : ProblemLists) (readings : List Reading) (lawful : IsProblem p) (ar
       let short = found.short readings are in
       omega (arith, length-append (line_of (codes "cycle" ∷ [])) (flat_map (step_line p) cycle), head, lines, few, short)
 
-  cycle_text : (extra : ℕ) (cycle : Option (List Step)) → IsFoundBelow p extra cycle → length (cycle_lines p cycle) ≤ 2 ^ 22 * 149 + 6
+  cycle_text : (extra : ℕ) (cycle : Option (List Step)) → IsFoundBelow p extra cycle → length (cycle_lines p cycle) ≤ most_nodes * 149 + 6
   cycle_text extra None found = omega arith
   cycle_text extra (Some cycle) found = steps_text (extra - 1) cycle found.1
 
@@ -133,7 +134,7 @@ module _ (p : ProblemLists) (readings : List Reading) (lawful : IsProblem p) (ar
       let digits = length-decimal_of-le 19 extra (omega arith) (let below : 2 ^ 62 ≤ 10 ^ 19 = omega arith in omega (arith, within)) in
       omega (arith, size, digits)
 
-  lines_short : (w : Widening) → FindsWidening p w → length (widening_lines p (nodes_of p readings) w) ≤ 2 ^ 22 * 249 + 32
+  lines_short : (w : Widening) → FindsWidening p w → length (widening_lines p (nodes_of p readings) w) ≤ most_nodes * 249 + 32
   lines_short (Least extra execution cycle) found =
       let values = values_short p lawful readings execution are (values_up_to execution (wider execution found.1.small)) in
       let few = few_nodes p readings lawful are in
@@ -142,7 +143,7 @@ module _ (p : ProblemLists) (readings : List Reading) (lawful : IsProblem p) (ar
       let size : length (line_of (least_words None)) ≡ 5 + 1 + (4 + 1 + 0) = line_size (codes "least") (codes "none" ∷ []) in
       omega (arith, length-append (line_of (least_words None)) (cycle_lines p (Some cycle)), size, steps_text most_extra cycle found)
 
-  text_short : (w : Widening) → FindsWidening p w → length (widening_text p (nodes_of p readings) w) ≤ most_bytes
+  text_short : (w : Widening) → FindsWidening p w → length (widening_text p (nodes_of p readings) w) ≤ most_text_bytes
   text_short w found =
       let head : length (line_of widening_head) ≡ 8 + 1 + (1 + 1 + 0) = line_size (codes "widening") (codes "1" ∷ []) in
       let end : length (line_of (codes "end" ∷ [])) ≡ 3 + 1 + 0 = line_size (codes "end") [] in

@@ -1,22 +1,21 @@
 -- What one line more does to the text of a widening.
-use Rattle.std.proofs.Common.{◌≡◌, ℕ, List, [], ◌∷◌, ◌++◌, Option, Some, None, codes, refl, sym, ◌∙◌, ap, arith, ℤ, append_assoc, append-nil, length-append}
-use Rattle.std.specs.List.{flat_map}
+use Rattle.std.proofs.Common.{◌≡◌, ℕ, List, [], ◌∷◌, ◌++◌, Option, Some, None, codes, refl, sym, ◌∙◌, ap, arith, ℤ, append_assoc, append-nil}
+use Rattle.std.proofs.lemmas.List.{append_cancel_left}
 use Rattle.line_format.specs.Words.{line_of}
 use Rattle.line_format.specs.Format.{Grows}
 use Rattle.problem_model.specs.Problem.{ProblemLists}
 use Rattle.problem_model.specs.Nodes.{Reading}
 use Rattle.cert.specs.declared.chain.Step.{Step}
 use Rattle.cert.specs.ExecutionFormat.{execution_format}
-use Rattle.cert.specs.CertificateText.{step_line}
-use Rattle.cert.proofs.CertGrowing.{lines_push, values_text, values_none, values_grow}
+use Rattle.cert.specs.Listed.{certificate_head}
+use Rattle.cert.specs.CertificateFormat.{certificate_format}
+use Rattle.cert.specs.CertificateFormat.CertLine.{CycleLine}
+use Rattle.cert.specs.CertificateFormat.Said.{CycleSaid}
+use Rattle.cert.proofs.CertGrowing.{behind_all, values_text, values_none, values_grow}
 use Rattle.widen.specs.WideningText.{widening_head, least_words, cycle_lines}
 use Rattle.widen.specs.WideningFormat.{WideningSaid, line_words, widening_format}
-use Rattle.widen.specs.WideningFormat.WideningLine.{LeastLine, CycleLine}
+use Rattle.widen.specs.WideningFormat.WideningLine.{LeastLine, PartLine}
 use Rattle.widen.specs.WideningFormat.WideningSaid.{NoneSaid, Said}
-
--- a piece more behind all
-behind_all : (h a b l m : List ℕ) → m ≡ b ++ l → h ++ (a ++ m) ≡ (h ++ (a ++ b)) ++ l
-behind_all h a b l m is = rw is (ap (λ (t : List ℕ). h ++ t) (sym (append_assoc a b l)) ∙ sym (append_assoc h (a ++ b) l))
 
 -- a piece more behind the last of four
 last_of_four : (h a b c d l : List ℕ) → d ≡ c ++ l → h ++ ((a ++ b) ++ d) ≡ (h ++ ((a ++ b) ++ c)) ++ l
@@ -46,16 +45,15 @@ module _ (p : ProblemLists) (readings : List Reading) where
         lines = omega (arith, g.1);
       }
 
-  pub cycle_begins : (extra : Option ℕ) (vs : List ℤ) → GrowsTo (Said extra vs None) (Said extra vs (Some [])) (line_of (line_words CycleLine))
+  pub cycle_begins : (extra : Option ℕ) (vs : List ℤ) → GrowsTo (Said extra vs None) (Said extra vs (Some [])) (line_of (line_words (PartLine CycleLine)))
   cycle_begins extra vs = record {
     text = last_of_four (line_of widening_head) (line_of (least_words extra)) (values_text p readings vs) [] (cycle_lines p (Some [])) (line_of (codes "cycle" ∷ [])) refl;
     lines = omega arith;
   }
 
-  pub steps_grow : (extra : Option ℕ) (vs : List ℤ) (steps : List Step) (s : Step) (line : List ℕ) → line ≡ step_line p s → GrowsTo (Said extra vs (Some steps)) (Said extra vs (Some (steps ++ s ∷ []))) line
-  steps_grow extra vs steps s line is = record {
-    text = last_of_four (line_of widening_head) (line_of (least_words extra)) (values_text p readings vs) (cycle_lines p (Some steps)) (cycle_lines p (Some (steps ++ s ∷ []))) line
-        (ap (λ (t : List ℕ). line_of (codes "cycle" ∷ []) ++ t) (lines_push (step_line p) steps s ∙ ap (λ (t : List ℕ). flat_map (step_line p) steps ++ t) (sym is))
-        ∙ sym (append_assoc (line_of (codes "cycle" ∷ [])) (flat_map (step_line p) steps) line));
-    lines = omega (arith, length-append steps (s ∷ []));
+  pub steps_grow : (extra : Option ℕ) (vs : List ℤ) (old new : List Step) (line : List ℕ) → Grows (certificate_format p readings) (CycleSaid old) (CycleSaid new) line → GrowsTo (Said extra vs (Some old)) (Said extra vs (Some new)) line
+  steps_grow extra vs old new line grows = record {
+    text = last_of_four (line_of widening_head) (line_of (least_words extra)) (values_text p readings vs) (cycle_lines p (Some old)) (cycle_lines p (Some new)) line
+        (append_cancel_left (line_of certificate_head) (cycle_lines p (Some new)) (cycle_lines p (Some old) ++ line) (grows.text ∙ append_assoc (line_of certificate_head) (cycle_lines p (Some old)) line));
+    lines = omega (arith, grows.lines);
   }

@@ -7,10 +7,11 @@ use Rattle.std.proofs.lemmas.List.Elements.{All-nil, All-cons, All-map}
 use Rattle.problem_model.specs.declared.items.Node.{Node}
 use Rattle.problem_model.specs.Problem.{ProblemLists, IsProblem}
 use Rattle.problem_model.specs.Bounds.{Constraint, Declares}
-use Rattle.problem_model.specs.Nodes.{Reading, AreReadings, most_nodes}
+use Rattle.problem_model.specs.Nodes.{Reading, AreReadings}
 use Rattle.problem.proofs.ListedNodes.{few_nodes}
 use Rattle.problem_model.specs.Numbers.{IsUpTo}
 use Rattle.problem_model.specs.Solutions.{WeighedBound, Leads, weight_of, IsContradictionOf}
+use Rattle.problem_model.specs.Limits.{most_nodes}
 use Rattle.sync_graph.specs.declared.arc.Arc.{Arc}
 use Rattle.cert.specs.declared.chain.Step.{Step}
 use Rattle.cert.specs.Shows.{weighed_bounds}

@@ -6,7 +6,6 @@ pub mod Growing
 pub mod Taking
 pub mod Reading
 pub mod Readable
-pub mod Writing
 pub mod Raising
 pub mod AnyOrder
 pub mod Solved

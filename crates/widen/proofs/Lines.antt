@@ -1,21 +1,21 @@
 -- A line of a widening is told by its words.
-use Rattle.std.proofs.Common.{◌≡◌, ◌⊎◌, inl, inr, ℕ, List, [], ◌∷◌, get_or, Option, Some, None, codes, refl, sym, ap, arith, ℤ}
+use Rattle.std.proofs.Common.{◌≡◌, ◌⊎◌, inl, inr, ℕ, List, [], ◌∷◌, get_or, Option, Some, None, codes, refl, sym, ap, arith}
 use Rattle.atto.specs.Decimal.{decimal_of}
 use Rattle.atto.proofs.OneSpelling.{decimal_of_injective}
 use Rattle.atto.proofs.Reading.{decimal_of-digits, decimal_of-nonempty}
 use Rattle.line_format.specs.Words.{words}
 use Rattle.line_format.specs.Cut.{Lacks}
 use Rattle.line_format.proofs.Lacking.{lacks_test, words_lack}
-use Rattle.cert.specs.CertificateFormat.{CertLine, NamedBound}
+use Rattle.cert.specs.declared.kinds.Side.TheVariants.{Upper, Lower}
+use Rattle.cert.specs.CertificateFormat.{CertLine, cert_words}
+use Rattle.cert.specs.CertificateFormat.CertLine.{CycleLine, RunLine, EndsLine, SideLine, StepLine, InsideLine, NodeLine}
 use Rattle.cert.specs.CertificateFormat.NamedBound.{Span, Stamp, Follow, Delay}
-use Rattle.cert.specs.ExecutionFormat.{ExecutionLine}
 use Rattle.cert.specs.ExecutionFormat.ExecutionLine.{EventLine, ReadingLine, EndLine}
-use Rattle.cert.proofs.Forms.{line_lacks, one_line}
 use Rattle.cert.proofs.Lacking.{decimal_lacks}
 use Rattle.cert.proofs.CertLines.{AllLack, cert_lacks, cert_line_one, words_same}
 use Rattle.widen.specs.WideningText.{least_word, least_words}
 use Rattle.widen.specs.WideningFormat.{WideningLine, line_words, IsSpelled}
-use Rattle.widen.specs.WideningFormat.WideningLine.{LeastLine, NodeLine, CycleLine, StepLine}
+use Rattle.widen.specs.WideningFormat.WideningLine.{LeastLine, PartLine}
 
 -- ---- lines lack line feeds
 word_lacks : (d : ℕ) (extra : Option ℕ) → (d ≡ 10) ⊎ (d ≡ 32) → Lacks d (least_word extra)
@@ -30,9 +30,7 @@ least_lacks d extra (inr is) = (rw is (lacks_test 32 (codes "least") refl), (wor
 
 pub widening_lacks : (line : WideningLine) → IsSpelled line → Lacks 10 (words (line_words line))
 widening_lacks (LeastLine extra) spelled = words_lack (least_words extra) (least_lacks 10 extra (inl refl))
-widening_lacks (NodeLine line) spelled = line_lacks line spelled
-widening_lacks CycleLine spelled = cert_lacks CertLine.CycleLine tt
-widening_lacks (StepLine n z) spelled = cert_lacks (CertLine.StepLine n z) spelled
+widening_lacks (PartLine line) spelled = cert_lacks line spelled
 
 -- ---- the line of the widening
 word_at : ℕ → List (List ℕ) → List ℕ
@@ -57,40 +55,27 @@ least_one a b is =
     word_one a b (ap (word_at 1) (words_same (codes "least") (least_word a ∷ []) (codes "least") (least_word b ∷ []) (least_lacks 32 a (inr refl)) (least_lacks 32 b (inr refl)) is))
 
 -- ---- the forms
-first_byte : List ℕ → ℕ
-first_byte text = get_or text 0 0
+byte_at : ℕ → List ℕ → ℕ
+byte_at n text = get_or text n 0
 
-not_step : (extra : Option ℕ) (n : NamedBound) (z : ℤ) → words (least_words extra) ≡ words (line_words (StepLine n z)) → ⊥
-unfolding first_byte
-not_step extra (Span e clock s t) z is = let h = ap first_byte is in omega (arith, h)
-not_step extra (Stamp k event) z is = let h = ap first_byte is in omega (arith, h)
-not_step extra (Follow earlier s later t) z is = let h = ap first_byte is in omega (arith, h)
-not_step extra (Delay e send receive) z is = let h = ap first_byte is in omega (arith, h)
-
-not_node : (extra : Option ℕ) (l : ExecutionLine) → words (least_words extra) ≡ words (line_words (NodeLine l)) → ⊥
-unfolding first_byte
-not_node extra (EventLine name z) is = let h = ap first_byte is in omega (arith, h)
-not_node extra (ReadingLine clock m z) is = let h = ap first_byte is in omega (arith, h)
-not_node extra EndLine is = let h = ap first_byte is in omega (arith, h)
-
-not_cycle : (extra : Option ℕ) → words (least_words extra) ≡ words (line_words CycleLine) → ⊥
-unfolding first_byte
-not_cycle extra is = let h = ap first_byte is in omega (arith, h)
+not_part : (extra : Option ℕ) (line : CertLine) → words (least_words extra) ≡ words (cert_words line) → ⊥
+unfolding byte_at
+not_part extra CycleLine is = let h = ap (byte_at 0) is in omega (arith, h)
+not_part extra RunLine is = let h = ap (byte_at 0) is in omega (arith, h)
+not_part extra (EndsLine a b) is = let h = ap (byte_at 0) is in omega (arith, h)
+not_part extra (SideLine Upper v) is = let h = ap (byte_at 0) is in omega (arith, h)
+not_part extra (SideLine Lower v) is = let h = ap (byte_at 1) is in omega (arith, h)
+not_part extra (StepLine (Span e clock s t) z) is = let h = ap (byte_at 0) is in omega (arith, h)
+not_part extra (StepLine (Stamp k event) z) is = let h = ap (byte_at 0) is in omega (arith, h)
+not_part extra (StepLine (Follow earlier s later t) z) is = let h = ap (byte_at 0) is in omega (arith, h)
+not_part extra (StepLine (Delay e send receive) z) is = let h = ap (byte_at 0) is in omega (arith, h)
+not_part extra (InsideLine clock) is = let h = ap (byte_at 0) is in omega (arith, h)
+not_part extra (NodeLine (EventLine name z)) is = let h = ap (byte_at 0) is in omega (arith, h)
+not_part extra (NodeLine (ReadingLine clock m z)) is = let h = ap (byte_at 0) is in omega (arith, h)
+not_part extra (NodeLine EndLine) is = let h = ap (byte_at 0) is in omega (arith, h)
 
 pub widening_line_one : (a b : WideningLine) → IsSpelled a → IsSpelled b → words (line_words a) ≡ words (line_words b) → a ≡ b
 widening_line_one (LeastLine a) (LeastLine b) x y is = ap LeastLine (least_one a b is)
-widening_line_one (NodeLine l) (NodeLine m) x y is = ap NodeLine (one_line l m x y is)
-widening_line_one CycleLine CycleLine x y is = refl
-widening_line_one (StepLine n z) (StepLine m w) x y is = let e = cert_line_one (CertLine.StepLine n z) (CertLine.StepLine m w) x y is in cc
-widening_line_one (LeastLine a) (NodeLine l) x y is = absurd (not_node a l is)
-widening_line_one (LeastLine a) CycleLine x y is = absurd (not_cycle a is)
-widening_line_one (LeastLine a) (StepLine n z) x y is = absurd (not_step a n z is)
-widening_line_one (NodeLine l) (LeastLine a) x y is = absurd (not_node a l (sym is))
-widening_line_one CycleLine (LeastLine a) x y is = absurd (not_cycle a (sym is))
-widening_line_one (StepLine n z) (LeastLine a) x y is = absurd (not_step a n z (sym is))
-widening_line_one (NodeLine l) CycleLine x y is = absurd (let e = cert_line_one (CertLine.NodeLine l) CertLine.CycleLine x tt is in cc)
-widening_line_one (NodeLine l) (StepLine n z) x y is = absurd (let e = cert_line_one (CertLine.NodeLine l) (CertLine.StepLine n z) x y is in cc)
-widening_line_one CycleLine (NodeLine l) x y is = absurd (let e = cert_line_one CertLine.CycleLine (CertLine.NodeLine l) tt y is in cc)
-widening_line_one CycleLine (StepLine n z) x y is = absurd (let e = cert_line_one CertLine.CycleLine (CertLine.StepLine n z) tt y is in cc)
-widening_line_one (StepLine n z) (NodeLine l) x y is = absurd (let e = cert_line_one (CertLine.StepLine n z) (CertLine.NodeLine l) x y is in cc)
-widening_line_one (StepLine n z) CycleLine x y is = absurd (let e = cert_line_one (CertLine.StepLine n z) CertLine.CycleLine x tt is in cc)
+widening_line_one (PartLine a) (PartLine b) x y is = ap PartLine (cert_line_one a b x y is)
+widening_line_one (LeastLine a) (PartLine b) x y is = absurd (not_part a b is)
+widening_line_one (PartLine a) (LeastLine b) x y is = absurd (not_part b a (sym is))

@@ -14,7 +14,7 @@ use Rattle.problem_model.specs.ProblemArcs.{IsNodeAt}
 use Rattle.sync_graph.specs.declared.arc.Arc.{Arc}
 use Rattle.sync_graph.specs.Graph.{GraphLists, IsGraph, IsSound, arc_at, with_arc}
 use Rattle.sync_graph.specs.Names.{IsNamed}
-use Rattle.problem_graph.specs.Standing.{HasBounds, IsDeclared}
+use Rattle.problem_graph.specs.Standing.{HasBounds, IsArcDeclared}
 use Rattle.sync_graph.proofs.Copies.{front_more}
 use Rattle.sync_graph.proofs.InForce.{no_arc}
 use Rattle.cert_check.specs.Widened.{widened}
@@ -45,7 +45,7 @@ raised_more e k g h so_far inside = record {
 
 -- ---- bounds
 module _ (p : ProblemLists) (readings : List Reading) (e : ℕ) where
-  declared_raised : (a : Arc) → IsDeclared p readings a → IsDeclared (widened p e) readings (raised_arc e a)
+  declared_raised : (a : Arc) → IsArcDeclared p readings a → IsArcDeclared (widened p e) readings (raised_arc e a)
   declared_raised a (c, declares, arc) =
       let r = raised p e a.name c declares in (
         r.to_it,
@@ -67,8 +67,8 @@ module _ (p : ProblemLists) (readings : List Reading) (e : ℕ) where
     nodes_are = nodes ∙ has.nodes_are;
     all_in_force = in_force;
     named = ap (map (λ (a : Arc). a.name)) arcs ∙ same_names g.arcs ∙ has.named;
-    declared = subst (All (IsDeclared (widened p e) readings)) (sym arcs)
-        (All-map (IsDeclared (widened p e) readings) (raised_arc e) g.arcs (All-weaker (IsDeclared p readings) (λ a. IsDeclared (widened p e) readings (raised_arc e a)) declared_raised g.arcs has.declared));
+    declared = subst (All (IsArcDeclared (widened p e) readings)) (sym arcs)
+        (All-map (IsArcDeclared (widened p e) readings) (raised_arc e) g.arcs (All-weaker (IsArcDeclared p readings) (λ a. IsArcDeclared (widened p e) readings (raised_arc e a)) declared_raised g.arcs has.declared));
   }
 
   -- a widened problem has the short list of the problem

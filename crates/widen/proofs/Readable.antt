@@ -1,95 +1,67 @@
 -- A widening's text has one answer.
-use Rattle.std.proofs.Common.{◌≡◌, ◌⊎◌, ◌<◌, ◌^◌, inl, inr, ℕ, suc, List, [], ◌∷◌, ◌++◌, length, get_or, All, Option, Some, None, Result, Ok, Err, refl, sym, ◌∙◌, ap, subst, arith, ℤ, length-append}
+use Rattle.std.proofs.Common.{◌≡◌, ◌⊎◌, ◌<◌, ◌^◌, inl, inr, ℕ, suc, List, [], ◌∷◌, Option, Some, None, Result, Ok, Err, refl, sym, ◌∙◌, ap, subst, arith, ℤ}
 use Rattle.std.specs.Prelude.{IfSome}
-use Rattle.std.proofs.Math.ListN.{get_or-append}
-use Rattle.atto.specs.Number.{FitsUnits}
 use Rattle.line_format.specs.Format.{Answers, Answer}
 use Rattle.line_format.specs.Format.Answer.{Found, Faulty}
 use Rattle.line_format.specs.declared.fault.FaultKind.TheVariants as kinds
 use Rattle.line_format.proofs.Readable.{IsStep, IsReadable}
 use Rattle.line_format.proofs.OneAnswer.{answers_one}
-use Rattle.problem_model.specs.declared.items.Bound.{Bound}
 use Rattle.problem_model.specs.Problem.{ProblemLists, IsProblem}
-use Rattle.problem_model.specs.Nodes.{Reading, AreReadings, nodes_of}
+use Rattle.problem_model.specs.Nodes.{Reading, AreReadings}
 use Rattle.cert.specs.declared.chain.Step.{Step}
 use Rattle.cert.specs.declared.error.CertError.{CertError}
 use Rattle.cert.specs.declared.error.CertError.TheVariants as errors
 use Rattle.cert.specs.ExecutionFormat as executions
-use Rattle.cert.specs.ExecutionFormat.{ExecutionLine, AreValues}
+use Rattle.cert.specs.ExecutionFormat.{ExecutionLine}
 use Rattle.cert.specs.ExecutionFormat.ExecutionLine.{EventLine, ReadingLine, EndLine}
-use Rattle.cert.specs.CertificateText.{IsStepOf}
-use Rattle.cert.specs.CertificateFormat.{Names, AreSteps}
-use Rattle.cert.proofs.Places.{are_named}
+use Rattle.cert.specs.CertificateFormat.CertLine.{CycleLine, RunLine, EndsLine, SideLine, StepLine, InsideLine, NodeLine}
+use Rattle.cert.specs.CertificateFormat.Said.{CycleSaid}
 use Rattle.cert.proofs.Executions as timed
-use Rattle.cert.proofs.CertGrowing.{names_one, declared_named, step_spelled}
+use Rattle.cert.proofs.CertReadable as certified
 use Rattle.widen.specs.declared.widening.Widening.{Widening}
 use Rattle.widen.specs.declared.widening.Widening.TheVariants.{Least, Never}
 use Rattle.widen.specs.WideningFormat.{WideningLine, WideningSaid, AreTimes, IsCycle, IsSound, said, said_size, widening_format}
-use Rattle.widen.specs.WideningFormat.WideningLine.{LeastLine, NodeLine, CycleLine, StepLine}
+use Rattle.widen.specs.WideningFormat.WideningLine.{LeastLine, PartLine}
 use Rattle.widen.specs.WideningFormat.WideningSaid.{NoneSaid, Said}
 use Rattle.widen.specs.ReadsWidening.{IsWideningTextOf, ReadsWideningOver}
 use Rattle.widen.proofs.Lines.{widening_lacks, widening_line_one}
 use Rattle.widen.proofs.Growing.{least_begins, times_grow, cycle_begins, steps_grow}
 use Rattle.widen.proofs.Reading.{found_is}
 
--- ---- a list is empty or has a last item
-record Last {A : Type 0} (xs : List A) : Type 0 where
-  front : List A
-  last : A
-  is : xs ≡ front ++ last ∷ []
-
-last_of : {A : Type 0} (x : A) (xs : List A) → Last (x ∷ xs)
-last_of x [] = record { front = []; last = x; is = refl }
-last_of x (y ∷ xs) = let r = last_of y xs in record { front = x ∷ r.front; last = r.last; is = ap (λ ys. x ∷ ys) r.is }
-
-ended : {A : Type 0} (xs : List A) → (xs ≡ []) ⊎ Last xs
-ended [] = inl refl
-ended (x ∷ xs) = inr (last_of x xs)
-
-last_at : {A : Type 0} (xs : List A) (y d : A) → get_or (xs ++ y ∷ []) (length xs) d ≡ y
-last_at [] y d = refl
-last_at (x ∷ xs) y d = last_at xs y d
-
-all_init : {A : Type 0} (P : A → Type 0) (xs : List A) (y : A) → All P (xs ++ y ∷ []) → All P xs
-all_init P xs y all = λ k d inside. subst P (get_or-append xs (y ∷ []) d k inside) (all k d (omega (arith, inside, length-append xs (y ∷ []))))
-
-all_last : {A : Type 0} (P : A → Type 0) (xs : List A) (y : A) → All P (xs ++ y ∷ []) → P y
-all_last P xs y all = subst P (last_at xs y y) (all (length xs) y (omega (arith, length-append xs (y ∷ []))))
-
 -- ---- what a line adds
 abbrev Adds : ProblemLists → List Reading → WideningSaid → WideningLine → WideningSaid → Type 0
 Adds p readings NoneSaid (LeastLine e) t = t ≡ Said e [] None
-Adds p readings (Said e vs None) (NodeLine l) t = (ws : List ℤ) × timed.Adds vs l ws × (t ≡ Said e ws None)
-Adds p readings (Said e vs None) CycleLine t = t ≡ Said e vs (Some [])
-Adds p readings (Said e vs (Some steps)) (StepLine n z) t = (b : Bound) × Names p n b × (t ≡ Said e vs (Some (steps ++ record { bound = b; weight = z } ∷ [])))
+Adds p readings (Said e vs None) (PartLine (NodeLine l)) t = (ws : List ℤ) × timed.Adds vs l ws × (t ≡ Said e ws None)
+Adds p readings (Said e vs None) (PartLine CycleLine) t = t ≡ Said e vs (Some [])
+Adds p readings (Said e vs (Some steps)) (PartLine line) t = (new : List Step) × certified.Adds p readings (CycleSaid steps) line (CycleSaid new) × (t ≡ Said e vs (Some new))
 Adds p readings s line t = ⊥
+
+same_steps : (a b : List Step) → CycleSaid a ≡ CycleSaid b → a ≡ b
+same_steps a b is = cc
 
 module _ (p : ProblemLists) (readings : List Reading) (lawful : IsProblem p) where
   adds_one : (s : WideningSaid) (line : WideningLine) (t u : WideningSaid) → Adds p readings s line t → Adds p readings s line u → t ≡ u
   adds_one NoneSaid (LeastLine e) t u x y = x ∙ sym y
-  adds_one NoneSaid (NodeLine l) t u x y = absurd x
-  adds_one NoneSaid CycleLine t u x y = absurd x
-  adds_one NoneSaid (StepLine n z) t u x y = absurd x
+  adds_one NoneSaid (PartLine line) t u x y = absurd x
   adds_one (Said e vs None) (LeastLine f) t u x y = absurd x
-  adds_one (Said e vs None) (NodeLine l) t u x y = x.2 ∙ ap (λ (ws : List ℤ). Said e ws None) (timed.adds_one vs l x.0 y.0 x.1 y.1) ∙ sym y.2
-  adds_one (Said e vs None) CycleLine t u x y = x ∙ sym y
-  adds_one (Said e vs None) (StepLine n z) t u x y = absurd x
+  adds_one (Said e vs None) (PartLine CycleLine) t u x y = x ∙ sym y
+  adds_one (Said e vs None) (PartLine RunLine) t u x y = absurd x
+  adds_one (Said e vs None) (PartLine (EndsLine a b)) t u x y = absurd x
+  adds_one (Said e vs None) (PartLine (SideLine side v)) t u x y = absurd x
+  adds_one (Said e vs None) (PartLine (StepLine n z)) t u x y = absurd x
+  adds_one (Said e vs None) (PartLine (InsideLine c)) t u x y = absurd x
+  adds_one (Said e vs None) (PartLine (NodeLine l)) t u x y = x.2 ∙ ap (λ (ws : List ℤ). Said e ws None) (timed.adds_one vs l x.0 y.0 x.1 y.1) ∙ sym y.2
   adds_one (Said e vs (Some steps)) (LeastLine f) t u x y = absurd x
-  adds_one (Said e vs (Some steps)) (NodeLine l) t u x y = absurd x
-  adds_one (Said e vs (Some steps)) CycleLine t u x y = absurd x
-  adds_one (Said e vs (Some steps)) (StepLine n z) t u x y =
-      x.2 ∙ ap (λ (b : Bound). Said e vs (Some (steps ++ record { bound = b; weight = z } ∷ []))) (names_one p lawful n x.0 y.0 x.1 y.1) ∙ sym y.2
+  adds_one (Said e vs (Some steps)) (PartLine line) t u x y =
+      x.2 ∙ ap (λ (xs : List Step). Said e vs (Some xs)) (same_steps x.0 y.0 (certified.adds_one p readings lawful (CycleSaid steps) line (CycleSaid x.0) (CycleSaid y.0) x.1 y.1)) ∙ sym y.2
 
-  end_adds : (s t : WideningSaid) → Adds p readings s (NodeLine EndLine) t → ⊥
+  end_adds : (s t : WideningSaid) → Adds p readings s (PartLine (NodeLine EndLine)) t → ⊥
   end_adds NoneSaid t x = x
   end_adds (Said e vs None) t x = x.1
-  end_adds (Said e vs (Some steps)) t x = x
+  end_adds (Said e vs (Some steps)) t x = x.1
 
 -- ---- the last line
 module _ (p : ProblemLists) (readings : List Reading) (lawful : IsProblem p) (are : AreReadings p readings) where
-  abbrev nodes : ℕ
-  nodes = length (nodes_of p readings)
-
   abbrev OneLine : WideningSaid → WideningLine → WideningSaid → Type 0
   OneLine s line t = IsStep (widening_format p readings) (Adds p readings) s line t
 
@@ -108,13 +80,10 @@ module _ (p : ProblemLists) (readings : List Reading) (lawful : IsProblem p) (ar
   abbrev Value : List ℤ → ExecutionLine → List ℤ → Type 0
   Value vs l ws = IsStep (executions.execution_format p readings) timed.Adds vs l ws
 
-  value_last : (z : ℤ) (zs : List ℤ) → AreValues nodes (z ∷ zs) → (front : List ℤ) × (l : ExecutionLine) × Value front l (z ∷ zs)
-  value_last z zs all = let r = timed.last_line p readings (are_named p readings lawful are) (z ∷ zs) (length zs) all refl in (r.0, r.1, r.3)
-
   time_last : (e : ℕ) (vs ws : List ℤ) (l : ExecutionLine) → e < 2 ^ 62 → Value vs l ws → LastLine (Said (Some e) ws None)
   time_last e vs ws (EventLine name z) within step = (
     Said (Some e) vs None,
-    NodeLine (EventLine name z),
+    PartLine (NodeLine (EventLine name z)),
     record {
       sound = ((within, step.sound), tt);
       may = step.may;
@@ -128,7 +97,7 @@ module _ (p : ProblemLists) (readings : List Reading) (lawful : IsProblem p) (ar
   )
   time_last e vs ws (ReadingLine clock m z) within step = (
     Said (Some e) vs None,
-    NodeLine (ReadingLine clock m z),
+    PartLine (NodeLine (ReadingLine clock m z)),
     record {
       sound = ((within, step.sound), tt);
       may = step.may;
@@ -145,42 +114,31 @@ module _ (p : ProblemLists) (readings : List Reading) (lawful : IsProblem p) (ar
   times_last : (e : Option ℕ) (vs : List ℤ) → AreTimes p readings e vs → LastLine (Said e vs None)
   times_last e [] times = least_last e times
   times_last None (z ∷ zs) times = absurd cc
-  times_last (Some e) (z ∷ zs) times = let r = value_last z zs times.1 in time_last e r.0 (z ∷ zs) r.1 times.0 r.2
+  times_last (Some e) (z ∷ zs) times = let r = certified.value_last p readings lawful are z zs times.1 in time_last e r.0 (z ∷ zs) r.1 times.0 r.2
 
   -- the line of a step, or the first line of a cycle
-  steps_init : (steps : List Step) (s : Step) → AreSteps p (steps ++ s ∷ []) → AreSteps p steps
-  steps_init steps s all = record {
-    declared = all_init (IsStepOf p) steps s all.declared;
-    weights = all_init (λ x. FitsUnits x.weight) steps s all.weights;
-    few = omega (arith, all.few, length-append steps (s ∷ []));
-  }
-
   cycle_last : (e : Option ℕ) (vs : List ℤ) (steps : List Step) → AreTimes p readings e vs → IsCycle p readings e vs (Some steps) → LastLine (Said e vs (Some steps))
   cycle_last e vs steps times cycle =
-      elim (ended steps) [
+      elim (certified.step_last p readings lawful are steps cycle.1) [
         | inl none ↦ subst (λ (xs : List Step). LastLine (Said e vs (Some xs))) (sym none) (
           Said e vs None,
-          CycleLine,
+          PartLine CycleLine,
           record { sound = (times, tt); may = cycle.0; spelled = tt; names = tt; numbers = tt; room = tt; adds = refl; grows = cycle_begins p readings e vs },
         )
-        | inr s ↦
-            let whole = subst (AreSteps p) s.is cycle.1 in
-            let declared = all_last (IsStepOf p) s.front s.last whole.declared in
-            let named = declared_named p lawful s.last.bound declared in
-            subst (λ (xs : List Step). LastLine (Said e vs (Some xs))) (sym s.is) (
-              Said e vs (Some s.front),
-              StepLine named.0 s.last.weight,
-              record {
-                sound = (times, (cycle.0, steps_init s.front s.last whole));
-                may = tt;
-                spelled = named.2;
-                names = (s.last.bound, named.1, declared);
-                numbers = all_last (λ x. FitsUnits x.weight) s.front s.last whole.weights;
-                room = omega (arith, whole.few, length-append s.front (s.last ∷ []));
-                adds = (s.last.bound, named.1, refl);
-                grows = steps_grow p readings e vs s.front s.last _ (step_spelled p named.0 s.last.bound s.last.weight named.1);
-              },
-            )
+        | inr (front, line, step) ↦ (
+          Said e vs (Some front),
+          PartLine line,
+          record {
+            sound = (times, (cycle.0, step.sound));
+            may = step.may;
+            spelled = step.spelled;
+            names = step.names;
+            numbers = step.numbers;
+            room = step.room;
+            adds = (steps, step.adds, refl);
+            grows = steps_grow p readings e vs front steps _ step.grows;
+          },
+        )
       ]
 
   some_last : (t : WideningSaid) (n : ℕ) → IsSound p readings t → said_size t ≡ suc n → LastLine t

@@ -1,9 +1,8 @@
 -- From the lines of a text to what the whole text answers.
-use Rattle.std.proofs.Common.{◌≡◌, ◌≢◌, ◌↔◌, ◌<◌, ◌≤◌, ◌+◌, ◌^◌, ℕ, List, [], ◌∷◌, ◌++◌, length, All, Option, Some, None, Ok, Err, codes, refl, sym, ◌∙◌, ap, subst, arith, ℤ, append_assoc, append-nil}
-use Rattle.atto.specs.Number.{FitsUnits}
+use Rattle.std.proofs.Common.{◌≡◌, ◌≢◌, ◌↔◌, ◌<◌, ◌≤◌, ◌+◌, ◌^◌, ℕ, List, [], ◌∷◌, ◌++◌, length, Option, Some, None, Ok, Err, codes, refl, sym, ◌∙◌, ap, subst, arith, ℤ, append_assoc, append-nil}
 use Rattle.line_format.specs.Words.{words, line_of}
 use Rattle.line_format.specs.Cut.{cut}
-use Rattle.line_format.specs.Format.{Format, Answers, Takes, whole_text, most_bytes}
+use Rattle.line_format.specs.Format.{Format, Answers, Takes, whole_text, most_text_bytes}
 use Rattle.line_format.specs.Format.Front.{Open, Closed}
 use Rattle.line_format.specs.Format.Answer.{Found, Faulty}
 use Rattle.line_format.specs.declared.fault.FaultKind.{FaultKind}
@@ -12,23 +11,22 @@ use Rattle.line_format.specs.declared.fault.LineError.{LineError}
 use Rattle.line_format.specs.declared.fault.LineError.TheVariants as lines
 use Rattle.line_format.specs.declared.fault.Taken.TheVariants as taken
 use Rattle.line_format.proofs.Reading.{Stands, fault_answers, cut_answers, stands_on}
-use Rattle.problem_model.specs.declared.items.Node.TheVariants as nodes
 use Rattle.problem_model.specs.Problem.{ProblemLists}
 use Rattle.problem_model.specs.Nodes.{Reading, AreReadings, nodes_of}
-use Rattle.problem_model.proofs.OneList.{readings_one}
-use Rattle.std.proofs.lemmas.Option.{slice_get_within}
-use Rattle.cert.specs.ExecutionFormat.{AreValues}
+use Rattle.cert.specs.ExecutionFormat.{ExecutionLine}
 use Rattle.cert.specs.ExecutionFormat.ExecutionLine.{EventLine, ReadingLine, EndLine}
-use Rattle.cert.specs.CertificateText.{HasOneEach}
-use Rattle.cert.specs.CertificateFormat.{AreSteps}
+use Rattle.cert.specs.CertificateFormat.CertLine.{NodeLine}
 use Rattle.cert.specs.ReadsExecution.{error_at}
 use Rattle.cert.proofs.CertGrowing.{values_none}
+use Rattle.cert.proofs.PartTaking.{no_steps}
+use Rattle.cert.proofs.CertTaking.{none_fit, no_value}
+use Rattle.cert.proofs.CertReading.{whole_from, values_from}
 use Rattle.widen.specs.declared.widening.Widening.{Widening}
 use Rattle.widen.specs.declared.widening.Widening.TheVariants.{Least, Never}
 use Rattle.widen.specs.Widening.{IsWideningOf}
 use Rattle.widen.specs.WideningText.{widening_head, least_words, cycle_lines, widening_text}
-use Rattle.widen.specs.WideningFormat.{WideningLine, WideningSaid, line_words, IsSpelled, IsWhole, MayBegin, MayStand, AreTimes, IsSound, said, said_lines, widening_format}
-use Rattle.widen.specs.WideningFormat.WideningLine.{LeastLine, NodeLine, CycleLine, StepLine}
+use Rattle.widen.specs.WideningFormat.{WideningLine, WideningSaid, line_words, IsSpelled, IsWhole, MayBegin, MayRun, MayStand, AreTimes, IsSound, said, said_lines, widening_format}
+use Rattle.widen.specs.WideningFormat.WideningLine.{LeastLine, PartLine}
 use Rattle.widen.specs.WideningFormat.WideningSaid.{NoneSaid, Said}
 use Rattle.widen.specs.ReadsWidening.{FitsWidening, IsWideningTextOf, RefusesText}
 use Rattle.widen.specs.declared.read.Stated.{Stated}
@@ -37,6 +35,7 @@ use Rattle.widen.specs.declared.read.Stated.TheVariants.{Of, TooMuch}
 use Rattle.widen.specs.ReadsLines.{IsStated, IsStatedIn, IsBehind}
 use Rattle.widen.proofs.Lines.{widening_lacks}
 use Rattle.widen.proofs.Growing.{GrowsTo, least_begins, cycle_begins}
+use Rattle.widen.proofs.Taking.{before_cycle}
 
 module _ (p : ProblemLists) (readings : List Reading) where
   abbrev format : Format WideningSaid WideningLine
@@ -76,11 +75,11 @@ module _ (p : ProblemLists) (readings : List Reading) where
     },
   )
 
-  pub end_found : (text rest after : List ℕ) (s : WideningSaid) (n : ℕ) → Behind text rest s n → rest ≡ line_of (codes "end" ∷ []) ++ after → after ≡ [] → MayStand p readings s (NodeLine EndLine) → Answers format text (Found s)
+  pub end_found : (text rest after : List ℕ) (s : WideningSaid) (n : ℕ) → Behind text rest s n → rest ≡ line_of (codes "end" ∷ []) ++ after → after ≡ [] → MayStand p readings s (PartLine (NodeLine EndLine)) → Answers format text (Found s)
   end_found text rest after s n b is none may =
       (b.short, b.sound, may, b.is ∙ ap (λ (r : List ℕ). text_of s ++ r) (is ∙ ap (λ (x : List ℕ). line_of (codes "end" ∷ []) ++ x) none ∙ append-nil (line_of (codes "end" ∷ []))))
 
-  pub end_more : (text rest after : List ℕ) (s : WideningSaid) (n : ℕ) → Behind text rest s n → rest ≡ line_of (codes "end" ∷ []) ++ after → after ≢ [] → MayStand p readings s (NodeLine EndLine) → Answers format text (Faulty kinds.Syntax (n + 1))
+  pub end_more : (text rest after : List ℕ) (s : WideningSaid) (n : ℕ) → Behind text rest s n → rest ≡ line_of (codes "end" ∷ []) ++ after → after ≢ [] → MayStand p readings s (PartLine (NodeLine EndLine)) → Answers format text (Faulty kinds.Syntax (n + 1))
   end_more text rest after s n b is some may = (
     b.short,
     record {
@@ -94,27 +93,24 @@ module _ (p : ProblemLists) (readings : List Reading) where
   )
 
   -- ---- what alone may stand
+  whole_end : (extra : ℕ) (vs : List ℤ) → IsWhole p readings vs → (l : ExecutionLine) → MayRun p readings (Some extra) vs l → (l ≡ EndLine) × (extra ≡ 0)
+  whole_end extra vs whole (EventLine name z) may = absurd (no_value p readings vs (EventLine name z) whole may (λ e. cc))
+  whole_end extra vs whole (ReadingLine clock m z) may = absurd (no_value p readings vs (ReadingLine clock m z) whole may (λ e. cc))
+  whole_end extra vs whole EndLine may = (refl, may.0)
+
+  abbrev Words : List (List ℕ) → WideningLine → Type 0
+  Words ws line = line_words line ≡ ws
+
   pub only_cycle : (line : WideningLine) → MayStand p readings (Said None [] None) line → line_words line ≡ codes "cycle" ∷ []
-  only_cycle (LeastLine e) may = absurd may
-  only_cycle (NodeLine l) may = absurd may
-  only_cycle CycleLine may = refl
-  only_cycle (StepLine n z) may = absurd may
+  only_cycle line may = before_cycle p readings (Words (codes "cycle" ∷ [])) None [] line (λ begins. refl) (λ l runs. absurd runs) may
 
   pub only_cycle_above : (extra : ℕ) (vs : List ℤ) → 0 < extra → IsWhole p readings vs → (line : WideningLine) → MayStand p readings (Said (Some extra) vs None) line → line_words line ≡ codes "cycle" ∷ []
-  only_cycle_above extra vs above whole (LeastLine e) may = absurd may
-  only_cycle_above extra vs above whole (NodeLine (EventLine name z)) may = absurd (let within = slice_get_within (nodes_of p readings) (length vs) (nodes.Event may.0) may.1 in omega (arith, within, whole))
-  only_cycle_above extra vs above whole (NodeLine (ReadingLine clock m z)) may = absurd (let within = slice_get_within (nodes_of p readings) (length vs) (nodes.Reading may.0 may.1) may.2 in omega (arith, within, whole))
-  only_cycle_above extra vs above whole (NodeLine EndLine) may = absurd (let none : extra ≡ 0 = may.0 in omega (arith, above, none))
-  only_cycle_above extra vs above whole CycleLine may = refl
-  only_cycle_above extra vs above whole (StepLine n z) may = absurd may
+  only_cycle_above extra vs above whole line may =
+      before_cycle p readings (Words (codes "cycle" ∷ [])) (Some extra) vs line (λ begins. refl) (λ l runs. absurd (let end = whole_end extra vs whole l runs in omega (arith, above, end.1))) may
 
   pub only_end : (vs : List ℤ) → IsWhole p readings vs → (line : WideningLine) → MayStand p readings (Said (Some 0) vs None) line → line_words line ≡ codes "end" ∷ []
-  only_end vs whole (LeastLine e) may = absurd may
-  only_end vs whole (NodeLine (EventLine name z)) may = absurd (let within = slice_get_within (nodes_of p readings) (length vs) (nodes.Event may.0) may.1 in omega (arith, within, whole))
-  only_end vs whole (NodeLine (ReadingLine clock m z)) may = absurd (let within = slice_get_within (nodes_of p readings) (length vs) (nodes.Reading may.0 may.1) may.2 in omega (arith, within, whole))
-  only_end vs whole (NodeLine EndLine) may = refl
-  only_end vs whole CycleLine may = absurd (omega (arith, may.0))
-  only_end vs whole (StepLine n z) may = absurd may
+  only_end vs whole line may =
+      before_cycle p readings (Words (codes "end" ∷ [])) (Some 0) vs line (λ begins. absurd (omega (arith, begins.0))) (λ l runs. ap (λ (x : ExecutionLine). line_words (PartLine (NodeLine x))) (whole_end 0 vs whole l runs).0) may
 
   -- ---- faults of lines
   kind_refuses : (text : List ℕ) (kind : FaultKind) (n : ℕ) → Answers format text (Faulty kind n) → RefusesText p readings text (error_at (lines.Fault kind) n)
@@ -133,15 +129,9 @@ module _ (p : ProblemLists) (readings : List Reading) where
   pub line_on : (text rest body after : List ℕ) (s t : WideningSaid) (n : ℕ) → Behind text rest s n → cut 10 rest ≡ Some (body, after) → Takes format s body (Ok taken.Line) t → IsSound p readings t → Behind text after t (n + 1)
   line_on text rest body after s t n b parts r sound = behind_of text after t (n + 1) (stands_on format widening_lacks text rest body after s t n (stands_of text rest s n b) parts r sound)
 
-  pub no_times : AreValues (length (nodes_of p readings)) []
-  no_times = record { fit = λ k d inside. absurd (omega (arith, inside)); few = omega arith }
-
   -- ---- a cycle begins
-  no_steps : AreSteps p []
-  no_steps = record { declared = λ k d inside. absurd (omega (arith, inside)); weights = λ k d inside. absurd (omega (arith, inside)); few = omega arith }
-
   pub cycle_on : (text rest more : List ℕ) (extra : Option ℕ) (vs : List ℤ) (n : ℕ) → Behind text rest (Said extra vs None) n → rest ≡ line_of (codes "cycle" ∷ []) ++ more → MayBegin p readings extra vs → Behind text more (Said extra vs (Some [])) (n + 1)
-  cycle_on text rest more extra vs n b is may = word_on text rest more (Said extra vs None) (Said extra vs (Some [])) n (codes "cycle" ∷ []) b is (cycle_begins p readings extra vs) (b.sound.0, (may, no_steps))
+  cycle_on text rest more extra vs n b is may = word_on text rest more (Said extra vs None) (Said extra vs (Some [])) n (codes "cycle" ∷ []) b is (cycle_begins p readings extra vs) (b.sound.0, (may, no_steps p))
 
   -- ---- the text of what is said is that of the widening
   text_is : (w : Widening) → whole_text format (said w) ≡ widening_text p (nodes_of p readings) w
@@ -150,19 +140,13 @@ module _ (p : ProblemLists) (readings : List Reading) where
       (ap (λ (v : List ℕ). line_of (least_words None) ++ v) (values_none p readings) ∙ append-nil (line_of (least_words None)))
 
   module _ (are : AreReadings p readings) where
-    whole_from : (values : List ℤ) → HasOneEach p values → IsWhole p readings values
-    whole_from values (rs, are', same) = same ∙ ap (λ (r : List Reading). length (nodes_of p r)) (readings_one p rs readings are' are)
-
-    values_from : (values : List ℤ) → HasOneEach p values → All FitsUnits values → AreValues (length (nodes_of p readings)) values
-    values_from values each fit = record { fit = fit; few = let same = whole_from values each in omega (arith, same) }
-
-    sound_from : (w : Widening) → IsWideningOf p w → FitsWidening w → IsSound p readings (said w) × MayStand p readings (said w) (NodeLine EndLine)
-    sound_from (Least extra execution None) of fits = (((fits.0, values_from execution of.0 fits.1), tt), (of.1, whole_from execution of.0))
+    sound_from : (w : Widening) → IsWideningOf p w → FitsWidening w → IsSound p readings (said w) × MayStand p readings (said w) (PartLine (NodeLine EndLine))
+    sound_from (Least extra execution None) of fits = (((fits.0, values_from p readings are execution of.0 fits.1), tt), (of.1, whole_from p readings are execution of.0))
     sound_from (Least extra execution (Some cycle)) of fits =
-        (((fits.0, values_from execution of.0 fits.1), ((of.1.0, whole_from execution of.0), record { declared = of.1.1; weights = fits.2.0; few = fits.2.1 })), tt)
+        (((fits.0, values_from p readings are execution of.0 fits.1), ((of.1.0, whole_from p readings are execution of.0), record { declared = of.1.1; weights = fits.2.0; few = fits.2.1 })), tt)
     sound_from (Never cycle) of fits = ((refl, (tt, record { declared = of; weights = fits.0; few = fits.1 })), tt)
 
-    sound_back : (w : Widening) → IsSound p readings (said w) → MayStand p readings (said w) (NodeLine EndLine) → IsWideningOf p w × FitsWidening w
+    sound_back : (w : Widening) → IsSound p readings (said w) → MayStand p readings (said w) (PartLine (NodeLine EndLine)) → IsWideningOf p w × FitsWidening w
     sound_back (Least extra execution None) sound may = (((readings, are, may.1), may.0), (sound.0.0, sound.0.1.fit, tt))
     sound_back (Least extra execution (Some cycle)) sound may =
         (((readings, are, sound.1.0.1), (sound.1.0.0, sound.1.1.declared)), (sound.0.0, sound.0.1.fit, (sound.1.1.weights, sound.1.1.few)))
@@ -189,21 +173,19 @@ module _ (p : ProblemLists) (readings : List Reading) (text whole body rest : Li
     where
       misspelled : (line : WideningLine) → MayStand p readings NoneSaid line → IsSpelled line → body ≡ words (line_words line) → ⊥
       misspelled (LeastLine extra) may spelled is = none extra is
-      misspelled (NodeLine l) may spelled is = may
-      misspelled CycleLine may spelled is = may
-      misspelled (StepLine n z) may spelled is = may
+      misspelled (PartLine line) may spelled is = may
 
 -- what the line states
 pub stated_in : (p : ProblemLists) (readings : List Reading) (text whole body rest : List ℕ) → IsBehind p readings text whole NoneSaid 2 → cut 10 whole ≡ Some (body, rest)
     → (s : Stated) (extra : Option ℕ) → body ≡ words (least_words extra) → IsStated extra s → IsStatedIn p readings text rest s
 stated_in p readings text whole body rest b parts (Of e) extra is (same, within) =
-    least_on p readings text whole body rest b parts (Some e) (is ∙ ap (λ (o : Option ℕ). words (least_words o)) same) (within, no_times p readings)
+    least_on p readings text whole body rest b parts (Some e) (is ∙ ap (λ (o : Option ℕ). words (least_words o)) same) (within, none_fit p readings (length (nodes_of p readings)))
 stated_in p readings text whole body rest b parts TooMuch extra is (e, same, over) =
     least_over p readings text whole body rest b parts e (is ∙ ap (λ (o : Option ℕ). words (least_words o)) same) over
 stated_in p readings text whole body rest b parts stated.Never extra is same =
     least_on p readings text whole body rest b parts None (is ∙ ap (λ (o : Option ℕ). words (least_words o)) same) refl
 
-pub first_line : (p : ProblemLists) (readings : List Reading) (rest : List ℕ) → length (line_of widening_head ++ rest) ≤ most_bytes → IsBehind p readings (line_of widening_head ++ rest) rest NoneSaid 2
+pub first_line : (p : ProblemLists) (readings : List Reading) (rest : List ℕ) → length (line_of widening_head ++ rest) ≤ most_text_bytes → IsBehind p readings (line_of widening_head ++ rest) rest NoneSaid 2
 first_line p readings rest short = record { is = refl; number = refl; sound = tt; short = short }
 
 -- ---- a widening of 0

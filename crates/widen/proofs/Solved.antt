@@ -1,6 +1,6 @@
 -- What solving a graph that holds the short list of a problem says of the problem.
 use Rattle.std.proofs.Common.{◌≡◌, ◌≤◌, ◌*◌, ◌^◌, ℕ, List, [], ◌∷◌, length, map, get_or, refl, sym, ap, subst, arith}
-use Rattle.std.specs.Prelude.{ℤ, pos, neg_ℤ, ◌≤ℤ◌, ◌<ℤ◌, All}
+use Rattle.std.specs.Prelude.{◌+◌, ℤ, pos, neg_ℤ, ◌≤ℤ◌, ◌<ℤ◌, All}
 use Rattle.std.proofs.lemmas.Int.{ints}
 use Rattle.std.proofs.lemmas.List.{get_or_default}
 use Rattle.std.proofs.lemmas.List.Elements.{All-map, All-weaker, Contains-get_or}
@@ -14,6 +14,7 @@ use Rattle.problem_model.specs.Numbers.{IsUpTo}
 use Rattle.problem_model.specs.Paths.{IsContradiction}
 use Rattle.problem_model.specs.Solutions.{WeighedBound, IsContradictionOf, NamedArc, IsBoundArc, weighed}
 use Rattle.problem_model.specs.Tables.{ArcTable, Lists}
+use Rattle.problem_model.specs.Limits.{path_bits}
 use Rattle.problem_model.proofs.Heights.{earliest_height, height_low}
 use Rattle.problem_model.proofs.Problems.{times}
 use Rattle.problem_model.proofs.Solutions.{same_earliest, named_contradiction}
@@ -21,7 +22,7 @@ use Rattle.problem_model.proofs.Tables.{lists_listed, obeys_all, execution_of_ta
 use Rattle.sync_graph.specs.declared.arc.Arc.{Arc}
 use Rattle.sync_graph.specs.Graph.{GraphLists, IsGraph, table_of, unnamed, arc_at}
 use Rattle.sync_graph.specs.InForce.{arcs_of, IsEarliestOf, IsInForce}
-use Rattle.problem_graph.specs.Standing.{IsDeclared}
+use Rattle.problem_graph.specs.Standing.{IsArcDeclared}
 use Rattle.problem_graph.proofs.Ends.{lists_all}
 use Rattle.sync_graph.proofs.InForce.{no_arc, in_force_below, arcs_listed, arcs_within}
 use Rattle.earliest.specs.Inserted.{IsNegativeCycle}
@@ -54,7 +55,7 @@ module _ (p : ProblemLists) (g : GraphLists) (formed : IsWellFormed p) (is : IsG
       (found.0, (readings, are, found.1), (same_earliest p readings (map unnamed g.arcs) are stands found.0 values found.1).0 own)
 
 -- values of an earliest execution are small
-pub wider : (values : List ℤ) → All (IsUnder 116) values → All (IsUnder 117) values
+pub wider : (values : List ℤ) → All (IsUnder (path_bits + 1)) values → All (IsUnder (path_bits + 2)) values
 wider values small k d inside =
     let low = (small k d inside).0 in
     let high = (small k d inside).1 in
@@ -69,17 +70,17 @@ module _ (g : GraphLists) (is : IsGraph g) (values : List ℤ) (e : IsEarliestOf
       low : (w : ℤ) → neg_ℤ (pos (2 ^ 93)) <ℤ w → neg_ℤ (pos (2 ^ 93)) ≤ℤ w
       low w less = omega (arith, ints, less)
 
-  between : (n : ℕ) (z : ℤ) → n ≤ 2 ^ 115 → pos 0 ≤ℤ z → z ≤ℤ pos n → IsUnder 116 z
+  between : (n : ℕ) (z : ℤ) → n ≤ 2 ^ path_bits → pos 0 ≤ℤ z → z ≤ℤ pos n → IsUnder (path_bits + 1) z
   between n z few low high = (omega (arith, ints, few, low, high), omega (arith, ints, few, low, high))
 
-  pub values_under : All (IsUnder 116) values
+  pub values_under : All (IsUnder (path_bits + 1)) values
   values_under k d inside =
       let here : at values k ≡ get_or values k d = get_or_default values k (pos 0) d inside in
-      subst (IsUnder 116) here
+      subst (IsUnder (path_bits + 1)) here
       (between (length g.nodes * 2 ^ 93) (at values k) (height_low (length g.nodes) is.node_limit) (e.non_negative k)
       (earliest_height (length g.nodes) (arcs_of g) values (2 ^ 93) (arcs_within g is) not_below e k (omega (arith, inside, e.execution.one_each))))
 
-  pub values_small : All (IsUpTo 117) values
+  pub values_small : All (IsUpTo (path_bits + 2)) values
   values_small = values_up_to values (wider values values_under)
 
 -- ---- a negative cycle
@@ -95,8 +96,8 @@ weighed_named [] = refl
 weighed_named (a ∷ steps) = ap (λ (more : List WeighedBound). weighed (named a) ∷ more) (weighed_named steps)
 
 module _ (p : ProblemLists) (g : GraphLists) (is : IsGraph g) (readings : List Reading) (are : AreReadings p readings) (holds : HoldsShortList p g) where
-  pub declared_arc : (a : Arc) → IsInForce g a → IsDeclared p readings a
-  declared_arc a (j, force, here) = subst (λ (b : Arc). IsDeclared p readings b) here ((holds readings are).2.declared j no_arc (in_force_below g is j force))
+  pub declared_arc : (a : Arc) → IsInForce g a → IsArcDeclared p readings a
+  declared_arc a (j, force, here) = subst (λ (b : Arc). IsArcDeclared p readings b) here ((holds readings are).2.declared j no_arc (in_force_below g is j force))
 
   pub sound_arc : (a : Arc) → IsInForce g a → (neg_ℤ (pos (2 ^ 93)) <ℤ a.weight) × (a.weight <ℤ pos (2 ^ 93))
   sound_arc a (j, force, here) = let sound = is.sound j no_arc (in_force_below g is j force) in subst (λ (b : Arc). (neg_ℤ (pos (2 ^ 93)) <ℤ b.weight) × (b.weight <ℤ pos (2 ^ 93))) here (sound.low, sound.high)

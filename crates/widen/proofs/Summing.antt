@@ -6,6 +6,7 @@ use mir.Val.{SFits}
 use Rattle.std.proofs.lemmas.Int.{ints, to_z-of_z}
 use Rattle.problem_model.specs.Numbers.{IsUpTo}
 use Rattle.problem_model.specs.Solutions.{weight_of}
+use Rattle.problem_model.specs.Limits.{most_nodes, path_bits}
 use Rattle.sync_graph.specs.declared.arc.Arc.{Arc}
 use Rattle.widen.specs.Raised.{one_delay, delays_of, weighed_arcs}
 
@@ -52,19 +53,19 @@ module _ (arcs : List Arc) where
 pub up_from : (w : ℤ) → (neg_ℤ (pos (2 ^ 93)) <ℤ w) × (w <ℤ pos (2 ^ 93)) → IsUpTo 93 w
 up_from w (low, high) = (omega (arith, ints, low), omega (arith, ints, high))
 
-value_fits : (z : ℤ) → IsUpTo 117 z → SFits w128 z
+value_fits : (z : ℤ) → IsUpTo (path_bits + 2) z → SFits w128 z
 value_fits z (low, high) = omega (arith, ints, low, high)
 
-pub value_is : (z : ℤ) → IsUpTo 117 z → to_z w128 (of_z w128 z) ≡ z
+pub value_is : (z : ℤ) → IsUpTo (path_bits + 2) z → to_z w128 (of_z w128 z) ≡ z
 value_is z up = to_z-of_z w128 z (value_fits z up)
 
 weight_fits : (w : ℤ) → IsUpTo 93 w → SFits w128 w
 weight_fits w (low, high) = omega (arith, ints, low, high)
 
-pub units_fit : (z : ℤ) → IsUpTo 117 z → unsigned_abs (to_z w128 (of_z w128 z)) ≤ 2 ^ 120
+pub units_fit : (z : ℤ) → IsUpTo (path_bits + 2) z → unsigned_abs (to_z w128 (of_z w128 z)) ≤ 2 ^ 120
 units_fit z up = subst (λ (v : ℤ). unsigned_abs v ≤ 2 ^ 120) (sym (value_is z up)) (let low = up.0 in let high = up.1 in omega (arith, ints, low, high))
 
-module _ (k count : ℕ) (sum w : ℤ) (inside : k < count) (few : count ≤ 2 ^ 22) (so_far : unsigned_abs sum ≤ k * 2 ^ 93) (up : IsUpTo 93 w) where
+module _ (k count : ℕ) (sum w : ℤ) (inside : k < count) (few : count ≤ most_nodes) (so_far : unsigned_abs sum ≤ k * 2 ^ 93) (up : IsUpTo 93 w) where
   worth : to_z w128 (of_z w128 w) ≡ w
   worth = to_z-of_z w128 w (weight_fits w up)
 

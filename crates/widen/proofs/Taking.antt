@@ -1,5 +1,5 @@
 -- What taking a line does to what is said so far.
-use Rattle.std.proofs.Common.{◌≡◌, ℕ, List, [], ◌∷◌, ◌++◌, Option, Some, None, Result, Ok, Err, codes, ◌∙◌, ap, ℤ}
+use Rattle.std.proofs.Common.{◌≡◌, ℕ, List, [], ◌∷◌, ◌++◌, Option, Some, None, Result, Ok, Err, ap, ℤ}
 use Rattle.line_format.specs.Words.{words}
 use Rattle.line_format.specs.Format.{Format, Takes, FaultIn}
 use Rattle.line_format.specs.declared.fault.FaultKind.TheVariants as kinds
@@ -10,14 +10,13 @@ use Rattle.line_format.specs.declared.fault.Taken.TheVariants as taken
 use Rattle.problem_model.specs.Problem.{ProblemLists}
 use Rattle.problem_model.specs.Nodes.{Reading}
 use Rattle.cert.specs.declared.chain.Step.{Step}
-use Rattle.cert.specs.ExecutionFormat.{execution_format}
+use Rattle.cert.specs.ExecutionFormat.{ExecutionLine, execution_format}
 use Rattle.cert.specs.ExecutionFormat.ExecutionLine.{EventLine, ReadingLine, EndLine}
-use Rattle.cert.specs.CertificateFormat.{CertLine, NamedBound, cert_words, IsBoundSpelled}
-use Rattle.cert.specs.SaidStep.{NoStep}
-use Rattle.cert.specs.TakesPart.{TakesStep}
-use Rattle.cert.proofs.CertGrowing.{step_spelled}
-use Rattle.widen.specs.WideningFormat.{WideningLine, WideningSaid, IsWhole, widening_format}
-use Rattle.widen.specs.WideningFormat.WideningLine.{LeastLine, NodeLine, CycleLine, StepLine}
+use Rattle.cert.specs.CertificateFormat.{certificate_format}
+use Rattle.cert.specs.CertificateFormat.CertLine.{CycleLine, RunLine, EndsLine, SideLine, StepLine, InsideLine, NodeLine}
+use Rattle.cert.specs.CertificateFormat.Said.{CycleSaid}
+use Rattle.widen.specs.WideningFormat.{WideningLine, WideningSaid, IsWhole, MayBegin, MayRun, MayStand, widening_format}
+use Rattle.widen.specs.WideningFormat.WideningLine.{LeastLine, PartLine}
 use Rattle.widen.specs.WideningFormat.WideningSaid.{Said}
 use Rattle.widen.proofs.Growing.{times_grow, steps_grow}
 
@@ -25,26 +24,39 @@ module _ (p : ProblemLists) (readings : List Reading) where
   abbrev format : Format WideningSaid WideningLine
   format = widening_format p readings
 
+  -- before a cycle its first line may stand, or the line of a node
+  pub before_cycle : (C : WideningLine → Type 0) (extra : Option ℕ) (values : List ℤ) (line : WideningLine) → (MayBegin p readings extra values → C (PartLine CycleLine))
+      → ((l : ExecutionLine) → MayRun p readings extra values l → C (PartLine (NodeLine l))) → MayStand p readings (Said extra values None) line → C line
+  before_cycle C extra values (LeastLine e) begins runs may = absurd may
+  before_cycle C extra values (PartLine CycleLine) begins runs may = begins may
+  before_cycle C extra values (PartLine RunLine) begins runs may = absurd may
+  before_cycle C extra values (PartLine (EndsLine a b)) begins runs may = absurd may
+  before_cycle C extra values (PartLine (SideLine side v)) begins runs may = absurd may
+  before_cycle C extra values (PartLine (StepLine n z)) begins runs may = absurd may
+  before_cycle C extra values (PartLine (InsideLine c)) begins runs may = absurd may
+  before_cycle C extra values (PartLine (NodeLine l)) begins runs may = runs l may
+
   -- ---- the line of a node, before all nodes have theirs
   module _ (extra : ℕ) (vs ws : List ℤ) (body : List ℕ) (more : IsWhole p readings vs → ⊥) where
+    value_syntax : FaultIn (execution_format p readings) vs body kinds.Syntax → (l : ExecutionLine) → MayRun p readings (Some extra) vs l → format.IsSpelled (PartLine (NodeLine l)) → body ≡ words (format.line_words (PartLine (NodeLine l))) → ⊥
+    value_syntax fault (EventLine name z) may spelled is = fault (EventLine name z) may spelled is
+    value_syntax fault (ReadingLine clock m z) may spelled is = fault (ReadingLine clock m z) may spelled is
+    value_syntax fault EndLine may spelled is = more may.1
+
     node_syntax : FaultIn (execution_format p readings) vs body kinds.Syntax → FaultIn format (Said (Some extra) vs None) body kinds.Syntax
-    node_syntax fault (LeastLine e) may spelled is = may
-    node_syntax fault (NodeLine (EventLine name z)) may spelled is = fault (EventLine name z) may spelled is
-    node_syntax fault (NodeLine (ReadingLine clock m z)) may spelled is = fault (ReadingLine clock m z) may spelled is
-    node_syntax fault (NodeLine EndLine) may spelled is = more may.1
-    node_syntax fault CycleLine may spelled is = more may.1
-    node_syntax fault (StepLine n z) may spelled is = may
+    node_syntax fault line may =
+        before_cycle (λ (line : WideningLine). format.IsSpelled line → body ≡ words (format.line_words line) → ⊥) (Some extra) vs line (λ begins spelled is. more begins.1) (value_syntax fault) may
 
     pub node_taken : (r : Result Taken LineError) → Takes (execution_format p readings) vs body r ws → Takes format (Said (Some extra) vs None) body r (Said (Some extra) ws None)
     node_taken (Ok taken.Line) takes = times_grow p readings (Some extra) vs ws (body ++ 10 ∷ []) takes
     node_taken (Ok taken.End) takes = absurd (more takes.1)
     node_taken (Err errors.Memory) takes = tt
     node_taken (Err (errors.Fault kinds.Syntax)) takes = node_syntax takes
-    node_taken (Err (errors.Fault kinds.Name)) (EventLine name z, may, spelled, is, r) = (NodeLine (EventLine name z), may, spelled, is, r)
-    node_taken (Err (errors.Fault kinds.Name)) (ReadingLine clock m z, may, spelled, is, r) = (NodeLine (ReadingLine clock m z), may, spelled, is, r)
+    node_taken (Err (errors.Fault kinds.Name)) (EventLine name z, may, spelled, is, r) = (PartLine (NodeLine (EventLine name z)), may, spelled, is, r)
+    node_taken (Err (errors.Fault kinds.Name)) (ReadingLine clock m z, may, spelled, is, r) = (PartLine (NodeLine (ReadingLine clock m z)), may, spelled, is, r)
     node_taken (Err (errors.Fault kinds.Name)) (EndLine, may, spelled, is, r) = absurd (more may)
-    node_taken (Err (errors.Fault kinds.Range)) (EventLine name z, may, spelled, is, r) = (NodeLine (EventLine name z), may, spelled, is, r)
-    node_taken (Err (errors.Fault kinds.Range)) (ReadingLine clock m z, may, spelled, is, r) = (NodeLine (ReadingLine clock m z), may, spelled, is, r)
+    node_taken (Err (errors.Fault kinds.Range)) (EventLine name z, may, spelled, is, r) = (PartLine (NodeLine (EventLine name z)), may, spelled, is, r)
+    node_taken (Err (errors.Fault kinds.Range)) (ReadingLine clock m z, may, spelled, is, r) = (PartLine (NodeLine (ReadingLine clock m z)), may, spelled, is, r)
     node_taken (Err (errors.Fault kinds.Range)) (EndLine, may, spelled, is, r) = absurd (more may)
     node_taken (Err (errors.Fault kinds.Limit)) (l, may, spelled, is, r) = absurd (r.2 tt)
 
@@ -53,25 +65,17 @@ module _ (p : ProblemLists) (readings : List Reading) where
   node_line vs ws body taken.Line more takes = takes
   node_line vs ws body taken.End more takes = absurd (more takes.1)
 
-  -- ---- the line of a step
+  -- ---- the line of a step, or the end: as in a certificate
   module _ (extra : Option ℕ) (values : List ℤ) (old new : List Step) (body : List ℕ) where
-    pub step_taken : (n : NamedBound) (z : ℤ) → body ≡ words (cert_words (CertLine.StepLine n z)) → TakesStep p old n z (Ok tt) new
-        → Takes format (Said extra values (Some old)) body (Ok taken.Line) (Said extra values (Some new))
-    step_taken n z is (b, named, declared, fits, room, grown) =
-        rw grown (steps_grow p readings extra values old (record { bound = b; weight = z }) (body ++ 10 ∷ []) (ap (λ (t : List ℕ). t ++ 10 ∷ []) is ∙ step_spelled p n b z named))
+    step_syntax : FaultIn (certificate_format p readings) (CycleSaid old) body kinds.Syntax → FaultIn format (Said extra values (Some old)) body kinds.Syntax
+    step_syntax fault (LeastLine e) may spelled is = may
+    step_syntax fault (PartLine line) may spelled is = fault line may spelled is
 
-    pub step_refused : (n : NamedBound) (z : ℤ) (e : LineError) → IsBoundSpelled n → body ≡ words (cert_words (CertLine.StepLine n z)) → TakesStep p old n z (Err e) new
-        → Takes format (Said extra values (Some old)) body (Err e) (Said extra values (Some new))
-    step_refused n z errors.Memory spelled is takes = tt
-    step_refused n z (errors.Fault kinds.Syntax) spelled is takes = absurd takes
-    step_refused n z (errors.Fault kinds.Name) spelled is takes = (StepLine n z, tt, spelled, is, takes)
-    step_refused n z (errors.Fault kinds.Range) spelled is takes = (StepLine n z, tt, spelled, is, takes)
-    step_refused n z (errors.Fault kinds.Limit) spelled is takes = (StepLine n z, tt, spelled, is, takes)
-
-    pub no_line : NoStep body → (body ≡ codes "end" → ⊥) → FaultIn format (Said extra values (Some old)) body kinds.Syntax
-    no_line none not (LeastLine e) may spelled is = may
-    no_line none not (NodeLine (EventLine name z)) may spelled is = may
-    no_line none not (NodeLine (ReadingLine clock m z)) may spelled is = may
-    no_line none not (NodeLine EndLine) may spelled is = not is
-    no_line none not CycleLine may spelled is = may
-    no_line none not (StepLine n z) may spelled is = none n z spelled is
+    pub step_taken : (r : Result Taken LineError) → Takes (certificate_format p readings) (CycleSaid old) body r (CycleSaid new) → Takes format (Said extra values (Some old)) body r (Said extra values (Some new))
+    step_taken (Ok taken.Line) takes = steps_grow p readings extra values old new (body ++ 10 ∷ []) takes
+    step_taken (Ok taken.End) (same, may, is) = (let steps : new ≡ old = cc in ap (λ (xs : List Step). Said extra values (Some xs)) steps, may, is)
+    step_taken (Err errors.Memory) takes = tt
+    step_taken (Err (errors.Fault kinds.Syntax)) takes = step_syntax takes
+    step_taken (Err (errors.Fault kinds.Name)) (line, may, spelled, is, r) = (PartLine line, may, spelled, is, r)
+    step_taken (Err (errors.Fault kinds.Range)) (line, may, spelled, is, r) = (PartLine line, may, spelled, is, r)
+    step_taken (Err (errors.Fault kinds.Limit)) (line, may, spelled, is, r) = (PartLine line, may, spelled, is, r)

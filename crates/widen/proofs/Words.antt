@@ -1,9 +1,9 @@
--- Lines of known words, and the line of the widening.
-use Rattle.std.proofs.Common.{◌≡◌, ℕ, List, [], ◌∷◌, ◌++◌, Option, Some, None, codes, refl, sym, ◌∙◌, ap, append_assoc}
+-- The line of the widening.
+use Rattle.std.proofs.Common.{◌≡◌, ℕ, List, [], Option, Some, None, codes, refl, sym, ◌∙◌, ap}
 use Rattle.std.specs.Prelude.{IfSome, IfNone}
-use Rattle.line_format.specs.Words.{words, line_of}
-use Rattle.line_format.specs.Cut.{cut, Lacks}
-use Rattle.line_format.proofs.Cutting.{cut_takes, cut_again, cut_word}
+use Rattle.line_format.specs.Words.{words}
+use Rattle.line_format.specs.Cut.{cut}
+use Rattle.line_format.proofs.Cutting.{cut_takes, cut_again}
 use Rattle.line_format.proofs.Lacking.{lacks_test}
 use Rattle.line_format.proofs.Reading.{same_first}
 use Rattle.widen.specs.declared.read.Stated.{Stated}
@@ -19,20 +19,6 @@ same_rest : (d : ℕ) (body first rest word more : List ℕ) → cut d body ≡ 
 unfolding rest_or
 same_rest d body first rest word more parts cuts = ap rest_or (sym parts ∙ cuts)
 
--- ---- what stands behind a line of one word
-pub behind_word : (lines first rest word : List ℕ) → cut 10 lines ≡ Some (first, rest) → first ≡ word → lines ≡ line_of (word ∷ []) ++ rest
-behind_word lines first rest word parts is = cut_word 10 lines first rest word parts is ∙ sym (append_assoc word (10 ∷ []) rest)
-
-word_cut : (lines word more : List ℕ) → Lacks 10 word → lines ≡ line_of (word ∷ []) ++ more → cut 10 lines ≡ Some (word, more)
-word_cut lines word more lacks is = ap (cut 10) (is ∙ append_assoc word (10 ∷ []) more) ∙ cut_again 10 word more lacks
-
-pub other_word : (lines first rest word : List ℕ) → Lacks 10 word → cut 10 lines ≡ Some (first, rest) → (first ≡ word → ⊥) → (more : List ℕ) → lines ≡ line_of (word ∷ []) ++ more → ⊥
-other_word lines first rest word lacks parts other more is = other (same_first 10 lines lines first rest word more parts refl (word_cut lines word more lacks is))
-
-pub no_line : (lines word : List ℕ) → Lacks 10 word → cut 10 lines ≡ None → (more : List ℕ) → lines ≡ line_of (word ∷ []) ++ more → ⊥
-no_line lines word lacks none more is = let again = word_cut lines word more lacks is in cc
-
--- ---- the line of the widening
 pub least_says : (body word rest : List ℕ) (extra : Option ℕ) → cut 32 body ≡ Some (word, rest) → word ≡ codes "least" → rest ≡ least_word extra → body ≡ words (least_words extra)
 least_says body word rest extra parts is says = (cut_takes 32 body (word, rest) parts).0 ∙ rw (is, says) refl
 

@@ -1,9 +1,10 @@
 -- What is found of a problem: the least widening, and what shows it from both sides.
-use Rattle.std.specs.Prelude.{◌≡◌, ℕ, ◌-◌, ◌<◌, ◌≤◌, ◌^◌, List, length, All, Option, Some, None, ℤ}
+use Rattle.std.specs.Prelude.{◌+◌, ◌≡◌, ℕ, ◌-◌, ◌<◌, ◌≤◌, ◌^◌, List, length, All, Option, Some, None, ℤ}
 use Rattle.problem_model.specs.Problem.{ProblemLists}
 use Rattle.problem_model.specs.Bounds.{Times}
 use Rattle.problem_model.specs.Nodes.{Reading, AreReadings, Lists, nodes_of}
 use Rattle.problem_model.specs.Solutions.{IsEarliestExecution, IsContradictionOf}
+use Rattle.problem_model.specs.Limits.{path_bits}
 use Rattle.sync_graph.specs.declared.arc.Arc.{Arc}
 use Rattle.cert.specs.declared.chain.Step.{Step}
 use Rattle.cert.specs.Shows.{weighed_bounds}
@@ -21,7 +22,7 @@ AreEarliestOf p values = (x : Times) × Lists p x values × IsEarliestExecution 
 -- the earliest execution of the problem that is widened by e ns, below 2^116 units at each node
 pub record IsRunAt (p : ProblemLists) (e : ℕ) (execution : List ℤ) : Type 0 where
   pub earliest : AreEarliestOf (widened p e) execution
-  pub small : All (IsUnder 116) execution
+  pub small : All (IsUnder (path_bits + 1)) execution
 
 -- a contradiction of the problem that is widened by e ns, with the weights that it has there, below 2^93 units, of at most as many steps as there are nodes
 pub record IsCycleAt (p : ProblemLists) (e : ℕ) (cycle : List Step) : Type 0 where

@@ -2,7 +2,7 @@
 use Rattle.std.specs.Prelude.{◌≡◌, ℕ, ◌+◌, ◌≤◌, ◌<◌, ◌^◌, List, [], ◌++◌, length, Option, Some, None, ℤ, Result, Ok, Err}
 use Rattle.std.specs.Borrow.{Bor}
 use Rattle.line_format.specs.Words.{line_of}
-use Rattle.line_format.specs.Format.{Answers, most_bytes}
+use Rattle.line_format.specs.Format.{Answers, most_text_bytes}
 use Rattle.line_format.specs.Format.Answer.{Found, Faulty}
 use Rattle.line_format.specs.declared.fault.FaultKind.TheVariants.{Range}
 use Rattle.problem_model.specs.Problem.{ProblemLists}
@@ -28,7 +28,7 @@ module _ (p : ProblemLists) (readings : List Reading) where
     pub is : text ≡ line_of widening_head ++ said_lines p readings s ++ rest
     pub number : n ≡ said_size s + 2
     pub sound : IsSound p readings s
-    pub short : length text ≤ most_bytes
+    pub short : length text ≤ most_text_bytes
 
   -- line 2 of the text states this, and this is the rest: that of a widening, a fault, or that of no widening
   abbrev pub IsStatedIn : List ℕ → List ℕ → Stated → Type 0

@@ -1,7 +1,7 @@
 -- What reading a widening answers.
 use Rattle.std.specs.Prelude.{◌≡◌, ℕ, ◌<◌, ◌≤◌, ◌^◌, List, length, All, Option, Some, None, Result, Ok, Err}
 use Rattle.atto.specs.Number.{FitsUnits}
-use Rattle.line_format.specs.Format.{Answers, most_bytes}
+use Rattle.line_format.specs.Format.{Answers, most_text_bytes}
 use Rattle.line_format.specs.Format.Answer.{Faulty}
 use Rattle.line_format.specs.declared.fault.FaultKind.TheVariants as kinds
 use Rattle.problem_model.specs.Problem.{ProblemLists}
@@ -29,7 +29,7 @@ FitsWidening (Never cycle) = FitsSteps cycle
 module _ (p : ProblemLists) (readings : List Reading) where
   -- the text is that of this widening of the problem
   abbrev pub IsWideningTextOf : Widening → List ℕ → Type 0
-  IsWideningTextOf w text = (length text ≤ most_bytes) × IsWideningOf p w × FitsWidening w × (text ≡ widening_text p (nodes_of p readings) w)
+  IsWideningTextOf w text = (length text ≤ most_text_bytes) × IsWideningOf p w × FitsWidening w × (text ≡ widening_text p (nodes_of p readings) w)
 
   -- why the text is that of no widening: its first fault
   abbrev pub RefusesText : List ℕ → CertError → Type 0
@@ -37,7 +37,7 @@ module _ (p : ProblemLists) (readings : List Reading) where
   RefusesText text (errors.Name line) = Answers (widening_format p readings) text (Faulty kinds.Name line)
   RefusesText text (errors.Range line) = Answers (widening_format p readings) text (Faulty kinds.Range line)
   RefusesText text (errors.Limit line) = Answers (widening_format p readings) text (Faulty kinds.Limit line)
-  RefusesText text errors.Long = most_bytes < length text
+  RefusesText text errors.Long = most_text_bytes < length text
   RefusesText text errors.Memory = Unit {0}
 
   -- the widening that the text spells, or why it spells none

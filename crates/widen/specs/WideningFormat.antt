@@ -1,50 +1,41 @@
 -- The lines of a widening's text, and when one may stand behind what is said so far.
-use Rattle.std.specs.Prelude.{◌≡◌, ℕ, ◌+◌, ◌<◌, ◌^◌, List, [], ◌∷◌, ◌++◌, length, codes, Option, Some, None, IfSome, ℤ}
-use Rattle.atto.specs.Number.{FitsUnits}
+use Rattle.std.specs.Prelude.{◌≡◌, ℕ, ◌+◌, ◌<◌, ◌^◌, List, [], ◌++◌, length, Option, Some, None, IfSome, ℤ}
 use Rattle.line_format.specs.Words.{line_of}
 use Rattle.line_format.specs.Format.{Format}
-use Rattle.problem_model.specs.declared.items.Bound.{Bound}
 use Rattle.problem_model.specs.Problem.{ProblemLists}
 use Rattle.problem_model.specs.Nodes.{Reading, nodes_of}
 use Rattle.problem_model.specs.ExecutionText.{value_lines}
-use Rattle.cert.specs.Sizes.{most_steps}
 use Rattle.cert.specs.declared.chain.Step.{Step}
 use Rattle.cert.specs.ExecutionFormat as executions
 use Rattle.cert.specs.ExecutionFormat.{ExecutionLine, AreValues}
 use Rattle.cert.specs.ExecutionFormat.ExecutionLine.{EndLine}
 use Rattle.cert.specs.CertificateFormat as certificates
-use Rattle.cert.specs.CertificateFormat.{CertLine, NamedBound, Names, IsDeclared, IsBoundSpelled, AreSteps}
+use Rattle.cert.specs.CertificateFormat.{CertLine, Said as CertSaid, AreSteps, cert_words, certificate_format}
+use Rattle.cert.specs.CertificateFormat.CertLine.{CycleLine, NodeLine}
 use Rattle.widen.specs.declared.widening.Widening.{Widening}
 use Rattle.widen.specs.declared.widening.Widening.TheVariants.{Least, Never}
 use Rattle.widen.specs.WideningText.{widening_head, least_words, cycle_lines}
 
 -- ---- lines
--- numbers are as large as they are written; the end is the line of no node
+-- the line of the widening, with a number as large as it is written, or one that stands in certificates too
 pub data WideningLine : Type 0 where
   LeastLine : Option ℕ → WideningLine
-  NodeLine : ExecutionLine → WideningLine
-  CycleLine : WideningLine
-  StepLine : NamedBound → ℤ → WideningLine
+  PartLine : CertLine → WideningLine
 
 -- the words of a line
 abbrev pub line_words : WideningLine → List (List ℕ)
 line_words (LeastLine extra) = least_words extra
-line_words (NodeLine line) = executions.line_words line
-line_words CycleLine = codes "cycle" ∷ []
-line_words (StepLine bound weight) = certificates.cert_words (CertLine.StepLine bound weight)
+line_words (PartLine line) = cert_words line
 
 -- each name is spelled as one of its kind
 abbrev pub IsSpelled : WideningLine → Type 0
-IsSpelled (NodeLine line) = executions.IsSpelled line
-IsSpelled (StepLine bound weight) = IsBoundSpelled bound
-IsSpelled line = Unit {0}
+IsSpelled (LeastLine extra) = Unit {0}
+IsSpelled (PartLine line) = certificates.IsSpelled line
 
 -- each number is in its range
 abbrev pub NumbersFit : WideningLine → Type 0
 NumbersFit (LeastLine extra) = IfSome extra (λ e. e < 2 ^ 62)
-NumbersFit (NodeLine line) = executions.NumbersFit line
-NumbersFit (StepLine bound weight) = FitsUnits weight
-NumbersFit CycleLine = Unit {0}
+NumbersFit (PartLine line) = certificates.NumbersFit line
 
 -- ---- what is said so far
 -- nothing; or a widening or none, so many real times, and the steps of a cycle where it has begun
@@ -57,16 +48,11 @@ abbrev pub said : Widening → WideningSaid
 said (Least extra execution cycle) = Said (Some extra) execution cycle
 said (Never cycle) = Said None [] (Some cycle)
 
--- the real times so far
-abbrev pub values_of : WideningSaid → List ℤ
-values_of NoneSaid = []
-values_of (Said extra values cycle) = values
-
--- the steps so far
-abbrev pub steps_of : WideningSaid → List Step
-steps_of NoneSaid = []
-steps_of (Said extra values None) = []
-steps_of (Said extra values (Some steps)) = steps
+-- what is said last, as a certificate says it: real times, or the steps of a cycle
+abbrev pub part_of : WideningSaid → CertSaid
+part_of NoneSaid = CertSaid.NoneSaid
+part_of (Said extra values None) = CertSaid.RunSaid values
+part_of (Said extra values (Some steps)) = CertSaid.CycleSaid steps
 
 -- the number of lines of a cycle, and of all lines behind the head
 abbrev pub cycle_size : Option (List Step) → ℕ
@@ -97,22 +83,20 @@ module _ (p : ProblemLists) (readings : List Reading) where
   -- the line may follow: the widening first, then its real times, then its cycle
   abbrev pub MayStand : WideningSaid → WideningLine → Type 0
   MayStand NoneSaid (LeastLine extra) = Unit {0}
-  MayStand (Said extra values None) (NodeLine line) = MayRun extra values line
-  MayStand (Said extra values None) CycleLine = MayBegin extra values
-  MayStand (Said extra values (Some steps)) (StepLine bound weight) = Unit {0}
-  MayStand (Said extra values (Some steps)) (NodeLine EndLine) = Unit {0}
+  MayStand (Said extra values None) (PartLine (NodeLine line)) = MayRun extra values line
+  MayStand (Said extra values None) (PartLine CycleLine) = MayBegin extra values
+  MayStand (Said extra values (Some steps)) (PartLine line) = certificates.MayStand p readings (CertSaid.CycleSaid steps) line
   MayStand state line = ⊥
 
   -- the node whose turn it is; a bound that the problem declares
   abbrev pub NamesFit : WideningSaid → WideningLine → Type 0
-  NamesFit state (NodeLine line) = executions.NamesFit p readings (values_of state) line
-  NamesFit state (StepLine bound weight) = (b : Bound) × Names p bound b × IsDeclared p b
-  NamesFit state line = Unit {0}
+  NamesFit state (LeastLine extra) = Unit {0}
+  NamesFit state (PartLine line) = (certificate_format p readings).NamesFit (part_of state) line
 
   -- there is room for one more step
   abbrev pub HasRoom : WideningSaid → WideningLine → Type 0
-  HasRoom state (StepLine bound weight) = length (steps_of state) < most_steps
-  HasRoom state line = Unit {0}
+  HasRoom state (LeastLine extra) = Unit {0}
+  HasRoom state (PartLine line) = (certificate_format p readings).HasRoom (part_of state) line
 
   -- real times are at most those of all nodes, and there are none where no widening heals
   abbrev pub AreTimes : Option ℕ → List ℤ → Type 0
@@ -138,7 +122,7 @@ module _ (p : ProblemLists) (readings : List Reading) where
   abbrev pub widening_format : Format WideningSaid WideningLine
   widening_format = record {
     head = widening_head;
-    end = NodeLine EndLine;
+    end = PartLine (NodeLine EndLine);
     line_words = line_words;
     IsSpelled = IsSpelled;
     MayStand = MayStand;

@@ -1,7 +1,7 @@
 // Tries one widening.
-ghost use Rattle.std.specs.Prelude.{◌≡◌, ◌≤◌, ◌<◌, ◌^◌, [], true, length, All, IfOk};
+ghost use Rattle.std.specs.Prelude.{◌+◌, ◌≡◌, ◌≤◌, ◌<◌, ◌^◌, [], true, length, All, IfOk};
 ghost use Rattle.problem_model.specs.Numbers.{IsUpTo};
-ghost use Rattle.problem_model.specs.Nodes.{most_nodes};
+ghost use Rattle.problem_model.specs.Limits.{most_nodes, path_bits};
 ghost use Rattle.solver.specs.Current.{IsCurrent};
 ghost use Rattle.problem_graph.specs.HeldBounds.{HoldsShortList};
 ghost use Rattle.problem_solver.specs.GraphSolution.{IsGraphSolution};
@@ -28,7 +28,7 @@ fn execution_of(alloc: Global, e: &Earliest, nodes: u32) -> Result<Execution, Al
     requires solved { e.now.is_solved ≡ true }
     requires one_each { length e.now.values ≡ nodes }
     requires few { nodes ≤ most_nodes }
-    requires small { All (IsUpTo 117) e.now.values }
+    requires small { All (IsUpTo (path_bits + 2)) e.now.values }
     ensures { IfOk result (λ execution. execution ≡ e.now.values) }
 {
     let mut execution = Execution::new(alloc);

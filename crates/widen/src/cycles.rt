@@ -1,8 +1,8 @@
 // A contradiction, and how far a problem may be widened until it is none any more.
 ghost use Rattle.std.specs.Prelude.{◌≡◌, ◌≤◌, ◌<◌, ◌^◌, ◌*◌, ◌+◌, ◌+ℤ◌, ℕ, length, map, pos, neg_ℤ, unsigned_abs, All, IfOk};
-ghost use Rattle.problem_model.specs.Nodes.{most_nodes};
 ghost use Rattle.problem_model.specs.Numbers.{IsUpTo};
 ghost use Rattle.problem_model.specs.Solutions.{weight_of};
+ghost use Rattle.problem_model.specs.Limits.{most_nodes, path_bits};
 ghost use Rattle.widen.specs.Least.{most_extra};
 ghost use Rattle.widen.specs.Raised.{one_delay, delays_of, rise_of, raised_step, weighed_arcs};
 
@@ -50,7 +50,7 @@ fn sum_of(arcs: &[Arc]) -> i128
     requires few { length arcs.now ≤ most_nodes }
     requires small { All (λ a. IsUpTo 93 a.weight) arcs.now }
     ensures value { result ≡ weight_of (weighed_arcs arcs.now) }
-    ensures small { unsigned_abs result ≤ 2 ^ 115 }
+    ensures small { unsigned_abs result ≤ 2 ^ path_bits }
 {
     let mut sum = 0;
     for arc in arcs {

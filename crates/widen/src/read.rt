@@ -1,26 +1,23 @@
 // The text of a widening, line by line.
-ghost use Rattle.std.specs.Prelude.{◌≡◌, ◌≤◌, ◌<◌, ◌^◌, ◌+◌, ◌++◌, ◌∷◌, [], ℕ, ℤ, List, length, Option, Some, None, IfSome, IfNone, OnOk};
+ghost use Rattle.std.specs.Prelude.{◌≡◌, ◌≤◌, ◌<◌, ◌+◌, ◌++◌, [], ℕ, ℤ, List, length, Option, Some, None, IfSome, IfNone, OnOk};
 ghost use Rattle.line_format.specs.Words.{words, line_of};
-ghost use Rattle.line_format.specs.Cut.{Lacks};
-ghost use Rattle.line_format.specs.Format.{Takes, most_bytes};
+ghost use Rattle.line_format.specs.Format.{most_text_bytes};
 ghost use Rattle.problem_model.specs.Problem.{ProblemLists};
 ghost use Rattle.problem_model.specs.Nodes.{Reading, nodes_of};
+ghost use Rattle.problem_model.specs.Limits.{most_steps};
 ghost use Rattle.problem.specs.Listing.{all_readings};
-ghost use Rattle.cert.specs.CertificateFormat.{AreSteps};
 ghost use Rattle.cert.specs.ExecutionFormat.{AreValues};
-ghost use Rattle.cert.specs.ReadsExecution.{error_at};
 ghost use Rattle.widen.specs.WideningText.{widening_head, least_word, least_words};
-ghost use Rattle.widen.specs.WideningFormat.{widening_format, IsWhole};
+ghost use Rattle.widen.specs.WideningFormat.{IsWhole};
 ghost use Rattle.widen.specs.WideningFormat.WideningSaid.{Said};
 ghost use Rattle.widen.specs.ReadsWidening.{ReadsWidening, ReadsWideningOver};
 ghost use Rattle.widen.specs.ReadsLines.{IsStated, IsBehind, IsStatedIn, ReadsTime, ReadsTimes, ReadsEnd, ReadsCycle};
 
 use crate::widening::Widening;
 use atto::{Nano, NumFault, read_decimal};
-use cert::steps::step_words;
-use cert::take_part::{push_step, take_value};
-use cert::{CertError, Chain, Execution};
-use line_format::{FaultKind, LineError, MOST_BYTES, Taken, cut};
+use cert::take_part::{take_in_cycle, take_value};
+use cert::{CertError, Chain, Execution, behind, error_at};
+use line_format::{MOST_BYTES, Taken, cut};
 use problem::Problem;
 use std::alloc::Global;
 
@@ -33,31 +30,6 @@ pub enum Stated {
     TooMuch,
     /// That no widening heals.
     Never,
-}
-
-// The error of a text by that of a line.
-fn error_at(fault: LineError, line: u32) -> CertError
-    ensures { result ≡ error_at fault line }
-{
-    match fault {
-        LineError::Memory => CertError::Memory,
-        LineError::Fault(FaultKind::Syntax) => CertError::Syntax(line),
-        LineError::Fault(FaultKind::Name) => CertError::Name(line),
-        LineError::Fault(FaultKind::Range) => CertError::Range(line),
-        LineError::Fault(FaultKind::Limit) => CertError::Limit(line),
-    }
-}
-
-// What follows a first line of this word alone.
-fn behind<'a>(word: &[u8], lines: &'a [u8]) -> Option<&'a [u8]>
-    requires { Lacks 10 word.now }
-    ensures some { IfSome result (λ rest. lines.now ≡ line_of (word.now ∷ []) ++ rest.now) }
-    ensures none { IfNone result ((more : List ℕ) → lines.now ≡ line_of (word.now ∷ []) ++ more → ⊥) }
-{
-    match cut(b'\n', lines) {
-        Some((first, rest)) => { if first == word { Some(rest) } else { None } }
-        None => None,
-    }
 }
 
 // The widening that a word spells.
@@ -94,29 +66,9 @@ fn stated_by(body: &[u8]) -> Option<Stated>
     }
 }
 
-// A step of a cycle, or the end.
-fn take_step(p: &Problem, cycle: &mut Chain, body: &[u8]) -> Result<Taken, LineError>
-    ensures takes { (extra : Option ℕ) (values : List ℤ) → Takes (widening_format p.now (all_readings p.now.events)) (Said extra values (Some cycle.old)) body.now result (Said extra values (Some cycle.new)) }
-    ensures sound { AreSteps p.now cycle.old → OnOk result (AreSteps p.now cycle.new) }
-{
-    match step_words(body) {
-        Some(words) => match push_step(p, cycle, &words) {
-            Ok(()) => Ok(Taken::Line),
-            Err(fault) => Err(fault),
-        },
-        None => {
-            if body == b"end".as_slice() {
-                Ok(Taken::End)
-            } else {
-                Err(LineError::Fault(FaultKind::Syntax))
-            }
-        }
-    }
-}
-
 // The steps of a cycle up to the end of the text, where the first line has this number.
 fn read_steps(alloc: Global, p: &Problem, lines: &[u8], first: u32) -> Result<Chain, CertError>
-    requires { first ≤ 2 ^ 23 }
+    requires { first ≤ most_steps }
     ensures { (extra : Option ℕ) (values : List ℤ) (text : List ℕ) → IsBehind p.now (all_readings p.now.events) text lines.now (Said extra values (Some [])) first
         → ReadsCycle p.now (all_readings p.now.events) text extra values result }
 {
@@ -124,7 +76,7 @@ fn read_steps(alloc: Global, p: &Problem, lines: &[u8], first: u32) -> Result<Ch
     let mut rest = lines;
     while let Some((body, after)) = cut(b'\n', rest) {
         let line = first + cycle.len();
-        match take_step(p, &mut cycle, body) {
+        match take_in_cycle(p, &mut cycle, body) {
             Ok(Taken::Line) => {}
             Ok(Taken::End) => {
                 if after.is_empty() {
@@ -181,7 +133,7 @@ fn read_times<'a>(
 
 // The end of the text behind the real times, where the widening is 0.
 fn read_end(lines: &[u8], line: u32) -> Result<(), CertError>
-    requires { line ≤ 2 ^ 23 }
+    requires { line ≤ most_steps }
     ensures { (p : ProblemLists) (readings : List Reading) (values : List ℤ) (text : List ℕ) → IsBehind p readings text lines.now (Said (Some 0) values None) line → IsWhole p readings values
         → ReadsEnd p readings text values result }
 {
@@ -276,7 +228,7 @@ fn read_stated(
 
 // The lines behind the head, which is line 1.
 fn read_lines(alloc: Global, p: &Problem, lines: &[u8]) -> Result<Widening, CertError>
-    requires { length (line_of widening_head ++ lines.now) ≤ most_bytes }
+    requires { length (line_of widening_head ++ lines.now) ≤ most_text_bytes }
     ensures { ReadsWideningOver p.now (all_readings p.now.events) (line_of widening_head ++ lines.now) result }
 {
     match cut(b'\n', lines) {

@@ -1,18 +1,17 @@
 // Widenings of a problem, written piece by piece.
 ghost use Rattle.std.specs.Prelude.{◌≡◌, ◌++◌, List, Option, Some, None, All};
-ghost use Rattle.std.specs.List.{flat_map};
 ghost use Rattle.line_format.specs.Words.{line_of};
 ghost use Rattle.ports.specs.Content.{Writes};
 ghost use Rattle.problem_model.specs.Nodes.{Reading, AreReadings, nodes_of};
 ghost use Rattle.problem_model.specs.ExecutionText.{value_lines};
 ghost use Rattle.problem.specs.Listing.{all_readings};
-ghost use Rattle.cert.specs.CertificateText.{step_line, IsStepOf, HasOneEach};
+ghost use Rattle.cert.specs.CertificateText.{IsStepOf, HasOneEach};
 ghost use Rattle.widen.specs.Widening.{HasCycle, IsWideningOf};
 ghost use Rattle.widen.specs.WideningText.{least_words, cycle_lines, widening_lines, widening_text};
 
 use crate::widening::Widening;
 use atto::Nano;
-use cert::{Chain, Execution, Step, write_step, write_value};
+use cert::{Chain, Execution, write_steps, write_values};
 use ports::fixed_line::{Line, first_word, push_decimal};
 use ports::{Failed, Sink, write_whole};
 use problem::Problem;
@@ -25,29 +24,6 @@ fn least_line(extra: Nano) -> Line
     push_decimal(&mut line, extra.get());
     line.push(b'\n');
     line
-}
-
-// Writes the lines of an execution.
-fn write_times<O: Sink>(p: &Problem, execution: &Execution, out: &mut O) -> Result<(), Failed>
-    requires { HasOneEach p.now execution.now }
-    ensures { Writes (value_lines p.now (nodes_of p.now (all_readings p.now.events)) execution.now) (O.told out.old) (O.told out.new) result }
-{
-    for place in 0..execution.len() {
-        write_value(p, place, execution.value(place).get(), out)?;
-    }
-    Ok(())
-}
-
-// Writes the lines of steps.
-fn write_steps<O: Sink>(p: &Problem, steps: &[Step], out: &mut O) -> Result<(), Failed>
-    requires { All (IsStepOf p.now) steps.now }
-    ensures { Writes (flat_map (step_line p.now) steps.now) (O.told out.old) (O.told out.new) result }
-{
-    let _ = p.messages();
-    for step in steps {
-        write_step(p, &step.bound, step.weight.get(), out)?;
-    }
-    Ok(())
 }
 
 // Writes the lines of a cycle.
@@ -89,7 +65,7 @@ fn write_least<O: Sink>(
 {
     let line = least_line(extra);
     write_whole(out, line.as_slice())?;
-    write_times(p, execution, out)?;
+    write_values(p, execution, out)?;
     write_below(p, extra, cycle, out)
 }
 

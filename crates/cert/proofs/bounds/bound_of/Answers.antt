@@ -2,7 +2,7 @@ use Rattle.std.proofs.Common.{sym, subst}
 use Rattle.problem_model.specs.declared.items.Bound.{Bound}
 use Rattle.cert.specs.CertificateFormat.{NamedBound}
 use Rattle.cert.specs.CertificateFormat.NamedBound.{Stamp, Delay}
-use Rattle.cert.specs.SaidStep.{FindsNamed, FindsNoNamed, FindsSpan, FindsNoSpan, FindsFollow, FindsNoFollow, Finds, FindsNone}
+use Rattle.cert.specs.SaidStep.{FindsNamed, FindsNoNamed, FindsSpan, FindsNoSpan, FindsFollow, FindsNoFollow, FindsBound, FindsNone}
 use Rattle.cert.specs.declared.steps.StepWords.TheVariants as steps
 use Rattle.cert.proofs.Forms.{some_through, none_through}
 use Rattle.cert.proofs.bounds.bound_of.Goals as goal
@@ -10,7 +10,7 @@ use Rattle.cert.proofs.bounds.bound_of.Goals as goal
 pub returns-in-Span-clause-some : goal.returns-in-Span-clause-some
 returns-in-Span-clause-some c =
     let p = c.args.p.now in
-    let whole : (b : Bound) → FindsSpan p c.in-Span.extreme c.in-Span.w b → Finds p (steps.Span c.in-Span.extreme c.in-Span.w) b =
+    let whole : (b : Bound) → FindsSpan p c.in-Span.extreme c.in-Span.w b → FindsBound p (steps.Span c.in-Span.extreme c.in-Span.w) b =
     λ b found n z held. subst (λ (m : NamedBound). FindsNamed p m b) (sym held.5) (found held.0 held.1 held.2 held.3) in
     rw c.in-Span.is (some_through _ whole c.span_of.ensures.some)
 
@@ -31,7 +31,7 @@ returns-in-Stamp-clause-none c =
 pub returns-in-Follow-clause-some : goal.returns-in-Follow-clause-some
 returns-in-Follow-clause-some c =
     let p = c.args.p.now in
-    let whole : (b : Bound) → FindsFollow p c.in-Follow.w b → Finds p (steps.Follow c.in-Follow.w) b =
+    let whole : (b : Bound) → FindsFollow p c.in-Follow.w b → FindsBound p (steps.Follow c.in-Follow.w) b =
     λ b found n z held. subst (λ (m : NamedBound). FindsNamed p m b) (sym held.5) (found held.0 held.1 held.2 held.3) in
     rw c.in-Follow.is (some_through _ whole c.follow_of.ensures.some)
 

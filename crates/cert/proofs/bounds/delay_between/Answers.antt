@@ -1,7 +1,7 @@
 use Rattle.std.proofs.Common.{◌≡◌, ◌<◌, List, length, get_or, rules, sym, subst, ◌∙◌, ap}
 use Rattle.problem_model.specs.declared.items.Message.{Message}
 use Rattle.cert.specs.CertificateFormat.{IsDeclared, delay_bound}
-use Rattle.cert.specs.TakesPart.{HasBound}
+use Rattle.cert.specs.TakesPart.{HasDelayBound}
 use Rattle.cert.proofs.Declaring.{message_inside, delay_declared, delay_place, delay_has}
 use Rattle.cert.proofs.Forms.{none_anyway}
 use Rattle.cert.proofs.bounds.delay_between.Goals as goal
@@ -21,7 +21,7 @@ returns-then-not-has_bound-clause-none c = λ d.
     let m : Message = c.index-messages-place.result in
     let k = c.in_ok-place.place in
     let is : m ≡ get_or c.args.p.now.messages k m = c.index-messages-place.is ∙ ap (λ (ms : List Message). get_or ms k m) c.messages-messages.ensures.value in
-    let has : HasBound c.args.extreme m = delay_has c.args.p.now c.messages-messages.ensures.lawful c.args.extreme k c.args.send c.args.receive m c.in_ok-place.ensures.some is d in
+    let has : HasDelayBound c.args.extreme m = delay_has c.args.p.now c.messages-messages.ensures.lawful c.args.extreme k c.args.send c.args.receive m c.in_ok-place.ensures.some is d in
     search rules
 
 pub returns-clause-some : goal.returns-clause-some
@@ -29,7 +29,7 @@ returns-clause-some c =
     let m : Message = c.index-messages-place.result in
     let k = c.in_ok-place.place in
     let is : m ≡ get_or c.args.p.now.messages k m = c.index-messages-place.is ∙ ap (λ (ms : List Message). get_or ms k m) c.messages-messages.ensures.value in
-    let has : HasBound c.args.extreme m = search rules in (
+    let has : HasDelayBound c.args.extreme m = search rules in (
       c.delay_named.ensures,
       subst (IsDeclared c.args.p.now) (sym c.delay_named.ensures) (delay_declared c.args.p.now c.messages-messages.ensures.lawful c.args.extreme k c.args.send c.args.receive m c.in_ok-place.ensures.some is has),
     )

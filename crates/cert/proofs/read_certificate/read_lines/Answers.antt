@@ -1,11 +1,11 @@
-use Rattle.std.proofs.Common.{◌≡◌, ◌≢◌, ◌<◌, [], None, length, rules, arith, ap, sym, subst}
+use Rattle.std.proofs.Common.{◌≡◌, ◌≢◌, ◌<◌, [], None, length, rules, arith, ap, sym}
 use Rattle.std.proofs.lemmas.List.{nil_from_length}
 use Rattle.line_format.specs.Cut.{cut}
 use Rattle.line_format.proofs.Cutting.{cut_shorter}
 use Rattle.line_format.proofs.Reading.{more_answers, cut_answers, stands_on}
 use Rattle.problem_model.specs.Nodes.{AreReadings}
 use Rattle.problem.specs.Listing.{all_readings}
-use Rattle.problem.proofs.AllReadings.{readings_are}
+use Rattle.cert.proofs.Certificates.{own_readings}
 use Rattle.cert.specs.CertificateFormat.{certificate_format}
 use Rattle.cert.specs.TakesPart.{parts_said}
 use Rattle.cert.proofs.CertLines.{cert_lacks}
@@ -15,7 +15,7 @@ use Rattle.cert.proofs.read_certificate.read_lines.Goals as goal
 pub returns-then-is_empty : goal.returns-then-is_empty
 returns-then-is_empty c =
     let p = c.args.p.now in
-    let are : AreReadings p (all_readings p.events) = subst (AreReadings p) (readings_are p c.readings.result.now c.readings.ensures) c.readings.ensures in
+    let are : AreReadings p (all_readings p.events) = own_readings p c.readings.result.now c.readings.ensures in
     let none : c.in-Some.after.now ≡ [] = nil_from_length _ (grind (arith, c.is_empty.ensures, c.if-is_empty.true)) in
     end_reads p (all_readings p.events) are _ _ _ _ (parts_said c.loop-body.parts) c.in-Ok-Done.cert _ c.loop-body.invariant.0 (sym c.in-Some.ensures) (rw c.in-Ok-Done.field-0-is at c.in-Ok-Done.ensures) none
 

@@ -7,11 +7,11 @@ use Rattle.cert.specs.CertificateFormat.{certificate_format}
 use Rattle.cert.specs.TakesPart.{parts_said}
 use Rattle.cert.proofs.CertLines.{cert_lacks}
 use Rattle.cert.proofs.read_certificate.read_lines.Given as goal
-use Rattle.line_format.specs.Format.{most_bytes}
+use Rattle.line_format.specs.Format.{most_text_bytes}
 
 -- the lines so far say the parts, and each took a byte at least
 abbrev pub invariant-loop-body : goal.invariant-loop-body
-invariant-loop-body l = Stands (certificate_format l.p (all_readings l.p.events)) cert_lacks (line_of certificate_head ++ l.lines) l.rest (parts_said l.parts) l.line × (l.line + length l.rest ≤ most_bytes + 2)
+invariant-loop-body l = Stands (certificate_format l.p (all_readings l.p.events)) cert_lacks (line_of certificate_head ++ l.lines) l.rest (parts_said l.parts) l.line × (l.line + length l.rest ≤ most_text_bytes + 2)
 
 abbrev pub decreases-loop-body : goal.decreases-loop-body
 decreases-loop-body l = length l.rest

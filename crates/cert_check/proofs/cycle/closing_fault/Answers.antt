@@ -9,14 +9,14 @@ use Rattle.cert.specs.Shows.{weighed_bounds}
 use Rattle.cert_check.specs.declared.answer.Part.TheVariants.{Cycle}
 use Rattle.cert_check.specs.declared.answer.Reason.TheVariants.{Join}
 use Rattle.cert_check.specs.Reasons.{CycleIs}
-use Rattle.cert_check.specs.Faults.{IsFirstOf}
+use Rattle.cert_check.specs.Faults.{IsFirstWrong}
 use Rattle.cert_check.proofs.Cycles.{open_first, cycle_sum_first, leads_of}
 use Rattle.cert_check.proofs.cycle.closing_fault.Goals as goal
 
 pub returns-then-ne-clause-found : goal.returns-then-ne-clause-found
 returns-then-ne-clause-found c = λ p steps f a lawful each count at declares begins walked.
     let apart : c.args.held.node ≡ c.args.start.now → ⊥ = search rules in
-    subst (λ (k : ℕ). IsFirstOf Cycle (CycleIs p steps) (Join k)) (sym count) (open_first p lawful steps each c.args.start.now c.args.held.node walked.0 f a at declares begins apart)
+    subst (λ (k : ℕ). IsFirstWrong Cycle (CycleIs p steps) (Join k)) (sym count) (open_first p lawful steps each c.args.start.now c.args.held.node walked.0 f a at declares begins apart)
 
 pub returns-then-held-ge0-clause-found : goal.returns-then-held-ge0-clause-found
 returns-then-held-ge0-clause-found c = λ p steps f a lawful each count at declares begins walked.

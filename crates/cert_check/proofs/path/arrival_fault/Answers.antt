@@ -8,14 +8,14 @@ use Rattle.cert.specs.Shows.{weighed_bounds}
 use Rattle.cert_check.specs.declared.answer.Reason.TheVariants.{Join}
 use Rattle.cert_check.specs.Walks.{Goes}
 use Rattle.cert_check.specs.Reasons.{PathIs}
-use Rattle.cert_check.specs.Faults.{IsFirstOf}
+use Rattle.cert_check.specs.Faults.{IsFirstWrong}
 use Rattle.cert_check.proofs.Paths.{end_first, sum_first}
 use Rattle.cert_check.proofs.path.arrival_fault.Goals as goal
 
 pub returns-then-ne-clause-found : goal.returns-then-ne-clause-found
 returns-then-ne-clause-found c = λ p second steps lawful is_path each count walked.
     let apart : c.args.held.node ≢ nodes.Event c.args.first = search rules in
-    subst (λ (k : ℕ). IsFirstOf c.args.part (PathIs p c.args.part c.args.first second c.args.value steps) (Join (k + 1))) (sym count)
+    subst (λ (k : ℕ). IsFirstWrong c.args.part (PathIs p c.args.part c.args.first second c.args.value steps) (Join (k + 1))) (sym count)
     (end_first p lawful c.args.part is_path c.args.first second c.args.value steps each c.args.held.node walked.0 apart)
 
 pub returns-then-held-sum_for-clause-found : goal.returns-then-held-sum_for-clause-found

@@ -1,6 +1,6 @@
 use Rattle.problem_model.specs.declared.items.Node.TheVariants as nodes
 use Rattle.problem.specs.Listing.{listing_of, all_readings}
-use Rattle.problem_graph.proofs.OwnStanding.{own_event}
+use Rattle.problem_graph.proofs.HeldStanding.{own_event}
 use Rattle.problem.proofs.OwnReadings.{own_readings}
 use Rattle.queries.proofs.Solutions.{event_by, event_below}
 use Rattle.problem_commands.proofs.ends.interval.Goals as goal

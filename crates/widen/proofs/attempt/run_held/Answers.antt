@@ -1,6 +1,7 @@
 use Rattle.std.proofs.Common.{length, sym, ◌∙◌, ap, subst}
-use Rattle.std.specs.Prelude.{ℤ, List, All}
+use Rattle.std.specs.Prelude.{◌+◌, ℤ, List, All}
 use Rattle.problem_model.specs.Numbers.{IsUpTo}
+use Rattle.problem_model.specs.Limits.{path_bits}
 use Rattle.sync_graph.specs.Graph.{GraphLists}
 use Rattle.earliest.specs.Values.{Values}
 use Rattle.solver.proofs.Staying.{solved_now}
@@ -20,7 +21,7 @@ execution_of-requires-clause-one_each c =
 pub execution_of-requires-clause-small : goal.execution_of-requires-clause-small
 execution_of-requires-clause-small c =
     let s = c.args.s.now in
-    subst (λ (e : Values). All (IsUpTo 117) e.values) (sym c.earliest.ensures)
+    subst (λ (e : Values). All (IsUpTo (path_bits + 2)) e.values) (sym c.earliest.ensures)
     (values_small s.graph c.requires.current.set_up.graph s.earliest.values (solved_now s c.requires.current c.requires.solved).earliest)
 
 pub returns : goal.returns

@@ -1,17 +1,11 @@
-use Rattle.std.proofs.Common.{◌∷◌, [], List, None, codes, refl, subst}
+use Rattle.std.proofs.Common.{◌∷◌, [], None, codes, refl}
 use Rattle.line_format.proofs.Lacking.{lacks_test}
-use Rattle.problem_model.specs.Problem.{ProblemLists}
-use Rattle.problem_model.specs.Nodes.{Reading, AreReadings}
 use Rattle.problem.specs.Listing.{all_readings}
-use Rattle.problem.proofs.AllReadings.{readings_are}
+use Rattle.cert.proofs.Certificates.{own_readings}
 use Rattle.widen.specs.declared.widening.Widening.TheVariants.{Never}
 use Rattle.widen.specs.WideningFormat.WideningSaid.{Said}
 use Rattle.widen.proofs.Reading.{only_line, only_cycle, cycle_on, found_is}
 use Rattle.widen.proofs.read.read_never.Goals as goal
-
--- the readings that the lines are read by
-own : (p : ProblemLists) (readings : List Reading) → AreReadings p readings → AreReadings p (all_readings p.events)
-own p readings are = subst (AreReadings p) (readings_are p readings are) are
 
 pub behind-requires : goal.behind-requires
 behind-requires c = lacks_test 10 (codes "cycle") refl
@@ -20,7 +14,7 @@ pub returns-in-Ok : goal.returns-in-Ok
 returns-in-Ok c = λ text b.
     let p = c.args.p.now in
     let r = all_readings p.events in
-    (found_is p r (own p c.readings.result.now c.readings.ensures) (Never c.in-Ok.cycle) text).1 (c.in-Ok.ensures None [] text (cycle_on p r text c.args.lines.now c.in-Some.rest.now None [] 3 b c.in-Some.ensures.some tt))
+    (found_is p r (own_readings p c.readings.result.now c.readings.ensures) (Never c.in-Ok.cycle) text).1 (c.in-Ok.ensures None [] text (cycle_on p r text c.args.lines.now c.in-Some.rest.now None [] 3 b c.in-Some.ensures.some tt))
 
 pub returns-in-Err : goal.returns-in-Err
 returns-in-Err c = λ text b.

@@ -1,17 +1,11 @@
-use Rattle.std.proofs.Common.{◌≡◌, ◌<◌, ◌+◌, ◌∷◌, [], List, Some, None, length, codes, refl, sym, ap, subst, arith, rules}
+use Rattle.std.proofs.Common.{◌≡◌, ◌<◌, ◌+◌, ◌∷◌, [], Some, None, length, codes, refl, sym, ap, arith, rules}
 use Rattle.line_format.proofs.Lacking.{lacks_test}
-use Rattle.problem_model.specs.Problem.{ProblemLists}
-use Rattle.problem_model.specs.Nodes.{Reading, AreReadings}
 use Rattle.problem.specs.Listing.{all_readings}
-use Rattle.problem.proofs.AllReadings.{readings_are}
+use Rattle.cert.proofs.Certificates.{own_readings}
 use Rattle.widen.specs.declared.widening.Widening.TheVariants.{Least}
 use Rattle.widen.specs.WideningFormat.WideningSaid.{Said}
 use Rattle.widen.proofs.Reading.{only_line, only_cycle_above, cycle_on, found_is, zero_on, zero_found}
 use Rattle.widen.proofs.read.read_rest.Goals as goal
-
--- the readings that the lines are read by
-own : (p : ProblemLists) (readings : List Reading) → AreReadings p readings → AreReadings p (all_readings p.events)
-own p readings are = subst (AreReadings p) (readings_are p readings are) are
 
 pub behind-requires : goal.behind-requires
 behind-requires c = lacks_test 10 (codes "cycle") refl
@@ -22,7 +16,7 @@ returns-in-Ok c = λ text b whole.
     let r = all_readings p.events in
     let zero : c.args.extra ≡ 0 = search rules in
     let line : length c.args.execution + 3 ≡ c.len-line.result + 3 = ap (λ n. n + 3) (sym c.len-line.ensures.count) in
-    zero_found p r (own p c.readings.result.now c.readings.ensures) text c.args.extra c.args.execution zero (c.in-Ok.ensures p r c.args.execution text (zero_on p r text c.args.lines.now c.args.extra _ _ c.args.execution zero line b) whole)
+    zero_found p r (own_readings p c.readings.result.now c.readings.ensures) text c.args.extra c.args.execution zero (c.in-Ok.ensures p r c.args.execution text (zero_on p r text c.args.lines.now c.args.extra _ _ c.args.execution zero line b) whole)
 
 pub returns-in-Err : goal.returns-in-Err
 returns-in-Err c = λ text b whole.
@@ -38,7 +32,7 @@ returns-in-Ok-read_steps c = λ text b whole.
     let r = all_readings p.events in
     let above : 0 < c.args.extra = omega (arith, c.get.ensures.value) in
     let cycle = c.in-Ok-read_steps.cycle in
-    (found_is p r (own p c.readings.result.now c.readings.ensures) (Least c.args.extra c.args.execution (Some cycle)) text).1
+    (found_is p r (own_readings p c.readings.result.now c.readings.ensures) (Least c.args.extra c.args.execution (Some cycle)) text).1
     (c.in-Ok-read_steps.ensures (Some c.args.extra) c.args.execution text (rw c.len-line.ensures.count (cycle_on p r text c.args.lines.now c.in-Some.rest.now (Some c.args.extra) c.args.execution _ b c.in-Some.ensures.some (above, whole))))
 
 pub returns-in-Err-read_steps : goal.returns-in-Err-read_steps

@@ -1,6 +1,7 @@
-use Rattle.std.proofs.Common.{◌≡◌, ◌≢◌, ◌+◌, ℕ, [], Some, None, length, sym, ap, subst, arith, rules}
+use Rattle.std.proofs.Common.{◌≡◌, ◌≢◌, ◌+◌, ℕ, [], Some, None, Ok, Err, length, sym, ap, subst, arith, rules}
 use Rattle.std.proofs.lemmas.List.{nil_from_length}
 use Rattle.line_format.specs.Cut.{cut}
+use Rattle.line_format.specs.declared.fault.Taken.TheVariants as taken
 use Rattle.line_format.proofs.Cutting.{cut_shorter}
 use Rattle.line_format.proofs.Reading.{end_answers, more_answers}
 use Rattle.problem.specs.Listing.{all_readings}
@@ -8,6 +9,7 @@ use Rattle.widen.specs.WideningFormat.{widening_format}
 use Rattle.widen.specs.WideningFormat.WideningSaid.{Said}
 use Rattle.widen.specs.ReadsLines.{IsBehind}
 use Rattle.widen.proofs.Lines.{widening_lacks}
+use Rattle.widen.proofs.Taking.{step_taken}
 use Rattle.widen.proofs.Reading.{stands_of, fault_refuses, cut_refuses, line_on}
 use Rattle.widen.proofs.read.read_steps.Goals as goal
 
@@ -20,19 +22,20 @@ returns-then-is_empty c = λ extra values text b.
     let p = c.args.p.now in
     let r = all_readings p.events in
     let none : c.in-Some.after.now ≡ [] = nil_from_length _ (grind (arith, c.is_empty.ensures, c.if-is_empty.true)) in
-    end_answers (widening_format p r) widening_lacks _ _ _ _ _ _ _ (stands_of p r _ _ _ _ (c.loop-body.invariant extra values text b)) (sym c.in-Some.ensures) (rw c.in-Ok-End.field-0-is at (c.in-Ok-End.ensures.takes extra values)) none
+    end_answers (widening_format p r) widening_lacks _ _ _ _ _ _ _ (stands_of p r _ _ _ _ (c.loop-body.invariant extra values text b)) (sym c.in-Some.ensures) (step_taken p r extra values c.loop-body.cycle c.take_in_cycle.new.steps c.in-Some.body.now (Ok taken.End) (rw c.in-Ok-End.field-0-is at c.in-Ok-End.ensures.takes)) none
 
 pub returns-in-Ok-End : goal.returns-in-Ok-End
 returns-in-Ok-End c = λ extra values text b.
     let p = c.args.p.now in
     let r = all_readings p.events in
     let some : c.in-Some.after.now ≢ [] = λ is. let none = ap length is in grind (arith, none, c.is_empty.ensures, c.if-is_empty.false) in
-    rw c.len.ensures.count (more_answers (widening_format p r) widening_lacks _ _ _ _ _ _ _ (stands_of p r _ _ _ _ (c.loop-body.invariant extra values text b)) (sym c.in-Some.ensures) (rw c.in-Ok-End.field-0-is at (c.in-Ok-End.ensures.takes extra values)) some)
+    rw c.len.ensures.count (more_answers (widening_format p r) widening_lacks _ _ _ _ _ _ _ (stands_of p r _ _ _ _ (c.loop-body.invariant extra values text b)) (sym c.in-Some.ensures) (step_taken p r extra values c.loop-body.cycle c.take_in_cycle.new.steps c.in-Some.body.now (Ok taken.End) (rw c.in-Ok-End.field-0-is at c.in-Ok-End.ensures.takes)) some)
 
 pub returns-in-Err : goal.returns-in-Err
 returns-in-Err c = λ extra values text b.
     let p = c.args.p.now in
-    rw (c.error_at.ensures, c.len.ensures.count) (fault_refuses p (all_readings p.events) _ _ _ _ _ _ _ c.in-Err.fault (c.loop-body.invariant extra values text b) (sym c.in-Some.ensures) (c.in-Err.ensures.takes extra values))
+    let r = all_readings p.events in
+    rw (c.error_at.ensures, c.len.ensures.count) (fault_refuses p r _ _ _ _ _ _ _ c.in-Err.fault (c.loop-body.invariant extra values text b) (sym c.in-Some.ensures) (step_taken p r extra values c.loop-body.cycle c.take_in_cycle.new.steps c.in-Some.body.now (Err c.in-Err.fault) c.in-Err.ensures.takes))
 
 pub loop-body-smaller : goal.loop-body-smaller
 loop-body-smaller c = cut_shorter _ _ _ _ (sym c.in-Some.ensures)
@@ -48,9 +51,9 @@ loop-body-preserved c = λ extra values text b.
     let p = c.args.p.now in
     let r = all_readings p.events in
     let old = c.loop-body.cycle in
-    let new = c.take_step.new.cycle in
+    let new = c.take_in_cycle.new.steps in
     let before = c.loop-body.invariant extra values text b in
-    let takes = rw c.in-Ok-Line.field-0-is at (c.in-Ok-Line.ensures.takes extra values) in
+    let takes = step_taken p r extra values old new c.in-Some.body.now (Ok taken.Line) (rw c.in-Ok-Line.field-0-is at c.in-Ok-Line.ensures.takes) in
     let count = takes.lines in
     let on = line_on p r text c.loop-body.rest.now c.in-Some.body.now c.in-Some.after.now (Said extra values (Some old)) (Said extra values (Some new)) _ before (sym c.in-Some.ensures) takes
     (before.sound.0, (before.sound.1.0, c.in-Ok-Line.ensures.sound before.sound.1.1)) in

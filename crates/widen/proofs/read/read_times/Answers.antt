@@ -1,12 +1,13 @@
 use Rattle.std.proofs.Common.{length, ap, arith}
+use Rattle.problem_model.specs.Nodes.{nodes_of}
 use Rattle.problem.specs.Listing.{all_readings}
 use Rattle.problem.proofs.AllReadings.{readings_are}
 use Rattle.cert.proofs.Places.{length-nodes_of}
-use Rattle.widen.proofs.Reading.{no_times}
+use Rattle.cert.proofs.CertTaking.{none_fit}
 use Rattle.widen.proofs.read.read_times.Goals as goal
 
 pub nodes-init : goal.nodes-init
-nodes-init c = rw c.requires ((λ extra text b. b), no_times c.args.p.now (all_readings c.args.p.now.events))
+nodes-init c = rw c.requires ((λ extra text b. b), let p = c.args.p.now in none_fit p (all_readings p.events) (length (nodes_of p (all_readings p.events))))
 
 pub next_time-requires-clause-more : goal.next_time-requires-clause-more
 next_time-requires-clause-more c = λ whole.

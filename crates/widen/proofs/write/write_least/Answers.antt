@@ -13,11 +13,11 @@ returns-in_err-write_whole g c =
     writes_failed c.from_residual.ensures.0
     (writes_front (cycle_lines p c.args.cycle.now) (writes_front times (writes_as (c.as_slice.ensures.value ∙ c.least_line-line.ensures) c.in_err-write_whole.ensures)))
 
-pub returns-in_err-write_times : goal.returns-in_err-write_times
-returns-in_err-write_times g c =
-    writes_failed c.from_residual-in_err-write_times.ensures.0
-    (writes_front (cycle_lines c.args.p.now c.args.cycle.now) (writes_then (writes_as (c.as_slice.ensures.value ∙ c.least_line-line.ensures) c.in_ok-write_whole.ensures) c.in_err-write_times.ensures))
+pub returns-in_err-write_values : goal.returns-in_err-write_values
+returns-in_err-write_values g c =
+    writes_failed c.from_residual-in_err-write_values.ensures.0
+    (writes_front (cycle_lines c.args.p.now c.args.cycle.now) (writes_then (writes_as (c.as_slice.ensures.value ∙ c.least_line-line.ensures) c.in_ok-write_whole.ensures) c.in_err-write_values.ensures))
 
 pub returns : goal.returns
 returns g c =
-    writes_then (writes_then (writes_as (c.as_slice.ensures.value ∙ c.least_line-line.ensures) c.in_ok-write_whole.ensures) c.in_ok-write_times.ensures) c.write_below.ensures
+    writes_then (writes_then (writes_as (c.as_slice.ensures.value ∙ c.least_line-line.ensures) c.in_ok-write_whole.ensures) c.in_ok-write_values.ensures) c.write_below.ensures

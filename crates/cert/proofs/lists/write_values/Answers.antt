@@ -4,7 +4,7 @@ use Rattle.problem_model.specs.ExecutionText.{value_lines}
 use Rattle.problem.specs.Listing.{all_readings}
 use Rattle.ports.proofs.Writing.{leaves_all, leaves_as}
 use Rattle.cert.proofs.Certificates.{timed_lines, one_each, units_back, value_written, value_cut, values_written}
-use Rattle.cert.proofs.certify.write_values.Goals as goal
+use Rattle.cert.proofs.lists.write_values.Goals as goal
 
 pub loop-place-init : goal.loop-place-init
 loop-place-init g c =

@@ -4,9 +4,9 @@ use Rattle.problem_model.specs.Nodes.{nodes_of}
 use Rattle.problem_model.specs.ExecutionText.{value_lines}
 use Rattle.problem.specs.Listing.{all_readings}
 use Rattle.cert.specs.Listed.{timed_line}
-use Rattle.widen.proofs.Writing.{timed}
+use Rattle.cert.proofs.Certificates.{timed}
 use Rattle.ports.proofs.Writing.{Leaves}
-use Rattle.widen.proofs.write.write_times.Given as goal
+use Rattle.cert.proofs.lists.write_values.Given as goal
 
 -- the lines of the nodes from this place on are left
 abbrev pub invariant-loop-place : goal.invariant-loop-place

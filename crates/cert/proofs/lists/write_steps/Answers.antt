@@ -4,7 +4,7 @@ use Rattle.cert.specs.declared.chain.Step.{Step}
 use Rattle.cert.specs.CertificateText.{step_line}
 use Rattle.ports.proofs.Writing.{writes_as}
 use Rattle.cert.proofs.Certificates.{step_text, step_named, line_written, line_cut, lines_written}
-use Rattle.cert.proofs.certify.write_steps.Goals as goal
+use Rattle.cert.proofs.lists.write_steps.Goals as goal
 
 pub write_step-requires : goal.write_step-requires
 write_step-requires g c = step_named c.args.p.now c.args.steps.now c.loop-step.step-index c.step-item.result c.messages.ensures.lawful c.requires c.loop-step-test.true c.step-item.is

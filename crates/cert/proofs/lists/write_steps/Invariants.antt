@@ -2,7 +2,7 @@ use Rattle.std.proofs.Common.{drop}
 use Rattle.std.specs.List.{flat_map}
 use Rattle.cert.specs.CertificateText.{step_line}
 use Rattle.ports.proofs.Writing.{Leaves}
-use Rattle.cert.proofs.certify.write_steps.Given as goal
+use Rattle.cert.proofs.lists.write_steps.Given as goal
 
 -- the lines of the steps from this place on are left
 abbrev pub invariant-loop-step : goal.invariant-loop-step
